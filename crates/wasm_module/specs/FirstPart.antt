@@ -1,0 +1,29 @@
+-- The part of the format that is read so far: no tables, globals, start and elements, and few instructions.
+use Rattle.std.specs.Prelude.{◌≡◌, List, Option, Some, None, unwrap_or, [], All}
+use Rattle.wasm_module.specs.declared.instruction.Instruction.{Instruction}
+use Rattle.wasm_module.specs.declared.instruction.Instruction.TheVariants as op
+use Rattle.wasm_module.specs.declared.module.ImportKind.{ImportKind}
+use Rattle.wasm_module.specs.declared.module.ImportKind.TheVariants as imported
+use Rattle.wasm_module.specs.Module.{Sections}
+
+abbrev pub IsKnown : Instruction → Type 0
+IsKnown (op.I32Const n) = Unit {0}
+IsKnown (op.I64Const n) = Unit {0}
+IsKnown (op.Call x) = Unit {0}
+IsKnown op.Drop = Unit {0}
+IsKnown op.End = Unit {0}
+IsKnown i = ⊥
+
+abbrev pub IsFunction : ImportKind → Type 0
+IsFunction (imported.Function x) = Unit {0}
+IsFunction k = ⊥
+
+pub record IsFirstPart (s : Sections) : Type 0 where
+  pub tables : s.tables ≡ None
+  pub globals : s.globals ≡ None
+  pub start : s.start ≡ None
+  pub element_segments : s.element_segments ≡ None
+  pub data_count : s.data_count ≡ None
+  pub imports : All (λ i. IsFunction i.kind) (unwrap_or s.imports [])
+  pub bodies : All (λ b. All IsKnown b.code) (unwrap_or s.bodies [])
+  pub data_segments : All (λ d. All IsKnown d.offset) (unwrap_or s.data_segments [])

@@ -1,0 +1,173 @@
+//! Types of values, and decoded instructions.
+
+use std::marker::Model;
+use std::mem::size_of;
+
+/// The type of a value (section 2.3.1), cut to integers.
+#[derive(Clone, Copy, Debug, PartialEq, Eq)]
+pub enum ValueType {
+    I32,
+    I64,
+}
+
+/// What a block leaves (section 2.3.2): nothing, or one value.
+#[derive(Clone, Copy, Debug, PartialEq, Eq)]
+pub enum BlockType {
+    Empty,
+    Value(ValueType),
+}
+
+/// What a load or a store says of its address (section 2.4.4): the alignment as an exponent of 2,
+/// and the offset in bytes.
+#[derive(Clone, Copy, Debug, PartialEq, Eq)]
+pub struct MemArg {
+    pub align: u32,
+    pub offset: u32,
+}
+
+/// A comparison of two integers of one type (section 2.4.1).
+#[derive(Clone, Copy, Debug, PartialEq, Eq)]
+pub enum Comparison {
+    Eq,
+    Ne,
+    LtS,
+    LtU,
+    GtS,
+    GtU,
+    LeS,
+    LeU,
+    GeS,
+    GeU,
+}
+
+/// An operator on one integer (section 2.4.1, and the sign extensions).
+#[derive(Clone, Copy, Debug, PartialEq, Eq)]
+pub enum UnaryOperator {
+    Clz,
+    Ctz,
+    Popcnt,
+    Extend8S,
+    Extend16S,
+    Extend32S,
+}
+
+/// An operator on two integers of one type (section 2.4.1).
+#[derive(Clone, Copy, Debug, PartialEq, Eq)]
+pub enum BinaryOperator {
+    Add,
+    Sub,
+    Mul,
+    DivS,
+    DivU,
+    RemS,
+    RemU,
+    And,
+    Or,
+    Xor,
+    Shl,
+    ShrS,
+    ShrU,
+    Rotl,
+    Rotr,
+}
+
+#[derive(Debug, Drop)]
+struct TableLabels {
+    labels: Vec<u32>,
+    default: u32,
+}
+
+/// The labels of a `br_table`, and the one for all greater indices.
+#[derive(Debug, Drop)]
+pub struct BranchTable {
+    table: Box<TableLabels>,
+}
+
+impl Model for BranchTable {
+    ghost use Rattle.std.specs.Prelude.{ℕ, List};
+
+    ghost Value = { List ℕ × ℕ };
+
+    ghost view = { λ b. (b.table.value.labels.items, b.table.value.default) };
+}
+
+impl BranchTable {
+    ghost use Rattle.std.specs.Prelude.{◌≡◌};
+
+    /// The labels, by index.
+    pub fn labels(&self) -> &[u32]
+        ensures { result.now ≡ self.now.0 }
+    {
+        self.table.labels.as_slice()
+    }
+
+    /// The label for the indices past the last of `labels`.
+    pub fn default_label(&self) -> u32
+        ensures { result ≡ self.now.1 }
+    {
+        self.table.default
+    }
+}
+
+/// One decoded instruction (section 2.4). A block, a loop and an if are where they begin, and
+/// their `else` and `end` are instructions of their own.
+#[derive(Debug, Drop)]
+pub enum Instruction {
+    Unreachable,
+    Nop,
+    Block(BlockType),
+    Loop(BlockType),
+    If(BlockType),
+    Else,
+    End,
+    Br(u32),
+    BrIf(u32),
+    BrTable(BranchTable),
+    Return,
+    Call(u32),
+    CallIndirect(u32),
+    Drop,
+    Select,
+    LocalGet(u32),
+    LocalSet(u32),
+    LocalTee(u32),
+    GlobalGet(u32),
+    GlobalSet(u32),
+    I32Load(MemArg),
+    I64Load(MemArg),
+    I32Load8S(MemArg),
+    I32Load8U(MemArg),
+    I32Load16S(MemArg),
+    I32Load16U(MemArg),
+    I64Load8S(MemArg),
+    I64Load8U(MemArg),
+    I64Load16S(MemArg),
+    I64Load16U(MemArg),
+    I64Load32S(MemArg),
+    I64Load32U(MemArg),
+    I32Store(MemArg),
+    I64Store(MemArg),
+    I32Store8(MemArg),
+    I32Store16(MemArg),
+    I64Store8(MemArg),
+    I64Store16(MemArg),
+    I64Store32(MemArg),
+    MemorySize,
+    MemoryGrow,
+    MemoryCopy,
+    MemoryFill,
+    /// The constant, modulo 2 ^ 32.
+    I32Const(u32),
+    /// The constant, modulo 2 ^ 64.
+    I64Const(u64),
+    Eqz(ValueType),
+    Compare(ValueType, Comparison),
+    Unary(ValueType, UnaryOperator),
+    Binary(ValueType, BinaryOperator),
+    I32WrapI64,
+    I64ExtendI32S,
+    I64ExtendI32U,
+}
+
+// A body's instructions are read one after the other, so they are to be small.
+const _: () = prove!(size_of::<Instruction>() <= 16);
