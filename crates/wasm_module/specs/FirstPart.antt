@@ -1,5 +1,6 @@
 -- The part of the format that is read so far: no tables, globals, start and elements, and few instructions.
-use Rattle.std.specs.Prelude.{◌≡◌, List, Option, Some, None, unwrap_or, [], All}
+use Rattle.std.specs.Prelude.{◌≡◌, List, Option, Some, None, unwrap_or, []}
+use Rattle.std.specs.List.{AllByRecursion}
 use Rattle.wasm_module.specs.declared.instruction.Instruction.{Instruction}
 use Rattle.wasm_module.specs.declared.instruction.Instruction.TheVariants as op
 use Rattle.wasm_module.specs.declared.module.ImportKind.{ImportKind}
@@ -24,6 +25,6 @@ pub record IsFirstPart (s : Sections) : Type 0 where
   pub start : s.start ≡ None
   pub element_segments : s.element_segments ≡ None
   pub data_count : s.data_count ≡ None
-  pub imports : All (λ i. IsFunction i.kind) (unwrap_or s.imports [])
-  pub bodies : All (λ b. All IsKnown b.code) (unwrap_or s.bodies [])
-  pub data_segments : All (λ d. All IsKnown d.offset) (unwrap_or s.data_segments [])
+  pub imports : AllByRecursion (λ i. IsFunction i.kind) (unwrap_or s.imports [])
+  pub bodies : AllByRecursion (λ b. AllByRecursion IsKnown b.code) (unwrap_or s.bodies [])
+  pub data_segments : AllByRecursion (λ d. AllByRecursion IsKnown d.offset) (unwrap_or s.data_segments [])
