@@ -1,0 +1,3 @@
+pub mod Typing
+pub mod Validity
+pub mod FirstPart

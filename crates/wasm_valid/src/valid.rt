@@ -1,0 +1,44 @@
+//! A module that is known to be valid.
+
+use std::marker::Model;
+use wasm_module::Module;
+
+/// A valid module (section 3.4.10), of the part that is run so far. Only `validate` makes one.
+#[derive(Debug, Drop)]
+pub struct Valid<'a> {
+    module: Module<'a>,
+}
+
+impl<'a> Model for Valid<'a> {
+    ghost use Rattle.wasm_module.specs.declared.module.Module.{Module as ModuleValue};
+    ghost use Rattle.wasm_valid.specs.Validity.{IsValid};
+    ghost use Rattle.wasm_valid.specs.FirstPart.{RunsSoFar};
+
+    ghost Value = { ModuleValue };
+
+    ghost view = { λ v. v.module };
+
+    ghost invariant = { λ v. IsValid v.module × RunsSoFar v.module };
+}
+
+impl<'a> Valid<'a> {
+    ghost use Rattle.std.specs.Prelude.{◌≡◌};
+    ghost use Rattle.wasm_valid.specs.Validity.{IsValid};
+    ghost use Rattle.wasm_valid.specs.FirstPart.{RunsSoFar};
+
+    /// The module, which is valid.
+    pub fn module(&self) -> &Module<'a>
+        ensures value { result.now ≡ self.now }
+        ensures valid { IsValid self.now }
+        ensures runs { RunsSoFar self.now }
+    {
+        &self.module
+    }
+
+    /// The module that was validated.
+    pub fn into_module(self) -> Module<'a>
+        ensures { result ≡ self.entry }
+    {
+        self.module
+    }
+}
