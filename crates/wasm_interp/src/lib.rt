@@ -1,13 +1,20 @@
-// A library with one function.
+//! A fuelled WebAssembly machine over a host that answers its calls.
 #![tactic(auto)]
 
-ghost use Rattle.std.specs.Prelude.{◌≡◌};
-ghost use Rattle.wasm_interp.specs.Echo.{echo_of};
+mod call;
+mod fault;
+mod host;
+mod machine;
+mod memory;
+mod pause;
+mod place;
+mod trap;
 
-// The `ensures` clause is the contract: what `echo` returns is `echo_of` of its argument, a definition
-// in `specs/Echo.antt`, which a caller's clause can cite too.
-pub fn echo(x: usize) -> usize
-    ensures { result ≡ echo_of x }
-{
-    x
-}
+pub use call::{Answer, Errno, HostCall};
+pub use fault::InstanceFault;
+pub use host::Host;
+pub use machine::{Machine, RefusedInstance};
+pub use memory::Memory;
+pub use pause::{Outcome, Pause};
+pub use place::Place;
+pub use trap::Trap;
