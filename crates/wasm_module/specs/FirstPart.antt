@@ -1,10 +1,11 @@
 -- The part of the format that is read so far: no tables, globals, start and elements, and few instructions.
-use Rattle.std.specs.Prelude.{◌≡◌, List, Option, Some, None, unwrap_or, []}
+use Rattle.std.specs.Prelude.{◌≡◌, None, unwrap_or, []}
 use Rattle.std.specs.List.{AllByRecursion}
 use Rattle.wasm_module.specs.declared.instruction.Instruction.{Instruction}
 use Rattle.wasm_module.specs.declared.instruction.Instruction.TheVariants as op
 use Rattle.wasm_module.specs.declared.module.ImportKind.{ImportKind}
 use Rattle.wasm_module.specs.declared.module.ImportKind.TheVariants as imported
+use Rattle.wasm_module.specs.declared.module.Module.{Module}
 use Rattle.wasm_module.specs.Module.{Sections}
 
 abbrev pub IsKnown : Instruction → Type 0
@@ -28,3 +29,13 @@ pub record IsFirstPart (s : Sections) : Type 0 where
   pub imports : AllByRecursion (λ i. IsFunction i.kind) (unwrap_or s.imports [])
   pub bodies : AllByRecursion (λ b. AllByRecursion IsKnown b.code) (unwrap_or s.bodies [])
   pub data_segments : AllByRecursion (λ d. AllByRecursion IsKnown d.offset) (unwrap_or s.data_segments [])
+
+-- a module of this part
+pub record IsFirstModule (m : Module) : Type 0 where
+  pub tables : m.tables ≡ []
+  pub globals : m.globals ≡ []
+  pub start : m.start ≡ None
+  pub element_segments : m.element_segments ≡ []
+  pub imports : AllByRecursion (λ i. IsFunction i.kind) m.imports
+  pub bodies : AllByRecursion (λ b. AllByRecursion IsKnown b.code) m.bodies
+  pub data_segments : AllByRecursion (λ d. AllByRecursion IsKnown d.offset) m.data_segments

@@ -1,5 +1,5 @@
 -- The ways in which the binary format puts spellings together (section 5.1). A spelling relates bytes to what they spell.
-use Rattle.std.specs.Prelude.{◌≡◌, ℕ, List, [], ◌∷◌, ◌++◌, length, Option, Some, None, IsUtf8}
+use Rattle.std.specs.Prelude.{◌≡◌, ℕ, List, [], ◌∷◌, ◌++◌, length, IsUtf8}
 use Rattle.wasm_module.specs.Number.{SpellsNumber}
 use Rattle.wasm_module.specs.declared.number.Sign.TheVariants.{Unsigned}
 

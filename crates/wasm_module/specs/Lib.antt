@@ -5,3 +5,7 @@ pub mod Instructions
 pub mod Sections
 pub mod Module
 pub mod FirstPart
+pub mod Reading
+pub mod TypesReading
+pub mod CodeReading
+pub mod ModuleReading

@@ -72,7 +72,7 @@ module_of s = record {
   start = s.start;
   element_segments = unwrap_or s.element_segments [];
   bodies = unwrap_or s.bodies [];
-  data_segments = unwrap_or s.data_segments []
+  data_segments = unwrap_or s.data_segments [];
 }
 
 -- the parameters of a type; a type that isn't there has none

@@ -1,9 +1,5 @@
 -- Sections and what they hold (section 5.5).
-use Rattle.std.specs.Prelude.{◌≡◌, ℕ, List, [], ◌∷◌, ◌++◌, Option, Some, None}
-use Rattle.wasm_module.specs.declared.instruction.Instruction.{Instruction}
-use Rattle.wasm_module.specs.declared.module.FuncType.{FuncType}
-use Rattle.wasm_module.specs.declared.module.Limits.{Limits}
-use Rattle.wasm_module.specs.declared.module.GlobalType.{GlobalType}
+use Rattle.std.specs.Prelude.{◌≡◌, ℕ, List, [], ◌++◌, Option, Some, None}
 use Rattle.wasm_module.specs.declared.module.ImportKind.{ImportKind}
 use Rattle.wasm_module.specs.declared.module.ImportKind.TheVariants as imported
 use Rattle.wasm_module.specs.declared.module.Import.{Import}
@@ -16,7 +12,7 @@ use Rattle.wasm_module.specs.declared.module.Locals.{Locals}
 use Rattle.wasm_module.specs.declared.module.Body.{Body}
 use Rattle.wasm_module.specs.declared.module.DataSegment.{DataSegment}
 use Rattle.wasm_module.specs.Grammar.{Byte, Then, Each, U32, Vector, Sized, Raw, SpellsName}
-use Rattle.wasm_module.specs.Types.{SpellsValueType, SpellsFuncType, SpellsLimits, SpellsTable, SpellsGlobalType}
+use Rattle.wasm_module.specs.Types.{SpellsValueType, SpellsLimits, SpellsTable, SpellsGlobalType}
 use Rattle.wasm_module.specs.Instructions.{SpellsExpression}
 
 -- ---- any section

@@ -1,12 +1,18 @@
 //! WebAssembly modules, decoded from the binary format.
 #![tactic(auto)]
 
+mod cursor;
+mod decoding;
 mod fault;
+mod frames;
 mod instruction;
 mod items;
+mod limits;
 mod module;
 mod number;
+mod parts;
 
+pub use decoding::decode;
 pub use fault::LoadFault;
 pub use instruction::{
     BinaryOperator, BlockType, BranchTable, Comparison, Instruction, MemArg, UnaryOperator,
@@ -17,3 +23,6 @@ pub use module::{
     Body, DataSegment, ElementSegment, Export, ExportKind, FuncType, GlobalEntry, GlobalType,
     Import, ImportKind, Limits, Locals, Module,
 };
+
+#[cfg(test)]
+mod tests;

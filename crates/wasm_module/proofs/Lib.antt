@@ -1,0 +1,12 @@
+pub mod Powers
+pub mod Laws
+pub mod Combine
+pub mod Loop
+pub mod Texts
+pub mod Steps
+pub mod TypeLaws
+pub mod InstructionLaws
+pub mod Sections
+pub mod Nesting
+pub mod PartLaws
+pub mod Modules

@@ -1,0 +1,327 @@
+//! A place in the bytes of a module.
+
+ghost use Rattle.std.specs.Prelude.{◌≡◌, ◌==◌, ◌^◌, ◌<◌, ◌≤◌, [], length, IfOk};
+ghost use Rattle.wasm_module.specs.CodeReading.{s32_at, s64_at, code_at};
+ghost use Rattle.wasm_module.specs.Reading.{Gives, Reader, byte_at, u32_at, next_at, begins, many_at, vector_at, piece_at, whole, sized_at, raw_of, text_of, name_at, custom_of, customs_at, section_at};
+
+use crate::fault::LoadFault;
+use crate::frames::{Frame, Frames};
+use crate::instruction::Instruction;
+use crate::items::{Bytes, Items, Name};
+use crate::number::{Sign, Span, number};
+use std::alloc::Global;
+use std::marker::Model;
+
+/// The bytes that are left, and where in the input they end.
+#[derive(Drop)]
+pub struct Cursor<'a> {
+    rest: &'a [u8],
+    end: usize,
+}
+
+impl<'a> Model for Cursor<'a> {
+    ghost use Rattle.std.specs.Prelude.{ℕ, List};
+
+    ghost Value = { List ℕ };
+
+    ghost view = { λ c. c.rest.now };
+}
+
+/// What stands in a module's bytes.
+pub trait Decode<'a>: Drop {
+    ghost at: { Reader Self };
+
+    /// The value at the cursor, which goes past it.
+    fn decode(alloc: Global, cursor: &mut Cursor<'a>) -> Result<Self, LoadFault>
+        ensures { Gives (λ x. (x, cursor.new)) result (at cursor.old) };
+}
+
+impl<'a> Cursor<'a> {
+    /// The beginning of an input.
+    pub fn new(bytes: &'a [u8]) -> Cursor<'a>
+        ensures { result ≡ bytes.now }
+    {
+        Cursor {
+            rest: bytes,
+            end: bytes.len(),
+        }
+    }
+
+    /// The place in an input that is so many bytes from its first.
+    pub fn at(input: &'a [u8], offset: u32) -> Cursor<'a> {
+        Cursor {
+            rest: input.get(offset as usize..).unwrap_or(&[]),
+            end: input.len(),
+        }
+    }
+
+    /// The beginning of these bytes.
+    pub fn of(bytes: &Bytes<'a>) -> Cursor<'a> {
+        let rest = bytes.as_slice();
+        let end = rest.len().saturating_add(bytes.offset() as usize);
+        Cursor { rest, end }
+    }
+
+    /// Where the next byte stands, in bytes from the first of the input.
+    pub fn offset(&self) -> u32 {
+        u32::try_from(self.end.saturating_sub(self.rest.len())).unwrap_or(u32::MAX)
+    }
+
+    /// Where the bytes end.
+    pub fn end(&self) -> u32 {
+        u32::try_from(self.end).unwrap_or(u32::MAX)
+    }
+
+    /// The bytes that are left.
+    pub fn bytes(&self) -> Bytes<'a>
+        ensures { result ≡ self.now }
+    {
+        Bytes::new(self.rest, self.offset())
+    }
+
+    pub fn len(&self) -> usize
+        ensures { result ≡ length self.now }
+    {
+        self.rest.len()
+    }
+
+    pub fn is_empty(&self) -> bool
+        ensures { result ≡ (length self.now == 0) }
+    {
+        self.rest.is_empty()
+    }
+
+    /// Whether this byte is the next.
+    pub fn begins(&self, id: u8) -> bool
+        ensures { result ≡ begins id self.now }
+    {
+        match self.rest {
+            [first, ..] => *first == id,
+            [] => false,
+        }
+    }
+
+    /// The next byte.
+    pub fn byte(&mut self) -> Result<u8, LoadFault>
+        ensures { Gives (λ x. (x, self.new)) result (next_at self.old) }
+    {
+        let Some((first, rest)) = self.rest.split_first() else {
+            return Err(LoadFault::Truncated { offset: self.end() });
+        };
+        self.rest = rest;
+        Ok(*first)
+    }
+
+    /// Goes past this byte, which has to be the next.
+    pub fn expect(&mut self, byte: u8, fault: LoadFault) -> Result<(), LoadFault>
+        ensures { Gives (λ x. (x, self.new)) result (byte_at byte self.old) }
+    {
+        if self.byte()? != byte {
+            return Err(fault);
+        }
+        Ok(())
+    }
+
+    fn span(&self) -> Span {
+        Span {
+            begin: self.offset(),
+            end: self.end(),
+        }
+    }
+
+    #[tactic(auto, unfolding(crate::specs::Reading::u32_at))]
+    pub fn u32(&mut self) -> Result<u32, LoadFault>
+        ensures { Gives (λ x. (x, self.new)) result (u32_at self.old) }
+    {
+        let (value, rest) = number(Sign::Unsigned, 32, self.rest, self.span())?;
+        self.rest = rest;
+        Ok(value as u32)
+    }
+
+    /// A signed number, modulo 2 ^ 32.
+    #[tactic(auto, unfolding(crate::specs::CodeReading::s32_at))]
+    pub fn s32(&mut self) -> Result<u32, LoadFault>
+        ensures { Gives (λ x. (x, self.new)) result (s32_at self.old) }
+    {
+        let (value, rest) = number(Sign::Signed, 32, self.rest, self.span())?;
+        self.rest = rest;
+        Ok(value as u32)
+    }
+
+    /// A signed number, modulo 2 ^ 64.
+    #[tactic(auto, unfolding(crate::specs::CodeReading::s64_at))]
+    pub fn s64(&mut self) -> Result<u64, LoadFault>
+        ensures { Gives (λ x. (x, self.new)) result (s64_at self.old) }
+    {
+        let (value, rest) = number(Sign::Signed, 64, self.rest, self.span())?;
+        self.rest = rest;
+        Ok(value)
+    }
+
+    /// The next bytes, by themselves.
+    pub fn piece(&mut self, len: u32) -> Result<Cursor<'a>, LoadFault>
+        ensures { Gives (λ x. (x, self.new)) result (piece_at len self.old) }
+    {
+        let len = len as usize;
+        if self.rest.len() < len {
+            return Err(LoadFault::Truncated { offset: self.end() });
+        }
+        let (front, rest) = self.rest.split_at(len);
+        let end = self.end.saturating_sub(rest.len());
+        self.rest = rest;
+        Ok(Cursor { rest: front, end })
+    }
+
+    #[tactic(auto, unfolding(crate::specs::Reading::vector_at))]
+    pub fn vector<T: Decode<'a>>(&mut self, alloc: Global) -> Result<Items<T>, LoadFault>
+        ensures { Gives (λ x. (x, self.new)) result (vector_at T.at self.old) }
+    {
+        let offset = self.offset();
+        let count = self.u32()?;
+        self.many(alloc, count, offset)
+    }
+
+    /// So many values. What the list takes is bounded by the bytes that are read, whatever the
+    /// count says.
+    #[tactic(auto, using(crate::proofs::Steps::many_more, crate::proofs::Steps::many_done))]
+    fn many<T: Decode<'a>>(
+        &mut self,
+        alloc: Global,
+        count: u32,
+        offset: u32,
+    ) -> Result<Items<T>, LoadFault>
+        ensures { Gives (λ x. (x, self.new)) result (many_at T.at count self.old) }
+    {
+        let mut items = Vec::new(alloc);
+        for _ in 0..count {
+            items.push(T::decode(alloc, self)?)?;
+        }
+        Ok(Items::from_vec(items, offset))
+    }
+
+    /// A value that fills the bytes; they belong to the part that begins at this offset.
+    pub fn whole<T: Decode<'a>>(mut self, alloc: Global, part: u32) -> Result<T, LoadFault>
+        ensures { Gives (λ x. x) result (whole T.at self.entry) }
+    {
+        let value = T::decode(alloc, &mut self)?;
+        if self.rest.is_empty() {
+            Ok(value)
+        } else {
+            Err(LoadFault::SectionSize { offset: part })
+        }
+    }
+
+    /// A value behind its size, in the part that begins at this offset.
+    #[tactic(auto, unfolding(crate::specs::Reading::sized_at))]
+    pub fn sized<T: Decode<'a>>(&mut self, alloc: Global, part: u32) -> Result<T, LoadFault>
+        ensures { Gives (λ x. (x, self.new)) result (sized_at (whole T.at) self.old) }
+    {
+        let size = self.u32()?;
+        match self.piece(size)?.whole(alloc, part) {
+            Ok(value) => Ok(value),
+            Err(fault) => Err(fault.inside(part)),
+        }
+    }
+
+    /// Bytes behind their count.
+    #[tactic(auto, unfolding(crate::specs::Reading::sized_at, crate::specs::Reading::raw_of))]
+    pub fn sized_bytes(&mut self) -> Result<Bytes<'a>, LoadFault>
+        ensures { Gives (λ x. (x, self.new)) result (sized_at raw_of self.old) }
+    {
+        let size = self.u32()?;
+        Ok(self.piece(size)?.bytes())
+    }
+
+    /// All of the bytes, as a name.
+    #[tactic(auto, using(crate::proofs::Texts::is_text, crate::proofs::Texts::is_no_text))]
+    fn text(self) -> Result<Name<'a>, LoadFault>
+        ensures { Gives (λ x. x) result (text_of self.entry) }
+    {
+        match simdutf8::basic::from_utf8(self.rest) {
+            Ok(text) => Ok(Name::new(text)),
+            Err(_) => Err(LoadFault::NotUtf8 {
+                offset: self.offset(),
+            }),
+        }
+    }
+
+    #[tactic(auto, unfolding(crate::specs::Reading::sized_at, crate::specs::Reading::name_at))]
+    pub fn name(&mut self) -> Result<Name<'a>, LoadFault>
+        ensures { Gives (λ x. (x, self.new)) result (name_at self.old) }
+    {
+        let size = self.u32()?;
+        self.piece(size)?.text()
+    }
+
+    /// The content of the custom section that begins at this offset: its name is read, and
+    /// nothing else.
+    #[tactic(auto, unfolding(crate::specs::Reading::custom_of))]
+    fn custom_content(mut self, section: u32) -> Result<(), LoadFault>
+        ensures { Gives (λ x. x) result (custom_of self.entry) }
+    {
+        match self.name() {
+            Ok(_) => Ok(()),
+            Err(fault) => Err(fault.inside(section)),
+        }
+    }
+
+    #[tactic(auto, unfolding(crate::specs::Reading::sized_at))]
+    fn custom(&mut self, section: u32) -> Result<(), LoadFault>
+        ensures { Gives (λ x. (x, self.new)) result (sized_at custom_of self.old) }
+    {
+        let size = self.u32()?;
+        self.piece(size)?.custom_content(section)
+    }
+
+    /// Goes past the custom sections at the front.
+    #[tactic(auto, using(crate::proofs::Steps::customs_more, crate::proofs::Steps::customs_done), unfolding(crate::specs::Reading::customs_at))]
+    pub fn customs(&mut self) -> Result<(), LoadFault>
+        ensures { Gives (λ x. (x, self.new)) result (customs_at self.old) }
+    {
+        for _ in 0..self.len() {
+            if !self.begins(0) {
+                return Ok(());
+            }
+            let section = self.offset();
+            self.byte()?;
+            self.custom(section)?;
+        }
+        Ok(())
+    }
+
+    /// A section that may be absent, and the custom sections after it.
+    #[tactic(auto, unfolding(crate::specs::Reading::section_at))]
+    pub fn section<T: Decode<'a>>(&mut self, alloc: Global, id: u8) -> Result<Option<T>, LoadFault>
+        ensures { Gives (λ x. (x, self.new)) result (section_at id (whole T.at) self.old) }
+    {
+        if !self.begins(id) {
+            return Ok(None);
+        }
+        let section = self.offset();
+        self.byte()?;
+        let value = self.sized(alloc, section)?;
+        self.customs()?;
+        Ok(Some(value))
+    }
+
+    /// Instructions up to the one that closes the expression (section 5.4.6).
+    #[tactic(auto, using(crate::proofs::Steps::code_more, crate::proofs::Steps::code_done), unfolding(crate::specs::CodeReading::code_at))]
+    pub fn code(&mut self, alloc: Global) -> Result<Items<Instruction>, LoadFault>
+        ensures { Gives (λ x. (x, self.new)) result (code_at self.old) }
+    {
+        let begin = self.offset();
+        let mut code = Vec::new(alloc);
+        let mut open = Frames::new(alloc);
+        open.push(Frame::Plain)?;
+        for _ in 0..self.len() {
+            let offset = self.offset();
+            let instruction = Instruction::decode(alloc, self)?;
+            open.step(&instruction, offset)?;
+            code.push(instruction)?;
+            if open.is_empty() {
+                return Ok(Items::from_vec(code, begin));
+            }
+        }
+        Err(LoadFault::Truncated { offset: self.end() })
+    }
+}
