@@ -1,13 +1,23 @@
-// A library with one function.
+//! Sessions: a module and the streams of its guest, run with exact fuel.
 #![tactic(auto)]
 
-ghost use Rattle.std.specs.Prelude.{◌≡◌};
-ghost use Rattle.sandbox_core.specs.Echo.{echo_of};
+mod buffers;
+mod fault;
+pub mod laws;
+mod loading;
+mod output;
+mod report;
+mod session;
+mod settings;
+mod streams;
+#[cfg(test)]
+mod tests;
 
-// The `ensures` clause is the contract: what `echo` returns is `echo_of` of its argument, a definition
-// in `specs/Echo.antt`, which a caller's clause can cite too.
-pub fn echo(x: usize) -> usize
-    ensures { result ≡ echo_of x }
-{
-    x
-}
+pub use fault::SessionFault;
+pub use loading::load;
+pub use report::{Report, run};
+pub use session::{RefusedSession, Session};
+pub use settings::{Preopen, Settings};
+pub use streams::Finished;
+pub use wasm_interp::{Errno, Host, HostCall, InstanceFault, Outcome, Pause, Trap};
+pub use wasm_valid::{LoadFault, Valid};

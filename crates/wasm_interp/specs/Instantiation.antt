@@ -165,5 +165,5 @@ RefusedFor links pages m faults.ElementOutOfBounds =
 RefusedFor links pages m faults.DataOutOfBounds =
     CanStart links m × (minimum m.memories ≤ pages)
     × ((gs : List Val) × AreFirst m.globals gs × ElementsInside gs (minimum m.tables) m.element_segments
-       × DataOutside gs (minimum m.memories * 65536) m.data_segments)
+    × DataOutside gs (minimum m.memories * 65536) m.data_segments)
 RefusedFor links pages m faults.Memory = Unit {0}

@@ -1,5 +1,5 @@
 -- Operators on whole numbers from 0 below 2 ^ n (section 4.3.2, integers), for every width n.
-use Rattle.std.specs.Prelude.{◌≡◌, ℕ, zero, suc, ◌+◌, ◌-◌, ◌*◌, ◌/◌, ◌%◌, ◌^◌, Bool, true, false, if◌then◌else◌, nat_lt, nat_eq, ◌&&◌, Result, Ok, Err, ℤ, pos, negsuc, ◌-ℤ◌, int_div, int_rem}
+use Rattle.std.specs.Prelude.{ℕ, zero, suc, ◌+◌, ◌-◌, ◌*◌, ◌/◌, ◌%◌, ◌^◌, Bool, true, false, if◌then◌else◌, nat_lt, nat_eq, ◌&&◌, Result, Ok, Err, ℤ, pos, negsuc, ◌-ℤ◌, int_div, int_rem}
 use Rattle.wasm_interp.specs.declared.trap.Trap.{Trap}
 use Rattle.wasm_interp.specs.declared.trap.Trap.TheVariants.{DivideByZero, IntegerOverflow}
 

@@ -42,9 +42,13 @@ pub struct Errno(pub u16);
 
 impl Errno {
     pub const SUCCESS: Errno = Errno(0);
+
     pub const BADF: Errno = Errno(8);
+
     pub const FAULT: Errno = Errno(21);
+
     pub const INVAL: Errno = Errno(28);
+
     pub const IO: Errno = Errno(29);
 }
 

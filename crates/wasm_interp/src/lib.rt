@@ -4,10 +4,14 @@
 mod call;
 mod fault;
 mod host;
+mod instantiation;
 mod machine;
 mod memory;
 mod pause;
 mod place;
+mod state;
+#[cfg(test)]
+mod tests;
 mod trap;
 
 pub use call::{Answer, Errno, HostCall};

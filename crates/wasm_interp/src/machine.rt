@@ -7,11 +7,10 @@ ghost use Rattle.wasm_interp.specs.Promise.{Starts, Resumed};
 use crate::call::HostCall;
 use crate::fault::InstanceFault;
 use crate::host::Host;
-use crate::memory::Memory;
+use crate::instantiation::instantiate;
 use crate::pause::Pause;
-use crate::place::Place;
+use crate::state::State;
 use std::alloc::Global;
-use std::convert::Infallible;
 use std::marker::Model;
 use wasm_valid::Valid;
 
@@ -28,20 +27,18 @@ pub struct Machine<'a> {
     valid: Valid<'a>,
     calls: Vec<HostCall>,
     page_limit: u32,
-    memory: Memory,
-    values: Vec<u64>,
-    place: Place,
-    used: u64,
-    never: Infallible,
+    state: State,
 }
 
 impl<'a> Model for Machine<'a> {
-    ghost use Rattle.std.specs.Prelude.{reverse};
     ghost use Rattle.wasm_interp.specs.Machine.{Snapshot};
+    ghost use Rattle.wasm_interp.specs.Performing.{snapshot_of, IsLive};
 
     ghost Value = { Snapshot };
 
-    ghost view = { λ m. record { valid = m.valid; calls = m.calls.items; page_limit = m.page_limit; memory = m.memory; values = reverse m.values.items; place = m.place; used = m.used } };
+    ghost view = { λ m. snapshot_of m.valid m.calls.items m.page_limit m.state.place m.state };
+
+    ghost invariant = { λ m. IsLive m.valid m.calls.items m.state.place m.state };
 }
 
 impl<'a> Machine<'a> {
@@ -56,10 +53,15 @@ impl<'a> Machine<'a> {
         ensures starts { IfOk result (λ m. Starts (H.links host.now) pages valid.entry m) }
         ensures refused { IfErr result (λ r. (r.valid ≡ valid.entry) × RefusedFor (H.links host.now) pages valid.entry r.fault) }
     {
-        Err(RefusedInstance {
-            valid,
-            fault: InstanceFault::Memory,
-        })
+        match instantiate(alloc, valid.module(), pages, host) {
+            Ok(instantiated) => Ok(Machine {
+                valid,
+                calls: instantiated.calls,
+                page_limit: instantiated.page_limit,
+                state: instantiated.state,
+            }),
+            Err(fault) => Err(RefusedInstance { valid, fault }),
+        }
     }
 
     /// Goes on for at most so many units, until one host call is answered, the run ends, or the next step would take a
@@ -68,14 +70,15 @@ impl<'a> Machine<'a> {
         requires { self.old.used + units < 2 ^ 64 }
         ensures { Resumed H H.calls host.old host.new self.old self.new units result }
     {
-        match self.never {}
+        self.state
+            .resume(self.valid.module(), self.calls.as_slice(), host, units)
     }
 
     /// The units used so far.
     pub fn used(&self) -> u64
         ensures { result ≡ self.now.used }
     {
-        self.used
+        self.state.used
     }
 
     /// The module that `new` took.

@@ -1,6 +1,16 @@
 //! Validation of decoded modules.
 #![tactic(auto)]
 
+mod bodies;
+mod module_rules;
+mod names;
+mod stack;
 mod valid;
+mod validating;
 
 pub use valid::Valid;
+pub use validating::validate;
+pub use wasm_module::LoadFault;
+
+#[cfg(test)]
+mod tests;

@@ -26,6 +26,15 @@ impl<'a> Valid<'a> {
     ghost use Rattle.wasm_valid.specs.Validity.{IsValid};
     ghost use Rattle.wasm_valid.specs.FirstPart.{RunsSoFar};
 
+    /// A module that was found valid.
+    pub(crate) fn new(checked: Module<'a>) -> Valid<'a>
+        requires valid { IsValid checked }
+        requires runs { RunsSoFar checked }
+        ensures { result ≡ checked.entry }
+    {
+        Valid { module: checked }
+    }
+
     /// The module, which is valid.
     pub fn module(&self) -> &Module<'a>
         ensures value { result.now ≡ self.now }

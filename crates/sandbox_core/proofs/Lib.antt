@@ -1,0 +1,3 @@
+pub mod Arrays
+pub mod Handing
+pub mod Reaching

@@ -1,0 +1,10 @@
+pub mod Texts
+pub mod Settings
+pub mod Checks
+pub mod Buffers
+pub mod Writing
+pub mod Rows
+pub mod Streams
+pub mod Session
+pub mod Runs
+pub mod Report

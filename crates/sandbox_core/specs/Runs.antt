@@ -1,0 +1,58 @@
+-- Runs of a machine over a host: resume by resume, and all of them as one.
+use Rattle.std.specs.Prelude.{◌≡◌, ℕ, List, [], ◌∷◌}
+use Rattle.wasm_interp.specs.declared.call.HostCall.{HostCall}
+use Rattle.wasm_interp.specs.declared.call.Errno.{Errno}
+use Rattle.wasm_interp.specs.declared.pause.Pause.{Pause}
+use Rattle.wasm_interp.specs.declared.pause.Pause.TheVariants.{Called, Spent, Ended}
+use Rattle.wasm_interp.specs.declared.pause.Outcome.{Outcome}
+use Rattle.wasm_interp.specs.declared.pause.Outcome.TheVariants.{Exited, Trapped, OutOfFuel, OutOfMemory}
+use Rattle.wasm_interp.specs.Configuration.{Instance, Configuration, code_of, used_by, NextIsPlain}
+use Rattle.wasm_interp.specs.Steps.{CallsOf, Reach}
+use Rattle.wasm_interp.specs.Machine.{Snapshot, StandsFor}
+use Rattle.wasm_interp.specs.Promise.{EndsAs, Paused, Resumed}
+
+-- the calls that pauses tell of, with what each answered
+abbrev pub answered : List Pause → List (HostCall × Errno)
+answered [] = []
+answered (Called call e ∷ ps) = (call, e) ∷ answered ps
+answered (Spent ∷ ps) = answered ps
+answered (Ended o ∷ ps) = answered ps
+
+module _ (H : Type 0) (Calls : CallsOf H) where
+  -- each pause says what steps lead to it from the one before
+  abbrev pub PausesFollow : Instance → List Pause → H → Configuration → H → Configuration → Type 0
+  PausesFollow i [] h c h' c' = (h' ≡ h) × (c' ≡ c)
+  PausesFollow i (p ∷ ps) h c h' c' =
+      (g : H) × (d : Configuration) × Paused H Calls i p h c g d × PausesFollow i ps g d h' c'
+
+  -- pauses that follow one another belong to one run, in which the host answered those calls and no others
+  abbrev pub PausesCompose : Type 0
+  PausesCompose = (i : Instance) (ps : List Pause) (h h' : H) (c c' : Configuration)
+      → PausesFollow i ps h c h' c' → Reach H Calls i h c (answered ps) h' c'
+
+  -- one resume after another, from a host and a machine to others
+  abbrev pub ResumesFollow : List Pause → H → Snapshot → H → Snapshot → Type 0
+  ResumesFollow [] h s h' s' = (h' ≡ h) × (s' ≡ s)
+  ResumesFollow (p ∷ ps) h s h' s' =
+      (g : H) × (t : Snapshot) × (units : ℕ) × Resumed H Calls h g s t units p × ResumesFollow ps g t h' s'
+
+  -- resumes that follow one another are one run, from whatever configuration the machine stood for
+  abbrev pub ResumesCompose : Type 0
+  ResumesCompose = (i : Instance) (ps : List Pause) (h h' : H) (s s' : Snapshot) (c : Configuration)
+      → StandsFor s i c → ResumesFollow ps h s h' s'
+      → (c' : Configuration) × StandsFor s' i c' × Reach H Calls i h c (answered ps) h' c'
+
+  -- how a run with fuel stops: out of it exactly where all was used and the next step takes a unit
+  abbrev pub StopsAs : Instance → Outcome → ℕ → ℕ → H → Configuration → Type 0
+  StopsAs i OutOfFuel fuel used h c = (used ≡ fuel) × NextIsPlain (code_of c)
+  StopsAs i (Exited n) fuel used h c = EndsAs H Calls i (Exited n) h c
+  StopsAs i (Trapped t) fuel used h c = EndsAs H Calls i (Trapped t) h c
+  StopsAs i OutOfMemory fuel used h c = EndsAs H Calls i OutOfMemory h c
+
+  -- a run from one configuration to a last one, which has used so many units
+  pub record RunsWithin (i : Instance) (h : H) (c : Configuration) (fuel : ℕ) (h' : H) (outcome : Outcome) (used : ℕ) : Type 0 where
+    pub last : Configuration
+    pub answers : List (HostCall × Errno)
+    pub reach : Reach H Calls i h c answers h' last
+    pub units : used_by last ≡ used
+    pub stops : StopsAs i outcome fuel used h' last

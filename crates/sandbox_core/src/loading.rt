@@ -1,0 +1,23 @@
+//! From bytes to a valid module.
+
+ghost use Rattle.std.specs.Prelude.{IfOk, IfErr};
+ghost use Rattle.wasm_module.specs.Module.{Sections, SpellsParts, Spells};
+ghost use Rattle.wasm_module.specs.FirstPart.{IsFirstPart};
+ghost use Rattle.wasm_valid.specs.Validity.{IsValid};
+ghost use Rattle.wasm_valid.specs.FirstPart.{RunsSoFar};
+ghost use Rattle.wasm_valid.specs.Refusal.{IsRefusal};
+
+use std::alloc::Global;
+use wasm_module::{LoadFault, decode};
+use wasm_valid::{Valid, validate};
+
+/// Decodes the module that the bytes spell, and validates it.
+pub fn load(alloc: Global, bytes: &[u8]) -> Result<Valid<'_>, LoadFault>
+    ensures found { IfOk result (λ v. Spells bytes.now v × IsValid v × RunsSoFar v) }
+
+    // Another refusal than of an invalid module or for memory: the bytes spell no module of the part that is read.
+    ensures refused { IfErr result (λ e. ¬ IsRefusal e → (s : Sections) → SpellsParts bytes.now s → IsFirstPart s → ⊥) }
+{
+    let module = decode(alloc, bytes)?;
+    validate(alloc, module)
+}

@@ -1,0 +1,11 @@
+pub mod Anywhere
+pub mod StraightLine
+pub mod Asking
+pub mod Linking
+pub mod Runs
+pub mod Resuming
+pub mod Calling
+pub mod EnteringFrom
+pub mod Beginning
+pub mod Loops
+mod Checks

@@ -1,0 +1,188 @@
+//! What no contract says: texts, and that calls succeed where memory is ample.
+
+ghost use Rattle.std.specs.Prelude.{None};
+
+use crate::state::State;
+use crate::{Answer, Errno, Host, HostCall, InstanceFault, Memory, Place, Trap};
+use std::alloc::Global;
+use std::test::Fail;
+use wasm_module::{FuncType, Items, ValueType};
+
+#[test]
+fn memory_begins_with_zeros(rt: HostRuntime) -> Result<(), Fail> {
+    let memory = Memory::new(rt.alloc(), 1)?;
+    assert_eq!(rt; memory.len(), 65_536);
+    assert_eq!(rt; memory.slice(65_534, 2), Some([0u8, 0].as_slice()));
+    Ok(())
+}
+
+#[test]
+fn memory_without_pages_has_one_empty_slice(rt: HostRuntime) -> Result<(), Fail> {
+    let memory = Memory::new(rt.alloc(), 0)?;
+    assert!(rt; memory.slice(0, 0).is_some());
+    assert!(rt; memory.slice(0, 1).is_none());
+    assert!(rt; memory.slice(1, 0).is_none());
+    Ok(())
+}
+
+#[test]
+fn slices_end_with_memory(rt: HostRuntime) -> Result<(), Fail> {
+    let memory = Memory::new(rt.alloc(), 1)?;
+    assert!(rt; memory.slice(65_536, 0).is_some());
+    assert!(rt; memory.slice(65_535, 2).is_none());
+    assert!(rt; memory.slice(65_537, 0).is_none());
+    assert!(rt; memory.slice(u32::MAX, u32::MAX).is_none());
+    Ok(())
+}
+
+#[test]
+fn writes_stand_where_they_fit(rt: HostRuntime) -> Result<(), Fail> {
+    let mut memory = Memory::new(rt.alloc(), 1)?;
+    assert!(rt; memory.write(65_533, b"abc"));
+    assert_eq!(rt; memory.slice(65_532, 4), Some(b"\0abc".as_slice()));
+    Ok(())
+}
+
+#[test]
+fn writes_past_the_end_change_nothing(rt: HostRuntime) -> Result<(), Fail> {
+    let mut memory = Memory::new(rt.alloc(), 1)?;
+    assert!(rt; !memory.write(65_534, b"abc"));
+    assert!(rt; !memory.write(65_537, b""));
+    assert_eq!(rt; memory.slice(65_534, 2), Some([0u8, 0].as_slice()));
+    Ok(())
+}
+
+#[test]
+fn traps_have_their_texts(rt: HostRuntime) -> Result<(), Fail> {
+    for (trap, text) in [
+        (Trap::Unreachable, "unreachable"),
+        (Trap::DivideByZero, "integer divide by zero"),
+        (Trap::IntegerOverflow, "integer overflow"),
+        (Trap::OutOfBoundsMemory, "out of bounds memory access"),
+        (Trap::UndefinedElement, "undefined element"),
+        (Trap::UninitializedElement, "uninitialized element"),
+        (Trap::IndirectCallMismatch, "indirect call type mismatch"),
+        (Trap::CallStackExhausted, "call stack exhausted"),
+    ] {
+        let shown = format!(in rt.alloc(); "{trap}")?;
+        assert_eq!(rt; shown.as_str(), text);
+    }
+    Ok(())
+}
+
+#[test]
+fn faults_have_their_numbers(rt: HostRuntime) -> Result<(), Fail> {
+    for (fault, text) in [
+        (InstanceFault::Import, "fault 13"),
+        (InstanceFault::NoStart, "fault 14"),
+        (InstanceFault::DataOutOfBounds, "fault 20"),
+        (InstanceFault::ElementOutOfBounds, "fault 21"),
+        (InstanceFault::PageLimit, "fault 22"),
+        (InstanceFault::Memory, "out of memory"),
+    ] {
+        let shown = format!(in rt.alloc(); "{fault}")?;
+        assert_eq!(rt; shown.as_str(), text);
+    }
+    Ok(())
+}
+
+/// Remembers what it was asked, and answers with one number.
+#[derive(Drop)]
+struct Recorder {
+    call: HostCall,
+    used: u64,
+    first: u64,
+    second: u64,
+    answer: Answer,
+}
+
+impl Recorder {
+    fn new(answer: Answer) -> Recorder {
+        Recorder {
+            call: HostCall::Nosys,
+            used: 0,
+            first: 0,
+            second: 0,
+            answer,
+        }
+    }
+}
+
+impl Host for Recorder {
+    ghost links = { λ _ _ _ _. None };
+
+    ghost calls = { λ _ _ _ _ _ _ _ _. Unit {0} };
+
+    fn link(&self, _module_name: &str, _name: &str, _func_type: &FuncType) -> Option<HostCall> {
+        None
+    }
+
+    fn call(
+        &mut self,
+        memory: &mut Memory,
+        used: u64,
+        call: HostCall,
+        arguments: &[u64],
+    ) -> Answer {
+        self.call = call;
+        self.used = used;
+        if let [first, second] = arguments {
+            self.first = *first;
+            self.second = *second;
+        }
+        memory.write(0, b"!");
+        self.answer
+    }
+}
+
+/// A state with the values 1, 2 and 3, the last one on top.
+fn three_values(alloc: Global) -> Result<State, Fail> {
+    let mut values = Vec::with_capacity(alloc, 4)?;
+    for value in 1..4 {
+        values.push(value)?;
+    }
+    Ok(State {
+        memory: Memory::new(alloc, 1)?,
+        values,
+        place: Place::Returned,
+        used: 17,
+    })
+}
+
+fn two_to_one(alloc: Global) -> Result<FuncType, Fail> {
+    Ok(FuncType {
+        params: Items::from_vec(vec![in alloc; ValueType::I32, ValueType::I64]?, 0),
+        results: Items::from_vec(vec![in alloc; ValueType::I32]?, 0),
+    })
+}
+
+#[test]
+fn a_host_sees_the_topmost_values(rt: HostRuntime) -> Result<(), Fail> {
+    let mut state = three_values(rt.alloc())?;
+    let func_type = two_to_one(rt.alloc())?;
+    state.values.reserve(1)?;
+    assert_eq!(rt; state.values.len(), 3);
+    assert_eq!(rt; func_type.params.len(), 2);
+    let mut host = Recorder::new(Answer::Value(Errno::BADF));
+    let answer = state.ask(&mut host, HostCall::FdWrite, &func_type);
+    assert_eq!(rt; answer, Answer::Value(Errno::BADF));
+    assert_eq!(rt; (host.call, host.used), (HostCall::FdWrite, 17));
+    assert_eq!(rt; (host.first, host.second), (2, 3));
+    assert_eq!(rt; state.values.as_slice(), [1u64, 8].as_slice());
+    assert_eq!(rt; state.memory.slice(0, 2), Some(b"!\0".as_slice()));
+    Ok(())
+}
+
+#[test]
+fn an_exit_leaves_no_result(rt: HostRuntime) -> Result<(), Fail> {
+    let mut state = three_values(rt.alloc())?;
+    let func_type = two_to_one(rt.alloc())?;
+    state.values.reserve(1)?;
+    assert_eq!(rt; state.values.len(), 3);
+    assert_eq!(rt; func_type.params.len(), 2);
+    let mut host = Recorder::new(Answer::Exit(3));
+    let answer = state.ask(&mut host, HostCall::ProcExit, &func_type);
+    assert_eq!(rt; answer, Answer::Exit(3));
+    assert_eq!(rt; state.values.as_slice(), [1u64].as_slice());
+    Ok(())
+}

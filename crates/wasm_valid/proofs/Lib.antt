@@ -1,0 +1,9 @@
+pub mod Apart
+pub mod Stacks
+pub mod Lines
+pub mod Spaces
+pub mod Whole
+pub mod Refusals
+pub mod Parts
+pub mod EachBody
+pub mod Assembled

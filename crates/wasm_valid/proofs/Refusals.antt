@@ -1,0 +1,33 @@
+-- What a refusal says.
+use Rattle.std.proofs.Common.{◌≡◌, Result, Ok, Err}
+use Rattle.std.specs.Result.{IsErrAnd}
+use Rattle.std.proofs.lemmas.Result.{err_from_is_err_and}
+use Rattle.wasm_module.specs.declared.fault.LoadFault.{LoadFault}
+use Rattle.wasm_module.specs.declared.fault.LoadFault.TheVariants.{Memory, Invalid, Truncated, BadMagic, BadVersion, BadInteger, SectionOrder, SectionSize, BadByte, NotUtf8, CountMismatch, Float, Limit}
+use Rattle.wasm_valid.specs.Refusal.{Refutes, Settles}
+
+-- what implies one of several refuted things is refuted
+pub Refutes-some : (e : LoadFault) {A : Type 0} (P : A → Type 0) (Q : Type 0) → A → ((a : A) → Refutes e (P a)) → (Q → (a : A) × P a) → Refutes e Q
+Refutes-some Memory P Q a h f = tt
+Refutes-some (Invalid function offset) P Q a h f = λ q. let p = f q in h p.0 p.1
+Refutes-some (Truncated offset) P Q a h f = absurd (h a)
+Refutes-some (BadMagic offset) P Q a h f = absurd (h a)
+Refutes-some (BadVersion offset) P Q a h f = absurd (h a)
+Refutes-some (BadInteger offset) P Q a h f = absurd (h a)
+Refutes-some (SectionOrder offset) P Q a h f = absurd (h a)
+Refutes-some (SectionSize offset) P Q a h f = absurd (h a)
+Refutes-some (BadByte offset) P Q a h f = absurd (h a)
+Refutes-some (NotUtf8 offset) P Q a h f = absurd (h a)
+Refutes-some (CountMismatch offset) P Q a h f = absurd (h a)
+Refutes-some (Float offset) P Q a h f = absurd (h a)
+Refutes-some (Limit offset) P Q a h f = absurd (h a)
+
+-- what implies something refuted is refuted
+pub Refutes-more : (e : LoadFault) (P Q : Type 0) → (Q → P) → Refutes e P → Refutes e Q
+Refutes-more e P Q f h = Refutes-some e {A = Unit {0}} (λ _. P) Q tt (λ _. h) (λ q. (tt, f q))
+
+-- the exit of a `?`
+pub refused : {T : Type 0} (r : Result T LoadFault) (e : LoadFault) (P Q : Type 0) → IsErrAnd r (λ y. y ≡ e) → Refutes e P → (Q → P) → Settles r Q
+refused r e P Q left h f =
+    let p = err_from_is_err_and r left in
+    rw (p.1, p.2) (Refutes-more e P Q f h)
