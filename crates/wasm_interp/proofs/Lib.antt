@@ -5,7 +5,7 @@ pub mod Linking
 pub mod Runs
 pub mod Resuming
 pub mod Calling
-pub mod EnteringFrom
+pub mod FromOutside
 pub mod Beginning
 pub mod Loops
 mod Checks

@@ -31,6 +31,7 @@ each_at P (y ∷ ys) (suc k) x a e = each_at P ys k x a.1 e
 pub imports_first : (i : Import) (is : List Import) (more : List ℕ) (index : ℕ) → i.kind ≡ imports.Function index → filter_map imported_function (kinds_of (i ∷ is)) ++ more ≡ index ∷ (filter_map imported_function (kinds_of is) ++ more)
 imports_first i is more index e = ap (λ y. cons_option (imported_function y) (filter_map imported_function (kinds_of is)) ++ more) e
 
+-- the type's indices of all functions, those of the imports first
 abbrev pub Indices : List Import → List ℕ → List ℕ
 Indices is more = filter_map imported_function (kinds_of is) ++ more
 
@@ -42,22 +43,27 @@ record Head (types : List FuncType) (index : ℕ) (rest : List ℕ) (functions :
   pub type_is : slice_get types index ≡ Some first
   pub others_are : AreTypesAt types rest others
 
+-- a list of indices with their types has a first one
 head_of : (types : List FuncType) (index : ℕ) (rest : List ℕ) (functions : List FuncType) → AreTypesAt types (index ∷ rest) functions → Head types index rest functions
 head_of types index rest [] t = absurd t
 head_of types index rest (f ∷ fs) t = record { first = f; others = fs; is = refl; type_is = t.0; others_are = t.1 }
 
+-- the first import is the first function
 import_head : (types : List FuncType) (i : Import) (is : List Import) (more : List ℕ) (functions : List FuncType) (index : ℕ) → i.kind ≡ imports.Function index → AreTypesAt types (Indices (i ∷ is) more) functions → Head types index (Indices is more) functions
 import_head types i is more functions index e t = head_of types index (Indices is more) functions (subst (λ y. AreTypesAt types y functions) (imports_first i is more index e) t)
 
+-- an import of a function names its type
 pub kind_of_function : (k : ImportKind) → IsFunction k → (x : ℕ) × (k ≡ imports.Function x)
 kind_of_function (imports.Function x) f = (x, refl)
 kind_of_function (imports.Table l) f = absurd f
 kind_of_function (imports.Memory l) f = absurd f
 kind_of_function (imports.Global g) f = absurd f
 
+-- import x is a function with a type
 abbrev ImportAt : List FuncType → List Import → ℕ → Type 0
 ImportAt types is x = (i : Import) × (index : ℕ) × (f : FuncType) × (slice_get is x ≡ Some i) × (i.kind ≡ imports.Function index) × (slice_get types index ≡ Some f)
 
+-- each import is one
 import_from : (types : List FuncType) (is : List Import) (more : List ℕ) (functions : List FuncType) (x : ℕ) → AreTypesAt types (Indices is more) functions → AllByRecursion (λ i. IsFunction i.kind) is → x < length is → ImportAt types is x
 import_from types [] more functions x t a l = absurd (omega arith)
 import_from types (i ∷ is) more functions zero t a l =
@@ -77,6 +83,7 @@ import_of m x v r l =
 
 -- ---- imports and the host's calls
 
+-- there are as many calls and function instances as imports
 pub calls_length : (types : List FuncType) (is : List Import) (calls : List HostCall) (cs : List Callee) → AreCallees types is calls cs → (length calls ≡ length is) × (length cs ≡ length is)
 calls_length types [] [] [] a = (refl, refl)
 calls_length types [] [] (c ∷ cs) a = absurd a
@@ -90,6 +97,7 @@ pub record Linked (functions : List FuncType) (callees : List Callee) (x : ℕ) 
   pub function : slice_get functions x ≡ Some f
   pub callee : slice_get callees x ≡ Some (imported f call)
 
+-- by the imports one after the other
 linked_from : (types : List FuncType) (is : List Import) (more : List ℕ) (functions : List FuncType) (calls : List HostCall) (cs owned : List Callee) (x : ℕ) (import : Import) (index : ℕ) (f : FuncType) (call : HostCall) → AreTypesAt types (Indices is more) functions → AreCallees types is calls cs → slice_get is x ≡ Some import → import.kind ≡ imports.Function index → slice_get types index ≡ Some f → slice_get calls x ≡ Some call → Linked functions (cs ++ owned) x f call
 linked_from types [] more functions calls cs owned x import index f call t a e k g c = cc
 linked_from types (i ∷ is) more functions [] cs owned x import index f call t a e k g c = absurd a
@@ -109,6 +117,7 @@ linked_from types (i ∷ is) more functions (h ∷ hs) (d ∷ ds) owned (suc x) 
     let r = linked_from types is more hd.others hs ds owned x import index f call hd.others_are a.1 e k g c in
     record { function = ap (λ y. slice_get y (suc x)) hd.is ∙ r.function; callee = r.callee }
 
+-- an import's function instance has its type and the host's call
 pub linked : (m : Module) (functions : List FuncType) (calls : List HostCall) (cs owned : List Callee) (x : ℕ) (f : FuncType) (call : HostCall) → AreTypesAt m.types (functions_of m) functions → AreCallees m.types m.imports calls cs → IsImport m x f → slice_get calls x ≡ Some call → Linked functions (cs ++ owned) x f call
 linked m functions calls cs owned x f call t a h c = linked_from m.types m.imports m.functions functions calls cs owned x h.import h.index f call t a h.import_is h.kind h.type_is c
 
@@ -126,6 +135,7 @@ index_from types (i ∷ is) more (h ∷ hs) (d ∷ ds) (suc x) import index type
     let u : slice_get (a.0.index ∷ Indices is more) (suc x) ≡ Some type_index = subst (λ y. slice_get y (suc x) ≡ Some type_index) (imports_first i is more a.0.index a.0.kind) g in
     index_from types is more hs ds x import index type_index a.1 e k u
 
+-- function x has the type of import x
 pub index_of : (m : Module) (calls : List HostCall) (cs : List Callee) (x : ℕ) (f : FuncType) (type_index : ℕ) → AreCallees m.types m.imports calls cs → (h : IsImport m x f) → slice_get (functions_of m) x ≡ Some type_index → slice_get m.types type_index ≡ Some f
 index_of m calls cs x f type_index a h g =
     ap (slice_get m.types) (index_from m.types m.imports m.functions calls cs x h.import h.index type_index a h.import_is h.kind g) ∙ h.type_is
@@ -142,6 +152,7 @@ pub record Own (types : List FuncType) (functions : List ℕ) (bodies : List Bod
   pub nests : Nests body.code code
   pub typed : FunctionTyped context f body
 
+-- by the module's own functions one after the other
 own_from : (types : List FuncType) (fs : List ℕ) (bodies : List Body) (context : Context) (cs : List Callee) (y type_index : ℕ) (f : FuncType) → AreOwn types fs bodies cs → FunctionsTyped context types fs bodies → slice_get fs y ≡ Some type_index → slice_get types type_index ≡ Some f → Own types fs bodies context cs y f
 own_from types [] bodies context cs y type_index f a t e g = cc
 own_from types (x ∷ xs) [] context cs y type_index f a t e g = absurd t
@@ -172,6 +183,7 @@ indices_behind types (i ∷ is) more (h ∷ hs) (d ∷ ds) y a =
     let z : suc (length is) + y ≡ suc (length is + y) = omega arith in
     ap (λ n. slice_get (Indices (i ∷ is) more) n) z ∙ ap (λ l. slice_get l (suc (length is + y))) (imports_first i is more a.0.index a.0.kind) ∙ indices_behind types is more hs ds y a.1
 
+-- behind the imports come the module's own
 callees_behind : (cs owned : List Callee) (y : ℕ) → slice_get (cs ++ owned) (length cs + y) ≡ slice_get owned y
 callees_behind [] owned y = let z : 0 + y ≡ y = omega arith in ap (slice_get owned) z
 callees_behind (c ∷ cs) owned y = let z : suc (length cs) + y ≡ suc (length cs + y) = omega arith in ap (slice_get (c ∷ (cs ++ owned))) z ∙ callees_behind cs owned y
@@ -182,6 +194,7 @@ pub record OwnAt (m : Module) (context : Context) (callees : List Callee) (x y :
   pub own_is : Own m.types m.functions m.bodies context owned y f
   pub callee_is : slice_get callees x ≡ Some (own f (record { locals = local_types own_is.body.locals; code = own_is.code }))
 
+-- the function instance of such a function
 pub own_at : (m : Module) (v : IsValid m) (calls : List HostCall) (cs owned : List Callee) (x y type_index : ℕ) (f : FuncType) → AreCallees m.types m.imports calls cs → AreOwn m.types m.functions m.bodies owned → x ≡ length m.imports + y → slice_get (functions_of m) x ≡ Some type_index → slice_get m.types type_index ≡ Some f → OwnAt m v.context (cs ++ owned) x y f
 own_at m v calls cs owned x y type_index f a o e g t =
     let at : slice_get m.functions y ≡ Some type_index = sym (indices_behind m.types m.imports m.functions calls cs y a) ∙ ap (slice_get (functions_of m)) (sym e) ∙ g in
@@ -191,6 +204,7 @@ own_at m v calls cs owned x y type_index f a o e g t =
 
 -- ---- straight-line code nests in one way
 
+-- nothing else has these instructions
 same_done : (b : Instructions) → IsWritten b → Next op.End [] b → done ≡ b
 same_done done w n = refl
 same_done (plain i b) w (goes_to rest v e) = absurd w.0
@@ -200,15 +214,18 @@ same_done (if_then t body rest) w n = elim n [ ]
 same_done (if_else t body other rest) w n = elim n [ ]
 same_done (enter x rest) w n = elim n [ ]
 
+-- a plain instruction is no end
 is_not_end : (i : Instruction) → IsPlain i → i ≡ op.End → ⊥
 is_not_end i p e = let q : IsPlain op.End = subst IsPlain e p in q
 
+-- the instruction, and what is left behind it
 record Same (i : Instruction) (flat : List Instruction) (b : Instructions) : Type 0 where
   pub rest : Instructions
   pub is : plain i rest ≡ b
   pub written : IsWritten rest
   pub flat_is : flatten op.End rest ≡ flat
 
+-- nothing else begins with this instruction
 same_plain : (i : Instruction) (flat : List Instruction) (b : Instructions) → IsPlain i → Next i flat b → Same i flat b
 same_plain i flat done p (ends e) = absurd (is_not_end i p e)
 same_plain i flat (plain j b) p (goes_to rest w e) = record { rest = rest; is = refl; written = w; flat_is = e }
@@ -218,6 +235,7 @@ same_plain i flat (if_then t body rest) p n = elim n [ ]
 same_plain i flat (if_else t body other rest) p n = elim n [ ]
 same_plain i flat (enter x rest) p n = elim n [ ]
 
+-- two bodies of the same instructions are one
 pub nests_once : (n : ℕ) (a b : Instructions) → IsWritten a → IsWritten b → AllByRecursion (IsRunnable n) (flatten op.End a) → flatten op.End a ≡ flatten op.End b → a ≡ b
 nests_once n (block t body rest) b w v r e = absurd r.0
 nests_once n (loop t body rest) b w v r e = absurd r.0

@@ -180,6 +180,7 @@ fn data_fits(guest: &Module, size: usize) -> bool
     true
 }
 
+/// Whether a segment stands inside a memory of this size, also where it has no bytes.
 fn segment_fits(segment: &DataSegment, size: usize) -> bool
     requires { IsOffset segment.now.offset }
     ensures inside { OnTrue result (segment_start [] segment.now.offset + length segment.now.bytes ≤ size) }

@@ -48,6 +48,7 @@ impl<'a> Valid<'a> {
     pub fn into_module(self) -> Module<'a>
         ensures { result ≡ self.entry }
     {
-        self.module
+        let Valid { module } = self;
+        module
     }
 }

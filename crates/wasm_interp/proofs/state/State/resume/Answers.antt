@@ -1,4 +1,4 @@
-use Rattle.wasm_interp.proofs.EnteringFrom.{all_returned, over}
+use Rattle.wasm_interp.proofs.FromOutside.{all_returned, over}
 use Rattle.wasm_interp.proofs.state.State.resume.Goals as goal
 
 pub returns-in-Entering-clause-resumed : goal.returns-in-Entering-clause-resumed
