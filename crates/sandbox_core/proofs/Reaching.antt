@@ -15,7 +15,7 @@ use Rattle.sandbox_core.specs.Runs.{answered, PausesFollow, ResumesFollow, Stops
 -- the units of a configuration are those of the machine that stands for it
 pub used_by-stands : (s : Snapshot) (i : Instance) (c : Configuration) → StandsFor s i c → used_by c ≡ s.used
 unfolding StandsFor
-used_by-stands s i (at store f c) stands = stands.used_is
+used_by-stands s i (at store f c) stands = cc
 
 module _ (H : Type 0) (Calls : CallsOf H) (i : Instance) where
   -- two runs of which one begins where the other ended are one run

@@ -1,6 +1,9 @@
 //! Tests of what no contract shows: numbers of the calls, sizes, texts, and writers that fail.
 
 use crate::fault::SessionFault;
+use crate::loading::load;
+use crate::report::run;
+use crate::session::Session;
 use crate::settings::{Preopen, Settings};
 use crate::streams::Streams;
 use std::alloc::{AllocError, Global};
@@ -8,7 +11,7 @@ use std::io;
 use std::io::{ErrorKind, Write};
 use std::process::Abort;
 use std::test::Fail;
-use wasm_interp::{Answer, Errno, Host, HostCall, InstanceFault, Memory};
+use wasm_interp::{Answer, Errno, Host, HostCall, InstanceFault, Memory, Outcome, Pause};
 use wasm_module::{FuncType, Items, ValueType};
 
 /// Takes one byte at a time.
@@ -169,42 +172,56 @@ fn fails_where_the_writer_takes_nothing(rt: HostRuntime) -> Result<(), Fail> {
     Ok(())
 }
 
+type InMemory = Streams<&'static [u8], Vec<u8>, Vec<u8>>;
+
+fn assert_answers(
+    rt: &impl Abort,
+    streams: &mut InMemory,
+    memory: &mut Memory,
+    arguments: [u64; 4],
+    errno: Errno,
+) {
+    let answer = streams.call(memory, 1, HostCall::FdWrite, &arguments);
+    assert_eq!(rt; answer, Answer::Value(errno), "at {arguments:?}");
+}
+
 #[test]
 fn checks_in_order(rt: HostRuntime) -> Result<(), Fail> {
     let alloc = rt.alloc();
-    let mut memory = page(&rt, alloc)?;
-    // Two buffers whose lengths add up to 2 ^ 32, at 80.
+    let mut m = page(&rt, alloc)?;
+    let mut s = Streams::new(b"".as_slice(), Vec::new(alloc), Vec::new(alloc));
+
+    // Descriptors that aren't outputs, before all else.
+    assert_answers(&rt, &mut s, &mut m, [0, 0, 1_025, 70_000], Errno::BADF);
+    assert_answers(&rt, &mut s, &mut m, [3, 0, 1, 0], Errno::BADF);
+    // Too many buffers, before the array is looked at.
+    assert_answers(&rt, &mut s, &mut m, [1, 70_000, 1_025, 0], Errno::INVAL);
+    // The array passes the end of memory, also one of no buffers.
+    assert_answers(&rt, &mut s, &mut m, [1, 65_529, 1, 0], Errno::FAULT);
+    assert_answers(&rt, &mut s, &mut m, [1, 65_537, 0, 0], Errno::FAULT);
+    assert_answers(&rt, &mut s, &mut m, [1, 65_536, 0, 100], Errno::SUCCESS);
+    // A buffer that ends one byte past memory, behind one that doesn't.
+    assert_answers(&rt, &mut s, &mut m, [1, 24, 2, 64], Errno::FAULT);
+    // The result, whose alignment isn't asked.
+    assert_answers(&rt, &mut s, &mut m, [1, 0, 1, 65_533], Errno::FAULT);
+    assert_eq!(rt; s.out.writer.as_slice(), b"".as_slice());
+    assert_answers(&rt, &mut s, &mut m, [1, 0, 1, 65_531], Errno::SUCCESS);
+    assert_eq!(rt; s.out.writer.as_slice(), b"hi\n".as_slice());
+    Ok(())
+}
+
+#[test]
+fn checks_the_sum_before_the_buffers(rt: HostRuntime) -> Result<(), Fail> {
+    let alloc = rt.alloc();
+    let mut m = page(&rt, alloc)?;
+    let mut s = Streams::new(b"".as_slice(), Vec::new(alloc), Vec::new(alloc));
+
+    // Two buffers whose lengths add up to 2 ^ 32.
     let long = [0, 0, 0, 0, 0xff, 0xff, 0xff, 0xff, 0, 0, 0, 0, 1, 0, 0, 0];
-    assert!(rt; memory.write(80, &long));
-    let mut streams = Streams::new(b"".as_slice(), Vec::new(alloc), Vec::new(alloc));
-    let rows: [([u64; 4], Errno); 12] = [
-        // Descriptors that aren't outputs, before all else.
-        ([0, 0, 1_025, 70_000], Errno::BADF),
-        ([3, 0, 1, 0], Errno::BADF),
-        // Too many buffers, before the array is looked at.
-        ([1, 70_000, 1_025, 0], Errno::INVAL),
-        // The array passes the end of memory, also one of no buffers.
-        ([1, 65_529, 1, 0], Errno::FAULT),
-        ([1, 65_537, 0, 0], Errno::FAULT),
-        ([1, 65_536, 0, 100], Errno::SUCCESS),
-        // The lengths add up to too much, also where a buffer and the result lie outside.
-        ([1, 80, 2, 70_000], Errno::INVAL),
-        // A length of 2 ^ 32 - 1 alone isn't too much.
-        ([1, 80, 1, 0], Errno::FAULT),
-        // A buffer that ends one byte past memory, behind one that doesn't: nothing of the first is written.
-        ([1, 24, 2, 64], Errno::FAULT),
-        // The result.
-        ([1, 0, 1, 65_533], Errno::FAULT),
-        ([1, 0, 1, 65_532], Errno::SUCCESS),
-        // Alignment isn't asked.
-        ([1, 0, 1, 65_531], Errno::SUCCESS),
-    ];
-    for (arguments, errno) in rows {
-        let answer = streams.call(&mut memory, 1, HostCall::FdWrite, &arguments);
-        assert_eq!(rt; answer, Answer::Value(errno), "at {arguments:?}");
-    }
-    assert_eq!(rt; streams.out.writer.as_slice(), b"hi\nhi\n".as_slice());
-    assert_eq!(rt; streams.err.writer.as_slice(), b"".as_slice());
+    assert!(rt; m.write(80, &long));
+    assert_answers(&rt, &mut s, &mut m, [1, 80, 2, 70_000], Errno::INVAL);
+    // A length of 2 ^ 32 - 1 alone isn't too much.
+    assert_answers(&rt, &mut s, &mut m, [1, 80, 1, 0], Errno::FAULT);
     Ok(())
 }
 
@@ -275,28 +292,42 @@ fn links_two_calls(rt: HostRuntime) -> Result<(), Fail> {
     Ok(())
 }
 
-fn plain<'a>() -> Settings<'a> {
+fn settings<'a, 't>(
+    args: &'a [&'t [u8]],
+    env: &'a [&'t [u8]],
+    preopens: &'a [Preopen<'t>],
+    pages: u32,
+) -> Settings<'a, 't> {
     Settings {
-        args: &[],
-        env: &[],
-        preopens: &[],
+        args,
+        env,
+        preopens,
         moment: 0,
         random: &[],
-        pages: 1_024,
+        pages,
     }
 }
 
+fn plain() -> Settings<'static, 'static> {
+    settings(&[], &[], &[], 1_024)
+}
+
+fn fit_as_arguments(texts: &[&[u8]]) -> bool {
+    settings(texts, &[], &[], 1).fits()
+}
+
+fn fit_as_environment(texts: &[&[u8]]) -> bool {
+    settings(&[], texts, &[], 1).fits()
+}
+
 fn assert_texts(rt: &impl Abort, texts: &[&[u8]], fits: bool) {
-    let as_args = Settings {
-        args: texts,
-        ..plain()
-    };
-    assert_eq!(rt; as_args.fits(), fits, "{} arguments", texts.len());
-    let as_env = Settings {
-        env: texts,
-        ..plain()
-    };
-    assert_eq!(rt; as_env.fits(), fits, "{} environment texts", texts.len());
+    assert_eq!(rt; fit_as_arguments(texts), fits, "{} arguments", texts.len());
+    assert_eq!(rt;
+        fit_as_environment(texts),
+        fits,
+        "{} environment texts",
+        texts.len()
+    );
 }
 
 #[test]
@@ -335,47 +366,17 @@ fn limits_preopens_and_pages(rt: HostRuntime) -> Result<(), Fail> {
             guest_name,
             path: b"/",
         }];
-        assert_eq!(rt;
-            Settings {
-                preopens: &preopens,
-                ..plain()
-            }
-            .fits(),
-            fits
-        );
+        let named = settings(&[], &[], &preopens, 1);
+        assert_eq!(rt; named.fits(), fits);
     }
     let many = vec![in alloc; Preopen {
         guest_name: b"a",
         path: b"/"
     }; 65]?;
-    assert!(rt;
-        Settings {
-            preopens: &many[..64],
-            ..plain()
-        }
-        .fits()
-    );
-    assert!(rt;
-        !Settings {
-            preopens: &many,
-            ..plain()
-        }
-        .fits()
-    );
-    assert!(rt;
-        Settings {
-            pages: 65_536,
-            ..plain()
-        }
-        .fits()
-    );
-    assert!(rt;
-        !Settings {
-            pages: 65_537,
-            ..plain()
-        }
-        .fits()
-    );
+    assert!(rt; settings(&[], &[], &many[..64], 1).fits());
+    assert!(rt; !settings(&[], &[], &many, 1).fits());
+    assert!(rt; settings(&[], &[], &[], 65_536).fits());
+    assert!(rt; !settings(&[], &[], &[], 65_537).fits());
     Ok(())
 }
 
@@ -396,5 +397,170 @@ fn prints_faults(rt: HostRuntime) -> Result<(), Fail> {
     for (fault, text) in faults {
         assert_eq!(rt; format!(in alloc; "{fault}")?.as_str(), text);
     }
+    Ok(())
+}
+
+/// Writes `hi` and a line's end, and exits with 0.
+const HELLO: [u8; 168] = [
+    0x00, 0x61, 0x73, 0x6D, 0x01, 0x00, 0x00, 0x00, 0x01, 0x10, 0x03, 0x60, 0x04, 0x7F, 0x7F, 0x7F,
+    0x7F, 0x01, 0x7F, 0x60, 0x01, 0x7F, 0x00, 0x60, 0x00, 0x00, 0x02, 0x46, 0x02, 0x16, 0x77, 0x61,
+    0x73, 0x69, 0x5F, 0x73, 0x6E, 0x61, 0x70, 0x73, 0x68, 0x6F, 0x74, 0x5F, 0x70, 0x72, 0x65, 0x76,
+    0x69, 0x65, 0x77, 0x31, 0x08, 0x66, 0x64, 0x5F, 0x77, 0x72, 0x69, 0x74, 0x65, 0x00, 0x00, 0x16,
+    0x77, 0x61, 0x73, 0x69, 0x5F, 0x73, 0x6E, 0x61, 0x70, 0x73, 0x68, 0x6F, 0x74, 0x5F, 0x70, 0x72,
+    0x65, 0x76, 0x69, 0x65, 0x77, 0x31, 0x09, 0x70, 0x72, 0x6F, 0x63, 0x5F, 0x65, 0x78, 0x69, 0x74,
+    0x00, 0x01, 0x03, 0x02, 0x01, 0x02, 0x05, 0x03, 0x01, 0x00, 0x01, 0x07, 0x13, 0x02, 0x06, 0x6D,
+    0x65, 0x6D, 0x6F, 0x72, 0x79, 0x02, 0x00, 0x06, 0x5F, 0x73, 0x74, 0x61, 0x72, 0x74, 0x00, 0x02,
+    0x0A, 0x13, 0x01, 0x11, 0x00, 0x41, 0x01, 0x41, 0x00, 0x41, 0x01, 0x41, 0x10, 0x10, 0x00, 0x1A,
+    0x41, 0x00, 0x10, 0x01, 0x0B, 0x0B, 0x11, 0x01, 0x00, 0x41, 0x00, 0x0B, 0x0B, 0x08, 0x00, 0x00,
+    0x00, 0x03, 0x00, 0x00, 0x00, 0x68, 0x69, 0x0A,
+];
+
+type Bytes = Vec<u8>;
+
+/// A session of these bytes over an empty input and outputs in memory.
+fn opened(alloc: Global, module: &[u8]) -> Result<Session<'_, &'static [u8], Bytes, Bytes>, Fail> {
+    let valid = load(alloc, module)?;
+    let (out, err) = (Vec::new(alloc), Vec::new(alloc));
+    Ok(Session::new(alloc, valid, plain(), b"".as_slice(), out, err)?)
+}
+
+#[test]
+fn runs_to_the_exit(rt: HostRuntime) -> Result<(), Fail> {
+    let session = opened(rt.alloc(), &HELLO)?;
+    assert_eq!(rt; session.used(), 0);
+    let report = run(session, 8);
+    assert_eq!(rt; report.outcome, Outcome::Exited(0));
+    assert_eq!(rt; report.used, 8);
+    assert_eq!(rt; report.out.as_slice(), b"hi\n".as_slice());
+    assert_eq!(rt; report.err.as_slice(), b"".as_slice());
+    Ok(())
+}
+
+#[test]
+fn runs_out_of_fuel(rt: HostRuntime) -> Result<(), Fail> {
+    // The line is written by the fifth unit.
+    for (fuel, line) in [(0, b"".as_slice()), (4, b""), (5, b"hi\n"), (7, b"hi\n")] {
+        let session = opened(rt.alloc(), &HELLO)?;
+        assert_eq!(rt; session.used(), 0);
+        let report = run(session, fuel);
+        assert_eq!(rt; report.outcome, Outcome::OutOfFuel);
+        assert_eq!(rt; report.used, fuel);
+        assert_eq!(rt; report.out.as_slice(), line);
+    }
+    Ok(())
+}
+
+#[test]
+fn resumes_from_call_to_call(rt: HostRuntime) -> Result<(), Fail> {
+    let mut session = opened(rt.alloc(), &HELLO)?;
+    assert_eq!(rt; session.used(), 0);
+    assert_eq!(rt; session.resume(0), Pause::Spent);
+    assert_eq!(rt; session.used(), 0);
+    assert_eq!(rt; session.resume(4), Pause::Spent);
+    assert_eq!(rt; session.used(), 4);
+    assert_eq!(rt;
+        session.resume(4),
+        Pause::Called(HostCall::FdWrite, Errno::SUCCESS)
+    );
+    assert_eq!(rt; session.used(), 5);
+    assert_eq!(rt; session.resume(3), Pause::Ended(Outcome::Exited(0)));
+    assert_eq!(rt; session.used(), 8);
+    assert_eq!(rt; session.resume(1), Pause::Ended(Outcome::Exited(0)));
+    let finished = session.finish();
+    assert_eq!(rt; finished.out.as_slice(), b"hi\n".as_slice());
+    Ok(())
+}
+
+#[test]
+fn resumes_unit_by_unit(rt: HostRuntime) -> Result<(), Fail> {
+    let mut session = opened(rt.alloc(), &HELLO)?;
+    for unit in 0..8u64 {
+        assert_eq!(rt; session.used(), unit);
+        let none = session.resume(0);
+        assert_eq!(rt; none, Pause::Spent);
+        let pause = session.resume(1);
+        let want = match unit {
+            4 => Pause::Called(HostCall::FdWrite, Errno::SUCCESS),
+            7 => Pause::Ended(Outcome::Exited(0)),
+            _ => Pause::Spent,
+        };
+        assert_eq!(rt; pause, want, "unit {unit}");
+    }
+    let finished = session.finish();
+    assert_eq!(rt; finished.out.as_slice(), b"hi\n".as_slice());
+    Ok(())
+}
+
+#[test]
+fn goes_on_where_a_writer_failed(rt: HostRuntime) -> Result<(), Fail> {
+    let alloc = rt.alloc();
+    let valid = load(alloc, &HELLO)?;
+    let out = FailsAfterOne {
+        held: Vec::new(alloc),
+        kind: ErrorKind::BrokenPipe,
+    };
+    let opened = Session::new(alloc, valid, plain(), b"".as_slice(), out, TakesNone);
+    let mut session = opened.ok().ok_or("refused")?;
+    assert_eq!(rt; session.used(), 0);
+    assert_eq!(rt;
+        session.resume(8),
+        Pause::Called(HostCall::FdWrite, Errno::IO)
+    );
+    assert_eq!(rt; session.used(), 5);
+    assert_eq!(rt; session.resume(8), Pause::Ended(Outcome::Exited(0)));
+    let finished = session.finish();
+    assert_eq!(rt; finished.out.held.as_slice(), b"h".as_slice());
+    Ok(())
+}
+
+/// Why a session is refused.
+fn refusal(
+    rt: &impl Abort,
+    alloc: Global,
+    module: &[u8],
+    pages: u32,
+) -> Result<Option<SessionFault>, Fail> {
+    let valid = load(alloc, module)?;
+    let settings = Settings { pages, ..plain() };
+    let (out, err) = (vec![in alloc; 1u8]?, vec![in alloc; 2u8]?);
+    match Session::new(alloc, valid, settings, b"in".as_slice(), out, err) {
+        Ok(_) => Ok(None),
+        Err(refused) => {
+            // All is handed back.
+            assert_eq!(rt; refused.settings.pages, pages);
+            assert_eq!(rt; refused.input, b"in".as_slice());
+            assert_eq!(rt; refused.out.as_slice(), [1].as_slice());
+            assert_eq!(rt; refused.err.as_slice(), [2].as_slice());
+            Ok(Some(refused.fault))
+        }
+    }
+}
+
+#[test]
+fn refuses_in_order(rt: HostRuntime) -> Result<(), Fail> {
+    let alloc = rt.alloc();
+    let start = Some(SessionFault::Instance(InstanceFault::NoStart));
+    let import = Some(SessionFault::Instance(InstanceFault::Import));
+    let limit = Some(SessionFault::Instance(InstanceFault::PageLimit));
+    let data = Some(SessionFault::Instance(InstanceFault::DataOutOfBounds));
+    assert_eq!(rt; refusal(&rt, alloc, &HELLO[..8], 0)?, start);
+    assert_eq!(rt;
+        refusal(&rt, alloc, &HELLO[..8], 65_537)?,
+        Some(SessionFault::Setting)
+    );
+    assert_eq!(rt; refusal(&rt, alloc, &HELLO, 1)?, None);
+    assert_eq!(rt; refusal(&rt, alloc, &HELLO, 0)?, limit);
+    // The data begins at address 2 ^ 32 - 1.
+    let mut module = HELLO;
+    module[154] = 0x7F;
+    assert_eq!(rt; refusal(&rt, alloc, &module, 1)?, data);
+    assert_eq!(rt; refusal(&rt, alloc, &module, 0)?, limit);
+    // The import is fd_writf.
+    module[60] = b'f';
+    assert_eq!(rt; refusal(&rt, alloc, &module, 0)?, import);
+    assert_eq!(rt;
+        refusal(&rt, alloc, &module, 65_537)?,
+        Some(SessionFault::Setting)
+    );
     Ok(())
 }

@@ -1,4 +1,4 @@
-use Rattle.std.proofs.Common.{◌≡◌, ℕ, ◌≤◌, ap, arith, subst, sym}
+use Rattle.std.proofs.Common.{ℕ, ap, arith, subst, sym}
 use Rattle.sandbox_core.specs.Streams.{Calls}
 use Rattle.sandbox_core.specs.Session.{streams_of}
 use Rattle.sandbox_core.specs.Runs.{RunsWithin}
@@ -17,5 +17,5 @@ returns g c =
       err = ap (λ f. f.err) c.finish-input.ensures;
       within = omega (arith, c.used-used.ensures, c.run_out-outcome.ensures.within);
       run = λ i d stands. subst (λ (n : ℕ). RunsWithin _ calls i (streams_of c.args.session) d c.args.fuel (streams_of last) c.run_out-outcome.result n)
-          (sym c.used-used.ensures) (run i d stands)
+          (sym c.used-used.ensures) (run i d stands);
     }
