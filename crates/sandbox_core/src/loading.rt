@@ -1,8 +1,8 @@
 //! From bytes to a valid module.
 
 ghost use Rattle.std.specs.Prelude.{IfOk, IfErr};
-ghost use Rattle.wasm_module.specs.Module.{Sections, SpellsParts, Spells};
-ghost use Rattle.wasm_module.specs.FirstPart.{IsFirstPart};
+ghost use Rattle.wasm_module.specs.Module.{Spells};
+ghost use Rattle.wasm_module.specs.declared.module.Module.{Module as ModuleValue};
 ghost use Rattle.wasm_valid.specs.Validity.{IsValid};
 ghost use Rattle.wasm_valid.specs.FirstPart.{RunsSoFar};
 ghost use Rattle.wasm_valid.specs.Refusal.{IsRefusal};
@@ -15,8 +15,8 @@ use wasm_valid::{Valid, validate};
 pub fn load(alloc: Global, bytes: &[u8]) -> Result<Valid<'_>, LoadFault>
     ensures found { IfOk result (λ v. Spells bytes.now v × IsValid v × RunsSoFar v) }
 
-    // Another refusal than of an invalid module or for memory: the bytes spell no module of the part that is read.
-    ensures refused { IfErr result (λ e. ¬ IsRefusal e → (s : Sections) → SpellsParts bytes.now s → IsFirstPart s → ⊥) }
+    // Another refusal than of an invalid module or for memory: the bytes spell no module.
+    ensures refused { IfErr result (λ e. ¬ IsRefusal e → (m : ModuleValue) → Spells bytes.now m → ⊥) }
 {
     let module = decode(alloc, bytes)?;
     validate(alloc, module)

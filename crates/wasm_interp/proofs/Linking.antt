@@ -11,10 +11,9 @@ use Rattle.wasm_module.specs.declared.module.ImportKind.TheVariants as imports
 use Rattle.wasm_module.specs.declared.module.Body.{Body}
 use Rattle.wasm_module.specs.declared.module.Module.{Module}
 use Rattle.wasm_module.specs.Instructions.{Instructions, done, plain, block, loop, if_then, if_else, enter, flatten, IsPlain, IsWritten, Nests}
-use Rattle.wasm_module.specs.FirstPart.{IsFunction}
 use Rattle.wasm_valid.specs.Typing.{Context}
 use Rattle.wasm_valid.specs.Validity.{IsValid, functions_of, imported_function, kinds_of, AreTypesAt, FunctionTyped, FunctionsTyped, local_types}
-use Rattle.wasm_valid.specs.FirstPart.{IsRunnable, RunsSoFar}
+use Rattle.wasm_valid.specs.FirstPart.{IsFunction, IsRunnable, RunsSoFar}
 use Rattle.wasm_interp.specs.declared.call.HostCall.{HostCall}
 use Rattle.wasm_interp.specs.Configuration.{Callee, imported, own}
 use Rattle.wasm_interp.specs.Instantiation.{AreOwn}

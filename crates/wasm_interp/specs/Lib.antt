@@ -1,4 +1,3 @@
-pub mod Numbers
 pub mod Operators
 pub mod Configuration
 pub mod Steps

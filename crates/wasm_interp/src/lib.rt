@@ -12,7 +12,6 @@ mod place;
 mod state;
 #[cfg(test)]
 mod tests;
-mod trap;
 
 pub use call::{Answer, Errno, HostCall};
 pub use fault::InstanceFault;
@@ -21,4 +20,4 @@ pub use machine::{Machine, RefusedInstance};
 pub use memory::Memory;
 pub use pause::{Outcome, Pause};
 pub use place::Place;
-pub use trap::Trap;
+pub use wasm_num::Trap;

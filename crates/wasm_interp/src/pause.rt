@@ -1,7 +1,7 @@
 //! Why a machine comes back, and how a run ends.
 
 use crate::call::{Errno, HostCall};
-use crate::trap::Trap;
+use wasm_num::Trap;
 
 /// How a run ends.
 #[derive(Clone, Copy, Debug, PartialEq, Eq)]

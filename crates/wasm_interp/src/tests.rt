@@ -3,7 +3,7 @@
 ghost use Rattle.std.specs.Prelude.{None};
 
 use crate::state::State;
-use crate::{Answer, Errno, Host, HostCall, InstanceFault, Memory, Place, Trap};
+use crate::{Answer, Errno, Host, HostCall, InstanceFault, Memory, Place};
 use std::alloc::Global;
 use std::test::Fail;
 use wasm_module::{FuncType, Items, ValueType};
@@ -49,24 +49,6 @@ fn writes_past_the_end_change_nothing(rt: HostRuntime) -> Result<(), Fail> {
     assert!(rt; !memory.write(65_534, b"abc"));
     assert!(rt; !memory.write(65_537, b""));
     assert_eq!(rt; memory.slice(65_534, 2), Some([0u8, 0].as_slice()));
-    Ok(())
-}
-
-#[test]
-fn traps_have_their_texts(rt: HostRuntime) -> Result<(), Fail> {
-    for (trap, text) in [
-        (Trap::Unreachable, "unreachable"),
-        (Trap::DivideByZero, "integer divide by zero"),
-        (Trap::IntegerOverflow, "integer overflow"),
-        (Trap::OutOfBoundsMemory, "out of bounds memory access"),
-        (Trap::UndefinedElement, "undefined element"),
-        (Trap::UninitializedElement, "uninitialized element"),
-        (Trap::IndirectCallMismatch, "indirect call type mismatch"),
-        (Trap::CallStackExhausted, "call stack exhausted"),
-    ] {
-        let shown = format!(in rt.alloc(); "{trap}")?;
-        assert_eq!(rt; shown.as_str(), text);
-    }
     Ok(())
 }
 

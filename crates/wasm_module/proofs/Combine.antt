@@ -9,6 +9,7 @@ use Rattle.wasm_module.specs.Grammar.{Byte, Then, Each, U32, Vector, Sized, Raw,
 use Rattle.wasm_module.specs.Reading.{◌>>=◌, Reader, WholeReader, raw_of, text_of, name_at, byte_at, then_at, map_at, many_at, u32_at, vector_at, piece_at, whole, sized_at}
 use Rattle.wasm_module.proofs.Laws.{bind_some, guard_some, some_is, Front, Reads, ReadsWhole, reads_number}
 
+-- one byte
 pub reads_byte : (b : ℕ) → Reads (Unit {0}) (Byte b) (byte_at b)
 reads_byte b = record { takes = byte_takes b; again = byte_again b } where
   byte_takes : (b : ℕ) (bytes : List ℕ) (x : Unit {0}) (rest : List ℕ) → byte_at b bytes ≡ Some (x, rest) → Front (Unit {0}) (Byte b) bytes x rest
@@ -22,6 +23,7 @@ reads_byte b = record { takes = byte_takes b; again = byte_again b } where
   byte_again : (b : ℕ) (text : List ℕ) (x : Unit {0}) (rest : List ℕ) → Byte b text x → byte_at b (text ++ rest) ≡ Some (x, rest)
   byte_again b text x rest e = rw (e, eq-eqb b b refl) refl
 
+-- what is read of two readers, one after the other, is spelled so
 pub then_takes : (X Y : Type 0) (A : List ℕ → X → Type 0) (B : List ℕ → Y → Type 0) (a : Reader X) (b : Reader Y)
     → ((bytes : List ℕ) (x : X) (rest : List ℕ) → a bytes ≡ Some (x, rest) → Front X A bytes x rest)
     → ((bytes : List ℕ) (y : Y) (rest : List ℕ) → b bytes ≡ Some (y, rest) → Front Y B bytes y rest)
@@ -35,6 +37,7 @@ then_takes X Y A B a b a_takes b_takes bytes x rest e =
     let made : Front (X × Y) (Then A B) bytes (s.0.0, t.0.0) t.0.1 = record { text = fa.text ++ fb.text; spells = (fa.text, fb.text, fa.spells, fb.spells, refl); parts = fa.parts ∙ ap (λ (r : List ℕ). fa.text ++ r) fb.parts ∙ sym (append_assoc fa.text fb.text t.0.1) } in
     subst (λ (q : (X × Y) × List ℕ). Front (X × Y) (Then A B) bytes q.0 q.1) p made
 
+-- two readers, one after the other
 pub reads_then : (X Y : Type 0) (A : List ℕ → X → Type 0) (B : List ℕ → Y → Type 0) (a : Reader X) (b : Reader Y) → Reads X A a → Reads Y B b → Reads (X × Y) (Then A B) (then_at a b)
 reads_then X Y A B a b ra rb = record {
   takes = then_takes X Y A B a b ra.takes rb.takes;
@@ -57,6 +60,7 @@ reads_as X Y A a f g gf fg ra = record {
 
 -- ---- vectors
 
+-- so many items that are read are spelled one after the other
 many_takes : (X : Type 0) (A : List ℕ → X → Type 0) (a : Reader X) → Reads X A a → (n : ℕ) (bytes : List ℕ) (xs : List X) (rest : List ℕ) → many_at a n bytes ≡ Some (xs, rest) → Front (List X) (Each A) bytes xs rest × (length xs ≡ n)
 unfolding many_at
 many_takes X A a ra zero bytes xs rest e =
@@ -72,6 +76,7 @@ many_takes X A a ra (suc n) bytes xs rest e =
     let made : Front (List X) (Each A) bytes (s.0.0 ∷ t.0.0) t.0.1 = record { text = fa.text ++ fb.0.text; spells = (fa.text, fb.0.text, fa.spells, fb.0.spells, refl); parts = fa.parts ∙ ap (λ (r : List ℕ). fa.text ++ r) fb.0.parts ∙ sym (append_assoc fa.text fb.0.text t.0.1) } in
     subst (λ (q : List X × List ℕ). Front (List X) (Each A) bytes q.0 q.1 × (length q.0 ≡ suc n)) p (made, ap suc fb.1)
 
+-- items that are spelled one after the other are read
 many_again : (X : Type 0) (A : List ℕ → X → Type 0) (a : Reader X) → Reads X A a → (text : List ℕ) (xs : List X) (rest : List ℕ) → Each A text xs → many_at a (length xs) (text ++ rest) ≡ Some (xs, rest)
 unfolding many_at
 many_again X A a ra text [] rest h = rw h refl
@@ -79,10 +84,12 @@ many_again X A a ra text (x ∷ xs) rest h =
     let regrouped : text ++ rest ≡ h.0 ++ (h.1 ++ rest) = rw h.4 (append_assoc h.0 h.1 rest) in
     rw (regrouped, ra.again h.0 x (h.1 ++ rest) h.2, many_again X A a ra h.1 xs rest h.3) refl
 
+-- unsigned numbers of 32 bits
 pub reads_u32 : Reads ℕ U32 u32_at
 unfolding u32_at
 reads_u32 = reads_number Unsigned 32
 
+-- a vector of what is read
 pub reads_vector : (X : Type 0) (A : List ℕ → X → Type 0) (a : Reader X) → Reads X A a → Reads (List X) (Vector A) (vector_at a)
 unfolding vector_at
 reads_vector X A a ra = record {
@@ -113,6 +120,7 @@ reads_whole X A a ra = record {
       rw read refl;
 }
 
+-- what is read behind its size
 pub reads_sized : (X : Type 0) (A : List ℕ → X → Type 0) (w : WholeReader X) → ReadsWhole X A w → Reads X (Sized A) (sized_at w)
 unfolding sized_at
 reads_sized X A w rw_ = record {
@@ -140,6 +148,7 @@ reads_sized X A w rw_ = record {
 
 -- ---- names
 
+-- text in UTF-8
 pub reads_text : ReadsWhole (List ℕ) Text text_of
 unfolding text_of
 reads_text = record {
@@ -147,6 +156,7 @@ reads_text = record {
   again = λ bytes x h. let valid : is_utf8 bytes ≡ true = is_utf8-from_IsUtf8 bytes (subst IsUtf8 (sym h.0) h.1) in rw (valid, h.0) refl;
 }
 
+-- names
 pub reads_name : Reads (List ℕ) SpellsName name_at
 unfolding name_at
 reads_name = reads_sized (List ℕ) Text text_of reads_text
@@ -156,36 +166,25 @@ pub reads_raw : ReadsWhole (List ℕ) Raw raw_of
 unfolding raw_of
 reads_raw = record { takes = λ bytes x e. some_is bytes x e; again = λ bytes x h. ap (λ (r : List ℕ). Some r) h }
 
--- ---- spellings that say the same
-
--- spelled so, and of this kind
-abbrev pub Also : {X : Type 0} → (List ℕ → X → Type 0) → (X → Type 0) → List ℕ → X → Type 0
-Also A P text x = A text x × P x
-
-pub reads_same : (X : Type 0) (A B : List ℕ → X → Type 0) (a : Reader X) → ((text : List ℕ) (x : X) → A text x → B text x) → ((text : List ℕ) (x : X) → B text x → A text x) → Reads X A a → Reads X B a
-reads_same X A B a to from ra = record {
-  takes = λ bytes x rest e. let f = ra.takes bytes x rest e in record { text = f.text; spells = to f.text x f.spells; parts = f.parts };
-  again = λ text x rest h. ra.again text x rest (from text x h);
-}
-
-pub reads_whole_same : (X : Type 0) (A B : List ℕ → X → Type 0) (w : WholeReader X) → ((text : List ℕ) (x : X) → A text x → B text x) → ((text : List ℕ) (x : X) → B text x → A text x) → ReadsWhole X A w → ReadsWhole X B w
-reads_whole_same X A B w to from rw_ = record { takes = λ bytes x e. to bytes x (rw_.takes bytes x e); again = λ bytes x h. rw_.again bytes x (from bytes x h) }
-
 -- ---- what begins with a byte that says how it goes on
 
+-- a byte says how it goes on, or the bytes are read otherwise
 pub choice : (X : Type 0) (S : List ℕ → X → Type 0) (code b : ℕ) (f g : Reader X) (rest : List ℕ) (x : X) (after : List ℕ) → (b ≡ code → f rest ≡ Some (x, after) → Front X S (b ∷ rest) x after) → (g rest ≡ Some (x, after) → Front X S (b ∷ rest) x after) → cond (eqb b code) f g rest ≡ Some (x, after) → Front X S (b ∷ rest) x after
 choice X S code b f g rest x after yes_ no_ e = by_test (eqb b code) refl e where
   by_test : (t : Bool) → eqb b code ≡ t → cond t f g rest ≡ Some (x, after) → Front X S (b ∷ rest) x after
   by_test true is e = yes_ (eqb-true _ _ is) e
   by_test false is e = no_ e
 
-abbrev read_as : {X : Type 0} → X → List ℕ → Option (X × List ℕ)
+-- a value for which no byte is read
+abbrev pub read_as : {X : Type 0} → X → List ℕ → Option (X × List ℕ)
 read_as x rest = Some (x, rest)
 
+-- a byte says all
 pub alone : (X : Type 0) (S : List ℕ → X → Type 0) (code b : ℕ) (y : X) (rest : List ℕ) (x : X) (after : List ℕ) → S (code ∷ []) y → b ≡ code → read_as y rest ≡ read_as x after → Front X S (b ∷ rest) x after
 alone X S code b y rest x after spells is e =
     subst (λ (q : X × List ℕ). Front X S (b ∷ rest) q.0 q.1) (some_is (y, rest) (x, after) e) (record { text = code ∷ []; spells = spells; parts = ap (λ (c : ℕ). c ∷ rest) is })
 
+-- what is read follows a byte
 pub operand : (X : Type 0) (S : List ℕ → X → Type 0) (Y : Type 0) (A : List ℕ → Y → Type 0) (a : Reader Y) (f : Y → X) (code b : ℕ) (rest : List ℕ) (x : X) (after : List ℕ) → Reads Y A a → ((text : List ℕ) (y : Y) → A text y → S (code ∷ text) (f y)) → b ≡ code → map_at f a rest ≡ Some (x, after) → Front X S (b ∷ rest) x after
 operand X S Y A a f code b rest x after ra spells is e =
     let s = bind_some (a rest) (λ u. Some (f u.0, u.1)) (x, after) e in
@@ -203,5 +202,6 @@ reread X Y A a f r code text operands y rest ra is text-is h =
 pub tagged : {Y : Type 0} (A : List ℕ → Y → Type 0) (code : ℕ) (text : List ℕ) (y : Y) → A text y → Then (Byte code) A (code ∷ text) (tt, y)
 tagged A code text y h = (code ∷ [], text, refl, h, refl)
 
+-- what is spelled behind a byte begins with it
 pub untagged : {Y : Type 0} (A : List ℕ → Y → Type 0) (code : ℕ) (text : List ℕ) (y : Y) → (h : Then (Byte code) A text (tt, y)) → text ≡ code ∷ h.1
 untagged A code text y h = rw (h.4, h.2) refl

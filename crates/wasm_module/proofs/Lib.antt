@@ -5,8 +5,9 @@ pub mod Loop
 pub mod Texts
 pub mod Steps
 pub mod TypeLaws
+pub mod OperatorLaws
 pub mod InstructionLaws
-pub mod Sections
 pub mod Nesting
 pub mod PartLaws
+pub mod Sections
 pub mod Modules

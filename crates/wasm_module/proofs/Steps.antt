@@ -7,18 +7,22 @@ use Rattle.wasm_module.specs.Reading.{◌>>=◌, Reader, begins, next_at, sized_
 use Rattle.wasm_module.specs.CodeReading.{instruction_at, after_instruction, code_from}
 use Rattle.wasm_module.proofs.Loop.{with_front}
 
+-- one turn of the loop over custom sections
 pub customs_more : (count i : ℕ) (bytes : List ℕ) → i < count → customs_from (count - i) bytes ≡ cond (begins 0 bytes) (next_at bytes >>= λ b. sized_at custom_of b.1 >>= λ x. customs_from (count - (i + 1)) x.1) (Some (tt, bytes))
 unfolding customs_from
 customs_more count i bytes lt = let k : count - i ≡ suc (count - (i + 1)) = omega arith in rw k refl
 
+-- no more custom sections are looked for
 pub customs_done : (count i : ℕ) (bytes : List ℕ) → count ≤ i → customs_from (count - i) bytes ≡ Some (tt, bytes)
 unfolding customs_from
 customs_done count i bytes le = let k : count - i ≡ 0 = omega arith in rw k refl
 
-regroup : (front : List Instruction) (n : Instruction) (read : Option (List Instruction × List ℕ)) → with_front front (read >>= λ x. Some (n ∷ x.0, x.1)) ≡ with_front (front ++ n ∷ []) read
-regroup front n (Some x) = ap (λ (ns : List Instruction). Some (ns, x.1)) (simp append_assoc)
+-- an item moves from what is read to what was read before
+regroup : {X : Type 0} (front : List X) (n : X) (read : Option (List X × List ℕ)) → with_front front (read >>= λ x. Some (n ∷ x.0, x.1)) ≡ with_front (front ++ n ∷ []) read
+regroup {X} front n (Some x) = ap (λ (ns : List X). Some (ns, x.1)) (simp append_assoc)
 regroup front n None = refl
 
+-- the code ends, or goes on
 by_test : (front : List Instruction) (b : Bool) (o : Instruction) (rest : List ℕ) (read : Option (List Instruction × List ℕ)) → with_front front (cond b (Some (o ∷ [], rest)) (read >>= λ os. Some (o ∷ os.0, os.1))) ≡ cond b (Some (front ++ o ∷ [], rest)) (with_front (front ++ o ∷ []) read)
 by_test front true o rest read = refl
 by_test front false o rest read = regroup front o read
@@ -38,30 +42,32 @@ code_more front count i fs bytes lt =
       by_op None = refl
       by_op (Some o) = by_frames o.0 o.1 (after_instruction o.0 fs)
 
+-- no more instructions are looked for
 pub code_done : (front : List Instruction) (count i : ℕ) (fs : List Frame) (bytes : List ℕ) → count ≤ i → with_front front (code_from (count - i) fs bytes) ≡ None
 unfolding code_from
 code_done front count i fs bytes le = let k : count - i ≡ 0 = omega arith in rw k refl
 
-regroup_any : {X : Type 0} (front : List X) (n : X) (read : Option (List X × List ℕ)) → with_front front (read >>= λ x. Some (n ∷ x.0, x.1)) ≡ with_front (front ++ n ∷ []) read
-regroup_any {X} front n (Some x) = ap (λ (ns : List X). Some (ns, x.1)) (simp append_assoc)
-regroup_any front n None = refl
-
+-- one item more
 by_item : {X : Type 0} (a : Reader X) (front : List X) (count i : ℕ) (read : Option (X × List ℕ)) → with_front front (read >>= λ x. many_at a (count - (i + 1)) x.1 >>= λ xs. Some (x.0 ∷ xs.0, xs.1)) ≡ (read >>= λ x. with_front (front ++ x.0 ∷ []) (many_at a (count - (i + 1)) x.1))
 by_item a front count i None = refl
-by_item a front count i (Some x) = regroup_any front x.0 (many_at a (count - (i + 1)) x.1)
+by_item a front count i (Some x) = regroup front x.0 (many_at a (count - (i + 1)) x.1)
 
+-- one turn of the loop over a list
 pub many_more : {X : Type 0} (a : Reader X) (front : List X) (count i : ℕ) (bytes : List ℕ) → i < count → with_front front (many_at a (count - i) bytes) ≡ (a bytes >>= λ x. with_front (front ++ x.0 ∷ []) (many_at a (count - (i + 1)) x.1))
 unfolding many_at
 many_more a front count i bytes lt =
     let k : count - i ≡ suc (count - (i + 1)) = omega arith in
     rw k (by_item a front count i (a bytes))
 
+-- the list is read
 pub many_done : {X : Type 0} (a : Reader X) (front : List X) (count i : ℕ) (bytes : List ℕ) → count ≤ i → with_front front (many_at a (count - i) bytes) ≡ Some (front, bytes)
 unfolding many_at
 many_done {X} a front count i bytes le = let k : count - i ≡ 0 = omega arith in rw k (ap (λ (ns : List X). Some (ns, bytes)) (append-nil front))
 
+-- where no instruction can be read, no code can
 pub code_no_op : (front : List Instruction) (count i : ℕ) (fs : List Frame) (bytes : List ℕ) (total : Option (List Instruction × List ℕ)) → i < count → instruction_at bytes ≡ None → with_front front (code_from (count - i) fs bytes) ≡ total → total ≡ None
 code_no_op front count i fs bytes total lt none so_far = sym so_far ∙ code_more front count i fs bytes lt ∙ rw none refl
 
+-- where an instruction closes what is not open, no code can be read
 pub code_no_step : (front : List Instruction) (count i : ℕ) (fs : List Frame) (bytes : List ℕ) (o : Instruction) (rest : List ℕ) (total : Option (List Instruction × List ℕ)) → i < count → instruction_at bytes ≡ Some (o, rest) → after_instruction o fs ≡ None → with_front front (code_from (count - i) fs bytes) ≡ total → total ≡ None
 code_no_step front count i fs bytes o rest total lt is none so_far = sym so_far ∙ code_more front count i fs bytes lt ∙ rw (is, none) refl

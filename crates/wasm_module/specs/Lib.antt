@@ -4,7 +4,6 @@ pub mod Types
 pub mod Instructions
 pub mod Sections
 pub mod Module
-pub mod FirstPart
 pub mod Reading
 pub mod TypesReading
 pub mod CodeReading

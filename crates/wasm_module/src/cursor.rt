@@ -122,6 +122,14 @@ impl<'a> Cursor<'a> {
         Ok(())
     }
 
+    /// Goes past a byte that has to be 0.
+    pub fn zero(&mut self) -> Result<(), LoadFault>
+        ensures { Gives (λ x. (x, self.new)) result (byte_at 0 self.old) }
+    {
+        let offset = self.offset();
+        self.expect(0x00, LoadFault::BadByte { offset })
+    }
+
     fn span(&self) -> Span {
         Span {
             begin: self.offset(),

@@ -1,23 +1,24 @@
 //! A module from its bytes (section 5.5.15).
 
-ghost use Rattle.std.specs.Prelude.{◌≡◌, ◌≢◌, [], unwrap_or, IfOk, IfErr};
-ghost use Rattle.wasm_module.specs.FirstPart.{IsFirstPart, IsFirstModule};
-ghost use Rattle.wasm_module.specs.Module.{Sections, module_of, SpellsParts, Spells};
-ghost use Rattle.wasm_module.specs.ModuleReading.{preamble_at, sections_at, is_whole, module_from};
+ghost use Rattle.std.specs.Prelude.{◌≡◌, ◌≢◌, ℕ, List, [], unwrap_or, IfOk, IfErr};
+ghost use Rattle.wasm_module.specs.Module.{Spells};
+ghost use Rattle.wasm_module.specs.ModuleReading.{preamble_at, sections_at, is_counted, is_whole, module_and_count, module_from};
 ghost use Rattle.wasm_module.specs.Reading.{Gives, Allows, map_at};
+ghost use Rattle.wasm_module.specs.declared.module.Module.{Module as ModuleValue};
 
 use crate::cursor::Cursor;
 use crate::fault::LoadFault;
 use crate::items::Items;
 use crate::limits;
-use crate::module::Module;
+use crate::module::{Limits, Module};
+use crate::parts::Tables;
 use std::alloc::Global;
 
 /// How many bytes a module has at most.
 const MOST_BYTES: u32 = 67_108_864;
 
-/// The ids of the sections that are read, but for custom ones.
-const SECTIONS: [u8; 7] = [1, 2, 3, 5, 7, 10, 11];
+/// The greatest id of a section.
+const LAST_SECTION: u8 = 12;
 
 #[tactic(auto, unfolding(crate::specs::ModuleReading::preamble_at))]
 fn preamble(cursor: &mut Cursor<'_>) -> Result<(), LoadFault>
@@ -55,48 +56,75 @@ fn or_empty<T: Drop>(alloc: Global, items: Option<Items<T>>) -> Items<T>
     }
 }
 
-/// The sections in their order.
+fn table_limits(alloc: Global, tables: Option<Tables>) -> Items<Limits>
+    ensures { result ≡ unwrap_or tables [] }
+{
+    match tables {
+        Some(tables) => tables.limits,
+        None => Items::new(alloc),
+    }
+}
+
+/// The sections in their order: the module, and how many data segments it says that it has.
 #[tactic(auto, unfolding(crate::specs::ModuleReading::sections_at, crate::specs::Module::module_of))]
-fn sections<'a>(alloc: Global, cursor: &mut Cursor<'a>) -> Result<Module<'a>, LoadFault>
-    ensures { Gives (λ x. (x, cursor.new)) result (map_at module_of sections_at cursor.old) }
+fn sections<'a>(
+    alloc: Global,
+    cursor: &mut Cursor<'a>,
+) -> Result<(Module<'a>, Option<u32>), LoadFault>
+    ensures { Gives (λ x. (x, cursor.new)) result (map_at module_and_count sections_at cursor.old) }
 {
     cursor.customs()?;
     let types = cursor.section(alloc, 1)?;
     let imports = cursor.section(alloc, 2)?;
     let functions = cursor.section(alloc, 3)?;
+    let tables = cursor.section(alloc, 4)?;
     let memories = cursor.section(alloc, 5)?;
+    let globals = cursor.section(alloc, 6)?;
     let exports = cursor.section(alloc, 7)?;
+    let start = cursor.section(alloc, 8)?;
+    let element_segments = cursor.section(alloc, 9)?;
+    let data_count = cursor.section(alloc, 12)?;
     let bodies = cursor.section(alloc, 10)?;
     let data_segments = cursor.section(alloc, 11)?;
-    Ok(Module {
+    let decoded = Module {
         types: or_empty(alloc, types),
         imports: or_empty(alloc, imports),
         functions: or_empty(alloc, functions),
-        tables: Items::new(alloc),
+        tables: table_limits(alloc, tables),
         memories: or_empty(alloc, memories),
-        globals: Items::new(alloc),
+        globals: or_empty(alloc, globals),
         exports: or_empty(alloc, exports),
-        start: None,
-        element_segments: Items::new(alloc),
+        start,
+        element_segments: or_empty(alloc, element_segments),
         bodies: or_empty(alloc, bodies),
         data_segments: or_empty(alloc, data_segments),
-    })
+    };
+    Ok((decoded, data_count))
 }
 
 /// Why no section can begin here, where all that may follow have been looked for.
 fn misplaced(cursor: &Cursor<'_>) -> LoadFault {
     let offset = cursor.offset();
-    if SECTIONS.iter().any(|id| cursor.begins(*id)) {
+    if (1..=LAST_SECTION).any(|id| cursor.begins(id)) {
         LoadFault::SectionOrder { offset }
     } else {
         LoadFault::BadByte { offset }
     }
 }
 
+fn is_counted(data_count: Option<u32>, segments: usize) -> bool
+    ensures { result ≡ is_counted data_count segments }
+{
+    match data_count {
+        Some(count) => count as usize == segments,
+        None => true,
+    }
+}
+
 /// What holds beside the grammar.
 #[tactic(auto, unfolding(crate::specs::ModuleReading::is_whole))]
-fn check(bytes: &[u8], decoded: &Module<'_>) -> Result<(), LoadFault>
-    ensures { Allows result (is_whole decoded.now) }
+fn check(bytes: &[u8], decoded: &Module<'_>, data_count: Option<u32>) -> Result<(), LoadFault>
+    ensures { Allows result (is_whole decoded.now data_count) }
 {
     let types = decoded.types.as_slice();
     let functions = decoded.functions.as_slice();
@@ -105,8 +133,11 @@ fn check(bytes: &[u8], decoded: &Module<'_>) -> Result<(), LoadFault>
         let offset = limits::excess(bytes, decoded)?;
         return Err(LoadFault::Limit { offset });
     }
+    let offset = Cursor::new(bytes).end();
     if functions.len() != bodies.len() {
-        let offset = Cursor::new(bytes).end();
+        return Err(LoadFault::CountMismatch { offset });
+    }
+    if !is_counted(data_count, decoded.data_segments.len()) {
         return Err(LoadFault::CountMismatch { offset });
     }
     Ok(())
@@ -121,24 +152,27 @@ fn module<'a>(alloc: Global, bytes: &'a [u8]) -> Result<Module<'a>, LoadFault>
         return Err(LoadFault::Limit { offset: MOST_BYTES });
     }
     preamble(&mut cursor)?;
-    let decoded = sections(alloc, &mut cursor)?;
+    let (decoded, data_count) = sections(alloc, &mut cursor)?;
     if !cursor.is_empty() {
         return Err(misplaced(&cursor));
     }
-    check(bytes, &decoded)?;
+    check(bytes, &decoded, data_count)?;
     Ok(decoded)
 }
 
-/// The module that the bytes spell (section 5). Custom sections may stand anywhere; of the others
-/// there may be those of types, imports, functions, memories, exports, code and data.
+/// The module that the bytes spell (section 5).
 ///
 /// # Errors
 ///
 /// `Memory` where memory was refused, else what is wrong with the bytes, and where.
 pub fn decode(alloc: Global, bytes: &[u8]) -> Result<Module<'_>, LoadFault>
     ensures found { IfOk result (λ m. Spells bytes.now m) }
-    ensures refused { IfErr result (λ e. (e ≢ LoadFault.Memory) → (s : Sections) → SpellsParts bytes.now s → IsFirstPart s → ⊥) }
-    ensures known { IfOk result (λ m. IsFirstModule m) }
+    ensures refused { IfErr result (λ e. (e ≢ LoadFault.Memory) → (m : ModuleValue) → Spells bytes.now m → ⊥) }
 {
     module(alloc, bytes)
 }
+
+/// Bytes spell at most one module.
+pub fn one_module()
+    ensures { (bytes : List ℕ) (m n : ModuleValue) → Spells bytes m → Spells bytes n → m ≡ n }
+{}

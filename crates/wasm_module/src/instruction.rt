@@ -1,5 +1,7 @@
 //! Types of values, and decoded instructions.
 
+use crate::items::Items;
+use std::alloc::{AllocError, Global};
 use std::marker::Model;
 use std::mem::size_of;
 
@@ -73,7 +75,7 @@ pub enum BinaryOperator {
 
 #[derive(Debug, Drop)]
 struct TableLabels {
-    labels: Vec<u32>,
+    labels: Items<u32>,
     default: u32,
 }
 
@@ -88,11 +90,19 @@ impl Model for BranchTable {
 
     ghost Value = { List ℕ × ℕ };
 
-    ghost view = { λ b. (b.table.value.labels.items, b.table.value.default) };
+    ghost view = { λ b. (b.table.value.labels, b.table.value.default) };
 }
 
 impl BranchTable {
-    ghost use Rattle.std.specs.Prelude.{◌≡◌};
+    ghost use Rattle.std.specs.Prelude.{◌≡◌, IfOk};
+
+    /// The table of these labels, with the one for all indices past them.
+    pub fn new(alloc: Global, labels: Items<u32>, default: u32) -> Result<BranchTable, AllocError>
+        ensures { IfOk result (λ b. b ≡ (labels, default)) }
+    {
+        let table = Box::new(alloc, TableLabels { labels, default })?;
+        Ok(BranchTable { table })
+    }
 
     /// The labels, by index.
     pub fn labels(&self) -> &[u32]

@@ -1,6 +1,7 @@
 //! WebAssembly modules, decoded from the binary format.
 #![tactic(auto)]
 
+mod code;
 mod cursor;
 mod decoding;
 mod fault;
@@ -12,7 +13,7 @@ mod module;
 mod number;
 mod parts;
 
-pub use decoding::decode;
+pub use decoding::{decode, one_module};
 pub use fault::LoadFault;
 pub use instruction::{
     BinaryOperator, BlockType, BranchTable, Comparison, Instruction, MemArg, UnaryOperator,

@@ -1,17 +1,22 @@
 //! What the parts of a module are read from (sections 5.3 to 5.5).
 
-ghost use Rattle.wasm_module.specs.Reading.{Gives};
 ghost use Rattle.wasm_module.specs.ModuleReading.{body_of};
-ghost use Rattle.wasm_module.specs.TypesReading.{value_type_of};
+ghost use Rattle.wasm_module.specs.Reading.{Gives, many_at};
+ghost use Rattle.wasm_module.specs.TypesReading.{value_type_of, table_at, mutability_at};
 
 use crate::cursor::{Cursor, Decode};
 use crate::fault::LoadFault;
-use crate::instruction::{Instruction, ValueType};
+use crate::instruction::{BlockType, ValueType};
 use crate::items::Items;
 use crate::module::{
-    Body, DataSegment, Export, ExportKind, FuncType, Import, ImportKind, Limits, Locals,
+    Body, DataSegment, ElementSegment, Export, ExportKind, FuncType, GlobalEntry, GlobalType,
+    Import, ImportKind, Limits, Locals,
 };
 use std::alloc::Global;
+use std::marker::Model;
+
+/// How many elements a table has at most at the beginning.
+const MOST_ELEMENTS: u32 = 1_000_000;
 
 fn value_type(byte: u8, offset: u32) -> Result<ValueType, LoadFault>
     ensures { Gives (λ t. t) result (value_type_of byte) }
@@ -33,6 +38,21 @@ impl<'a> Decode<'a> for ValueType {
     fn decode(_alloc: Global, cursor: &mut Cursor<'a>) -> Result<ValueType, LoadFault> {
         let offset = cursor.offset();
         value_type(cursor.byte()?, offset)
+    }
+}
+
+impl<'a> Decode<'a> for BlockType {
+    ghost use Rattle.wasm_module.specs.TypesReading.{block_type_at};
+
+    ghost at = { block_type_at };
+
+    #[tactic(auto, unfolding(crate::specs::TypesReading::block_type_at))]
+    fn decode(_alloc: Global, cursor: &mut Cursor<'a>) -> Result<BlockType, LoadFault> {
+        let offset = cursor.offset();
+        match cursor.byte()? {
+            0x40 => Ok(BlockType::Empty),
+            byte => Ok(BlockType::Value(value_type(byte, offset)?)),
+        }
     }
 }
 
@@ -77,6 +97,90 @@ impl<'a> Decode<'a> for Limits {
     }
 }
 
+/// A table's type (section 5.3.6).
+#[tactic(auto, unfolding(crate::specs::TypesReading::table_at))]
+fn table_type(alloc: Global, cursor: &mut Cursor<'_>) -> Result<Limits, LoadFault>
+    ensures { Gives (λ x. (x, cursor.new)) result (table_at cursor.old) }
+{
+    let offset = cursor.offset();
+    cursor.expect(0x70, LoadFault::BadByte { offset })?;
+    let flag = cursor.offset();
+    let limits = Limits::decode(alloc, cursor)?;
+    if limits.min > MOST_ELEMENTS {
+        let offset = flag.saturating_add(1);
+        return Err(LoadFault::Limit { offset });
+    }
+    Ok(limits)
+}
+
+/// The tables' types, where a plain list of limits is of memories.
+#[derive(Drop)]
+pub struct Tables {
+    pub limits: Items<Limits>,
+}
+
+impl Model for Tables {
+    ghost use Rattle.std.specs.Prelude.{List};
+    ghost use Rattle.wasm_module.specs.declared.module.Limits.{Limits};
+
+    ghost Value = { List Limits };
+
+    ghost view = { λ t. t.limits };
+}
+
+#[tactic(auto, using(crate::proofs::Steps::many_more, crate::proofs::Steps::many_done))]
+fn table_types(alloc: Global, cursor: &mut Cursor<'_>, count: u32) -> Result<Vec<Limits>, LoadFault>
+    ensures { Gives (λ x. (x.items, cursor.new)) result (many_at table_at count cursor.old) }
+{
+    let mut tables = Vec::new(alloc);
+    for _ in 0..count {
+        tables.push(table_type(alloc, cursor)?)?;
+    }
+    Ok(tables)
+}
+
+impl<'a> Decode<'a> for Tables {
+    ghost use Rattle.wasm_module.specs.Reading.{vector_at};
+
+    ghost at = { vector_at table_at };
+
+    #[tactic(auto, unfolding(crate::specs::Reading::vector_at))]
+    fn decode(alloc: Global, cursor: &mut Cursor<'a>) -> Result<Tables, LoadFault> {
+        let offset = cursor.offset();
+        let count = cursor.u32()?;
+        let limits = Items::from_vec(table_types(alloc, cursor, count)?, offset);
+        Ok(Tables { limits })
+    }
+}
+
+#[tactic(auto, unfolding(crate::specs::TypesReading::mutability_at))]
+fn mutability(cursor: &mut Cursor<'_>) -> Result<bool, LoadFault>
+    ensures { Gives (λ x. (x, cursor.new)) result (mutability_at cursor.old) }
+{
+    let offset = cursor.offset();
+    match cursor.byte()? {
+        0x00 => Ok(false),
+        0x01 => Ok(true),
+        _ => Err(LoadFault::BadByte { offset }),
+    }
+}
+
+impl<'a> Decode<'a> for GlobalType {
+    ghost use Rattle.wasm_module.specs.TypesReading.{global_type_at};
+
+    ghost at = { global_type_at };
+
+    #[tactic(auto, unfolding(crate::specs::TypesReading::global_type_at))]
+    fn decode(alloc: Global, cursor: &mut Cursor<'a>) -> Result<GlobalType, LoadFault> {
+        let value_type = ValueType::decode(alloc, cursor)?;
+        let mutable = mutability(cursor)?;
+        Ok(GlobalType {
+            value_type,
+            mutable,
+        })
+    }
+}
+
 impl<'a> Decode<'a> for u32 {
     ghost use Rattle.wasm_module.specs.Reading.{u32_at};
 
@@ -97,35 +201,19 @@ impl<'a, T: Decode<'a>> Decode<'a> for Items<T> {
     }
 }
 
-impl<'a> Decode<'a> for Instruction {
-    ghost use Rattle.wasm_module.specs.CodeReading.{instruction_at, instruction_after};
-
-    ghost at = { instruction_at };
-
-    #[tactic(auto, unfolding(crate::specs::CodeReading::instruction_at, crate::specs::CodeReading::instruction_after))]
-    fn decode(_alloc: Global, cursor: &mut Cursor<'a>) -> Result<Instruction, LoadFault> {
-        let offset = cursor.offset();
-        match cursor.byte()? {
-            0x0B => Ok(Instruction::End),
-            0x10 => Ok(Instruction::Call(cursor.u32()?)),
-            0x1A => Ok(Instruction::Drop),
-            0x41 => Ok(Instruction::I32Const(cursor.s32()?)),
-            0x42 => Ok(Instruction::I64Const(cursor.s64()?)),
-            _ => Err(LoadFault::BadByte { offset }),
-        }
-    }
-}
-
 impl<'a> Decode<'a> for ImportKind {
     ghost use Rattle.wasm_module.specs.ModuleReading.{import_kind_at, import_after};
 
     ghost at = { import_kind_at };
 
     #[tactic(auto, unfolding(crate::specs::ModuleReading::import_kind_at, crate::specs::ModuleReading::import_after))]
-    fn decode(_alloc: Global, cursor: &mut Cursor<'a>) -> Result<ImportKind, LoadFault> {
+    fn decode(alloc: Global, cursor: &mut Cursor<'a>) -> Result<ImportKind, LoadFault> {
         let offset = cursor.offset();
         match cursor.byte()? {
             0x00 => Ok(ImportKind::Function(cursor.u32()?)),
+            0x01 => Ok(ImportKind::Table(table_type(alloc, cursor)?)),
+            0x02 => Ok(ImportKind::Memory(Limits::decode(alloc, cursor)?)),
+            0x03 => Ok(ImportKind::Global(GlobalType::decode(alloc, cursor)?)),
             _ => Err(LoadFault::BadByte { offset }),
         }
     }
@@ -146,6 +234,19 @@ impl<'a> Decode<'a> for Import<'a> {
             name,
             kind,
         })
+    }
+}
+
+impl<'a> Decode<'a> for GlobalEntry {
+    ghost use Rattle.wasm_module.specs.ModuleReading.{global_at};
+
+    ghost at = { global_at };
+
+    #[tactic(auto, unfolding(crate::specs::ModuleReading::global_at))]
+    fn decode(alloc: Global, cursor: &mut Cursor<'a>) -> Result<GlobalEntry, LoadFault> {
+        let global_type = GlobalType::decode(alloc, cursor)?;
+        let init = cursor.code(alloc)?;
+        Ok(GlobalEntry { global_type, init })
     }
 }
 
@@ -177,6 +278,24 @@ impl<'a> Decode<'a> for Export<'a> {
         let name = cursor.name()?;
         let kind = ExportKind::decode(alloc, cursor)?;
         Ok(Export { name, kind })
+    }
+}
+
+impl<'a> Decode<'a> for ElementSegment {
+    ghost use Rattle.wasm_module.specs.ModuleReading.{elements_at};
+
+    ghost at = { elements_at };
+
+    #[tactic(auto, unfolding(crate::specs::ModuleReading::elements_at))]
+    fn decode(alloc: Global, cursor: &mut Cursor<'a>) -> Result<ElementSegment, LoadFault> {
+        let table = cursor.u32()?;
+        let offset = cursor.code(alloc)?;
+        let functions = cursor.vector(alloc)?;
+        Ok(ElementSegment {
+            table,
+            offset,
+            functions,
+        })
     }
 }
 

@@ -199,6 +199,9 @@ fn sections(rt: HostRuntime) -> Result<(), Fail> {
         of(&[1, 1, 0, 13, 1, 0])?,
         Some(LoadFault::BadByte { offset: 11 })
     );
+    // a data count behind the bodies that it stands before
+    let count = of(&[10, 1, 0, 12, 1, 0])?;
+    assert_eq!(rt; count, Some(LoadFault::SectionOrder { offset: 11 }));
     // the size itself
     assert_eq!(rt;
         of(&[1, 0x80, 0x80, 0x80, 0x80, 0x10])?,
@@ -313,5 +316,141 @@ fn many_parameters(rt: HostRuntime) -> Result<(), Fail> {
         fault(alloc, &bytes),
         Some(LoadFault::Limit { offset: 50_022 })
     );
+    Ok(())
+}
+
+#[test]
+fn table_sizes(rt: HostRuntime) -> Result<(), Fail> {
+    let of = |tail: &[u8]| fault_after(rt.alloc(), &[], tail);
+    // 1,000,000 elements and one more
+    assert_eq!(rt; of(&[4, 6, 1, 0x70, 0, 0xC0, 0x84, 0x3D])?, None);
+    assert_eq!(rt;
+        of(&[4, 6, 1, 0x70, 0, 0xC1, 0x84, 0x3D])?,
+        Some(LoadFault::Limit { offset: 13 })
+    );
+    assert_eq!(rt;
+        of(&[2, 10, 1, 0, 0, 1, 0x70, 0, 0xC1, 0x84, 0x3D, 0])?,
+        Some(LoadFault::Limit { offset: 16 })
+    );
+    Ok(())
+}
+
+#[test]
+fn data_counts(rt: HostRuntime) -> Result<(), Fail> {
+    let alloc = rt.alloc();
+    let mut bytes = Vec::from_slice(alloc, &PROGRAM[..128])?;
+    bytes.extend_from_slice(&[12, 1, 1])?;
+    bytes.extend_from_slice(&PROGRAM[128..])?;
+    assert_eq!(rt; fault(alloc, &bytes), None);
+    let mut wrong = Vec::from_slice(alloc, &PROGRAM[..128])?;
+    wrong.extend_from_slice(&[12, 1, 2])?;
+    wrong.extend_from_slice(&PROGRAM[128..])?;
+    let mismatch = LoadFault::CountMismatch { offset: 171 };
+    assert_eq!(rt; fault(alloc, &wrong), Some(mismatch));
+    let mut late = Vec::from_slice(alloc, &PROGRAM[..149])?;
+    late.extend_from_slice(&[12, 1, 1])?;
+    late.extend_from_slice(&PROGRAM[149..])?;
+    assert_eq!(rt;
+        fault(alloc, &late),
+        Some(LoadFault::SectionOrder { offset: 149 })
+    );
+    assert_eq!(rt; fault_after(alloc, &[12, 1, 0], &[])?, None);
+    Ok(())
+}
+
+/// What this byte is refused with as an opcode, where it is.
+fn opcode_fault(byte: u8, offset: u32) -> Option<LoadFault> {
+    match byte {
+        0x00..=0x04 | 0x0B..=0x11 | 0x1A | 0x1B | 0x20..=0x24 | 0xFC => None,
+        0x28 | 0x29 | 0x2C..=0x37 | 0x3A..=0x42 | 0x45..=0x5A => None,
+        0x67..=0x8A | 0xA7 | 0xAC | 0xAD | 0xC0..=0xC4 => None,
+        0x2A | 0x2B | 0x38 | 0x39 | 0x43 | 0x44 => Some(LoadFault::Float { offset }),
+        0x5B..=0x66 | 0x8B..=0xA6 | 0xA8..=0xAB | 0xAE..=0xBF => Some(LoadFault::Float { offset }),
+        _ => Some(LoadFault::BadByte { offset }),
+    }
+}
+
+#[test]
+fn opcodes(rt: HostRuntime) -> Result<(), Fail> {
+    for byte in 0..=255 {
+        let code = [10, 8, 1, 6, 0, byte, 0, 0, 0, 0x0B];
+        let found = fault_after(rt.alloc(), &FUNCTION, &code)?;
+        match opcode_fault(byte, 23) {
+            Some(refused) => assert_eq!(rt; found, Some(refused), "at {byte}"),
+            None => {
+                assert!(rt;
+                    found != Some(LoadFault::BadByte { offset: 23 }),
+                    "at {byte}"
+                );
+                assert!(rt; found != Some(LoadFault::Float { offset: 23 }), "at {byte}");
+            }
+        }
+    }
+    Ok(())
+}
+
+#[test]
+fn bulk_opcodes(rt: HostRuntime) -> Result<(), Fail> {
+    let of = |code: &[u8]| fault_after(rt.alloc(), &FUNCTION, code);
+    assert_eq!(rt; of(&[10, 8, 1, 6, 0, 0xFC, 10, 0, 0, 0x0B])?, None);
+    assert_eq!(rt; of(&[10, 7, 1, 5, 0, 0xFC, 11, 0, 0x0B])?, None);
+    // 10, spelled longer
+    assert_eq!(rt; of(&[10, 9, 1, 7, 0, 0xFC, 0x8A, 0, 0, 0, 0x0B])?, None);
+    assert_eq!(rt;
+        of(&[10, 6, 1, 4, 0, 0xFC, 7, 0x0B])?,
+        Some(LoadFault::Float { offset: 24 })
+    );
+    assert_eq!(rt;
+        of(&[10, 6, 1, 4, 0, 0xFC, 8, 0x0B])?,
+        Some(LoadFault::BadByte { offset: 24 })
+    );
+    // a byte that has to be 0, and is no number
+    assert_eq!(rt;
+        of(&[10, 7, 1, 5, 0, 0x3F, 0x80, 0, 0x0B])?,
+        Some(LoadFault::BadByte { offset: 24 })
+    );
+    Ok(())
+}
+
+#[test]
+fn nested_blocks(rt: HostRuntime) -> Result<(), Fail> {
+    let of = |code: &[u8]| fault_after(rt.alloc(), &FUNCTION, code);
+    // a block round a loop round an if with an else
+    assert_eq!(rt;
+        of(&[
+            10, 13, 1, 11, 0, 2, 0x40, 3, 0x7F, 4, 0x7E, 5, 0x0B, 0x0B, 0x0B
+        ])?,
+        Some(LoadFault::SectionSize { offset: 21 })
+    );
+    assert_eq!(rt;
+        of(&[
+            10, 14, 1, 12, 0, 2, 0x40, 3, 0x7F, 4, 0x7E, 5, 0x0B, 0x0B, 0x0B, 0x0B
+        ])?,
+        None
+    );
+    // a second else
+    assert_eq!(rt;
+        of(&[10, 9, 1, 7, 0, 4, 0x40, 5, 5, 0x0B, 0x0B])?,
+        Some(LoadFault::BadByte { offset: 26 })
+    );
+    Ok(())
+}
+
+#[test]
+fn branch_tables(rt: HostRuntime) -> Result<(), Fail> {
+    let alloc = rt.alloc();
+    let mut bytes = Vec::from_slice(alloc, &PROGRAM[..8])?;
+    bytes.extend_from_slice(&FUNCTION)?;
+    bytes.extend_from_slice(&[10, 9, 1, 7, 0, 0x0E, 2, 5, 6, 7, 0x0B])?;
+    let module = decode(alloc, &bytes)?;
+    let [body] = module.bodies.as_slice() else {
+        panic!(rt; "one body");
+    };
+    let [Instruction::BrTable(table), Instruction::End] = body.code.as_slice() else {
+        panic!(rt; "a branch");
+    };
+    assert_eq!(rt; table.labels(), [5, 6].as_slice());
+    assert_eq!(rt; table.default_label(), 7);
+    one_module();
     Ok(())
 }

@@ -1,25 +1,22 @@
 -- The rules as they are tested are those of a valid module of the part.
-use Rattle.std.proofs.Common.{◌≡◌, ℕ, ◌<◌, ◌≤◌, ◌^◌, List, [], ◌∷◌, ◌++◌, length, map, Option, Some, None, All, sym, ◌∙◌, ap, refl, subst, inl, inr, ◌⊎◌, Result, Ok, Err, IfSome, arith}
+use Rattle.std.proofs.Common.{◌≡◌, ℕ, ◌<◌, ◌≤◌, ◌^◌, List, [], ◌∷◌, ◌++◌, length, map, Option, Some, None, sym, ◌∙◌, ap, refl, subst, inl, inr, Result, Ok, Err, IfSome, arith}
 use Rattle.std.specs.List.{AllByRecursion, filter_map, cons_option, slice_get}
 use Rattle.std.proofs.lemmas.List.Elements.{All-from_recursion, recursion_from_All}
 use Rattle.std.proofs.lemmas.Option.{slice_get_within, slice_get_cases}
 use Rattle.wasm_module.specs.declared.fault.LoadFault.{LoadFault}
-use Rattle.wasm_module.specs.declared.instruction.ValueType.TheVariants.{I32, I64}
+use Rattle.wasm_module.specs.declared.instruction.ValueType.TheVariants.{I32}
 use Rattle.wasm_module.specs.declared.instruction.Instruction.{Instruction}
-use Rattle.wasm_module.specs.declared.instruction.Instruction.TheVariants as op
 use Rattle.wasm_module.specs.declared.module.FuncType.{FuncType}
 use Rattle.wasm_module.specs.declared.module.ImportKind.{ImportKind}
 use Rattle.wasm_module.specs.declared.module.ImportKind.TheVariants as imported
 use Rattle.wasm_module.specs.declared.module.Import.{Import}
 use Rattle.wasm_module.specs.declared.module.ExportKind.{ExportKind}
 use Rattle.wasm_module.specs.declared.module.ExportKind.TheVariants as exported
-use Rattle.wasm_module.specs.declared.module.Export.{Export}
 use Rattle.wasm_module.specs.declared.module.DataSegment.{DataSegment}
 use Rattle.wasm_module.specs.declared.module.Module.{Module}
-use Rattle.wasm_module.specs.FirstPart.{IsFunction}
 use Rattle.wasm_valid.specs.Typing.{Context}
 use Rattle.wasm_valid.specs.Validity.{imported_table, imported_memory, imported_global, kinds_of, functions_of, tables_of, memories_of, globals_of, has_any, AreTypesAt, IsContext, IsConstant, ExportFits, DataFits, LimitsFit, ElementsFit, IsValid}
-use Rattle.wasm_valid.specs.FirstPart.{RunsSoFar}
+use Rattle.wasm_valid.specs.FirstPart.{IsFunction, RunsSoFar}
 use Rattle.wasm_valid.specs.Refusal.{Settles}
 use Rattle.wasm_valid.specs.Rules.{IsOfPart, TypesFit, ListsFit, IsWithin, IsOffset, IsPlaced, BodiesRun}
 use Rattle.wasm_valid.proofs.Refusals.{Refutes-some}

@@ -1,7 +1,7 @@
 -- Code without blocks: its instructions one after the other, and an end.
-use Rattle.std.proofs.Common.{◌≡◌, ◌≢◌, ℕ, Bool, true, false, List, [], ◌∷◌, ◌++◌, length, sym, ◌∙◌, ap, refl, subst, ◌↔◌, append_assoc}
+use Rattle.std.proofs.Common.{◌≡◌, ◌≢◌, ℕ, ◌+◌, ◌<◌, true, false, List, [], ◌∷◌, ◌++◌, length, drop, get_or, sym, ◌∙◌, ap, refl, subst, ◌↔◌, append_assoc}
 use Rattle.std.specs.List.{AllByRecursion}
-use Rattle.std.proofs.lemmas.List.{same_from_push}
+use Rattle.std.proofs.lemmas.List.{drop_more}
 use Rattle.wasm_module.specs.declared.instruction.ValueType.{ValueType}
 use Rattle.wasm_module.specs.declared.instruction.Instruction.{Instruction}
 use Rattle.wasm_module.specs.declared.instruction.Instruction.TheVariants as op
@@ -72,22 +72,30 @@ ends last (enter x rest) = ends last rest
 
 -- ---- the walk along the line
 
--- what is typed from here on is typed from the beginning
-abbrev pub GoesOn : ℕ → List FuncType → List ℕ → List Instruction → List Instruction → List ValueType → Type 0
-GoesOn imports types xs whole rest stack =
-    (c : Context) (ls : Labels) (b : List ValueType) → AreTypesAt types xs c.functions → (LineTyped imports c ls rest stack b ↔ LineTyped imports c ls whole [] b)
+-- what is typed from i on is typed from the beginning
+abbrev pub GoesOn : ℕ → List FuncType → List ℕ → List Instruction → ℕ → List ValueType → Type 0
+GoesOn imports types xs whole i stack =
+    (c : Context) (ls : Labels) (b : List ValueType) → AreTypesAt types xs c.functions → (LineTyped imports c ls (drop i whole) stack b ↔ LineTyped imports c ls whole [] b)
 
-pub GoesOn-start : (imports : ℕ) (types : List FuncType) (xs : List ℕ) (whole : List Instruction) → GoesOn imports types xs whole whole []
-GoesOn-start imports types xs whole = λ c ls b at. ((λ h. h), (λ h. h))
+-- the line from i on is the instruction at i and the line after it
+split : (imports : ℕ) (c : Context) (ls : Labels) (whole : List Instruction) (i : ℕ) (item : Instruction) (old b : List ValueType) → i < length whole → item ≡ get_or whole i item
+    → LineTyped imports c ls (drop i whole) old b ↔ ((m : List ValueType) × StepTyped imports c ls item old m × LineTyped imports c ls (drop (i + 1) whole) m b)
+split imports c ls whole i item old b below is =
+    let rest : drop i whole ≡ item ∷ drop (i + 1) whole = drop_more whole i item below ∙ ap (λ x. x ∷ drop (i + 1) whole) (sym is) in
+    ((λ h. subst (λ l. LineTyped imports c ls l old b) rest h), (λ h. subst (λ l. LineTyped imports c ls l old b) (sym rest) h))
 
 -- one step further
-pub GoesOn-more : (imports : ℕ) (types : List FuncType) (xs : List ℕ) (whole rest : List Instruction) (i : Instruction) (old new : List ValueType) → GoesOn imports types xs whole (i ∷ rest) old → StepIs imports types xs i old true new → GoesOn imports types xs whole rest new
-GoesOn-more imports types xs whole rest i old new before step = λ c ls b at. (
-  (λ h. (before c ls b at).0 (new, (step c ls new at).1 (refl, refl), h)),
-  (λ h. let l = (before c ls b at).1 h in subst (λ m. LineTyped imports c ls rest m b) ((step c ls l.0 at).0 l.1).1 l.2),
-)
+pub GoesOn-more : (imports : ℕ) (types : List FuncType) (xs : List ℕ) (whole : List Instruction) (i : ℕ) (item : Instruction) (old new : List ValueType) → i < length whole → item ≡ get_or whole i item
+    → GoesOn imports types xs whole i old → StepIs imports types xs item old true new → GoesOn imports types xs whole (i + 1) new
+GoesOn-more imports types xs whole i item old new below is before step = λ c ls b at.
+    let s = split imports c ls whole i item old b below is in (
+      (λ h. (before c ls b at).0 (s.1 (new, (step c ls new at).1 (refl, refl), h))),
+      (λ h. let l = s.0 ((before c ls b at).1 h) in subst (λ m. LineTyped imports c ls (drop (i + 1) whole) m b) ((step c ls l.0 at).0 l.1).1 l.2),
+    )
 
 -- a step that isn't typed
-pub GoesOn-stops : (imports : ℕ) (types : List FuncType) (xs : List ℕ) (whole rest : List Instruction) (i : Instruction) (old new : List ValueType) → GoesOn imports types xs whole (i ∷ rest) old → StepIs imports types xs i old false new → (c : Context) (ls : Labels) (b : List ValueType) → AreTypesAt types xs c.functions → LineTyped imports c ls whole [] b → ⊥
-GoesOn-stops imports types xs whole rest i old new before step c ls b at h =
-    let l = (before c ls b at).1 h in let e = ((step c ls l.0 at).0 l.1).0 in cc
+pub GoesOn-stops : (imports : ℕ) (types : List FuncType) (xs : List ℕ) (whole : List Instruction) (i : ℕ) (item : Instruction) (old new : List ValueType) → i < length whole → item ≡ get_or whole i item
+    → GoesOn imports types xs whole i old → StepIs imports types xs item old false new → (c : Context) (ls : Labels) (b : List ValueType) → AreTypesAt types xs c.functions → LineTyped imports c ls whole [] b → ⊥
+GoesOn-stops imports types xs whole i item old new below is before step c ls b at h =
+    let l = (split imports c ls whole i item old b below is).0 ((before c ls b at).1 h) in
+    let e = ((step c ls l.0 at).0 l.1).0 in cc

@@ -1,5 +1,5 @@
 -- What holds of each element of two lists joined holds in both.
-use Rattle.std.proofs.Common.{◌≡◌, ℕ, ◌<◌, ◌+◌, List, ◌++◌, length, get_or, All, arith, length-append, subst}
+use Rattle.std.proofs.Common.{◌+◌, List, ◌++◌, length, All, arith, length-append, subst}
 use Rattle.std.proofs.lemmas.List.{get_or_append_left, get_or-append-add}
 
 pub All-front : {X : Type 0} (P : X → Type 0) (xs ys : List X) → All P (xs ++ ys) → All P xs

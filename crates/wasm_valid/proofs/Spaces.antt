@@ -1,5 +1,5 @@
 -- The functions of a module by their indices, and what a call of one does.
-use Rattle.std.proofs.Common.{◌≡◌, ℕ, ◌<◌, zero, suc, Bool, true, List, [], ◌∷◌, length, reverse, sym, ◌∙◌, ap, refl, subst, Option, Some, None, Result, ◌↔◌, Bor, IfOk}
+use Rattle.std.proofs.Common.{◌≡◌, ℕ, ◌<◌, zero, suc, Bool, true, List, [], ◌∷◌, length, reverse, sym, refl, subst, Option, Some, None, Result, ◌↔◌, Bor, IfOk}
 use Rattle.std.specs.declared.alloc.AllocError.{AllocError}
 use Rattle.std.specs.List.{slice_get}
 use Rattle.std.specs.Option.{option_and_then, option_copied}

@@ -1,5 +1,5 @@
 -- Stacks of types, as a list whose end is on top and as one that begins there.
-use Rattle.std.proofs.Common.{◌≡◌, ◌≢◌, ℕ, ◌≤◌, suc, Bool, true, false, List, [], ◌∷◌, ◌++◌, length, reverse, take, sym, ◌∙◌, ap, refl, subst, Decides, arith, append_assoc}
+use Rattle.std.proofs.Common.{◌≡◌, ◌≢◌, ◌≤◌, true, List, [], ◌∷◌, ◌++◌, length, reverse, take, sym, ◌∙◌, ap, refl, Decides, arith}
 use Rattle.std.proofs.lemmas.List.{reverse-append, reverse-reverse, take_at, append_cancel_left}
 use Rattle.wasm_module.specs.declared.instruction.ValueType.{ValueType}
 use Rattle.wasm_module.specs.declared.instruction.ValueType.TheVariants.{I32, I64}

@@ -1,7 +1,8 @@
 -- A body whose code has no blocks has the type of its function exactly where its line has.
-use Rattle.std.proofs.Common.{◌≡◌, ℕ, Bool, true, false, List, [], ◌∷◌, ◌++◌, sym, ◌∙◌, ap, subst, IsTrue, ◌↔◌}
+use Rattle.std.proofs.Common.{◌≡◌, ℕ, ◌≤◌, length, Bool, false, List, [], ◌∷◌, ◌++◌, sym, ◌∙◌, subst, IsTrue, ◌↔◌}
 use Rattle.std.specs.List.{AllByRecursion}
 use Rattle.std.proofs.lemmas.Bool.{false≢true}
+use Rattle.std.proofs.lemmas.List.{drop_all}
 use Rattle.wasm_module.specs.declared.instruction.ValueType.{ValueType}
 use Rattle.wasm_module.specs.declared.instruction.Instruction.{Instruction}
 use Rattle.wasm_module.specs.declared.instruction.Instruction.TheVariants as op
@@ -39,9 +40,9 @@ stops imports types xs f b whole e never c at =
     ((λ t. absurd (false≢true t)), (λ h. absurd (never (inside c f b) (f.results ∷ []) f.results at (line_of imports c f b whole e h))))
 
 -- code that leaves a stack
-pub leaves : (imports : ℕ) (types : List FuncType) (xs : List ℕ) (f : FuncType) (b : Body) (whole : List Instruction) (stack : List ValueType) (r : Bool) → b.code ≡ whole ++ op.End ∷ [] → GoesOn imports types xs whole [] stack → IsTrue r ↔ (stack ≡ f.results) → BodyIs imports types xs f b r
-leaves imports types xs f b whole stack r e on is c at =
-    let both = on (inside c f b) (f.results ∷ []) f.results at in (
+pub leaves : (imports : ℕ) (types : List FuncType) (xs : List ℕ) (f : FuncType) (b : Body) (whole : List Instruction) (i : ℕ) (stack : List ValueType) (r : Bool) → b.code ≡ whole ++ op.End ∷ [] → length whole ≤ i → GoesOn imports types xs whole i stack → IsTrue r ↔ (stack ≡ f.results) → BodyIs imports types xs f b r
+leaves imports types xs f b whole i stack r e past on is c at =
+    let both = subst (λ l. LineTyped imports (inside c f b) (f.results ∷ []) l stack f.results ↔ LineTyped imports (inside c f b) (f.results ∷ []) whole [] f.results) (drop_all i whole past) (on (inside c f b) (f.results ∷ []) f.results at) in (
       (λ t. subst (λ flat. CodeTyped imports (inside c f b) (f.results ∷ []) flat [] f.results) (sym e) (code_from_line imports (inside c f b) (f.results ∷ []) whole [] f.results (both.0 (is.0 t)))),
       (λ h. is.1 (both.1 (line_of imports c f b whole e h))),
     )

@@ -1,5 +1,5 @@
 -- What it means that a module is refused.
-use Rattle.std.specs.Prelude.{ℕ, Option, Result, MatchResult}
+use Rattle.std.specs.Prelude.{Result, MatchResult}
 use Rattle.wasm_module.specs.declared.fault.LoadFault.{LoadFault}
 use Rattle.wasm_module.specs.declared.fault.LoadFault.TheVariants.{Memory, Invalid}
 

@@ -9,10 +9,9 @@ use Rattle.wasm_module.specs.declared.module.ExportKind.TheVariants as exported
 use Rattle.wasm_module.specs.declared.module.Body.{Body}
 use Rattle.wasm_module.specs.declared.module.DataSegment.{DataSegment}
 use Rattle.wasm_module.specs.declared.module.Module.{Module}
-use Rattle.wasm_module.specs.FirstPart.{IsFunction}
 use Rattle.wasm_valid.specs.Typing.{Context}
 use Rattle.wasm_valid.specs.Validity.{functions_of, LimitsFit, AreApart, FunctionTyped, FunctionsTyped}
-use Rattle.wasm_valid.specs.FirstPart.{IsRunnable}
+use Rattle.wasm_valid.specs.FirstPart.{IsFunction, IsRunnable}
 
 -- functions, memories, exports and data, and nothing else
 pub record IsOfPart (m : Module) : Type 0 where

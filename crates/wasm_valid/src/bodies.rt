@@ -28,7 +28,8 @@ pub struct FunctionSpace<'m> {
 impl<'m> FunctionSpace<'m> {
     /// The type of a function.
     fn type_of(&self, index: u32) -> Option<&'m FuncType>
-        ensures found { (c : Context) → AreTypesAt self.now.types.now self.now.type_indices.items c.functions
+        ensures found { (c : Context)
+            → AreTypesAt self.now.types.now self.now.type_indices.items c.functions
             → option_copied result ≡ slice_get c.functions index }
         ensures one_result { IfSome result (λ f. length f.now.results ≤ 1) }
     {
@@ -40,7 +41,8 @@ impl<'m> FunctionSpace<'m> {
     fn call(&self, index: u32, stack: &mut TypeStack) -> Result<bool, AllocError>
         ensures { IfOk result (λ typed. (c : Context) (ls : Labels) (b : List ValueTypeValue)
             → AreTypesAt self.now.types.now self.now.type_indices.items c.functions
-            → (StepTyped self.now.imported c ls (Instruction.Call index) stack.old b ↔ ((typed ≡ true) × (b ≡ stack.new)))) }
+            → (StepTyped self.now.imported c ls (Instruction.Call index) stack.old b
+            ↔ ((typed ≡ true) × (b ≡ stack.new)))) }
     {
         if index as usize >= self.imported {
             return Ok(false);
@@ -55,7 +57,8 @@ impl<'m> FunctionSpace<'m> {
     fn step(&self, instruction: &Instruction, stack: &mut TypeStack) -> Result<bool, AllocError>
         ensures { IfOk result (λ typed. (c : Context) (ls : Labels) (b : List ValueTypeValue)
             → AreTypesAt self.now.types.now self.now.type_indices.items c.functions
-            → (StepTyped self.now.imported c ls instruction.now stack.old b ↔ ((typed ≡ true) × (b ≡ stack.new)))) }
+            → (StepTyped self.now.imported c ls instruction.now stack.old b
+            ↔ ((typed ≡ true) × (b ≡ stack.new)))) }
     {
         match instruction {
             Instruction::I32Const(_) => stack.apply(&[], &[ValueType::I32]),
@@ -76,14 +79,15 @@ impl<'m> FunctionSpace<'m> {
         requires { length function.now.results ≤ 1 }
         ensures { IfOk result (λ typed. (c : Context)
             → AreTypesAt self.now.types.now self.now.type_indices.items c.functions
-            → (IsTrue typed ↔ (FunctionTyped c function.now body.now × AllByRecursion (IsRunnable self.now.imported) body.now.code))) }
+            → (IsTrue typed ↔ (FunctionTyped c function.now body.now
+            × AllByRecursion (IsRunnable self.now.imported) body.now.code))) }
     {
         let Some((last, plain)) = body.code.as_slice().split_last() else {
             return Ok(false);
         };
-        if !matches!(last, Instruction::End) {
+        let Instruction::End = last else {
             return Ok(false);
-        }
+        };
         let mut stack = TypeStack::new(alloc);
         for instruction in plain {
             if !self.step(instruction, &mut stack)? {

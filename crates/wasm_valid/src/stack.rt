@@ -20,7 +20,7 @@ impl Model for TypeStack {
 }
 
 impl TypeStack {
-    ghost use Rattle.std.specs.Prelude.{◌≡◌, ◌≤◌, ◌↔◌, List, [], ◌∷◌, ◌++◌, length, reverse, MatchOption, MatchBool, IsTrue, IfOk, OnOk, true};
+    ghost use Rattle.std.specs.Prelude.{◌≡◌, ◌≤◌, ◌↔◌, List, [], ◌∷◌, ◌++◌, length, reverse, MatchOption, MatchBool, IsTrue, IfOk, true};
     ghost use Rattle.wasm_module.specs.declared.instruction.ValueType.{ValueType as ValueTypeValue};
     ghost use Rattle.wasm_valid.specs.Typing.{Moves};
 
@@ -34,7 +34,9 @@ impl TypeStack {
 
     /// Takes the type on top.
     pub fn pop(&mut self) -> Option<ValueType>
-        ensures { MatchOption result ((self.old ≡ []) × (self.new ≡ [])) (λ t. self.old ≡ t ∷ self.new) }
+        ensures { MatchOption result
+            ((self.old ≡ []) × (self.new ≡ []))
+            (λ t. self.old ≡ t ∷ self.new) }
     {
         self.types.pop()
     }
@@ -59,7 +61,8 @@ impl TypeStack {
     pub fn apply(&mut self, takes: &[ValueType], gives: &[ValueType]) -> Result<bool, AllocError>
         requires { length gives.now ≤ 1 }
         ensures { IfOk result (λ taken. (b : List ValueTypeValue)
-            → (Moves (reverse takes.now) gives.now self.old b ↔ ((taken ≡ true) × (b ≡ self.new)))) }
+            → (Moves (reverse takes.now) gives.now self.old b
+            ↔ ((taken ≡ true) × (b ≡ self.new)))) }
     {
         if !self.take(takes) {
             return Ok(false);

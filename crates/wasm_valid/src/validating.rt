@@ -21,9 +21,11 @@ use wasm_module::{LoadFault, Module};
 /// Checks a module (section 3.4.10). What isn't run so far is refused as what isn't valid is, with
 /// fault 12.
 pub fn validate<'a>(alloc: Global, module: Module<'a>) -> Result<Valid<'a>, LoadFault>
-    ensures valid { IfOk result (λ v. (v ≡ «module».entry) × IsValid «module».entry × RunsSoFar «module».entry) }
+    ensures valid { IfOk result
+        (λ v. (v ≡ «module».entry) × IsValid «module».entry × RunsSoFar «module».entry) }
     ensures refused { IfErr result IsRefusal }
-    ensures no { IfErr result (λ e. e ≢ LoadFault.Memory → IsValid «module».entry → RunsSoFar «module».entry → ⊥) }
+    ensures no { IfErr result
+        (λ e. e ≢ LoadFault.Memory → IsValid «module».entry → RunsSoFar «module».entry → ⊥) }
 {
     check(alloc, &module)?;
     Ok(Valid::new(module))
@@ -116,7 +118,8 @@ fn check_bodies(
     space: &FunctionSpace<'_>,
 ) -> Result<(), LoadFault>
     requires { IsSpaceOf space.now «module».now }
-    ensures { (c : Context) → AreTypesAt «module».now.types (functions_of «module».now) c.functions
+    ensures { (c : Context)
+        → AreTypesAt «module».now.types (functions_of «module».now) c.functions
         → Settles result (BodiesRun c «module».now) }
 {
     let functions = module.functions.as_slice();

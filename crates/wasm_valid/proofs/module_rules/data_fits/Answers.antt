@@ -1,5 +1,5 @@
 -- Each call answers for one segment.
-use Rattle.std.proofs.Common.{rules, ◌≡◌, ℕ, ◌<◌, IsTrue, ◌↔◌, Bool, true, false, List, [], ◌∷◌, length, All, MatchBool, refl, arith}
+use Rattle.std.proofs.Common.{rules, ℕ, ◌<◌, IsTrue, ◌↔◌, Bool, true, false, List, [], ◌∷◌, length, All, MatchBool, refl, arith}
 use Rattle.std.specs.List.{HoldsAt, AllWithin}
 use Rattle.std.proofs.lemmas.Bool.{false≢true}
 use Rattle.std.proofs.lemmas.Iterator.{cases_from_all, YieldsList-from_slice}

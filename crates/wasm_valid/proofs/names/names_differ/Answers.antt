@@ -1,9 +1,8 @@
 -- The set is made of the names of the exports.
-use Rattle.std.proofs.Common.{rules, ◌↔◌, IsTrue, map, ◌≡◌, ℕ, length, List, Bor, ◌∙◌, sym}
+use Rattle.std.proofs.Common.{rules, map, ℕ, List, Bor, ◌∙◌}
 use Rattle.std.proofs.lemmas.List.{length-map}
 use Rattle.std.proofs.lemmas.Iterator.{YieldsList-from_slice, YieldsList-from_map_by, items_from_drains}
 use Rattle.std.proofs.lemmas.Map.Views.{btree_set_len-from_list}
-use Rattle.wasm_valid.specs.Validity.{AreApart}
 use Rattle.wasm_valid.proofs.Apart.{counts_apart, text_total}
 use Rattle.wasm_valid.proofs.names.names_differ.Goals as goal
 

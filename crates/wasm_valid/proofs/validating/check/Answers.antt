@@ -1,7 +1,6 @@
-use Rattle.std.proofs.Common.{rules}
 use Rattle.wasm_valid.specs.Validity.{IsValid}
 use Rattle.wasm_valid.specs.FirstPart.{RunsSoFar}
-use Rattle.wasm_valid.specs.Rules.{IsOfPart, TypesFit, ListsFit}
+use Rattle.wasm_valid.specs.Rules.{TypesFit, ListsFit}
 use Rattle.wasm_valid.proofs.Refusals.{refused}
 use Rattle.wasm_valid.proofs.Assembled.{types_of, lists_of, part_of, settled}
 use Rattle.wasm_valid.proofs.validating.check.Goals as goal

@@ -1,10 +1,9 @@
-use Rattle.std.proofs.Common.{rules, arith, ◌≡◌, ◌<◌, ℕ, Bool, true, false, IsTrue, length, get_or, nat_eq, eqb, sym, ap, ◌∙◌, subst, Ok, Err}
+use Rattle.std.proofs.Common.{arith, ◌<◌, Bool, IsTrue, length, get_or, nat_eq, subst}
 use Rattle.std.proofs.lemmas.Bool.Decides.{Decides-eqb}
 use Rattle.std.proofs.lemmas.List.{get_or_default}
-use Rattle.wasm_module.specs.declared.fault.LoadFault.TheVariants.{Invalid}
 use Rattle.wasm_valid.specs.Refusal.{Settles}
 use Rattle.wasm_valid.proofs.Refusals.{refused}
-use Rattle.wasm_valid.proofs.EachBody.{in_module, same_length, EachRuns, BodyAnswer, Remaining-more, Remaining-stops, Remaining-none}
+use Rattle.wasm_valid.proofs.EachBody.{in_module, same_length, EachRuns, BodyAnswer, Remaining-stops, Remaining-none}
 use Rattle.wasm_valid.proofs.validating.check_bodies.Goals as goal
 
 pub returns-in_err-rule : goal.returns-in_err-rule

@@ -1,4 +1,3 @@
-use Rattle.std.proofs.Common.{rules}
 use Rattle.wasm_valid.proofs.Spaces.{i32_const, i64_const}
 use Rattle.wasm_valid.proofs.bodies.FunctionSpace.step.Goals as goal
 

@@ -1,4 +1,4 @@
-use Rattle.std.proofs.Common.{◌≡◌, sym, ◌∙◌, ap, subst, Some, None, List, ℕ}
+use Rattle.std.proofs.Common.{sym, ◌∙◌, ap, Some, None}
 use Rattle.std.specs.List.{slice_get}
 use Rattle.std.specs.Option.{option_and_then}
 use Rattle.wasm_valid.proofs.Spaces.{copied_at, function_at}

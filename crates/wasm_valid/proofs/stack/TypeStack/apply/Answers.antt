@@ -1,4 +1,3 @@
-use Rattle.std.proofs.Common.{rules}
 use Rattle.wasm_valid.proofs.Stacks.{applied}
 use Rattle.wasm_valid.proofs.stack.TypeStack.apply.Goals as goal
 

@@ -1,4 +1,4 @@
-use Rattle.std.proofs.Common.{rules, ◌≡◌, sym, ◌∙◌, ap, reverse, ◌++◌, Some, None}
+use Rattle.std.proofs.Common.{sym, ◌∙◌, ap, reverse, ◌++◌, Some, None}
 use Rattle.std.proofs.lemmas.Slice.Eq.{strip_suffix_is}
 use Rattle.wasm_valid.proofs.Stacks.{types_decides, taken, not_there}
 use Rattle.wasm_valid.proofs.stack.TypeStack.take.Goals as goal

@@ -1,0 +1,14 @@
+use Rattle.std.proofs.Common.{◌∙◌, List, ap, Err, ⊎_elim, inl, inr}
+use Rattle.vol_log.specs.Batch.{over}
+use Rattle.vol_log.specs.declared.staged.Staged.{Staged}
+use Rattle.vol_log.proofs.log.Log.open.Goals as goal
+
+pub returns-in-Ok-replay-clause-content : goal.returns-in-Ok-replay-clause-content
+returns-in-Ok-replay-clause-content g c m h has k is =
+    ap (λ (b : List Staged). over b (g.D.Device.disk c.replay.new.device).seen k) c.in-Ok-replay.ensures.emptied ∙ c.in-Ok-replay.ensures.content m h has k is
+
+pub returns-in-Err-replay-clause-damaged : goal.returns-in-Err-replay-clause-damaged
+returns-in-Err-replay-clause-damaged g c h is = (c.in-Err-replay.ensures.damaged h (ap Err is), c.in-Err-replay.ensures.quiet h (ap Err is))
+
+pub returns-in-Err-replay-clause-faults_named : goal.returns-in-Err-replay-clause-faults_named
+returns-in-Err-replay-clause-faults_named g c = ⊎_elim (λ is. inl is) (λ is. inr (inl is)) c.in-Err-replay.ensures.named

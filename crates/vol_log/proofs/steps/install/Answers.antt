@@ -1,0 +1,55 @@
+use Rattle.std.proofs.Common.{◌≡◌, ◌<◌, ◌≤◌, ◌∙◌, sym, length, get_or, arith, rules}
+use Rattle.std.proofs.lemmas.List.{get_or-map, length-map}
+use Rattle.vol_log.specs.Batch.{Under, numbers}
+use Rattle.vol_log.specs.declared.staged.Staged.{Staged}
+use Rattle.vol_log.proofs.Moments.{leaves_step}
+use Rattle.vol_log.proofs.Images.{blank, Placed, wrote_under, under_joins, placed_more, over_placed}
+use Rattle.vol_log.proofs.steps.install.Goals as goal
+
+pub write-requires : goal.write-requires
+write-requires g c =
+    let batch = c.args.batch.now in
+    let i = c.loop-staged.staged-index in
+    let lt : i < length batch = omega arith in
+    let long : length (numbers batch) ≡ length batch = length-map batch (λ (t : Staged). t.sector) in
+    let named : get_or (numbers batch) i 0 ≡ (get_or batch i blank).sector = get_or-map (λ (t : Staged). t.sector) batch i blank 0 lt in
+    omega (arith, c.requires.there i (omega (arith, long)), named, c.loop-staged.invariant.size)
+
+pub returns-in_err-write-clause-under : goal.returns-in_err-write-clause-under
+returns-in_err-write-clause-under g c h =
+    let batch = c.args.batch.now in
+    let i = c.loop-staged.staged-index in
+    let lt : i < length batch = omega arith in
+    under_joins batch _ _ _ (c.loop-staged.invariant.under h) (wrote_under batch i lt _ _ (c.write.ensures.tried (c.loop-staged.invariant.honest.0 h)))
+
+pub returns-in_err-write-clause-crash : goal.returns-in_err-write-clause-crash
+returns-in_err-write-clause-crash g c h =
+    let batch = c.args.batch.now in
+    let i = c.loop-staged.staged-index in
+    let lt : i < length batch = omega arith in
+    leaves_step _ _ _ (Under batch) _ (wrote_under batch i lt) (under_joins batch) (c.loop-staged.invariant.crash h) (c.write.ensures.crash (c.loop-staged.invariant.honest.0 h))
+
+pub loop-staged-preserved : goal.loop-staged-preserved
+loop-staged-preserved g c =
+    let batch = c.args.batch.now in
+    let i = c.loop-staged.staged-index in
+    let lt : i < length batch = omega arith in
+    let so_far = c.loop-staged.invariant in
+    let e = c.write.ensures in
+    let w = c.in_ok-write.ensures.written in
+    record {
+      placed = λ h. placed_more batch i _ _ (g.D.Device.size c.args.device.now) lt c.requires (w (so_far.honest.0 h)) (so_far.placed h);
+      under = λ h. under_joins batch _ _ _ (so_far.under h) (wrote_under batch i lt _ _ (e.tried (so_far.honest.0 h)));
+      crash = λ h. leaves_step _ _ _ (Under batch) _ (wrote_under batch i lt) (under_joins batch) (so_far.crash h) (e.crash (so_far.honest.0 h));
+      honest = search rules;
+      size = search rules;
+      faults = search rules;
+    }
+
+pub returns-clause-installed : goal.returns-clause-installed
+returns-clause-installed g c h =
+    let batch = c.args.batch.now in
+    let all : length batch ≤ c.loop-staged.staged-index = omega arith in
+    let so_far = c.loop-staged.invariant in
+    let placed : Placed batch (length batch) (g.D.Device.disk c.loop-staged.device).seen = λ j lt. so_far.placed h j (omega arith) in
+    sym (over_placed batch _ placed) ∙ so_far.under h

@@ -1,0 +1,13 @@
+//! Where the log stands on the disk. Sectors 2 to 121 hold its images.
+
+/// The sector of the log's header.
+pub const HEADER: u32 = 1;
+
+/// The sector of the log's first image.
+pub const FIRST_IMAGE: u32 = 2;
+
+/// How many images the log has room for.
+pub const IMAGES: usize = 120;
+
+/// The first sector behind the log.
+pub const FIRST_BEHIND: u32 = 122;

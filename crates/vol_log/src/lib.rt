@@ -1,0 +1,15 @@
+//! A redo log of 120 sectors: a crash leaves all that was staged or nothing of it.
+#![tactic(auto)]
+
+mod batch;
+mod header;
+mod layout;
+mod log;
+mod replay;
+mod staged;
+mod steps;
+#[cfg(test)]
+mod tests;
+
+pub use log::Log;
+pub use staged::Staged;

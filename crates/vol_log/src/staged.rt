@@ -1,0 +1,8 @@
+//! A sector that waits for its commit.
+
+/// A sector that is to be written, and its bytes.
+#[derive(Clone, Copy)]
+pub struct Staged {
+    pub sector: u32,
+    pub image: [u8; 512],
+}

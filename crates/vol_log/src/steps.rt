@@ -1,0 +1,153 @@
+//! The parts of a commit, each a few operations on the device.
+
+ghost use Rattle.std.specs.Prelude.{◌≡◌, ◌⊎◌, ◌≤◌, ◌<◌, ◌↔◌, List, [], ℕ};
+ghost use Rattle.std.specs.Prelude.{length, OnOk, OnErr, is_err};
+ghost use Rattle.vol_sector.specs.Disk.{After, Leaves, Only, counted};
+ghost use Rattle.vol_log.specs.Header.{Places, IsHeader, header_bytes};
+ghost use Rattle.vol_log.specs.Batch.{numbers, over, logged, SameContent, HasContent, HasEither};
+ghost use Rattle.vol_log.specs.Batch.{Settled, Logged, OutsideImages, OutsideLog, Under};
+
+use crate::Staged;
+use crate::layout::{FIRST_IMAGE, HEADER};
+use byteorder::{ByteOrder, LittleEndian};
+use vol_sector::{Device, DeviceFault};
+
+/// Writes the images into the log.
+pub fn write_images<D: Device>(device: &mut D, batch: &[Staged]) -> Result<(), DeviceFault>
+    requires few { length batch.now ≤ 120 }
+    requires room { 122 < D.size device.old }
+    ensures logged { D.honest device.old
+        → OnOk result (logged (numbers batch.now) 2 (D.disk device.new).seen ≡ batch.now) }
+    ensures beside { D.honest device.old
+        → OutsideImages (D.disk device.old).seen (D.disk device.new).seen }
+    ensures crash { D.honest device.old → Leaves (D.disk device.old) (D.disk device.new)
+        (After OutsideImages (D.disk device.old).may_leave) }
+    ensures honest { D.honest device.old ↔ D.honest device.new }
+    ensures size { D.size device.new ≡ D.size device.old }
+    ensures faults { D.faults device.new ≡ counted (is_err result) (D.faults device.old) }
+{
+    for (i, staged) in batch.iter().enumerate() {
+        device.write(FIRST_IMAGE + i as u32, &staged.image)?;
+    }
+    Ok(())
+}
+
+/// Writes the images in their places.
+pub fn install<D: Device>(device: &mut D, batch: &[Staged]) -> Result<(), DeviceFault>
+    requires { Places (D.size device.old) (numbers batch.now) }
+    ensures installed { D.honest device.old
+        → OnOk result ((D.disk device.new).seen ≡ over batch.now (D.disk device.old).seen) }
+    ensures under { D.honest device.old
+        → Under batch.now (D.disk device.old).seen (D.disk device.new).seen }
+    ensures crash { D.honest device.old → Leaves (D.disk device.old) (D.disk device.new)
+        (After (Under batch.now) (D.disk device.old).may_leave) }
+    ensures honest { D.honest device.old ↔ D.honest device.new }
+    ensures size { D.size device.new ≡ D.size device.old }
+    ensures faults { D.faults device.new ≡ counted (is_err result) (D.faults device.old) }
+{
+    for staged in batch {
+        device.write(staged.sector, &staged.image)?;
+    }
+    Ok(())
+}
+
+/// The header of a log that holds the batch.
+pub fn header_image(batch: &[Staged]) -> [u8; 512]
+    requires { length batch.now ≤ 120 }
+    ensures { result ≡ header_bytes (numbers batch.now) }
+{
+    let mut header = [0; 512];
+    LittleEndian::write_u32(&mut header, batch.len() as u32);
+    for (i, staged) in batch.iter().enumerate() {
+        LittleEndian::write_u32(&mut header[4 + 4 * i..], staged.sector);
+    }
+    header
+}
+
+/// Puts the batch into the log: its images, then the header.
+pub fn log_batch<D: Device>(device: &mut D, batch: &[Staged]) -> Result<(), DeviceFault>
+    requires few { length batch.now ≤ 120 }
+    requires room { 122 < D.size device.old }
+    ensures logged { (s : ℕ) → D.honest device.old → Settled s (D.disk device.old)
+        → Places s (numbers batch.now)
+        → OnOk result (Logged s batch.now (D.disk device.new)) }
+    ensures crash { (s : ℕ) → D.honest device.old → Settled s (D.disk device.old)
+        → Places s (numbers batch.now)
+        → Leaves (D.disk device.old) (D.disk device.new)
+        (HasEither s (D.disk device.old).seen (over batch.now (D.disk device.old).seen)) }
+    ensures beside { D.honest device.old
+        → OutsideLog (D.disk device.old).seen (D.disk device.new).seen }
+    ensures honest { D.honest device.old ↔ D.honest device.new }
+    ensures size { D.size device.new ≡ D.size device.old }
+    ensures faults { D.faults device.new ≡ counted (is_err result) (D.faults device.old) }
+{
+    write_images(device, batch)?;
+    device.sync()?; // the images are on the disk before the header names them
+    device.write(HEADER, &header_image(batch))?;
+    device.sync()
+}
+
+/// Puts the batch that the log holds into its places, and empties the log.
+pub fn apply_batch<D: Device>(device: &mut D, batch: &[Staged]) -> Result<(), DeviceFault>
+    requires room { 122 < D.size device.old }
+    requires places { Places (D.size device.old) (numbers batch.now) }
+    ensures settled { (s : ℕ) → D.honest device.old → Logged s batch.now (D.disk device.old)
+        → OnOk result (Settled s (D.disk device.new)
+        × SameContent (D.disk device.new).seen (over batch.now (D.disk device.old).seen)) }
+    ensures crash { (s : ℕ) → D.honest device.old → Logged s batch.now (D.disk device.old)
+        → Leaves (D.disk device.old) (D.disk device.new)
+        (λ c. HasContent s c (over batch.now (D.disk device.old).seen)) }
+    ensures under { D.honest device.old
+        → SameContent (over batch.now (D.disk device.new).seen)
+        (over batch.now (D.disk device.old).seen) }
+    ensures honest { D.honest device.old ↔ D.honest device.new }
+    ensures size { D.size device.new ≡ D.size device.old }
+    ensures faults { D.faults device.new ≡ counted (is_err result) (D.faults device.old) }
+{
+    install(device, batch)?;
+    device.sync()?; // the sectors are on the disk before the log is emptied
+    device.write(HEADER, &header_image(&[]))?;
+    device.sync()
+}
+
+/// Puts the batch onto the disk, all of it or nothing, at every moment.
+pub fn commit_batch<D: Device>(device: &mut D, batch: &[Staged]) -> Result<(), DeviceFault>
+    requires room { 122 < D.size device.old }
+    requires places { Places (D.size device.old) (numbers batch.now) }
+    ensures settled { (s : ℕ) → D.honest device.old → Settled s (D.disk device.old)
+        → Places s (numbers batch.now)
+        → OnOk result (Settled s (D.disk device.new)
+        × SameContent (D.disk device.new).seen (over batch.now (D.disk device.old).seen)) }
+    ensures crash { (s : ℕ) → D.honest device.old → Settled s (D.disk device.old)
+        → Places s (numbers batch.now)
+        → Leaves (D.disk device.old) (D.disk device.new)
+        (HasEither s (D.disk device.old).seen (over batch.now (D.disk device.old).seen)) }
+    ensures keeps { D.honest device.old
+        → SameContent (over batch.now (D.disk device.new).seen)
+        (over batch.now (D.disk device.old).seen) }
+    ensures honest { D.honest device.old ↔ D.honest device.new }
+    ensures size { D.size device.new ≡ D.size device.old }
+    ensures faults { D.faults device.new ≡ counted (is_err result) (D.faults device.old) }
+{
+    log_batch(device, batch)?;
+    apply_batch(device, batch)
+}
+
+/// Reads the images of the log.
+pub fn read_images<D: Device>(device: &mut D, batch: &mut [Staged]) -> Result<(), DeviceFault>
+    requires few { length batch.old ≤ 120 }
+    requires room { 122 < D.size device.old }
+    ensures read { D.honest device.old
+        → OnOk result (batch.new ≡ logged (numbers batch.old) 2 (D.disk device.old).seen) }
+    ensures seen { D.honest device.old → (D.disk device.new).seen ≡ (D.disk device.old).seen }
+    ensures crash { D.honest device.old → Leaves (D.disk device.old) (D.disk device.new) (λ c. ⊥) }
+    ensures honest { D.honest device.old ↔ D.honest device.new }
+    ensures size { D.size device.new ≡ D.size device.old }
+    ensures faults { D.faults device.new ≡ counted (is_err result) (D.faults device.old) }
+    ensures sectors { numbers batch.new ≡ numbers batch.old }
+{
+    for (i, staged) in batch.iter_mut().enumerate() {
+        staged.image = device.read(FIRST_IMAGE + i as u32)?;
+    }
+    Ok(())
+}

@@ -1,0 +1,33 @@
+use Rattle.std.proofs.Common.{◌∙◌, List, sym, subst, ap}
+use Rattle.vol_sector.specs.Disk.{Leaves, Keeps, Only}
+use Rattle.vol_sector.specs.Record.{newest, recorded, LeftBy}
+use Rattle.vol_sector.specs.RecordLaws.{image_of}
+use Rattle.vol_sector.specs.declared.record.Operation.{Operation}
+use Rattle.vol_sector.specs.declared.record.Operation.TheVariants.{Sync}
+use Rattle.vol_sector.proofs.Records.{keeps_push, leaves_sync, only_sync, newest_sync}
+use Rattle.vol_sector.proofs.memory.MemoryDeviceDevice.sync.Goals as goal
+
+pub invariant_of-self-in-Ok-clause-agrees : goal.invariant_of-self-in-Ok-clause-agrees
+invariant_of-self-in-Ok-clause-agrees c n =
+    let m = c.args.self.now in
+    m.agrees n ∙ sym (newest_sync n (image_of m.first.items n) m.operations.items)
+    ∙ ap (λ (ops : List Operation). newest n (image_of m.first.items n) ops) (sym c.in-Ok.ensures.items)
+
+pub returns-in-Ok-clause-durable : goal.returns-in-Ok-clause-durable
+returns-in-Ok-clause-durable c h =
+    let m = c.args.self.now in
+    let first = image_of m.first.items in
+    subst (λ (ops : List Operation). Only (recorded first m.operations.items).seen (LeftBy first ops)) (sym c.in-Ok.ensures.items) (only_sync first m.operations.items)
+
+pub returns-in-Ok-clause-crash : goal.returns-in-Ok-clause-crash
+returns-in-Ok-clause-crash c h =
+    let m = c.args.self.now in
+    let first = image_of m.first.items in
+    subst (λ (ops : List Operation). Leaves (recorded first m.operations.items) (recorded first ops) (λ x. ⊥)) (sym c.in-Ok.ensures.items)
+    (leaves_sync first m.operations.items)
+
+pub returns-in-Ok-clause-keeps : goal.returns-in-Ok-clause-keeps
+returns-in-Ok-clause-keeps c h =
+    let m = c.args.self.now in
+    let first = image_of m.first.items in
+    subst (λ (ops : List Operation). Keeps (recorded first m.operations.items) (recorded first ops)) (sym c.in-Ok.ensures.items) (keeps_push first m.operations.items (Sync))

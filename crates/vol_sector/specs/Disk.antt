@@ -1,0 +1,64 @@
+-- What a disk of sectors may give and leave.
+use Rattle.std.specs.Prelude.{◌≡◌, ◌⊎◌, ◌+◌, ◌-◌, ◌^◌, ◌≤◌, ◌==◌, ℕ, List, Bool, min, if◌then◌else◌}
+
+-- the bytes of each sector
+abbrev pub Image : Type 0
+Image = ℕ → List ℕ
+
+-- the image with this sector rewritten
+abbrev pub put : ℕ → List ℕ → Image → Image
+put n bytes image k = if k == n then bytes else image k
+
+-- What is known of a disk at one moment. A moment is a count of the operations tried. It need not count the reads and
+-- the failed operations, which change nothing that a crash leaves: no device has a count of them without an end.
+pub record Disk : Type 1 where
+  -- what reads give
+  pub seen : Image
+  -- what a crash now may leave
+  pub may_leave : Image → Type 0
+  -- the moment, as a number that doesn't fall
+  pub moment : ℕ
+  -- what a crash at some moment from that one on may have left
+  pub left_since : ℕ → Image → Type 0
+
+-- what may stand after a step from what may stand before it
+abbrev pub After : (Image → Image → Type 0) → (Image → Type 0) → Image → Type 0
+After step before c = (d : Image) × before d × step d c
+
+-- nothing is written
+abbrev pub Stays : Image → Image → Type 0
+Stays before after = after ≡ before
+
+-- a crash around a write: the sector is as it was or rewritten
+abbrev pub Wrote : ℕ → List ℕ → Image → Image → Type 0
+Wrote n bytes before after = (after ≡ before) ⊎ (after ≡ put n bytes before)
+
+-- a crash leaves this and nothing else
+abbrev pub Only : Image → (Image → Type 0) → Type 0
+Only image may_leave = (c : Image) → may_leave c → c ≡ image
+
+-- Each image that a crash since the old moment may leave could be left before, or has P.
+pub record Leaves (old new : Disk) (P : Image → Type 0) : Type 0 where
+  pub later : old.moment ≤ new.moment
+  pub since : (t : ℕ) (c : Image) → t ≤ old.moment → new.left_since t c → old.left_since t c ⊎ P c
+  pub now : (c : Image) → new.may_leave c → old.may_leave c ⊎ P c
+
+-- what might have been left might still have been
+abbrev pub Keeps : Disk → Disk → Type 0
+Keeps old new = (t : ℕ) (c : Image) → t ≤ old.moment → old.left_since t c → new.left_since t c
+
+-- one operation counts as one moment at most
+abbrev pub AtMostOneMore : Disk → Disk → Type 0
+AtMostOneMore old new = new.moment ≤ old.moment + 1
+
+-- one operation counted as one moment
+abbrev pub OneMore : Disk → Disk → Type 0
+OneMore old new = new.moment ≡ old.moment + 1
+
+-- the count of failed operations after one more, where it has room for it
+abbrev pub counted : Bool → ℕ → ℕ
+counted failed before = if failed then min (before + 1) (2 ^ 64 - 1) else before
+
+-- the failed operations of two counts, where one count has room for them
+abbrev pub both_counts : ℕ → ℕ → ℕ
+both_counts one other = min (one + other) (2 ^ 64 - 1)

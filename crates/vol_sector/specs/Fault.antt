@@ -1,0 +1,19 @@
+-- Which refusals are the device's.
+use Rattle.std.specs.Prelude.{Bool, true, false, Result, Ok, Err}
+use Rattle.vol_sector.specs.declared.fault.VolumeFault.{VolumeFault}
+use Rattle.vol_sector.specs.declared.fault.VolumeFault.TheVariants.{NotAVolume, Version, Damaged, Device, TooSmall, Upgraded, Geometry, Memory}
+
+abbrev pub is_device : VolumeFault → Bool
+is_device NotAVolume = false
+is_device Version = false
+is_device Damaged = false
+is_device Device = true
+is_device TooSmall = false
+is_device Upgraded = false
+is_device Geometry = false
+is_device Memory = false
+
+-- the device failed in this call
+abbrev pub device_failed : {T : Type 0} → Result T VolumeFault → Bool
+device_failed (Ok x) = false
+device_failed (Err fault) = is_device fault

@@ -1,0 +1,93 @@
+//! A device as the layers above see it: what a read returns, and what a crash may leave.
+
+ghost use Rattle.std.specs.Prelude.{◌≡◌, ◌⊎◌, ◌≤◌, ◌<◌, ◌↔◌, List, ℕ, IfOk, OnOk, OnErr, is_err};
+ghost use Rattle.vol_sector.specs.Disk.{Image, Disk, put, After, Stays, Wrote, Only, Leaves, Keeps};
+ghost use Rattle.vol_sector.specs.Disk.{counted, AtMostOneMore, OneMore};
+
+use thiserror::Error;
+
+/// An operation of a device failed.
+#[derive(Clone, Copy, Debug, PartialEq, Eq, Error)]
+#[error("the device failed")]
+pub struct DeviceFault;
+
+/// A device of sectors of 512 bytes, numbered from 0.
+///
+/// A crash leaves each sector, apart from the others, at its value of the last successful sync or
+/// at any value whose write was tried since, failed writes among them. A failed sync settles
+/// nothing. What is said of contents holds of an honest device alone. Each failed operation raises
+/// the count of failures by one and nothing else does; at its last value the count stays.
+pub trait Device {
+    /// What is known of the disk.
+    ghost disk: { Self → Disk };
+
+    /// The device keeps the model. What is said of contents holds only then.
+    ghost honest: { Self → Type 0 };
+
+    /// How many sectors there are.
+    ghost size: { Self → ℕ };
+
+    /// How many operations have failed, as far as the count goes.
+    ghost faults: { Self → ℕ };
+
+    /// The number of sectors, which never changes.
+    fn sectors(&self) -> u32
+        ensures { result ≡ size self.now };
+
+    /// How many operations have failed; at its last value the count stays.
+    fn failures(&self) -> u64
+        ensures { result ≡ faults self.now };
+
+    /// The sector's bytes: those of its last write.
+    fn read(&mut self, n: u32) -> Result<[u8; 512], DeviceFault>
+        requires { n < size self.old }
+        ensures bytes { honest self.old → IfOk result (λ bytes. bytes ≡ (disk self.old).seen n) }
+        ensures seen { honest self.old → (disk self.new).seen ≡ (disk self.old).seen }
+        ensures crash { honest self.old → Leaves (disk self.old) (disk self.new) (λ c. ⊥) }
+        ensures keeps { honest self.old → Keeps (disk self.old) (disk self.new) }
+        ensures moment { honest self.old → AtMostOneMore (disk self.old) (disk self.new) }
+        ensures honest { honest self.old ↔ honest self.new }
+        ensures size { size self.new ≡ size self.old }
+        ensures faults { faults self.new ≡ counted (is_err result) (faults self.old) };
+
+    /// Writes the sector. After a failure reads give the former bytes or these, always the same
+    /// until the next write there.
+    fn write(&mut self, n: u32, image: &[u8; 512]) -> Result<(), DeviceFault>
+        requires { n < size self.old }
+        ensures written { honest self.old
+            → OnOk result ((disk self.new).seen ≡ put n image.now (disk self.old).seen) }
+        ensures tried { honest self.old
+            → Wrote n image.now (disk self.old).seen (disk self.new).seen }
+        ensures crash { honest self.old → Leaves (disk self.old) (disk self.new)
+            (After (Wrote n image.now) (disk self.old).may_leave) }
+        ensures keeps { honest self.old → Keeps (disk self.old) (disk self.new) }
+        ensures moment { honest self.old → AtMostOneMore (disk self.old) (disk self.new) }
+        ensures rises { honest self.old → OnOk result (OneMore (disk self.old) (disk self.new)) }
+        ensures honest { honest self.old ↔ honest self.new }
+        ensures size { size self.new ≡ size self.old }
+        ensures faults { faults self.new ≡ counted (is_err result) (faults self.old) };
+
+    /// After its success a crash leaves what reads give.
+    fn sync(&mut self) -> Result<(), DeviceFault>
+        ensures durable { honest self.old
+            → OnOk result (Only (disk self.old).seen (disk self.new).may_leave) }
+        ensures seen { honest self.old → (disk self.new).seen ≡ (disk self.old).seen }
+        ensures crash { honest self.old → Leaves (disk self.old) (disk self.new) (λ c. ⊥) }
+        ensures keeps { honest self.old → Keeps (disk self.old) (disk self.new) }
+        ensures moment { honest self.old → AtMostOneMore (disk self.old) (disk self.new) }
+        ensures rises { honest self.old → OnOk result (OneMore (disk self.old) (disk self.new)) }
+        ensures honest { honest self.old ↔ honest self.new }
+        ensures size { size self.new ≡ size self.old }
+        ensures faults { faults self.new ≡ counted (is_err result) (faults self.old) };
+
+    /// This moment is one of those since an earlier one.
+    ghost counts_now: { (d : Self) (t : ℕ) (c : Image) → honest d → t ≤ (disk d).moment
+        → (disk d).may_leave c → (disk d).left_since t c };
+
+    /// Since this moment there is no other.
+    ghost only_now: { (d : Self) (c : Image) → honest d
+        → (disk d).left_since (disk d).moment c → (disk d).may_leave c };
+
+    /// A crash may leave what reads give.
+    ghost may_stay: { (d : Self) → honest d → (disk d).may_leave (disk d).seen };
+}

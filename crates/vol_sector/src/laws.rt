@@ -1,0 +1,24 @@
+//! What picks mean: the images of all picks are exactly those that a crash may leave.
+
+ghost use Rattle.std.specs.Prelude.{◌≡◌, ◌≤◌, ◌<◌, ℕ, List, length, slice_index_or};
+ghost use Rattle.vol_sector.specs.Disk.{Image};
+ghost use Rattle.vol_sector.specs.Record.{LeftBy};
+ghost use Rattle.vol_sector.specs.Crash.{crashed_image};
+ghost use Rattle.vol_sector.specs.Memory.{first_of, record_of, sectors_of};
+
+use crate::MemoryDevice;
+
+/// A law: whatever the picks are, a crash now may leave the image that they give.
+pub fn crash_leaves_what_is_picked(device: &MemoryDevice)
+    ensures { (picks : List ℕ) → LeftBy (first_of device.now) (record_of device.now)
+        (crashed_image (first_of device.now) (record_of device.now) picks) }
+{}
+
+/// A law: some picks, none greater than the number of writes, give each image that a crash may
+/// leave now.
+pub fn picks_give_what_a_crash_leaves(device: &MemoryDevice)
+    ensures { (c : Image) → LeftBy (first_of device.now) (record_of device.now) c
+        → (picks : List ℕ) × ((k : ℕ) → slice_index_or picks k 0 ≤ length (record_of device.now))
+        × ((n : ℕ) → n < sectors_of device.now
+        → crashed_image (first_of device.now) (record_of device.now) picks n ≡ c n) }
+{}

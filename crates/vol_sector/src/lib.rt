@@ -1,0 +1,20 @@
+//! Devices of 512-byte sectors, what a crash may leave of them, and why a volume is refused.
+#![tactic(auto)]
+
+mod device;
+mod fault;
+mod flaky;
+mod fuse;
+mod laws;
+mod memory;
+mod record;
+#[cfg(test)]
+mod tests;
+
+pub use device::{Device, DeviceFault};
+pub use fault::{Refused, VolumeFault};
+pub use flaky::FlakyDevice;
+pub use fuse::FuseDevice;
+pub use laws::{crash_leaves_what_is_picked, picks_give_what_a_crash_leaves};
+pub use memory::MemoryDevice;
+pub use record::Operation;

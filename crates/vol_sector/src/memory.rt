@@ -1,0 +1,296 @@
+//! A device in memory that keeps a record of what is done to it.
+
+ghost use Rattle.std.specs.Prelude.{◌≡◌, ◌≤◌, ◌<◌, ◌^◌, ◌∷◌, [], ℕ};
+ghost use Rattle.std.specs.Prelude.{replicate, vec_len, vec_capacity, IfOk};
+ghost use Rattle.std.specs.Prelude.{List, length, count_by, false, min, slice_index_or, ◌+◌};
+ghost use Rattle.vol_sector.specs.Record.{newest, recorded, choices, LeftBy};
+ghost use Rattle.vol_sector.specs.RecordLaws.{image_of, stays_left, left_now, only_left};
+ghost use Rattle.vol_sector.specs.Record.{is_write};
+ghost use Rattle.vol_sector.specs.Crash.{written_since, written_below, picked, crashed_image};
+
+use crate::{Device, DeviceFault, Operation};
+use std::alloc::{AllocError, Global};
+
+/// Sectors in memory, with a record of the writes and syncs that were done. A write or sync fails
+/// exactly where the record is full, and then changes nothing; a read never fails.
+#[derive(Drop)]
+pub struct MemoryDevice {
+    first: Vec<[u8; 512]>,
+    current: Vec<[u8; 512]>,
+    operations: Vec<Operation>,
+    limit: usize,
+    failures: u64,
+    ghost same_size: { vec_len first ≡ vec_len current },
+    ghost small: { vec_len current < 2 ^ 32 },
+    ghost within: { vec_len operations ≤ limit },
+    ghost reserved: { limit ≤ vec_capacity operations },
+    ghost agrees: { (n : ℕ) → image_of current.items n
+        ≡ newest n (image_of first.items n) operations.items },
+}
+
+impl MemoryDevice {
+    ghost use Rattle.vol_sector.specs.Memory.{first_of, record_of, room_of, sectors_of, IsUnused};
+
+    /// A device of so many sectors of zeros, whose record has room for so many writes and syncs.
+    /// It fails only where memory is refused.
+    pub fn new(alloc: Global, sectors: u32, room: usize) -> Result<MemoryDevice, AllocError>
+        ensures { IfOk result (λ m. IsUnused m sectors room (λ n. replicate 512 0)) }
+    {
+        let current = vec![in alloc; [0; 512]; sectors as usize]?;
+        MemoryDevice::from_sectors(alloc, current, room)
+    }
+
+    fn from_sectors(
+        alloc: Global,
+        current: Vec<[u8; 512]>,
+        room: usize,
+    ) -> Result<MemoryDevice, AllocError>
+        requires { vec_len current < 2 ^ 32 }
+        ensures { IfOk result (λ m. IsUnused m (vec_len current) room (image_of current.items)) }
+    {
+        let first = Vec::from_slice(alloc, current.as_slice())?;
+        let operations = Vec::with_capacity(alloc, room)?;
+        Ok(MemoryDevice {
+            first,
+            current,
+            operations,
+            limit: room,
+            failures: 0,
+        })
+    }
+
+    /// How many writes and syncs were done.
+    pub fn recorded(&self) -> usize
+        ensures { result ≡ length (record_of self.now) }
+    {
+        self.operations.len()
+    }
+
+    /// How many writes were done.
+    pub fn writes(&self) -> usize
+        ensures { result ≡ count_by is_write (record_of self.now) }
+    {
+        self.operations
+            .iter()
+            .filter(|operation| is_write(operation))
+            .count()
+    }
+
+    /// How many sectors were written since the last sync.
+    pub fn pending(&self) -> usize
+        ensures { result ≡ written_below (record_of self.now) (sectors_of self.now) }
+    {
+        let mut count: usize = 0;
+        for n in 0..self.first.len() {
+            if was_written(&self.operations, n as u32) {
+                count += 1;
+            }
+        }
+        count
+    }
+
+    /// An unused device with an image that a crash now may leave, and as much room. For the sectors
+    /// that were written since the last sync, in rising order, a pick says what the sector holds: 0
+    /// the synced value, j the j-th written, and a number past the last the last. A missing pick
+    /// counts as 0. It fails only where memory is refused.
+    pub fn crashed(&self, alloc: Global, picks: &[u32]) -> Result<MemoryDevice, AllocError>
+        ensures { IfOk result (λ m. IsUnused m (sectors_of self.now) (room_of self.now)
+            (crashed_image (first_of self.now) (record_of self.now) picks.now)) }
+    {
+        let mut image = Vec::new(alloc);
+        let mut used: usize = 0;
+        for n in 0..self.first.len() {
+            let written = was_written(&self.operations, n as u32);
+            let pick = if written {
+                take_pick(picks, &mut used)
+            } else {
+                0
+            };
+            image.push(choice(&self.first[n], &self.operations, n as u32, pick))?;
+        }
+        MemoryDevice::from_sectors(alloc, image, self.limit)
+    }
+}
+
+fn is_write(operation: &Operation) -> bool
+    ensures { result ≡ is_write operation.now }
+{
+    matches!(operation, Operation::Write(_, _))
+}
+
+/// Was the sector written since the last sync?
+fn was_written(operations: &[Operation], n: u32) -> bool
+    ensures { result ≡ written_since n false operations.now }
+{
+    let mut written = false;
+    for operation in operations {
+        match operation {
+            Operation::Sync => written = false,
+            Operation::Write(sector, _) => {
+                if *sector == n {
+                    written = true;
+                }
+            }
+        }
+    }
+    written
+}
+
+/// The next pick, or 0 where all are used.
+fn take_pick(picks: &[u32], used: &mut usize) -> u32
+    requires { used.old ≤ length picks.now }
+    ensures pick { result ≡ slice_index_or picks.now used.old 0 }
+    ensures used { used.new ≡ min (used.old + 1) (length picks.now) }
+{
+    if *used == picks.len() {
+        return 0;
+    }
+    let pick = picks[*used];
+    *used += 1;
+    pick
+}
+
+/// The value that a crash leaves in the sector by this pick.
+fn choice(first: &[u8; 512], operations: &[Operation], n: u32, pick: u32) -> [u8; 512]
+    ensures { result ≡ picked (choices n first.now (first.now ∷ []) operations.now) pick }
+{
+    let mut newest = *first;
+    let mut chosen = *first;
+    let mut count: u32 = 0;
+    for operation in operations {
+        match operation {
+            Operation::Sync => {
+                chosen = newest;
+                count = 0;
+            }
+            Operation::Write(sector, image) => {
+                if *sector == n {
+                    newest = *image;
+                    if count < pick {
+                        chosen = newest;
+                        count += 1;
+                    }
+                }
+            }
+        }
+    }
+    chosen
+}
+
+impl Device for MemoryDevice {
+    ghost use Rattle.std.specs.Prelude.{◌⊎◌, ◌↔◌, ◌++◌, OnOk, OnErr, IsOk, IsErr, is_err};
+    ghost use Rattle.vol_sector.specs.Disk.{put, After, Wrote, Only, Leaves, Keeps};
+    ghost use Rattle.vol_sector.specs.Disk.{counted, AtMostOneMore, OneMore};
+    ghost use Rattle.vol_sector.specs.Memory.{first_of, record_of, room_of, sectors_of};
+    ghost use Rattle.vol_sector.specs.Memory.{failures_of, disk_of};
+    ghost use Rattle.vol_sector.specs.declared.record.Operation.TheVariants.{Write, Sync};
+
+    ghost disk = { λ m. recorded (image_of m.first.items) m.operations.items };
+
+    ghost honest = { λ m. Unit {0} };
+
+    ghost size = { λ m. vec_len m.current };
+
+    ghost faults = { λ m. m.failures };
+
+    ghost counts_now = { λ m t c h le may.
+        left_now (image_of m.first.items) m.operations.items t c le may };
+
+    ghost only_now = { λ m c h left.
+        only_left (image_of m.first.items) m.operations.items c left };
+
+    ghost may_stay = { λ m h. stays_left (image_of m.first.items) m.operations.items };
+
+    fn sectors(&self) -> u32 {
+        self.current.len() as u32
+    }
+
+    fn failures(&self) -> u64 {
+        self.failures
+    }
+
+    fn read(&mut self, n: u32) -> Result<[u8; 512], DeviceFault>
+        requires { n < sectors_of self.old }
+        ensures bytes { Unit {0} → IfOk result (λ bytes. bytes ≡ (disk_of self.old).seen n) }
+        ensures seen { Unit {0} → (disk_of self.new).seen ≡ (disk_of self.old).seen }
+        ensures crash { Unit {0} → Leaves (disk_of self.old) (disk_of self.new) (λ c. ⊥) }
+        ensures keeps { Unit {0} → Keeps (disk_of self.old) (disk_of self.new) }
+        ensures moment { Unit {0} → AtMostOneMore (disk_of self.old) (disk_of self.new) }
+        ensures honest { Unit {0} ↔ Unit {0} }
+        ensures size { sectors_of self.new ≡ sectors_of self.old }
+        ensures faults { failures_of self.new ≡ counted (is_err result) (failures_of self.old) }
+        ensures never_fails { IsOk result }
+        ensures same { self.new ≡ self.old }
+    {
+        Ok(self.current[n as usize])
+    }
+
+    fn write(&mut self, n: u32, image: &[u8; 512]) -> Result<(), DeviceFault>
+        requires { n < sectors_of self.old }
+        ensures written { Unit {0}
+            → OnOk result ((disk_of self.new).seen ≡ put n image.now (disk_of self.old).seen) }
+        ensures tried { Unit {0}
+            → Wrote n image.now (disk_of self.old).seen (disk_of self.new).seen }
+        ensures crash { Unit {0} → Leaves (disk_of self.old) (disk_of self.new)
+            (After (Wrote n image.now) (disk_of self.old).may_leave) }
+        ensures keeps { Unit {0} → Keeps (disk_of self.old) (disk_of self.new) }
+        ensures moment { Unit {0} → AtMostOneMore (disk_of self.old) (disk_of self.new) }
+        ensures rises { Unit {0} → OnOk result (OneMore (disk_of self.old) (disk_of self.new)) }
+        ensures honest { Unit {0} ↔ Unit {0} }
+        ensures size { sectors_of self.new ≡ sectors_of self.old }
+        ensures faults { failures_of self.new ≡ counted (is_err result) (failures_of self.old) }
+        ensures full { room_of self.old ≤ length (record_of self.old)
+            → IsErr result × (record_of self.new ≡ record_of self.old) }
+        ensures fits { length (record_of self.old) < room_of self.old
+            → IsOk result × (record_of self.new ≡ record_of self.old ++ Write n image.now ∷ []) }
+        ensures first { first_of self.new ≡ first_of self.old }
+        ensures room { room_of self.new ≡ room_of self.old }
+    {
+        if self.operations.len() >= self.limit {
+            self.failures = self.failures.saturating_add(1);
+            return Err(DeviceFault);
+        }
+        let image = *image;
+        match self.operations.push(Operation::Write(n, image)) {
+            Ok(()) => {
+                self.current[n as usize] = image;
+                Ok(())
+            }
+            Err(_) => {
+                self.failures = self.failures.saturating_add(1);
+                Err(DeviceFault)
+            }
+        }
+    }
+
+    fn sync(&mut self) -> Result<(), DeviceFault>
+        ensures durable { Unit {0}
+            → OnOk result (Only (disk_of self.old).seen (disk_of self.new).may_leave) }
+        ensures seen { Unit {0} → (disk_of self.new).seen ≡ (disk_of self.old).seen }
+        ensures crash { Unit {0} → Leaves (disk_of self.old) (disk_of self.new) (λ c. ⊥) }
+        ensures keeps { Unit {0} → Keeps (disk_of self.old) (disk_of self.new) }
+        ensures moment { Unit {0} → AtMostOneMore (disk_of self.old) (disk_of self.new) }
+        ensures rises { Unit {0} → OnOk result (OneMore (disk_of self.old) (disk_of self.new)) }
+        ensures honest { Unit {0} ↔ Unit {0} }
+        ensures size { sectors_of self.new ≡ sectors_of self.old }
+        ensures faults { failures_of self.new ≡ counted (is_err result) (failures_of self.old) }
+        ensures full { room_of self.old ≤ length (record_of self.old)
+            → IsErr result × (record_of self.new ≡ record_of self.old) }
+        ensures fits { length (record_of self.old) < room_of self.old
+            → IsOk result × (record_of self.new ≡ record_of self.old ++ Sync ∷ []) }
+        ensures first { first_of self.new ≡ first_of self.old }
+        ensures room { room_of self.new ≡ room_of self.old }
+    {
+        if self.operations.len() >= self.limit {
+            self.failures = self.failures.saturating_add(1);
+            return Err(DeviceFault);
+        }
+        match self.operations.push(Operation::Sync) {
+            Ok(()) => Ok(()),
+            Err(_) => {
+                self.failures = self.failures.saturating_add(1);
+                Err(DeviceFault)
+            }
+        }
+    }
+}

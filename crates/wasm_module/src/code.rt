@@ -1,0 +1,292 @@
+//! What instructions are read from (section 5.4).
+
+ghost use Rattle.std.specs.Prelude.{◌≡◌};
+ghost use Rattle.wasm_module.specs.CodeReading.{bulk_after, bulk_at, comparison_of, control_after, binary_operator_of, load_after, numeric_of, store_after, unary_of, variable_after};
+ghost use Rattle.wasm_module.specs.Reading.{Gives};
+
+use crate::cursor::{Cursor, Decode};
+use crate::fault::LoadFault;
+use crate::instruction::{
+    BinaryOperator, BlockType, BranchTable, Comparison, Instruction, MemArg, UnaryOperator,
+    ValueType,
+};
+use std::alloc::Global;
+
+/// Why this byte is no opcode: those of floating point are known, and refused.
+fn unknown(byte: u8, offset: u32) -> LoadFault {
+    match byte {
+        0x2A | 0x2B | 0x38 | 0x39 | 0x43 | 0x44 => LoadFault::Float { offset },
+        0x5B..=0x66 | 0x8B..=0xA6 | 0xA8..=0xAB | 0xAE..=0xBF => LoadFault::Float { offset },
+        _ => LoadFault::BadByte { offset },
+    }
+}
+
+/// The comparisons in the order of their opcodes.
+#[tactic(auto, unfolding(crate::specs::CodeReading::comparison_of))]
+fn comparison(number: u8) -> Option<Comparison>
+    ensures { result ≡ comparison_of number }
+{
+    match number {
+        0 => Some(Comparison::Eq),
+        1 => Some(Comparison::Ne),
+        2 => Some(Comparison::LtS),
+        3 => Some(Comparison::LtU),
+        4 => Some(Comparison::GtS),
+        5 => Some(Comparison::GtU),
+        6 => Some(Comparison::LeS),
+        7 => Some(Comparison::LeU),
+        8 => Some(Comparison::GeS),
+        9 => Some(Comparison::GeU),
+        _ => None,
+    }
+}
+
+/// The operators on two integers in the order of their opcodes.
+#[tactic(auto, unfolding(crate::specs::CodeReading::binary_operator_of))]
+fn binary_operator(number: u8) -> Option<BinaryOperator>
+    ensures { result ≡ binary_operator_of number }
+{
+    match number {
+        0 => Some(BinaryOperator::Add),
+        1 => Some(BinaryOperator::Sub),
+        2 => Some(BinaryOperator::Mul),
+        3 => Some(BinaryOperator::DivS),
+        4 => Some(BinaryOperator::DivU),
+        5 => Some(BinaryOperator::RemS),
+        6 => Some(BinaryOperator::RemU),
+        7 => Some(BinaryOperator::And),
+        8 => Some(BinaryOperator::Or),
+        9 => Some(BinaryOperator::Xor),
+        10 => Some(BinaryOperator::Shl),
+        11 => Some(BinaryOperator::ShrS),
+        12 => Some(BinaryOperator::ShrU),
+        13 => Some(BinaryOperator::Rotl),
+        14 => Some(BinaryOperator::Rotr),
+        _ => None,
+    }
+}
+
+/// The operator on one integer of this opcode.
+#[tactic(auto, unfolding(crate::specs::CodeReading::unary_of))]
+fn unary_operator(byte: u8) -> Option<(ValueType, UnaryOperator)>
+    ensures { result ≡ unary_of byte }
+{
+    match byte {
+        0x67 => Some((ValueType::I32, UnaryOperator::Clz)),
+        0x68 => Some((ValueType::I32, UnaryOperator::Ctz)),
+        0x69 => Some((ValueType::I32, UnaryOperator::Popcnt)),
+        0x79 => Some((ValueType::I64, UnaryOperator::Clz)),
+        0x7A => Some((ValueType::I64, UnaryOperator::Ctz)),
+        0x7B => Some((ValueType::I64, UnaryOperator::Popcnt)),
+        0xC0 => Some((ValueType::I32, UnaryOperator::Extend8S)),
+        0xC1 => Some((ValueType::I32, UnaryOperator::Extend16S)),
+        0xC2 => Some((ValueType::I64, UnaryOperator::Extend8S)),
+        0xC3 => Some((ValueType::I64, UnaryOperator::Extend16S)),
+        0xC4 => Some((ValueType::I64, UnaryOperator::Extend32S)),
+        _ => None,
+    }
+}
+
+/// The instruction of this opcode on numbers, which has nothing behind it.
+#[tactic(auto, unfolding(crate::specs::CodeReading::numeric_of))]
+fn numeric(byte: u8) -> Option<Instruction>
+    ensures { result ≡ numeric_of byte }
+{
+    match byte {
+        0x45 => Some(Instruction::Eqz(ValueType::I32)),
+        0x50 => Some(Instruction::Eqz(ValueType::I64)),
+        0xA7 => Some(Instruction::I32WrapI64),
+        0xAC => Some(Instruction::I64ExtendI32S),
+        0xAD => Some(Instruction::I64ExtendI32U),
+        0x46..=0x4F => Some(Instruction::Compare(ValueType::I32, comparison(byte - 0x46)?)),
+        0x51..=0x5A => Some(Instruction::Compare(ValueType::I64, comparison(byte - 0x51)?)),
+        0x6A..=0x78 => Some(Instruction::Binary(ValueType::I32, binary_operator(byte - 0x6A)?)),
+        0x7C..=0x8A => Some(Instruction::Binary(ValueType::I64, binary_operator(byte - 0x7C)?)),
+        _ => {
+            let (value_type, operator) = unary_operator(byte)?;
+            Some(Instruction::Unary(value_type, operator))
+        }
+    }
+}
+
+/// What follows an opcode of the control instructions (section 5.4.1).
+#[tactic(auto, unfolding(crate::specs::CodeReading::control_after))]
+fn control(
+    alloc: Global,
+    cursor: &mut Cursor<'_>,
+    byte: u8,
+    offset: u32,
+) -> Result<Instruction, LoadFault>
+    ensures { Gives (λ x. (x, cursor.new)) result (control_after byte cursor.old) }
+{
+    match byte {
+        0x00 => Ok(Instruction::Unreachable),
+        0x01 => Ok(Instruction::Nop),
+        0x02 => Ok(Instruction::Block(BlockType::decode(alloc, cursor)?)),
+        0x03 => Ok(Instruction::Loop(BlockType::decode(alloc, cursor)?)),
+        0x04 => Ok(Instruction::If(BlockType::decode(alloc, cursor)?)),
+        0x05 => Ok(Instruction::Else),
+        0x0B => Ok(Instruction::End),
+        0x0C => Ok(Instruction::Br(cursor.u32()?)),
+        0x0D => Ok(Instruction::BrIf(cursor.u32()?)),
+        0x0E => {
+            let labels = cursor.vector(alloc)?;
+            let default = cursor.u32()?;
+            Ok(Instruction::BrTable(BranchTable::new(alloc, labels, default)?))
+        }
+        0x0F => Ok(Instruction::Return),
+        0x10 => Ok(Instruction::Call(cursor.u32()?)),
+        0x11 => {
+            let index = cursor.u32()?;
+            cursor.zero()?;
+            Ok(Instruction::CallIndirect(index))
+        }
+        _ => Err(unknown(byte, offset)),
+    }
+}
+
+/// What follows an opcode of the parametric and variable instructions (sections 5.4.2 and
+/// 5.4.3).
+#[tactic(auto, unfolding(crate::specs::CodeReading::variable_after))]
+fn variable(cursor: &mut Cursor<'_>, byte: u8, offset: u32) -> Result<Instruction, LoadFault>
+    ensures { Gives (λ x. (x, cursor.new)) result (variable_after byte cursor.old) }
+{
+    match byte {
+        0x1A => Ok(Instruction::Drop),
+        0x1B => Ok(Instruction::Select),
+        0x20 => Ok(Instruction::LocalGet(cursor.u32()?)),
+        0x21 => Ok(Instruction::LocalSet(cursor.u32()?)),
+        0x22 => Ok(Instruction::LocalTee(cursor.u32()?)),
+        0x23 => Ok(Instruction::GlobalGet(cursor.u32()?)),
+        0x24 => Ok(Instruction::GlobalSet(cursor.u32()?)),
+        _ => Err(unknown(byte, offset)),
+    }
+}
+
+/// What follows an opcode of the loads (section 5.4.4).
+#[tactic(auto, unfolding(crate::specs::CodeReading::load_after))]
+fn load(
+    alloc: Global,
+    cursor: &mut Cursor<'_>,
+    byte: u8,
+    offset: u32,
+) -> Result<Instruction, LoadFault>
+    ensures { Gives (λ x. (x, cursor.new)) result (load_after byte cursor.old) }
+{
+    match byte {
+        0x28 => Ok(Instruction::I32Load(MemArg::decode(alloc, cursor)?)),
+        0x29 => Ok(Instruction::I64Load(MemArg::decode(alloc, cursor)?)),
+        0x2C => Ok(Instruction::I32Load8S(MemArg::decode(alloc, cursor)?)),
+        0x2D => Ok(Instruction::I32Load8U(MemArg::decode(alloc, cursor)?)),
+        0x2E => Ok(Instruction::I32Load16S(MemArg::decode(alloc, cursor)?)),
+        0x2F => Ok(Instruction::I32Load16U(MemArg::decode(alloc, cursor)?)),
+        0x30 => Ok(Instruction::I64Load8S(MemArg::decode(alloc, cursor)?)),
+        0x31 => Ok(Instruction::I64Load8U(MemArg::decode(alloc, cursor)?)),
+        0x32 => Ok(Instruction::I64Load16S(MemArg::decode(alloc, cursor)?)),
+        0x33 => Ok(Instruction::I64Load16U(MemArg::decode(alloc, cursor)?)),
+        0x34 => Ok(Instruction::I64Load32S(MemArg::decode(alloc, cursor)?)),
+        0x35 => Ok(Instruction::I64Load32U(MemArg::decode(alloc, cursor)?)),
+        _ => Err(unknown(byte, offset)),
+    }
+}
+
+/// What follows an opcode of the stores, or of the size of memory (section 5.4.4).
+#[tactic(auto, unfolding(crate::specs::CodeReading::store_after))]
+fn store(
+    alloc: Global,
+    cursor: &mut Cursor<'_>,
+    byte: u8,
+    offset: u32,
+) -> Result<Instruction, LoadFault>
+    ensures { Gives (λ x. (x, cursor.new)) result (store_after byte cursor.old) }
+{
+    match byte {
+        0x36 => Ok(Instruction::I32Store(MemArg::decode(alloc, cursor)?)),
+        0x37 => Ok(Instruction::I64Store(MemArg::decode(alloc, cursor)?)),
+        0x3A => Ok(Instruction::I32Store8(MemArg::decode(alloc, cursor)?)),
+        0x3B => Ok(Instruction::I32Store16(MemArg::decode(alloc, cursor)?)),
+        0x3C => Ok(Instruction::I64Store8(MemArg::decode(alloc, cursor)?)),
+        0x3D => Ok(Instruction::I64Store16(MemArg::decode(alloc, cursor)?)),
+        0x3E => Ok(Instruction::I64Store32(MemArg::decode(alloc, cursor)?)),
+        0x3F => {
+            cursor.zero()?;
+            Ok(Instruction::MemorySize)
+        }
+        0x40 => {
+            cursor.zero()?;
+            Ok(Instruction::MemoryGrow)
+        }
+        _ => Err(unknown(byte, offset)),
+    }
+}
+
+/// The instruction of this number, which stands behind the opcode FC.
+#[tactic(auto, unfolding(crate::specs::CodeReading::bulk_after))]
+fn bulk_instruction(
+    cursor: &mut Cursor<'_>,
+    number: u32,
+    offset: u32,
+) -> Result<Instruction, LoadFault>
+    ensures { Gives (λ x. (x, cursor.new)) result (bulk_after number cursor.old) }
+{
+    match number {
+        10 => {
+            cursor.zero()?;
+            cursor.zero()?;
+            Ok(Instruction::MemoryCopy)
+        }
+        11 => {
+            cursor.zero()?;
+            Ok(Instruction::MemoryFill)
+        }
+        0..=7 => Err(LoadFault::Float { offset }),
+        _ => Err(LoadFault::BadByte { offset }),
+    }
+}
+
+#[tactic(auto, unfolding(crate::specs::CodeReading::bulk_at))]
+fn bulk(cursor: &mut Cursor<'_>) -> Result<Instruction, LoadFault>
+    ensures { Gives (λ x. (x, cursor.new)) result (bulk_at cursor.old) }
+{
+    let offset = cursor.offset();
+    let number = cursor.u32()?;
+    bulk_instruction(cursor, number, offset)
+}
+
+impl<'a> Decode<'a> for MemArg {
+    ghost use Rattle.wasm_module.specs.CodeReading.{mem_arg_at};
+
+    ghost at = { mem_arg_at };
+
+    #[tactic(auto, unfolding(crate::specs::CodeReading::mem_arg_at))]
+    fn decode(_alloc: Global, cursor: &mut Cursor<'a>) -> Result<MemArg, LoadFault> {
+        let align = cursor.u32()?;
+        let offset = cursor.u32()?;
+        Ok(MemArg { align, offset })
+    }
+}
+
+impl<'a> Decode<'a> for Instruction {
+    ghost use Rattle.wasm_module.specs.CodeReading.{instruction_at, instruction_after, numeric_after};
+
+    ghost at = { instruction_at };
+
+    #[tactic(auto, unfolding(crate::specs::CodeReading::instruction_at, crate::specs::CodeReading::instruction_after, crate::specs::CodeReading::numeric_after))]
+    fn decode(alloc: Global, cursor: &mut Cursor<'a>) -> Result<Instruction, LoadFault> {
+        let offset = cursor.offset();
+        let byte = cursor.byte()?;
+        match byte {
+            0x41 => Ok(Instruction::I32Const(cursor.s32()?)),
+            0x42 => Ok(Instruction::I64Const(cursor.s64()?)),
+            0xFC => bulk(cursor),
+            0x00..=0x11 => control(alloc, cursor, byte, offset),
+            0x12..=0x27 => variable(cursor, byte, offset),
+            0x28..=0x35 => load(alloc, cursor, byte, offset),
+            0x36..=0x40 => store(alloc, cursor, byte, offset),
+            _ => match numeric(byte) {
+                Some(instruction) => Ok(instruction),
+                None => Err(unknown(byte, offset)),
+            },
+        }
+    }
+}

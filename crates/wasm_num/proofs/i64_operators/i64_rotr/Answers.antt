@@ -1,0 +1,8 @@
+use Rattle.std.proofs.Common.{◌≡◌, ◌%◌, ◌∙◌, arith}
+use Rattle.wasm_num.proofs.Rotations.{rotates_down}
+use Rattle.wasm_num.proofs.i64_operators.i64_rotr.Goals as goal
+
+pub returns : goal.returns
+returns c =
+    let once : c.args.y % 64 % 64 ≡ c.args.y % 64 = omega arith in
+    c.rotate_right.ensures ∙ rw once (rotates_down 64 c.args.x (c.args.y % 64) (omega arith) (omega arith))
