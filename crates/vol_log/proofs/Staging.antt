@@ -1,32 +1,61 @@
 -- Lemmas on a batch that one more sector joins.
-use Rattle.std.proofs.Common.{◌≡◌, ◌≢◌, inl, inr, ℕ, zero, suc, ◌+◌, ◌≤◌, ◌<◌, ◌==◌, if◌then◌else◌, Bool, true, false, List, [], ◌∷◌, ◌++◌, length, get_or, set, drop, refl, sym, ◌∙◌, ap, subst, arith}
-use Rattle.std.proofs.lemmas.List.{map-set, set-get_or, get_or-map, map_push, length-map, drop_more}
+use Rattle.std.proofs.Common.{◌≡◌, ◌≢◌, inl, inr, ℕ, zero, suc, ◌≤◌, ◌<◌, ◌==◌, if◌then◌else◌, Bool, true, false, List, [], ◌∷◌, ◌++◌, length, get_or, set, refl, sym, ◌∙◌, ap, subst, arith}
+use Rattle.std.proofs.lemmas.List.{map-set, set-get_or, get_or-map, map_push, length-map}
 use Rattle.std.proofs.lemmas.Bool.{cases_eq}
 use Rattle.std.proofs.lemmas.Bool.Decides.{nat_tests}
 use Rattle.vol_sector.specs.Disk.{Image, put}
 use Rattle.vol_log.specs.Header.{Places}
 use Rattle.vol_log.specs.Batch.{numbers, over, holds}
 use Rattle.vol_log.specs.declared.staged.Staged.{Staged}
+use Rattle.vol_log.specs.Index.{Index, place_at, IsIndex, IsAt, IsGapFor}
 use Rattle.vol_log.proofs.Images.{blank}
 use Rattle.vol_log.proofs.Parse.{places_more}
+use Rattle.vol_log.proofs.Finding.{place_inside, place_is, only_place, in_no_place}
 
-pub over_next : (batch : List Staged) (i n : ℕ) (m : Image) → i < length batch → n ≢ (get_or batch i blank).sector → over (drop i batch) m n ≡ over (drop (i + 1) batch) m n
-over_next batch i n m lt other =
-    let s = get_or batch i blank in
-    let rest = over (drop (i + 1) batch) m n in
-    ap (λ (b : List Staged). over b m n) (drop_more batch i blank lt) ∙ skip n s.sector s.image rest other
-  where
-    skip : (k j : ℕ) (x y : List ℕ) → k ≢ j → (if k == j then x else y) ≡ y
-    skip k j x y ne = grind (arith, nat_tests)
+sector_is : (batch : List Staged) (p : ℕ) → p < length batch → (get_or batch p blank).sector ≡ get_or (numbers batch) p 0
+sector_is batch p lt = sym (get_or-map (λ (t : Staged). t.sector) batch p blank 0 lt)
 
-pub over_here : (batch : List Staged) (i n : ℕ) (m : Image) → i < length batch → n ≡ (get_or batch i blank).sector → over (drop i batch) m n ≡ (get_or batch i blank).image
-over_here batch i n m lt same =
-    let s = get_or batch i blank in
-    let rest = over (drop (i + 1) batch) m n in
-    ap (λ (b : List Staged). over b m n) (drop_more batch i blank lt) ∙ take_it n s.sector s.image rest same
-  where
-    take_it : (k j : ℕ) (x y : List ℕ) → k ≡ j → (if k == j then x else y) ≡ x
-    take_it k j x y is = grind (arith, nat_tests)
+-- the first place of the batch with this number
+pub record IsPlaceOf (batch : List Staged) (n p : ℕ) : Type 0 where
+  pub inside : p < length batch
+  pub here : (get_or batch p blank).sector ≡ n
+  pub before : (j : ℕ) → j < p → (get_or batch j blank).sector ≢ n
+
+-- what a search of the index finds
+pub found_place : (batch : List Staged) (index : Index) → IsIndex (numbers batch) index → (n at : ℕ) → IsAt index n at → (p : ℕ) → p ≡ place_at index at → IsPlaceOf batch n p
+found_place batch index is n at found p place =
+    let long : length (numbers batch) ≡ length batch = length-map batch (λ (t : Staged). t.sector) in
+    let inside : p < length batch = omega (arith, place_inside (numbers batch) index is n at found, long, place) in
+    record {
+      inside = inside;
+      here = sector_is batch p inside ∙ ap (λ (q : ℕ). get_or (numbers batch) q 0) place ∙ place_is (numbers batch) index is n at found;
+      before = λ j lt same.
+          let there : j ≡ place_at index at = only_place (numbers batch) index is n at found j (omega (arith, long, inside)) (sym (sector_is batch j (omega (arith, inside))) ∙ same) in
+          omega (arith, there, place);
+    }
+
+-- and one that doesn't find it
+pub none_at_all : (batch : List Staged) (index : Index) → IsIndex (numbers batch) index → (n at : ℕ) → IsGapFor index n at → (j : ℕ) → j < length batch → (get_or batch j blank).sector ≢ n
+none_at_all batch index is n at gap j lt same =
+    let long : length (numbers batch) ≡ length batch = length-map batch (λ (t : Staged). t.sector) in
+    in_no_place (numbers batch) index is n at gap j (omega (arith, long)) (sym (sector_is batch j lt) ∙ same)
+
+-- the first sector of this number is what reads give
+pub over_first : (batch : List Staged) (p n : ℕ) (m : Image) → p < length batch → (get_or batch p blank).sector ≡ n → ((j : ℕ) → j < p → (get_or batch j blank).sector ≢ n) → over batch m n ≡ (get_or batch p blank).image
+over_first [] p n m lt is before = absurd (omega arith)
+over_first (s ∷ batch) zero n m lt is before = grind (arith, nat_tests)
+over_first (s ∷ batch) (suc p) n m lt is before =
+    let rest : over batch m n ≡ (get_or batch p blank).image = over_first batch p n m (omega arith) is (λ j l. before (suc j) (omega arith)) in
+    let other : s.sector ≢ n = before 0 (omega arith) in
+    grind (arith, nat_tests)
+
+-- where there is none, reads give the image's
+pub over_none : (batch : List Staged) (n : ℕ) (m : Image) → ((j : ℕ) → j < length batch → (get_or batch j blank).sector ≢ n) → over batch m n ≡ m n
+over_none [] n m none = refl
+over_none (s ∷ batch) n m none =
+    let rest : over batch m n ≡ m n = over_none batch n m (λ j lt. none (suc j) (omega arith)) in
+    let other : s.sector ≢ n = none 0 (omega arith) in
+    grind (arith, nat_tests)
 
 -- two tests, of which the second is for the same number, or the tests are for two numbers
 same_test : (k a b : ℕ) (x y z : List ℕ) → a ≡ b → (if k == b then x else z) ≡ (if k == b then x else (if k == a then y else z))

@@ -3,6 +3,7 @@
 
 mod batch;
 mod header;
+mod index;
 mod layout;
 mod log;
 mod replay;

@@ -8,10 +8,11 @@ ghost use Rattle.std.specs.Prelude.{vec_len, vec_capacity};
 ghost use Rattle.vol_sector.specs.Disk.{Image, Leaves, put, counted, AtMostOneMore};
 ghost use Rattle.vol_sector.specs.Fault.{is_device};
 ghost use Rattle.vol_log.specs.Header.{Places};
+ghost use Rattle.vol_log.specs.Index.{IsIndex};
 ghost use Rattle.vol_log.specs.Batch.{numbers, over, SameContent, HasContent, HasEither, Settled};
 
 use crate::Staged;
-use crate::batch::{replace_staged, staged_image};
+use crate::batch::{replace_staged, reserve, staged_image};
 use crate::layout::IMAGES;
 use crate::replay::replay;
 use crate::steps::commit_batch;
@@ -28,11 +29,14 @@ pub struct Log<D: Device> {
     device: D,
     sectors: u32,
     batch: Vec<Staged>,
+    index: Vec<(u32, usize)>,
     failed: bool,
     ghost geometry: { 122 < sectors },
     ghost on_device: { sectors ≤ D.size device },
     ghost placed: { Places sectors (numbers batch.items) },
     ghost reserved: { 120 ≤ vec_capacity batch },
+    ghost indexed: { IsIndex (numbers batch.items) index.items },
+    ghost index_reserved: { 120 ≤ vec_capacity index },
     ghost settled: { D.honest device → failed ≡ false → Settled sectors (D.disk device) },
 }
 
@@ -80,8 +84,8 @@ impl<D: Device> Log<D> {
             × (D.size r.device ≡ D.size device)
             × (D.faults r.device ≡ counted (is_device r.fault) (D.faults device))) }
     {
-        let mut batch = match Vec::with_capacity(alloc, IMAGES) {
-            Ok(batch) => batch,
+        let (mut batch, index) = match reserve(alloc) {
+            Ok(reserved) => reserved,
             Err(_) => {
                 return Err(Refused {
                     device,
@@ -94,6 +98,7 @@ impl<D: Device> Log<D> {
                 device,
                 sectors,
                 batch,
+                index,
                 failed: false,
             }),
             Err(fault) => Err(Refused { device, fault }),
@@ -138,7 +143,7 @@ impl<D: Device> Log<D> {
         if self.failed {
             return Err(DeviceFault);
         }
-        match staged_image(&self.batch, n) {
+        match staged_image(&self.batch, &self.index, n) {
             Some(image) => Ok(image),
             None => {
                 let outcome = self.device.read(n);
@@ -168,7 +173,7 @@ impl<D: Device> Log<D> {
             sector: n,
             image: *image,
         };
-        replace_staged(&mut self.batch, staged);
+        replace_staged(&mut self.batch, &mut self.index, staged);
     }
 
     /// Puts what is staged onto the disk, all of it or nothing, whenever it is stopped. After its
@@ -210,6 +215,7 @@ impl<D: Device> Log<D> {
         match commit_batch(&mut self.device, &self.batch) {
             Ok(()) => {
                 self.batch.clear();
+                self.index.clear();
                 Ok(())
             }
             Err(fault) => {
@@ -227,6 +233,7 @@ impl<D: Device> Log<D> {
             device,
             sectors: _,
             batch: _,
+            index: _,
             failed: _,
         } = self;
         device
