@@ -1,6 +1,6 @@
 //! A place in the bytes of a module.
 
-ghost use Rattle.std.specs.Prelude.{◌≡◌, ◌==◌, ◌^◌, ◌<◌, ◌≤◌, [], length, IfOk};
+ghost use Rattle.std.specs.Prelude.{◌≡◌, ◌==◌, ◌^◌, ◌<◌, ◌≤◌, [], length, IfOk, MatchResult};
 ghost use Rattle.wasm_module.specs.CodeReading.{s32_at, s64_at, code_at};
 ghost use Rattle.wasm_module.specs.Reading.{Gives, Reader, byte_at, u32_at, next_at, begins, many_at, vector_at, piece_at, whole, sized_at, raw_of, text_of, name_at, custom_of, customs_at, section_at};
 
@@ -189,8 +189,19 @@ impl<'a> Cursor<'a> {
         self.many(alloc, count, offset)
     }
 
-    /// So many values. What the list takes is bounded by the bytes that are read, whatever the
-    /// count says.
+    /// An empty list with room for so many values. Each takes a byte at least, so where fewer bytes
+    /// are left the count is wrong, and no room is made.
+    pub fn room<T>(&self, alloc: Global, count: u32) -> Result<Vec<T>, LoadFault>
+        ensures { MatchResult result (λ values. values.items ≡ []) (λ e. e ≡ LoadFault.Memory) }
+    {
+        let count = count as usize;
+        if count > self.rest.len() {
+            return Ok(Vec::new(alloc));
+        }
+        Ok(Vec::with_capacity(alloc, count)?)
+    }
+
+    /// So many values.
     #[tactic(auto, using(crate::proofs::Steps::many_more, crate::proofs::Steps::many_done))]
     fn many<T: Decode<'a>>(
         &mut self,
@@ -200,7 +211,7 @@ impl<'a> Cursor<'a> {
     ) -> Result<Items<T>, LoadFault>
         ensures { Gives (λ x. (x, self.new)) result (many_at T.at count self.old) }
     {
-        let mut items = Vec::new(alloc);
+        let mut items = self.room(alloc, count)?;
         for _ in 0..count {
             items.push(T::decode(alloc, self)?)?;
         }

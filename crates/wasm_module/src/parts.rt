@@ -132,7 +132,7 @@ impl Model for Tables {
 fn table_types(alloc: Global, cursor: &mut Cursor<'_>, count: u32) -> Result<Vec<Limits>, LoadFault>
     ensures { Gives (λ x. (x.items, cursor.new)) result (many_at table_at count cursor.old) }
 {
-    let mut tables = Vec::new(alloc);
+    let mut tables = cursor.room(alloc, count)?;
     for _ in 0..count {
         tables.push(table_type(alloc, cursor)?)?;
     }

@@ -274,6 +274,28 @@ fn bodies(rt: HostRuntime) -> Result<(), Fail> {
     Ok(())
 }
 
+/// Room for so many values would be more than there is, and they can't follow: no room is asked for.
+#[test]
+fn counts_over_the_bytes_that_are_left(rt: HostRuntime) -> Result<(), Fail> {
+    for id in [1, 2, 3, 4, 5, 6, 7, 9, 10, 11] {
+        assert_eq!(rt;
+            fault_after(rt.alloc(), &[id, 5], &[0xFF, 0xFF, 0xFF, 0xFF, 0x0F])?,
+            Some(LoadFault::SectionSize { offset: 8 })
+        );
+    }
+    Ok(())
+}
+
+#[test]
+fn labels_over_the_bytes_that_are_left(rt: HostRuntime) -> Result<(), Fail> {
+    let body = [10, 10, 1, 8, 0, 0x0E, 0xFF, 0xFF, 0xFF, 0xFF, 0x0F, 0x0B];
+    assert_eq!(rt;
+        fault_after(rt.alloc(), &FUNCTION, &body)?,
+        Some(LoadFault::SectionSize { offset: 21 })
+    );
+    Ok(())
+}
+
 #[test]
 fn many_locals(rt: HostRuntime) -> Result<(), Fail> {
     let of = |code: &[u8]| fault_after(rt.alloc(), &FUNCTION, code);
