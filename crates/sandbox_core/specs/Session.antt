@@ -1,9 +1,9 @@
 -- Sessions: a machine and the streams that answer its calls.
 use Rattle.std.specs.Prelude.{◌≡◌, ◌≢◌, ℕ, true, false, List, Option}
 use Rattle.wasm_module.specs.declared.module.Module.{Module}
-use Rattle.wasm_interp.specs.declared.fault.InstanceFault.TheVariants.{Memory as NoMemory}
+use Rattle.wasm_store.specs.declared.fault.InstanceFault.TheVariants.{Memory as NoMemory}
 use Rattle.wasm_interp.specs.declared.pause.Pause.{Pause}
-use Rattle.wasm_interp.specs.Instantiation.{RefusedFor}
+use Rattle.wasm_store.specs.Instantiation.{RefusedFor}
 use Rattle.wasm_interp.specs.Machine.{Snapshot}
 use Rattle.wasm_interp.specs.Promise.{Starts, Resumed}
 use Rattle.sandbox_core.specs.declared.fault.SessionFault.{SessionFault}

@@ -14,9 +14,9 @@ use Rattle.wasm_module.specs.Instructions.{Instructions, done, plain, block, loo
 use Rattle.wasm_valid.specs.Typing.{Context}
 use Rattle.wasm_valid.specs.Validity.{IsValid, functions_of, imported_function, kinds_of, AreTypesAt, FunctionTyped, FunctionsTyped, local_types}
 use Rattle.wasm_valid.specs.FirstPart.{IsFunction, IsRunnable, RunsSoFar}
-use Rattle.wasm_interp.specs.declared.call.HostCall.{HostCall}
+use Rattle.wasm_store.specs.declared.call.HostCall.{HostCall}
 use Rattle.wasm_interp.specs.Configuration.{Callee, imported, own}
-use Rattle.wasm_interp.specs.Instantiation.{AreOwn}
+use Rattle.wasm_store.specs.Instantiation.{AreOwn}
 use Rattle.wasm_interp.specs.Stands.{AreCallees, IsImport}
 use Rattle.wasm_interp.proofs.StraightLine.{Next, ends, goes_to, next_of}
 

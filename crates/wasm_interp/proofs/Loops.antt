@@ -13,10 +13,10 @@ use Rattle.wasm_module.specs.declared.module.Export.{Export}
 use Rattle.wasm_module.specs.declared.module.ExportKind.TheVariants as exports
 use Rattle.wasm_module.specs.declared.module.DataSegment.{DataSegment}
 use Rattle.wasm_module.specs.declared.module.Module.{Module}
-use Rattle.wasm_interp.specs.declared.call.HostCall.{HostCall}
+use Rattle.wasm_store.specs.declared.call.HostCall.{HostCall}
 use Rattle.wasm_interp.specs.Configuration.{Callee, imported}
-use Rattle.wasm_interp.specs.Steps.{written}
-use Rattle.wasm_interp.specs.Instantiation.{LinksOf, IsLinked, AreLinked, SomeUnlinked, IsStart, DataInside, DataOutside, segment_start, with_data}
+use Rattle.wasm_store.specs.Bytes.{written}
+use Rattle.wasm_store.specs.Instantiation.{LinksOf, IsLinked, AreLinked, SomeUnlinked, IsStart, DataInside, DataOutside, segment_start, with_data}
 use Rattle.wasm_interp.specs.Stands.{AreCallees, IsImport}
 use Rattle.wasm_interp.specs.Instantiating.{AreFound, HasType, StartsAt, start_export}
 use Rattle.wasm_interp.proofs.StraightLine.{left_from}

@@ -7,13 +7,13 @@ use Rattle.wasm_module.specs.declared.module.Export.{Export}
 use Rattle.wasm_module.specs.declared.module.ExportKind.TheVariants as exports
 use Rattle.wasm_module.specs.declared.module.Module.{Module}
 use Rattle.wasm_valid.specs.Validity.{functions_of}
-use Rattle.wasm_interp.specs.declared.call.HostCall.{HostCall}
-use Rattle.wasm_interp.specs.declared.fault.InstanceFault.{InstanceFault}
-use Rattle.wasm_interp.specs.declared.fault.InstanceFault.TheVariants as faults
+use Rattle.wasm_store.specs.declared.call.HostCall.{HostCall}
+use Rattle.wasm_store.specs.declared.fault.InstanceFault.{InstanceFault}
+use Rattle.wasm_store.specs.declared.fault.InstanceFault.TheVariants as faults
 use Rattle.wasm_interp.specs.declared.place.Place.TheVariants.{Entering}
 use Rattle.wasm_interp.specs.declared.instantiation.Instantiated.{Instantiated}
 use Rattle.wasm_interp.specs.Configuration.{Callee}
-use Rattle.wasm_interp.specs.Instantiation.{LinksOf, AreLinked, SomeUnlinked, IsStart, minimum, page_limit, DataInside, with_data}
+use Rattle.wasm_store.specs.Instantiation.{LinksOf, AreLinked, SomeUnlinked, IsStart, minimum, page_limit, DataInside, with_data}
 use Rattle.wasm_interp.specs.Stands.{AreCallees}
 
 -- function x has this type

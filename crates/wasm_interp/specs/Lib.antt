@@ -1,7 +1,6 @@
 pub mod Operators
 pub mod Configuration
 pub mod Steps
-pub mod Instantiation
 pub mod Outcomes
 pub mod Stands
 pub mod Machine

@@ -12,12 +12,12 @@ use Rattle.wasm_module.specs.Instructions.{Instructions, done, enter, flatten, I
 use Rattle.wasm_valid.specs.Typing.{Context, Labels, Typed}
 use Rattle.wasm_valid.specs.Validity.{IsValid, functions_of, AreTypesAt}
 use Rattle.wasm_valid.specs.FirstPart.{IsRunnable, RunsSoFar}
-use Rattle.wasm_interp.specs.declared.call.HostCall.{HostCall}
+use Rattle.wasm_store.specs.declared.call.HostCall.{HostCall}
 use Rattle.wasm_interp.specs.declared.place.Place.{Place}
 use Rattle.wasm_interp.specs.declared.place.Place.TheVariants.{Entering, Running, Returned, Over}
 use Rattle.wasm_interp.specs.Configuration.{Val, numbers, types, Callee, imported, Instance, Store, Code, code, label, frame, Configuration, at, store_of}
 use Rattle.wasm_interp.specs.Steps.{CallsOf}
-use Rattle.wasm_interp.specs.Instantiation.{AreOwn}
+use Rattle.wasm_store.specs.Instantiation.{AreOwn}
 use Rattle.wasm_interp.specs.Outcomes.{EndsAs}
 
 -- an import, the host's call for it, and the function instance

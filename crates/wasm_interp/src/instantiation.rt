@@ -4,17 +4,14 @@ ghost use Rattle.std.specs.Prelude.{◌≡◌, ℕ, ◌+◌, ◌*◌, ◌<◌, �
 ghost use Rattle.std.specs.Bool.{OnTrue, OnFalse};
 ghost use Rattle.wasm_valid.specs.FirstPart.{RunsSoFar};
 ghost use Rattle.wasm_valid.specs.Validity.{IsValid, functions_of, ExportFits};
-ghost use Rattle.wasm_interp.specs.Instantiation.{IsStart, minimum, page_limit as limit_of, segment_start, DataInside, DataOutside, with_data, RefusedFor};
+ghost use Rattle.wasm_store.specs.Instantiation.{IsStart, minimum, page_limit as limit_of, segment_start, DataInside, DataOutside, with_data, RefusedFor};
 ghost use Rattle.wasm_interp.specs.Instantiating.{HasType, StartsAt, IsOffset, AreFound, NotFound, IsInstantiated};
 
-use crate::call::HostCall;
-use crate::fault::InstanceFault;
-use crate::host::Host;
-use crate::memory::Memory;
 use crate::place::Place;
 use crate::state::{State, import_type};
 use std::alloc::{AllocError, Global};
 use wasm_module::{DataSegment, Export, ExportKind, FuncType, Instruction, Limits, Module};
+use wasm_store::{Host, HostCall, InstanceFault, Memory};
 
 /// So many values find room without an allocation.
 const RESERVED_VALUES: usize = 4_096;

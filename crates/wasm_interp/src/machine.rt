@@ -1,17 +1,15 @@
 //! The machine.
 
 ghost use Rattle.std.specs.Prelude.{◌≡◌, ◌+◌, ◌^◌, ◌<◌, IfOk, IfErr, ◌*◌};
-ghost use Rattle.wasm_interp.specs.Instantiation.{RefusedFor};
+ghost use Rattle.wasm_store.specs.Instantiation.{RefusedFor};
 ghost use Rattle.wasm_interp.specs.Promise.{Starts, Resumed};
 
-use crate::call::HostCall;
-use crate::fault::InstanceFault;
-use crate::host::Host;
 use crate::instantiation::instantiate;
 use crate::pause::Pause;
 use crate::state::State;
 use std::alloc::Global;
 use std::marker::Model;
+use wasm_store::{Host, HostCall, InstanceFault};
 use wasm_valid::Valid;
 
 /// A refused module, handed back with the reason.

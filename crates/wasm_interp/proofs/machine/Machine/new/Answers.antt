@@ -1,5 +1,5 @@
 use Rattle.std.proofs.Common.{refl, subst}
-use Rattle.wasm_interp.specs.Instantiation.{RefusedFor}
+use Rattle.wasm_store.specs.Instantiation.{RefusedFor}
 use Rattle.wasm_interp.specs.Instantiating.{IsInstantiated}
 use Rattle.wasm_interp.proofs.Beginning.{first_live, starts}
 use Rattle.wasm_interp.proofs.machine.Machine.new.Goals as goal

@@ -2,8 +2,8 @@
 
 ghost use Rattle.std.specs.Prelude.{◌≡◌, ℕ, List, Option};
 ghost use Rattle.wasm_module.specs.declared.module.FuncType.{FuncType as FuncTypeValue};
-ghost use Rattle.wasm_interp.specs.declared.call.HostCall.{HostCall as HostCallValue};
-ghost use Rattle.wasm_interp.specs.declared.call.Answer.{Answer as AnswerValue};
+ghost use Rattle.wasm_store.specs.declared.call.HostCall.{HostCall as HostCallValue};
+ghost use Rattle.wasm_store.specs.declared.call.Answer.{Answer as AnswerValue};
 
 use crate::call::{Answer, HostCall};
 use crate::memory::Memory;

@@ -17,11 +17,13 @@ use Rattle.wasm_module.specs.declared.module.DataSegment.{DataSegment}
 use Rattle.wasm_module.specs.declared.module.Module.{Module}
 use Rattle.wasm_module.specs.Instructions.{Instructions, Nests}
 use Rattle.wasm_valid.specs.Validity.{functions_of, local_types}
-use Rattle.wasm_interp.specs.declared.call.HostCall.{HostCall}
-use Rattle.wasm_interp.specs.declared.fault.InstanceFault.{InstanceFault}
-use Rattle.wasm_interp.specs.declared.fault.InstanceFault.TheVariants as faults
-use Rattle.wasm_interp.specs.Configuration.{Val, val, number_of, Callee, imported, own, Instance, Store}
-use Rattle.wasm_interp.specs.Steps.{written}
+use Rattle.wasm_store.specs.declared.call.HostCall.{HostCall}
+use Rattle.wasm_store.specs.declared.fault.InstanceFault.{InstanceFault}
+use Rattle.wasm_store.specs.declared.fault.InstanceFault.TheVariants as faults
+use Rattle.wasm_store.specs.Values.{Val, val, number_of}
+use Rattle.wasm_store.specs.Instances.{Callee, imported, own, Instance, Store}
+use Rattle.wasm_store.specs.Bytes.{written}
+use Rattle.wasm_store.specs.Elements.{with_functions}
 
 -- ---- functions
 
@@ -119,8 +121,7 @@ DataOutside gs size (d ∷ ds) = (size < segment_start gs d.offset + length d.by
 abbrev pub with_elements : List Val → List (Option ℕ) → List ElementSegment → List (Option ℕ)
 with_elements gs table [] = table
 with_elements gs table (e ∷ es) =
-    let start = segment_start gs e.offset in
-    with_elements gs (take start table ++ (map Some e.functions ++ drop (start + length e.functions) table)) es
+    with_elements gs (with_functions table (segment_start gs e.offset) e.functions) es
 
 abbrev pub with_data : List Val → List ℕ → List DataSegment → List ℕ
 with_data gs memory [] = memory

@@ -1,7 +1,7 @@
 //! Why a module can't be instantiated.
 
 ghost use Rattle.std.specs.Prelude.{◌≡◌};
-ghost use Rattle.wasm_interp.specs.declared.fault.InstanceFault.TheVariants.{Memory};
+ghost use Rattle.wasm_store.specs.declared.fault.InstanceFault.TheVariants.{Memory};
 
 use std::alloc::{AllocError, AllocFailed};
 use thiserror::Error;

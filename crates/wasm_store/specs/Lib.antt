@@ -1,0 +1,6 @@
+pub mod Bytes
+pub mod Lending
+pub mod Elements
+pub mod Values
+pub mod Instances
+pub mod Instantiation
