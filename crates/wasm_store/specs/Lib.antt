@@ -4,3 +4,4 @@ pub mod Elements
 pub mod Values
 pub mod Instances
 pub mod Instantiation
+pub mod Instantiating

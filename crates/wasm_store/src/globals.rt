@@ -35,6 +35,13 @@ impl Globals {
         self.values.len()
     }
 
+    /// The values, by index.
+    pub fn as_slice(&self) -> &[u64]
+        ensures { result.now ≡ self.now }
+    {
+        self.values.as_slice()
+    }
+
     /// The value of a global, if there is one of this index.
     pub fn get(&self, index: u32) -> Option<u64>
         ensures { result ≡ slice_get self.now index }

@@ -5,6 +5,7 @@ mod call;
 mod fault;
 mod globals;
 mod host;
+mod instantiation;
 mod memory;
 mod table;
 #[cfg(test)]
@@ -14,5 +15,6 @@ pub use call::{Answer, Errno, HostCall};
 pub use fault::InstanceFault;
 pub use globals::Globals;
 pub use host::Host;
+pub use instantiation::{Instantiated, instantiate};
 pub use memory::{Memory, PAGE_SIZE};
 pub use table::Table;
