@@ -1,3 +1,4 @@
+pub mod Part
 pub mod Operators
 pub mod Configuration
 pub mod Steps
@@ -6,4 +7,4 @@ pub mod Stands
 pub mod Machine
 pub mod Promise
 pub mod Performing
-pub mod Instantiating
+pub mod Begun

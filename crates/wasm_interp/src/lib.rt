@@ -1,8 +1,9 @@
 //! A fuelled WebAssembly machine over a host that answers its calls.
 #![tactic(auto)]
 
-mod instantiation;
+mod begin;
 mod machine;
+mod part;
 mod pause;
 mod place;
 mod state;

@@ -55,7 +55,7 @@ not_false true e = refl
 not_false false e = cc
 
 -- a list of no elements is empty
-no_elements : {X : Type 0} (xs : List X) → true ≡ (length xs == 0) → xs ≡ []
+pub no_elements : {X : Type 0} (xs : List X) → true ≡ (length xs == 0) → xs ≡ []
 no_elements [] e = refl
 no_elements (x ∷ xs) e = let l : suc (length xs) ≡ 0 = eqb-true (suc (length xs)) 0 (sym e) in absurd (omega arith)
 

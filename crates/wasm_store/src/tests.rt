@@ -58,6 +58,7 @@ fn writes_past_the_end_change_nothing(rt: HostRuntime) -> Result<(), Fail> {
 #[test]
 fn faults_have_their_numbers(rt: HostRuntime) -> Result<(), Fail> {
     for (fault, text) in [
+        (InstanceFault::NotRun, "fault 12"),
         (InstanceFault::Import, "fault 13"),
         (InstanceFault::NoStart, "fault 14"),
         (InstanceFault::DataOutOfBounds, "fault 20"),
