@@ -4,7 +4,6 @@ ghost use Rattle.std.specs.Prelude.{IfOk, IfErr};
 ghost use Rattle.wasm_module.specs.Module.{Spells};
 ghost use Rattle.wasm_module.specs.declared.module.Module.{Module as ModuleValue};
 ghost use Rattle.wasm_valid.specs.Validity.{IsValid};
-ghost use Rattle.wasm_valid.specs.FirstPart.{RunsSoFar};
 ghost use Rattle.wasm_valid.specs.Refusal.{IsRefusal};
 
 use std::alloc::Global;
@@ -13,7 +12,7 @@ use wasm_valid::{Valid, validate};
 
 /// Decodes the module that the bytes spell, and validates it.
 pub fn load(alloc: Global, bytes: &[u8]) -> Result<Valid<'_>, LoadFault>
-    ensures found { IfOk result (λ v. Spells bytes.now v × IsValid v × RunsSoFar v) }
+    ensures found { IfOk result (λ v. Spells bytes.now v × IsValid v) }
 
     // Another refusal than of an invalid module or for memory: the bytes spell no module.
     ensures refused { IfErr result (λ e. ¬ IsRefusal e → (m : ModuleValue) → Spells bytes.now m → ⊥) }
