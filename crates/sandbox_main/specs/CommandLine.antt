@@ -5,7 +5,8 @@ use Rattle.std.specs.List.{list_all}
 use Rattle.std.specs.Char.{digit_value}
 use Rattle.std.specs.Str.Parse.{digits_value, without_leading_plus}
 use Rattle.clap.specs.declared.builder.action.ArgAction.TheVariants.{Set, Append}
-use Rattle.clap.specs.declared.builder.value_parser.ValueParser.TheVariants as parsers
+use Rattle.clap.specs.declared.builder.value_parser.ValueParser.{ValueParser}
+use Rattle.clap.specs.declared.builder.value_parser.ValueParser.TheVariants.{Signed, Unsigned}
 use Rattle.clap.specs.Lexer.{usize_max}
 use Rattle.clap.specs.Simple.{on_top}
 use Rattle.clap.specs.Words.{App, Row, Rule, all_of, first_of, new_app, new_rule, one_of, subcommand_of, with_rule, with_subcommand}
@@ -14,38 +15,38 @@ use Rattle.sandbox_main.specs.Request.{Text, texts}
 
 -- ---- the command
 
--- `--fuel N`
-abbrev pub fuel_rule : Rule
-fuel_rule = record (new_rule (codes "fuel")) {
-  long = Some (codes "fuel");
+-- `--name N`
+abbrev pub number_rule : Text → ValueParser → Rule
+number_rule name numbers = record (new_rule name) {
+  long = Some name;
   action = Some Set;
   value_names = 1;
-  parser = Some (parsers.Unsigned 0 18446744073709551615);
+  parser = Some numbers;
 }
 
--- `--pages N`
-abbrev pub pages_rule : Rule
-pages_rule = record (new_rule (codes "pages")) {
-  long = Some (codes "pages");
-  action = Some Set;
-  value_names = 1;
-  parser = Some (parsers.Signed (pos 0) (pos 4294967295));
-}
-
--- `MODULE`
+-- `MODULE`, which has to be there
 abbrev pub module_rule : Rule
 module_rule = record (new_rule (codes "MODULE")) { action = Some Set; required = true }
 
--- `WORD ..`
-abbrev pub word_rule : Rule
-word_rule = record (new_rule (codes "WORD")) {
+-- `WORD`, as often as it comes
+abbrev pub words_rule : Rule
+words_rule = record (new_rule (codes "WORD")) {
   action = Some Append;
   range = Some (record { start_inclusive = 0; end_inclusive = usize_max });
 }
 
+-- the numbers of `u64` and of `u32`
+abbrev pub fuel_numbers : ValueParser
+fuel_numbers = Unsigned 0 18446744073709551615
+
+abbrev pub page_numbers : ValueParser
+page_numbers = Signed (pos 0) (pos 4294967295)
+
 -- `run`
 unfoldable pub run_app : App
-run_app = with_rule (with_rule (with_rule (with_rule (new_app (codes "run")) fuel_rule) pages_rule) module_rule) word_rule
+run_app =
+    with_rule (with_rule (with_rule (with_rule (new_app (codes "run"))
+    (number_rule (codes "fuel") fuel_numbers)) (number_rule (codes "pages") page_numbers)) module_rule) words_rule
 
 -- the program: one of its subcommands has to be there
 unfoldable pub program : App

@@ -1,4 +1,4 @@
-use Rattle.std.proofs.Common.{List, ℕ, inr, ◌∙◌, ap, subst}
+use Rattle.std.proofs.Common.{List, inr, ◌∙◌, ap, subst}
 use Rattle.sandbox_main.specs.Request.{Text, texts}
 use Rattle.sandbox_main.specs.Execution.{Launches}
 use Rattle.sandbox_main.proofs.program.run.Goals as goal
