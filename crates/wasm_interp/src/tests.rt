@@ -2,11 +2,12 @@
 
 ghost use Rattle.std.specs.Prelude.{None};
 
+use crate::part::runs_so_far;
 use crate::state::State;
 use crate::{Answer, Errno, Host, HostCall, Memory, Place};
 use std::alloc::Global;
 use std::test::Fail;
-use wasm_module::{FuncType, Items, ValueType};
+use wasm_module::{FuncType, Items, Limits, Module, ValueType};
 
 /// Remembers what it was asked, and answers with one number.
 #[derive(Drop)]
@@ -106,5 +107,34 @@ fn an_exit_leaves_no_result(rt: HostRuntime) -> Result<(), Fail> {
     let answer = state.ask(&mut host, HostCall::ProcExit, &func_type);
     assert_eq!(rt; answer, Answer::Exit(3));
     assert_eq!(rt; state.values.as_slice(), [1u64].as_slice());
+    Ok(())
+}
+
+fn empty_guest(alloc: Global) -> Module<'static> {
+    Module {
+        types: Items::new(alloc),
+        imports: Items::new(alloc),
+        functions: Items::new(alloc),
+        tables: Items::new(alloc),
+        memories: Items::new(alloc),
+        globals: Items::new(alloc),
+        exports: Items::new(alloc),
+        start: None,
+        element_segments: Items::new(alloc),
+        bodies: Items::new(alloc),
+        data_segments: Items::new(alloc),
+    }
+}
+
+#[test]
+fn tables_and_start_functions_are_not_run_yet(rt: HostRuntime) -> Result<(), Fail> {
+    let mut guest = empty_guest(rt.alloc());
+    assert!(rt; runs_so_far(&guest));
+    guest.start = Some(0);
+    assert!(rt; !runs_so_far(&guest));
+    let mut guest = empty_guest(rt.alloc());
+    let limits = Limits { min: 0, max: None };
+    guest.tables = Items::from_vec(vec![in rt.alloc(); limits]?, 0);
+    assert!(rt; !runs_so_far(&guest));
     Ok(())
 }

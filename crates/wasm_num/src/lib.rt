@@ -22,4 +22,6 @@ pub use i64_operators::{
 pub use trap::Trap;
 
 #[cfg(test)]
+mod edges;
+#[cfg(test)]
 mod tests;

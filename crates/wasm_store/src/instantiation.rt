@@ -17,6 +17,9 @@ use std::alloc::{AllocError, Global};
 use wasm_module::{Export, ExportKind, FuncType, ImportKind, Instruction, Limits, Module};
 use wasm_valid::Valid;
 
+#[cfg(test)]
+mod tests;
+
 /// What an instance begins with.
 #[derive(Debug, Drop)]
 pub struct Instantiated {
@@ -63,11 +66,8 @@ pub fn instantiate<H: Host>(
     if !elements_fit(guest, globals.as_slice(), table_size as usize) {
         return Err(InstanceFault::ElementOutOfBounds);
     }
-    if !data_fits(
-        guest,
-        globals.as_slice(),
-        initial_pages as usize * PAGE_SIZE,
-    ) {
+    let memory_size = initial_pages as usize * PAGE_SIZE;
+    if !data_fits(guest, globals.as_slice(), memory_size) {
         return Err(InstanceFault::DataOutOfBounds);
     }
     Ok(Instantiated {

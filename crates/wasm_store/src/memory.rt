@@ -43,7 +43,7 @@ impl Memory {
     pub fn len(&self) -> usize
         ensures { result ≡ length self.now }
     {
-        self.bytes.len()
+        self.bytes.as_slice().len()
     }
 
     /// So many bytes from an address, where they are in memory.
@@ -142,7 +142,7 @@ impl Memory {
         ensures inside { OnTrue result ((base + offset + 1 ≤ length self.old) × (self.new ≡ written self.old (base + offset) (to_bytes 1 value))) }
         ensures outside { OnFalse result ((length self.old < base + offset + 1) × (self.new ≡ self.old)) }
     {
-        self.put(base as usize + offset as usize, &value.to_le_bytes())
+        self.put(base as usize + offset as usize, &[value])
     }
 
     /// Stores 2 bytes from a base and an offset on (section 4.4.4), or nothing where they would pass the end.
@@ -150,7 +150,7 @@ impl Memory {
         ensures inside { OnTrue result ((base + offset + 2 ≤ length self.old) × (self.new ≡ written self.old (base + offset) (to_bytes 2 value))) }
         ensures outside { OnFalse result ((length self.old < base + offset + 2) × (self.new ≡ self.old)) }
     {
-        self.put(base as usize + offset as usize, &value.to_le_bytes())
+        self.put(base as usize + offset as usize, &u16::to_le_bytes(value))
     }
 
     /// Stores 4 bytes from a base and an offset on (section 4.4.4), or nothing where they would pass the end.
@@ -158,7 +158,7 @@ impl Memory {
         ensures inside { OnTrue result ((base + offset + 4 ≤ length self.old) × (self.new ≡ written self.old (base + offset) (to_bytes 4 value))) }
         ensures outside { OnFalse result ((length self.old < base + offset + 4) × (self.new ≡ self.old)) }
     {
-        self.put(base as usize + offset as usize, &value.to_le_bytes())
+        self.put(base as usize + offset as usize, &u32::to_le_bytes(value))
     }
 
     /// Stores 8 bytes from a base and an offset on (section 4.4.4), or nothing where they would pass the end.
@@ -166,7 +166,7 @@ impl Memory {
         ensures inside { OnTrue result ((base + offset + 8 ≤ length self.old) × (self.new ≡ written self.old (base + offset) (to_bytes 8 value))) }
         ensures outside { OnFalse result ((length self.old < base + offset + 8) × (self.new ≡ self.old)) }
     {
-        self.put(base as usize + offset as usize, &value.to_le_bytes())
+        self.put(base as usize + offset as usize, &u64::to_le_bytes(value))
     }
 
     /// Grows by so many pages of zeros, to at most `limit` pages, and gives the pages before (section 4.4.4). Past the

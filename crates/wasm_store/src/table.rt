@@ -38,7 +38,7 @@ impl Table {
     pub fn len(&self) -> usize
         ensures { result ≡ length self.now }
     {
-        self.elements.len()
+        self.elements.as_slice().len()
     }
 
     /// The element at an index, if there is one.
