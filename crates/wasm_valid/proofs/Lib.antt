@@ -7,3 +7,6 @@ pub mod Refusals
 pub mod Parts
 pub mod EachBody
 pub mod Assembled
+pub mod Fitting
+pub mod Instructed
+pub mod Blocks

@@ -5,3 +5,6 @@ pub mod StraightLine
 pub mod Refusal
 pub mod Rules
 pub mod FunctionSpace
+pub mod Stack
+pub mod Effects
+pub mod Blocks

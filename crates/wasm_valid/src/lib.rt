@@ -2,6 +2,8 @@
 #![tactic(auto)]
 
 mod bodies;
+mod effects;
+mod frames;
 mod module_rules;
 mod names;
 mod stack;
