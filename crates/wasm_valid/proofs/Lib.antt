@@ -10,3 +10,4 @@ pub mod Assembled
 pub mod Fitting
 pub mod Instructed
 pub mod Blocks
+pub mod Kept

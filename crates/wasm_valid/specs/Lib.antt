@@ -8,3 +8,5 @@ pub mod FunctionSpace
 pub mod Stack
 pub mod Effects
 pub mod Blocks
+pub mod Operands
+pub mod Scopes

@@ -83,13 +83,14 @@ select_from x = option_and_then (λ y. option_map (λ t. push_any t y.1) (meet x
 abbrev pub selected : Stack → Option Stack
 selected s = option_and_then (λ r. option_and_then select_from (pop_any r)) (pop I32 s)
 
--- whether these types can be on the stack, and no others
+abbrev pub is_nil : List (Option ValueType) → Bool
+is_nil [] = true
+is_nil (o ∷ os) = false
+
 abbrev pub is_emptied : Option Stack → Bool
 is_emptied None = false
-is_emptied (Some s) = is_nil s.known where
-  is_nil : List (Option ValueType) → Bool
-  is_nil [] = true
-  is_nil (o ∷ os) = false
+is_emptied (Some s) = is_nil s.known
 
+-- whether these types can be on the stack, and no others
 abbrev pub can_be : List ValueType → Stack → Bool
 can_be ts s = is_emptied (pops ts s)

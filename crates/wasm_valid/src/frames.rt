@@ -1,5 +1,11 @@
 //! The blocks that are open while a body is walked.
 
+ghost use Rattle.std.specs.Prelude.{◌≡◌};
+ghost use Rattle.wasm_valid.specs.Typing.{results_of};
+ghost use Rattle.wasm_valid.specs.Blocks.{label_of};
+
+use std::alloc::{AllocError, Global};
+use std::marker::Model;
 use wasm_module::BlockType;
 
 /// How a block that is open began.
@@ -28,4 +34,67 @@ pub struct Frame {
     /// What it leaves.
     pub block_type: BlockType,
     pub around: Mark,
+}
+
+/// What a branch to a block keeps (section 3.1.1).
+fn label_of(frame: &Frame) -> BlockType
+    ensures { results_of result ≡ label_of frame.now.kind frame.now.block_type }
+{
+    match frame.kind {
+        FrameKind::Block | FrameKind::If => frame.block_type,
+        FrameKind::Loop => BlockType::Empty,
+    }
+}
+
+/// The blocks that are open, the innermost first.
+#[derive(Drop)]
+pub struct Frames {
+    frames: Vec<Frame>,
+}
+
+impl Model for Frames {
+    ghost use Rattle.std.specs.Prelude.{List, reverse};
+    ghost use Rattle.wasm_valid.specs.declared.frames.Frame.{Frame as FrameValue};
+
+    ghost Value = { List FrameValue };
+
+    ghost view = { λ f. reverse f.frames.items };
+}
+
+impl Frames {
+    ghost use Rattle.std.specs.Prelude.{◌≡◌, [], ◌∷◌, length, map, slice_get, MatchOption, IfOk};
+    ghost use Rattle.std.specs.Option.{option_map};
+    ghost use Rattle.wasm_valid.specs.Typing.{results_of};
+    ghost use Rattle.wasm_valid.specs.Blocks.{label_of};
+
+    pub fn new(alloc: Global) -> Frames
+        ensures { result ≡ [] }
+    {
+        Frames {
+            frames: Vec::new(alloc),
+        }
+    }
+
+    pub fn push(&mut self, frame: Frame) -> Result<(), AllocError>
+        ensures { IfOk result (λ _. self.new ≡ frame ∷ self.old) }
+    {
+        self.frames.push(frame)?;
+        Ok(())
+    }
+
+    pub fn pop(&mut self) -> Option<Frame>
+        ensures { MatchOption result (self.old ≡ []) (λ f. self.old ≡ f ∷ self.new) }
+    {
+        self.frames.pop()
+    }
+
+    /// What a branch to the block of this index, counted from the innermost, keeps.
+    pub fn label(&self, index: u32) -> Option<BlockType>
+        ensures { option_map results_of result
+            ≡ slice_get (map (λ f. label_of f.kind f.block_type) self.now) index }
+    {
+        let place = self.frames.len().checked_sub(index as usize)?;
+        let frame = self.frames.get(place.checked_sub(1)?)?;
+        Some(label_of(frame))
+    }
 }

@@ -4,8 +4,11 @@
 mod bodies;
 mod effects;
 mod frames;
+mod locals;
 mod module_rules;
 mod names;
+mod operands;
+mod scope;
 mod stack;
 mod valid;
 mod validating;
