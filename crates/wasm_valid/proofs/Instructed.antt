@@ -219,3 +219,13 @@ op_walks c ls (op.Binary t o) s = moved_walks (t ∷ t ∷ []) (t ∷ []) s
 op_walks c ls op.I32WrapI64 s = moved_walks (I64 ∷ []) (I32 ∷ []) s
 op_walks c ls op.I64ExtendI32S s = moved_walks (I32 ∷ []) (I64 ∷ []) s
 op_walks c ls op.I64ExtendI32U s = moved_walks (I32 ∷ []) (I64 ∷ []) s
+
+-- ---- an instruction by what was found of it
+
+pub access_effect : (c : Context) (i : Instruction) (a : Access) → Some a ≡ access_of i → variable_effect c i ≡ if_true (c.has_memory && nat_le a.align a.most) a.effect
+access_effect c (op.LocalGet x) a e = cc
+access_effect c (op.LocalSet x) a e = cc
+access_effect c (op.LocalTee x) a e = cc
+access_effect c (op.GlobalGet x) a e = cc
+access_effect c (op.GlobalSet x) a e = cc
+access_effect c i a e = ap (λ o. accessed c.has_memory o (numeric_effect i)) (sym e)

@@ -11,3 +11,4 @@ pub mod Fitting
 pub mod Instructed
 pub mod Blocks
 pub mod Kept
+pub mod Groups

@@ -9,4 +9,5 @@ pub mod Stack
 pub mod Effects
 pub mod Blocks
 pub mod Operands
+pub mod Ends
 pub mod Scopes

@@ -1,8 +1,6 @@
 -- What the code keeps of the context of a body (section 3.1.1).
-use Rattle.std.specs.Prelude.{◌≡◌, ℕ, ◌+◌, ◌^◌, ◌-◌, List, [], ◌∷◌, min}
-use Rattle.wasm_module.specs.declared.instruction.ValueType.{ValueType}
-use Rattle.wasm_module.specs.declared.module.Locals.{Locals}
-use Rattle.wasm_valid.specs.declared.scope.Space.{Space}
+use Rattle.std.specs.Prelude.{◌≡◌}
+use Rattle.wasm_valid.specs.declared.space.Space.{Space}
 use Rattle.wasm_valid.specs.declared.scope.Scope.{Scope}
 use Rattle.wasm_valid.specs.Typing.{Context, results_of}
 use Rattle.wasm_valid.specs.Validity.{AreTypesAt}
@@ -19,8 +17,3 @@ pub record IsScope (scope : Scope) (c : Context) : Type 0 where
   pub space : IsSpace scope.space.now c
   pub locals : c.locals ≡ scope.locals
   pub returns : c.returns ≡ results_of scope.returns
-
--- how many locals there are up to the end of each group, as far as 64 bits say it
-abbrev pub ends_from : ℕ → List Locals → List ℕ
-ends_from end [] = []
-ends_from end (l ∷ ls) = min (end + l.count) (2 ^ 64 - 1) ∷ ends_from (min (end + l.count) (2 ^ 64 - 1)) ls

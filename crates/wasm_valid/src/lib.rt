@@ -9,6 +9,7 @@ mod module_rules;
 mod names;
 mod operands;
 mod scope;
+mod space;
 mod stack;
 mod valid;
 mod validating;

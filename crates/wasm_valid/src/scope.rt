@@ -1,6 +1,6 @@
 //! What the instructions of a body are typed in (section 3.1.1).
 
-ghost use Rattle.std.specs.Prelude.{◌≡◌, ◌≤◌, ◌&&◌, All, length, nat_le, slice_get, IfSome};
+ghost use Rattle.std.specs.Prelude.{◌≡◌, ◌≤◌, ◌&&◌, length, nat_le, slice_get, IfSome};
 ghost use Rattle.std.specs.Option.{option_copied};
 ghost use Rattle.wasm_valid.specs.Typing.{Context, results_of};
 ghost use Rattle.wasm_valid.specs.Stack.{if_true};
@@ -8,19 +8,8 @@ ghost use Rattle.wasm_valid.specs.Effects.{variable_effect};
 
 use crate::effects::{Access, Effect, Takes, numeric, on_memory};
 use crate::locals::LocalTypes;
+use crate::space::Space;
 use wasm_module::{BlockType, FuncType, GlobalType, Instruction, ValueType};
-
-/// The parts of a module by their indices, the imported ones first.
-#[derive(Drop)]
-pub struct Space<'m> {
-    pub types: &'m [FuncType],
-    /// The index of each function's type.
-    pub type_indices: Vec<u32>,
-    pub globals: Vec<GlobalType>,
-    pub has_table: bool,
-    pub has_memory: bool,
-    ghost one_result: { All (λ f. length f.results ≤ 1) types.now },
-}
 
 /// What a body's instructions are typed in.
 #[derive(Drop)]
