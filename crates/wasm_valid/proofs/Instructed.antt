@@ -22,8 +22,8 @@ use Rattle.wasm_valid.specs.declared.effects.Effect.{Effect}
 use Rattle.wasm_valid.specs.declared.effects.Access.{Access}
 use Rattle.wasm_valid.specs.Typing.{Context, Labels, Moves, Leaves, Loads, Stores, IsOperator, OpTyped, results_of}
 use Rattle.wasm_valid.specs.Stack.{Stack, anything, if_true, when, is_same, pop, pops, push, moved, left, dropped, selected}
-use Rattle.wasm_valid.specs.Effects.{taken, effect, access, load, store, access_of, is_operator, numeric_effect, accessed, variable_effect, applied, are_same, keeps, all_keep, tabled, called, called_indirect, after}
-use Rattle.wasm_valid.proofs.Fitting.{Fits, Walks, Walks-same, Walks-is, Walks-with, Walks-when, Walks-never, moved_walks, left_walks, unreachable_walks, dropped_walks, selected_walks, is_same_true, is_same_same}
+use Rattle.wasm_valid.specs.Effects.{taken, effect, access, load, store, access_of, is_operator, numeric_effect, accessed, variable_effect, applied, are_same, keeps, all_keep, table_label, called, called_indirect, after}
+use Rattle.wasm_valid.proofs.Fitting.{Fits, Walks, Walks-same, Walks-is, Walks-with, Walks-when, Walks-never, moved_walks, left_walks, unreachable_walks, dropped_walks, selected_walks, is_same_true, is_same_same, and_then_some, if_true_some}
 
 -- ---- tests
 
@@ -132,13 +132,22 @@ all_keep_all : (ls : Labels) (kept : List ValueType) (table : List ℕ) → AllB
 all_keep_all ls kept [] h = refl
 all_keep_all ls kept (l ∷ more) h = true_and (keeps kept (slice_get ls l)) (all_keep ls kept more) (keeps_same kept (slice_get ls l) h.0) (all_keep_all ls kept more h.1)
 
+label_some : (ls : Labels) (table : List ℕ) (default : ℕ) (kept : List ValueType) → table_label ls table default ≡ Some kept → AllByRecursion (λ l. slice_get ls l ≡ Some kept) table × (slice_get ls default ≡ Some kept)
+label_some ls table default kept e =
+    let m = and_then_some (λ (k : List ValueType). if_true (all_keep ls k table) k) (slice_get ls default) kept e in
+    let q = if_true_some (all_keep ls m.0 table) m.0 kept m.2 in
+    (subst (λ (k : List ValueType). AllByRecursion (λ l. slice_get ls l ≡ Some k) table) q.1 (all_keep_true ls m.0 table q.0), m.1 ∙ ap Some q.1)
+
+some_label : (ls : Labels) (table : List ℕ) (default : ℕ) (kept : List ValueType) → AllByRecursion (λ l. slice_get ls l ≡ Some kept) table → slice_get ls default ≡ Some kept → table_label ls table default ≡ Some kept
+some_label ls table default kept all e =
+    ap (option_and_then (λ (k : List ValueType). if_true (all_keep ls k table) k)) e ∙ ap (λ (t : Bool). if_true t kept) (all_keep_all ls kept table all)
+
 table_walks : (ls : Labels) (table : List ℕ) (default : ℕ) (s : Stack)
-    → Walks (λ a b. (kept : List ValueType) × AllByRecursion (λ l. slice_get ls l ≡ Some kept) table × (slice_get ls default ≡ Some kept) × Leaves (I32 ∷ kept) a) s (option_and_then (tabled ls table s) (slice_get ls default))
+    → Walks (λ a b. (kept : List ValueType) × AllByRecursion (λ l. slice_get ls l ≡ Some kept) table × (slice_get ls default ≡ Some kept) × Leaves (I32 ∷ kept) a) s (option_and_then (λ kept. left (I32 ∷ kept) s) (table_label ls table default))
 table_walks ls table default s =
-    Walks-same (λ a b. (kept : List ValueType) × (slice_get ls default ≡ Some kept) × ((all_keep ls kept table ≡ true) × Leaves (I32 ∷ kept) a)) (λ a b. (kept : List ValueType) × AllByRecursion (λ l. slice_get ls l ≡ Some kept) table × (slice_get ls default ≡ Some kept) × Leaves (I32 ∷ kept) a) s (option_and_then (tabled ls table s) (slice_get ls default))
-    (λ a b q. (q.0, all_keep_true ls q.0 table q.2.0, q.1, q.2.1)) (λ a b q. (q.0, q.2, (all_keep_all ls q.0 table q.1, q.3)))
-    (Walks-with (λ (kept : List ValueType) a b. (all_keep ls kept table ≡ true) × Leaves (I32 ∷ kept) a) s (tabled ls table s) (slice_get ls default)
-    (λ kept. Walks-when (λ a b. Leaves (I32 ∷ kept) a) s (left (I32 ∷ kept) s) (all_keep ls kept table) (left_walks (I32 ∷ kept) s)))
+    Walks-same (λ a b. (kept : List ValueType) × (table_label ls table default ≡ Some kept) × Leaves (I32 ∷ kept) a) (λ a b. (kept : List ValueType) × AllByRecursion (λ l. slice_get ls l ≡ Some kept) table × (slice_get ls default ≡ Some kept) × Leaves (I32 ∷ kept) a) s (option_and_then (λ kept. left (I32 ∷ kept) s) (table_label ls table default))
+    (λ a b q. let l = label_some ls table default q.0 q.1 in (q.0, l.0, l.1, q.2)) (λ a b q. (q.0, some_label ls table default q.0 q.1 q.2, q.3))
+    (Walks-with (λ (kept : List ValueType) a b. Leaves (I32 ∷ kept) a) s (λ kept. left (I32 ∷ kept) s) (table_label ls table default) (λ kept. left_walks (I32 ∷ kept) s))
 
 -- ---- calls
 

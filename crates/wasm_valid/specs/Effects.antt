@@ -1,6 +1,7 @@
 -- What each instruction does to the types on the stack (section 3.3), as one walk over the code finds it.
 use Rattle.std.specs.Prelude.{◌≡◌, ℕ, List, [], ◌∷◌, ◌++◌, Option, Some, None, Bool, true, false, ◌&&◌, nat_le, slice_get, reverse}
 use Rattle.wasm_valid.specs.Stack.{pop}
+use Rattle.std.specs.List.{list_all}
 use Rattle.std.specs.Option.{option_map, option_and_then}
 use Rattle.wasm_module.specs.declared.instruction.ValueType.{ValueType}
 use Rattle.wasm_module.specs.declared.instruction.ValueType.TheVariants.{I32, I64}
@@ -117,12 +118,7 @@ keeps kept None = false
 keeps kept (Some ts) = are_same ts kept
 
 abbrev pub all_keep : Labels → List ValueType → List ℕ → Bool
-all_keep ls kept [] = true
-all_keep ls kept (l ∷ more) = keeps kept (slice_get ls l) && all_keep ls kept more
-
--- a branch by a table, whose default label keeps these types
-abbrev pub tabled : Labels → List ℕ → Stack → List ValueType → Option Stack
-tabled ls table s kept = when (all_keep ls kept table) (left (I32 ∷ kept) s)
+all_keep ls kept table = list_all (λ l. keeps kept (slice_get ls l)) table
 
 abbrev pub called : FuncType → Stack → Option Stack
 called f s = moved (reverse f.params) f.results s
@@ -130,11 +126,15 @@ called f s = moved (reverse f.params) f.results s
 abbrev pub called_indirect : FuncType → Stack → Option Stack
 called_indirect f s = option_and_then (called f) (pop I32 s)
 
+-- where all labels keep the same, what they keep
+abbrev pub table_label : Labels → List ℕ → ℕ → Option (List ValueType)
+table_label ls table default = option_and_then (λ kept. if_true (all_keep ls kept table) kept) (slice_get ls default)
+
 unfoldable pub after : Context → Labels → Instruction → Stack → Option Stack
 after c ls op.Unreachable s = Some anything
 after c ls (op.Br l) s = option_and_then (λ kept. left kept s) (slice_get ls l)
 after c ls (op.BrIf l) s = option_and_then (λ kept. moved (I32 ∷ kept) kept s) (slice_get ls l)
-after c ls (op.BrTable table) s = option_and_then (tabled ls table.0 s) (slice_get ls table.1)
+after c ls (op.BrTable table) s = option_and_then (λ kept. left (I32 ∷ kept) s) (table_label ls table.0 table.1)
 after c ls op.Return s = left c.returns s
 after c ls (op.Call x) s = option_and_then (λ f. called f s) (slice_get c.functions x)
 after c ls (op.CallIndirect x) s = option_and_then (λ f. called_indirect f s) (when c.has_table (slice_get c.types x))

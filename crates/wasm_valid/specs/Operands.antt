@@ -1,10 +1,11 @@
 -- The operands of a body while it is walked, of all open blocks, and how they are kept.
-use Rattle.std.specs.Prelude.{◌≡◌, ℕ, ◌≤◌, List, [], ◌∷◌, Option, Some, None, Bool, true, false, take, drop, reverse, length}
+use Rattle.std.specs.Prelude.{◌≡◌, ℕ, ◌≤◌, List, [], ◌∷◌, Option, Some, None, Bool, true, false, map, take, drop, reverse, length}
 use Rattle.wasm_module.specs.declared.instruction.ValueType.{ValueType}
 use Rattle.wasm_valid.specs.declared.frames.Frame.{Frame}
 use Rattle.wasm_valid.specs.declared.frames.Mark.{Mark}
 use Rattle.wasm_valid.specs.Stack.{Stack}
-use Rattle.wasm_valid.specs.Blocks.{OpenBlock}
+use Rattle.wasm_valid.specs.Typing.{Labels}
+use Rattle.wasm_valid.specs.Blocks.{OpenBlock, label_of}
 
 -- the stack of the innermost block, and what lies below it, the lowest first
 pub record Operands : Type 0 where
@@ -26,6 +27,9 @@ split_at height u types = operands (take height types) (stack_of (drop height ty
 abbrev pub blocks_of : Operands → List Frame → List OpenBlock
 blocks_of o [] = []
 blocks_of o (f ∷ fs) = record { kind = f.kind; block_type = f.block_type; stack = o.stack } ∷ blocks_of (split_at f.around.height f.around.unreachable o.below) fs
+
+abbrev pub frame_labels : List Frame → Labels
+frame_labels fs = map (λ f. label_of f.kind f.block_type) fs
 
 -- each block lies above those around it
 abbrev pub AreNested : List (Option ValueType) → List Frame → Type 0

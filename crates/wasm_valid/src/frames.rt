@@ -62,10 +62,10 @@ impl Model for Frames {
 }
 
 impl Frames {
-    ghost use Rattle.std.specs.Prelude.{◌≡◌, [], ◌∷◌, length, map, slice_get, MatchOption, IfOk};
+    ghost use Rattle.std.specs.Prelude.{◌≡◌, [], ◌∷◌, slice_get, MatchOption, IfOk};
     ghost use Rattle.std.specs.Option.{option_map};
     ghost use Rattle.wasm_valid.specs.Typing.{results_of};
-    ghost use Rattle.wasm_valid.specs.Blocks.{label_of};
+    ghost use Rattle.wasm_valid.specs.Operands.{frame_labels};
 
     pub fn new(alloc: Global) -> Frames
         ensures { result ≡ [] }
@@ -90,8 +90,7 @@ impl Frames {
 
     /// What a branch to the block of this index, counted from the innermost, keeps.
     pub fn label(&self, index: u32) -> Option<BlockType>
-        ensures { option_map results_of result
-            ≡ slice_get (map (λ f. label_of f.kind f.block_type) self.now) index }
+        ensures { option_map results_of result ≡ slice_get (frame_labels self.now) index }
     {
         let place = self.frames.len().checked_sub(index as usize)?;
         let frame = self.frames.get(place.checked_sub(1)?)?;

@@ -4,6 +4,7 @@
 mod bodies;
 mod effects;
 mod frames;
+mod instructions;
 mod locals;
 mod module_rules;
 mod names;
