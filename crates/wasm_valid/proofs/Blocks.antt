@@ -14,7 +14,7 @@ use Rattle.wasm_valid.specs.declared.frames.FrameKind.TheVariants.{Block, Loop, 
 use Rattle.wasm_valid.specs.Typing.{Context, Labels, OpTyped, Typed, results_of}
 use Rattle.wasm_valid.specs.Stack.{Stack, nothing, anything, if_true, when, pop, push, can_be}
 use Rattle.wasm_valid.specs.Effects.{after}
-use Rattle.wasm_valid.specs.Blocks.{OpenBlock, label_of, labels_of, opened, with_stack, may_end, ends, is_if, ended, elsed, on_stack, begun, stepped}
+use Rattle.wasm_valid.specs.Blocks.{OpenBlock, label_of, labels_of, opened, with_stack, may_end, ends, is_if, ended, elsed, on_stack, opened_in, popped_in, begun_in, ended_in, elsed_in, plain_in, stepped, is_finished}
 use Rattle.wasm_valid.proofs.Fitting.{Fits, Walks, pop_complete, pop_sound, push_complete, push_sound, can_be_fits, fits_can_be, map_some, if_true_some}
 use Rattle.wasm_valid.proofs.Instructed.{OpWalks, op_walks, and_true, true_and}
 
@@ -507,7 +507,7 @@ plain_answer c i flat b bs p (Some r) e =
     let turn = plain_turns c (labels_of (b ∷ bs)) i b.stack r p e in
     ((λ q. without_front flat (goes_on c i b bs r IsNone flat turn q)), (λ q. comes_from c i b bs r IsNone flat turn (nothing_before flat q)))
 
-begun_answer : (c : Context) (t : BlockType) (flat : List Instruction) (b : OpenBlock) (bs : List OpenBlock) (o : Option Stack) → pop I32 b.stack ≡ o → Answered c (op.If t) flat (b ∷ bs) (option_map (λ s. opened If t ∷ with_stack b s ∷ bs) o)
+begun_answer : (c : Context) (t : BlockType) (flat : List Instruction) (b : OpenBlock) (bs : List OpenBlock) (o : Option Stack) → pop I32 b.stack ≡ o → Answered c (op.If t) flat (b ∷ bs) (option_and_then (opened_in If t) (on_stack b bs o))
 begun_answer c t flat b bs None e = never_goes c (op.If t) b bs flat (if_never c (labels_of (b ∷ bs)) t b.stack e)
 begun_answer c t flat b bs (Some r) e =
     let turn = if_turns c (labels_of (b ∷ bs)) t b.stack r e in
@@ -571,35 +571,66 @@ else_answer c flat b bs = by_test (is_if b.kind && can_be (results_of b.block_ty
       )
   by_test false e = λ q. let h = (else_goes c b bs flat q).0 in cc
 
-pub step_answer : (c : Context) (i : Instruction) (flat : List Instruction) (bs : List OpenBlock) → (flat ≡ [] → ⊥) → Answered c i flat bs (stepped c i bs)
+block_answer : (c : Context) (i : Instruction) (flat : List Instruction) (b : OpenBlock) (bs : List OpenBlock) → (flat ≡ [] → ⊥) → Answered c i flat (b ∷ bs) (stepped c i (b ∷ bs))
 unfolding stepped
-step_answer c i flat [] some = λ q. cc
-step_answer c (op.Block t) flat (b ∷ bs) some =
+block_answer c (op.Block t) flat b bs some =
     let turn = block_turns c (labels_of (b ∷ bs)) t b.stack in
     let A = Run op.End c (results_of t ∷ labels_of (b ∷ bs)) nothing (results_of t) in
     ((λ q. goes_on c (op.Block t) b bs (push (results_of t) b.stack) A flat turn q), (λ q. comes_from c (op.Block t) b bs (push (results_of t) b.stack) A flat turn q))
-step_answer c (op.Loop t) flat (b ∷ bs) some =
+block_answer c (op.Loop t) flat b bs some =
     let turn = loop_turns c (labels_of (b ∷ bs)) t b.stack in
     let A = Run op.End c ([] ∷ labels_of (b ∷ bs)) nothing (results_of t) in
     ((λ q. goes_on c (op.Loop t) b bs (push (results_of t) b.stack) A flat turn q), (λ q. comes_from c (op.Loop t) b bs (push (results_of t) b.stack) A flat turn q))
-step_answer c (op.If t) flat (b ∷ bs) some = begun_answer c t flat b bs (pop I32 b.stack) refl
-step_answer c op.Else flat (b ∷ bs) some = else_answer c flat b bs
-step_answer c op.End flat (b ∷ bs) some = end_answer c flat b bs some
-step_answer c i flat (b ∷ bs) some = plain_answer c i flat b bs tt (after c (labels_of (b ∷ bs)) i b.stack) refl
+block_answer c (op.If t) flat b bs some = begun_answer c t flat b bs (pop I32 b.stack) refl
+block_answer c op.Else flat b bs some = else_answer c flat b bs
+block_answer c op.End flat b bs some = end_answer c flat b bs some
+block_answer c i flat b bs some = plain_answer c i flat b bs tt (after c (labels_of (b ∷ bs)) i b.stack) refl
+
+nowhere : (c : Context) (i : Instruction) → None ≡ stepped c i []
+unfolding stepped
+nowhere c (op.Block t) = refl
+nowhere c (op.Loop t) = refl
+nowhere c (op.If t) = refl
+nowhere c op.Else = refl
+nowhere c op.End = refl
+nowhere c i = refl
+
+pub step_answer : (c : Context) (i : Instruction) (flat : List Instruction) (bs : List OpenBlock) → (flat ≡ [] → ⊥) → Answered c i flat bs (stepped c i bs)
+step_answer c i flat [] some = subst (Answered c i flat []) (nowhere c i) (λ q. cc)
+step_answer c i flat (b ∷ bs) some = block_answer c i flat b bs some
 
 -- ---- a whole body
 
--- the last instruction is the end of the body
-pub body_ends : (c : Context) (b : OpenBlock) (d : List OpenBlock) (bs : List OpenBlock) → bs ≡ b ∷ d → Going c bs (op.End ∷ []) → (ends b ≡ true) × (d ≡ [])
-body_ends c b d bs e q = by_rest d (end_goes c b d [] (subst (λ (l : List OpenBlock). Going c l (op.End ∷ [])) e q)) where
-  by_rest : (d : List OpenBlock) → (ends b ≡ true) × Ending c d (results_of b.block_type) [] → (ends b ≡ true) × (d ≡ [])
-  by_rest [] h = (h.0, refl)
-  by_rest (a ∷ more) h = absurd (no_part h.1) where
-    no_part : Ending c (a ∷ more) (results_of b.block_type) [] → ⊥
-    no_part k = by_front k.front k.back k.is k.first where
-      by_front : (front back : List Instruction) → [] ≡ front ++ back → Part c (labels_of (a ∷ more)) a.kind a.block_type (push (results_of b.block_type) a.stack) front → ⊥
-      by_front [] back e p = part_some c (labels_of (a ∷ more)) a.kind a.block_type (push (results_of b.block_type) a.stack) p
-      by_front (i ∷ x) back e p = cc
+no_ending : (c : Context) (d : OpenBlock) (bs : List OpenBlock) (rs : List ValueType) → Ending c (d ∷ bs) rs [] → ⊥
+no_ending c d bs rs q = by_front q.front q.back q.is q.first where
+  by_front : (front back : List Instruction) → [] ≡ front ++ back → Part c (labels_of (d ∷ bs)) d.kind d.block_type (push rs d.stack) front → ⊥
+  by_front [] back e p = part_some c (labels_of (d ∷ bs)) d.kind d.block_type (push rs d.stack) p
+  by_front (i ∷ x) back e p = cc
 
-pub ends_body : (c : Context) (b : OpenBlock) → ends b ≡ true → Going c (b ∷ []) (op.End ∷ [])
-ends_body c b e = end_comes c b [] [] e refl
+-- the last instruction is the end of the body
+pub finish_answer : (c : Context) (bs : List OpenBlock) (t : Bool) → t ≡ is_finished bs → ((t ≡ true) → Going c bs (op.End ∷ [])) × (Going c bs (op.End ∷ []) → t ≡ true)
+finish_answer c [] t e = ((λ h. cc), (λ q. cc))
+finish_answer c (b ∷ []) t e = ((λ h. end_comes c b [] [] (sym e ∙ h) refl), (λ q. e ∙ (end_goes c b [] [] q).0))
+finish_answer c (b ∷ d ∷ bs) t e = ((λ h. cc), (λ q. absurd (no_ending c d bs (results_of b.block_type) (end_goes c b (d ∷ bs) [] q).1)))
+
+-- code is typed from the beginning of its body
+pub body_from : (c : Context) (t : BlockType) (flat : List Instruction) → Going c (opened Block t ∷ []) flat → (code : Instructions) × IsWritten code × (flatten op.End code ≡ flat) × Typed c (results_of t ∷ []) code [] (results_of t)
+body_from c t flat q =
+    let k = q.first in
+    let same : k.from ≡ [] = only_nothing k.from k.fits in
+    (k.code, k.written, k.is ∙ no_back q.front ∙ ap (λ (l : List Instruction). q.front ++ l) (sym q.second) ∙ sym q.is, subst (λ (y : List ValueType). Typed c (results_of t ∷ []) k.code y (results_of t)) same k.typed) where
+  no_back : (l : List Instruction) → l ≡ l ++ []
+  no_back [] = refl
+  no_back (i ∷ l) = ap (λ (x : List Instruction). i ∷ x) (no_back l)
+
+pub from_body : (c : Context) (t : BlockType) (flat : List Instruction) (code : Instructions) → IsWritten code → flatten op.End code ≡ flat → Typed c (results_of t ∷ []) code [] (results_of t) → Going c (opened Block t ∷ []) flat
+from_body c t flat code w e h = record {
+  front = flat;
+  back = [];
+  is = no_back flat;
+  first = record { code = code; written = w; is = e; from = []; fits = refl; typed = h };
+  second = refl;
+} where
+  no_back : (l : List Instruction) → l ≡ l ++ []
+  no_back [] = refl
+  no_back (i ∷ l) = ap (λ (x : List Instruction). i ∷ x) (no_back l)

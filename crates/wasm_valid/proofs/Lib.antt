@@ -12,3 +12,4 @@ pub mod Instructed
 pub mod Blocks
 pub mod Kept
 pub mod Groups
+pub mod Nested

@@ -61,14 +61,41 @@ elsed b bs = if_true (is_if b.kind && can_be (results_of b.block_type) b.stack) 
 abbrev pub on_stack : OpenBlock → List OpenBlock → Option Stack → Option (List OpenBlock)
 on_stack b bs o = option_map (λ s. with_stack b s ∷ bs) o
 
-abbrev pub begun : BlockType → OpenBlock → List OpenBlock → Option (List OpenBlock)
-begun t b bs = option_map (λ s. opened If t ∷ with_stack b s ∷ bs) (pop I32 b.stack)
+-- ---- the same, where a block is open
+
+abbrev pub opened_in : FrameKind → BlockType → List OpenBlock → Option (List OpenBlock)
+opened_in k t [] = None
+opened_in k t (b ∷ bs) = Some (opened k t ∷ b ∷ bs)
+
+abbrev pub popped_in : ValueType → List OpenBlock → Option (List OpenBlock)
+popped_in t [] = None
+popped_in t (b ∷ bs) = on_stack b bs (pop t b.stack)
+
+abbrev pub begun_in : BlockType → List OpenBlock → Option (List OpenBlock)
+begun_in t bs = option_and_then (opened_in If t) (popped_in I32 bs)
+
+abbrev pub ended_in : List OpenBlock → Option (List OpenBlock)
+ended_in [] = None
+ended_in (b ∷ bs) = ended b bs
+
+abbrev pub elsed_in : List OpenBlock → Option (List OpenBlock)
+elsed_in [] = None
+elsed_in (b ∷ bs) = elsed b bs
+
+abbrev pub plain_in : Context → Instruction → List OpenBlock → Option (List OpenBlock)
+plain_in c i [] = None
+plain_in c i (b ∷ bs) = on_stack b bs (after c (labels_of (b ∷ bs)) i b.stack)
 
 unfoldable pub stepped : Context → Instruction → List OpenBlock → Option (List OpenBlock)
-stepped c i [] = None
-stepped c (op.Block t) (b ∷ bs) = Some (opened Block t ∷ b ∷ bs)
-stepped c (op.Loop t) (b ∷ bs) = Some (opened Loop t ∷ b ∷ bs)
-stepped c (op.If t) (b ∷ bs) = begun t b bs
-stepped c op.Else (b ∷ bs) = elsed b bs
-stepped c op.End (b ∷ bs) = ended b bs
-stepped c i (b ∷ bs) = on_stack b bs (after c (labels_of (b ∷ bs)) i b.stack)
+stepped c (op.Block t) bs = opened_in Block t bs
+stepped c (op.Loop t) bs = opened_in Loop t bs
+stepped c (op.If t) bs = begun_in t bs
+stepped c op.Else bs = elsed_in bs
+stepped c op.End bs = ended_in bs
+stepped c i bs = plain_in c i bs
+
+-- whether an end may close the one block that is open
+abbrev pub is_finished : List OpenBlock → Bool
+is_finished [] = false
+is_finished (b ∷ []) = ends b
+is_finished (b ∷ d ∷ bs) = false

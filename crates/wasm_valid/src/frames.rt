@@ -62,7 +62,7 @@ impl Model for Frames {
 }
 
 impl Frames {
-    ghost use Rattle.std.specs.Prelude.{◌≡◌, [], ◌∷◌, slice_get, MatchOption, IfOk};
+    ghost use Rattle.std.specs.Prelude.{◌≡◌, ◌<◌, [], ◌∷◌, length, drop, slice_get, MatchOption, IfOk, OnErr};
     ghost use Rattle.std.specs.Option.{option_map};
     ghost use Rattle.wasm_valid.specs.Typing.{results_of};
     ghost use Rattle.wasm_valid.specs.Operands.{frame_labels};
@@ -75,8 +75,15 @@ impl Frames {
         }
     }
 
+    pub fn len(&self) -> usize
+        ensures { result ≡ length self.now }
+    {
+        self.frames.len()
+    }
+
     pub fn push(&mut self, frame: Frame) -> Result<(), AllocError>
-        ensures { IfOk result (λ _. self.new ≡ frame ∷ self.old) }
+        ensures pushed { IfOk result (λ _. self.new ≡ frame ∷ self.old) }
+        ensures unchanged { OnErr result (self.new ≡ self.old) }
     {
         self.frames.push(frame)?;
         Ok(())
@@ -86,6 +93,22 @@ impl Frames {
         ensures { MatchOption result (self.old ≡ []) (λ f. self.old ≡ f ∷ self.new) }
     {
         self.frames.pop()
+    }
+
+    /// The innermost block.
+    pub fn innermost(&self) -> Option<Frame>
+        ensures { result ≡ slice_get self.now 0 }
+    {
+        self.frames.last().copied()
+    }
+
+    /// Puts another in the place of the innermost block.
+    pub fn replace(&mut self, frame: Frame)
+        requires { 0 < length self.old }
+        ensures { self.new ≡ frame ∷ drop 1 self.old }
+    {
+        let place = self.frames.len() - 1;
+        self.frames[place] = frame;
     }
 
     /// What a branch to the block of this index, counted from the innermost, keeps.

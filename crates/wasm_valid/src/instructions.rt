@@ -78,7 +78,7 @@ fn branch_if(
     operands: &mut OperandStack,
     label: u32,
 ) -> Result<bool, AllocError>
-    ensures below { IfOk result (λ _. operands.new.below ≡ operands.old.below) }
+    ensures below { operands.new.below ≡ operands.old.below }
     ensures stack { IfOk result (λ typed. Answers typed
         (option_and_then (λ kept. moved (I32 ∷ kept) kept operands.old.stack) (slice_get (frame_labels frames.now) label))
         operands.new.stack) }
@@ -105,7 +105,7 @@ fn branch_table(frames: &Frames, operands: &mut OperandStack, table: &BranchTabl
 impl<'s, 'm> Scope<'s, 'm> {
     /// Changes the operands as `call` does; whether it may stand here.
     fn call(&self, operands: &mut OperandStack, index: u32) -> Result<bool, AllocError>
-        ensures below { IfOk result (λ _. operands.new.below ≡ operands.old.below) }
+        ensures below { operands.new.below ≡ operands.old.below }
         ensures stack { IfOk result (λ typed. (c : Context) → IsScope self.now c → Answers typed
             (option_and_then (λ f. called f operands.old.stack) (slice_get c.functions index))
             operands.new.stack) }
@@ -118,7 +118,7 @@ impl<'s, 'm> Scope<'s, 'm> {
 
     /// Changes the operands as `call_indirect` does; whether it may stand here.
     fn call_indirect(&self, operands: &mut OperandStack, index: u32) -> Result<bool, AllocError>
-        ensures below { IfOk result (λ _. operands.new.below ≡ operands.old.below) }
+        ensures below { operands.new.below ≡ operands.old.below }
         ensures stack { IfOk result (λ typed. (c : Context) → IsScope self.now c → Answers typed
             (option_and_then (λ f. called_indirect f operands.old.stack) (when c.has_table (slice_get c.types index)))
             operands.new.stack) }
@@ -141,7 +141,7 @@ impl<'s, 'm> Scope<'s, 'm> {
         operands: &mut OperandStack,
         instruction: &Instruction,
     ) -> Result<bool, AllocError>
-        ensures below { IfOk result (λ _. operands.new.below ≡ operands.old.below) }
+        ensures below { operands.new.below ≡ operands.old.below }
         ensures stack { IfOk result (λ typed. (c : Context) → IsScope self.now c → Answers typed
             (applied (variable_effect c instruction.now) operands.old.stack)
             operands.new.stack) }
@@ -160,7 +160,7 @@ impl<'s, 'm> Scope<'s, 'm> {
         operands: &mut OperandStack,
         instruction: &Instruction,
     ) -> Result<bool, AllocError>
-        ensures below { IfOk result (λ _. operands.new.below ≡ operands.old.below) }
+        ensures below { operands.new.below ≡ operands.old.below }
         ensures stack { IfOk result (λ typed. (c : Context) → IsScope self.now c → Answers typed
             (after c (frame_labels frames.now) instruction.now operands.old.stack)
             operands.new.stack) }

@@ -14,6 +14,7 @@ mod space;
 mod stack;
 mod valid;
 mod validating;
+mod walk;
 
 pub use valid::Valid;
 pub use validating::validate;

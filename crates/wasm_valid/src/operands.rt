@@ -114,7 +114,8 @@ impl OperandStack {
     }
 
     fn push(&mut self, operand: Option<ValueType>) -> Result<(), AllocError>
-        ensures { IfOk result (λ _. self.new ≡ operands self.old.below (push_any operand self.old.stack)) }
+        ensures below { self.new.below ≡ self.old.below }
+        ensures stack { IfOk result (λ _. self.new.stack ≡ push_any operand self.old.stack) }
     {
         self.types.push(operand)?;
         Ok(())
@@ -122,7 +123,8 @@ impl OperandStack {
 
     /// Puts what a block leaves on top.
     pub fn push_results(&mut self, gives: BlockType) -> Result<(), AllocError>
-        ensures { IfOk result (λ _. self.new ≡ operands self.old.below (push (results_of gives) self.old.stack)) }
+        ensures below { self.new.below ≡ self.old.below }
+        ensures stack { IfOk result (λ _. self.new.stack ≡ push (results_of gives) self.old.stack) }
     {
         match gives {
             BlockType::Empty => Ok(()),
@@ -132,7 +134,7 @@ impl OperandStack {
 
     /// Changes the operands as an instruction of this type does; whether it may stand here.
     pub fn apply(&mut self, effect: Effect) -> Result<bool, AllocError>
-        ensures below { IfOk result (λ _. self.new.below ≡ self.old.below) }
+        ensures below { self.new.below ≡ self.old.below }
         ensures stack { IfOk result (λ typed.
             Answers typed (moved (taken effect.takes) (results_of effect.gives) self.old.stack) self.new.stack) }
     {
@@ -146,7 +148,7 @@ impl OperandStack {
     /// Changes the operands as a call of a function with these parameters and this result does;
     /// whether it may stand here.
     pub fn call(&mut self, params: &[ValueType], gives: BlockType) -> Result<bool, AllocError>
-        ensures below { IfOk result (λ _. self.new.below ≡ self.old.below) }
+        ensures below { self.new.below ≡ self.old.below }
         ensures stack { IfOk result (λ typed.
             Answers typed (moved (reverse params.now) (results_of gives) self.old.stack) self.new.stack) }
     {
@@ -181,7 +183,7 @@ impl OperandStack {
 
     /// Changes the operands as `select` does; whether it may stand here.
     pub fn select(&mut self) -> Result<bool, AllocError>
-        ensures below { IfOk result (λ _. self.new.below ≡ self.old.below) }
+        ensures below { self.new.below ≡ self.old.below }
         ensures stack { IfOk result (λ typed. Answers typed (selected self.old.stack) self.new.stack) }
     {
         if !self.pop(ValueType::I32) {
@@ -218,18 +220,22 @@ impl OperandStack {
         }
     }
 
-    /// Begins a block, and says what is to be kept of the one around it.
-    pub fn enter(&mut self) -> Mark
-        ensures mark { result ≡ record { height = length self.old.below; unreachable = self.old.stack.unreachable } }
-        ensures stack { self.new ≡ operands (self.old.below ++ reverse self.old.stack.known) nothing }
+    /// What is to be kept of the innermost block while another is open in it.
+    pub fn mark(&self) -> Mark
+        ensures { result ≡ record { height = length self.now.below; unreachable = self.now.stack.unreachable } }
     {
-        let around = Mark {
+        Mark {
             height: self.height,
             unreachable: self.unreachable,
-        };
+        }
+    }
+
+    /// Begins a block.
+    pub fn enter(&mut self)
+        ensures { self.new ≡ operands (self.old.below ++ reverse self.old.stack.known) nothing }
+    {
         self.height = self.types.len();
         self.unreachable = false;
-        around
     }
 
     /// Begins the innermost block again, as `else` does.
