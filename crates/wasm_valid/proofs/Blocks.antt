@@ -15,45 +15,10 @@ use Rattle.wasm_valid.specs.Typing.{Context, Labels, OpTyped, Typed, results_of}
 use Rattle.wasm_valid.specs.Stack.{Stack, nothing, anything, if_true, when, pop, push, can_be}
 use Rattle.wasm_valid.specs.Effects.{after}
 use Rattle.wasm_valid.specs.Blocks.{OpenBlock, label_of, labels_of, opened, with_stack, may_end, ends, is_if, ended, elsed, on_stack, opened_in, popped_in, begun_in, ended_in, elsed_in, plain_in, stepped, is_finished}
-use Rattle.wasm_valid.proofs.Fitting.{Fits, Walks, pop_complete, pop_sound, push_complete, push_sound, can_be_fits, fits_can_be, map_some, if_true_some}
+use Rattle.wasm_valid.specs.Fits.{Fits}
+use Rattle.wasm_valid.specs.Bodies.{Split, IsNone, Run, Part, Ending, Going}
+use Rattle.wasm_valid.proofs.Fitting.{Walks, pop_complete, pop_sound, push_complete, push_sound, can_be_fits, fits_can_be, map_some, if_true_some}
 use Rattle.wasm_valid.proofs.Instructed.{OpWalks, op_walks, and_true, true_and}
-
--- ---- code in two parts
-
-pub record Split (A B : List Instruction → Type 0) (flat : List Instruction) : Type 0 where
-  pub front : List Instruction
-  pub back : List Instruction
-  pub is : flat ≡ front ++ back
-  pub first : A front
-  pub second : B back
-
-abbrev pub IsNone : List Instruction → Type 0
-IsNone flat = flat ≡ []
-
--- ---- code up to the end of a block
-
--- Code up to this last instruction is typed from some stack that fits, and leaves these types.
-pub record Run (last : Instruction) (c : Context) (ls : Labels) (s : Stack) (rs : List ValueType) (flat : List Instruction) : Type 0 where
-  pub code : Instructions
-  pub written : IsWritten code
-  pub is : flatten last code ≡ flat
-  pub from : List ValueType
-  pub fits : Fits s from
-  pub typed : Typed c ls code from rs
-
--- code up to the end of an open block; that of an if may have an else
-abbrev pub Part : Context → Labels → FrameKind → BlockType → Stack → List Instruction → Type 0
-Part c ls Block t s flat = Run op.End c ls s (results_of t) flat
-Part c ls Loop t s flat = Run op.End c ls s (results_of t) flat
-Part c ls If t s flat = ((t ≡ Empty) × Run op.End c ls s (results_of t) flat) ⊎ Split (Run op.Else c ls s (results_of t)) (Run op.End c ls nothing (results_of t)) flat
-
--- Code up to the end of all open blocks, with these types on the stack of the innermost.
-abbrev pub Ending : Context → List OpenBlock → List ValueType → List Instruction → Type 0
-Ending c [] rs flat = IsNone flat
-Ending c (b ∷ bs) rs flat = Split (Part c (labels_of (b ∷ bs)) b.kind b.block_type (push rs b.stack)) (Ending c bs (results_of b.block_type)) flat
-
-abbrev pub Going : Context → List OpenBlock → List Instruction → Type 0
-Going c bs flat = Ending c bs [] flat
 
 -- ---- how code begins
 

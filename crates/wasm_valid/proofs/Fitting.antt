@@ -6,20 +6,8 @@ use Rattle.std.specs.Option.{option_map, option_and_then}
 use Rattle.wasm_module.specs.declared.instruction.ValueType.{ValueType}
 use Rattle.wasm_module.specs.declared.instruction.ValueType.TheVariants.{I32, I64}
 use Rattle.wasm_valid.specs.Typing.{Moves, Leaves}
+use Rattle.wasm_valid.specs.Fits.{Agrees, FitsList, Fits}
 use Rattle.wasm_valid.specs.Stack.{Stack, nothing, anything, if_true, when, is_same, agrees, pop_any_of, pop_any, pop, pops, push_any, push, moved, left, dropped, meet, select_from, selected, is_emptied, can_be}
-
-abbrev pub Agrees : Option ValueType → ValueType → Type 0
-Agrees None t = Unit {0}
-Agrees (Some u) t = u ≡ t
-
-abbrev pub FitsList : List (Option ValueType) → Bool → List ValueType → Type 0
-FitsList [] false ts = ts ≡ []
-FitsList [] true ts = Unit {0}
-FitsList (o ∷ os) u [] = ⊥
-FitsList (o ∷ os) u (t ∷ ts) = Agrees o t × FitsList os u ts
-
-abbrev pub Fits : Stack → List ValueType → Type 0
-Fits s ts = FitsList s.known s.unreachable ts
 
 -- ---- answers that may be none
 

@@ -23,7 +23,7 @@ use Rattle.wasm_valid.specs.declared.effects.Access.{Access}
 use Rattle.wasm_valid.specs.Typing.{Context, Labels, Moves, Leaves, Loads, Stores, IsOperator, OpTyped, results_of}
 use Rattle.wasm_valid.specs.Stack.{Stack, anything, if_true, when, is_same, pop, pops, push, moved, left, dropped, selected}
 use Rattle.wasm_valid.specs.Effects.{taken, effect, access, load, store, access_of, is_operator, numeric_effect, accessed, variable_effect, applied, are_same, keeps, all_keep, table_label, called, called_indirect, after}
-use Rattle.wasm_valid.proofs.Fitting.{Fits, Walks, Walks-same, Walks-is, Walks-with, Walks-when, Walks-never, moved_walks, left_walks, unreachable_walks, dropped_walks, selected_walks, is_same_true, is_same_same, and_then_some, if_true_some}
+use Rattle.wasm_valid.proofs.Fitting.{Walks, Walks-same, Walks-is, Walks-with, Walks-when, Walks-never, moved_walks, left_walks, unreachable_walks, dropped_walks, selected_walks, is_same_true, is_same_same, and_then_some, if_true_some}
 
 -- ---- tests
 

@@ -1,8 +1,5 @@
 pub mod Apart
-pub mod Stacks
-pub mod Lines
 pub mod Spaces
-pub mod Whole
 pub mod Refusals
 pub mod Parts
 pub mod EachBody
@@ -13,3 +10,4 @@ pub mod Blocks
 pub mod Kept
 pub mod Groups
 pub mod Nested
+pub mod Going

@@ -110,7 +110,7 @@ impl<'s, 'm> Scope<'s, 'm> {
             (option_and_then (λ f. called f operands.old.stack) (slice_get c.functions index))
             operands.new.stack) }
     {
-        match self.function(index) {
+        match self.space.function(index) {
             Some(callee) => operands.call(callee.params.as_slice(), result_type(callee)),
             None => Ok(false),
         }

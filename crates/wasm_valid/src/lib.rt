@@ -11,7 +11,6 @@ mod names;
 mod operands;
 mod scope;
 mod space;
-mod stack;
 mod valid;
 mod validating;
 mod walk;

@@ -31,6 +31,32 @@ pub fn result_type(function: &FuncType) -> BlockType
     }
 }
 
+impl<'m> Space<'m> {
+    ghost use Rattle.std.specs.Prelude.{◌↔◌, [], Some, IsTrue};
+    ghost use Rattle.wasm_valid.specs.Scopes.{IsSpace};
+
+    /// The type of a function.
+    pub fn function(&self, index: u32) -> Option<&'m FuncType>
+        ensures found { (c : Context) → IsSpace self.now c
+            → option_copied result ≡ slice_get c.functions index }
+        ensures one_result { IfSome result (λ f. length f.now.results ≤ 1) }
+    {
+        let type_index = self.type_indices.get(index as usize)?;
+        self.types.get(*type_index as usize)
+    }
+
+    /// Whether a function has no parameters and no results.
+    pub fn can_start(&self, index: u32) -> bool
+        ensures { (c : Context) → IsSpace self.now c → (IsTrue result
+            ↔ (slice_get c.functions index ≡ Some (record { params = []; results = [] }))) }
+    {
+        match self.function(index) {
+            Some(function) => function.params.is_empty() && function.results.is_empty(),
+            None => false,
+        }
+    }
+}
+
 impl<'s, 'm> Scope<'s, 'm> {
     ghost use Rattle.wasm_valid.specs.Scopes.{IsScope};
 
@@ -41,16 +67,6 @@ impl<'s, 'm> Scope<'s, 'm> {
         ensures one_result { IfSome result (λ f. length f.now.results ≤ 1) }
     {
         self.space.types.get(index as usize)
-    }
-
-    /// The type of a function.
-    pub fn function(&self, index: u32) -> Option<&'m FuncType>
-        ensures found { (c : Context) → IsScope self.now c
-            → option_copied result ≡ slice_get c.functions index }
-        ensures one_result { IfSome result (λ f. length f.now.results ≤ 1) }
-    {
-        let type_index = self.space.type_indices.get(index as usize)?;
-        self.space.types.get(*type_index as usize)
     }
 
     /// The type of a local.
