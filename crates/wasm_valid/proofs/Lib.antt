@@ -3,6 +3,7 @@ pub mod Spaces
 pub mod Refusals
 pub mod Parts
 pub mod EachBody
+pub mod EachOne
 pub mod Assembled
 pub mod Fitting
 pub mod Instructed
