@@ -1,9 +1,14 @@
 pub mod Apart
-pub mod Stacks
-pub mod Lines
 pub mod Spaces
-pub mod Whole
 pub mod Refusals
 pub mod Parts
 pub mod EachBody
+pub mod EachOne
 pub mod Assembled
+pub mod Fitting
+pub mod Instructed
+pub mod Blocks
+pub mod Kept
+pub mod Groups
+pub mod Nested
+pub mod Going

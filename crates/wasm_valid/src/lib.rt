@@ -2,11 +2,18 @@
 #![tactic(auto)]
 
 mod bodies;
+mod effects;
+mod frames;
+mod instructions;
+mod locals;
 mod module_rules;
 mod names;
-mod stack;
+mod operands;
+mod scope;
+mod space;
 mod valid;
 mod validating;
+mod walk;
 
 pub use valid::Valid;
 pub use validating::validate;
