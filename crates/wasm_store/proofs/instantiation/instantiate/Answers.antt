@@ -9,6 +9,11 @@ returns-in_default-clause-refused g c =
     let f = c.in_ok-calls.ensures.found in
     rw (← c.module-guest.ensures.value) ((f.linked, f.are_linked), c.in_default.ensures.missing)
 
+pub start_function-requires-clause-functions : goal.start_function-requires-clause-functions
+start_function-requires-clause-functions g c =
+    let f = c.in_ok-calls.ensures.found in
+    imports_functions (g.H.Host.links c.args.host.now) c.module-guest.result.now f.linked f.are_linked
+
 pub first_globals-requires-clause-functions : goal.first_globals-requires-clause-functions
 first_globals-requires-clause-functions g c =
     let f = c.in_ok-calls.ensures.found in
