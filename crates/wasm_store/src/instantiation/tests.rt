@@ -1,9 +1,9 @@
 //! Ranges of segments, over modules made by hand.
 
-use super::{constant, data_fits, elements_fit};
+use super::{constant, elements_fit};
 use std::alloc::Global;
 use std::test::Fail;
-use wasm_module::{Bytes, DataSegment, ElementSegment, Instruction, Items, Module};
+use wasm_module::{ElementSegment, Instruction, Items, Module};
 
 fn empty(alloc: Global) -> Module<'static> {
     Module {
@@ -62,20 +62,5 @@ fn empty_elements_may_stand_at_the_end(rt: HostRuntime) -> Result<(), Fail> {
     assert!(rt; elements_fit(&guest, &[2], 2));
     assert!(rt; !elements_fit(&guest, &[3], 2));
     assert!(rt; !elements_fit(&guest, &[4_294_967_295], 2));
-    Ok(())
-}
-
-#[test]
-fn data_end_with_memory(rt: HostRuntime) -> Result<(), Fail> {
-    let mut guest = empty(rt.alloc());
-    let segment = DataSegment {
-        memory: 0,
-        offset: expression(rt.alloc(), Instruction::GlobalGet(0))?,
-        bytes: Bytes::new(b"abc", 0),
-    };
-    guest.data_segments = Items::from_vec(vec![in rt.alloc(); segment]?, 0);
-    assert!(rt; data_fits(&guest, &[65_533], 65_536));
-    assert!(rt; !data_fits(&guest, &[65_534], 65_536));
-    assert!(rt; !data_fits(&guest, &[4_294_967_295], 65_536));
     Ok(())
 }
