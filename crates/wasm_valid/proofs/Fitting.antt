@@ -249,10 +249,10 @@ select_complete s a b f m =
     let z = meet_complete x.0.0 y.0.0 t x.2 y.2 in
     let r = push_any z.0 y.0.1 in
     let is : selected s ≡ Some r =
-        ap (option_and_then (λ (q : Stack). option_and_then select_from (pop_any q))) p.1
-        ∙ ap (option_and_then select_from) x.1
-        ∙ ap (option_and_then (λ (q : Option ValueType × Stack). option_map (λ (w : Option ValueType). push_any w q.1) (meet x.0.0 q.0))) y.1
-        ∙ ap (option_map (λ (w : Option ValueType). push_any w y.0.1)) z.1 in
+    ap (option_and_then (λ (q : Stack). option_and_then select_from (pop_any q))) p.1
+    ∙ ap (option_and_then select_from) x.1
+    ∙ ap (option_and_then (λ (q : Option ValueType × Stack). option_map (λ (w : Option ValueType). push_any w q.1) (meet x.0.0 q.0))) y.1
+    ∙ ap (option_map (λ (w : Option ValueType). push_any w y.0.1)) z.1 in
     (r, is, subst (λ (l : List ValueType). Fits r l) (sym m.1.2) (z.2, y.3))
 
 select_below : (s p : Stack) (x y : Option ValueType × Stack) (z : Option ValueType) (b : List ValueType) → pop I32 s ≡ Some p → pop_any p ≡ Some x → pop_any x.1 ≡ Some y → meet x.0 y.0 ≡ Some z → Fits (push_any z y.1) b → (a : List ValueType) × Fits s a × Selects a b

@@ -9,6 +9,7 @@ mod locals;
 mod module_rules;
 mod names;
 mod operands;
+mod places;
 mod scope;
 mod space;
 mod valid;
