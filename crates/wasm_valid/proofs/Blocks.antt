@@ -1,7 +1,7 @@
 -- Code that is left to be walked, with the blocks that are open: it is typed before an instruction exactly where it is typed
 -- after it, with what the instruction makes of the blocks.
-use Rattle.std.proofs.Common.{◌≡◌, ℕ, List, [], ◌∷◌, ◌++◌, Option, Some, None, Bool, true, false, ◌&&◌, refl, sym, ap, ◌∙◌, subst, append_assoc, inl, inr, ◌⊎◌, map, cond}
-use Rattle.std.specs.Option.{option_map, option_and_then}
+use Rattle.std.proofs.Common.{◌≡◌, List, [], ◌∷◌, ◌++◌, Option, Some, None, Bool, true, false, ◌&&◌, refl, sym, ap, ◌∙◌, subst, append_assoc, inl, inr}
+use Rattle.std.specs.Option.{option_and_then}
 use Rattle.wasm_module.specs.declared.instruction.ValueType.{ValueType}
 use Rattle.wasm_module.specs.declared.instruction.ValueType.TheVariants.{I32}
 use Rattle.wasm_module.specs.declared.instruction.BlockType.{BlockType}
@@ -12,13 +12,13 @@ use Rattle.wasm_module.specs.Instructions.{Instructions, done, plain, block, loo
 use Rattle.wasm_valid.specs.declared.frames.FrameKind.{FrameKind}
 use Rattle.wasm_valid.specs.declared.frames.FrameKind.TheVariants.{Block, Loop, If}
 use Rattle.wasm_valid.specs.Typing.{Context, Labels, OpTyped, Typed, results_of}
-use Rattle.wasm_valid.specs.Stack.{Stack, nothing, anything, if_true, when, pop, push, can_be}
+use Rattle.wasm_valid.specs.Stack.{Stack, nothing, if_true, pop, push, can_be}
 use Rattle.wasm_valid.specs.Effects.{after}
-use Rattle.wasm_valid.specs.Blocks.{OpenBlock, label_of, labels_of, opened, with_stack, may_end, ends, is_if, ended, elsed, on_stack, opened_in, popped_in, begun_in, ended_in, elsed_in, plain_in, stepped, is_finished}
+use Rattle.wasm_valid.specs.Blocks.{OpenBlock, label_of, labels_of, opened, with_stack, may_end, ends, is_if, ended, elsed, on_stack, opened_in, stepped, is_finished}
 use Rattle.wasm_valid.specs.Fits.{Fits}
 use Rattle.wasm_valid.specs.Bodies.{Split, IsNone, Run, Part, Ending, Going}
-use Rattle.wasm_valid.proofs.Fitting.{Walks, pop_complete, pop_sound, push_complete, push_sound, can_be_fits, fits_can_be, map_some, if_true_some}
-use Rattle.wasm_valid.proofs.Instructed.{OpWalks, op_walks, and_true, true_and}
+use Rattle.wasm_valid.proofs.Fitting.{pop_complete, pop_sound, push_complete, push_sound, can_be_fits, fits_can_be}
+use Rattle.wasm_valid.proofs.Instructed.{op_walks, and_true}
 
 -- ---- how code begins
 

@@ -1,5 +1,5 @@
 -- What the walk makes of the stack at each instruction is what the typings of that instruction leave.
-use Rattle.std.proofs.Common.{◌≡◌, ℕ, zero, suc, ◌^◌, ◌≤◌, ◌<◌, List, [], ◌∷◌, ◌++◌, Option, Some, None, Bool, true, false, ◌&&◌, nat_le, refl, sym, ap, ◌∙◌, subst, arith, reverse}
+use Rattle.std.proofs.Common.{◌≡◌, ℕ, ◌^◌, ◌≤◌, List, [], ◌∷◌, Option, Some, None, Bool, true, false, ◌&&◌, nat_le, refl, sym, ap, ◌∙◌, subst, arith, reverse}
 use Rattle.std.proofs.lemmas.Bool.{leb-true, leb-false, le-leb}
 use Rattle.std.proofs.lemmas.Nat.{pow_below}
 use Rattle.std.proofs.Math.Nat.{pow-le-pow_right}
@@ -11,17 +11,16 @@ use Rattle.wasm_module.specs.declared.instruction.BlockType.{BlockType}
 use Rattle.wasm_module.specs.declared.instruction.BlockType.TheVariants.{Empty, Value}
 use Rattle.wasm_module.specs.declared.instruction.MemArg.{MemArg}
 use Rattle.wasm_module.specs.declared.instruction.UnaryOperator.{UnaryOperator}
-use Rattle.wasm_module.specs.declared.instruction.UnaryOperator.TheVariants.{Clz, Ctz, Popcnt, Extend8S, Extend16S, Extend32S}
+use Rattle.wasm_module.specs.declared.instruction.UnaryOperator.TheVariants.{Extend32S}
 use Rattle.wasm_module.specs.declared.instruction.Instruction.{Instruction}
 use Rattle.wasm_module.specs.declared.instruction.Instruction.TheVariants as op
 use Rattle.wasm_module.specs.declared.module.FuncType.{FuncType}
 use Rattle.wasm_module.specs.declared.module.GlobalType.{GlobalType}
 use Rattle.wasm_valid.specs.declared.effects.Takes.{Takes}
 use Rattle.wasm_valid.specs.declared.effects.Takes.TheVariants.{Nothing, One, Two, Three}
-use Rattle.wasm_valid.specs.declared.effects.Effect.{Effect}
 use Rattle.wasm_valid.specs.declared.effects.Access.{Access}
 use Rattle.wasm_valid.specs.Typing.{Context, Labels, Moves, Leaves, Loads, Stores, IsOperator, OpTyped, results_of}
-use Rattle.wasm_valid.specs.Stack.{Stack, anything, if_true, when, is_same, pop, pops, push, moved, left, dropped, selected}
+use Rattle.wasm_valid.specs.Stack.{Stack, if_true, when, is_same, pop, pops, push, moved, left}
 use Rattle.wasm_valid.specs.Effects.{taken, effect, access, load, store, access_of, is_operator, numeric_effect, accessed, variable_effect, applied, are_same, keeps, all_keep, table_label, called, called_indirect, after}
 use Rattle.wasm_valid.proofs.Fitting.{Walks, Walks-same, Walks-is, Walks-with, Walks-when, Walks-never, moved_walks, left_walks, unreachable_walks, dropped_walks, selected_walks, is_same_true, is_same_same, and_then_some, if_true_some}
 

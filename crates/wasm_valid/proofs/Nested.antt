@@ -1,19 +1,19 @@
 -- The open blocks, as the code keeps them, and what it does to them.
-use Rattle.std.proofs.Common.{◌≡◌, ℕ, zero, suc, ◌+◌, ◌-◌, ◌<◌, ◌≤◌, List, [], ◌∷◌, ◌++◌, length, take, drop, reverse, map, length-append, Option, Some, None, Bool, true, false, ◌&&◌, refl, sym, ap, ◌∙◌, subst, arith}
+use Rattle.std.proofs.Common.{◌≡◌, ℕ, zero, suc, ◌+◌, ◌<◌, ◌≤◌, List, [], ◌∷◌, ◌++◌, length, take, drop, reverse, length-append, Option, Some, None, Bool, true, false, ◌&&◌, refl, sym, ap, ◌∙◌, subst, arith}
 use Rattle.std.specs.List.{slice_get}
 use Rattle.std.proofs.Math.ListN.{set}
-use Rattle.std.specs.Option.{option_map, option_and_then, MatchOption}
+use Rattle.std.specs.Option.{MatchOption}
 use Rattle.std.proofs.lemmas.List.{take_at, drop_at, reverse-reverse, reverse-append}
 use Rattle.wasm_module.specs.declared.instruction.ValueType.{ValueType}
 use Rattle.wasm_module.specs.declared.instruction.BlockType.{BlockType}
 use Rattle.wasm_module.specs.declared.instruction.Instruction.{Instruction}
 use Rattle.wasm_valid.specs.declared.frames.Frame.{Frame}
 use Rattle.wasm_valid.specs.declared.frames.FrameKind.{FrameKind}
-use Rattle.wasm_valid.specs.declared.frames.FrameKind.TheVariants.{Block, Loop, If}
+use Rattle.wasm_valid.specs.declared.frames.FrameKind.TheVariants.{Block}
 use Rattle.wasm_valid.specs.Typing.{Context, Labels, results_of}
 use Rattle.wasm_valid.specs.Stack.{Stack, nothing, pop, push, can_be, if_true}
 use Rattle.wasm_valid.specs.Effects.{after}
-use Rattle.wasm_valid.specs.Blocks.{OpenBlock, label_of, labels_of, opened, with_stack, may_end, ends, is_if, ended, elsed, on_stack, opened_in, popped_in, begun_in, ended_in, elsed_in, plain_in, is_finished}
+use Rattle.wasm_valid.specs.Blocks.{OpenBlock, label_of, labels_of, opened, with_stack, may_end, ends, is_if, on_stack, opened_in, popped_in, ended_in, elsed_in, plain_in, is_finished}
 use Rattle.wasm_valid.specs.Operands.{Operands, operands, stack_of, split_at, blocks_of, frame_labels, AreNested, Answers}
 
 -- ---- the innermost block

@@ -1,4 +1,4 @@
-use Rattle.std.proofs.Common.{◌≡◌, ◌∷◌, List, Some, sym, ap, ◌∙◌, subst}
+use Rattle.std.proofs.Common.{◌≡◌, ◌∷◌, List, Some, ap, ◌∙◌, subst}
 use Rattle.wasm_valid.specs.declared.frames.Mark.{Mark}
 use Rattle.wasm_valid.specs.Blocks.{OpenBlock, opened_in}
 use Rattle.wasm_valid.specs.Operands.{blocks_of}
