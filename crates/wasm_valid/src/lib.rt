@@ -5,6 +5,7 @@ mod bodies;
 mod effects;
 mod frames;
 mod instructions;
+mod laws;
 mod locals;
 mod module_rules;
 mod names;
@@ -16,6 +17,7 @@ mod valid;
 mod validating;
 mod walk;
 
+pub use laws::typed_by_rules;
 pub use valid::Valid;
 pub use validating::validate;
 pub use wasm_module::LoadFault;
