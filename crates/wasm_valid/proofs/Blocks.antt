@@ -1,7 +1,7 @@
 -- Code that is left to be walked, with the blocks that are open: it is typed before an instruction exactly where it is typed
 -- after it, with what the instruction makes of the blocks.
-use Rattle.std.proofs.Common.{◌≡◌, ℕ, List, [], ◌∷◌, ◌++◌, Option, Some, None, Bool, true, false, ◌&&◌, refl, sym, ap, ◌∙◌, subst, append_assoc, inl, inr, ◌⊎◌, map, cond}
-use Rattle.std.specs.Option.{option_map, option_and_then}
+use Rattle.std.proofs.Common.{◌≡◌, List, [], ◌∷◌, ◌++◌, Option, Some, None, Bool, true, false, ◌&&◌, refl, sym, ap, ◌∙◌, subst, append_assoc, inl, inr}
+use Rattle.std.specs.Option.{option_and_then}
 use Rattle.wasm_module.specs.declared.instruction.ValueType.{ValueType}
 use Rattle.wasm_module.specs.declared.instruction.ValueType.TheVariants.{I32}
 use Rattle.wasm_module.specs.declared.instruction.BlockType.{BlockType}
@@ -12,13 +12,13 @@ use Rattle.wasm_module.specs.Instructions.{Instructions, done, plain, block, loo
 use Rattle.wasm_valid.specs.declared.frames.FrameKind.{FrameKind}
 use Rattle.wasm_valid.specs.declared.frames.FrameKind.TheVariants.{Block, Loop, If}
 use Rattle.wasm_valid.specs.Typing.{Context, Labels, OpTyped, Typed, results_of}
-use Rattle.wasm_valid.specs.Stack.{Stack, nothing, anything, if_true, when, pop, push, can_be}
+use Rattle.wasm_valid.specs.Stack.{Stack, nothing, if_true, pop, push, can_be}
 use Rattle.wasm_valid.specs.Effects.{after}
-use Rattle.wasm_valid.specs.Blocks.{OpenBlock, label_of, labels_of, opened, with_stack, may_end, ends, is_if, ended, elsed, on_stack, opened_in, popped_in, begun_in, ended_in, elsed_in, plain_in, stepped, is_finished}
+use Rattle.wasm_valid.specs.Blocks.{OpenBlock, label_of, labels_of, opened, with_stack, may_end, ends, is_if, ended, elsed, on_stack, opened_in, stepped, is_finished}
 use Rattle.wasm_valid.specs.Fits.{Fits}
 use Rattle.wasm_valid.specs.Bodies.{Split, IsNone, Run, Part, Ending, Going}
-use Rattle.wasm_valid.proofs.Fitting.{Walks, pop_complete, pop_sound, push_complete, push_sound, can_be_fits, fits_can_be, map_some, if_true_some}
-use Rattle.wasm_valid.proofs.Instructed.{OpWalks, op_walks, and_true, true_and}
+use Rattle.wasm_valid.proofs.Fitting.{pop_complete, pop_sound, push_complete, push_sound, can_be_fits, fits_can_be}
+use Rattle.wasm_valid.proofs.Instructed.{op_walks, and_true}
 
 -- ---- how code begins
 
@@ -439,11 +439,11 @@ part_never c ls i s If t flat never q =
       | inl p ↦ never op.End (results_of t) flat tt p.1
       | inr p ↦ by_front c ls i s t flat never p.front p.back p.is p.first
     ] where
-  by_front : (c : Context) (ls : Labels) (i : Instruction) (s : Stack) (t : BlockType) (flat : List Instruction) → Never c ls i s → (front back : List Instruction) → i ∷ flat ≡ front ++ back → Run op.Else c ls s (results_of t) front → ⊥
-  by_front c ls i s t flat never [] back e k = run_some c ls s op.Else (results_of t) k
-  by_front c ls i s t flat never (j ∷ x) back e k =
-      let same : j ≡ i = cc in
-      never op.Else (results_of t) x tt (subst (λ (o : Instruction). Run op.Else c ls s (results_of t) (o ∷ x)) same k)
+      by_front : (c : Context) (ls : Labels) (i : Instruction) (s : Stack) (t : BlockType) (flat : List Instruction) → Never c ls i s → (front back : List Instruction) → i ∷ flat ≡ front ++ back → Run op.Else c ls s (results_of t) front → ⊥
+      by_front c ls i s t flat never [] back e k = run_some c ls s op.Else (results_of t) k
+      by_front c ls i s t flat never (j ∷ x) back e k =
+          let same : j ≡ i = cc in
+          never op.Else (results_of t) x tt (subst (λ (o : Instruction). Run op.Else c ls s (results_of t) (o ∷ x)) same k)
 
 never_goes : (c : Context) (i : Instruction) (b : OpenBlock) (bs : List OpenBlock) (flat : List Instruction) → Never c (labels_of (b ∷ bs)) i b.stack → Going c (b ∷ bs) (i ∷ flat) → ⊥
 never_goes c i b bs flat never q = by_front q.front q.back q.is q.first where
@@ -584,9 +584,9 @@ body_from c t flat q =
     let k = q.first in
     let same : k.from ≡ [] = only_nothing k.from k.fits in
     (k.code, k.written, k.is ∙ no_back q.front ∙ ap (λ (l : List Instruction). q.front ++ l) (sym q.second) ∙ sym q.is, subst (λ (y : List ValueType). Typed c (results_of t ∷ []) k.code y (results_of t)) same k.typed) where
-  no_back : (l : List Instruction) → l ≡ l ++ []
-  no_back [] = refl
-  no_back (i ∷ l) = ap (λ (x : List Instruction). i ∷ x) (no_back l)
+      no_back : (l : List Instruction) → l ≡ l ++ []
+      no_back [] = refl
+      no_back (i ∷ l) = ap (λ (x : List Instruction). i ∷ x) (no_back l)
 
 pub from_body : (c : Context) (t : BlockType) (flat : List Instruction) (code : Instructions) → IsWritten code → flatten op.End code ≡ flat → Typed c (results_of t ∷ []) code [] (results_of t) → Going c (opened Block t ∷ []) flat
 from_body c t flat code w e h = record {

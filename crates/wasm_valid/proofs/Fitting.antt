@@ -1,13 +1,12 @@
 -- A stack that a walk knows in part stands for the stacks that fit it. What each instruction makes of it stands for
 -- exactly what the typings of the instruction leave.
-use Rattle.std.proofs.Common.{◌≡◌, ℕ, zero, suc, ◌+◌, ◌^◌, ◌≤◌, ◌<◌, List, [], ◌∷◌, ◌++◌, Option, Some, None, Bool, true, false, ◌&&◌, nat_le, refl, sym, ap, ◌∙◌, subst, arith, append_assoc, reverse, ◌↔◌}
-use Rattle.std.specs.List.{AllByRecursion, slice_get}
+use Rattle.std.proofs.Common.{◌≡◌, List, [], ◌∷◌, ◌++◌, Option, Some, None, Bool, true, false, refl, sym, ap, ◌∙◌, subst}
 use Rattle.std.specs.Option.{option_map, option_and_then}
 use Rattle.wasm_module.specs.declared.instruction.ValueType.{ValueType}
 use Rattle.wasm_module.specs.declared.instruction.ValueType.TheVariants.{I32, I64}
 use Rattle.wasm_valid.specs.Typing.{Moves, Leaves}
 use Rattle.wasm_valid.specs.Fits.{Agrees, FitsList, Fits}
-use Rattle.wasm_valid.specs.Stack.{Stack, nothing, anything, if_true, when, is_same, agrees, pop_any_of, pop_any, pop, pops, push_any, push, moved, left, dropped, meet, select_from, selected, is_emptied, can_be}
+use Rattle.wasm_valid.specs.Stack.{Stack, anything, if_true, when, is_same, agrees, pop_any_of, pop_any, pop, pops, push_any, push, moved, left, dropped, meet, select_from, selected, is_emptied, can_be}
 
 -- ---- answers that may be none
 
@@ -249,10 +248,10 @@ select_complete s a b f m =
     let z = meet_complete x.0.0 y.0.0 t x.2 y.2 in
     let r = push_any z.0 y.0.1 in
     let is : selected s ≡ Some r =
-        ap (option_and_then (λ (q : Stack). option_and_then select_from (pop_any q))) p.1
-        ∙ ap (option_and_then select_from) x.1
-        ∙ ap (option_and_then (λ (q : Option ValueType × Stack). option_map (λ (w : Option ValueType). push_any w q.1) (meet x.0.0 q.0))) y.1
-        ∙ ap (option_map (λ (w : Option ValueType). push_any w y.0.1)) z.1 in
+    ap (option_and_then (λ (q : Stack). option_and_then select_from (pop_any q))) p.1
+    ∙ ap (option_and_then select_from) x.1
+    ∙ ap (option_and_then (λ (q : Option ValueType × Stack). option_map (λ (w : Option ValueType). push_any w q.1) (meet x.0.0 q.0))) y.1
+    ∙ ap (option_map (λ (w : Option ValueType). push_any w y.0.1)) z.1 in
     (r, is, subst (λ (l : List ValueType). Fits r l) (sym m.1.2) (z.2, y.3))
 
 select_below : (s p : Stack) (x y : Option ValueType × Stack) (z : Option ValueType) (b : List ValueType) → pop I32 s ≡ Some p → pop_any p ≡ Some x → pop_any x.1 ≡ Some y → meet x.0 y.0 ≡ Some z → Fits (push_any z y.1) b → (a : List ValueType) × Fits s a × Selects a b

@@ -1,20 +1,18 @@
 -- The walk over the code of a body.
-use Rattle.std.proofs.Common.{◌≡◌, ℕ, ◌+◌, ◌<◌, ◌≤◌, Bool, true, false, List, [], ◌∷◌, ◌++◌, length, drop, get_or, Option, Some, None, sym, ◌∙◌, ap, refl, subst, ◌↔◌, append_assoc, arith}
+use Rattle.std.proofs.Common.{◌≡◌, ℕ, ◌+◌, ◌<◌, ◌≤◌, Bool, true, false, List, [], ◌∷◌, ◌++◌, length, drop, get_or, Option, Some, None, sym, ◌∙◌, ap, refl, subst, ◌↔◌, append_assoc}
 use Rattle.std.specs.List.{slice_get}
 use Rattle.std.specs.Option.{MatchOption}
 use Rattle.std.proofs.lemmas.List.{drop_more, drop_all}
-use Rattle.std.proofs.lemmas.Option.{slice_get_past}
 use Rattle.wasm_module.specs.declared.instruction.ValueType.{ValueType}
 use Rattle.wasm_module.specs.declared.instruction.BlockType.{BlockType}
 use Rattle.wasm_module.specs.declared.instruction.Instruction.{Instruction}
 use Rattle.wasm_module.specs.declared.instruction.Instruction.TheVariants as op
 use Rattle.wasm_module.specs.declared.module.FuncType.{FuncType}
 use Rattle.wasm_module.specs.declared.module.Body.{Body}
-use Rattle.wasm_module.specs.Instructions.{Instructions, done, plain, block, loop, if_then, if_else, enter, IsWritten, flatten, Nests}
+use Rattle.wasm_module.specs.Instructions.{Instructions, done, plain, block, loop, if_then, if_else, enter, flatten}
 use Rattle.wasm_valid.specs.declared.frames.FrameKind.TheVariants.{Block}
-use Rattle.wasm_valid.specs.declared.space.Space.{Space}
 use Rattle.wasm_valid.specs.declared.scope.Scope.{Scope}
-use Rattle.wasm_valid.specs.Typing.{Context, Labels, Typed, results_of}
+use Rattle.wasm_valid.specs.Typing.{Context, Typed, results_of}
 use Rattle.wasm_valid.specs.Validity.{FunctionTyped, local_types}
 use Rattle.wasm_valid.specs.Blocks.{OpenBlock, opened, stepped, is_finished}
 use Rattle.wasm_valid.specs.Bodies.{Going, BodyTyped}

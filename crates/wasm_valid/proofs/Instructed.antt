@@ -1,5 +1,5 @@
 -- What the walk makes of the stack at each instruction is what the typings of that instruction leave.
-use Rattle.std.proofs.Common.{◌≡◌, ℕ, zero, suc, ◌^◌, ◌≤◌, ◌<◌, List, [], ◌∷◌, ◌++◌, Option, Some, None, Bool, true, false, ◌&&◌, nat_le, refl, sym, ap, ◌∙◌, subst, arith, reverse}
+use Rattle.std.proofs.Common.{◌≡◌, ℕ, ◌^◌, ◌≤◌, List, [], ◌∷◌, Option, Some, None, Bool, true, false, ◌&&◌, nat_le, refl, sym, ap, ◌∙◌, subst, arith, reverse}
 use Rattle.std.proofs.lemmas.Bool.{leb-true, leb-false, le-leb}
 use Rattle.std.proofs.lemmas.Nat.{pow_below}
 use Rattle.std.proofs.Math.Nat.{pow-le-pow_right}
@@ -11,17 +11,16 @@ use Rattle.wasm_module.specs.declared.instruction.BlockType.{BlockType}
 use Rattle.wasm_module.specs.declared.instruction.BlockType.TheVariants.{Empty, Value}
 use Rattle.wasm_module.specs.declared.instruction.MemArg.{MemArg}
 use Rattle.wasm_module.specs.declared.instruction.UnaryOperator.{UnaryOperator}
-use Rattle.wasm_module.specs.declared.instruction.UnaryOperator.TheVariants.{Clz, Ctz, Popcnt, Extend8S, Extend16S, Extend32S}
+use Rattle.wasm_module.specs.declared.instruction.UnaryOperator.TheVariants.{Extend32S}
 use Rattle.wasm_module.specs.declared.instruction.Instruction.{Instruction}
 use Rattle.wasm_module.specs.declared.instruction.Instruction.TheVariants as op
 use Rattle.wasm_module.specs.declared.module.FuncType.{FuncType}
 use Rattle.wasm_module.specs.declared.module.GlobalType.{GlobalType}
 use Rattle.wasm_valid.specs.declared.effects.Takes.{Takes}
 use Rattle.wasm_valid.specs.declared.effects.Takes.TheVariants.{Nothing, One, Two, Three}
-use Rattle.wasm_valid.specs.declared.effects.Effect.{Effect}
 use Rattle.wasm_valid.specs.declared.effects.Access.{Access}
 use Rattle.wasm_valid.specs.Typing.{Context, Labels, Moves, Leaves, Loads, Stores, IsOperator, OpTyped, results_of}
-use Rattle.wasm_valid.specs.Stack.{Stack, anything, if_true, when, is_same, pop, pops, push, moved, left, dropped, selected}
+use Rattle.wasm_valid.specs.Stack.{Stack, if_true, when, is_same, pop, pops, push, moved, left}
 use Rattle.wasm_valid.specs.Effects.{taken, effect, access, load, store, access_of, is_operator, numeric_effect, accessed, variable_effect, applied, are_same, keeps, all_keep, table_label, called, called_indirect, after}
 use Rattle.wasm_valid.proofs.Fitting.{Walks, Walks-same, Walks-is, Walks-with, Walks-when, Walks-never, moved_walks, left_walks, unreachable_walks, dropped_walks, selected_walks, is_same_true, is_same_same, and_then_some, if_true_some}
 
@@ -59,9 +58,9 @@ set_walks : (s : Stack) (o : Option GlobalType)
 set_walks s o =
     Walks-same (λ a b. (g : GlobalType) × (o ≡ Some g) × ((g.mutable ≡ true) × Moves (g.value_type ∷ []) [] a b)) (λ a b. (g : GlobalType) × (o ≡ Some g) × (g.mutable ≡ true) × Moves (g.value_type ∷ []) [] a b) s (applied (option_and_then (λ g. if_true g.mutable (effect (One g.value_type) Empty)) o) s)
     (λ a b q. (q.0, q.1, q.2.0, q.2.1)) (λ a b q. (q.0, q.1, (q.2, q.3))) (by_entry o) where
-  by_entry : (o : Option GlobalType) → Walks (λ a b. (g : GlobalType) × (o ≡ Some g) × ((g.mutable ≡ true) × Moves (g.value_type ∷ []) [] a b)) s (applied (option_and_then (λ g. if_true g.mutable (effect (One g.value_type) Empty)) o) s)
-  by_entry None = Walks-with (λ (g : GlobalType) a b. (g.mutable ≡ true) × Moves (g.value_type ∷ []) [] a b) s (λ g. applied (if_true g.mutable (effect (One g.value_type) Empty)) s) None (λ g. effect_walks g.mutable (One g.value_type) Empty s)
-  by_entry (Some h) = Walks-with (λ (g : GlobalType) a b. (g.mutable ≡ true) × Moves (g.value_type ∷ []) [] a b) s (λ g. applied (if_true g.mutable (effect (One g.value_type) Empty)) s) (Some h) (λ g. effect_walks g.mutable (One g.value_type) Empty s)
+      by_entry : (o : Option GlobalType) → Walks (λ a b. (g : GlobalType) × (o ≡ Some g) × ((g.mutable ≡ true) × Moves (g.value_type ∷ []) [] a b)) s (applied (option_and_then (λ g. if_true g.mutable (effect (One g.value_type) Empty)) o) s)
+      by_entry None = Walks-with (λ (g : GlobalType) a b. (g.mutable ≡ true) × Moves (g.value_type ∷ []) [] a b) s (λ g. applied (if_true g.mutable (effect (One g.value_type) Empty)) s) None (λ g. effect_walks g.mutable (One g.value_type) Empty s)
+      by_entry (Some h) = Walks-with (λ (g : GlobalType) a b. (g.mutable ≡ true) × Moves (g.value_type ∷ []) [] a b) s (λ g. applied (if_true g.mutable (effect (One g.value_type) Empty)) s) (Some h) (λ g. effect_walks g.mutable (One g.value_type) Empty s)
 
 -- an instruction on memory
 access_walks : (has_memory : Bool) (align most : ℕ) (takes : Takes) (gives : BlockType) (s : Stack)
@@ -89,12 +88,13 @@ unary_walks : (t : ValueType) (o : UnaryOperator) (s : Stack) → Walks (λ a b.
 unary_walks t o s =
     Walks-same (λ a b. (is_operator t o ≡ true) × Moves (t ∷ []) (t ∷ []) a b) (λ a b. IsOperator t o × Moves (t ∷ []) (t ∷ []) a b) s (applied (if_true (is_operator t o) (effect (One t) (Value t))) s)
     (λ a b q. (holds t o q.0, q.1)) (λ a b q. (tests t o q.0, q.1)) (effect_walks (is_operator t o) (One t) (Value t) s) where
-  holds : (t : ValueType) (o : UnaryOperator) → is_operator t o ≡ true → IsOperator t o
-  holds I32 Extend32S e = cc
-  holds t o e = tt
-  tests : (t : ValueType) (o : UnaryOperator) → IsOperator t o → is_operator t o ≡ true
-  tests I32 Extend32S h = absurd h
-  tests t o h = refl
+      holds : (t : ValueType) (o : UnaryOperator) → is_operator t o ≡ true → IsOperator t o
+      holds I32 Extend32S e = cc
+      holds t o e = tt
+
+      tests : (t : ValueType) (o : UnaryOperator) → IsOperator t o → is_operator t o ≡ true
+      tests I32 Extend32S h = absurd h
+      tests t o h = refl
 
 -- ---- branches by a table
 
@@ -162,12 +162,13 @@ indirect_walks c x s =
     (λ a b q. let w = when_some c.has_table (slice_get c.types x) q.0 q.1 in (q.0, w.0, w.1, q.2)) (λ a b q. (q.0, some_when c.has_table (slice_get c.types x) q.0 q.1 q.2, q.3))
     (Walks-with (λ (f : FuncType) a b. Moves (I32 ∷ reverse f.params) f.results a b) s (λ f. called_indirect f s) (when c.has_table (slice_get c.types x))
     (λ f. Walks-is (λ a b. Moves (I32 ∷ reverse f.params) f.results a b) s (moved (I32 ∷ reverse f.params) f.results s) (called_indirect f s) (indirect_is f (pop I32 s)) (moved_walks (I32 ∷ reverse f.params) f.results s))) where
-  when_some : (t : Bool) (o : Option FuncType) (f : FuncType) → when t o ≡ Some f → (t ≡ true) × (o ≡ Some f)
-  when_some true o f e = (refl, e)
-  when_some false o f e = cc
-  some_when : (t : Bool) (o : Option FuncType) (f : FuncType) → t ≡ true → o ≡ Some f → when t o ≡ Some f
-  some_when true o f e h = h
-  some_when false o f e h = cc
+      when_some : (t : Bool) (o : Option FuncType) (f : FuncType) → when t o ≡ Some f → (t ≡ true) × (o ≡ Some f)
+      when_some true o f e = (refl, e)
+      when_some false o f e = cc
+
+      some_when : (t : Bool) (o : Option FuncType) (f : FuncType) → t ≡ true → o ≡ Some f → when t o ≡ Some f
+      some_when true o f e h = h
+      some_when false o f e h = cc
 
 -- ---- every instruction
 

@@ -1,5 +1,5 @@
 -- Lists of operands and of open blocks, as the code keeps them.
-use Rattle.std.proofs.Common.{◌≡◌, ℕ, zero, suc, ◌+◌, ◌-◌, ◌<◌, ◌≤◌, List, [], ◌∷◌, ◌++◌, length, take, drop, reverse, Option, Some, None, Bool, true, false, eqb, refl, sym, ap, ◌∙◌, subst, arith, length-drop, get_or, map}
+use Rattle.std.proofs.Common.{◌≡◌, ℕ, ◌-◌, ◌<◌, ◌≤◌, List, [], ◌∷◌, length, drop, reverse, Option, Some, Bool, true, false, eqb, refl, sym, ap, ◌∙◌, arith, length-drop, get_or, map}
 use Rattle.std.proofs.lemmas.Bool.{eqb-true}
 use Rattle.std.proofs.lemmas.Bool.Decides.{Decides-eqb}
 use Rattle.std.proofs.lemmas.List.{length-reverse, get_or-reverse}
@@ -11,7 +11,7 @@ use Rattle.wasm_module.specs.declared.instruction.ValueType.{ValueType}
 use Rattle.wasm_module.specs.declared.instruction.BlockType.{BlockType}
 use Rattle.wasm_valid.specs.declared.frames.Frame.{Frame}
 use Rattle.wasm_valid.specs.Typing.{results_of}
-use Rattle.wasm_valid.specs.Stack.{Stack, is_nil}
+use Rattle.wasm_valid.specs.Stack.{is_nil}
 use Rattle.wasm_valid.specs.Blocks.{label_of}
 
 nil_none : (xs : List (Option ValueType)) → length xs ≡ 0 → is_nil xs ≡ true

@@ -12,3 +12,4 @@ pub mod Kept
 pub mod Groups
 pub mod Nested
 pub mod Going
+pub mod StandardLaws

@@ -1,19 +1,19 @@
 -- The open blocks, as the code keeps them, and what it does to them.
-use Rattle.std.proofs.Common.{◌≡◌, ℕ, zero, suc, ◌+◌, ◌-◌, ◌<◌, ◌≤◌, List, [], ◌∷◌, ◌++◌, length, take, drop, reverse, map, length-append, Option, Some, None, Bool, true, false, ◌&&◌, refl, sym, ap, ◌∙◌, subst, arith}
+use Rattle.std.proofs.Common.{◌≡◌, ℕ, zero, suc, ◌+◌, ◌<◌, ◌≤◌, List, [], ◌∷◌, ◌++◌, length, take, drop, reverse, length-append, Option, Some, None, Bool, true, false, ◌&&◌, refl, sym, ap, ◌∙◌, subst, arith}
 use Rattle.std.specs.List.{slice_get}
 use Rattle.std.proofs.Math.ListN.{set}
-use Rattle.std.specs.Option.{option_map, option_and_then, MatchOption}
+use Rattle.std.specs.Option.{MatchOption}
 use Rattle.std.proofs.lemmas.List.{take_at, drop_at, reverse-reverse, reverse-append}
 use Rattle.wasm_module.specs.declared.instruction.ValueType.{ValueType}
 use Rattle.wasm_module.specs.declared.instruction.BlockType.{BlockType}
 use Rattle.wasm_module.specs.declared.instruction.Instruction.{Instruction}
 use Rattle.wasm_valid.specs.declared.frames.Frame.{Frame}
 use Rattle.wasm_valid.specs.declared.frames.FrameKind.{FrameKind}
-use Rattle.wasm_valid.specs.declared.frames.FrameKind.TheVariants.{Block, Loop, If}
+use Rattle.wasm_valid.specs.declared.frames.FrameKind.TheVariants.{Block}
 use Rattle.wasm_valid.specs.Typing.{Context, Labels, results_of}
 use Rattle.wasm_valid.specs.Stack.{Stack, nothing, pop, push, can_be, if_true}
 use Rattle.wasm_valid.specs.Effects.{after}
-use Rattle.wasm_valid.specs.Blocks.{OpenBlock, label_of, labels_of, opened, with_stack, may_end, ends, is_if, ended, elsed, on_stack, opened_in, popped_in, begun_in, ended_in, elsed_in, plain_in, is_finished}
+use Rattle.wasm_valid.specs.Blocks.{OpenBlock, label_of, labels_of, opened, with_stack, may_end, ends, is_if, on_stack, opened_in, popped_in, ended_in, elsed_in, plain_in, is_finished}
 use Rattle.wasm_valid.specs.Operands.{Operands, operands, stack_of, split_at, blocks_of, frame_labels, AreNested, Answers}
 
 -- ---- the innermost block
@@ -65,7 +65,7 @@ pub open_answers : (k : FrameKind) (t : BlockType) (o p : Operands) (fs gs : Lis
 open_answers k t o p [] gs some are is = absurd (omega arith)
 open_answers k t o p (f ∷ fs) gs some are is =
     let made : blocks_of (operands (o.below ++ reverse o.stack.known) nothing) (entering k t o ∷ f ∷ fs) ≡ opened k t ∷ blocks_of o (f ∷ fs) =
-        ap (λ (q : Operands). opened k t ∷ blocks_of q (f ∷ fs)) (entered o) in
+    ap (λ (q : Operands). opened k t ∷ blocks_of q (f ∷ fs)) (entered o) in
     ap Some (sym made ∙ ap (λ (q : Operands). blocks_of q (entering k t o ∷ f ∷ fs)) (sym is) ∙ ap (blocks_of p) (sym are))
 
 pub open_nested : (k : FrameKind) (t : BlockType) (o p : Operands) (fs gs : List Frame) → AreNested o.below fs → gs ≡ entering k t o ∷ fs → p ≡ operands (o.below ++ reverse o.stack.known) nothing → (0 < length gs) × AreNested p.below gs
@@ -196,16 +196,16 @@ no_head (f ∷ fs) some e = cc
 pub finish_of_if : (o : Operands) (fs : List Frame) (f : Frame) → IsHead fs f → may_end f.kind f.block_type ≡ false → false ≡ is_finished (blocks_of o fs)
 finish_of_if o fs f is e =
     let h = head_is fs f is in subst (λ (gs : List Frame). false ≡ is_finished (blocks_of o gs)) (sym h.1) (by_rest h.0) where
-  by_rest : (rest : List Frame) → false ≡ is_finished (blocks_of o (f ∷ rest))
-  by_rest [] = sym (and_false_left (may_end f.kind f.block_type) (can_be (results_of f.block_type) o.stack) e)
-  by_rest (g ∷ rest) = refl
+      by_rest : (rest : List Frame) → false ≡ is_finished (blocks_of o (f ∷ rest))
+      by_rest [] = sym (and_false_left (may_end f.kind f.block_type) (can_be (results_of f.block_type) o.stack) e)
+      by_rest (g ∷ rest) = refl
 
 pub finish_is : (o : Operands) (fs : List Frame) (f : Frame) (t : Bool) → length fs ≤ 1 → IsHead fs f → may_end f.kind f.block_type ≡ true → t ≡ can_be (results_of f.block_type) o.stack → t ≡ is_finished (blocks_of o fs)
 finish_is o fs f t few is e h =
     let k = head_is fs f is in subst (λ (gs : List Frame). t ≡ is_finished (blocks_of o gs)) (sym k.1) (by_rest k.0 (omega (arith, ap length k.1))) where
-  by_rest : (rest : List Frame) → length (f ∷ rest) ≤ 1 → t ≡ is_finished (blocks_of o (f ∷ rest))
-  by_rest [] few = h ∙ ap (λ (m : Bool). m && can_be (results_of f.block_type) o.stack) (sym e)
-  by_rest (g ∷ rest) few = absurd (omega arith)
+      by_rest : (rest : List Frame) → length (f ∷ rest) ≤ 1 → t ≡ is_finished (blocks_of o (f ∷ rest))
+      by_rest [] few = h ∙ ap (λ (m : Bool). m && can_be (results_of f.block_type) o.stack) (sym e)
+      by_rest (g ∷ rest) few = absurd (omega arith)
 
 -- ---- the last of a list
 
@@ -213,11 +213,11 @@ pub last_set : {A : Type 0} (xs : List A) (n : ℕ) (x : A) → length xs ≡ n 
 last_set {A} xs n x long =
     let h = parted xs n long in
     ap reverse h.3 ∙ reverse-append h.0 (x ∷ []) ∙ ap (λ (l : List A). x ∷ l) (sym (ap (drop 1) (ap reverse h.2 ∙ reverse-append h.0 (h.1 ∷ [])))) where
-  parted : (xs : List A) (n : ℕ) → length xs ≡ n + 1 → (front : List A) × (y : A) × (xs ≡ front ++ y ∷ []) × (set xs n x ≡ front ++ x ∷ [])
-  parted [] n long = absurd (omega arith)
-  parted (y ∷ []) zero long = ([], y, refl, refl)
-  parted (y ∷ []) (suc n) long = absurd (omega arith)
-  parted (y ∷ z ∷ zs) zero long = absurd (omega arith)
-  parted (y ∷ z ∷ zs) (suc n) long =
-      let r = parted (z ∷ zs) n (omega arith) in
-      (y ∷ r.0, r.1, ap (λ (l : List A). y ∷ l) r.2, ap (λ (l : List A). y ∷ l) r.3)
+      parted : (xs : List A) (n : ℕ) → length xs ≡ n + 1 → (front : List A) × (y : A) × (xs ≡ front ++ y ∷ []) × (set xs n x ≡ front ++ x ∷ [])
+      parted [] n long = absurd (omega arith)
+      parted (y ∷ []) zero long = ([], y, refl, refl)
+      parted (y ∷ []) (suc n) long = absurd (omega arith)
+      parted (y ∷ z ∷ zs) zero long = absurd (omega arith)
+      parted (y ∷ z ∷ zs) (suc n) long =
+          let r = parted (z ∷ zs) n (omega arith) in
+          (y ∷ r.0, r.1, ap (λ (l : List A). y ∷ l) r.2, ap (λ (l : List A). y ∷ l) r.3)

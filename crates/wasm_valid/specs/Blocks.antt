@@ -1,5 +1,5 @@
 -- The blocks that are open at an instruction, the innermost first, and what the instruction makes of them.
-use Rattle.std.specs.Prelude.{ℕ, List, [], ◌∷◌, Option, Some, None, Bool, true, false, ◌&&◌, map, take, drop, reverse}
+use Rattle.std.specs.Prelude.{List, [], ◌∷◌, Option, Some, None, Bool, true, false, ◌&&◌, map}
 use Rattle.std.specs.Option.{option_map, option_and_then}
 use Rattle.wasm_module.specs.declared.instruction.ValueType.{ValueType}
 use Rattle.wasm_module.specs.declared.instruction.ValueType.TheVariants.{I32}
@@ -10,7 +10,7 @@ use Rattle.wasm_module.specs.declared.instruction.Instruction.TheVariants as op
 use Rattle.wasm_valid.specs.declared.frames.FrameKind.{FrameKind}
 use Rattle.wasm_valid.specs.declared.frames.FrameKind.TheVariants.{Block, Loop, If}
 use Rattle.wasm_valid.specs.Typing.{Context, Labels, results_of}
-use Rattle.wasm_valid.specs.Stack.{Stack, nothing, if_true, when, pop, push, can_be}
+use Rattle.wasm_valid.specs.Stack.{Stack, nothing, if_true, pop, push, can_be}
 use Rattle.wasm_valid.specs.Effects.{after}
 
 -- a block, what it leaves, and what its own instructions so far left on the stack

@@ -11,7 +11,7 @@ use Rattle.wasm_module.specs.Instructions.{Instructions, IsWritten, flatten}
 use Rattle.wasm_valid.specs.declared.frames.FrameKind.{FrameKind}
 use Rattle.wasm_valid.specs.declared.frames.FrameKind.TheVariants.{Block, Loop, If}
 use Rattle.wasm_valid.specs.Typing.{Context, Labels, Typed, results_of}
-use Rattle.wasm_valid.specs.Validity.{FunctionTyped, FunctionsTyped}
+use Rattle.wasm_valid.specs.Validity.{FunctionTyped}
 use Rattle.wasm_valid.specs.Stack.{Stack, nothing, push}
 use Rattle.wasm_valid.specs.Blocks.{OpenBlock, labels_of}
 use Rattle.wasm_valid.specs.Fits.{Fits}

@@ -10,3 +10,4 @@ pub mod Ends
 pub mod Fits
 pub mod Bodies
 pub mod Scopes
+pub mod Standard

@@ -2,7 +2,6 @@
 use Rattle.std.specs.Prelude.{◌≡◌, ℕ, ◌≤◌, List, [], ◌∷◌, Option, Some, None, Bool, true, false, map, take, drop, reverse, length}
 use Rattle.wasm_module.specs.declared.instruction.ValueType.{ValueType}
 use Rattle.wasm_valid.specs.declared.frames.Frame.{Frame}
-use Rattle.wasm_valid.specs.declared.frames.Mark.{Mark}
 use Rattle.wasm_valid.specs.Stack.{Stack}
 use Rattle.wasm_valid.specs.Typing.{Labels}
 use Rattle.wasm_valid.specs.Blocks.{OpenBlock, label_of}

@@ -73,11 +73,7 @@ fn branch(frames: &Frames, operands: &mut OperandStack, label: u32) -> bool
 }
 
 /// Changes the operands as `br_if` does; whether it may stand here.
-fn branch_if(
-    frames: &Frames,
-    operands: &mut OperandStack,
-    label: u32,
-) -> Result<bool, AllocError>
+fn branch_if(frames: &Frames, operands: &mut OperandStack, label: u32) -> Result<bool, AllocError>
     ensures below { operands.new.below ≡ operands.old.below }
     ensures stack { IfOk result (λ typed. Answers typed
         (option_and_then (λ kept. moved (I32 ∷ kept) kept operands.old.stack) (slice_get (frame_labels frames.now) label))

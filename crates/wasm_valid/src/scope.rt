@@ -115,7 +115,10 @@ impl<'s, 'm> Scope<'s, 'm> {
             }
             Instruction::GlobalSet(index) => {
                 let global = self.global(*index)?;
-                global.mutable.then_some(Effect::new(Takes::One(global.value_type), BlockType::Empty))
+                global.mutable.then_some(Effect::new(
+                    Takes::One(global.value_type),
+                    BlockType::Empty,
+                ))
             }
             _ => match on_memory(instruction) {
                 Some(access) => self.memory_effect(access),

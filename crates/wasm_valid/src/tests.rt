@@ -4,9 +4,9 @@ use crate::validate;
 use std::alloc::{AllocError, Global};
 use std::test::Fail;
 use wasm_module::{
-    Body, Bytes, DataSegment, ElementSegment, Export, ExportKind, FuncType, GlobalEntry,
-    GlobalType, Import, ImportKind, Instruction, Items, Limits, LoadFault, Locals, Module, Name,
-    ValueType,
+    BinaryOperator, BlockType, Body, BranchTable, Bytes, DataSegment, ElementSegment, Export,
+    ExportKind, FuncType, GlobalEntry, GlobalType, Import, ImportKind, Instruction, Items, Limits,
+    LoadFault, Locals, MemArg, Module, Name, UnaryOperator, ValueType, decode,
 };
 
 fn func_type<const P: usize, const R: usize>(
@@ -224,19 +224,15 @@ fn types_operands(rt: HostRuntime) -> Result<(), Fail> {
 }
 
 #[test]
-fn runs_part_of_the_instructions(rt: HostRuntime) -> Result<(), Fail> {
+fn calls_functions_that_are_there(rt: HostRuntime) -> Result<(), Fail> {
     let alloc = rt.alloc();
     // a function of the module's own, and one that isn't there
     assert_eq!(rt;
         code_fault(alloc, [Instruction::Call(2), Instruction::End])?,
-        OWN
+        None
     );
     assert_eq!(rt;
         code_fault(alloc, [Instruction::Call(3), Instruction::End])?,
-        OWN
-    );
-    assert_eq!(rt;
-        code_fault(alloc, [Instruction::Nop, Instruction::End])?,
         OWN
     );
     Ok(())
@@ -450,42 +446,360 @@ fn gives_one_result(rt: HostRuntime) -> Result<(), Fail> {
     Ok(())
 }
 
-#[test]
-fn refuses_what_is_not_run(rt: HostRuntime) -> Result<(), Fail> {
-    let alloc = rt.alloc();
-    let mut module = hello(alloc)?;
+/// A global of the module's own, whose first value is this.
+fn global(
+    alloc: Global,
+    value_type: ValueType,
+    mutable: bool,
+    init: Instruction,
+) -> Result<GlobalEntry, AllocError> {
+    Ok(GlobalEntry {
+        global_type: GlobalType {
+            value_type,
+            mutable,
+        },
+        init: Items::from_vec(vec![in alloc; init, Instruction::End]?, 106),
+    })
+}
+
+/// The program with a table, a constant i32 global, a variable i64 global and this code, of type
+/// [] -> [] with two i64 locals.
+fn whole<const N: usize>(
+    alloc: Global,
+    code: [Instruction; N],
+) -> Result<Module<'static>, AllocError> {
+    let mut module = with_code(alloc, code)?;
     module.tables = Items::from_vec(vec![in alloc; Limits { min: 0, max: None }]?, 102);
-    assert_eq!(rt; validate(alloc, module).err(), refused_at(102));
-    let mut module = hello(alloc)?;
     module.globals = Items::from_vec(
         vec![in alloc;
-            GlobalEntry {
-                global_type: GlobalType {
-                    value_type: ValueType::I32,
-                    mutable: false
-                },
-                init: Items::from_vec(
-                    vec![in alloc; Instruction::I32Const(0), Instruction::End]?,
-                    106
-                ),
-            },
+            global(alloc, ValueType::I32, false, Instruction::I32Const(0))?,
+            global(alloc, ValueType::I64, true, Instruction::I64Const(0))?,
         ]?,
         105,
     );
-    assert_eq!(rt; validate(alloc, module).err(), refused_at(105));
+    Ok(module)
+}
+
+/// Whether the code is typed in that program.
+fn is_typed<const N: usize>(alloc: Global, code: [Instruction; N]) -> Result<bool, AllocError> {
+    Ok(validate(alloc, whole(alloc, code)?).is_ok())
+}
+
+const ADD: Instruction = Instruction::Binary(ValueType::I32, BinaryOperator::Add);
+
+#[test]
+fn types_unreachable_code(rt: HostRuntime) -> Result<(), Fail> {
+    use Instruction::{Br, Drop, End, Eqz, I32Const, I64Const, Select, Unreachable};
+    let alloc = rt.alloc();
+    assert!(rt; is_typed(alloc, [Unreachable, ADD, Drop, End])?);
+    assert!(rt; is_typed(alloc, [Unreachable, Select, Drop, End])?);
+    assert!(rt; is_typed(alloc, [Br(0), ADD, Drop, End])?);
+    // select of an i64 and an unknown
+    let code = [Unreachable, I64Const(0), I32Const(0), Select, Drop, End];
+    assert!(rt; is_typed(alloc, code)?);
+    // its result read as i32
+    let code = [
+        Unreachable,
+        I64Const(0),
+        I32Const(0),
+        Select,
+        Eqz(ValueType::I32),
+        Drop,
+        End,
+    ];
+    assert!(rt; !is_typed(alloc, code)?);
+    // i64 under i32.add
+    let code = [I32Const(0), Unreachable, I64Const(0), ADD, Drop, End];
+    assert!(rt; !is_typed(alloc, code)?);
+    Ok(())
+}
+
+#[test]
+fn types_branches(rt: HostRuntime) -> Result<(), Fail> {
+    use Instruction::{Block, Br, BrIf, BrTable, Drop, End, I32Const, I64Const, Loop, Return};
+    let alloc = rt.alloc();
+    let i32 = BlockType::Value(ValueType::I32);
+    // no such label, a value left over
+    assert!(rt; !is_typed(alloc, [Br(1), End])?);
+    assert!(rt; !is_typed(alloc, [I32Const(0), End])?);
+    assert!(rt; is_typed(alloc, [Block(i32), I32Const(7), Br(0), End, Drop, End])?);
+    assert!(rt; !is_typed(alloc, [Block(i32), I64Const(7), Br(0), End, Drop, End])?);
+    // a branch to a loop keeps nothing
+    assert!(rt; is_typed(alloc, [Loop(i32), Br(0), End, Drop, End])?);
+    assert!(rt; !is_typed(alloc, [Block(i32), Br(0), End, Drop, End])?);
+    assert!(rt; is_typed(alloc, [I32Const(0), BrIf(0), End])?);
+    assert!(rt; !is_typed(alloc, [I64Const(0), BrIf(0), End])?);
+    assert!(rt; is_typed(alloc, [I32Const(0), Return, End])?);
+    // labels of one type
+    let table = BranchTable::new(alloc, Items::from_vec(vec![in alloc; 1]?, 0), 0)?;
+    let code = [
+        Block(BlockType::Empty),
+        I32Const(0),
+        BrTable(table),
+        End,
+        End,
+    ];
+    assert!(rt; is_typed(alloc, code)?);
+    // of two, also where it can't be reached
+    let table = BranchTable::new(alloc, Items::from_vec(vec![in alloc; 1]?, 0), 0)?;
+    let code = [
+        Block(i32),
+        Instruction::Unreachable,
+        BrTable(table),
+        End,
+        Drop,
+        End,
+    ];
+    assert!(rt; !is_typed(alloc, code)?);
+    Ok(())
+}
+
+#[test]
+fn types_blocks(rt: HostRuntime) -> Result<(), Fail> {
+    use Instruction::{Block, Drop, Else, End, I32Const, I64Const, If};
+    let alloc = rt.alloc();
+    let i32 = BlockType::Value(ValueType::I32);
+    // what stands around a block isn't its own
+    assert!(rt;
+        !is_typed(
+            alloc,
+            [I32Const(0), Block(BlockType::Empty), Drop, End, End]
+        )?
+    );
+    assert!(rt; is_typed(alloc, [I32Const(0), If(BlockType::Empty), End, End])?);
+    assert!(rt; !is_typed(alloc, [I64Const(0), If(BlockType::Empty), End, End])?);
+    // an if that gives a value has an else
+    assert!(rt; !is_typed(alloc, [I32Const(0), If(i32), I32Const(1), End, Drop, End])?);
+    let code = [
+        I32Const(0),
+        If(i32),
+        I32Const(1),
+        Else,
+        I32Const(2),
+        End,
+        Drop,
+        End,
+    ];
+    assert!(rt; is_typed(alloc, code)?);
+    let code = [
+        I32Const(0),
+        If(i32),
+        I32Const(1),
+        Else,
+        I64Const(2),
+        End,
+        Drop,
+        End,
+    ];
+    assert!(rt; !is_typed(alloc, code)?);
+    // code that doesn't nest
+    assert!(rt; !is_typed(alloc, [Else, End])?);
+    assert!(rt; !is_typed(alloc, [Block(BlockType::Empty), End])?);
+    Ok(())
+}
+
+#[test]
+fn types_variables(rt: HostRuntime) -> Result<(), Fail> {
+    use Instruction::{
+        Drop, End, GlobalGet, GlobalSet, I32Const, I64Const, LocalGet, LocalSet, LocalTee,
+    };
+    let alloc = rt.alloc();
+    assert!(rt; is_typed(alloc, [LocalGet(1), LocalSet(0), End])?);
+    assert!(rt; !is_typed(alloc, [LocalGet(2), Drop, End])?);
+    assert!(rt; !is_typed(alloc, [I32Const(0), LocalSet(0), End])?);
+    assert!(rt; is_typed(alloc, [I64Const(0), LocalTee(1), Drop, End])?);
+    assert!(rt; !is_typed(alloc, [I64Const(0), LocalTee(1), End])?);
+    assert!(rt; is_typed(alloc, [GlobalGet(0), Drop, End])?);
+    assert!(rt; !is_typed(alloc, [GlobalGet(2), Drop, End])?);
+    assert!(rt; is_typed(alloc, [GlobalGet(1), GlobalSet(1), End])?);
+    // a constant one
+    assert!(rt; !is_typed(alloc, [GlobalGet(0), GlobalSet(0), End])?);
+    Ok(())
+}
+
+#[test]
+fn types_memory_and_tables(rt: HostRuntime) -> Result<(), Fail> {
+    use Instruction::{
+        CallIndirect, Drop, End, I32Const, I32Load16U, I64Load, I64Store32, MemoryFill,
+    };
+    let alloc = rt.alloc();
+    let at = |align| MemArg { align, offset: 0 };
+    assert!(rt; is_typed(alloc, [I32Const(0), I64Load(at(3)), Drop, End])?);
+    assert!(rt; !is_typed(alloc, [I32Const(0), I64Load(at(4)), Drop, End])?);
+    assert!(rt; !is_typed(alloc, [I32Const(0), I32Load16U(at(2)), Drop, End])?);
+    let code = [
+        I32Const(0),
+        Instruction::LocalGet(0),
+        I64Store32(at(2)),
+        End,
+    ];
+    assert!(rt; is_typed(alloc, code)?);
+    let code = [
+        I32Const(0),
+        Instruction::LocalGet(0),
+        I64Store32(at(3)),
+        End,
+    ];
+    assert!(rt; !is_typed(alloc, code)?);
+    let code = [I32Const(0), I32Const(0), I32Const(0), MemoryFill, End];
+    assert!(rt; is_typed(alloc, code)?);
+    assert!(rt; !is_typed(alloc, [I32Const(0), I32Const(0), MemoryFill, End])?);
+    assert!(rt; is_typed(alloc, [I32Const(0), CallIndirect(2), End])?);
+    assert!(rt; !is_typed(alloc, [I32Const(0), CallIndirect(3), End])?);
+    // neither table nor memory
+    assert!(rt; code_fault(alloc, [I32Const(0), CallIndirect(2), End])?.is_some());
+    Ok(())
+}
+
+#[test]
+fn types_operators(rt: HostRuntime) -> Result<(), Fail> {
+    use Instruction::{Drop, End, I32Const, I32WrapI64, I64Const, I64ExtendI32S, Unary};
+    let alloc = rt.alloc();
+    assert!(rt; is_typed(alloc, [I32Const(0), I64ExtendI32S, I32WrapI64, Drop, End])?);
+    assert!(rt; !is_typed(alloc, [I32Const(0), I32WrapI64, Drop, End])?);
+    let extend = UnaryOperator::Extend32S;
+    assert!(rt;
+        is_typed(
+            alloc,
+            [I64Const(0), Unary(ValueType::I64, extend), Drop, End]
+        )?
+    );
+    assert!(rt;
+        !is_typed(
+            alloc,
+            [I32Const(0), Unary(ValueType::I32, extend), Drop, End]
+        )?
+    );
+    Ok(())
+}
+
+#[test]
+fn starts_and_tables(rt: HostRuntime) -> Result<(), Fail> {
+    let alloc = rt.alloc();
+    // the module's own function has type [] -> [], an imported one takes an i32
+    for (start, fault) in [(2, None), (1, refused_at(0)), (3, refused_at(0))] {
+        let mut module = hello(alloc)?;
+        module.start = Some(start);
+        assert_eq!(rt; validate(alloc, module).err(), fault, "start {start}");
+    }
     let mut module = hello(alloc)?;
-    module.start = Some(2);
-    assert_eq!(rt; validate(alloc, module).err(), refused_at(0));
+    let limits = Limits {
+        min: 2,
+        max: Some(1),
+    };
+    module.tables = Items::from_vec(vec![in alloc; limits]?, 102);
+    assert_eq!(rt; validate(alloc, module).err(), refused_at(102));
     let mut module = hello(alloc)?;
+    module.tables = Items::from_vec(vec![in alloc; Limits { min: 0, max: None }; 2]?, 102);
+    assert_eq!(rt; validate(alloc, module).err(), refused_at(102));
+    Ok(())
+}
+
+/// The whole program, with functions in its table from here on.
+fn with_elements(
+    alloc: Global,
+    table: u32,
+    offset: Instruction,
+    function: u32,
+) -> Result<Module<'static>, AllocError> {
+    let mut module = whole(alloc, [Instruction::End])?;
     let segment = ElementSegment {
-        table: 0,
-        offset: Items::from_vec(
-            vec![in alloc; Instruction::I32Const(0), Instruction::End]?,
-            108,
-        ),
-        functions: Items::new(alloc),
+        table,
+        offset: Items::from_vec(vec![in alloc; offset, Instruction::End]?, 108),
+        functions: Items::from_vec(vec![in alloc; function]?, 109),
     };
     module.element_segments = Items::from_vec(vec![in alloc; segment]?, 107);
-    assert_eq!(rt; validate(alloc, module).err(), refused_at(107));
+    Ok(module)
+}
+
+#[test]
+fn places_elements(rt: HostRuntime) -> Result<(), Fail> {
+    use Instruction::{GlobalGet, I32Const, I64Const};
+    let alloc = rt.alloc();
+    for (i, module) in [
+        with_elements(alloc, 0, I32Const(0), 2)?,
+        // a constant global of the module's own
+        with_elements(alloc, 0, GlobalGet(0), 0)?,
+    ]
+    .into_iter()
+    .enumerate()
+    {
+        assert!(rt; validate(alloc, module).is_ok(), "elements {i}");
+    }
+    for (i, module) in [
+        with_elements(alloc, 1, I32Const(0), 2)?,
+        with_elements(alloc, 0, I64Const(0), 2)?,
+        with_elements(alloc, 0, GlobalGet(1), 2)?,
+        with_elements(alloc, 0, I32Const(0), 3)?,
+    ]
+    .into_iter()
+    .enumerate()
+    {
+        assert_eq!(rt;
+            validate(alloc, module).err(),
+            refused_at(107),
+            "elements {i}"
+        );
+    }
+    Ok(())
+}
+
+/// The program, with an imported constant i32 global and one of its own.
+fn with_globals(alloc: Global, own: GlobalEntry) -> Result<Module<'static>, AllocError> {
+    let mut module = hello(alloc)?;
+    let mut imports = imports(alloc)?;
+    imports
+        .push(Import {
+            module_name: Name::new("x"),
+            name: Name::new("x"),
+            kind: ImportKind::Global(GlobalType {
+                value_type: ValueType::I32,
+                mutable: false,
+            }),
+        })
+        .map_err(AllocError::from)?;
+    module.imports = Items::from_vec(imports, 28);
+    module.globals = Items::from_vec(vec![in alloc; own]?, 105);
+    Ok(module)
+}
+
+#[test]
+fn begins_globals(rt: HostRuntime) -> Result<(), Fail> {
+    use Instruction::{GlobalGet, I64Const};
+    let alloc = rt.alloc();
+    let own = global(alloc, ValueType::I32, true, GlobalGet(0))?;
+    assert!(rt; validate(alloc, with_globals(alloc, own)?).is_ok());
+    for (i, own) in [
+        // another type, and a global of the module's own
+        global(alloc, ValueType::I64, true, GlobalGet(0))?,
+        global(alloc, ValueType::I32, true, GlobalGet(1))?,
+        global(alloc, ValueType::I32, true, I64Const(0))?,
+    ]
+    .into_iter()
+    .enumerate()
+    {
+        assert_eq!(rt;
+            validate(alloc, with_globals(alloc, own)?).err(),
+            refused_at(105),
+            "global {i}"
+        );
+    }
+    Ok(())
+}
+
+#[test]
+fn names_the_instruction(rt: HostRuntime) -> Result<(), Fail> {
+    let alloc = rt.alloc();
+    // the second drop finds nothing
+    let bytes =
+        b"\0asm\x01\0\0\0\x01\x04\x01\x60\0\0\x03\x02\x01\0\x0A\x08\x01\x06\0\x41\0\x1A\x1A\x0B";
+    let module = decode(alloc, bytes)?;
+    assert_eq!(rt;
+        validate(alloc, module).err(),
+        Some(LoadFault::Invalid {
+            function: Some(0),
+            offset: 26
+        })
+    );
     Ok(())
 }

@@ -12,6 +12,7 @@ use crate::module_rules::{
     have_one_result, imported_functions, imported_globals, memories, tables,
 };
 use crate::names::names_differ;
+use crate::places::instruction_offset;
 use crate::space::Space;
 use crate::valid::Valid;
 use std::alloc::Global;
@@ -154,11 +155,7 @@ fn check_start(module: &Module<'_>, space: &Space<'_>) -> Result<(), LoadFault>
     }
 }
 
-fn check_bodies(
-    alloc: Global,
-    module: &Module<'_>,
-    space: &Space<'_>,
-) -> Result<(), LoadFault>
+fn check_bodies(alloc: Global, module: &Module<'_>, space: &Space<'_>) -> Result<(), LoadFault>
     requires { IsSpaceOf space.now «module».now }
     ensures { (c : Context) → IsSpace space.now c
         → Settles result (FunctionsTyped c «module».now.types «module».now.functions «module».now.bodies) }
@@ -167,10 +164,10 @@ fn check_bodies(
     let bodies = module.bodies.as_slice();
     rule(functions.len() == bodies.len(), module.bodies.offset())?;
     for (i, body) in bodies.iter().enumerate() {
-        if let Some(_) = space.untyped_body(alloc, functions[i], body)? {
+        if let Some(index) = space.untyped_body(alloc, functions[i], body)? {
             return Err(LoadFault::Invalid {
                 function: u32::try_from(i).ok(),
-                offset: body.code.offset(),
+                offset: instruction_offset(body, index),
             });
         }
     }

@@ -1,7 +1,7 @@
 use Rattle.wasm_valid.specs.Validity.{IsValid}
-use Rattle.wasm_valid.specs.Rules.{TypesFit, LimitsHold, GlobalsHold, ListsFit}
+use Rattle.wasm_valid.specs.Rules.{TypesFit, GlobalsHold, ListsFit}
 use Rattle.wasm_valid.proofs.Refusals.{refused}
-use Rattle.wasm_valid.proofs.Assembled.{types_of, limits_of, globals_hold, lists_of, start_settled, settled}
+use Rattle.wasm_valid.proofs.Assembled.{types_of, globals_hold, lists_of, start_settled, settled}
 use Rattle.wasm_valid.proofs.validating.check.Goals as goal
 
 pub returns-in_err-check_globals : goal.returns-in_err-check_globals

@@ -1,10 +1,9 @@
-use Rattle.std.proofs.Common.{arith, ◌<◌, IsTrue, length, get_or, nat_eq, Option}
+use Rattle.std.proofs.Common.{arith, IsTrue, length, nat_eq}
 use Rattle.std.proofs.lemmas.Bool.Decides.{Decides-eqb}
-use Rattle.std.proofs.lemmas.List.{get_or_default}
 use Rattle.wasm_valid.specs.Refusal.{Settles}
 use Rattle.wasm_valid.specs.Validity.{FunctionsTyped}
 use Rattle.wasm_valid.proofs.Refusals.{refused}
-use Rattle.wasm_valid.proofs.EachBody.{in_module, same_length, Remaining-more, Remaining-stops, Remaining-none}
+use Rattle.wasm_valid.proofs.EachBody.{in_module, same_length, Remaining-none}
 use Rattle.wasm_valid.proofs.validating.check_bodies.Goals as goal
 
 pub returns-in_err-rule : goal.returns-in_err-rule

@@ -1,9 +1,6 @@
-use Rattle.std.proofs.Common.{List, length, map, All, IsTrue, ◌↔◌, ◌∙◌, subst, ◌≡◌, Bool}
+use Rattle.std.proofs.Common.{List, map, All, IsTrue, ◌↔◌, ◌∙◌, subst, ◌≡◌, Bool}
 use Rattle.wasm_module.specs.declared.module.GlobalType.{GlobalType}
 use Rattle.wasm_module.specs.declared.module.Export.{Export}
-use Rattle.wasm_module.specs.declared.module.ElementSegment.{ElementSegment}
-use Rattle.wasm_module.specs.declared.module.DataSegment.{DataSegment}
-use Rattle.wasm_module.specs.declared.module.Module.{Module}
 use Rattle.wasm_valid.specs.declared.module_rules.Counts.{Counts}
 use Rattle.wasm_valid.specs.Validity.{AreApart, globals_of}
 use Rattle.wasm_valid.specs.Rules.{ListsFit, IsWithin, ElementsHold, DataHolds, counts_of}

@@ -1,4 +1,4 @@
-use Rattle.std.proofs.Common.{◌≡◌, ◌-◌, ◌<◌, length, ap, sym, ◌∙◌, arith, get_or, map, reverse, subst, List, Some}
+use Rattle.std.proofs.Common.{◌≡◌, ◌-◌, ◌<◌, length, ap, ◌∙◌, arith, get_or, map, subst, List, Some}
 use Rattle.std.specs.List.{slice_get}
 use Rattle.wasm_valid.specs.declared.frames.Frame.{Frame}
 use Rattle.wasm_valid.specs.Typing.{results_of}

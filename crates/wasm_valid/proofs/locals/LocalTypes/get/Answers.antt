@@ -1,13 +1,10 @@
 -- The group is the first whose end is past the local's index.
-use Rattle.std.proofs.Common.{rules, tests, ◌≡◌, ℕ, ◌+◌, ◌-◌, ◌^◌, ◌<◌, ◌≤◌, ◌++◌, length, leb, List, sym, ◌∙◌, ap, refl, subst, arith, Some, None, Option, Bor}
+use Rattle.std.proofs.Common.{rules, tests, length, leb, List, sym, ◌∙◌, ap, arith, Some, None}
 use Rattle.std.specs.List.{slice_get}
-use Rattle.std.specs.List.Sorted.{IsPartitionPoint}
 use Rattle.std.specs.Option.{option_map}
 use Rattle.std.proofs.lemmas.List.Sorted.{IsPartitionPoint-from_clause}
 use Rattle.wasm_module.specs.declared.instruction.ValueType.{ValueType}
 use Rattle.wasm_module.specs.declared.module.Locals.{Locals}
-use Rattle.wasm_valid.specs.Validity.{local_types}
-use Rattle.wasm_valid.specs.Ends.{ends_from}
 use Rattle.wasm_valid.proofs.Spaces.{copied_at}
 use Rattle.wasm_valid.proofs.Groups.{located, ends_part_of}
 use Rattle.wasm_valid.proofs.locals.LocalTypes.get.Goals as goal

@@ -1,4 +1,4 @@
-use Rattle.std.proofs.Common.{◌≡◌, ◌∷◌, [], ◌++◌, ℕ, List, Option, sym, ◌∙◌, ap, subst}
+use Rattle.std.proofs.Common.{◌≡◌, ◌∷◌, [], ◌++◌, ℕ, List, Option, ◌∙◌, ap}
 use Rattle.std.proofs.lemmas.Result.{IfOk-weaker}
 use Rattle.wasm_module.specs.declared.instruction.ValueType.{ValueType}
 use Rattle.wasm_module.specs.declared.module.Locals.{Locals}
@@ -19,7 +19,7 @@ returns c =
     let flat = c.as_slice-3.result.now in
     let scope : Scope = record { space = c.args.self; locals = c.in_ok-locals.locals; returns = c.result_type.result } in
     let locals : c.in_ok-locals.locals ≡ f.params ++ local_types b.locals =
-        c.in_ok-locals.ensures ∙ ap (λ (ps : List ValueType). ps ++ local_types c.as_slice-2.result.now) c.as_slice.ensures ∙ ap (λ (gs : List Locals). f.params ++ local_types gs) c.as_slice-2.ensures in
+    c.in_ok-locals.ensures ∙ ap (λ (ps : List ValueType). ps ++ local_types c.as_slice-2.result.now) c.as_slice.ensures ∙ ap (λ (gs : List Locals). f.params ++ local_types gs) c.as_slice-2.ensures in
     IfOk-weaker c.untyped.result
     (λ (r : Option ℕ). (k : Context) → IsScope scope k → Verdict r (Going k (opened Block scope.returns ∷ []) flat))
     (λ (r : Option ℕ). (k : Context) → IsSpace c.args.self.now k → Verdict r (FunctionTyped k f b))

@@ -1,5 +1,5 @@
-use Rattle.std.proofs.Common.{◌≡◌, List, None, sym, ap, ◌∙◌}
-use Rattle.wasm_valid.specs.Blocks.{OpenBlock, elsed_in}
+use Rattle.std.proofs.Common.{sym, ap, ◌∙◌}
+use Rattle.wasm_valid.specs.Blocks.{elsed_in}
 use Rattle.wasm_valid.proofs.Nested.{no_else, no_else_yet}
 use Rattle.wasm_valid.proofs.walk.Walk.begin_else.Goals as goal
 

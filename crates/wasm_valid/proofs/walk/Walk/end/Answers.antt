@@ -1,5 +1,5 @@
-use Rattle.std.proofs.Common.{◌≡◌, ◌∷◌, List, None, sym, ap, ◌∙◌, arith, ◌≤◌, length}
-use Rattle.wasm_valid.specs.Blocks.{OpenBlock, ended_in}
+use Rattle.std.proofs.Common.{sym, ap, ◌∙◌, arith}
+use Rattle.wasm_valid.specs.Blocks.{ended_in}
 use Rattle.wasm_valid.proofs.Nested.{end_of_few, end_of_if, end_of_other, end_answers, end_nested, popped_head, no_head}
 use Rattle.wasm_valid.proofs.walk.Walk.end.Goals as goal
 

@@ -1,5 +1,5 @@
-use Rattle.std.proofs.Common.{◌≡◌, ◌∷◌, List, None, false, sym, ap, ◌∙◌, arith, ◌≤◌, length}
-use Rattle.wasm_valid.specs.Blocks.{OpenBlock, is_finished}
+use Rattle.std.proofs.Common.{sym, ap, ◌∙◌, arith}
+use Rattle.wasm_valid.specs.Blocks.{is_finished}
 use Rattle.wasm_valid.proofs.Nested.{not_finished, finish_of_if, finish_is, no_head}
 use Rattle.wasm_valid.proofs.walk.Walk.finish.Goals as goal
 

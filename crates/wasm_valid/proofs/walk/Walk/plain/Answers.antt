@@ -1,10 +1,9 @@
-use Rattle.std.proofs.Common.{◌<◌, length, List, Bool, IfOk, sym, subst}
+use Rattle.std.proofs.Common.{List, Bool, subst}
 use Rattle.std.proofs.lemmas.Result.{IfOk-weaker}
-use Rattle.wasm_module.specs.declared.instruction.ValueType.{ValueType}
 use Rattle.wasm_valid.specs.Typing.{Context}
 use Rattle.wasm_valid.specs.Effects.{after}
 use Rattle.wasm_valid.specs.Blocks.{OpenBlock, plain_in}
-use Rattle.wasm_valid.specs.Operands.{blocks_of, frame_labels, AreNested, Answers}
+use Rattle.wasm_valid.specs.Operands.{blocks_of, frame_labels, Answers}
 use Rattle.wasm_valid.specs.Scopes.{IsScope}
 use Rattle.wasm_valid.proofs.Nested.{plain_answers, nested_still}
 use Rattle.wasm_valid.proofs.walk.Walk.plain.Goals as goal
