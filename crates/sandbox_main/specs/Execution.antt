@@ -1,10 +1,10 @@
 -- What the program does with the bytes of a module: how it ends, and of which run its status tells.
-use Rattle.std.specs.Prelude.{◌≡◌, ◌⊎◌, ℕ, List, [], ◌∷◌, map, Option, codes}
+use Rattle.std.specs.Prelude.{◌≡◌, ◌≢◌, ◌⊎◌, ℕ, List, [], ◌∷◌, map, Option, codes}
 use Rattle.wasm_module.specs.declared.fault.LoadFault.{LoadFault}
+use Rattle.wasm_module.specs.declared.fault.LoadFault.TheVariants.{Memory}
 use Rattle.wasm_module.specs.declared.module.Module.{Module}
 use Rattle.wasm_module.specs.Module.{Spells}
 use Rattle.wasm_valid.specs.Validity.{IsValid}
-use Rattle.wasm_valid.specs.Refusal.{IsRefusal}
 use Rattle.sandbox_core.specs.declared.fault.SessionFault.{SessionFault}
 use Rattle.sandbox_core.specs.declared.settings.Preopen.{Preopen}
 use Rattle.sandbox_core.specs.declared.settings.Settings.{Settings}
@@ -30,10 +30,10 @@ pub record AreSettings (arguments : List Text) (pages : ℕ) (settings : Setting
   pub random : settings.random.now ≡ []
   pub pages_are : settings.pages ≡ pages
 
--- The bytes are refused: they spell no module, but where the module isn't valid or memory was wanting.
+-- The bytes are refused: where it isn't memory that was wanting, they spell no valid module.
 pub record NotLoaded (bytes : List ℕ) (status : ℕ) : Type 0 where
   pub fault : LoadFault
-  pub refused : ¬ IsRefusal fault → (m : Module) → Spells bytes m → ⊥
+  pub refused : fault ≢ Memory → (m : Module) → Spells bytes m → IsValid m → ⊥
   pub ends : status ≡ load_status fault
 
 -- The module gets no session with these arguments and pages.
