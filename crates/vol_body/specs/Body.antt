@@ -56,6 +56,19 @@ bytes_of content e = map (byte_at content e) (range_with_len 0 e.size)
 abbrev pub NamesTaken : (ℕ → Bool) → Image → Entry → Type 0
 NamesTaken taken content e = (p : Place) → IsPlace p → named content e p ≢ 0 → taken (named content e p) ≡ true
 
+-- the file names no sector of this number
+abbrev pub NamesOthers : Image → Entry → ℕ → Type 0
+NamesOthers content e n = (p : Place) → IsPlace p → named content e p ≢ n
+
+-- each sector that the file names has the same bytes in both
+abbrev pub SameSectors : Image → Image → Entry → Type 0
+SameSectors one other e = (p : Place) → IsPlace p → named one e p ≢ 0 → other (named one e p) ≡ one (named one e p)
+
+-- the file names the same sectors in both, and has the same bytes
+pub record IsSameFile (one other : Image) (e : Entry) : Type 0 where
+  pub names : (p : Place) → IsPlace p → named other e p ≡ named one e p
+  pub bytes : (k : ℕ) → k < 8483840 → byte_at other e k ≡ byte_at one e k
+
 -- The rules on a file's sectors: no two places name the same one; a place that serves only parts at or past the size
 -- names none; bytes past the size are zeros.
 pub record IsBody (content : Image) (e : Entry) : Type 0 where
