@@ -3,7 +3,7 @@
 ghost use Rattle.std.specs.Prelude.{◌≡◌, ◌≤◌, ◌<◌, IfOk};
 ghost use Rattle.vol_log.specs.Log.{sectors_of};
 
-use crate::read_at;
+use crate::{grow, read_at};
 use std::alloc::Global;
 use std::test::Fail;
 use vol_alloc::Alloc;
@@ -135,6 +135,34 @@ fn a_read_that_fails_is_refused_from_then_on(rt: HostRuntime) -> Result<(), Fail
     assert!(rt; read_at(&mut log, &sectors, &entry, 0, &mut buffer).is_err());
     assert!(rt; log.failed());
     assert!(rt; read_at(&mut log, &sectors, &entry, 0, &mut buffer[..1]).is_err());
+    let _ = log.into_device();
+    Ok(())
+}
+
+#[test]
+fn a_longer_file_is_its_entry_alone(rt: HostRuntime) -> Result<(), Fail> {
+    let alloc = rt.alloc();
+    let mut log = open(alloc, 1_000)?;
+    let sectors = Alloc::from_named(alloc, 138, 202, &[])?;
+    let mut entry = Entry {
+        kind: Kind::File,
+        name_length: 1,
+        parent: 1,
+        size: 0,
+        name: [0; 255],
+        pointers: [0; 60],
+    };
+    assert!(rt; log.room() > 0);
+    assert!(rt; grow(&mut log, 123, &mut entry, 95_232).is_ok());
+    assert_eq!(rt; (log.room(), entry.size), (119, 95_232));
+    let mut offset: u64 = 0;
+    for _ in 0..93 {
+        let mut buffer = [7; 1_024];
+        let read = read_at(&mut log, &sectors, &entry, offset, &mut buffer);
+        assert_eq!(rt; read, Ok(1_024));
+        assert_eq!(rt; buffer, [0; 1_024]);
+        offset = offset.saturating_add(1_024);
+    }
     let _ = log.into_device();
     Ok(())
 }
