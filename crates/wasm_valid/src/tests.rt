@@ -744,21 +744,28 @@ fn places_elements(rt: HostRuntime) -> Result<(), Fail> {
     Ok(())
 }
 
+/// An imported constant i32 global.
+fn imported_global() -> Import<'static> {
+    Import {
+        module_name: Name::new("x"),
+        name: Name::new("x"),
+        kind: ImportKind::Global(GlobalType {
+            value_type: ValueType::I32,
+            mutable: false,
+        }),
+    }
+}
+
 /// The program, with an imported constant i32 global and one of its own.
 fn with_globals(alloc: Global, own: GlobalEntry) -> Result<Module<'static>, AllocError> {
-    let mut module = hello(alloc)?;
-    let mut imports = imports(alloc)?;
-    imports
-        .push(Import {
-            module_name: Name::new("x"),
-            name: Name::new("x"),
-            kind: ImportKind::Global(GlobalType {
-                value_type: ValueType::I32,
-                mutable: false,
-            }),
-        })
-        .map_err(AllocError::from)?;
-    module.imports = Items::from_vec(imports, 28);
+    let imports = vec![in alloc;
+        import("fd_write", 0),
+        import("proc_exit", 1),
+        imported_global(),
+    ]?;
+    let bodies = body(alloc, [Instruction::End])?;
+    let segment = segment(alloc, 0, Instruction::I32Const(0))?;
+    let mut module = program(alloc, imports, exports(alloc)?, bodies, segment)?;
     module.globals = Items::from_vec(vec![in alloc; own]?, 105);
     Ok(module)
 }
