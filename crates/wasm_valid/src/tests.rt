@@ -6,7 +6,7 @@ use std::test::Fail;
 use wasm_module::{
     BinaryOperator, BlockType, Body, BranchTable, Bytes, DataSegment, ElementSegment, Export,
     ExportKind, FuncType, GlobalEntry, GlobalType, Import, ImportKind, Instruction, Items, Limits,
-    LoadFault, Locals, MemArg, Module, Name, UnaryOperator, ValueType, decode,
+    LoadFault, Locals, MemArg, Module, Name, UnaryOperator, ValueType,
 };
 
 fn func_type<const P: usize, const R: usize>(
@@ -791,22 +791,5 @@ fn begins_globals(rt: HostRuntime) -> Result<(), Fail> {
             "global {i}"
         );
     }
-    Ok(())
-}
-
-#[test]
-fn names_the_instruction(rt: HostRuntime) -> Result<(), Fail> {
-    let alloc = rt.alloc();
-    // the second drop finds nothing
-    let bytes =
-        b"\0asm\x01\0\0\0\x01\x04\x01\x60\0\0\x03\x02\x01\0\x0A\x08\x01\x06\0\x41\0\x1A\x1A\x0B";
-    let module = decode(alloc, bytes)?;
-    assert_eq!(rt;
-        validate(alloc, module).err(),
-        Some(LoadFault::Invalid {
-            function: Some(0),
-            offset: 26
-        })
-    );
     Ok(())
 }
