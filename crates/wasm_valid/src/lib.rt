@@ -23,4 +23,6 @@ pub use validating::validate;
 pub use wasm_module::LoadFault;
 
 #[cfg(test)]
+mod offset_tests;
+#[cfg(test)]
 mod tests;

@@ -6,7 +6,7 @@ use std::test::Fail;
 use wasm_module::{
     BinaryOperator, BlockType, Body, BranchTable, Bytes, DataSegment, ElementSegment, Export,
     ExportKind, FuncType, GlobalEntry, GlobalType, Import, ImportKind, Instruction, Items, Limits,
-    LoadFault, Locals, MemArg, Module, Name, UnaryOperator, ValueType, decode,
+    LoadFault, Locals, MemArg, Module, Name, UnaryOperator, ValueType,
 };
 
 fn func_type<const P: usize, const R: usize>(
@@ -744,21 +744,28 @@ fn places_elements(rt: HostRuntime) -> Result<(), Fail> {
     Ok(())
 }
 
+/// An imported constant i32 global.
+fn imported_global() -> Import<'static> {
+    Import {
+        module_name: Name::new("x"),
+        name: Name::new("x"),
+        kind: ImportKind::Global(GlobalType {
+            value_type: ValueType::I32,
+            mutable: false,
+        }),
+    }
+}
+
 /// The program, with an imported constant i32 global and one of its own.
 fn with_globals(alloc: Global, own: GlobalEntry) -> Result<Module<'static>, AllocError> {
-    let mut module = hello(alloc)?;
-    let mut imports = imports(alloc)?;
-    imports
-        .push(Import {
-            module_name: Name::new("x"),
-            name: Name::new("x"),
-            kind: ImportKind::Global(GlobalType {
-                value_type: ValueType::I32,
-                mutable: false,
-            }),
-        })
-        .map_err(AllocError::from)?;
-    module.imports = Items::from_vec(imports, 28);
+    let imports = vec![in alloc;
+        import("fd_write", 0),
+        import("proc_exit", 1),
+        imported_global(),
+    ]?;
+    let bodies = body(alloc, [Instruction::End])?;
+    let segment = segment(alloc, 0, Instruction::I32Const(0))?;
+    let mut module = program(alloc, imports, exports(alloc)?, bodies, segment)?;
     module.globals = Items::from_vec(vec![in alloc; own]?, 105);
     Ok(module)
 }
@@ -784,22 +791,5 @@ fn begins_globals(rt: HostRuntime) -> Result<(), Fail> {
             "global {i}"
         );
     }
-    Ok(())
-}
-
-#[test]
-fn names_the_instruction(rt: HostRuntime) -> Result<(), Fail> {
-    let alloc = rt.alloc();
-    // the second drop finds nothing
-    let bytes =
-        b"\0asm\x01\0\0\0\x01\x04\x01\x60\0\0\x03\x02\x01\0\x0A\x08\x01\x06\0\x41\0\x1A\x1A\x0B";
-    let module = decode(alloc, bytes)?;
-    assert_eq!(rt;
-        validate(alloc, module).err(),
-        Some(LoadFault::Invalid {
-            function: Some(0),
-            offset: 26
-        })
-    );
     Ok(())
 }
