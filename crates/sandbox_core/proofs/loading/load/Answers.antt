@@ -22,4 +22,4 @@ returns-in_err-module-clause-no c =
 pub returns-clause-no : goal.returns-clause-no
 returns-clause-no c =
     if_err _ _ c.validate.result (λ e no other m spells valid.
-        no other (subst IsValid (c.one_module.ensures c.args.bytes.now m _ spells c.in_ok-module.ensures.found) valid)) c.validate.ensures.no
+    no other (subst IsValid (c.one_module.ensures c.args.bytes.now m _ spells c.in_ok-module.ensures.found) valid)) c.validate.ensures.no
