@@ -194,36 +194,6 @@ const OWN: Option<LoadFault> = Some(LoadFault::Invalid {
 });
 
 #[test]
-fn types_operands(rt: HostRuntime) -> Result<(), Fail> {
-    let alloc = rt.alloc();
-    // nothing to drop
-    assert_eq!(rt;
-        code_fault(alloc, [Instruction::Drop, Instruction::End])?,
-        OWN
-    );
-    // `proc_exit` takes an i32
-    let code = [
-        Instruction::I64Const(0),
-        Instruction::Call(1),
-        Instruction::End,
-    ];
-    assert_eq!(rt; code_fault(alloc, code)?, OWN);
-    // too few for `fd_write`
-    let code = [
-        Instruction::I32Const(0),
-        Instruction::Call(0),
-        Instruction::End,
-    ];
-    assert_eq!(rt; code_fault(alloc, code)?, OWN);
-    // a value is left
-    assert_eq!(rt;
-        code_fault(alloc, [Instruction::I32Const(0), Instruction::End])?,
-        OWN
-    );
-    Ok(())
-}
-
-#[test]
 fn calls_functions_that_are_there(rt: HostRuntime) -> Result<(), Fail> {
     let alloc = rt.alloc();
     // a function of the module's own, and one that isn't there
@@ -269,34 +239,6 @@ fn with_order<const N: usize>(
         10,
     );
     Ok(module)
-}
-
-#[test]
-fn takes_parameters_in_order(rt: HostRuntime) -> Result<(), Fail> {
-    let alloc = rt.alloc();
-    let module = with_order(
-        alloc,
-        [
-            Instruction::I32Const(0),
-            Instruction::I64Const(0),
-            Instruction::Call(0),
-            Instruction::End,
-        ],
-    )?;
-    assert!(rt; validate(alloc, module).is_ok());
-    let module = with_order(
-        alloc,
-        [
-            Instruction::I64Const(0),
-            Instruction::I32Const(0),
-            Instruction::Call(0),
-            Instruction::End,
-        ],
-    )?;
-    assert!(rt; validate(alloc, module).is_err());
-    let module = with_order(alloc, [Instruction::I32Const(0), Instruction::End])?;
-    assert!(rt; validate(alloc, module).is_err());
-    Ok(())
 }
 
 #[test]
@@ -515,143 +457,6 @@ fn types_unreachable_code(rt: HostRuntime) -> Result<(), Fail> {
 }
 
 #[test]
-fn types_branches(rt: HostRuntime) -> Result<(), Fail> {
-    use Instruction::{Block, Br, BrIf, BrTable, Drop, End, I32Const, I64Const, Loop, Return};
-    let alloc = rt.alloc();
-    let i32 = BlockType::Value(ValueType::I32);
-    // no such label, a value left over
-    assert!(rt; !is_typed(alloc, [Br(1), End])?);
-    assert!(rt; !is_typed(alloc, [I32Const(0), End])?);
-    assert!(rt; is_typed(alloc, [Block(i32), I32Const(7), Br(0), End, Drop, End])?);
-    assert!(rt; !is_typed(alloc, [Block(i32), I64Const(7), Br(0), End, Drop, End])?);
-    // a branch to a loop keeps nothing
-    assert!(rt; is_typed(alloc, [Loop(i32), Br(0), End, Drop, End])?);
-    assert!(rt; !is_typed(alloc, [Block(i32), Br(0), End, Drop, End])?);
-    assert!(rt; is_typed(alloc, [I32Const(0), BrIf(0), End])?);
-    assert!(rt; !is_typed(alloc, [I64Const(0), BrIf(0), End])?);
-    assert!(rt; is_typed(alloc, [I32Const(0), Return, End])?);
-    // labels of one type
-    let table = BranchTable::new(alloc, Items::from_vec(vec![in alloc; 1]?, 0), 0)?;
-    let code = [
-        Block(BlockType::Empty),
-        I32Const(0),
-        BrTable(table),
-        End,
-        End,
-    ];
-    assert!(rt; is_typed(alloc, code)?);
-    // of two, also where it can't be reached
-    let table = BranchTable::new(alloc, Items::from_vec(vec![in alloc; 1]?, 0), 0)?;
-    let code = [
-        Block(i32),
-        Instruction::Unreachable,
-        BrTable(table),
-        End,
-        Drop,
-        End,
-    ];
-    assert!(rt; !is_typed(alloc, code)?);
-    Ok(())
-}
-
-#[test]
-fn types_blocks(rt: HostRuntime) -> Result<(), Fail> {
-    use Instruction::{Block, Drop, Else, End, I32Const, I64Const, If};
-    let alloc = rt.alloc();
-    let i32 = BlockType::Value(ValueType::I32);
-    // what stands around a block isn't its own
-    assert!(rt;
-        !is_typed(
-            alloc,
-            [I32Const(0), Block(BlockType::Empty), Drop, End, End]
-        )?
-    );
-    assert!(rt; is_typed(alloc, [I32Const(0), If(BlockType::Empty), End, End])?);
-    assert!(rt; !is_typed(alloc, [I64Const(0), If(BlockType::Empty), End, End])?);
-    // an if that gives a value has an else
-    assert!(rt; !is_typed(alloc, [I32Const(0), If(i32), I32Const(1), End, Drop, End])?);
-    let code = [
-        I32Const(0),
-        If(i32),
-        I32Const(1),
-        Else,
-        I32Const(2),
-        End,
-        Drop,
-        End,
-    ];
-    assert!(rt; is_typed(alloc, code)?);
-    let code = [
-        I32Const(0),
-        If(i32),
-        I32Const(1),
-        Else,
-        I64Const(2),
-        End,
-        Drop,
-        End,
-    ];
-    assert!(rt; !is_typed(alloc, code)?);
-    // code that doesn't nest
-    assert!(rt; !is_typed(alloc, [Else, End])?);
-    assert!(rt; !is_typed(alloc, [Block(BlockType::Empty), End])?);
-    Ok(())
-}
-
-#[test]
-fn types_variables(rt: HostRuntime) -> Result<(), Fail> {
-    use Instruction::{
-        Drop, End, GlobalGet, GlobalSet, I32Const, I64Const, LocalGet, LocalSet, LocalTee,
-    };
-    let alloc = rt.alloc();
-    assert!(rt; is_typed(alloc, [LocalGet(1), LocalSet(0), End])?);
-    assert!(rt; !is_typed(alloc, [LocalGet(2), Drop, End])?);
-    assert!(rt; !is_typed(alloc, [I32Const(0), LocalSet(0), End])?);
-    assert!(rt; is_typed(alloc, [I64Const(0), LocalTee(1), Drop, End])?);
-    assert!(rt; !is_typed(alloc, [I64Const(0), LocalTee(1), End])?);
-    assert!(rt; is_typed(alloc, [GlobalGet(0), Drop, End])?);
-    assert!(rt; !is_typed(alloc, [GlobalGet(2), Drop, End])?);
-    assert!(rt; is_typed(alloc, [GlobalGet(1), GlobalSet(1), End])?);
-    // a constant one
-    assert!(rt; !is_typed(alloc, [GlobalGet(0), GlobalSet(0), End])?);
-    Ok(())
-}
-
-#[test]
-fn types_memory_and_tables(rt: HostRuntime) -> Result<(), Fail> {
-    use Instruction::{
-        CallIndirect, Drop, End, I32Const, I32Load16U, I64Load, I64Store32, MemoryFill,
-    };
-    let alloc = rt.alloc();
-    let at = |align| MemArg { align, offset: 0 };
-    assert!(rt; is_typed(alloc, [I32Const(0), I64Load(at(3)), Drop, End])?);
-    assert!(rt; !is_typed(alloc, [I32Const(0), I64Load(at(4)), Drop, End])?);
-    assert!(rt; !is_typed(alloc, [I32Const(0), I32Load16U(at(2)), Drop, End])?);
-    let code = [
-        I32Const(0),
-        Instruction::LocalGet(0),
-        I64Store32(at(2)),
-        End,
-    ];
-    assert!(rt; is_typed(alloc, code)?);
-    let code = [
-        I32Const(0),
-        Instruction::LocalGet(0),
-        I64Store32(at(3)),
-        End,
-    ];
-    assert!(rt; !is_typed(alloc, code)?);
-    let code = [I32Const(0), I32Const(0), I32Const(0), MemoryFill, End];
-    assert!(rt; is_typed(alloc, code)?);
-    assert!(rt; !is_typed(alloc, [I32Const(0), I32Const(0), MemoryFill, End])?);
-    assert!(rt; is_typed(alloc, [I32Const(0), CallIndirect(2), End])?);
-    assert!(rt; !is_typed(alloc, [I32Const(0), CallIndirect(3), End])?);
-    // neither table nor memory
-    assert!(rt; code_fault(alloc, [I32Const(0), CallIndirect(2), End])?.is_some());
-    Ok(())
-}
-
-#[test]
 fn types_operators(rt: HostRuntime) -> Result<(), Fail> {
     use Instruction::{Drop, End, I32Const, I32WrapI64, I64Const, I64ExtendI32S, Unary};
     let alloc = rt.alloc();
@@ -670,28 +475,6 @@ fn types_operators(rt: HostRuntime) -> Result<(), Fail> {
             [I32Const(0), Unary(ValueType::I32, extend), Drop, End]
         )?
     );
-    Ok(())
-}
-
-#[test]
-fn starts_and_tables(rt: HostRuntime) -> Result<(), Fail> {
-    let alloc = rt.alloc();
-    // the module's own function has type [] -> [], an imported one takes an i32
-    for (start, fault) in [(2, None), (1, refused_at(0)), (3, refused_at(0))] {
-        let mut module = hello(alloc)?;
-        module.start = Some(start);
-        assert_eq!(rt; validate(alloc, module).err(), fault, "start {start}");
-    }
-    let mut module = hello(alloc)?;
-    let limits = Limits {
-        min: 2,
-        max: Some(1),
-    };
-    module.tables = Items::from_vec(vec![in alloc; limits]?, 102);
-    assert_eq!(rt; validate(alloc, module).err(), refused_at(102));
-    let mut module = hello(alloc)?;
-    module.tables = Items::from_vec(vec![in alloc; Limits { min: 0, max: None }; 2]?, 102);
-    assert_eq!(rt; validate(alloc, module).err(), refused_at(102));
     Ok(())
 }
 
