@@ -619,6 +619,79 @@ fn types_indirect_calls(rt: HostRuntime) -> Result<(), Fail> {
 }
 
 #[test]
+fn types_operands(rt: HostRuntime) -> Result<(), Fail> {
+    use Instruction::{Call, Drop, End, I32Const, I64Const};
+    let alloc = rt.alloc();
+    // nothing to drop
+    assert_eq!(rt; code_fault(alloc, [Drop, End])?, OWN);
+    // `proc_exit` takes an i32
+    assert_eq!(rt; code_fault(alloc, [I64Const(0), Call(1), End])?, OWN);
+    // too few for `fd_write`
+    assert_eq!(rt; code_fault(alloc, [I32Const(0), Call(0), End])?, OWN);
+    Ok(())
+}
+
+/// Whether the code is typed where it may call a function of type [i32 i64] -> [i64] and has to
+/// leave an i64.
+fn is_in_order<const N: usize>(alloc: Global, code: [Instruction; N]) -> Result<bool, AllocError> {
+    Ok(validate(alloc, with_order(alloc, code)?).is_ok())
+}
+
+#[test]
+fn takes_parameters_in_order(rt: HostRuntime) -> Result<(), Fail> {
+    use Instruction::{Call, End, I32Const, I64Const};
+    let alloc = rt.alloc();
+    assert!(rt; is_in_order(alloc, [I32Const(0), I64Const(0), Call(0), End])?);
+    assert!(rt; !is_in_order(alloc, [I64Const(0), I32Const(0), Call(0), End])?);
+    assert!(rt; !is_in_order(alloc, [I32Const(0), End])?);
+    Ok(())
+}
+
+/// Why the program with this start function is refused, if it is.
+fn start_fault(alloc: Global, start: u32) -> Result<Option<LoadFault>, AllocError> {
+    let started = Module {
+        start: Some(start),
+        ..hello(alloc)?
+    };
+    Ok(validate(alloc, started).err())
+}
+
+#[test]
+fn starts_functions_without_parameters(rt: HostRuntime) -> Result<(), Fail> {
+    let alloc = rt.alloc();
+    // the module's own function has type [] -> [], an imported one takes an i32
+    assert_eq!(rt; start_fault(alloc, 2)?, None);
+    assert_eq!(rt; start_fault(alloc, 1)?, refused_at(0));
+    assert_eq!(rt; start_fault(alloc, 3)?, refused_at(0));
+    Ok(())
+}
+
+/// Why the program with these tables is refused, if it is.
+fn tables_fault(alloc: Global, tables: Vec<Limits>) -> Result<Option<LoadFault>, AllocError> {
+    let with_tables = Module {
+        tables: Items::from_vec(tables, 102),
+        ..hello(alloc)?
+    };
+    Ok(validate(alloc, with_tables).err())
+}
+
+#[test]
+fn bounds_tables(rt: HostRuntime) -> Result<(), Fail> {
+    let alloc = rt.alloc();
+    let turned = Limits {
+        min: 2,
+        max: Some(1),
+    };
+    assert_eq!(rt;
+        tables_fault(alloc, vec![in alloc; turned]?)?,
+        refused_at(102)
+    );
+    let two = vec![in alloc; Limits { min: 0, max: None }; 2]?;
+    assert_eq!(rt; tables_fault(alloc, two)?, refused_at(102));
+    Ok(())
+}
+
+#[test]
 fn types_operators(rt: HostRuntime) -> Result<(), Fail> {
     use Instruction::{Drop, End, I32Const, I32WrapI64, I64Const, I64ExtendI32S, Unary};
     let alloc = rt.alloc();
