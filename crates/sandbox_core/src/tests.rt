@@ -385,7 +385,6 @@ fn prints_faults(rt: HostRuntime) -> Result<(), Fail> {
     let alloc = rt.alloc();
     let faults = [
         (SessionFault::Setting, "fault 15"),
-        (SessionFault::Instance(InstanceFault::NotRun), "fault 12"),
         (SessionFault::Instance(InstanceFault::Import), "fault 13"),
         (SessionFault::Instance(InstanceFault::NoStart), "fault 14"),
         (SessionFault::Instance(InstanceFault::PageLimit), "fault 22"),
