@@ -4,7 +4,7 @@ use Rattle.std.proofs.lemmas.List.{drop-drop}
 use Rattle.std.proofs.lemmas.List.Sums.{sum_by-cons}
 use Rattle.sandbox_core.specs.declared.buffers.Buffer.{Buffer}
 use Rattle.std.specs.List.{list_all}
-use Rattle.wasm_interp.specs.Steps.{bytes_at}
+use Rattle.wasm_store.specs.Bytes.{bytes_at}
 use Rattle.sandbox_core.specs.Buffers.{buffer_in, buffers_in, total_len, is_inside, gathered}
 
 second_true : (a b : Bool) → a && b ≡ true → b ≡ true

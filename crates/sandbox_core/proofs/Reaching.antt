@@ -1,7 +1,7 @@
 -- Runs that begin where others ended.
 use Rattle.std.proofs.Common.{◌≡◌, ℕ, List, [], ◌∷◌, ◌++◌, refl, sym, subst}
-use Rattle.wasm_interp.specs.declared.call.HostCall.{HostCall}
-use Rattle.wasm_interp.specs.declared.call.Errno.{Errno}
+use Rattle.wasm_store.specs.declared.call.HostCall.{HostCall}
+use Rattle.wasm_store.specs.declared.call.Errno.{Errno}
 use Rattle.wasm_interp.specs.declared.pause.Pause.{Pause}
 use Rattle.wasm_interp.specs.declared.pause.Pause.TheVariants.{Called, Spent, Ended}
 use Rattle.wasm_interp.specs.Configuration.{Instance, Configuration, at, used_by}

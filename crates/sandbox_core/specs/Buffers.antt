@@ -1,7 +1,7 @@
 -- Buffers of the guest, which a call names by an array of them (`ciovec` of WASI snapshot preview 1).
 use Rattle.std.specs.Prelude.{ℕ, zero, suc, ◌+◌, Bool, nat_le, List, [], ◌∷◌, ◌++◌, length, drop, sum_by}
 use Rattle.byteorder.specs.Endian.{little_number}
-use Rattle.wasm_interp.specs.Steps.{bytes_at}
+use Rattle.wasm_store.specs.Bytes.{bytes_at}
 use Rattle.sandbox_core.specs.declared.buffers.Buffer.{Buffer}
 use Rattle.sandbox_core.specs.declared.buffers.Buffers.{Buffers}
 

@@ -5,9 +5,9 @@ use Rattle.byteorder.specs.Endian.{little_bytes}
 use Rattle.wasm_module.specs.declared.instruction.ValueType.{ValueType}
 use Rattle.wasm_module.specs.declared.instruction.ValueType.TheVariants.{I32, I64}
 use Rattle.wasm_module.specs.declared.module.FuncType.{FuncType}
-use Rattle.wasm_interp.specs.declared.call.HostCall.{HostCall}
-use Rattle.wasm_interp.specs.declared.call.HostCall.TheVariants as call
-use Rattle.wasm_interp.specs.Steps.{bytes_at, written}
+use Rattle.wasm_store.specs.declared.call.HostCall.{HostCall}
+use Rattle.wasm_store.specs.declared.call.HostCall.TheVariants as call
+use Rattle.wasm_store.specs.Bytes.{bytes_at, written}
 use Rattle.sandbox_core.specs.declared.buffers.Buffer.{Buffer}
 use Rattle.sandbox_core.specs.Checks.{Checked, ◌>>=◌, ◌>>◌, guard, range}
 use Rattle.sandbox_core.specs.Buffers.{buffers_in, total_len, is_inside, gathered}

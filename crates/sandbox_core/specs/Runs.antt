@@ -1,7 +1,7 @@
 -- Runs of a machine over a host: resume by resume, and all of them as one.
 use Rattle.std.specs.Prelude.{◌≡◌, ℕ, List, [], ◌∷◌}
-use Rattle.wasm_interp.specs.declared.call.HostCall.{HostCall}
-use Rattle.wasm_interp.specs.declared.call.Errno.{Errno}
+use Rattle.wasm_store.specs.declared.call.HostCall.{HostCall}
+use Rattle.wasm_store.specs.declared.call.Errno.{Errno}
 use Rattle.wasm_interp.specs.declared.pause.Pause.{Pause}
 use Rattle.wasm_interp.specs.declared.pause.Pause.TheVariants.{Called, Spent, Ended}
 use Rattle.wasm_interp.specs.declared.pause.Outcome.{Outcome}

@@ -1,8 +1,8 @@
 -- What the calls mean to the streams of a guest.
 use Rattle.std.specs.Prelude.{◌≡◌, ℕ, true, ◌⊎◌, List, Option, Ok, MatchResult}
-use Rattle.wasm_interp.specs.declared.call.HostCall.TheVariants as call
-use Rattle.wasm_interp.specs.declared.call.Errno.{Errno}
-use Rattle.wasm_interp.specs.declared.call.Answer.TheVariants.{Value as value, Exit as exit}
+use Rattle.wasm_store.specs.declared.call.HostCall.TheVariants as call
+use Rattle.wasm_store.specs.declared.call.Errno.{Errno}
+use Rattle.wasm_store.specs.declared.call.Answer.TheVariants.{Value as value, Exit as exit}
 use Rattle.wasm_interp.specs.Steps.{CallsOf}
 use Rattle.sandbox_core.specs.declared.output.Output.{Output}
 use Rattle.sandbox_core.specs.declared.streams.Streams.{Streams}

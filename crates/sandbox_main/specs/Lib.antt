@@ -1,1 +1,4 @@
 pub mod Status
+pub mod Request
+pub mod Execution
+pub mod CommandLine

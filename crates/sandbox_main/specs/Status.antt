@@ -1,9 +1,11 @@
 -- The exit statuses of the program.
-use Rattle.std.specs.Prelude.{ℕ, if◌then◌else◌, nat_le}
+use Rattle.std.specs.Prelude.{◌≡◌, ◌⊎◌, ℕ, if◌then◌else◌, nat_le}
 use Rattle.wasm_module.specs.declared.fault.LoadFault.{LoadFault}
 use Rattle.wasm_module.specs.declared.fault.LoadFault.TheVariants as loading
 use Rattle.wasm_interp.specs.declared.pause.Outcome.{Outcome}
 use Rattle.wasm_interp.specs.declared.pause.Outcome.TheVariants.{Exited, Trapped, OutOfFuel, OutOfMemory}
+use Rattle.sandbox_core.specs.declared.fault.SessionFault.{SessionFault}
+use Rattle.sandbox_core.specs.declared.fault.SessionFault.TheVariants as opening
 
 -- the guest's own status, where it isn't greater than 119
 abbrev pub status_of : Outcome → ℕ
@@ -12,6 +14,15 @@ status_of (Trapped t) = 120
 status_of OutOfFuel = 121
 status_of OutOfMemory = 122
 
+-- The status after a run: that of its outcome, or 124 where an output couldn't be flushed. When a flush fails, no
+-- writer says.
+abbrev pub EndsWith : Outcome → ℕ → Type 0
+EndsWith outcome status = (status ≡ status_of outcome) ⊎ (status ≡ 124)
+
 abbrev pub load_status : LoadFault → ℕ
 load_status loading.Memory = 122
 load_status f = 124
+
+abbrev pub session_status : SessionFault → ℕ
+session_status opening.Memory = 122
+session_status f = 124

@@ -1,7 +1,9 @@
 //! What the program does once the command line is read, and with which status it ends.
 
-ghost use Rattle.std.specs.Prelude.{◌≡◌, ◌≤◌};
-ghost use Rattle.sandbox_main.specs.Status.{status_of, load_status};
+ghost use Rattle.std.specs.Prelude.{◌≡◌, ◌≤◌, IfOk};
+ghost use Rattle.sandbox_main.specs.Status.{status_of, EndsWith, load_status, session_status};
+ghost use Rattle.sandbox_main.specs.Request.{texts, run_of, arguments_of};
+ghost use Rattle.sandbox_main.specs.Execution.{AreSettings, Launches, Executes};
 
 use crate::request::{Invocation, Limits, Run};
 use sandbox_core::{
@@ -40,8 +42,9 @@ fn load_refused<W: Write>(err: &mut W, fault: LoadFault) -> u8
     }
 }
 
+/// Prints a fault's line, and gives its status.
 fn session_refused<W: Write>(err: &mut W, fault: SessionFault) -> u8
-    ensures { result ≤ 124 }
+    ensures { result ≡ session_status fault }
 {
     let _ = writeln!(err, "sandbox: {fault}");
     match fault {
@@ -89,7 +92,9 @@ fn ended<W: Write>(err: &mut W, outcome: Outcome) -> u8
 }
 
 /// The guest's arguments: the module's word, and then the others.
-fn arguments<'a>(alloc: Global, run: &Run<'a>) -> Result<Vec<&'a [u8]>, AllocError> {
+fn arguments<'a>(alloc: Global, run: &Run<'a>) -> Result<Vec<&'a [u8]>, AllocError>
+    ensures { IfOk result (λ args. texts args.items ≡ arguments_of run.now) }
+{
     let mut arguments = Vec::new(alloc);
     arguments.push(run.module.as_bytes())?;
     for word in &run.words {
@@ -99,7 +104,9 @@ fn arguments<'a>(alloc: Global, run: &Run<'a>) -> Result<Vec<&'a [u8]>, AllocErr
 }
 
 /// The settings of a run: no environment, the moment 0, no random bytes, and the root as `/`.
-fn settings<'a, 't>(args: &'a [&'t [u8]], pages: u32) -> Settings<'a, 't> {
+fn settings<'a, 't>(args: &'a [&'t [u8]], pages: u32) -> Settings<'a, 't>
+    ensures { AreSettings (texts args.entry.now) pages result }
+{
     Settings {
         args,
         env: &[],
@@ -112,7 +119,7 @@ fn settings<'a, 't>(args: &'a [&'t [u8]], pages: u32) -> Settings<'a, 't> {
 
 /// Ends a run: its outcome's line and status, but where the guest's output can't be flushed.
 fn report<R: Drop, W1: Write + Drop, W2: Write + Drop>(report: Report<R, W1, W2>) -> u8
-    ensures { result ≤ 124 }
+    ensures { EndsWith report.outcome result }
 {
     let Report {
         outcome,
@@ -137,7 +144,7 @@ fn launch<R: Read + Drop, W1: Write + Drop, W2: Write + Drop>(
     out: W1,
     err: W2,
 ) -> u8
-    ensures { result ≤ 124 }
+    ensures { Launches W1.contents W2.contents valid.entry (texts args.now) limits input out err result }
 {
     match Session::new(alloc, valid, settings(args, limits.pages), input, out, err) {
         Ok(session) => report(sandbox_core::run(session, limits.fuel)),
@@ -156,7 +163,7 @@ fn run<R: Read + Drop, W1: Write + Drop, W2: Write + Drop>(
     out: W1,
     mut err: W2,
 ) -> u8
-    ensures { result ≤ 124 }
+    ensures { Executes W1.contents W2.contents run.now «module».now input out err result }
 {
     let valid = match sandbox_core::load(alloc, module) {
         Ok(valid) => valid,
@@ -178,7 +185,8 @@ pub fn execute<R: Read + Drop, W1: Write + Drop, W2: Write + Drop>(
     out: W1,
     err: W2,
 ) -> u8
-    ensures { result ≤ 124 }
+    ensures tells { Executes W1.contents W2.contents (run_of invocation.now) «module».now input out err result }
+    ensures within { result ≤ 124 }
 {
     match invocation {
         Invocation::Run(it) => run(alloc, it, module, input, out, err),

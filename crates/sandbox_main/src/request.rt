@@ -1,5 +1,8 @@
 //! What a command line asks for.
 
+ghost use Rattle.std.specs.Prelude.{◌≡◌};
+ghost use Rattle.sandbox_main.specs.Request.{run_of};
+
 /// What a guest may use.
 #[derive(Clone, Copy, Debug, PartialEq, Eq)]
 pub struct Limits {
@@ -27,7 +30,9 @@ pub enum Invocation<'a> {
 
 impl<'a> Invocation<'a> {
     /// The file of the module that is to be run.
-    pub fn module(&self) -> &'a str {
+    pub fn module(&self) -> &'a str
+        ensures { result ≡ (run_of self.now).«module» }
+    {
         match self {
             Invocation::Run(run) => run.module,
         }

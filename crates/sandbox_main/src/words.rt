@@ -1,6 +1,13 @@
 //! The command line.
 
+ghost use Rattle.std.specs.Prelude.{◌≡◌, IfOk, IsSomeAnd, false, [], map, string_bytes, unwrap_or};
+ghost use Rattle.clap.specs.Words.{FailsBy, all_of, app_of, fault_of, first_of, found_of, rows_of, rule_of};
+ghost use Rattle.clap.specs.declared.builder.command.Command.TheViews.{out-Command as fields_of};
+ghost use Rattle.sandbox_main.specs.Request.{run_of, texts};
+ghost use Rattle.sandbox_main.specs.CommandLine.{AsksFor, module_rule, number_rule, program, rows_given, run_app, words_rule};
+
 use crate::request::{Invocation, Limits, Run};
+use clap::builder::ValueParser;
 use clap::{Arg, ArgAction, ArgMatches, Command, Error};
 use std::alloc::{AllocError, Global};
 
@@ -10,59 +17,79 @@ const FUEL: u64 = 1_000_000_000;
 /// Pages that memory may have where the command line says nothing of them.
 const PAGES: u32 = 1_024;
 
-fn run_command<'a>(alloc: Global) -> Result<Command<'a>, AllocError> {
-    Command::new(alloc, "run")
-        .arg(
-            Arg::new(alloc, "fuel")
-                .long("fuel")
-                .value_name("N")
-                .action(ArgAction::Set)
-                .value_parser(clap::value_parser!(u64)),
-        )?
-        .arg(
-            Arg::new(alloc, "pages")
-                .long("pages")
-                .value_name("N")
-                .action(ArgAction::Set)
-                .value_parser(clap::value_parser!(u32)),
-        )?
-        .arg(
-            Arg::new(alloc, "MODULE")
-                .required(true)
-                .action(ArgAction::Set),
-        )?
-        .arg(
-            Arg::new(alloc, "WORD")
-                .num_args(0..)
-                .action(ArgAction::Append),
-        )
+/// An option with one number, which the parser takes.
+fn number_option<'a>(alloc: Global, name: &'a str, parser: ValueParser<'a>) -> Arg<'a>
+    ensures { (rule_of result ≡ number_rule name.entry.now parser.entry) × (result.global ≡ false) }
+{
+    Arg::new(alloc, name)
+        .long(name)
+        .value_name("N")
+        .action(ArgAction::Set)
+        .value_parser(parser)
 }
 
-fn command<'a>(alloc: Global) -> Result<Command<'a>, AllocError> {
+/// The word that names the module.
+fn module_word<'a>(alloc: Global) -> Arg<'a>
+    ensures { (rule_of result ≡ module_rule) × (result.global ≡ false) }
+{
+    Arg::new(alloc, "MODULE")
+        .required(true)
+        .action(ArgAction::Set)
+}
+
+/// The words behind it.
+fn further_words<'a>(alloc: Global) -> Arg<'a>
+    ensures { (rule_of result ≡ words_rule) × (result.global ≡ false) }
+{
+    Arg::new(alloc, "WORD")
+        .num_args(0..)
+        .action(ArgAction::Append)
+}
+
+/// `run`, with its arguments.
+fn run_command<'a>(alloc: Global) -> Result<Command<'a>, AllocError>
+    ensures { IfOk result (λ c. (app_of c ≡ run_app) × ((fields_of c).has_globals ≡ false)) }
+{
+    Command::new(alloc, "run")
+        .arg(number_option(alloc, "fuel", clap::value_parser!(u64)))?
+        .arg(number_option(alloc, "pages", clap::value_parser!(u32)))?
+        .arg(module_word(alloc))?
+        .arg(further_words(alloc))
+}
+
+/// The program, of whose commands one has to be there.
+fn command<'a>(alloc: Global) -> Result<Command<'a>, AllocError>
+    ensures { IfOk result (λ c. (app_of c ≡ program) × ((fields_of c).has_globals ≡ false)) }
+{
     Command::new(alloc, "sandbox")
         .subcommand_required(true)
         .subcommand(run_command(alloc)?)
 }
 
-fn text<'a>(matches: &ArgMatches<'a>, id: &str) -> &'a str {
+/// The text of an argument, or the empty one.
+fn text<'a>(matches: &ArgMatches<'a>, id: &str) -> &'a str
+    ensures { result.now ≡ unwrap_or (first_of id.now (rows_of (found_of matches.now))) [] }
+{
     match matches.get_str(id) {
         Some(text) => text,
         None => "",
     }
 }
 
-fn texts<'a>(
-    alloc: Global,
-    matches: &ArgMatches<'a>,
-    id: &str,
-) -> Result<Vec<&'a str>, AllocError> {
+/// The texts of an argument.
+fn texts<'a>(alloc: Global, matches: &ArgMatches<'a>, id: &str) -> Result<Vec<&'a str>, AllocError>
+    ensures { IfOk result (λ v. texts v.items ≡ unwrap_or (all_of id.now (rows_of (found_of matches.now))) []) }
+{
     match matches.get_strs(id) {
         Some(texts) => Vec::from_slice(alloc, texts),
         None => Ok(Vec::new(alloc)),
     }
 }
 
-fn run_given<'a>(alloc: Global, matches: &ArgMatches<'a>) -> Result<Run<'a>, AllocError> {
+/// What `run` is asked for by what was found for its arguments.
+fn run_given<'a>(alloc: Global, matches: &ArgMatches<'a>) -> Result<Run<'a>, AllocError>
+    ensures { IfOk result (AsksFor (rows_of (found_of matches.now))) }
+{
     Ok(Run {
         limits: Limits {
             fuel: matches.get_one::<u64>("fuel").unwrap_or(FUEL),
@@ -75,10 +102,15 @@ fn run_given<'a>(alloc: Global, matches: &ArgMatches<'a>) -> Result<Run<'a>, All
 
 /// Reads the words of a command line, of which the first is the program's name. A refusal, and
 /// the answer to a question for help, is what clap prints.
-pub fn invocation<'a>(alloc: Global, words: &'a [String]) -> Result<Invocation<'a>, Error> {
+pub fn invocation<'a>(alloc: Global, words: &'a [String]) -> Result<Invocation<'a>, Error>
+    ensures asks { IfOk result (λ i. IsSomeAnd (rows_given (map string_bytes words.entry.now))
+        (λ rows. AsksFor rows (run_of i))) }
+    ensures fails { FailsBy (fault_of program (map string_bytes words.entry.now)) result }
+{
     let matches = command(alloc)?.try_get_matches_from(words)?;
     match matches.subcommand() {
         Some((_, inner)) => Ok(Invocation::Run(run_given(alloc, inner)?)),
-        None => Ok(Invocation::Run(run_given(alloc, &matches)?)),
+        // clap refuses a command line without a subcommand
+        None => unreachable!(),
     }
 }

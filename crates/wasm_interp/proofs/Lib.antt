@@ -7,5 +7,5 @@ pub mod Resuming
 pub mod Calling
 pub mod FromOutside
 pub mod Beginning
-pub mod Loops
+pub mod Parts
 mod Checks

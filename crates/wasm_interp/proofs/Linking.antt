@@ -13,50 +13,14 @@ use Rattle.wasm_module.specs.declared.module.Module.{Module}
 use Rattle.wasm_module.specs.Instructions.{Instructions, done, plain, block, loop, if_then, if_else, enter, flatten, IsPlain, IsWritten, Nests}
 use Rattle.wasm_valid.specs.Typing.{Context}
 use Rattle.wasm_valid.specs.Validity.{IsValid, functions_of, imported_function, kinds_of, AreTypesAt, FunctionTyped, FunctionsTyped, local_types}
-use Rattle.wasm_valid.specs.FirstPart.{IsFunction, IsRunnable, RunsSoFar}
-use Rattle.wasm_interp.specs.declared.call.HostCall.{HostCall}
+use Rattle.wasm_store.specs.Instantiating.{IsFunction}
+use Rattle.wasm_interp.specs.Part.{IsRunnable, RunsSoFar}
+use Rattle.wasm_store.specs.declared.call.HostCall.{HostCall}
 use Rattle.wasm_interp.specs.Configuration.{Callee, imported, own}
-use Rattle.wasm_interp.specs.Instantiation.{AreOwn}
+use Rattle.wasm_store.specs.Instantiation.{AreOwn}
 use Rattle.wasm_interp.specs.Stands.{AreCallees, IsImport}
+use Rattle.wasm_store.proofs.Functions.{Indices, imports_first, import_head, kind_of_function}
 use Rattle.wasm_interp.proofs.StraightLine.{Next, ends, goes_to, next_of}
-
--- of each element, at its place
-pub each_at : {X : Type 0} (P : X → Type 0) (xs : List X) (k : ℕ) (x : X) → AllByRecursion P xs → slice_get xs k ≡ Some x → P x
-each_at P [] k x a e = cc
-each_at P (y ∷ ys) zero x a e = let f : y ≡ x = cc in subst P f a.0
-each_at P (y ∷ ys) (suc k) x a e = each_at P ys k x a.1 e
-
--- an import of a function is one of the functions
-pub imports_first : (i : Import) (is : List Import) (more : List ℕ) (index : ℕ) → i.kind ≡ imports.Function index → filter_map imported_function (kinds_of (i ∷ is)) ++ more ≡ index ∷ (filter_map imported_function (kinds_of is) ++ more)
-imports_first i is more index e = ap (λ y. cons_option (imported_function y) (filter_map imported_function (kinds_of is)) ++ more) e
-
--- the type's indices of all functions, those of the imports first
-abbrev pub Indices : List Import → List ℕ → List ℕ
-Indices is more = filter_map imported_function (kinds_of is) ++ more
-
--- the type of the first index, and those of the others
-record Head (types : List FuncType) (index : ℕ) (rest : List ℕ) (functions : List FuncType) : Type 0 where
-  pub first : FuncType
-  pub others : List FuncType
-  pub is : functions ≡ first ∷ others
-  pub type_is : slice_get types index ≡ Some first
-  pub others_are : AreTypesAt types rest others
-
--- a list of indices with their types has a first one
-head_of : (types : List FuncType) (index : ℕ) (rest : List ℕ) (functions : List FuncType) → AreTypesAt types (index ∷ rest) functions → Head types index rest functions
-head_of types index rest [] t = absurd t
-head_of types index rest (f ∷ fs) t = record { first = f; others = fs; is = refl; type_is = t.0; others_are = t.1 }
-
--- the first import is the first function
-import_head : (types : List FuncType) (i : Import) (is : List Import) (more : List ℕ) (functions : List FuncType) (index : ℕ) → i.kind ≡ imports.Function index → AreTypesAt types (Indices (i ∷ is) more) functions → Head types index (Indices is more) functions
-import_head types i is more functions index e t = head_of types index (Indices is more) functions (subst (λ y. AreTypesAt types y functions) (imports_first i is more index e) t)
-
--- an import of a function names its type
-pub kind_of_function : (k : ImportKind) → IsFunction k → (x : ℕ) × (k ≡ imports.Function x)
-kind_of_function (imports.Function x) f = (x, refl)
-kind_of_function (imports.Table l) f = absurd f
-kind_of_function (imports.Memory l) f = absurd f
-kind_of_function (imports.Global g) f = absurd f
 
 -- import x is a function with a type
 abbrev ImportAt : List FuncType → List Import → ℕ → Type 0

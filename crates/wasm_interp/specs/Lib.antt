@@ -1,10 +1,10 @@
+pub mod Part
 pub mod Operators
 pub mod Configuration
 pub mod Steps
-pub mod Instantiation
 pub mod Outcomes
 pub mod Stands
 pub mod Machine
 pub mod Promise
 pub mod Performing
-pub mod Instantiating
+pub mod Begun

@@ -11,27 +11,15 @@ use Rattle.wasm_module.specs.declared.module.Module.{Module}
 use Rattle.wasm_module.specs.Instructions.{Instructions, done, enter, flatten, IsWritten}
 use Rattle.wasm_valid.specs.Typing.{Context, Labels, Typed}
 use Rattle.wasm_valid.specs.Validity.{IsValid, functions_of, AreTypesAt}
-use Rattle.wasm_valid.specs.FirstPart.{IsRunnable, RunsSoFar}
-use Rattle.wasm_interp.specs.declared.call.HostCall.{HostCall}
+use Rattle.wasm_store.specs.declared.call.HostCall.{HostCall}
 use Rattle.wasm_interp.specs.declared.place.Place.{Place}
 use Rattle.wasm_interp.specs.declared.place.Place.TheVariants.{Entering, Running, Returned, Over}
 use Rattle.wasm_interp.specs.Configuration.{Val, numbers, types, Callee, imported, Instance, Store, Code, code, label, frame, Configuration, at, store_of}
 use Rattle.wasm_interp.specs.Steps.{CallsOf}
-use Rattle.wasm_interp.specs.Instantiation.{AreOwn}
+use Rattle.wasm_store.specs.Instantiation.{AreOwn}
+pub use Rattle.wasm_store.specs.Instantiating.{IsCallee, AreCallees}
+use Rattle.wasm_interp.specs.Part.{IsRunnable, RunsSoFar}
 use Rattle.wasm_interp.specs.Outcomes.{EndsAs}
-
--- an import, the host's call for it, and the function instance
-pub record IsCallee (types : List FuncType) (import : Import) (call : HostCall) (c : Callee) : Type 0 where
-  pub index : ℕ
-  pub func_type : FuncType
-  pub kind : import.kind ≡ imports.Function index
-  pub type_is : slice_get types index ≡ Some func_type
-  pub callee : c ≡ imported func_type call
-
-abbrev pub AreCallees : List FuncType → List Import → List HostCall → List Callee → Type 0
-AreCallees types [] [] [] = Unit {0}
-AreCallees types (i ∷ is) (h ∷ hs) (c ∷ cs) = IsCallee types i h c × AreCallees types is hs cs
-AreCallees types is hs cs = ⊥
 
 -- import x is a function of this type
 pub record IsImport (m : Module) (x : ℕ) (f : FuncType) : Type 0 where

@@ -1,17 +1,14 @@
 //! The machine.
 
 ghost use Rattle.std.specs.Prelude.{◌≡◌, ◌+◌, ◌^◌, ◌<◌, IfOk, IfErr, ◌*◌};
-ghost use Rattle.wasm_interp.specs.Instantiation.{RefusedFor};
-ghost use Rattle.wasm_interp.specs.Promise.{Starts, Resumed};
+ghost use Rattle.wasm_interp.specs.Promise.{Starts, Refuses, Resumed};
 
-use crate::call::HostCall;
-use crate::fault::InstanceFault;
-use crate::host::Host;
-use crate::instantiation::instantiate;
+use crate::begin::begin;
 use crate::pause::Pause;
 use crate::state::State;
 use std::alloc::Global;
 use std::marker::Model;
+use wasm_store::{Host, HostCall, InstanceFault};
 use wasm_valid::Valid;
 
 /// A refused module, handed back with the reason.
@@ -43,7 +40,7 @@ impl<'a> Model for Machine<'a> {
 
 impl<'a> Machine<'a> {
     /// Instantiates the module (section 4.5.4) over the calls that the host links, with at most so many pages of memory.
-    /// A refusal hands the module back.
+    /// A refusal hands the module back. First of all a module is refused with fault 12 that isn't run so far.
     pub fn new<H: Host>(
         alloc: Global,
         valid: Valid<'a>,
@@ -51,14 +48,14 @@ impl<'a> Machine<'a> {
         host: &H,
     ) -> Result<Machine<'a>, RefusedInstance<'a>>
         ensures starts { IfOk result (λ m. Starts (H.links host.now) pages valid.entry m) }
-        ensures refused { IfErr result (λ r. (r.valid ≡ valid.entry) × RefusedFor (H.links host.now) pages valid.entry r.fault) }
+        ensures refused { IfErr result (λ r. (r.valid ≡ valid.entry) × Refuses (H.links host.now) pages valid.entry r.fault) }
     {
-        match instantiate(alloc, valid.module(), pages, host) {
-            Ok(instantiated) => Ok(Machine {
+        match begin(alloc, &valid, pages, host) {
+            Ok(begun) => Ok(Machine {
                 valid,
-                calls: instantiated.calls,
-                page_limit: instantiated.page_limit,
-                state: instantiated.state,
+                calls: begun.calls,
+                page_limit: begun.page_limit,
+                state: begun.state,
             }),
             Err(fault) => Err(RefusedInstance { valid, fault }),
         }

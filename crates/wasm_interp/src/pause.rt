@@ -1,7 +1,7 @@
 //! Why a machine comes back, and how a run ends.
 
-use crate::call::{Errno, HostCall};
 use wasm_num::Trap;
+use wasm_store::{Errno, HostCall};
 
 /// How a run ends.
 #[derive(Clone, Copy, Debug, PartialEq, Eq)]

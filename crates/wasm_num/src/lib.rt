@@ -22,4 +22,8 @@ pub use i64_operators::{
 pub use trap::Trap;
 
 #[cfg(test)]
+mod i32_edges;
+#[cfg(test)]
+mod i64_edges;
+#[cfg(test)]
 mod tests;

@@ -1,90 +1,70 @@
--- The rules as they are tested are those of a valid module of the part.
-use Rattle.std.proofs.Common.{◌≡◌, ℕ, ◌<◌, ◌≤◌, ◌^◌, List, [], ◌∷◌, ◌++◌, length, map, Option, Some, None, sym, ◌∙◌, ap, refl, subst, inl, inr, Result, Ok, Err, IfSome, arith}
-use Rattle.std.specs.List.{AllByRecursion, filter_map, cons_option, slice_get}
+-- The rules as they are tested are those of a valid module.
+use Rattle.std.proofs.Common.{◌≡◌, ℕ, ◌<◌, ◌≤◌, ◌^◌, List, [], ◌∷◌, length, Some, sym, ◌∙◌, refl, subst, inl, inr, Result, Ok, Err, arith}
+use Rattle.std.specs.List.{AllByRecursion, filter_map, slice_get}
 use Rattle.std.proofs.lemmas.List.Elements.{All-from_recursion, recursion_from_All}
 use Rattle.std.proofs.lemmas.Option.{slice_get_within, slice_get_cases}
 use Rattle.wasm_module.specs.declared.fault.LoadFault.{LoadFault}
-use Rattle.wasm_module.specs.declared.instruction.ValueType.TheVariants.{I32}
+use Rattle.wasm_module.specs.declared.instruction.ValueType.{ValueType}
 use Rattle.wasm_module.specs.declared.instruction.Instruction.{Instruction}
+use Rattle.wasm_module.specs.declared.instruction.Instruction.TheVariants as op
 use Rattle.wasm_module.specs.declared.module.FuncType.{FuncType}
-use Rattle.wasm_module.specs.declared.module.ImportKind.{ImportKind}
-use Rattle.wasm_module.specs.declared.module.ImportKind.TheVariants as imported
-use Rattle.wasm_module.specs.declared.module.Import.{Import}
+use Rattle.wasm_module.specs.declared.module.GlobalType.{GlobalType}
 use Rattle.wasm_module.specs.declared.module.ExportKind.{ExportKind}
 use Rattle.wasm_module.specs.declared.module.ExportKind.TheVariants as exported
+use Rattle.wasm_module.specs.declared.module.ElementSegment.{ElementSegment}
 use Rattle.wasm_module.specs.declared.module.DataSegment.{DataSegment}
 use Rattle.wasm_module.specs.declared.module.Module.{Module}
+use Rattle.wasm_valid.specs.declared.space.Space.{Space}
 use Rattle.wasm_valid.specs.Typing.{Context}
-use Rattle.wasm_valid.specs.Validity.{imported_table, imported_memory, imported_global, kinds_of, functions_of, tables_of, memories_of, globals_of, has_any, AreTypesAt, IsContext, IsConstant, ExportFits, DataFits, LimitsFit, ElementsFit, IsValid}
-use Rattle.wasm_valid.specs.FirstPart.{IsFunction, RunsSoFar}
+use Rattle.wasm_valid.specs.Validity.{imported_global, kinds_of, functions_of, tables_of, memories_of, globals_of, has_any, AreTypesAt, IsContext, IsConstant, FunctionsTyped, ExportFits, DataFits, LimitsFit, ElementsFit, IsValid}
 use Rattle.wasm_valid.specs.Refusal.{Settles}
-use Rattle.wasm_valid.specs.Rules.{IsOfPart, TypesFit, ListsFit, IsWithin, IsOffset, IsPlaced, BodiesRun}
+use Rattle.wasm_valid.specs.Rules.{IsConstantInstruction, TypesFit, LimitsHold, GlobalsHold, ListsFit, StartFits, IsWithin, ElementsHold, DataHolds, counts_of}
+use Rattle.wasm_valid.specs.Scopes.{IsSpace, IsSpaceOf}
 use Rattle.wasm_valid.proofs.Refusals.{Refutes-some}
 
--- ---- functions alone are imported
+-- ---- constant expressions
 
-kinds_are : (is : List Import) → AllByRecursion (λ i. IsFunction i.kind) is → AllByRecursion IsFunction (kinds_of is)
-kinds_are [] h = tt
-kinds_are (i ∷ is) h = (h.0, kinds_are is h.1)
+-- an expression of one instruction
+pub constant_of : (gs : List GlobalType) (t : ValueType) (i : Instruction) (code : List Instruction) → code ≡ i ∷ op.End ∷ [] → IsConstantInstruction gs t i → IsConstant gs t code
+constant_of gs t (op.I32Const n) code e h = inl (n, h, e)
+constant_of gs t (op.I64Const n) code e h = inr (inl (n, h, e))
+constant_of gs t (op.GlobalGet x) code e h = inr (inr (x, h, e))
+constant_of gs t i code e h = absurd h
 
-others_none : {Y : Type 0} (f : ImportKind → Option Y) → ((x : ℕ) → f (imported.Function x) ≡ None) → (ks : List ImportKind) → AllByRecursion IsFunction ks → filter_map f ks ≡ []
-others_none f never [] h = refl
-others_none f never (imported.Function x ∷ ks) h = ap (λ o. cons_option o (filter_map f ks)) (never x) ∙ others_none f never ks h.1
-others_none f never (imported.Table l ∷ ks) h = absurd h.0
-others_none f never (imported.Memory l ∷ ks) h = absurd h.0
-others_none f never (imported.Global g ∷ ks) h = absurd h.0
+pub of_constant : (gs : List GlobalType) (t : ValueType) (code : List Instruction) → IsConstant gs t code → (i : Instruction) × (code ≡ i ∷ op.End ∷ []) × IsConstantInstruction gs t i
+of_constant gs t code (inl h) = (op.I32Const h.0, h.2, h.1)
+of_constant gs t code (inr (inl h)) = (op.I64Const h.0, h.2, h.1)
+of_constant gs t code (inr (inr h)) = (op.GlobalGet h.0, h.2, h.1)
 
--- without imported ones, those of a kind are the module's own
-no_tables : (m : Module) → IsOfPart m → tables_of m ≡ []
-no_tables m h =
-    ap (λ l. l ++ m.tables) (others_none imported_table (λ x. refl) (kinds_of m.imports) (kinds_are m.imports (recursion_from_All (λ i. IsFunction i.kind) m.imports h.imports))) ∙ h.tables
+-- ---- exports and segments
 
-own_memories : (m : Module) → IsOfPart m → memories_of m ≡ m.memories
-own_memories m h =
-    ap (λ l. l ++ m.memories) (others_none imported_memory (λ x. refl) (kinds_of m.imports) (kinds_are m.imports (recursion_from_All (λ i. IsFunction i.kind) m.imports h.imports)))
+export_fits : (m : Module) (k : ExportKind) → IsWithin (counts_of m) k → ExportFits m k
+export_fits m (exported.Function x) w = w
+export_fits m (exported.Table x) w = w
+export_fits m (exported.Memory x) w = w
+export_fits m (exported.Global x) w = w
 
-no_globals : (m : Module) → IsOfPart m → globals_of m ≡ []
-no_globals m h =
-    ap (λ l. l ++ map (λ g. g.global_type) m.globals) (others_none imported_global (λ x. refl) (kinds_of m.imports) (kinds_are m.imports (recursion_from_All (λ i. IsFunction i.kind) m.imports h.imports)))
-    ∙ ap (λ gs. map (λ g. g.global_type) gs) h.globals
+export_within : (m : Module) (k : ExportKind) → ExportFits m k → IsWithin (counts_of m) k
+export_within m (exported.Function x) w = w
+export_within m (exported.Table x) w = w
+export_within m (exported.Memory x) w = w
+export_within m (exported.Global x) w = w
 
--- ---- exports and data
+elements_fit : (m : Module) (e : ElementSegment) → ElementsHold (globals_of m) (counts_of m) e → ElementsFit m e
+elements_fit m e h = (h.table, h.offset, recursion_from_All (λ x. x < length (functions_of m)) e.functions h.functions)
 
-export_fits : (m : Module) → IsOfPart m → (k : ExportKind) → IsWithin (length (functions_of m)) (length m.memories) k → ExportFits m k
-export_fits m h (exported.Function x) w = w
-export_fits m h (exported.Table x) w = absurd w
-export_fits m h (exported.Memory x) w = subst (λ ms. x < length ms) (sym (own_memories m h)) w
-export_fits m h (exported.Global x) w = absurd w
+elements_hold : (m : Module) (e : ElementSegment) → ElementsFit m e → ElementsHold (globals_of m) (counts_of m) e
+elements_hold m e h = record { table = h.0; offset = h.1; functions = All-from_recursion (λ x. x < length (functions_of m)) e.functions h.2 }
 
-export_within : (m : Module) → IsOfPart m → (k : ExportKind) → ExportFits m k → IsWithin (length (functions_of m)) (length m.memories) k
-export_within m h (exported.Function x) w = w
-export_within m h (exported.Table x) w = let below = subst (λ ts. x < length ts) (no_tables m h) w in omega arith
-export_within m h (exported.Memory x) w = subst (λ ms. x < length ms) (own_memories m h) w
-export_within m h (exported.Global x) w = let below = subst (λ gs. x < length gs) (no_globals m h) w in omega arith
+data_fits : (m : Module) (d : DataSegment) → DataHolds (globals_of m) (counts_of m) d → DataFits m d
+data_fits m d h = (h.memory, h.offset)
 
--- an offset is a constant where there are no globals
-offset_of : (code : List Instruction) → IsConstant [] I32 code → IsOffset code
-offset_of code (inl h) = (h.0, h.2)
-offset_of code (inr (inl h)) = let e = h.1 in cc
-offset_of code (inr (inr h)) = let e = h.1 in cc
-
-data_of : (m : Module) → IsOfPart m → (d : DataSegment) → IsPlaced (length m.memories) d → DataFits m d
-data_of m h d p =
-    let constant : IsConstant (globals_of m) I32 d.offset = inl (p.offset.0, refl, p.offset.1) in
-    (subst (λ ms. d.memory < length ms) (sym (own_memories m h)) p.memory, constant)
-
-placed_of : (m : Module) → IsOfPart m → (d : DataSegment) → DataFits m d → IsPlaced (length m.memories) d
-placed_of m h d f = record {
-  memory = subst (λ ms. d.memory < length ms) (own_memories m h) f.0;
-  offset = offset_of d.offset (subst (λ gs. IsConstant gs I32 d.offset) (no_globals m h) f.1);
-}
+data_holds : (m : Module) (d : DataSegment) → DataFits m d → DataHolds (globals_of m) (counts_of m) d
+data_holds m d h = record { memory = h.0; offset = h.1 }
 
 each : {X : Type 0} (P Q : X → Type 0) → ((x : X) → P x → Q x) → (xs : List X) → AllByRecursion P xs → AllByRecursion Q xs
 each P Q f [] h = tt
 each P Q f (x ∷ xs) h = (f x h.0, each P Q f xs h.1)
-
-nothing : {X : Type 0} (P : X → Type 0) (xs : List X) → xs ≡ [] → AllByRecursion P xs
-nothing P xs e = subst (AllByRecursion P) (sym e) tt
 
 -- ---- the types of functions
 
@@ -117,46 +97,42 @@ context_of m h =
       record { types = refl; functions = fs.1; table = refl; memory = refl; globals = refl; locals = refl; returns = refl },
     )
 
+-- the code keeps the context
+space_of : (space : Space) (m : Module) (c : Context) → IsSpaceOf space m → IsContext m c → IsSpace space c
+space_of space m c is context = record {
+  types = context.types ∙ sym is.types;
+  functions = subst (λ (ts : List FuncType). AreTypesAt ts space.type_indices.items c.functions) (sym is.types) (subst (λ (xs : List ℕ). AreTypesAt m.types xs c.functions) (sym is.type_indices) context.functions);
+  table = context.table ∙ sym is.table;
+  memory = context.memory ∙ sym is.memory;
+  globals = context.globals ∙ sym is.globals;
+}
+
 -- ---- the whole module
 
-valid : (m : Module) → IsOfPart m → TypesFit m → ListsFit m → (c : Context) → IsContext m c → BodiesRun c m → IsValid m × RunsSoFar m
-valid m part types lists c context bodies = (
-  record {
-    context = c;
-    is_context = context;
-    one_result = recursion_from_All (λ f. length f.results ≤ 1) m.types types.one_result;
-    functions = bodies.0;
-    one_table = subst (λ ts. length ts ≤ 1) (sym (no_tables m part)) (omega arith);
-    one_memory = subst (λ ms. length ms ≤ 1) (sym (own_memories m part)) lists.one_memory;
-    table_limits = nothing (LimitsFit (2 ^ 32)) (tables_of m) (no_tables m part);
-    memory_limits = subst (AllByRecursion (LimitsFit 65536)) (sym (own_memories m part)) (recursion_from_All (LimitsFit 65536) m.memories lists.memory_limits);
-    globals = nothing (λ g. IsConstant (filter_map imported_global (kinds_of m.imports)) g.global_type.value_type g.init) m.globals part.globals;
-    exports = each (λ e. IsWithin (length (functions_of m)) (length m.memories) e.kind) (λ e. ExportFits m e.kind) (λ e. export_fits m part e.kind) m.exports (recursion_from_All (λ e. IsWithin (length (functions_of m)) (length m.memories) e.kind) m.exports lists.exports);
-    names_apart = lists.names_apart;
-    start = subst (λ s. IfSome s (λ x. slice_get c.functions x ≡ Some (record { params = []; results = [] }))) (sym part.start) tt;
-    element_segments = nothing (ElementsFit m) m.element_segments part.element_segments;
-    data_segments = each (IsPlaced (length m.memories)) (DataFits m) (data_of m part) m.data_segments (recursion_from_All (IsPlaced (length m.memories)) m.data_segments lists.data_segments);
-  },
-  record {
-    imports = recursion_from_All (λ i. IsFunction i.kind) m.imports part.imports;
-    tables = part.tables;
-    globals = part.globals;
-    start = part.start;
-    element_segments = part.element_segments;
-    bodies = bodies.1;
-  },
-)
+-- what depends on the context
+pub record InContext (m : Module) (c : Context) : Type 0 where
+  pub start : StartFits c m
+  pub bodies : FunctionsTyped c m.types m.functions m.bodies
+
+valid : (m : Module) → LimitsHold m → GlobalsHold m → TypesFit m → ListsFit m → (c : Context) → IsContext m c → InContext m c → IsValid m
+valid m limits globals types lists c context inside = record {
+  context = c;
+  is_context = context;
+  one_result = recursion_from_All (λ f. length f.results ≤ 1) m.types types.one_result;
+  functions = inside.bodies;
+  one_table = limits.one_table;
+  one_memory = limits.one_memory;
+  table_limits = recursion_from_All (LimitsFit (2 ^ 32)) (tables_of m) limits.tables;
+  memory_limits = recursion_from_All (LimitsFit 65536) (memories_of m) limits.memories;
+  globals = recursion_from_All (λ g. IsConstant (filter_map imported_global (kinds_of m.imports)) g.global_type.value_type g.init) m.globals globals;
+  exports = each (λ e. IsWithin (counts_of m) e.kind) (λ e. ExportFits m e.kind) (λ e. export_fits m e.kind) m.exports (recursion_from_All (λ e. IsWithin (counts_of m) e.kind) m.exports lists.exports);
+  names_apart = lists.names_apart;
+  start = inside.start;
+  element_segments = each (ElementsHold (globals_of m) (counts_of m)) (ElementsFit m) (elements_fit m) m.element_segments (recursion_from_All (ElementsHold (globals_of m) (counts_of m)) m.element_segments lists.element_segments);
+  data_segments = each (DataHolds (globals_of m) (counts_of m)) (DataFits m) (data_fits m) m.data_segments (recursion_from_All (DataHolds (globals_of m) (counts_of m)) m.data_segments lists.data_segments);
+}
 
 -- ---- and back
-
-pub part_of : (m : Module) → RunsSoFar m → IsOfPart m
-part_of m runs = record {
-  imports = All-from_recursion (λ i. IsFunction i.kind) m.imports runs.imports;
-  tables = runs.tables;
-  globals = runs.globals;
-  start = runs.start;
-  element_segments = runs.element_segments;
-}
 
 pub types_of : (m : Module) → IsValid m → TypesFit m
 types_of m v = record {
@@ -164,26 +140,47 @@ types_of m v = record {
   functions = All-from_recursion (λ x. x < length m.types) (functions_of m) (in_range m.types (functions_of m) v.context.functions v.is_context.functions);
 }
 
-pub lists_of : (m : Module) → IsValid m → IsOfPart m → ListsFit m
-lists_of m v part = record {
-  one_memory = subst (λ ms. length ms ≤ 1) (own_memories m part) v.one_memory;
-  memory_limits = All-from_recursion (LimitsFit 65536) m.memories (subst (AllByRecursion (LimitsFit 65536)) (own_memories m part) v.memory_limits);
-  exports = All-from_recursion (λ e. IsWithin (length (functions_of m)) (length m.memories) e.kind) m.exports
-      (each (λ e. ExportFits m e.kind) (λ e. IsWithin (length (functions_of m)) (length m.memories) e.kind) (λ e. export_within m part e.kind) m.exports v.exports);
-  names_apart = v.names_apart;
-  data_segments = All-from_recursion (IsPlaced (length m.memories)) m.data_segments
-      (each (DataFits m) (IsPlaced (length m.memories)) (placed_of m part) m.data_segments v.data_segments);
+pub limits_of : (m : Module) → IsValid m → LimitsHold m
+limits_of m v = record {
+  one_table = v.one_table;
+  one_memory = v.one_memory;
+  tables = All-from_recursion (LimitsFit (2 ^ 32)) (tables_of m) v.table_limits;
+  memories = All-from_recursion (LimitsFit 65536) (memories_of m) v.memory_limits;
 }
 
--- a context with the module's types
-abbrev Given : Module → Type 0
-Given m = (c : Context) × AreTypesAt m.types (functions_of m) c.functions
+pub globals_hold : (m : Module) → IsValid m → GlobalsHold m
+globals_hold m v = All-from_recursion (λ g. IsConstant (filter_map imported_global (kinds_of m.imports)) g.global_type.value_type g.init) m.globals v.globals
 
--- what is left to be settled are the bodies
-pub settled : (m : Module) (r : Result (Unit {0}) LoadFault) → IsOfPart m → TypesFit m → ListsFit m → ((c : Context) → AreTypesAt m.types (functions_of m) c.functions → Settles r (BodiesRun c m)) → Settles r (IsValid m × RunsSoFar m)
-settled m (Ok u) part types lists bodies =
-    let c = context_of m types in valid m part types lists c.0 c.1 (bodies c.0 c.1.functions)
-settled m (Err e) part types lists bodies =
+pub lists_of : (m : Module) → IsValid m → ListsFit m
+lists_of m v = record {
+  exports = All-from_recursion (λ e. IsWithin (counts_of m) e.kind) m.exports (each (λ e. ExportFits m e.kind) (λ e. IsWithin (counts_of m) e.kind) (λ e. export_within m e.kind) m.exports v.exports);
+  names_apart = v.names_apart;
+  element_segments = All-from_recursion (ElementsHold (globals_of m) (counts_of m)) m.element_segments (each (ElementsFit m) (ElementsHold (globals_of m) (counts_of m)) (elements_hold m) m.element_segments v.element_segments);
+  data_segments = All-from_recursion (DataHolds (globals_of m) (counts_of m)) m.data_segments (each (DataFits m) (DataHolds (globals_of m) (counts_of m)) (data_holds m) m.data_segments v.data_segments);
+}
+
+-- ---- what is left to be settled
+
+-- a context with the module's parts
+abbrev Given : Space → Type 0
+Given space = (c : Context) × IsSpace space c
+
+-- a valid module has its start and its bodies in its context
+abbrev in_valid : (m : Module) (space : Space) → IsSpaceOf space m → (P : Context → Type 0) → ((v : IsValid m) → P v.context) → IsValid m → (g : Given space) × P g.0
+in_valid m space is P f v = ((v.context, space_of space m v.context is v.is_context), f v)
+
+-- the start function is refused
+pub start_settled : (m : Module) (space : Space) (e : LoadFault) → TypesFit m → IsSpaceOf space m → ((c : Context) → IsSpace space c → Settles {T = Unit {0}} (Err e) (StartFits c m)) → Settles {T = Unit {0}} (Err e) (IsValid m)
+start_settled m space e types is start =
     let c = context_of m types in
-    Refutes-some e {A = Given m} (λ g. BodiesRun g.0 m) (IsValid m × RunsSoFar m) (c.0, c.1.functions) (λ g. bodies g.0 g.1)
-    (λ q. ((q.0.context, q.0.is_context.functions), (q.0.functions, q.1.bodies)))
+    Refutes-some e {A = Given space} (λ g. StartFits g.0 m) (IsValid m) (c.0, space_of space m c.0 is c.1) (λ g. start g.0 g.1) (in_valid m space is (λ k. StartFits k m) (λ v. v.start))
+
+-- what is left are the bodies
+pub settled : (m : Module) (space : Space) (r : Result (Unit {0}) LoadFault) → LimitsHold m → GlobalsHold m → TypesFit m → ListsFit m → IsSpaceOf space m → ((c : Context) → IsSpace space c → StartFits c m) → ((c : Context) → IsSpace space c → Settles r (FunctionsTyped c m.types m.functions m.bodies)) → Settles r (IsValid m)
+settled m space (Ok u) limits globals types lists is start bodies =
+    let c = context_of m types in
+    let at = space_of space m c.0 is c.1 in
+    valid m limits globals types lists c.0 c.1 (record { start = start c.0 at; bodies = bodies c.0 at })
+settled m space (Err e) limits globals types lists is start bodies =
+    let c = context_of m types in
+    Refutes-some e {A = Given space} (λ g. FunctionsTyped g.0 m.types m.functions m.bodies) (IsValid m) (c.0, space_of space m c.0 is c.1) (λ g. bodies g.0 g.1) (in_valid m space is (λ k. FunctionsTyped k m.types m.functions m.bodies) (λ v. v.functions))

@@ -1,5 +1,5 @@
 -- What a refusal says.
-use Rattle.std.proofs.Common.{◌≡◌, Result}
+use Rattle.std.proofs.Common.{◌≡◌, Result, Ok, Err}
 use Rattle.std.specs.Result.{IsErrAnd}
 use Rattle.std.proofs.lemmas.Result.{err_from_is_err_and}
 use Rattle.wasm_module.specs.declared.fault.LoadFault.{LoadFault}
@@ -31,3 +31,8 @@ pub refused : {T : Type 0} (r : Result T LoadFault) (e : LoadFault) (P Q : Type 
 refused r e P Q left h f =
     let p = err_from_is_err_and r left in
     rw (p.1, p.2) (Refutes-more e P Q f h)
+
+-- an answer to a question that is the same
+pub settles_same : {T : Type 0} (r : Result T LoadFault) (P Q : Type 0) → (P → Q) → (Q → P) → Settles r P → Settles r Q
+settles_same (Ok x) P Q to from h = to h
+settles_same (Err e) P Q to from h = Refutes-more e P Q from h

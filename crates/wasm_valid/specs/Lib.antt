@@ -1,7 +1,13 @@
 pub mod Typing
 pub mod Validity
-pub mod FirstPart
-pub mod StraightLine
 pub mod Refusal
 pub mod Rules
-pub mod FunctionSpace
+pub mod Stack
+pub mod Effects
+pub mod Blocks
+pub mod Operands
+pub mod Ends
+pub mod Fits
+pub mod Bodies
+pub mod Scopes
+pub mod Standard

@@ -1,58 +1,68 @@
--- The rules of a module of the part that is run so far, as they are tested.
-use Rattle.std.specs.Prelude.{◌≡◌, ℕ, ◌<◌, ◌≤◌, List, [], ◌∷◌, None, length, map, All, slice_get, Some}
-use Rattle.std.specs.List.{AllByRecursion}
+-- The rules of a module (section 3.4), as they are tested.
+use Rattle.std.specs.Prelude.{◌≡◌, ◌<◌, ◌≤◌, ◌^◌, List, [], length, map, All, Some, false, slice_get, IfSome}
+use Rattle.std.specs.List.{filter_map}
+use Rattle.wasm_module.specs.declared.instruction.ValueType.{ValueType}
+use Rattle.wasm_module.specs.declared.instruction.ValueType.TheVariants.{I32, I64}
 use Rattle.wasm_module.specs.declared.instruction.Instruction.{Instruction}
 use Rattle.wasm_module.specs.declared.instruction.Instruction.TheVariants as op
-use Rattle.wasm_module.specs.declared.module.FuncType.{FuncType}
+use Rattle.wasm_module.specs.declared.module.GlobalType.{GlobalType}
 use Rattle.wasm_module.specs.declared.module.ExportKind.{ExportKind}
 use Rattle.wasm_module.specs.declared.module.ExportKind.TheVariants as exported
-use Rattle.wasm_module.specs.declared.module.Body.{Body}
+use Rattle.wasm_module.specs.declared.module.ElementSegment.{ElementSegment}
 use Rattle.wasm_module.specs.declared.module.DataSegment.{DataSegment}
 use Rattle.wasm_module.specs.declared.module.Module.{Module}
+use Rattle.wasm_valid.specs.declared.module_rules.Counts.{Counts}
 use Rattle.wasm_valid.specs.Typing.{Context}
-use Rattle.wasm_valid.specs.Validity.{functions_of, LimitsFit, AreApart, FunctionTyped, FunctionsTyped}
-use Rattle.wasm_valid.specs.FirstPart.{IsFunction, IsRunnable}
+use Rattle.wasm_valid.specs.Validity.{functions_of, tables_of, memories_of, globals_of, imported_global, kinds_of, LimitsFit, AreApart, IsConstant}
 
--- functions, memories, exports and data, and nothing else
-pub record IsOfPart (m : Module) : Type 0 where
-  pub imports : All (λ i. IsFunction i.kind) m.imports
-  pub tables : m.tables ≡ []
-  pub globals : m.globals ≡ []
-  pub start : m.start ≡ None
-  pub element_segments : m.element_segments ≡ []
+-- a constant of this type, or that of one of these globals
+abbrev pub IsConstantInstruction : List GlobalType → ValueType → Instruction → Type 0
+IsConstantInstruction gs t (op.I32Const n) = t ≡ I32
+IsConstantInstruction gs t (op.I64Const n) = t ≡ I64
+IsConstantInstruction gs t (op.GlobalGet x) = slice_get gs x ≡ Some (record { value_type = t; mutable = false })
+IsConstantInstruction gs t i = ⊥
 
 -- at most one result a type, and a type for each function
 pub record TypesFit (m : Module) : Type 0 where
   pub one_result : All (λ f. length f.results ≤ 1) m.types
   pub functions : All (λ x. x < length m.types) (functions_of m)
 
--- what is exported is among so many functions and memories
-abbrev pub IsWithin : ℕ → ℕ → ExportKind → Type 0
-IsWithin functions memories (exported.Function x) = x < functions
-IsWithin functions memories (exported.Memory x) = x < memories
-IsWithin functions memories k = ⊥
+-- tables and memories
+pub record LimitsHold (m : Module) : Type 0 where
+  pub one_table : length (tables_of m) ≤ 1
+  pub one_memory : length (memories_of m) ≤ 1
+  pub tables : All (LimitsFit (2 ^ 32)) (tables_of m)
+  pub memories : All (LimitsFit 65536) (memories_of m)
 
--- a segment's offset is one constant
-abbrev pub IsOffset : List Instruction → Type 0
-IsOffset code = (n : ℕ) × (code ≡ op.I32Const n ∷ op.End ∷ [])
+abbrev pub GlobalsHold : Module → Type 0
+GlobalsHold m = All (λ g. IsConstant (filter_map imported_global (kinds_of m.imports)) g.global_type.value_type g.init) m.globals
 
--- data in one of so many memories
-pub record IsPlaced (memories : ℕ) (d : DataSegment) : Type 0 where
-  pub memory : d.memory < memories
-  pub offset : IsOffset d.offset
+-- what is exported is among so many
+abbrev pub IsWithin : Counts → ExportKind → Type 0
+IsWithin n (exported.Function x) = x < n.functions
+IsWithin n (exported.Table x) = x < n.tables
+IsWithin n (exported.Memory x) = x < n.memories
+IsWithin n (exported.Global x) = x < n.globals
 
--- memories, exports and data
+pub record ElementsHold (gs : List GlobalType) (n : Counts) (e : ElementSegment) : Type 0 where
+  pub table : e.table < n.tables
+  pub offset : IsConstant gs I32 e.offset
+  pub functions : All (λ x. x < n.functions) e.functions
+
+pub record DataHolds (gs : List GlobalType) (n : Counts) (d : DataSegment) : Type 0 where
+  pub memory : d.memory < n.memories
+  pub offset : IsConstant gs I32 d.offset
+
+-- how many there are in a module
+abbrev pub counts_of : Module → Counts
+counts_of m = record { functions = length (functions_of m); tables = length (tables_of m); memories = length (memories_of m); globals = length (globals_of m) }
+
+-- exports and segments
 pub record ListsFit (m : Module) : Type 0 where
-  pub one_memory : length m.memories ≤ 1
-  pub memory_limits : All (LimitsFit 65536) m.memories
-  pub exports : All (λ e. IsWithin (length (functions_of m)) (length m.memories) e.kind) m.exports
+  pub exports : All (λ e. IsWithin (counts_of m) e.kind) m.exports
   pub names_apart : AreApart (map (λ e. e.name) m.exports)
-  pub data_segments : All (IsPlaced (length m.memories)) m.data_segments
+  pub element_segments : All (ElementsHold (globals_of m) (counts_of m)) m.element_segments
+  pub data_segments : All (DataHolds (globals_of m) (counts_of m)) m.data_segments
 
--- a body that has the type of this index, and can be run
-abbrev pub BodyRuns : ℕ → Context → List FuncType → ℕ → Body → Type 0
-BodyRuns imports c types x b = ((f : FuncType) × (slice_get types x ≡ Some f) × FunctionTyped c f b) × AllByRecursion (IsRunnable imports) b.code
-
--- all bodies
-abbrev pub BodiesRun : Context → Module → Type 0
-BodiesRun c m = FunctionsTyped c m.types m.functions m.bodies × AllByRecursion (λ b. AllByRecursion (IsRunnable (length m.imports)) b.code) m.bodies
+abbrev pub StartFits : Context → Module → Type 0
+StartFits c m = IfSome m.start (λ x. slice_get c.functions x ≡ Some (record { params = []; results = [] }))

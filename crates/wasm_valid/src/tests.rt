@@ -4,9 +4,9 @@ use crate::validate;
 use std::alloc::{AllocError, Global};
 use std::test::Fail;
 use wasm_module::{
-    Body, Bytes, DataSegment, ElementSegment, Export, ExportKind, FuncType, GlobalEntry,
-    GlobalType, Import, ImportKind, Instruction, Items, Limits, LoadFault, Locals, Module, Name,
-    ValueType,
+    BinaryOperator, BlockType, Body, BranchTable, Bytes, DataSegment, ElementSegment, Export,
+    ExportKind, FuncType, GlobalEntry, GlobalType, Import, ImportKind, Instruction, Items, Limits,
+    LoadFault, Locals, MemArg, Module, Name, UnaryOperator, ValueType,
 };
 
 fn func_type<const P: usize, const R: usize>(
@@ -194,49 +194,15 @@ const OWN: Option<LoadFault> = Some(LoadFault::Invalid {
 });
 
 #[test]
-fn types_operands(rt: HostRuntime) -> Result<(), Fail> {
-    let alloc = rt.alloc();
-    // nothing to drop
-    assert_eq!(rt;
-        code_fault(alloc, [Instruction::Drop, Instruction::End])?,
-        OWN
-    );
-    // `proc_exit` takes an i32
-    let code = [
-        Instruction::I64Const(0),
-        Instruction::Call(1),
-        Instruction::End,
-    ];
-    assert_eq!(rt; code_fault(alloc, code)?, OWN);
-    // too few for `fd_write`
-    let code = [
-        Instruction::I32Const(0),
-        Instruction::Call(0),
-        Instruction::End,
-    ];
-    assert_eq!(rt; code_fault(alloc, code)?, OWN);
-    // a value is left
-    assert_eq!(rt;
-        code_fault(alloc, [Instruction::I32Const(0), Instruction::End])?,
-        OWN
-    );
-    Ok(())
-}
-
-#[test]
-fn runs_part_of_the_instructions(rt: HostRuntime) -> Result<(), Fail> {
+fn calls_functions_that_are_there(rt: HostRuntime) -> Result<(), Fail> {
     let alloc = rt.alloc();
     // a function of the module's own, and one that isn't there
     assert_eq!(rt;
         code_fault(alloc, [Instruction::Call(2), Instruction::End])?,
-        OWN
+        None
     );
     assert_eq!(rt;
         code_fault(alloc, [Instruction::Call(3), Instruction::End])?,
-        OWN
-    );
-    assert_eq!(rt;
-        code_fault(alloc, [Instruction::Nop, Instruction::End])?,
         OWN
     );
     Ok(())
@@ -273,34 +239,6 @@ fn with_order<const N: usize>(
         10,
     );
     Ok(module)
-}
-
-#[test]
-fn takes_parameters_in_order(rt: HostRuntime) -> Result<(), Fail> {
-    let alloc = rt.alloc();
-    let module = with_order(
-        alloc,
-        [
-            Instruction::I32Const(0),
-            Instruction::I64Const(0),
-            Instruction::Call(0),
-            Instruction::End,
-        ],
-    )?;
-    assert!(rt; validate(alloc, module).is_ok());
-    let module = with_order(
-        alloc,
-        [
-            Instruction::I64Const(0),
-            Instruction::I32Const(0),
-            Instruction::Call(0),
-            Instruction::End,
-        ],
-    )?;
-    assert!(rt; validate(alloc, module).is_err());
-    let module = with_order(alloc, [Instruction::I32Const(0), Instruction::End])?;
-    assert!(rt; validate(alloc, module).is_err());
-    Ok(())
 }
 
 #[test]
@@ -450,42 +388,426 @@ fn gives_one_result(rt: HostRuntime) -> Result<(), Fail> {
     Ok(())
 }
 
-#[test]
-fn refuses_what_is_not_run(rt: HostRuntime) -> Result<(), Fail> {
-    let alloc = rt.alloc();
-    let mut module = hello(alloc)?;
+/// A global of the module's own, whose first value is this.
+fn global(
+    alloc: Global,
+    value_type: ValueType,
+    mutable: bool,
+    init: Instruction,
+) -> Result<GlobalEntry, AllocError> {
+    Ok(GlobalEntry {
+        global_type: GlobalType {
+            value_type,
+            mutable,
+        },
+        init: Items::from_vec(vec![in alloc; init, Instruction::End]?, 106),
+    })
+}
+
+/// The program with a table, a constant i32 global, a variable i64 global and this code, of type
+/// [] -> [] with two i64 locals.
+fn whole<const N: usize>(
+    alloc: Global,
+    code: [Instruction; N],
+) -> Result<Module<'static>, AllocError> {
+    let mut module = with_code(alloc, code)?;
     module.tables = Items::from_vec(vec![in alloc; Limits { min: 0, max: None }]?, 102);
-    assert_eq!(rt; validate(alloc, module).err(), refused_at(102));
-    let mut module = hello(alloc)?;
     module.globals = Items::from_vec(
         vec![in alloc;
-            GlobalEntry {
-                global_type: GlobalType {
-                    value_type: ValueType::I32,
-                    mutable: false
-                },
-                init: Items::from_vec(
-                    vec![in alloc; Instruction::I32Const(0), Instruction::End]?,
-                    106
-                ),
-            },
+            global(alloc, ValueType::I32, false, Instruction::I32Const(0))?,
+            global(alloc, ValueType::I64, true, Instruction::I64Const(0))?,
         ]?,
         105,
     );
-    assert_eq!(rt; validate(alloc, module).err(), refused_at(105));
-    let mut module = hello(alloc)?;
-    module.start = Some(2);
-    assert_eq!(rt; validate(alloc, module).err(), refused_at(0));
-    let mut module = hello(alloc)?;
+    Ok(module)
+}
+
+/// Whether the code is typed in that program.
+fn is_typed<const N: usize>(alloc: Global, code: [Instruction; N]) -> Result<bool, AllocError> {
+    Ok(validate(alloc, whole(alloc, code)?).is_ok())
+}
+
+const ADD: Instruction = Instruction::Binary(ValueType::I32, BinaryOperator::Add);
+
+#[test]
+fn types_unreachable_code(rt: HostRuntime) -> Result<(), Fail> {
+    use Instruction::{Br, Drop, End, Eqz, I32Const, I64Const, Select, Unreachable};
+    let alloc = rt.alloc();
+    assert!(rt; is_typed(alloc, [Unreachable, ADD, Drop, End])?);
+    assert!(rt; is_typed(alloc, [Unreachable, Select, Drop, End])?);
+    assert!(rt; is_typed(alloc, [Br(0), ADD, Drop, End])?);
+    // select of an i64 and an unknown
+    let code = [Unreachable, I64Const(0), I32Const(0), Select, Drop, End];
+    assert!(rt; is_typed(alloc, code)?);
+    // its result read as i32
+    let code = [
+        Unreachable,
+        I64Const(0),
+        I32Const(0),
+        Select,
+        Eqz(ValueType::I32),
+        Drop,
+        End,
+    ];
+    assert!(rt; !is_typed(alloc, code)?);
+    // i64 under i32.add
+    let code = [I32Const(0), Unreachable, I64Const(0), ADD, Drop, End];
+    assert!(rt; !is_typed(alloc, code)?);
+    Ok(())
+}
+
+#[test]
+fn types_labels(rt: HostRuntime) -> Result<(), Fail> {
+    use Instruction::{Block, Br, Drop, End, I32Const, I64Const, Loop};
+    let alloc = rt.alloc();
+    let i32 = BlockType::Value(ValueType::I32);
+    // no such label
+    assert!(rt; !is_typed(alloc, [Br(1), End])?);
+    assert!(rt; is_typed(alloc, [Block(i32), I32Const(7), Br(0), End, Drop, End])?);
+    assert!(rt; !is_typed(alloc, [Block(i32), I64Const(7), Br(0), End, Drop, End])?);
+    // a branch to a loop keeps nothing
+    assert!(rt; is_typed(alloc, [Loop(i32), Br(0), End, Drop, End])?);
+    Ok(())
+}
+
+#[test]
+fn types_conditions(rt: HostRuntime) -> Result<(), Fail> {
+    use Instruction::{BrIf, End, I32Const, I64Const, Return};
+    let alloc = rt.alloc();
+    assert!(rt; is_typed(alloc, [I32Const(0), BrIf(0), End])?);
+    assert!(rt; !is_typed(alloc, [I64Const(0), BrIf(0), End])?);
+    assert!(rt; is_typed(alloc, [I32Const(0), Return, End])?);
+    // a value left over
+    assert!(rt; !is_typed(alloc, [I32Const(0), End])?);
+    Ok(())
+}
+
+/// A table of label 1, and label 0 by default.
+fn two_labels(alloc: Global) -> Result<Instruction, AllocError> {
+    let labels = Items::from_vec(vec![in alloc; 1]?, 0);
+    Ok(Instruction::BrTable(BranchTable::new(alloc, labels, 0)?))
+}
+
+#[test]
+fn types_branch_tables(rt: HostRuntime) -> Result<(), Fail> {
+    use Instruction::{Block, Drop, End, I32Const, Unreachable};
+    let alloc = rt.alloc();
+    // labels of one type
+    let around = Block(BlockType::Empty);
+    assert!(rt; is_typed(alloc, [around, I32Const(0), two_labels(alloc)?, End, End])?);
+    // of two, also where it can't be reached
+    let around = Block(BlockType::Value(ValueType::I32));
+    assert!(rt;
+        !is_typed(
+            alloc,
+            [around, Unreachable, two_labels(alloc)?, End, Drop, End]
+        )?
+    );
+    Ok(())
+}
+
+#[test]
+fn types_blocks(rt: HostRuntime) -> Result<(), Fail> {
+    use Instruction::{Block, Drop, Else, End, I32Const};
+    let alloc = rt.alloc();
+    let empty = BlockType::Empty;
+    // what stands around a block isn't its own
+    assert!(rt; !is_typed(alloc, [I32Const(0), Block(empty), Drop, End, End])?);
+    // code that doesn't nest
+    assert!(rt; !is_typed(alloc, [Else, End])?);
+    assert!(rt; !is_typed(alloc, [Block(empty), End])?);
+    Ok(())
+}
+
+#[test]
+fn types_ifs(rt: HostRuntime) -> Result<(), Fail> {
+    use Instruction::{Drop, Else, End, I32Const, I64Const, If};
+    let alloc = rt.alloc();
+    let i32 = BlockType::Value(ValueType::I32);
+    assert!(rt; is_typed(alloc, [I32Const(0), If(BlockType::Empty), End, End])?);
+    assert!(rt; !is_typed(alloc, [I64Const(0), If(BlockType::Empty), End, End])?);
+    // an if that gives a value has an else, which gives it too
+    assert!(rt; !is_typed(alloc, [I32Const(0), If(i32), I32Const(1), End, Drop, End])?);
+    let code = [
+        I32Const(0),
+        If(i32),
+        I32Const(1),
+        Else,
+        I32Const(2),
+        End,
+        Drop,
+        End,
+    ];
+    assert!(rt; is_typed(alloc, code)?);
+    let code = [
+        I32Const(0),
+        If(i32),
+        I32Const(1),
+        Else,
+        I64Const(2),
+        End,
+        Drop,
+        End,
+    ];
+    assert!(rt; !is_typed(alloc, code)?);
+    Ok(())
+}
+
+#[test]
+fn types_locals(rt: HostRuntime) -> Result<(), Fail> {
+    use Instruction::{Drop, End, I32Const, I64Const, LocalGet, LocalSet, LocalTee};
+    let alloc = rt.alloc();
+    assert!(rt; is_typed(alloc, [LocalGet(1), LocalSet(0), End])?);
+    assert!(rt; !is_typed(alloc, [LocalGet(2), Drop, End])?);
+    assert!(rt; !is_typed(alloc, [I32Const(0), LocalSet(0), End])?);
+    assert!(rt; is_typed(alloc, [I64Const(0), LocalTee(1), Drop, End])?);
+    assert!(rt; !is_typed(alloc, [I64Const(0), LocalTee(1), End])?);
+    Ok(())
+}
+
+#[test]
+fn types_globals(rt: HostRuntime) -> Result<(), Fail> {
+    use Instruction::{Drop, End, GlobalGet, GlobalSet};
+    let alloc = rt.alloc();
+    assert!(rt; is_typed(alloc, [GlobalGet(0), Drop, End])?);
+    assert!(rt; !is_typed(alloc, [GlobalGet(2), Drop, End])?);
+    assert!(rt; is_typed(alloc, [GlobalGet(1), GlobalSet(1), End])?);
+    // a constant one
+    assert!(rt; !is_typed(alloc, [GlobalGet(0), GlobalSet(0), End])?);
+    Ok(())
+}
+
+const fn at(align: u32) -> MemArg {
+    MemArg { align, offset: 0 }
+}
+
+#[test]
+fn types_loads(rt: HostRuntime) -> Result<(), Fail> {
+    use Instruction::{Drop, End, I32Const, I32Load16U, I64Load};
+    let alloc = rt.alloc();
+    assert!(rt; is_typed(alloc, [I32Const(0), I64Load(at(3)), Drop, End])?);
+    assert!(rt; !is_typed(alloc, [I32Const(0), I64Load(at(4)), Drop, End])?);
+    assert!(rt; !is_typed(alloc, [I32Const(0), I32Load16U(at(2)), Drop, End])?);
+    Ok(())
+}
+
+#[test]
+fn types_stores(rt: HostRuntime) -> Result<(), Fail> {
+    use Instruction::{End, I32Const, I64Store32, LocalGet, MemoryFill};
+    let alloc = rt.alloc();
+    assert!(rt; is_typed(alloc, [I32Const(0), LocalGet(0), I64Store32(at(2)), End])?);
+    assert!(rt; !is_typed(alloc, [I32Const(0), LocalGet(0), I64Store32(at(3)), End])?);
+    assert!(rt;
+        is_typed(
+            alloc,
+            [I32Const(0), I32Const(0), I32Const(0), MemoryFill, End]
+        )?
+    );
+    assert!(rt; !is_typed(alloc, [I32Const(0), I32Const(0), MemoryFill, End])?);
+    Ok(())
+}
+
+#[test]
+fn types_indirect_calls(rt: HostRuntime) -> Result<(), Fail> {
+    use Instruction::{CallIndirect, End, I32Const};
+    let alloc = rt.alloc();
+    assert!(rt; is_typed(alloc, [I32Const(0), CallIndirect(2), End])?);
+    assert!(rt; !is_typed(alloc, [I32Const(0), CallIndirect(3), End])?);
+    // no table
+    assert!(rt; code_fault(alloc, [I32Const(0), CallIndirect(2), End])?.is_some());
+    Ok(())
+}
+
+#[test]
+fn types_operands(rt: HostRuntime) -> Result<(), Fail> {
+    use Instruction::{Call, Drop, End, I32Const, I64Const};
+    let alloc = rt.alloc();
+    // nothing to drop
+    assert_eq!(rt; code_fault(alloc, [Drop, End])?, OWN);
+    // `proc_exit` takes an i32
+    assert_eq!(rt; code_fault(alloc, [I64Const(0), Call(1), End])?, OWN);
+    // too few for `fd_write`
+    assert_eq!(rt; code_fault(alloc, [I32Const(0), Call(0), End])?, OWN);
+    Ok(())
+}
+
+/// Whether the code is typed where it may call a function of type [i32 i64] -> [i64] and has to
+/// leave an i64.
+fn is_in_order<const N: usize>(alloc: Global, code: [Instruction; N]) -> Result<bool, AllocError> {
+    Ok(validate(alloc, with_order(alloc, code)?).is_ok())
+}
+
+#[test]
+fn takes_parameters_in_order(rt: HostRuntime) -> Result<(), Fail> {
+    use Instruction::{Call, End, I32Const, I64Const};
+    let alloc = rt.alloc();
+    assert!(rt; is_in_order(alloc, [I32Const(0), I64Const(0), Call(0), End])?);
+    assert!(rt; !is_in_order(alloc, [I64Const(0), I32Const(0), Call(0), End])?);
+    assert!(rt; !is_in_order(alloc, [I32Const(0), End])?);
+    Ok(())
+}
+
+/// Why the program with this start function is refused, if it is.
+fn start_fault(alloc: Global, start: u32) -> Result<Option<LoadFault>, AllocError> {
+    let started = Module {
+        start: Some(start),
+        ..hello(alloc)?
+    };
+    Ok(validate(alloc, started).err())
+}
+
+#[test]
+fn starts_functions_without_parameters(rt: HostRuntime) -> Result<(), Fail> {
+    let alloc = rt.alloc();
+    // the module's own function has type [] -> [], an imported one takes an i32
+    assert_eq!(rt; start_fault(alloc, 2)?, None);
+    assert_eq!(rt; start_fault(alloc, 1)?, refused_at(0));
+    assert_eq!(rt; start_fault(alloc, 3)?, refused_at(0));
+    Ok(())
+}
+
+/// Why the program with these tables is refused, if it is.
+fn tables_fault(alloc: Global, tables: Vec<Limits>) -> Result<Option<LoadFault>, AllocError> {
+    let with_tables = Module {
+        tables: Items::from_vec(tables, 102),
+        ..hello(alloc)?
+    };
+    Ok(validate(alloc, with_tables).err())
+}
+
+#[test]
+fn bounds_tables(rt: HostRuntime) -> Result<(), Fail> {
+    let alloc = rt.alloc();
+    let turned = Limits {
+        min: 2,
+        max: Some(1),
+    };
+    assert_eq!(rt;
+        tables_fault(alloc, vec![in alloc; turned]?)?,
+        refused_at(102)
+    );
+    let two = vec![in alloc; Limits { min: 0, max: None }; 2]?;
+    assert_eq!(rt; tables_fault(alloc, two)?, refused_at(102));
+    Ok(())
+}
+
+#[test]
+fn types_operators(rt: HostRuntime) -> Result<(), Fail> {
+    use Instruction::{Drop, End, I32Const, I32WrapI64, I64Const, I64ExtendI32S, Unary};
+    let alloc = rt.alloc();
+    assert!(rt; is_typed(alloc, [I32Const(0), I64ExtendI32S, I32WrapI64, Drop, End])?);
+    assert!(rt; !is_typed(alloc, [I32Const(0), I32WrapI64, Drop, End])?);
+    let extend = UnaryOperator::Extend32S;
+    assert!(rt;
+        is_typed(
+            alloc,
+            [I64Const(0), Unary(ValueType::I64, extend), Drop, End]
+        )?
+    );
+    assert!(rt;
+        !is_typed(
+            alloc,
+            [I32Const(0), Unary(ValueType::I32, extend), Drop, End]
+        )?
+    );
+    Ok(())
+}
+
+/// The whole program, with functions in its table from here on.
+fn with_elements(
+    alloc: Global,
+    table: u32,
+    offset: Instruction,
+    function: u32,
+) -> Result<Module<'static>, AllocError> {
+    let mut module = whole(alloc, [Instruction::End])?;
     let segment = ElementSegment {
-        table: 0,
-        offset: Items::from_vec(
-            vec![in alloc; Instruction::I32Const(0), Instruction::End]?,
-            108,
-        ),
-        functions: Items::new(alloc),
+        table,
+        offset: Items::from_vec(vec![in alloc; offset, Instruction::End]?, 108),
+        functions: Items::from_vec(vec![in alloc; function]?, 109),
     };
     module.element_segments = Items::from_vec(vec![in alloc; segment]?, 107);
-    assert_eq!(rt; validate(alloc, module).err(), refused_at(107));
+    Ok(module)
+}
+
+#[test]
+fn places_elements(rt: HostRuntime) -> Result<(), Fail> {
+    use Instruction::{GlobalGet, I32Const, I64Const};
+    let alloc = rt.alloc();
+    for (i, module) in [
+        with_elements(alloc, 0, I32Const(0), 2)?,
+        // a constant global of the module's own
+        with_elements(alloc, 0, GlobalGet(0), 0)?,
+    ]
+    .into_iter()
+    .enumerate()
+    {
+        assert!(rt; validate(alloc, module).is_ok(), "elements {i}");
+    }
+    for (i, module) in [
+        with_elements(alloc, 1, I32Const(0), 2)?,
+        with_elements(alloc, 0, I64Const(0), 2)?,
+        with_elements(alloc, 0, GlobalGet(1), 2)?,
+        with_elements(alloc, 0, I32Const(0), 3)?,
+    ]
+    .into_iter()
+    .enumerate()
+    {
+        assert_eq!(rt;
+            validate(alloc, module).err(),
+            refused_at(107),
+            "elements {i}"
+        );
+    }
+    Ok(())
+}
+
+/// An imported constant i32 global.
+fn imported_global() -> Import<'static> {
+    Import {
+        module_name: Name::new("x"),
+        name: Name::new("x"),
+        kind: ImportKind::Global(GlobalType {
+            value_type: ValueType::I32,
+            mutable: false,
+        }),
+    }
+}
+
+/// The program, with an imported constant i32 global and one of its own.
+fn with_globals(alloc: Global, own: GlobalEntry) -> Result<Module<'static>, AllocError> {
+    let imports = vec![in alloc;
+        import("fd_write", 0),
+        import("proc_exit", 1),
+        imported_global(),
+    ]?;
+    let bodies = body(alloc, [Instruction::End])?;
+    let segment = segment(alloc, 0, Instruction::I32Const(0))?;
+    let mut module = program(alloc, imports, exports(alloc)?, bodies, segment)?;
+    module.globals = Items::from_vec(vec![in alloc; own]?, 105);
+    Ok(module)
+}
+
+#[test]
+fn begins_globals(rt: HostRuntime) -> Result<(), Fail> {
+    use Instruction::{GlobalGet, I64Const};
+    let alloc = rt.alloc();
+    let own = global(alloc, ValueType::I32, true, GlobalGet(0))?;
+    assert!(rt; validate(alloc, with_globals(alloc, own)?).is_ok());
+    for (i, own) in [
+        // another type, and a global of the module's own
+        global(alloc, ValueType::I64, true, GlobalGet(0))?,
+        global(alloc, ValueType::I32, true, GlobalGet(1))?,
+        global(alloc, ValueType::I32, true, I64Const(0))?,
+    ]
+    .into_iter()
+    .enumerate()
+    {
+        assert_eq!(rt;
+            validate(alloc, with_globals(alloc, own)?).err(),
+            refused_at(105),
+            "global {i}"
+        );
+    }
     Ok(())
 }

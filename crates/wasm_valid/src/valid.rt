@@ -3,7 +3,7 @@
 use std::marker::Model;
 use wasm_module::Module;
 
-/// A valid module (section 3.4.10), of the part that is run so far. Only `validate` makes one.
+/// A valid module (section 3.4.10). Only `validate` makes one.
 #[derive(Debug, Drop)]
 pub struct Valid<'a> {
     module: Module<'a>,
@@ -12,24 +12,21 @@ pub struct Valid<'a> {
 impl<'a> Model for Valid<'a> {
     ghost use Rattle.wasm_module.specs.declared.module.Module.{Module as ModuleValue};
     ghost use Rattle.wasm_valid.specs.Validity.{IsValid};
-    ghost use Rattle.wasm_valid.specs.FirstPart.{RunsSoFar};
 
     ghost Value = { ModuleValue };
 
     ghost view = { λ v. v.module };
 
-    ghost invariant = { λ v. IsValid v.module × RunsSoFar v.module };
+    ghost invariant = { λ v. IsValid v.module };
 }
 
 impl<'a> Valid<'a> {
     ghost use Rattle.std.specs.Prelude.{◌≡◌};
     ghost use Rattle.wasm_valid.specs.Validity.{IsValid};
-    ghost use Rattle.wasm_valid.specs.FirstPart.{RunsSoFar};
 
     /// A module that was found valid.
     pub(crate) fn new(checked: Module<'a>) -> Valid<'a>
-        requires valid { IsValid checked }
-        requires runs { RunsSoFar checked }
+        requires { IsValid checked }
         ensures { result ≡ checked.entry }
     {
         Valid { module: checked }
@@ -39,7 +36,6 @@ impl<'a> Valid<'a> {
     pub fn module(&self) -> &Module<'a>
         ensures value { result.now ≡ self.now }
         ensures valid { IsValid self.now }
-        ensures runs { RunsSoFar self.now }
     {
         &self.module
     }

@@ -1,42 +1,51 @@
-//! Validation of modules (section 3.4.10), of the part that is run so far.
+//! Validation of modules (section 3.4.10).
 
-ghost use Rattle.std.specs.Prelude.{◌≡◌, ◌≢◌, length, IfOk, IfErr, IsTrue};
+ghost use Rattle.std.specs.Prelude.{◌≡◌, ◌≢◌, IfOk, IfErr, IsTrue, length};
 ghost use Rattle.wasm_valid.specs.Typing.{Context};
-ghost use Rattle.wasm_valid.specs.Validity.{IsValid, AreTypesAt, functions_of};
-ghost use Rattle.wasm_valid.specs.FirstPart.{RunsSoFar};
+ghost use Rattle.wasm_valid.specs.Validity.{IsValid, FunctionsTyped, has_any, tables_of, memories_of};
 ghost use Rattle.wasm_valid.specs.Refusal.{IsRefusal, Settles};
-ghost use Rattle.wasm_valid.specs.Rules.{IsOfPart, TypesFit, ListsFit, BodiesRun};
-ghost use Rattle.wasm_valid.specs.FunctionSpace.{IsSpaceOf};
+ghost use Rattle.wasm_valid.specs.Rules.{TypesFit, LimitsHold, GlobalsHold, ListsFit, StartFits, counts_of};
+ghost use Rattle.wasm_valid.specs.Scopes.{IsSpace, IsSpaceOf};
 
-use crate::bodies::FunctionSpace;
 use crate::module_rules::{
-    are_below, are_functions, data_fits, exports_fit, have_one_result, imported_functions,
-    memory_limits_fit,
+    Counts, all_limits_fit, are_below, data_fits, elements_fit, exports_fit, globals, globals_fit,
+    have_one_result, imported_functions, imported_globals, memories, tables,
 };
 use crate::names::names_differ;
+use crate::places::instruction_offset;
+use crate::space::Space;
 use crate::valid::Valid;
 use std::alloc::Global;
-use wasm_module::{LoadFault, Module};
+use wasm_module::{Limits, LoadFault, Module};
 
-/// Checks a module (section 3.4.10). What isn't run so far is refused as what isn't valid is, with
-/// fault 12.
+/// Checks a module (section 3.4.10). One that isn't valid is refused with fault 12: a rule on the
+/// module's lists with the offset of the list, and a body with its index among the module's own
+/// bodies and the offset of the instruction.
 pub fn validate<'a>(alloc: Global, module: Module<'a>) -> Result<Valid<'a>, LoadFault>
-    ensures valid { IfOk result
-        (λ v. (v ≡ «module».entry) × IsValid «module».entry × RunsSoFar «module».entry) }
+    ensures valid { IfOk result (λ v. (v ≡ «module».entry) × IsValid «module».entry) }
     ensures refused { IfErr result IsRefusal }
-    ensures no { IfErr result
-        (λ e. e ≢ LoadFault.Memory → IsValid «module».entry → RunsSoFar «module».entry → ⊥) }
+    ensures no { IfErr result (λ e. e ≢ LoadFault.Memory → IsValid «module».entry → ⊥) }
 {
     check(alloc, &module)?;
     Ok(Valid::new(module))
 }
 
 fn check(alloc: Global, module: &Module<'_>) -> Result<(), LoadFault>
-    ensures { Settles result (IsValid «module».now × RunsSoFar «module».now) }
+    ensures { Settles result (IsValid «module».now) }
 {
-    check_part(module)?;
-    let space = function_space(alloc, module)?;
-    check_lists(alloc, module, space.type_indices.len())?;
+    let tables = tables(alloc, module)?;
+    let memories = memories(alloc, module)?;
+    check_limits(module, tables.as_slice(), memories.as_slice())?;
+    check_globals(alloc, module)?;
+    let space = space(alloc, module, !tables.is_empty(), !memories.is_empty())?;
+    let counts = Counts {
+        functions: space.type_indices.len(),
+        tables: tables.len(),
+        memories: memories.len(),
+        globals: space.globals.len(),
+    };
+    check_lists(alloc, module, &space, counts)?;
+    check_start(module, &space)?;
     check_bodies(alloc, module, &space)
 }
 
@@ -54,24 +63,40 @@ fn rule(holds: bool, offset: u32) -> Result<(), LoadFault>
     }
 }
 
-fn check_part(module: &Module<'_>) -> Result<(), LoadFault>
-    ensures { Settles result (IsOfPart «module».now) }
+fn check_limits(
+    module: &Module<'_>,
+    tables: &[Limits],
+    memories: &[Limits],
+) -> Result<(), LoadFault>
+    requires tables { tables.now ≡ tables_of «module».now }
+    requires memories { memories.now ≡ memories_of «module».now }
+    ensures { Settles result (LimitsHold «module».now) }
 {
-    rule(
-        are_functions(module.imports.as_slice()),
-        module.imports.offset(),
-    )?;
-    rule(module.tables.is_empty(), module.tables.offset())?;
-    rule(module.globals.is_empty(), module.globals.offset())?;
-    rule(module.start.is_none(), 0)?;
-    rule(
-        module.element_segments.is_empty(),
-        module.element_segments.offset(),
-    )?;
+    rule(tables.len() <= 1, module.tables.offset())?;
+    rule(memories.len() <= 1, module.memories.offset())?;
+    rule(all_limits_fit(tables, 1 << 32), module.tables.offset())?;
+    rule(all_limits_fit(memories, 65536), module.memories.offset())?;
     Ok(())
 }
 
-fn function_space<'m>(alloc: Global, module: &'m Module<'_>) -> Result<FunctionSpace<'m>, LoadFault>
+fn check_globals(alloc: Global, module: &Module<'_>) -> Result<(), LoadFault>
+    ensures { Settles result (GlobalsHold «module».now) }
+{
+    let imported = imported_globals(alloc, module.imports.as_slice())?;
+    rule(
+        globals_fit(imported.as_slice(), module.globals.as_slice()),
+        module.globals.offset(),
+    )
+}
+
+fn space<'m>(
+    alloc: Global,
+    module: &'m Module<'_>,
+    has_table: bool,
+    has_memory: bool,
+) -> Result<Space<'m>, LoadFault>
+    requires table { has_table ≡ has_any (tables_of «module».now) }
+    requires memory { has_memory ≡ has_any (memories_of «module».now) }
     ensures space { IfOk result (λ space. IsSpaceOf space «module».now) }
     ensures types { Settles result (TypesFit «module».now) }
 {
@@ -85,51 +110,64 @@ fn function_space<'m>(alloc: Global, module: &'m Module<'_>) -> Result<FunctionS
     let functions = module.functions.as_slice();
     rule(are_below(functions, types.len()), module.functions.offset())?;
     type_indices.extend_from_slice(functions)?;
-    Ok(FunctionSpace {
+    Ok(Space {
         types,
         type_indices,
-        imported: module.imports.len(),
+        globals: globals(alloc, module)?,
+        has_table,
+        has_memory,
     })
 }
 
-fn check_lists(alloc: Global, module: &Module<'_>, functions: usize) -> Result<(), LoadFault>
-    requires { functions ≡ length (functions_of «module».now) }
+fn check_lists(
+    alloc: Global,
+    module: &Module<'_>,
+    space: &Space<'_>,
+    counts: Counts,
+) -> Result<(), LoadFault>
+    requires space { IsSpaceOf space.now «module».now }
+    requires counts { counts ≡ counts_of «module».now }
     ensures { Settles result (ListsFit «module».now) }
 {
-    let memories = module.memories.as_slice();
-    rule(memories.len() <= 1, module.memories.offset())?;
-    rule(memory_limits_fit(memories), module.memories.offset())?;
+    let globals = space.globals.as_slice();
     let exports = module.exports.as_slice();
-    rule(
-        exports_fit(exports, functions, memories.len()),
-        module.exports.offset(),
-    )?;
+    rule(exports_fit(exports, counts), module.exports.offset())?;
     rule(names_differ(alloc, exports)?, module.exports.offset())?;
     rule(
-        data_fits(module.data_segments.as_slice(), memories.len()),
+        elements_fit(globals, counts, module.element_segments.as_slice()),
+        module.element_segments.offset(),
+    )?;
+    rule(
+        data_fits(globals, counts, module.data_segments.as_slice()),
         module.data_segments.offset(),
     )?;
     Ok(())
 }
 
-fn check_bodies(
-    alloc: Global,
-    module: &Module<'_>,
-    space: &FunctionSpace<'_>,
-) -> Result<(), LoadFault>
+/// The start function has no parameters and no results (section 3.4.7).
+fn check_start(module: &Module<'_>, space: &Space<'_>) -> Result<(), LoadFault>
     requires { IsSpaceOf space.now «module».now }
-    ensures { (c : Context)
-        → AreTypesAt «module».now.types (functions_of «module».now) c.functions
-        → Settles result (BodiesRun c «module».now) }
+    ensures { (c : Context) → IsSpace space.now c → Settles result (StartFits c «module».now) }
+{
+    match module.start {
+        Some(index) => rule(space.can_start(index), 0),
+        None => Ok(()),
+    }
+}
+
+fn check_bodies(alloc: Global, module: &Module<'_>, space: &Space<'_>) -> Result<(), LoadFault>
+    requires { IsSpaceOf space.now «module».now }
+    ensures { (c : Context) → IsSpace space.now c
+        → Settles result (FunctionsTyped c «module».now.types «module».now.functions «module».now.bodies) }
 {
     let functions = module.functions.as_slice();
     let bodies = module.bodies.as_slice();
     rule(functions.len() == bodies.len(), module.bodies.offset())?;
     for (i, body) in bodies.iter().enumerate() {
-        if !space.has_body(alloc, functions[i], body)? {
+        if let Some(index) = space.untyped_body(alloc, functions[i], body)? {
             return Err(LoadFault::Invalid {
                 function: u32::try_from(i).ok(),
-                offset: body.code.offset(),
+                offset: instruction_offset(body, index),
             });
         }
     }

@@ -1,26 +1,37 @@
-use Rattle.std.proofs.Common.{rules, List, length, All, IsTrue, ◌↔◌, subst}
-use Rattle.wasm_module.specs.declared.module.Limits.{Limits}
-use Rattle.wasm_module.specs.declared.module.DataSegment.{DataSegment}
-use Rattle.wasm_valid.specs.Rules.{ListsFit, IsPlaced}
+use Rattle.std.proofs.Common.{List, map, All, IsTrue, ◌↔◌, ◌∙◌, subst, ◌≡◌, Bool}
+use Rattle.wasm_module.specs.declared.module.GlobalType.{GlobalType}
+use Rattle.wasm_module.specs.declared.module.Export.{Export}
+use Rattle.wasm_valid.specs.declared.module_rules.Counts.{Counts}
+use Rattle.wasm_valid.specs.Validity.{AreApart, globals_of}
+use Rattle.wasm_valid.specs.Rules.{ListsFit, IsWithin, ElementsHold, DataHolds, counts_of}
 use Rattle.wasm_valid.proofs.Refusals.{refused}
 use Rattle.wasm_valid.proofs.validating.check_lists.Goals as goal
 
-pub returns-in_err-rule-5 : goal.returns-in_err-rule-5
-returns-in_err-rule-5 c =
+-- a test of the segments of a module
+tested : {X : Type 0} (P : List GlobalType → Counts → X → Type 0) (t : Bool) (gs hs : List GlobalType) (n k : Counts) (xs ys : List X) → gs ≡ hs → n ≡ k → xs ≡ ys → IsTrue t ↔ All (P gs n) xs → IsTrue t ↔ All (P hs k) ys
+tested {X} P t gs hs n k xs ys is_g is_n is_x h =
+    let a = subst (λ (g : List GlobalType). IsTrue t ↔ All (P g n) xs) is_g h in
+    let b = subst (λ (c : Counts). IsTrue t ↔ All (P hs c) xs) is_n a in
+    subst (λ (l : List X). IsTrue t ↔ All (P hs k) l) is_x b
+
+pub returns-in_err-rule-4 : goal.returns-in_err-rule-4
+returns-in_err-rule-4 c =
     let m = c.args.module.now in
-    let in_memories = subst (λ (ms : List Limits). IsTrue c.data_fits.result ↔ All (IsPlaced (length ms)) c.as_slice.result.now) c.as_slice-memories.ensures c.data_fits.ensures in
-    let answer = subst (λ (ds : List DataSegment). IsTrue c.data_fits.result ↔ All (IsPlaced (length m.memories)) ds) c.as_slice.ensures in_memories in
-    refused c.from_residual-in_err-rule-5.result c.in_err-rule-5.field-0.0 (IsTrue c.data_fits.result) (ListsFit m) c.from_residual-in_err-rule-5.ensures.1 c.in_err-rule-5.ensures (λ fit. answer.1 fit.data_segments)
+    let globals = c.as_slice-globals.ensures.value ∙ c.requires.space.globals in
+    let answer = tested (λ gs n d. DataHolds gs n d) c.data_fits.result c.as_slice-globals.result.now (globals_of m) c.args.counts (counts_of m) c.as_slice-2.result.now m.data_segments globals c.requires.counts c.as_slice-2.ensures c.data_fits.ensures in
+    refused c.from_residual-in_err-rule-4.result c.in_err-rule-4.field-0.0 (IsTrue c.data_fits.result) (ListsFit m) c.from_residual-in_err-rule-4.ensures.1 c.in_err-rule-4.ensures (λ fit. answer.1 fit.data_segments)
 
 pub returns : goal.returns
 returns c =
     let m = c.args.module.now in
-    let in_memories = subst (λ (ms : List Limits). IsTrue c.data_fits.result ↔ All (IsPlaced (length ms)) c.as_slice.result.now) c.as_slice-memories.ensures c.data_fits.ensures in
-    let answer = subst (λ (ds : List DataSegment). IsTrue c.data_fits.result ↔ All (IsPlaced (length m.memories)) ds) c.as_slice.ensures in_memories in
+    let globals = c.as_slice-globals.ensures.value ∙ c.requires.space.globals in
+    let exports = tested (λ gs n (e : Export). IsWithin n e.kind) c.exports_fit.result c.as_slice-globals.result.now (globals_of m) c.args.counts (counts_of m) c.as_slice-exports.result.now m.exports globals c.requires.counts c.as_slice-exports.ensures c.exports_fit.ensures in
+    let names = subst (λ (es : List Export). IsTrue c.in_ok-names_differ.field-0 ↔ AreApart (map (λ e. e.name) es)) c.as_slice-exports.ensures c.in_ok-names_differ.ensures in
+    let elements = tested (λ gs n e. ElementsHold gs n e) c.elements_fit.result c.as_slice-globals.result.now (globals_of m) c.args.counts (counts_of m) c.as_slice.result.now m.element_segments globals c.requires.counts c.as_slice.ensures c.elements_fit.ensures in
+    let segments = tested (λ gs n d. DataHolds gs n d) c.data_fits.result c.as_slice-globals.result.now (globals_of m) c.args.counts (counts_of m) c.as_slice-2.result.now m.data_segments globals c.requires.counts c.as_slice-2.ensures c.data_fits.ensures in
     record {
-      one_memory = search rules;
-      memory_limits = search rules;
-      exports = search rules;
-      names_apart = search rules;
-      data_segments = answer.0 c.in_ok-rule-5.ensures;
+      exports = exports.0 c.in_ok-rule.ensures;
+      names_apart = names.0 c.in_ok-rule-2.ensures;
+      element_segments = elements.0 c.in_ok-rule-3.ensures;
+      data_segments = segments.0 c.in_ok-rule-4.ensures;
     }

@@ -1,0 +1,26 @@
+use Rattle.std.proofs.Common.{◌≡◌, ◌≢◌, ◌<◌, ◌≤◌, ◌∙◌, ◌+◌, ◌-◌, ◌++◌, ◌∷◌, [], ℕ, Bool, List, length, drop, get_or, true, false, not, count_by, inl, inr, refl, sym, ap, subst, arith, rules}
+use Rattle.std.proofs.lemmas.Bool.{cases_eq}
+use Rattle.std.proofs.lemmas.List.{length_push, get_or_push, get_or_append_left, get_or_default}
+use Rattle.vol_alloc.specs.Numbers.{AreFree}
+use Rattle.vol_alloc.proofs.Free.{free_more, counted_more, above_more}
+use Rattle.vol_alloc.proofs.sectors.free_ones.Goals as goal
+
+pub loop-i-preserved-in-Continue-branch-2 : goal.loop-i-preserved-in-Continue-branch-2
+loop-i-preserved-in-Continue-branch-2 c =
+    let first = c.args.first in
+    let taken = c.args.taken.now in
+    let i = c.loop-i.i - 1 in
+    let so_far = c.loop-i.invariant in
+    let old = c.loop-i.free.items in
+    let again : i + 1 ≡ c.loop-i.i = omega (arith, c.loop-i-test.true) in
+    let lt : i < length taken = omega (arith, so_far.end) in
+    let clear : get_or taken i true ≡ false = get_or_default taken i true false lt ∙ c.if-not-taken-i.true in
+    let place : first + i - first ≡ i = omega arith in
+    let items : c.push.new.self.items ≡ old ++ (first + i) ∷ [] = c.in_ok-push.ensures.items in
+    record {
+      end = omega arith;
+      listed = subst (AreFree first taken) (sym items) (free_more first taken old (first + i) so_far.listed (omega arith) (omega arith) (ap (λ (q : ℕ). get_or taken q true) place ∙ clear) (λ k l same. absurd (omega (arith, so_far.above k l))));
+      above = subst (λ (ns : List ℕ). (k : ℕ) → k < length ns → first + i ≤ get_or ns k 0) (sym items) (above_more old (first + i) (λ k l. omega (arith, so_far.above k l)));
+      counted = omega (arith, c.in_ok-push.ensures.len, so_far.counted, counted_more taken i true lt clear, ap (λ (k : ℕ). count_by not (drop k taken)) again);
+      reserved = search rules;
+    }

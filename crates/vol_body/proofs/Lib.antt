@@ -1,0 +1,6 @@
+pub mod Readings
+pub mod Places
+pub mod Parts
+pub mod Same
+pub mod Needed
+pub mod Grown

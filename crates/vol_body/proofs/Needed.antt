@@ -1,0 +1,126 @@
+-- The places of a file are as many as it needs sectors.
+use Rattle.std.proofs.Common.{◌≡◌, ◌≢◌, inl, inr, ◌≤◌, ◌<◌, ◌+◌, ◌-◌, ◌*◌, ◌/◌, ℕ, List, [], ◌∷◌, ◌++◌, length, map, get_or, suc, nat_lt, nat_le, if◌then◌else◌, refl, sym, ◌∙◌, ap, subst, arith}
+use Rattle.std.proofs.lemmas.Bool.{cases_lt}
+use Rattle.std.proofs.lemmas.Bool.Decides.{nat_tests}
+use Rattle.std.proofs.lemmas.List.{length-append, length-map, get_or_append_left, get_or-append_right, append-nil}
+use Rattle.std.proofs.lemmas.List.FromFn.{length-range_with_len, get_or-map-range_with_len}
+use Rattle.std.specs.List.{range_with_len, Contains}
+use Rattle.vol_sector.specs.Disk.{Image}
+use Rattle.vol_inode.specs.declared.entry.Entry.{Entry}
+use Rattle.vol_inode.specs.Space.{sectors_of, lists_of, need_of}
+use Rattle.vol_body.specs.Body.{Place, part, list, lists, later_list, IsPlace, first_served, named, IsBody, places_of}
+
+take_it : (a b : ℕ) (x y : List Place) → a < b → (if nat_lt a b then x else y) ≡ x
+take_it a b x y lt = grind (arith, nat_tests)
+
+leave_it : (a b : ℕ) (x y : List Place) → b ≤ a → (if nat_lt a b then x else y) ≡ y
+leave_it a b x y le = grind (arith, nat_tests)
+
+long_parts : (count : ℕ) → length (map part (range_with_len 0 count)) ≡ count
+long_parts count = length-map (range_with_len 0 count) part ∙ length-range_with_len 0 count
+
+long_later : (n : ℕ) → length (map later_list (range_with_len 0 n)) ≡ n
+long_later n = length-map (range_with_len 0 n) later_list ∙ length-range_with_len 0 n
+
+-- the list, by how many parts there are
+few : (count : ℕ) → count ≤ 58 → map part (range_with_len 0 count) ++ (if nat_lt 58 count then list ∷ [] else []) ++ (if nat_lt 186 count then lists ∷ map later_list (range_with_len 0 (lists_of (count - 186))) else []) ≡ map part (range_with_len 0 count) ++ [] ++ []
+few count le =
+    let a = leave_it 58 count (list ∷ []) [] le in
+    let b = leave_it 186 count (lists ∷ map later_list (range_with_len 0 (lists_of (count - 186)))) [] (omega arith) in
+    λ i. map part (range_with_len 0 count) ++ a i ++ b i
+
+some : (count : ℕ) → 58 < count → count ≤ 186 → map part (range_with_len 0 count) ++ (if nat_lt 58 count then list ∷ [] else []) ++ (if nat_lt 186 count then lists ∷ map later_list (range_with_len 0 (lists_of (count - 186))) else []) ≡ map part (range_with_len 0 count) ++ (list ∷ []) ++ []
+some count lt le =
+    let a = take_it 58 count (list ∷ []) [] lt in
+    let b = leave_it 186 count (lists ∷ map later_list (range_with_len 0 (lists_of (count - 186)))) [] le in
+    λ i. map part (range_with_len 0 count) ++ a i ++ b i
+
+many : (count : ℕ) → 186 < count → map part (range_with_len 0 count) ++ (if nat_lt 58 count then list ∷ [] else []) ++ (if nat_lt 186 count then lists ∷ map later_list (range_with_len 0 (lists_of (count - 186))) else []) ≡ map part (range_with_len 0 count) ++ (list ∷ []) ++ (lists ∷ map later_list (range_with_len 0 (lists_of (count - 186))))
+many count lt =
+    let a = take_it 58 count (list ∷ []) [] (omega arith) in
+    let b = take_it 186 count (lists ∷ map later_list (range_with_len 0 (lists_of (count - 186)))) [] lt in
+    λ i. map part (range_with_len 0 count) ++ a i ++ b i
+
+pub length-places_of : (size : ℕ) → length (places_of size) ≡ need_of size
+length-places_of size = by_count (sectors_of size)
+  where
+    by_count : (count : ℕ) → length (map part (range_with_len 0 count) ++ (if nat_lt 58 count then list ∷ [] else []) ++ (if nat_lt 186 count then lists ∷ map later_list (range_with_len 0 (lists_of (count - 186))) else []))
+        ≡ (if nat_le count 58 then count else (if nat_le count 186 then count + 1 else count + 2 + lists_of (count - 186)))
+    by_count count = elim (cases_lt 58 count) [
+      | inr le ↦ ap length (few count le) ∙ (omega (arith, length-append (map part (range_with_len 0 count) ++ []) [], length-append (map part (range_with_len 0 count)) [], long_parts count)) ∙ sym (first count _ le)
+      | inl lt ↦ elim (cases_lt 186 count) [
+        | inr le ↦ ap length (some count lt le) ∙ (omega (arith, length-append (map part (range_with_len 0 count) ++ list ∷ []) [], length-append (map part (range_with_len 0 count)) (list ∷ []), long_parts count)) ∙ sym (second count _ _ lt le)
+        | inl more ↦ ap length (many count more)
+            ∙ (omega (arith, length-append (map part (range_with_len 0 count) ++ list ∷ []) (lists ∷ map later_list (range_with_len 0 (lists_of (count - 186)))), length-append (map part (range_with_len 0 count)) (list ∷ []), long_parts count, long_later (lists_of (count - 186))))
+            ∙ sym (third count (count + 2 + lists_of (count - 186)) more)
+      ]
+    ]
+      where
+        first : (count y : ℕ) → count ≤ 58 → (if nat_le count 58 then count else y) ≡ count
+        first count y le = grind (arith, nat_tests)
+
+        second : (count y z : ℕ) → 58 < count → count ≤ 186 → (if nat_le count 58 then y else (if nat_le count 186 then count + 1 else z)) ≡ count + 1
+        second count y z lt le = grind (arith, nat_tests)
+
+        third : (count z : ℕ) → 186 < count → (if nat_le count 58 then count else (if nat_le count 186 then count + 1 else z)) ≡ z
+        third count z lt = grind (arith, nat_tests)
+
+-- a place that names a sector serves a part of the file
+serves : (content : Image) (e : Entry) (p : Place) → IsBody content e → IsPlace p → named content e p ≢ 0 → first_served p < sectors_of e.size
+serves content e p body there names = elim (cases_lt (first_served p) (sectors_of e.size)) [
+  | inl lt ↦ lt
+  | inr past ↦ absurd (names (body.past p there past))
+]
+
+at_part : (count j : ℕ) (rest last : List Place) → j < count → Contains (map part (range_with_len 0 count) ++ rest ++ last) (part j)
+at_part count j rest last lt =
+    let front = map part (range_with_len 0 count) in
+    let short : j < length front = omega (arith, long_parts count) in
+    let longer : j < length (front ++ rest) = omega (arith, length-append front rest) in (
+      j,
+      omega (arith, length-append (front ++ rest) last),
+      get_or_append_left (front ++ rest) last (part j) j longer
+          ∙ get_or_append_left front rest (part j) j short ∙ get_or-map-range_with_len part 0 count j j (part j) lt (omega arith),
+    )
+
+at_list : (count : ℕ) (last : List Place) → Contains (map part (range_with_len 0 count) ++ (list ∷ []) ++ last) list
+at_list count last =
+    let front = map part (range_with_len 0 count) in
+    let longer : count < length (front ++ list ∷ []) = omega (arith, length-append front (list ∷ []), long_parts count) in
+    let none : count - count ≡ 0 = omega arith in (
+      count,
+      omega (arith, length-append (front ++ list ∷ []) last),
+      get_or_append_left (front ++ list ∷ []) last list count longer
+          ∙ get_or-append_right front (list ∷ []) count count list (long_parts count) (omega arith) ∙ ap (λ (k : ℕ). get_or (list ∷ []) k list) none,
+    )
+
+at_last : (count k : ℕ) (last : List Place) (p : Place) → k < length last → get_or last k p ≡ p → Contains (map part (range_with_len 0 count) ++ (list ∷ []) ++ last) p
+at_last count k last p lt is =
+    let front = map part (range_with_len 0 count) in
+    let long : length (front ++ list ∷ []) ≡ count + 1 = omega (arith, length-append front (list ∷ []), long_parts count) in
+    let back : count + 1 + k - (count + 1) ≡ k = omega arith in (
+      count + 1 + k,
+      omega (arith, length-append (front ++ list ∷ []) last),
+      get_or-append_right (front ++ list ∷ []) last (count + 1) (count + 1 + k) p long (omega arith)
+          ∙ ap (λ (i : ℕ). get_or last i p) back ∙ is,
+    )
+
+pub place_is_there : (content : Image) (e : Entry) (p : Place) → IsBody content e → IsPlace p → named content e p ≢ 0 → Contains (places_of e.size) p
+place_is_there content e (part j) body there names =
+    at_part (sectors_of e.size) j _ _ (serves content e (part j) body there names)
+place_is_there content e list body there names =
+    let lt : 58 < sectors_of e.size = serves content e list body there names in
+    let count = sectors_of e.size in
+    let B = λ (l : List Place). Contains (map part (range_with_len 0 count) ++ l ++ (if nat_lt 186 count then lists ∷ map later_list (range_with_len 0 (lists_of (count - 186))) else [])) list in
+    subst B (sym (take_it 58 count (list ∷ []) [] lt)) (at_list count _)
+place_is_there content e lists body there names =
+    let lt : 186 < sectors_of e.size = serves content e lists body there names in
+    let count = sectors_of e.size in
+    subst (λ (l : List Place). Contains l lists) (sym (many count lt)) (at_last count 0 (lists ∷ map later_list (range_with_len 0 (lists_of (count - 186)))) lists (omega arith) refl)
+place_is_there content e (later_list i) body there names =
+    let lt : 186 + 128 * i < sectors_of e.size = serves content e (later_list i) body there names in
+    let count = sectors_of e.size in
+    let n = lists_of (count - 186) in
+    let below : i < n = omega arith in
+    subst (λ (l : List Place). Contains l (later_list i)) (sym (many count (omega arith)))
+    (at_last count (suc i) (lists ∷ map later_list (range_with_len 0 n)) (later_list i) (omega (arith, long_later n)) (get_or-map-range_with_len later_list 0 n i i (later_list i) below (omega arith)))

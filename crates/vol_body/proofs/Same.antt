@@ -1,0 +1,76 @@
+-- A file whose sectors stay is the same file.
+use Rattle.std.proofs.Common.{◌≡◌, ◌≢◌, inl, inr, ◌≤◌, ◌<◌, ◌+◌, ◌-◌, ◌*◌, ◌/◌, ◌%◌, ℕ, List, length, drop, get_or, refl, sym, ◌∙◌, ap, arith}
+use Rattle.std.proofs.lemmas.Bool.{cases_eq, cases_lt}
+use Rattle.std.proofs.lemmas.List.{ext_get_or}
+use Rattle.byteorder.specs.Endian.{little_number}
+use Rattle.vol_sector.specs.Disk.{Image}
+use Rattle.vol_inode.specs.declared.entry.Entry.{Entry}
+use Rattle.vol_body.specs.Body.{Place, part, list, lists, later_list, IsPlace, named, number_in, part_bytes, byte_at, bytes_of, IsBody, SameSectors, IsSameFile}
+use Rattle.vol_body.proofs.Places.{number_there, bytes_there, part_direct, part_listed, part_later}
+use Rattle.vol_body.proofs.Parts.{length-bytes_of, get_or-bytes_of}
+
+-- sector 0 stands for no number, and for zeros
+none_listed : (one other : Image) (n i : ℕ) → n ≡ 0 → number_in other n i ≡ number_in one n i
+none_listed one other n i none = ap (λ (m : ℕ). number_in other m i) none ∙ sym (ap (λ (m : ℕ). number_in one m i) none)
+
+pub same_number : (one other : Image) (n i : ℕ) → (n ≢ 0 → other n ≡ one n) → number_in other n i ≡ number_in one n i
+same_number one other n i stays = elim (cases_eq n 0) [
+  | inl none ↦ none_listed one other n i none
+  | inr there ↦ number_there other n i there ∙ ap (λ (bytes : List ℕ). little_number 4 (drop (4 * i) bytes)) (stays there) ∙ sym (number_there one n i there)
+]
+
+pub same_bytes : (one other : Image) (n : ℕ) → (n ≢ 0 → other n ≡ one n) → part_bytes other n ≡ part_bytes one n
+same_bytes one other n stays = elim (cases_eq n 0) [
+  | inl none ↦ ap (part_bytes other) none ∙ sym (ap (part_bytes one) none)
+  | inr there ↦ bytes_there other n there ∙ stays there ∙ sym (bytes_there one n there)
+]
+
+module _ (one other : Image) (e : Entry) (stays : SameSectors one other e) where
+  same_later : (i : ℕ) → i < 128 → named other e (later_list i) ≡ named one e (later_list i)
+  same_later i lt = same_number one other (named one e lists) i (stays lists tt)
+
+  same_part : (j : ℕ) → j < 16570 → named other e (part j) ≡ named one e (part j)
+  same_part j lt = elim (cases_lt j 58) [
+    | inl direct ↦ part_direct other e j direct ∙ sym (part_direct one e j direct)
+    | inr le ↦ elim (cases_lt j 186) [
+      | inl listed ↦ part_listed other e j le listed ∙ same_number one other (named one e list) (j - 58) (stays list tt) ∙ sym (part_listed one e j le listed)
+      | inr later ↦
+          let q = (j - 186) / 128 in
+          let below : q < 128 = omega arith in
+          part_later other e j later
+          ∙ ap (λ (n : ℕ). number_in other n ((j - 186) % 128)) (same_later q below)
+          ∙ same_number one other (named one e (later_list q)) ((j - 186) % 128) (stays (later_list q) below)
+          ∙ sym (part_later one e j later)
+    ]
+  ]
+
+  same_names : (p : Place) → IsPlace p → named other e p ≡ named one e p
+  same_names (part j) there = same_part j there
+  same_names list there = refl
+  same_names lists there = refl
+  same_names (later_list i) there = same_later i there
+
+  same_byte : (k : ℕ) → k < 8483840 → byte_at other e k ≡ byte_at one e k
+  same_byte k lt =
+      let j = k / 512 in
+      let there : j < 16570 = omega arith in
+      let n = named one e (part j) in
+      ap (λ (m : ℕ). get_or (part_bytes other m) (k % 512) 0) (same_part j there)
+      ∙ ap (λ (bytes : List ℕ). get_or bytes (k % 512) 0) (same_bytes one other n (stays (part j) there))
+
+  pub same_file : IsSameFile one other e
+  same_file = record { names = same_names; bytes = same_byte }
+
+-- the same bytes in a list
+pub same_list : (one other : Image) (e : Entry) → IsSameFile one other e → e.size ≤ 8483840 → bytes_of other e ≡ bytes_of one e
+same_list one other e same small =
+    ext_get_or 0 (bytes_of other e) (bytes_of one e) (length-bytes_of other e ∙ sym (length-bytes_of one e)) (λ k lt.
+    let below : k < e.size = omega (arith, length-bytes_of other e) in
+    get_or-bytes_of other e k below ∙ same.bytes k (omega arith) ∙ sym (get_or-bytes_of one e k below))
+
+pub same_rules : (one other : Image) (e : Entry) → IsSameFile one other e → IsBody one e → IsBody other e
+same_rules one other e same body = record {
+  distinct = λ p q a b some equal. body.distinct p q a b (λ none. some (same.names p a ∙ none)) (sym (same.names p a) ∙ equal ∙ same.names q b);
+  past = λ p a le. same.names p a ∙ body.past p a le;
+  zeros = λ k le lt. same.bytes k lt ∙ body.zeros k le lt;
+}

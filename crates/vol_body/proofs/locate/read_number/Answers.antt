@@ -1,0 +1,19 @@
+use Rattle.std.proofs.Common.{◌≡◌, ◌∙◌, ◌*◌, ◌-◌, ℕ, List, drop, if◌then◌else◌, sym, ap, arith}
+use Rattle.byteorder.specs.Endian.{little_number}
+use Rattle.byteorder.specs.Numbers.{little_from-take}
+use Rattle.vol_log.specs.Log.{view}
+use Rattle.vol_alloc.specs.Alloc.{taken_of}
+use Rattle.vol_body.specs.Body.{number_in}
+use Rattle.vol_body.proofs.Places.{number_there}
+use Rattle.vol_body.proofs.locate.read_number.Goals as goal
+
+pub returns-clause-number : goal.returns-clause-number
+returns-clause-number g c h =
+    let i = c.args.i in
+    let content = view c.args.log.now in
+    let image = c.in_ok-image.image in
+    let read : c.read_u32.result ≡ number_in content c.args.list i = c.read_u32.ensures
+    ∙ little_from-take 0 4 (512 - 4 * i) (drop (4 * i) image) (omega (arith, c.requires.place))
+    ∙ ap (λ (l : List ℕ). little_number 4 (drop (4 * i) l)) (c.in_ok-image.ensures.value h)
+    ∙ sym (number_there content c.args.list i c.if-list-eq0.false) in
+    c.known.ensures ∙ ap (λ (n : ℕ). if taken_of c.args.sectors.now n then n else 0) read

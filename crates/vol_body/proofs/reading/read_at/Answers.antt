@@ -1,0 +1,39 @@
+use Rattle.std.proofs.Common.{◌≡◌, ◌∙◌, ◌+◌, ◌-◌, ◌/◌, ◌%◌, ◌≤◌, ◌<◌, ℕ, List, length, take, drop, min, sym, ap, subst, arith, rules}
+use Rattle.std.proofs.lemmas.List.{drop-drop, length-drop}
+use Rattle.vol_sector.specs.Disk.{Image}
+use Rattle.vol_log.specs.Log.{view, device_of}
+use Rattle.vol_alloc.specs.Alloc.{taken_of}
+use Rattle.vol_body.specs.Body.{part, named, part_bytes, bytes_of, NamesTaken}
+use Rattle.vol_body.proofs.Readings.{reads_then}
+use Rattle.vol_body.proofs.Parts.{length-bytes_of, part_of_bytes, filled_more}
+use Rattle.vol_body.proofs.reading.read_at.Goals as goal
+
+pub loop-done-preserved : goal.loop-done-preserved
+loop-done-preserved g c =
+    let e = c.args.entry.now in
+    let content = view c.args.log.now in
+    let taken = taken_of c.args.sectors.now in
+    let done = c.loop-done.done in
+    let at = c.args.offset + done in
+    let n = c.fill-done.result in
+    let image = c.in_ok-image.image in
+    let so_far = c.loop-done.invariant in
+    let counted = c.readable-count.ensures in
+    let count = c.fill-done.ensures.count in
+    let within : at + n ≤ e.size = omega arith in
+    record {
+      within = omega arith;
+      working = c.in_ok-image.ensures.failed;
+      reads = reads_then c.args.log.now c.loop-done.log c.read_part.new.log so_far.working so_far.reads c.in_ok-image.ensures.reads;
+      filled = λ h names.
+          let same : view c.loop-done.log ≡ content = so_far.reads.view h in
+          let there : NamesTaken taken (view c.loop-done.log) e = subst (λ (m : Image). NamesTaken taken m e) (sym same) names in
+          let bytes : image ≡ part_bytes content (named content e (part (at / 512))) =
+          c.in_ok-image.ensures.bytes (so_far.reads.honest.0 h) there ∙ ap (λ (m : Image). part_bytes m (named m e (part (at / 512)))) same in
+          let file = bytes_of content e in
+          let piece : take n (drop (at % 512) image) ≡ take n (drop done (drop c.args.offset file)) =
+          part_of_bytes content e image at n (search rules) bytes (omega arith) within ∙ ap (take n) (sym (drop-drop done c.args.offset file)) in
+          c.fill-done.ensures.bytes
+          ∙ filled_more c.args.buffer.now c.loop-done.buffer (drop c.args.offset file) (drop (at % 512) image) done n
+          (omega (arith, length-drop c.args.offset file, length-bytes_of content e)) (so_far.filled h names) piece;
+    }

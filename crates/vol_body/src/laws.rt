@@ -1,0 +1,28 @@
+//! Laws on the sectors that files name.
+
+ghost use Rattle.std.specs.Prelude.{◌≡◌, ◌≢◌, ◌≤◌, ◌<◌, ℕ, length};
+ghost use Rattle.std.specs.List.{Contains};
+ghost use Rattle.vol_sector.specs.Disk.{Image};
+ghost use Rattle.vol_inode.specs.Space.{need_of};
+ghost use Rattle.vol_inode.specs.declared.entry.Entry.{Entry};
+ghost use Rattle.vol_body.specs.Body.{Place, IsPlace, named, places_of, bytes_of};
+ghost use Rattle.vol_body.specs.Body.{IsBody, SameSectors, IsSameFile};
+
+/// A law: where the sectors that a file names stay, it names the same ones, has the same bytes and
+/// keeps its rules, whatever is written to others.
+pub fn other_files_stay()
+    ensures file { (one other : Image) (e : Entry) → SameSectors one other e
+        → IsSameFile one other e }
+    ensures bytes { (one other : Image) (e : Entry) → SameSectors one other e → e.size ≤ 8483840
+        → bytes_of other e ≡ bytes_of one e }
+    ensures rules { (one other : Image) (e : Entry) → SameSectors one other e → IsBody one e
+        → IsBody other e }
+{}
+
+/// A law: a file names no more sectors than it needs by its size. All places where it names one
+/// stand in a list of that length.
+pub fn names_at_most_what_it_needs()
+    ensures length { (size : ℕ) → length (places_of size) ≡ need_of size }
+    ensures places { (content : Image) (e : Entry) (p : Place) → IsBody content e → IsPlace p
+        → named content e p ≢ 0 → Contains (places_of e.size) p }
+{}

@@ -1,0 +1,109 @@
+//! Where the sectors of a file are.
+
+ghost use Rattle.std.specs.Prelude.{◌≡◌, ◌≢◌, ◌≤◌, ◌<◌, ◌↔◌, ◌⊎◌, ℕ, true, false, IfOk, is_err, if◌then◌else◌};
+ghost use Rattle.std.specs.Prelude.{IsErr, length};
+ghost use Rattle.vol_log.specs.Log.{view, sectors_of, has_failed, device_of};
+ghost use Rattle.vol_alloc.specs.Alloc.{end_of, taken_of};
+ghost use Rattle.vol_body.specs.Body.{NamesTaken, named, number_in, part, part_bytes};
+ghost use Rattle.vol_body.specs.Reading.{OnlyReads};
+
+use byteorder::{ByteOrder, LittleEndian};
+use vol_alloc::Alloc;
+use vol_inode::Entry;
+use vol_log::Log;
+use vol_sector::{Device, DeviceFault};
+
+// How many parts of a file the entry itself names.
+const DIRECT: u32 = 58;
+
+// How many parts are named by the entry and by the list of pointer 58.
+const LISTED: u32 = 186;
+
+// How many numbers a pointer sector has.
+const NUMBERS: u32 = 128;
+
+/// The number, if it is that of a taken sector, else 0. A device that isn't honest may give any.
+pub fn known(sectors: &Alloc, n: u32) -> u32
+    ensures { result ≡ (if taken_of sectors.now n then n else 0) }
+{
+    if sectors.is_taken(n) { n } else { 0 }
+}
+
+/// The `i`-th number of a pointer sector, where it is that of a taken sector. Sector 0 stands for
+/// none.
+pub fn read_number<D: Device>(
+    log: &mut Log<D>,
+    sectors: &Alloc,
+    list: u32,
+    i: u32,
+) -> Result<u32, DeviceFault>
+    requires place { i < 128 }
+    requires taken { list ≢ 0 → taken_of sectors.now list ≡ true }
+    requires there { end_of sectors.now ≤ sectors_of log.old }
+    requires working { has_failed log.old ≡ false }
+    ensures number { D.honest (device_of log.old) → IfOk result (λ n.
+        let m = number_in (view log.old) list i in
+        n ≡ (if taken_of sectors.now m then m else 0)) }
+    ensures taken { IfOk result (λ n. n ≢ 0 → taken_of sectors.now n ≡ true) }
+    ensures reads { OnlyReads log.old log.new }
+    ensures failed { has_failed log.new ≡ is_err result }
+{
+    if list == 0 {
+        return Ok(0);
+    }
+    let image = log.read(list)?;
+    Ok(known(sectors, LittleEndian::read_u32(&image[4 * i as usize..])))
+}
+
+/// The sector of a part of the file, or 0 where it was never written.
+pub fn sector_of_part<D: Device>(
+    log: &mut Log<D>,
+    sectors: &Alloc,
+    entry: &Entry,
+    j: u32,
+) -> Result<u32, DeviceFault>
+    requires place { j < 16570 }
+    requires there { end_of sectors.now ≤ sectors_of log.old }
+    requires working { has_failed log.old ≡ false }
+    ensures sector { D.honest (device_of log.old)
+        → NamesTaken (taken_of sectors.now) (view log.old) entry.now
+        → IfOk result (λ n. n ≡ named (view log.old) entry.now (part j)) }
+    ensures taken { IfOk result (λ n. n ≢ 0 → taken_of sectors.now n ≡ true) }
+    ensures reads { OnlyReads log.old log.new }
+    ensures failed { has_failed log.new ≡ is_err result }
+{
+    if j < DIRECT {
+        return Ok(known(sectors, entry.pointers[j as usize]));
+    }
+    if j < LISTED {
+        let list = known(sectors, entry.pointers[58]);
+        return read_number(log, sectors, list, j - DIRECT);
+    }
+    let lists = known(sectors, entry.pointers[59]);
+    let list = read_number(log, sectors, lists, (j - LISTED) / NUMBERS)?;
+    read_number(log, sectors, list, (j - LISTED) % NUMBERS)
+}
+
+/// The bytes of a part of the file, zeros where it was never written.
+pub fn read_part<D: Device>(
+    log: &mut Log<D>,
+    sectors: &Alloc,
+    entry: &Entry,
+    j: u32,
+) -> Result<[u8; 512], DeviceFault>
+    requires place { j < 16570 }
+    requires there { end_of sectors.now ≤ sectors_of log.old }
+    requires working { has_failed log.old ≡ false }
+    ensures bytes { D.honest (device_of log.old)
+        → NamesTaken (taken_of sectors.now) (view log.old) entry.now
+        → IfOk result (λ image. image
+        ≡ part_bytes (view log.old) (named (view log.old) entry.now (part j))) }
+    ensures reads { OnlyReads log.old log.new }
+    ensures failed { has_failed log.new ≡ is_err result }
+{
+    let n = sector_of_part(log, sectors, entry, j)?;
+    if n == 0 {
+        return Ok([0; 512]);
+    }
+    log.read(n)
+}

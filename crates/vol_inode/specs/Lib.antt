@@ -1,0 +1,5 @@
+pub mod Space
+pub mod Name
+pub mod Spelling
+pub mod Entry
+pub mod Writes

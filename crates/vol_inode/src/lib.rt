@@ -1,0 +1,17 @@
+//! Entries of a volume, one sector of 512 bytes each, and the space that files take.
+#![tactic(auto)]
+
+mod codec;
+mod entry;
+mod names;
+mod rules;
+mod space;
+#[cfg(test)]
+mod tests;
+mod version;
+
+pub use codec::{read_entry, write_entry};
+pub use entry::{Entry, Kind};
+pub use names::is_name;
+pub use space::need;
+pub use version::Version;

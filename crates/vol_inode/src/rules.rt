@@ -1,0 +1,66 @@
+//! The rules on one entry.
+
+ghost use Rattle.std.specs.Prelude.{◌≡◌, ◌<◌, ◌↔◌, All, IsTrue};
+ghost use Rattle.vol_inode.specs.Entry.{HasName, HasSize, HasPointers, KeepsRules, first_part};
+
+use crate::names::is_name;
+use crate::{Entry, Kind, Version};
+
+/// Whether the entry keeps the rules that its own sector shows.
+pub fn keeps_rules(version: Version, entry: &Entry) -> bool
+    ensures { IsTrue result ↔ KeepsRules version entry.now }
+{
+    has_name(entry)
+        && has_zeros(&entry.name[entry.name_length as usize..])
+        && has_size(version, entry)
+        && has_pointers(entry)
+}
+
+/// Whether the name is right.
+fn has_name(entry: &Entry) -> bool
+    ensures { IsTrue result ↔ HasName entry.now }
+{
+    if entry.parent == 0 {
+        entry.kind == Kind::Directory && entry.name_length == 0
+    } else {
+        is_name(&entry.name[..entry.name_length as usize])
+    }
+}
+
+/// Whether the bytes are zeros.
+fn has_zeros(bytes: &[u8]) -> bool
+    ensures { IsTrue result ↔ All (λ b. b ≡ 0) bytes.now }
+{
+    bytes.iter().all(|byte| *byte == 0)
+}
+
+/// Whether the size is right.
+fn has_size(version: Version, entry: &Entry) -> bool
+    ensures { IsTrue result ↔ HasSize version entry.now }
+{
+    match entry.kind {
+        Kind::Directory => entry.size == 0,
+        Kind::File => entry.size <= version.size_limit(),
+    }
+}
+
+/// Whether no pointer is set past the size.
+fn has_pointers(entry: &Entry) -> bool
+    ensures { IsTrue result ↔ HasPointers entry.now }
+{
+    let count = entry.size.div_ceil(512);
+    for (k, pointer) in entry.pointers.iter().enumerate() {
+        if *pointer != 0 && count <= first_part(k) {
+            return false;
+        }
+    }
+    true
+}
+
+/// The first part of a file that the pointer serves.
+fn first_part(k: usize) -> u32
+    requires { k < 60 }
+    ensures { result ≡ first_part k }
+{
+    if k < 59 { k as u32 } else { 186 }
+}

@@ -1,0 +1,25 @@
+//! The space that files take.
+
+ghost use Rattle.std.specs.Prelude.{◌≡◌};
+ghost use Rattle.vol_inode.specs.Space.{need_of};
+
+// How many parts of a file the entry itself names.
+const DIRECT: u32 = 58;
+
+// How many parts are named by the entry and its first pointer sector.
+const LISTED: u32 = 186;
+
+/// How many data sectors a file of this size in bytes reserves: one for each 512 bytes, and those
+/// that list them.
+pub fn need(size: u32) -> u32
+    ensures { result ≡ need_of size }
+{
+    let count = size.div_ceil(512);
+    if count <= DIRECT {
+        count
+    } else if count <= LISTED {
+        count + 1
+    } else {
+        count + 2 + (count - LISTED).div_ceil(128)
+    }
+}

@@ -1,0 +1,24 @@
+//! The versions of a volume.
+
+ghost use Rattle.std.specs.Prelude.{◌≡◌};
+
+/// The version of a volume's format. In version 2 files may be greater.
+#[derive(Clone, Copy, Debug, PartialEq, Eq)]
+pub enum Version {
+    One = 1,
+    Two = 2,
+}
+
+impl Version {
+    ghost use Rattle.vol_inode.specs.Space.{size_limit};
+
+    /// The greatest size of a file in bytes.
+    pub fn size_limit(self) -> u32
+        ensures { result ≡ size_limit self }
+    {
+        match self {
+            Version::One => 95_232,
+            Version::Two => 8_483_840,
+        }
+    }
+}

@@ -1,0 +1,98 @@
+-- The values of constant expressions.
+use Rattle.std.proofs.Common.{◌≡◌, ℕ, zero, suc, ◌+◌, ◌≤◌, List, [], ◌∷◌, ◌++◌, length, drop, Option, Some, None, refl, sym, ap, ◌∙◌, subst, inl, inr, append_assoc, append-nil, get_or}
+use Rattle.std.specs.Prelude.{slice_get, ◌⊎◌}
+use Rattle.std.specs.List.{AllByRecursion, filter_map, cons_option}
+use Rattle.wasm_module.specs.declared.instruction.ValueType.{ValueType}
+use Rattle.wasm_module.specs.declared.instruction.ValueType.TheVariants.{I32, I64}
+use Rattle.wasm_module.specs.declared.instruction.Instruction.{Instruction}
+use Rattle.wasm_module.specs.declared.instruction.Instruction.TheVariants as op
+use Rattle.wasm_module.specs.declared.module.GlobalType.{GlobalType}
+use Rattle.wasm_module.specs.declared.module.GlobalEntry.{GlobalEntry}
+use Rattle.wasm_module.specs.declared.module.Import.{Import}
+use Rattle.wasm_module.specs.declared.module.Module.{Module}
+use Rattle.wasm_valid.specs.Validity.{IsValid, imported_global, kinds_of, IsConstant}
+use Rattle.wasm_store.specs.Values.{Val, val, number_of, numbers}
+use Rattle.wasm_store.specs.Instantiation.{constant_value, segment_start, AreFirst}
+use Rattle.wasm_store.specs.Instantiating.{IsFunction, ImportsFunctions, HaveFirst}
+use Rattle.wasm_store.proofs.Functions.{left_from, nothing_left, each_at, kind_of_function}
+
+-- ---- one expression
+
+-- an i32 constant
+pub start_i32 : (gs : List Val) (code : List Instruction) (n : ℕ) → slice_get code 0 ≡ Some (op.I32Const n) → n ≡ segment_start gs code
+start_i32 gs [] n e = cc
+start_i32 gs (i ∷ rest) n e = let f : op.I32Const n ≡ i = cc in ap (λ y. segment_start gs (y ∷ rest)) f
+
+-- an i64 constant
+pub start_i64 : (gs : List Val) (code : List Instruction) (n : ℕ) → slice_get code 0 ≡ Some (op.I64Const n) → n ≡ segment_start gs code
+start_i64 gs [] n e = cc
+start_i64 gs (i ∷ rest) n e = let f : op.I64Const n ≡ i = cc in ap (λ y. segment_start gs (y ∷ rest)) f
+
+-- the number of a global
+number_at : (gs : List Val) (x : ℕ) → get_or (numbers gs) x 0 ≡ elim (slice_get gs x) [ None ↦ 0 | Some v ↦ number_of v ]
+number_at [] x = refl
+number_at (v ∷ vs) zero = refl
+number_at (v ∷ vs) (suc x) = number_at vs x
+
+-- a global
+pub start_global : (gs : List Val) (numbers_are : List ℕ) (code : List Instruction) (x : ℕ) → slice_get code 0 ≡ Some (op.GlobalGet x) → numbers gs ≡ numbers_are → get_or numbers_are x 0 ≡ segment_start gs code
+start_global gs ns [] x e n = cc
+start_global gs ns (i ∷ rest) x e n =
+    let f : op.GlobalGet x ≡ i = cc in
+    ap (λ y. get_or y x 0) (sym n) ∙ number_at gs x ∙ ap (λ y. segment_start gs (y ∷ rest)) f
+
+-- no expression
+pub start_nothing : (gs : List Val) (code : List Instruction) → slice_get code 0 ≡ None → 0 ≡ segment_start gs code
+start_nothing gs [] e = refl
+start_nothing gs (i ∷ rest) e = cc
+
+-- ---- the globals' first values
+
+-- functions alone are imported, so no globals are
+no_globals : (is : List Import) → AllByRecursion (λ i. IsFunction i.kind) is → filter_map imported_global (kinds_of is) ≡ []
+no_globals [] a = refl
+no_globals (i ∷ is) a =
+    let f = kind_of_function i.kind a.0 in
+    ap (λ y. cons_option (imported_global y) (filter_map imported_global (kinds_of is))) f.1 ∙ no_globals is a.1
+
+-- a constant without globals has a value
+literal : (t : ValueType) (code : List Instruction) (gs : List GlobalType) → gs ≡ [] → IsConstant gs t code → (v : Val) × (constant_value [] code ≡ Some v)
+literal t code gs e (inl c) = (val I32 c.0, ap (constant_value []) c.2)
+literal t code gs e (inr (inl c)) = (val I64 c.0, ap (constant_value []) c.2)
+literal t code gs e (inr (inr c)) = let f : slice_get [] c.0 ≡ Some _ = ap (λ y. slice_get y c.0) (sym e) ∙ c.1 in cc
+
+-- each global's first value
+pub first_literal : (m : Module) (k : ℕ) (g : GlobalEntry) → IsValid m → ImportsFunctions m → slice_get m.globals k ≡ Some g → (v : Val) × (constant_value [] g.init ≡ Some v)
+first_literal m k g v a e =
+    literal g.global_type.value_type g.init (filter_map imported_global (kinds_of m.imports)) (no_globals m.imports a)
+    (each_at (λ (y : GlobalEntry). IsConstant (filter_map imported_global (kinds_of m.imports)) y.global_type.value_type y.init) m.globals k g v.globals e)
+
+-- its number, where there are no globals
+pub literal_number : (code : List Instruction) (v : Val) → constant_value [] code ≡ Some v → segment_start [] code ≡ number_of v
+literal_number code v e = ap (λ (o : Option Val). elim o as (λ _. ℕ) [ None ↦ 0 | Some w ↦ number_of w ]) e
+
+module _ (m : Module) where
+  -- if the globals that are left have first values, all have
+  pub record FirstTo (k : ℕ) (globals : List ℕ) : Type 0 where
+    pub goes_on : (more : List Val) → AreFirst (drop k m.globals) more → HaveFirst m (globals ++ numbers more)
+
+  -- before the first global
+  pub first_none : FirstTo 0 []
+  first_none = record { goes_on = λ more a. record { values = more; are_first = a; numbers_are = refl } }
+
+  -- a global more
+  pub first_next : (k : ℕ) (globals : List ℕ) (g : GlobalEntry) (n : ℕ) → IsValid m → ImportsFunctions m → slice_get m.globals k ≡ Some g → n ≡ segment_start [] g.init → FirstTo k globals → FirstTo (k + 1) (globals ++ n ∷ [])
+  first_next k globals g n v a e s f =
+      let left = left_from m.globals k g e in
+      let l = first_literal m k g v a e in
+      let number : n ≡ number_of l.0 = s ∙ literal_number g.init l.0 l.1 in
+      record {
+        goes_on = λ more r.
+            subst (HaveFirst m) (ap (λ y. globals ++ y ∷ numbers more) (sym number) ∙ sym (append_assoc globals (n ∷ []) (numbers more)))
+            (f.goes_on (l.0 ∷ more) (subst (λ y. AreFirst y (l.0 ∷ more)) (sym left) (l.1, r)));
+      }
+
+  -- at the end all have
+  pub first_all : (k : ℕ) (globals : List ℕ) → length m.globals ≤ k → FirstTo k globals → HaveFirst m globals
+  first_all k globals l f =
+      subst (HaveFirst m) (append-nil globals) (f.goes_on [] (subst (λ y. AreFirst y []) (sym (nothing_left m.globals k l)) tt))

@@ -1,0 +1,26 @@
+-- Values (section 4.2.1).
+use Rattle.std.specs.Prelude.{ℕ, List, [], ◌∷◌}
+use Rattle.wasm_module.specs.declared.instruction.ValueType.{ValueType}
+
+-- a value: its type, and a number below 2 ^ the type's width
+pub data Val : Type 0 where
+  val : ValueType → ℕ → Val
+
+abbrev pub number_of : Val → ℕ
+number_of (val t n) = n
+
+abbrev pub numbers : List Val → List ℕ
+numbers [] = []
+numbers (v ∷ vs) = number_of v ∷ numbers vs
+
+abbrev pub type_of : Val → ValueType
+type_of (val t n) = t
+
+abbrev pub types : List Val → List ValueType
+types [] = []
+types (v ∷ vs) = type_of v ∷ types vs
+
+-- 0 of each type
+abbrev pub zeros : List ValueType → List Val
+zeros [] = []
+zeros (t ∷ ts) = val t 0 ∷ zeros ts

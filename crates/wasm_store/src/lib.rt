@@ -1,0 +1,20 @@
+//! What a WebAssembly instance holds, and how a valid module is instantiated over a host.
+#![tactic(auto)]
+
+mod call;
+mod fault;
+mod globals;
+mod host;
+mod instantiation;
+mod memory;
+mod table;
+#[cfg(test)]
+mod tests;
+
+pub use call::{Answer, Errno, HostCall};
+pub use fault::InstanceFault;
+pub use globals::Globals;
+pub use host::Host;
+pub use instantiation::{Instantiated, instantiate};
+pub use memory::{Memory, PAGE_SIZE};
+pub use table::Table;

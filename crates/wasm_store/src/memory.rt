@@ -1,0 +1,219 @@
+//! The memory of a guest.
+
+use byteorder::{ByteOrder, LittleEndian};
+use std::alloc::{AllocError, Global};
+use std::marker::Model;
+
+/// Bytes of a page (section 4.2.8).
+pub const PAGE_SIZE: usize = 65_536;
+
+/// The bytes of a guest's memory (section 4.2.8), which every contract sees as a list.
+///
+/// A load and a store have a base and an offset, whose sum doesn't wrap.
+#[derive(Debug, Drop)]
+pub struct Memory {
+    bytes: Vec<u8>,
+}
+
+impl Model for Memory {
+    ghost use Rattle.std.specs.Prelude.{ℕ, List};
+
+    ghost Value = { List ℕ };
+
+    ghost view = { λ m. m.bytes.items };
+}
+
+impl Memory {
+    ghost use Rattle.std.specs.Prelude.{◌≡◌, ℕ, ◌+◌, ◌*◌, ◌/◌, ◌<◌, ◌≤◌, ◌⊎◌, ◌++◌, length, replicate, IfOk, IsSome, IfSome, IfNone, IsTrue, ◌↔◌};
+    ghost use Rattle.std.specs.Bool.{OnTrue, OnFalse};
+    ghost use Rattle.std.specs.Borrow.{sem};
+    ghost use Rattle.wasm_store.specs.Bytes.{from_bytes, to_bytes, bytes_at, written};
+    ghost use Rattle.wasm_store.specs.Lending.{LendsPart};
+
+    /// Memory of so many pages of 65,536 bytes, all zeros.
+    pub fn new(alloc: Global, pages: u32) -> Result<Memory, AllocError>
+        ensures { IfOk result (λ m. m ≡ replicate (pages * 65536) 0) }
+    {
+        Ok(Memory {
+            bytes: vec![in alloc; 0; pages as usize * PAGE_SIZE]?,
+        })
+    }
+
+    /// How many bytes there are.
+    pub fn len(&self) -> usize
+        ensures { result ≡ length self.now }
+    {
+        self.bytes.as_slice().len()
+    }
+
+    /// So many bytes from an address, where they are in memory.
+    pub fn slice(&self, address: u32, len: u32) -> Option<&[u8]>
+        ensures inside { IfSome result (λ s. (address + len ≤ length self.now) × (s.now ≡ bytes_at self.now address len)) }
+        ensures outside { IfNone result (length self.now < address + len) }
+    {
+        self.access(address, 0, len)
+    }
+
+    /// Whether so many bytes from an address are in memory, also where there are none of them.
+    pub fn has_range(&self, address: u32, len: u32) -> bool
+        ensures { IsTrue result ↔ (address + len ≤ length self.now) }
+    {
+        address as usize + len as usize <= self.bytes.len()
+    }
+
+    /// So many bytes from an address, to be written. `has_range` says whether they are in memory.
+    pub fn slice_mut(&mut self, address: u32, len: u32) -> &mut [u8]
+        requires { address + len ≤ length self.old }
+        ensures* writes_back { sem 𝓛 (LendsPart self.entry address result) }
+        ensures value { result.now ≡ bytes_at self.old address len }
+    {
+        let start = address as usize;
+        self.bytes.slice_mut(start..start + len as usize)
+    }
+
+    /// Writes these bytes from an address on, or nothing where they would pass the end.
+    pub fn write(&mut self, address: u32, bytes: &[u8]) -> bool
+        ensures inside { OnTrue result ((address + length bytes.now ≤ length self.old) × (self.new ≡ written self.old address bytes.now)) }
+        ensures outside { OnFalse result ((length self.old < address + length bytes.now) × (self.new ≡ self.old)) }
+    {
+        self.put(address as usize, bytes)
+    }
+
+    /// Writes these bytes from a place on, or nothing where they would pass the end.
+    pub(crate) fn put(&mut self, start: usize, bytes: &[u8]) -> bool
+        ensures inside { OnTrue result ((start + length bytes.now ≤ length self.old) × (self.new ≡ written self.old start bytes.now)) }
+        ensures outside { OnFalse result ((length self.old < start + length bytes.now) × (self.new ≡ self.old)) }
+    {
+        let len = bytes.len();
+        if self.bytes.len() < len || self.bytes.len() - len < start {
+            return false;
+        }
+        self.bytes.as_mut_slice()[start..start + len].copy_from_slice(bytes);
+        true
+    }
+
+    /// So many bytes from a base and an offset.
+    fn access(&self, base: u32, offset: u32, len: u32) -> Option<&[u8]>
+        ensures inside { IfSome result (λ s. (base + offset + len ≤ length self.now) × (s.now ≡ bytes_at self.now (base + offset) len)) }
+        ensures outside { IfNone result (length self.now < base + offset + len) }
+    {
+        let start = base as usize + offset as usize;
+        self.bytes.get(start..start + len as usize)
+    }
+
+    /// The byte at a base and an offset (section 4.4.4), where it is in memory.
+    pub fn load_u8(&self, base: u32, offset: u32) -> Option<u8>
+        ensures inside { IfSome result (λ x. (base + offset + 1 ≤ length self.now) × (x ≡ from_bytes (bytes_at self.now (base + offset) 1))) }
+        ensures outside { IfNone result (length self.now < base + offset + 1) }
+    {
+        let bytes = self.access(base, offset, 1)?;
+        Some(bytes[0])
+    }
+
+    /// The number of 2 bytes from a base and an offset (section 4.4.4), where they are in memory.
+    pub fn load_u16(&self, base: u32, offset: u32) -> Option<u16>
+        ensures inside { IfSome result (λ x. (base + offset + 2 ≤ length self.now) × (x ≡ from_bytes (bytes_at self.now (base + offset) 2))) }
+        ensures outside { IfNone result (length self.now < base + offset + 2) }
+    {
+        let bytes = self.access(base, offset, 2)?;
+        Some(LittleEndian::read_u16(bytes))
+    }
+
+    /// The number of 4 bytes from a base and an offset (section 4.4.4), where they are in memory.
+    pub fn load_u32(&self, base: u32, offset: u32) -> Option<u32>
+        ensures inside { IfSome result (λ x. (base + offset + 4 ≤ length self.now) × (x ≡ from_bytes (bytes_at self.now (base + offset) 4))) }
+        ensures outside { IfNone result (length self.now < base + offset + 4) }
+    {
+        let bytes = self.access(base, offset, 4)?;
+        Some(LittleEndian::read_u32(bytes))
+    }
+
+    /// The number of 8 bytes from a base and an offset (section 4.4.4), where they are in memory.
+    pub fn load_u64(&self, base: u32, offset: u32) -> Option<u64>
+        ensures inside { IfSome result (λ x. (base + offset + 8 ≤ length self.now) × (x ≡ from_bytes (bytes_at self.now (base + offset) 8))) }
+        ensures outside { IfNone result (length self.now < base + offset + 8) }
+    {
+        let bytes = self.access(base, offset, 8)?;
+        Some(LittleEndian::read_u64(bytes))
+    }
+
+    /// Stores a byte at a base and an offset (section 4.4.4), or nothing where it would pass the end.
+    pub fn store_u8(&mut self, base: u32, offset: u32, value: u8) -> bool
+        ensures inside { OnTrue result ((base + offset + 1 ≤ length self.old) × (self.new ≡ written self.old (base + offset) (to_bytes 1 value))) }
+        ensures outside { OnFalse result ((length self.old < base + offset + 1) × (self.new ≡ self.old)) }
+    {
+        self.put(base as usize + offset as usize, &[value])
+    }
+
+    /// Stores 2 bytes from a base and an offset on (section 4.4.4), or nothing where they would pass the end.
+    pub fn store_u16(&mut self, base: u32, offset: u32, value: u16) -> bool
+        ensures inside { OnTrue result ((base + offset + 2 ≤ length self.old) × (self.new ≡ written self.old (base + offset) (to_bytes 2 value))) }
+        ensures outside { OnFalse result ((length self.old < base + offset + 2) × (self.new ≡ self.old)) }
+    {
+        self.put(base as usize + offset as usize, &u16::to_le_bytes(value))
+    }
+
+    /// Stores 4 bytes from a base and an offset on (section 4.4.4), or nothing where they would pass the end.
+    pub fn store_u32(&mut self, base: u32, offset: u32, value: u32) -> bool
+        ensures inside { OnTrue result ((base + offset + 4 ≤ length self.old) × (self.new ≡ written self.old (base + offset) (to_bytes 4 value))) }
+        ensures outside { OnFalse result ((length self.old < base + offset + 4) × (self.new ≡ self.old)) }
+    {
+        self.put(base as usize + offset as usize, &u32::to_le_bytes(value))
+    }
+
+    /// Stores 8 bytes from a base and an offset on (section 4.4.4), or nothing where they would pass the end.
+    pub fn store_u64(&mut self, base: u32, offset: u32, value: u64) -> bool
+        ensures inside { OnTrue result ((base + offset + 8 ≤ length self.old) × (self.new ≡ written self.old (base + offset) (to_bytes 8 value))) }
+        ensures outside { OnFalse result ((length self.old < base + offset + 8) × (self.new ≡ self.old)) }
+    {
+        self.put(base as usize + offset as usize, &u64::to_le_bytes(value))
+    }
+
+    /// Grows by so many pages of zeros, to at most `limit` pages, and gives the pages before (section 4.4.4). Past the
+    /// limit, or where memory is refused, nothing changes.
+    pub fn grow(&mut self, pages: u32, limit: u32) -> Option<u32>
+        ensures grown { IfSome result (λ before. (before ≡ length self.old / 65536) × (before + pages ≤ limit) × (self.new ≡ self.old ++ replicate (pages * 65536) 0)) }
+        ensures refused { IfNone result (self.new ≡ self.old) }
+
+        // To grow by nothing takes no memory.
+        ensures nothing { pages ≡ 0 → length self.old / 65536 ≤ limit → IsSome result }
+    {
+        let before = self.bytes.len() / PAGE_SIZE;
+        let added = pages as usize;
+        let limit = limit as usize;
+        if limit < added || limit - added < before {
+            return None;
+        }
+        let more = added * PAGE_SIZE;
+        self.bytes.reserve_exact(more).ok()?;
+        self.bytes.resize(self.bytes.len() + more, 0).ok()?;
+        Some(before as u32)
+    }
+
+    /// Copies so many bytes from one address to another, as if all were read first (`memory.copy`), or nothing where
+    /// either range passes the end.
+    pub fn copy(&mut self, target: u32, source: u32, len: u32) -> bool
+        ensures inside { OnTrue result ((source + len ≤ length self.old) × (target + len ≤ length self.old) × (self.new ≡ written self.old target (bytes_at self.old source len))) }
+        ensures outside { OnFalse result (((length self.old < source + len) ⊎ (length self.old < target + len)) × (self.new ≡ self.old)) }
+    {
+        let (target, source, len) = (target as usize, source as usize, len as usize);
+        if self.bytes.len() < source + len || self.bytes.len() < target + len {
+            return false;
+        }
+        self.bytes.copy_within(source..source + len, target);
+        true
+    }
+
+    /// Writes a byte so many times from an address on (`memory.fill`), or nothing where they would pass the end.
+    pub fn fill(&mut self, target: u32, value: u8, len: u32) -> bool
+        ensures inside { OnTrue result ((target + len ≤ length self.old) × (self.new ≡ written self.old target (replicate len value))) }
+        ensures outside { OnFalse result ((length self.old < target + len) × (self.new ≡ self.old)) }
+    {
+        let (start, len) = (target as usize, len as usize);
+        if self.bytes.len() < start + len {
+            return false;
+        }
+        self.bytes.as_mut_slice()[start..start + len].fill(value);
+        true
+    }
+}
