@@ -1,5 +1,5 @@
 -- The map from numbers to descriptors.
-use Rattle.std.specs.Prelude.{◌≡◌, ◌==◌, ℕ, Option, Some, None, List, slice_index_or, if◌then◌else◌}
+use Rattle.std.specs.Prelude.{◌≡◌, ◌==◌, ℕ, Option, Some, None, slice_index_or, if◌then◌else◌}
 use Rattle.wasi_fd.specs.Rights.{bits_of}
 use Rattle.wasi_fd.specs.declared.descriptor.Stream.{Stream as StreamValue}
 use Rattle.wasi_fd.specs.declared.descriptor.Stream.TheVariants.{Input, Output, Error}
