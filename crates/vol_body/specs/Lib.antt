@@ -1,2 +1,3 @@
 pub mod Body
 pub mod Reading
+pub mod Change
