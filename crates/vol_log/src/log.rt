@@ -5,7 +5,7 @@ ghost use Rattle.std.specs.Prelude.{List, [], Bool, false, true};
 ghost use Rattle.std.specs.Prelude.{length, OnOk, OnErr, IfOk, IfErr, IsOk, IsErr, is_err};
 ghost use Rattle.std.specs.Prelude.{if◌then◌else◌};
 ghost use Rattle.std.specs.Prelude.{vec_len, vec_capacity};
-ghost use Rattle.vol_sector.specs.Disk.{Image, Leaves, put, counted, AtMostOneMore};
+ghost use Rattle.vol_sector.specs.Disk.{Image, Leaves, put, counted, OneMoreOrSame};
 ghost use Rattle.vol_sector.specs.Fault.{is_device};
 ghost use Rattle.vol_log.specs.Header.{Places};
 ghost use Rattle.vol_log.specs.Index.{IsIndex};
@@ -129,7 +129,7 @@ impl<D: Device> Log<D> {
         ensures crash { D.honest (device_of self.old)
             → Leaves (D.disk (device_of self.old)) (D.disk (device_of self.new)) (λ c. ⊥) }
         ensures moment { D.honest (device_of self.old)
-            → AtMostOneMore (D.disk (device_of self.old)) (D.disk (device_of self.new)) }
+            → OneMoreOrSame (D.disk (device_of self.old)) (D.disk (device_of self.new)) }
         ensures failed { has_failed self.new ≡ is_err result }
         ensures idle { has_failed self.old ≡ true
             → (device_of self.new ≡ device_of self.old) × IsErr result }

@@ -1,5 +1,5 @@
 -- What a disk of sectors may give and leave.
-use Rattle.std.specs.Prelude.{◌≡◌, ◌⊎◌, ◌+◌, ◌-◌, ◌^◌, ◌≤◌, ◌==◌, ℕ, List, Bool, min, if◌then◌else◌}
+use Rattle.std.specs.Prelude.{◌≡◌, ◌↔◌, ◌⊎◌, ◌+◌, ◌-◌, ◌^◌, ◌≤◌, ◌==◌, ℕ, List, Bool, min, if◌then◌else◌}
 
 -- the bytes of each sector
 abbrev pub Image : Type 0
@@ -9,8 +9,8 @@ Image = ℕ → List ℕ
 abbrev pub put : ℕ → List ℕ → Image → Image
 put n bytes image k = if k == n then bytes else image k
 
--- What is known of a disk at one moment. A moment is a count of the operations tried. It need not count the reads and
--- the failed operations, which change nothing that a crash leaves: no device has a count of them without an end.
+-- What is known of a disk at one moment. A moment is a count of the operations tried. Of those that leave the disk as it is,
+-- reads and failed operations among them, it may count none: no device has a count of them without an end.
 pub record Disk : Type 1 where
   -- what reads give
   pub seen : Image
@@ -47,13 +47,20 @@ pub record Leaves (old new : Disk) (P : Image → Type 0) : Type 0 where
 abbrev pub Keeps : Disk → Disk → Type 0
 Keeps old new = (t : ℕ) (c : Image) → t ≤ old.moment → old.left_since t c → new.left_since t c
 
--- one operation counts as one moment at most
-abbrev pub AtMostOneMore : Disk → Disk → Type 0
-AtMostOneMore old new = new.moment ≤ old.moment + 1
-
 -- one operation counted as one moment
 abbrev pub OneMore : Disk → Disk → Type 0
 OneMore old new = new.moment ≡ old.moment + 1
+
+-- the disk is as it was
+pub record IsAsBefore (old new : Disk) : Type 0 where
+  pub seen : new.seen ≡ old.seen
+  pub moment : new.moment ≡ old.moment
+  pub now : (c : Image) → new.may_leave c ↔ old.may_leave c
+  pub since : (t : ℕ) (c : Image) → new.left_since t c ↔ old.left_since t c
+
+-- an operation counted as one moment, or left the disk as it was
+abbrev pub OneMoreOrSame : Disk → Disk → Type 0
+OneMoreOrSame old new = OneMore old new ⊎ IsAsBefore old new
 
 -- the count of failed operations after one more, where it has room for it
 abbrev pub counted : Bool → ℕ → ℕ

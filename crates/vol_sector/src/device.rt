@@ -2,7 +2,7 @@
 
 ghost use Rattle.std.specs.Prelude.{◌≡◌, ◌⊎◌, ◌≤◌, ◌<◌, ◌↔◌, List, ℕ, IfOk, OnOk, OnErr, is_err};
 ghost use Rattle.vol_sector.specs.Disk.{Image, Disk, put, After, Stays, Wrote, Only, Leaves, Keeps};
-ghost use Rattle.vol_sector.specs.Disk.{counted, AtMostOneMore, OneMore};
+ghost use Rattle.vol_sector.specs.Disk.{counted, OneMoreOrSame, OneMore};
 
 use thiserror::Error;
 
@@ -45,7 +45,7 @@ pub trait Device {
         ensures seen { honest self.old → (disk self.new).seen ≡ (disk self.old).seen }
         ensures crash { honest self.old → Leaves (disk self.old) (disk self.new) (λ c. ⊥) }
         ensures keeps { honest self.old → Keeps (disk self.old) (disk self.new) }
-        ensures moment { honest self.old → AtMostOneMore (disk self.old) (disk self.new) }
+        ensures moment { honest self.old → OneMoreOrSame (disk self.old) (disk self.new) }
         ensures honest { honest self.old ↔ honest self.new }
         ensures size { size self.new ≡ size self.old }
         ensures faults { faults self.new ≡ counted (is_err result) (faults self.old) };
@@ -61,7 +61,7 @@ pub trait Device {
         ensures crash { honest self.old → Leaves (disk self.old) (disk self.new)
             (After (Wrote n image.now) (disk self.old).may_leave) }
         ensures keeps { honest self.old → Keeps (disk self.old) (disk self.new) }
-        ensures moment { honest self.old → AtMostOneMore (disk self.old) (disk self.new) }
+        ensures moment { honest self.old → OneMoreOrSame (disk self.old) (disk self.new) }
         ensures rises { honest self.old → OnOk result (OneMore (disk self.old) (disk self.new)) }
         ensures honest { honest self.old ↔ honest self.new }
         ensures size { size self.new ≡ size self.old }
@@ -74,7 +74,7 @@ pub trait Device {
         ensures seen { honest self.old → (disk self.new).seen ≡ (disk self.old).seen }
         ensures crash { honest self.old → Leaves (disk self.old) (disk self.new) (λ c. ⊥) }
         ensures keeps { honest self.old → Keeps (disk self.old) (disk self.new) }
-        ensures moment { honest self.old → AtMostOneMore (disk self.old) (disk self.new) }
+        ensures moment { honest self.old → OneMoreOrSame (disk self.old) (disk self.new) }
         ensures rises { honest self.old → OnOk result (OneMore (disk self.old) (disk self.new)) }
         ensures honest { honest self.old ↔ honest self.new }
         ensures size { size self.new ≡ size self.old }

@@ -61,7 +61,7 @@ impl<D: Device> FlakyDevice<D> {
 impl<D: Device> Device for FlakyDevice<D> {
     ghost use Rattle.std.specs.Prelude.{◌≢◌, ◌≤◌, List, IfOk, OnOk, IsErr, is_err};
     ghost use Rattle.vol_sector.specs.Disk.{Image, put, After, Wrote, Only, Leaves, Keeps};
-    ghost use Rattle.vol_sector.specs.Disk.{AtMostOneMore, OneMore, both_counts};
+    ghost use Rattle.vol_sector.specs.Disk.{OneMoreOrSame, OneMore, both_counts};
     ghost use Rattle.vol_sector.specs.Flaky.{device_of, until_of, failures_of};
 
     ghost disk = { λ f. D.disk f.device };
@@ -97,7 +97,7 @@ impl<D: Device> Device for FlakyDevice<D> {
         ensures keeps { D.honest (device_of self.old)
             → Keeps (D.disk (device_of self.old)) (D.disk (device_of self.new)) }
         ensures moment { D.honest (device_of self.old)
-            → AtMostOneMore (D.disk (device_of self.old)) (D.disk (device_of self.new)) }
+            → OneMoreOrSame (D.disk (device_of self.old)) (D.disk (device_of self.new)) }
         ensures honest { D.honest (device_of self.old) ↔ D.honest (device_of self.new) }
         ensures size { D.size (device_of self.new) ≡ D.size (device_of self.old) }
         ensures faults { both_counts (D.faults (device_of self.new)) (failures_of self.new)
@@ -130,7 +130,7 @@ impl<D: Device> Device for FlakyDevice<D> {
         ensures keeps { D.honest (device_of self.old)
             → Keeps (D.disk (device_of self.old)) (D.disk (device_of self.new)) }
         ensures moment { D.honest (device_of self.old)
-            → AtMostOneMore (D.disk (device_of self.old)) (D.disk (device_of self.new)) }
+            → OneMoreOrSame (D.disk (device_of self.old)) (D.disk (device_of self.new)) }
         ensures rises { D.honest (device_of self.old)
             → OnOk result (OneMore (D.disk (device_of self.old)) (D.disk (device_of self.new))) }
         ensures honest { D.honest (device_of self.old) ↔ D.honest (device_of self.new) }
@@ -162,7 +162,7 @@ impl<D: Device> Device for FlakyDevice<D> {
         ensures keeps { D.honest (device_of self.old)
             → Keeps (D.disk (device_of self.old)) (D.disk (device_of self.new)) }
         ensures moment { D.honest (device_of self.old)
-            → AtMostOneMore (D.disk (device_of self.old)) (D.disk (device_of self.new)) }
+            → OneMoreOrSame (D.disk (device_of self.old)) (D.disk (device_of self.new)) }
         ensures rises { D.honest (device_of self.old)
             → OnOk result (OneMore (D.disk (device_of self.old)) (D.disk (device_of self.new))) }
         ensures honest { D.honest (device_of self.old) ↔ D.honest (device_of self.new) }

@@ -62,7 +62,7 @@ impl<D: Device> FuseDevice<D> {
 impl<D: Device> Device for FuseDevice<D> {
     ghost use Rattle.std.specs.Prelude.{◌≢◌, ◌≤◌, List, IfOk, OnOk, IsErr, is_err};
     ghost use Rattle.vol_sector.specs.Disk.{Image, put, After, Wrote, Only, Leaves, Keeps};
-    ghost use Rattle.vol_sector.specs.Disk.{AtMostOneMore, OneMore, both_counts};
+    ghost use Rattle.vol_sector.specs.Disk.{OneMoreOrSame, OneMore, both_counts};
     ghost use Rattle.vol_sector.specs.Fuse.{device_of, left_of, failures_of};
 
     ghost disk = { λ f. D.disk f.device };
@@ -98,7 +98,7 @@ impl<D: Device> Device for FuseDevice<D> {
         ensures keeps { D.honest (device_of self.old)
             → Keeps (D.disk (device_of self.old)) (D.disk (device_of self.new)) }
         ensures moment { D.honest (device_of self.old)
-            → AtMostOneMore (D.disk (device_of self.old)) (D.disk (device_of self.new)) }
+            → OneMoreOrSame (D.disk (device_of self.old)) (D.disk (device_of self.new)) }
         ensures honest { D.honest (device_of self.old) ↔ D.honest (device_of self.new) }
         ensures size { D.size (device_of self.new) ≡ D.size (device_of self.old) }
         ensures faults { both_counts (D.faults (device_of self.new)) (failures_of self.new)
@@ -131,7 +131,7 @@ impl<D: Device> Device for FuseDevice<D> {
         ensures keeps { D.honest (device_of self.old)
             → Keeps (D.disk (device_of self.old)) (D.disk (device_of self.new)) }
         ensures moment { D.honest (device_of self.old)
-            → AtMostOneMore (D.disk (device_of self.old)) (D.disk (device_of self.new)) }
+            → OneMoreOrSame (D.disk (device_of self.old)) (D.disk (device_of self.new)) }
         ensures rises { D.honest (device_of self.old)
             → OnOk result (OneMore (D.disk (device_of self.old)) (D.disk (device_of self.new))) }
         ensures honest { D.honest (device_of self.old) ↔ D.honest (device_of self.new) }
@@ -163,7 +163,7 @@ impl<D: Device> Device for FuseDevice<D> {
         ensures keeps { D.honest (device_of self.old)
             → Keeps (D.disk (device_of self.old)) (D.disk (device_of self.new)) }
         ensures moment { D.honest (device_of self.old)
-            → AtMostOneMore (D.disk (device_of self.old)) (D.disk (device_of self.new)) }
+            → OneMoreOrSame (D.disk (device_of self.old)) (D.disk (device_of self.new)) }
         ensures rises { D.honest (device_of self.old)
             → OnOk result (OneMore (D.disk (device_of self.old)) (D.disk (device_of self.new))) }
         ensures honest { D.honest (device_of self.old) ↔ D.honest (device_of self.new) }

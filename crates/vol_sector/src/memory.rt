@@ -180,7 +180,7 @@ fn choice(first: &[u8; 512], operations: &[Operation], n: u32, pick: u32) -> [u8
 impl Device for MemoryDevice {
     ghost use Rattle.std.specs.Prelude.{◌⊎◌, ◌↔◌, ◌++◌, OnOk, OnErr, IsOk, IsErr, is_err};
     ghost use Rattle.vol_sector.specs.Disk.{put, After, Wrote, Only, Leaves, Keeps};
-    ghost use Rattle.vol_sector.specs.Disk.{counted, AtMostOneMore, OneMore};
+    ghost use Rattle.vol_sector.specs.Disk.{counted, OneMoreOrSame, OneMore};
     ghost use Rattle.vol_sector.specs.Memory.{first_of, record_of, room_of, sectors_of};
     ghost use Rattle.vol_sector.specs.Memory.{failures_of, disk_of};
     ghost use Rattle.vol_sector.specs.declared.record.Operation.TheVariants.{Write, Sync};
@@ -215,7 +215,7 @@ impl Device for MemoryDevice {
         ensures seen { Unit {0} → (disk_of self.new).seen ≡ (disk_of self.old).seen }
         ensures crash { Unit {0} → Leaves (disk_of self.old) (disk_of self.new) (λ c. ⊥) }
         ensures keeps { Unit {0} → Keeps (disk_of self.old) (disk_of self.new) }
-        ensures moment { Unit {0} → AtMostOneMore (disk_of self.old) (disk_of self.new) }
+        ensures moment { Unit {0} → OneMoreOrSame (disk_of self.old) (disk_of self.new) }
         ensures honest { Unit {0} ↔ Unit {0} }
         ensures size { sectors_of self.new ≡ sectors_of self.old }
         ensures faults { failures_of self.new ≡ counted (is_err result) (failures_of self.old) }
@@ -234,7 +234,7 @@ impl Device for MemoryDevice {
         ensures crash { Unit {0} → Leaves (disk_of self.old) (disk_of self.new)
             (After (Wrote n image.now) (disk_of self.old).may_leave) }
         ensures keeps { Unit {0} → Keeps (disk_of self.old) (disk_of self.new) }
-        ensures moment { Unit {0} → AtMostOneMore (disk_of self.old) (disk_of self.new) }
+        ensures moment { Unit {0} → OneMoreOrSame (disk_of self.old) (disk_of self.new) }
         ensures rises { Unit {0} → OnOk result (OneMore (disk_of self.old) (disk_of self.new)) }
         ensures honest { Unit {0} ↔ Unit {0} }
         ensures size { sectors_of self.new ≡ sectors_of self.old }
@@ -269,7 +269,7 @@ impl Device for MemoryDevice {
         ensures seen { Unit {0} → (disk_of self.new).seen ≡ (disk_of self.old).seen }
         ensures crash { Unit {0} → Leaves (disk_of self.old) (disk_of self.new) (λ c. ⊥) }
         ensures keeps { Unit {0} → Keeps (disk_of self.old) (disk_of self.new) }
-        ensures moment { Unit {0} → AtMostOneMore (disk_of self.old) (disk_of self.new) }
+        ensures moment { Unit {0} → OneMoreOrSame (disk_of self.old) (disk_of self.new) }
         ensures rises { Unit {0} → OnOk result (OneMore (disk_of self.old) (disk_of self.new)) }
         ensures honest { Unit {0} ↔ Unit {0} }
         ensures size { sectors_of self.new ≡ sectors_of self.old }

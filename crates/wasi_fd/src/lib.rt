@@ -1,0 +1,14 @@
+//! The descriptors of a guest: a map from numbers to streams and to open entries of a volume.
+#![tactic(auto)]
+
+mod descriptor;
+mod fault;
+mod rights;
+mod table;
+#[cfg(test)]
+mod tests;
+
+pub use descriptor::{Descriptor, EntryKind, Opened, Stream};
+pub use fault::DescriptorFault;
+pub use rights::Rights;
+pub use table::{Descriptors, PLACES};
