@@ -4,3 +4,7 @@ pub mod Parts
 pub mod Same
 pub mod Needed
 pub mod Grown
+pub mod Changes
+pub mod Listed
+pub mod OneMore
+pub mod Space
