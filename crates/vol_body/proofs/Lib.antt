@@ -5,3 +5,5 @@ pub mod Same
 pub mod Needed
 pub mod Grown
 pub mod Changes
+pub mod Listed
+pub mod OneMore

@@ -1,5 +1,6 @@
 -- What a file names, without its bytes.
-use Rattle.std.specs.Prelude.{◌≡◌, ◌≢◌, ◌≤◌, ◌<◌, ℕ}
+use Rattle.std.specs.Prelude.{◌≡◌, ◌≢◌, ◌≤◌, ◌<◌, ◌*◌, ℕ, drop, slice_index}
+use Rattle.byteorder.specs.Endian.{little_number}
 use Rattle.vol_sector.specs.Disk.{Image}
 use Rattle.vol_inode.specs.declared.entry.Entry.{Entry}
 use Rattle.vol_inode.specs.Space.{sectors_of}
@@ -17,3 +18,15 @@ pub record NamesOneMore (content after : Image) (e changed : Entry) (p : Place) 
   pub rest : (q : Place) → IsPlace q → (q ≡ p → ⊥) → named after changed q ≡ named content e q
   pub size : changed.size ≡ e.size
   pub bytes : (j : ℕ) → j < 16570 → (part j ≡ p → ⊥) → part_bytes after (named after changed (part j)) ≡ part_bytes content (named content e (part j))
+
+-- one pointer of the entry is set
+pub record SetsPointer (e changed : Entry) (s n : ℕ) : Type 0 where
+  pub one : slice_index changed.pointers s ≡ n
+  pub rest : (k : ℕ) → k < 60 → k ≢ s → slice_index changed.pointers k ≡ slice_index e.pointers k
+  pub size : changed.size ≡ e.size
+
+-- The i-th number of the pointer sector m becomes n. Other sectors stay but for the sector n.
+pub record ListsOneMore (content after : Image) (m i n : ℕ) : Type 0 where
+  pub one : little_number 4 (drop (4 * i) (after m)) ≡ n
+  pub rest : (k : ℕ) → k < 128 → k ≢ i → little_number 4 (drop (4 * k) (after m)) ≡ little_number 4 (drop (4 * k) (content m))
+  pub stays : (x : ℕ) → x ≢ n → x ≢ m → after x ≡ content x
