@@ -1,12 +1,15 @@
 -- One more sector that a file names.
-use Rattle.std.proofs.Common.{◌≡◌, ◌≢◌, ◌⊎◌, inl, inr, ◌≤◌, ◌<◌, ◌+◌, ◌-◌, ◌*◌, ◌/◌, ◌%◌, ℕ, List, replicate, drop, get_or, refl, sym, ◌∙◌, ap, arith}
-use Rattle.std.proofs.lemmas.Bool.{cases_eq, cases_lt}
+use Rattle.std.proofs.Common.{◌≡◌, ◌≢◌, ◌⊎◌, inl, inr, ◌≤◌, ◌<◌, ◌+◌, ◌-◌, ◌*◌, ◌/◌, ◌%◌, ◌==◌, if◌then◌else◌, ℕ, Bool, true, false, List, replicate, drop, get_or, refl, sym, ◌∙◌, ap, arith}
+use Rattle.std.proofs.lemmas.Bool.{cases_eq, cases_lt, both_ways}
+use Rattle.std.proofs.lemmas.Bool.Decides.{nat_tests}
 use Rattle.byteorder.specs.Endian.{little_number}
 use Rattle.vol_sector.specs.Disk.{Image}
 use Rattle.vol_inode.specs.declared.entry.Entry.{Entry}
-use Rattle.vol_body.specs.Body.{Place, part, list, lists, later_list, IsPlace, named, number_in, part_bytes, NamesOthers}
+use Rattle.vol_inode.specs.Space.{sectors_of}
+use Rattle.vol_body.specs.Body.{Place, part, list, lists, later_list, IsPlace, first_served, named, number_in, part_bytes, byte_at, IsBody, NamesTaken, NamesOthers}
+use Rattle.vol_body.specs.Change.{Names, OthersStay, TakesAndGives}
 use Rattle.vol_body.specs.Naming.{IsNaming, NamesOneMore, SetsPointer, ListsOneMore}
-use Rattle.vol_body.proofs.Places.{number_there, part_direct, part_listed, part_later}
+use Rattle.vol_body.proofs.Places.{number_there, bytes_there, part_direct, part_listed, part_later}
 use Rattle.vol_body.proofs.Same.{same_number, same_bytes}
 use Rattle.vol_body.proofs.Listed.{none_in_zeros}
 
@@ -175,3 +178,201 @@ module _ (content after : Image) (e : Entry) (n m r : ℕ) (naming : IsNaming co
         ];
       } in
       one_more content after e e (part j) n keeps (part_later after e j le ∙ new_number holder ((j - 186) % 128) (in_lists ((j - 186) / 128) ∙ is) (sym at)) refl (parts_kept holder below_it is (λ k equal. cc))
+
+-- A sector that the file names for a part is written over: it names the same sectors, and other parts have the same bytes.
+pub write_named : (content after : Image) (e : Entry) (j n : ℕ) → IsNaming content e → j < 16570 → named content e (part j) ≡ n → n ≢ 0 → ((x : ℕ) → x ≢ n → after x ≡ content x) → NamesOneMore content after e e (part j) n
+write_named content after e j n naming lt is some stays =
+    let stays_by = λ (g : Place) (there : IsPlace g) (not : g ≡ part j → ⊥) (names : named content e g ≢ 0). stays (named content e g) (λ same. not (naming.distinct g (part j) there lt names (same ∙ sym is))) in
+    let in_lists = λ (i : ℕ). same_number content after (named content e lists) i (stays_by lists tt (λ equal. cc)) in
+    let listed = λ (i : ℕ). same_number content after (named content e list) i (stays_by list tt (λ equal. cc)) in
+    let later = λ (k : ℕ) (below : k < 16570).
+        ap (λ (x : ℕ). number_in after x ((k - 186) % 128)) (in_lists ((k - 186) / 128))
+        ∙ same_number content after (named content e (later_list ((k - 186) / 128))) ((k - 186) % 128) (stays_by (later_list ((k - 186) / 128)) (quotient_below k below) (λ equal. cc)) in
+    let keeps : KeepsNumbers content after e e list = record {
+      direct = λ k below not. refl;
+      first = λ not. refl;
+      second = λ not. refl;
+      listed = λ k from below not. listed (k - 58);
+      in_lists = λ i below not. in_lists i;
+      later = λ k from below not. later k below;
+    } in
+    let same = λ (k : ℕ) (below : k < 16570). same_part content after e e list k keeps below (λ equal. cc) in
+    record {
+      one = same j lt ∙ is;
+      rest = λ q there not. kept keeps q there;
+      size = refl;
+      bytes = λ k below not. ap (part_bytes after) (same k below) ∙ same_bytes content after (named content e (part k)) (stays_by (part k) below not);
+    }
+  where
+    kept : KeepsNumbers content after e e list → (q : Place) → IsPlace q → named after e q ≡ named content e q
+    kept keeps (part k) there = same_part content after e e list k keeps there (λ equal. cc)
+    kept keeps list there = refl
+    kept keeps lists there = refl
+    kept keeps (later_list i) there = keeps.in_lists i there (λ equal. cc)
+
+pub same_place : (a b : Place) → (a ≡ b) ⊎ (a ≡ b → ⊥)
+same_place (part i) (part j) = elim (cases_eq i j) [
+  | inl same ↦ inl (ap part same)
+  | inr other ↦ inr (λ equal. other cc)
+]
+same_place (part i) list = inr (λ equal. cc)
+same_place (part i) lists = inr (λ equal. cc)
+same_place (part i) (later_list j) = inr (λ equal. cc)
+same_place list (part j) = inr (λ equal. cc)
+same_place list list = inl refl
+same_place list lists = inr (λ equal. cc)
+same_place list (later_list j) = inr (λ equal. cc)
+same_place lists (part j) = inr (λ equal. cc)
+same_place lists list = inr (λ equal. cc)
+same_place lists lists = inl refl
+same_place lists (later_list j) = inr (λ equal. cc)
+same_place (later_list i) (part j) = inr (λ equal. cc)
+same_place (later_list i) list = inr (λ equal. cc)
+same_place (later_list i) lists = inr (λ equal. cc)
+same_place (later_list i) (later_list j) = elim (cases_eq i j) [
+  | inl same ↦ inl (ap later_list same)
+  | inr other ↦ inr (λ equal. other cc)
+]
+
+-- the rules on the sectors are a part of those on the file
+pub naming_of : (content : Image) (e : Entry) → IsBody content e → IsNaming content e
+naming_of content e body = record { distinct = body.distinct; past = body.past }
+
+pub body_of : (content : Image) (e : Entry) → IsNaming content e → ((k : ℕ) → e.size ≤ k → k < 8483840 → byte_at content e k ≡ 0) → IsBody content e
+body_of content e naming zeros = record { distinct = naming.distinct; past = naming.past; zeros = zeros }
+
+-- a file that names the same sectors, and is no shorter
+pub naming_by : (content after : Image) (e changed : Entry) → IsNaming content e → e.size ≤ changed.size → ((p : Place) → IsPlace p → named after changed p ≡ named content e p) → IsNaming after changed
+naming_by content after e changed naming longer names = record {
+  distinct = λ p q a b some equal. naming.distinct p q a b (λ none. some (names p a ∙ none)) (sym (names p a) ∙ equal ∙ names q b);
+  past = λ p a le. names p a ∙ naming.past p a (omega arith);
+}
+
+module _ (content after : Image) (e changed : Entry) (p : Place) (n : ℕ) (more : NamesOneMore content after e changed p n) where
+  -- a part that stays has the same bytes
+  pub byte_stays : (k : ℕ) → k < 8483840 → (part (k / 512) ≡ p → ⊥) → byte_at after changed k ≡ byte_at content e k
+  byte_stays k lt not = ap (λ (l : List ℕ). get_or l (k % 512) 0) (more.bytes (k / 512) (omega arith) not)
+
+  -- the bytes of the part that names the sector
+  pub byte_there : (k : ℕ) → n ≢ 0 → part (k / 512) ≡ p → byte_at after changed k ≡ get_or (after n) (k % 512) 0
+  byte_there k some is =
+      let one : named after changed (part (k / 512)) ≡ n = ap (named after changed) is ∙ more.one in
+      ap (λ (x : ℕ). get_or (part_bytes after x) (k % 512) 0) one ∙ ap (λ (l : List ℕ). get_or l (k % 512) 0) (bytes_there after n some)
+
+  -- a pointer sector more changes no byte
+  pub all_bytes_stay : ((j : ℕ) → part j ≡ p → ⊥) → (k : ℕ) → k < 8483840 → byte_at after changed k ≡ byte_at content e k
+  all_bytes_stay not k lt = byte_stays k lt (not (k / 512))
+
+  -- where it named the sector before, it names the same ones
+  pub names_stay : named content e p ≡ n → (q : Place) → IsPlace q → named after changed q ≡ named content e q
+  names_stay is q there = elim (same_place q p) [
+    | inl same ↦ ap (named after changed) same ∙ more.one ∙ sym is ∙ sym (ap (named content e) same)
+    | inr not ↦ more.rest q there not
+  ]
+
+  -- what it names now
+  named_now : (q : Place) → IsPlace q → (named after changed q ≡ n) ⊎ (named after changed q ≡ named content e q)
+  named_now q there = elim (same_place q p) [
+    | inl same ↦ inl (ap (named after changed) same ∙ more.one)
+    | inr not ↦ inr (more.rest q there not)
+  ]
+
+  -- the rules on the sectors hold still
+  pub naming_more : IsNaming content e → NamesOthers content e n → n ≢ 0 → IsPlace p → first_served p < sectors_of e.size → IsNaming after changed
+  naming_more naming others some p_there serves = record { distinct = distinct; past = past }
+    where
+      distinct : (a b : Place) → IsPlace a → IsPlace b → named after changed a ≢ 0 → named after changed a ≡ named after changed b → a ≡ b
+      distinct a b a_there b_there names equal = elim (same_place a p) [
+        | inl a_is ↦ elim (same_place b p) [
+          | inl b_is ↦ a_is ∙ sym b_is
+          | inr b_not ↦ absurd (others b b_there (sym (more.rest b b_there b_not) ∙ sym equal ∙ ap (named after changed) a_is ∙ more.one))
+        ]
+        | inr a_not ↦ elim (same_place b p) [
+          | inl b_is ↦ absurd (others a a_there (sym (more.rest a a_there a_not) ∙ equal ∙ ap (named after changed) b_is ∙ more.one))
+          | inr b_not ↦ naming.distinct a b a_there b_there (λ none. names (more.rest a a_there a_not ∙ none)) (sym (more.rest a a_there a_not) ∙ equal ∙ more.rest b b_there b_not)
+        ]
+      ]
+
+      past : (a : Place) → IsPlace a → sectors_of changed.size ≤ first_served a → named after changed a ≡ 0
+      past a a_there le = elim (same_place a p) [
+        | inl is ↦ absurd (out (first_served a) (first_served p) (ap first_served is) (ap sectors_of more.size) le serves)
+        | inr not ↦ more.rest a a_there not ∙ naming.past a a_there (fits (ap sectors_of more.size) le)
+      ]
+        where
+          out : {s t : ℕ} (x y : ℕ) → x ≡ y → s ≡ t → s ≤ x → y < t → ⊥
+          out x y same size le lt = omega arith
+
+          fits : {s t x : ℕ} → s ≡ t → s ≤ x → t ≤ x
+          fits size le = omega arith
+
+  module _ (taken now : ℕ → Bool) (takes : (k : ℕ) → now k ≡ (if k == n then true else taken k)) where
+    now_taken : (k : ℕ) → k ≡ n → now k ≡ true
+    now_taken k is = takes k ∙ pick k (taken k) is
+      where
+        pick : (k : ℕ) (b : Bool) → k ≡ n → (if k == n then true else b) ≡ true
+        pick k b is = grind (arith, nat_tests)
+
+    now_same : (k : ℕ) → k ≢ n → now k ≡ taken k
+    now_same k not = takes k ∙ pick k (taken k) not
+      where
+        pick : (k : ℕ) (b : Bool) → k ≢ n → (if k == n then true else b) ≡ b
+        pick k b not = grind (arith, nat_tests)
+
+    still_taken : (k : ℕ) → taken k ≡ true → now k ≡ true
+    still_taken k is = elim (cases_eq k n) [
+      | inl same ↦ now_taken k same
+      | inr not ↦ now_same k not ∙ is
+    ]
+
+    -- all that it names is taken
+    pub names_taken_more : NamesTaken taken content e → NamesTaken now after changed
+    names_taken_more names q there some = elim (named_now q there) [
+      | inl is ↦ now_taken (named after changed q) is
+      | inr same ↦ ap now same ∙ still_taken (named content e q) (names q there (λ none. some (same ∙ none)))
+    ]
+
+    -- one more sector is taken, and no other
+    pub takes_one : NamesTaken taken content e → taken n ≡ false → named content e p ≡ 0 → IsPlace p → TakesAndGives taken now content after e changed
+    takes_one names free none p_there = record { taken = names_taken_more names; fresh = fresh; given = given; others = others }
+      where
+        fresh : (x : ℕ) → Names after changed x → NamesOthers content e x → taken x ≡ false
+        fresh x one others = elim (named_now one.place.0 one.place.1) [
+          | inl is ↦ ap taken (sym one.place.2 ∙ is) ∙ free
+          | inr same ↦ absurd (others one.place.0 one.place.1 (sym same ∙ one.place.2))
+        ]
+
+        given : (x : ℕ) → Names content e x → NamesOthers after changed x → now x ≡ false
+        given x one others = elim (same_place one.place.0 p) [
+          | inl is ↦ absurd (one.some (sym one.place.2 ∙ ap (named content e) is ∙ none))
+          | inr not ↦ absurd (others one.place.0 one.place.1 (more.rest one.place.0 one.place.1 not ∙ one.place.2))
+        ]
+
+        others : (x : ℕ) → NamesOthers content e x → NamesOthers after changed x → now x ≡ taken x
+        others x before now_others = now_same x (λ is. now_others p p_there (more.one ∙ sym is))
+
+-- only a sector of the range is written, that is free or the file's
+pub others_stay_one : (place first end : ℕ) (taken : ℕ → Bool) (content after : Image) (e : Entry) (n : ℕ) → ((x : ℕ) → x ≢ n → after x ≡ content x)
+    → first ≤ n → n < end → (taken n ≡ true → NamesOthers content e n → ⊥) → OthersStay place first end taken content after e
+others_stay_one place first end taken content after e n stays from below own = record {
+  outside = λ x not out. stays x (λ is. beyond x is out);
+  taken = λ x not is others. stays x (λ same. own (sym (ap taken same) ∙ is) (λ p there names. others p there (names ∙ sym same)));
+}
+  where
+    beyond : (x : ℕ) → x ≡ n → (x < first) ⊎ (end ≤ x) → ⊥
+    beyond x is (inl lt) = omega arith
+    beyond x is (inr le) = omega arith
+
+-- of two such sectors
+pub others_stay_two : (place first end : ℕ) (taken : ℕ → Bool) (content after : Image) (e : Entry) (n m : ℕ) → ((x : ℕ) → x ≢ n → x ≢ m → after x ≡ content x)
+    → first ≤ n → n < end → (taken n ≡ true → NamesOthers content e n → ⊥) → first ≤ m → m < end → (taken m ≡ true → NamesOthers content e m → ⊥) → OthersStay place first end taken content after e
+others_stay_two place first end taken content after e n m stays n_from n_below n_own m_from m_below m_own = record {
+  outside = λ x not out. stays x (λ is. beyond x n n_from n_below is out) (λ is. beyond x m m_from m_below is out);
+  taken = λ x not is others. stays x (λ same. mine x n n_own same is others) (λ same. mine x m m_own same is others);
+}
+  where
+    beyond : (x y : ℕ) → first ≤ y → y < end → x ≡ y → (x < first) ⊎ (end ≤ x) → ⊥
+    beyond x y from below is (inl lt) = omega arith
+    beyond x y from below is (inr le) = omega arith
+
+    mine : (x y : ℕ) → (taken y ≡ true → NamesOthers content e y → ⊥) → x ≡ y → taken x ≡ true → NamesOthers content e x → ⊥
+    mine x y own same is others = own (sym (ap taken same) ∙ is) (λ p there names. others p there (names ∙ sym same))
