@@ -7,3 +7,4 @@ pub mod Grown
 pub mod Changes
 pub mod Listed
 pub mod OneMore
+pub mod Space

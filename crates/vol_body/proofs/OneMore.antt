@@ -271,7 +271,7 @@ module _ (content after : Image) (e changed : Entry) (p : Place) (n : ℕ) (more
   ]
 
   -- what it names now
-  named_now : (q : Place) → IsPlace q → (named after changed q ≡ n) ⊎ (named after changed q ≡ named content e q)
+  pub named_now : (q : Place) → IsPlace q → (named after changed q ≡ n) ⊎ (named after changed q ≡ named content e q)
   named_now q there = elim (same_place q p) [
     | inl same ↦ inl (ap (named after changed) same ∙ more.one)
     | inr not ↦ inr (more.rest q there not)
