@@ -14,7 +14,7 @@ use Rattle.vol_body.specs.Body.{Place, part, list, lists, later_list, IsPlace, f
 use Rattle.vol_body.specs.Change.{used_of}
 use Rattle.vol_body.specs.Naming.{NamesOneMore}
 use Rattle.vol_body.proofs.Needed.{place_there, length-places_of}
-use Rattle.vol_body.proofs.OneMore.{named_now}
+use Rattle.vol_body.proofs.OneMore.{named_now, names_by_pointers}
 
 -- what a test counts, one more element in front
 count_cons : {X : Type 0} (f : X → Bool) (x : X) (xs : List X) → count_by f (x ∷ xs) ≡ cond (f x) 1 0 + count_by f xs
@@ -102,3 +102,60 @@ some_place content e p none serves =
 -- where the space is reserved, a sector is free for such a place
 pub some_free : (content : Image) (e : Entry) (p : Place) (free : ℕ) → need_of e.size ≤ free + used_of content e → named content e p ≡ 0 → first_served p < sectors_of e.size → 0 < free
 some_free content e p free reserved none serves = omega (arith, some_place content e p none serves)
+
+-- A longer file names as many, or more.
+count_part : {X : Type 0} (f : X → Bool) (g : ℕ → X) (a b : ℕ) → a ≤ b → count_by f (map g (range_with_len 0 a)) ≤ count_by f (map g (range_with_len 0 b))
+count_part f g a b le =
+    let all = map g (range_with_len 0 b) in
+    let some = sum_by-take-le (λ x. cond (f x) 1 0) all a in
+    let front : count_by f (take a all) ≡ count_by f (map g (range_with_len 0 a)) = ap (count_by f) (take-map-range_with_len g 0 b a le) in
+    omega (arith, some, front)
+
+count_append : {X : Type 0} (f : X → Bool) (xs ys : List X) → count_by f (xs ++ ys) ≡ count_by f xs + count_by f ys
+count_append f xs ys = sum_by-append (λ x. cond (f x) 1 0) xs ys
+
+pub count_grown : (f : Place → Bool) (a b : ℕ) → a ≤ b
+    → count_by f (map part (range_with_len 0 a) ++ (if nat_lt 58 a then list ∷ [] else []) ++ (if nat_lt 186 a then lists ∷ map later_list (range_with_len 0 (lists_of (a - 186))) else []))
+    ≤ count_by f (map part (range_with_len 0 b) ++ (if nat_lt 58 b then list ∷ [] else []) ++ (if nat_lt 186 b then lists ∷ map later_list (range_with_len 0 (lists_of (b - 186))) else []))
+count_grown f a b le =
+    let parts = λ (c : ℕ). map part (range_with_len 0 c) in
+    let first = λ (c : ℕ). if nat_lt 58 c then list ∷ [] else [] in
+    let later = λ (c : ℕ). lists ∷ map later_list (range_with_len 0 (lists_of (c - 186))) in
+    let second = λ (c : ℕ). if nat_lt 186 c then later c else [] in
+    let in_parts = count_part f part a b le in
+    let in_first : count_by f (first a) ≤ count_by f (first b) = either f 58 a b (list ∷ []) (list ∷ []) le (omega arith) in
+    let in_later : count_by f (later a) ≤ count_by f (later b) = omega (arith, count_cons f lists (map later_list (range_with_len 0 (lists_of (a - 186)))), count_cons f lists (map later_list (range_with_len 0 (lists_of (b - 186)))), count_part f later_list (lists_of (a - 186)) (lists_of (b - 186)) (omega arith)) in
+    let in_second : count_by f (second a) ≤ count_by f (second b) = either f 186 a b (later a) (later b) le in_later in
+    omega (arith, in_parts, in_first, in_second, count_append f (parts a ++ first a) (second a), count_append f (parts a) (first a), count_append f (parts b ++ first b) (second b), count_append f (parts b) (first b))
+  where
+    either : (f : Place → Bool) (n a b : ℕ) (xs ys : List Place) → a ≤ b → count_by f xs ≤ count_by f ys → count_by f (if nat_lt n a then xs else []) ≤ count_by f (if nat_lt n b then ys else [])
+    either f n a b xs ys le fewer = elim (cases_lt n a) [
+      | inl lt ↦
+          let e : count_by f (if nat_lt n a then xs else []) ≡ count_by f xs = ap (count_by f) (taken n a xs lt) in
+          let g : count_by f (if nat_lt n b then ys else []) ≡ count_by f ys = ap (count_by f) (taken n b ys (omega arith)) in
+          omega (arith, e, g)
+      | inr short ↦
+          let e : count_by f (if nat_lt n a then xs else []) ≡ count_by f [] = ap (count_by f) (left n a xs short) in
+          omega (arith, e)
+    ]
+      where
+        taken : (n c : ℕ) (xs : List Place) → n < c → (if nat_lt n c then xs else []) ≡ xs
+        taken n c xs lt = grind (arith, nat_tests)
+
+        left : (n c : ℕ) (xs : List Place) → c ≤ n → (if nat_lt n c then xs else []) ≡ []
+        left n c xs le = grind (arith, nat_tests)
+
+pub used_grown : (content : Image) (e : Entry) (size : ℕ) → e.size ≤ size → used_of content e ≤ used_of content (record e { size = size })
+used_grown content e size le =
+    let f = λ (p : Place). not (named content e p == 0) in
+    let g = λ (p : Place). not (named content (record e { size = size }) p == 0) in
+    let grown = count_grown f (sectors_of e.size) (sectors_of size) (omega arith) in
+    let same : count_by g (places_of size) ≡ count_by f (places_of size) = same_count g f (λ p. ap (λ (n : ℕ). not (n == 0)) (names_by_pointers content e (record e { size = size }) p refl)) (places_of size) in
+    omega (arith, grown, same)
+  where
+    same_count : (g f : Place → Bool) → ((p : Place) → g p ≡ f p) → (ps : List Place) → count_by g ps ≡ count_by f ps
+    same_count g f same [] = refl
+    same_count g f same (p ∷ ps) =
+        let here : cond {A = ℕ} (g p) 1 0 ≡ cond {A = ℕ} (f p) 1 0 = ap (λ (b : Bool). cond {A = ℕ} b 1 0) (same p) in
+        let rest = same_count g f same ps in
+        omega (arith, here, rest, count_cons g p ps, count_cons f p ps)
