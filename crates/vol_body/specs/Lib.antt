@@ -2,3 +2,4 @@ pub mod Body
 pub mod Reading
 pub mod Change
 pub mod Naming
+pub mod Writing
