@@ -8,3 +8,4 @@ pub mod Changes
 pub mod Listed
 pub mod OneMore
 pub mod Space
+pub mod Added

@@ -186,8 +186,8 @@ write_named content after e j n naming lt is some stays =
     let in_lists = λ (i : ℕ). same_number content after (named content e lists) i (stays_by lists tt (λ equal. cc)) in
     let listed = λ (i : ℕ). same_number content after (named content e list) i (stays_by list tt (λ equal. cc)) in
     let later = λ (k : ℕ) (below : k < 16570).
-    ap (λ (x : ℕ). number_in after x ((k - 186) % 128)) (in_lists ((k - 186) / 128))
-    ∙ same_number content after (named content e (later_list ((k - 186) / 128))) ((k - 186) % 128) (stays_by (later_list ((k - 186) / 128)) (quotient_below k below) (λ equal. cc)) in
+        ap (λ (x : ℕ). number_in after x ((k - 186) % 128)) (in_lists ((k - 186) / 128))
+        ∙ same_number content after (named content e (later_list ((k - 186) / 128))) ((k - 186) % 128) (stays_by (later_list ((k - 186) / 128)) (quotient_below k below) (λ equal. cc)) in
     let keeps : KeepsNumbers content after e e list = record {
       direct = λ k below not. refl;
       first = λ not. refl;
@@ -376,3 +376,30 @@ others_stay_two place first end taken content after e n m stays n_from n_below n
 
     mine : (x y : ℕ) → (taken y ≡ true → NamesOthers content e y → ⊥) → x ≡ y → taken x ≡ true → NamesOthers content e x → ⊥
     mine x y own same is others = own (sym (ap taken same) ∙ is) (λ p there names. others p there (names ∙ sym same))
+
+-- what a file names goes by its pointers alone
+pub names_by_pointers : (content : Image) (e f : Entry) (p : Place) → f.pointers ≡ e.pointers → named content f p ≡ named content e p
+names_by_pointers content e f (part j) same = ap (λ (ps : List ℕ). named content (record e { pointers = ps }) (part j)) same
+names_by_pointers content e f list same = ap (λ (ps : List ℕ). named content (record e { pointers = ps }) list) same
+names_by_pointers content e f lists same = ap (λ (ps : List ℕ). named content (record e { pointers = ps }) lists) same
+names_by_pointers content e f (later_list i) same = ap (λ (ps : List ℕ). named content (record e { pointers = ps }) (later_list i)) same
+
+-- The bytes of the other places' sectors stay, those of pointer sectors too: where the new sector alone is written,
+pub places_stay : (content after : Image) (e changed : Entry) (p : Place) (n : ℕ) → NamesOneMore content after e changed p n → NamesOthers content e n → ((x : ℕ) → x ≢ n → after x ≡ content x)
+    → (g : Place) → IsPlace g → (g ≡ p → ⊥) → part_bytes after (named after changed g) ≡ part_bytes content (named content e g)
+places_stay content after e changed p n more others stays g there not =
+    ap (part_bytes after) (more.rest g there not) ∙ same_bytes content after (named content e g) (λ some. stays (named content e g) (others g there))
+
+-- where a pointer sector is written too, those of all but this one,
+pub places_stay_but : (content after : Image) (e changed : Entry) (p h : Place) (n m : ℕ) → NamesOneMore content after e changed p n → IsNaming content e → NamesOthers content e n → IsPlace h → named content e h ≡ m
+    → ((x : ℕ) → x ≢ n → x ≢ m → after x ≡ content x) → (g : Place) → IsPlace g → (g ≡ p → ⊥) → (g ≡ h → ⊥) → part_bytes after (named after changed g) ≡ part_bytes content (named content e g)
+places_stay_but content after e changed p h n m more naming others h_there is stays g there not apart =
+    ap (part_bytes after) (more.rest g there not)
+    ∙ same_bytes content after (named content e g) (λ some. stays (named content e g) (others g there) (λ same. apart (naming.distinct g h there h_there some (same ∙ sym is))))
+
+-- and where the sector that a place names is written over.
+pub places_stay_by : (content after : Image) (e changed : Entry) (p : Place) (n : ℕ) → NamesOneMore content after e changed p n → IsNaming content e → IsPlace p → named content e p ≡ n
+    → ((x : ℕ) → x ≢ n → after x ≡ content x) → (g : Place) → IsPlace g → (g ≡ p → ⊥) → part_bytes after (named after changed g) ≡ part_bytes content (named content e g)
+places_stay_by content after e changed p n more naming p_there is stays g there not =
+    ap (part_bytes after) (more.rest g there not)
+    ∙ same_bytes content after (named content e g) (λ some. stays (named content e g) (λ same. not (naming.distinct g p there p_there some (same ∙ sym is))))

@@ -159,3 +159,17 @@ used_grown content e size le =
         let here : cond {A = ℕ} (g p) 1 0 ≡ cond {A = ℕ} (f p) 1 0 = ap (λ (b : Bool). cond {A = ℕ} b 1 0) (same p) in
         let rest = same_count g f same ps in
         omega (arith, here, rest, count_cons g p ps, count_cons f p ps)
+
+-- a file of the same size that names the same sectors has the same space
+pub used_same : (content after : Image) (e changed : Entry) (free : ℕ) → e.size ≤ 8483840 → changed.size ≡ e.size → ((p : Place) → IsPlace p → named after changed p ≡ named content e p)
+    → need_of e.size ≤ free + used_of content e → need_of changed.size ≤ free + used_of after changed
+used_same content after e changed free small size names reserved =
+    let f = λ (q : Place). not (named content e q == 0) in
+    let g = λ (q : Place). not (named after changed q == 0) in
+    let fewer = count_le f g (places_of e.size) (All-weaker IsPlace (λ q. f q ≡ true → g q ≡ true) keeps (places_of e.size) (are_places e.size small)) in
+    let used : used_of after changed ≡ count_by g (places_of e.size) = ap (λ (k : ℕ). count_by g (places_of k)) size in
+    let need : need_of changed.size ≡ need_of e.size = ap need_of size in
+    omega (arith, fewer, used, need, reserved)
+  where
+    keeps : (q : Place) → IsPlace q → not (named content e q == 0) ≡ true → not (named after changed q == 0) ≡ true
+    keeps q there is = ap (λ (n : ℕ). not (n == 0)) (names q there) ∙ is
