@@ -9,3 +9,5 @@ pub mod Listed
 pub mod OneMore
 pub mod Space
 pub mod Added
+pub mod Steps
+pub mod Loads

@@ -82,24 +82,26 @@ pub fn load_lists<D: Device>(
 }
 
 /// Reads a pointer sector.
-fn load<D: Device>(log: &mut Log<D>, number: u32) -> Result<PointerSector, DeviceFault>
-    requires there { number < sectors_of log.old }
+fn load<D: Device>(
+    log: &mut Log<D>,
+    sectors: &Alloc,
+    number: u32,
+) -> Result<PointerSector, DeviceFault>
+    requires taken { number ≢ 0 → taken_of sectors.now number ≡ true }
+    requires there { end_of sectors.now ≤ sectors_of log.old }
     requires working { has_failed log.old ≡ false }
     ensures image { D.honest (device_of log.old) → IfOk result (λ s.
         s.image ≡ part_bytes (view log.old) number) }
     ensures number { IfOk result (λ s. s.number ≡ number) }
+    ensures known { IfOk result (λ s. s.number ≢ 0 → taken_of sectors.now s.number ≡ true) }
     ensures reads { OnlyReads log.old log.new }
     ensures failed { has_failed log.new ≡ is_err result }
 {
-    let image = if number == 0 {
-        [0; 512]
-    } else {
-        log.read(number)?
-    };
+    let image = if number == 0 { [0; 512] } else { log.read(number)? };
     Ok(PointerSector { number, image })
 }
 
-/// Reads the pointer sector of pointer 59.
+/// Reads the pointer sector of pointer 59, if the write reaches the parts that it serves.
 fn load_top<D: Device>(
     log: &mut Log<D>,
     sectors: &Alloc,
@@ -115,12 +117,11 @@ fn load_top<D: Device>(
     ensures reads { OnlyReads log.old log.new }
     ensures failed { has_failed log.new ≡ is_err result }
 {
-    let number = if last < 186 {
-        0
-    } else {
-        known(sectors, entry.pointers[59])
-    };
-    load(log, number)
+    if last < 186 {
+        return load(log, sectors, 0);
+    }
+    let number = known(sectors, entry.pointers[59]);
+    load(log, sectors, number)
 }
 
 /// Reads the pointer sector that lists the 128 parts from 58 + 128 * `g` on, if the write reaches
@@ -144,12 +145,13 @@ fn load_segment<D: Device>(
     ensures reads { OnlyReads log.old log.new }
     ensures failed { has_failed log.new ≡ is_err result }
 {
-    let number = if last < 58 || g > (last - 58) / 128 {
-        0
-    } else if g == 0 {
-        known(sectors, entry.pointers[58])
-    } else {
-        known(sectors, number_at(&above.image, g - 1))
-    };
-    load(log, number)
+    if last < 58 || g > (last - 58) / 128 {
+        return load(log, sectors, 0);
+    }
+    if g == 0 {
+        let first = known(sectors, entry.pointers[58]);
+        return load(log, sectors, first);
+    }
+    let number = known(sectors, number_at(&above.image, g - 1));
+    load(log, sectors, number)
 }
