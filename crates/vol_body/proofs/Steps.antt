@@ -1,7 +1,22 @@
 -- Steps of a write.
-use Rattle.std.proofs.Common.{◌≡◌, ◌≢◌, inl, inr, ◌≤◌, ◌<◌, ◌+◌, ◌-◌, ◌*◌, ◌==◌, ℕ, Bool, true, false, if◌then◌else◌, List, refl, sym, ◌∙◌, ap, arith}
+use Rattle.std.proofs.Common.{◌≡◌, ◌≢◌, ◌⊎◌, inl, inr, ◌≤◌, ◌<◌, ◌+◌, ◌-◌, ◌*◌, ◌/◌, ◌%◌, ◌==◌, ℕ, Bool, true, false, if◌then◌else◌, nat_lt, List, length, drop, get_or, refl, sym, ◌∙◌, ap, arith}
+use Rattle.std.proofs.lemmas.Bool.{cases_eq, cases_lt, cases_Bool, false≢true}
+use Rattle.std.proofs.lemmas.List.{get_or_past}
 use Rattle.std.proofs.lemmas.Bool.Decides.{nat_tests}
+use Rattle.byteorder.specs.Endian.{little_number}
 use Rattle.vol_sector.specs.Disk.{Image, put}
+use Rattle.vol_sector.specs.declared.device.Device.{Ghosts}
+use Rattle.vol_log.specs.Log.{is_staged}
+use Rattle.vol_log.specs.declared.log.Log.{Log}
+use Rattle.vol_alloc.specs.Alloc.{first_of, end_of, taken_of}
+use Rattle.vol_alloc.specs.declared.sectors.Alloc.{Alloc}
+use Rattle.vol_inode.specs.declared.entry.Entry.{Entry}
+use Rattle.vol_body.specs.Body.{Place, part, list, lists, later_list, IsPlace, named, number_in, part_bytes}
+use Rattle.vol_body.specs.Writing.{ListedAt, Mirrors, IsReady, SamePlace, Changes, placed}
+use Rattle.vol_body.proofs.Listed.{number_of_bytes}
+use Rattle.vol_body.proofs.Places.{part_listed, part_later, bytes_there}
+use Rattle.vol_body.proofs.OneMore.{write_named}
+use Rattle.vol_body.proofs.Added.{writes_over}
 
 pub put_here : (n : ℕ) (bytes : List ℕ) (content : Image) → put n bytes content n ≡ bytes
 put_here n bytes content = pick n bytes (content n)
@@ -14,3 +29,135 @@ put_other n k bytes content other = pick k bytes (content k) other
   where
     pick : (k : ℕ) (x y : List ℕ) → k ≢ n → (if k == n then x else y) ≡ y
     pick k x y other = grind (arith, nat_tests)
+
+-- a taken sector is in the range
+pub taken_range : (a : Alloc) (n : ℕ) → taken_of a n ≡ true → (first_of a ≤ n) × (n < end_of a)
+taken_range a n is = elim (cases_lt n a.first) [
+  | inl before ↦ absurd (false≢true (sym (first_one n a.first (get_or a.taken.items (n - a.first) false) before) ∙ is))
+  | inr from ↦ (from, elim (cases_lt (n - a.first) (length a.taken.items)) [
+    | inl within ↦ omega (arith, a.size)
+    | inr past ↦ absurd (false≢true (sym (get_or_past a.taken.items (n - a.first) false past) ∙ sym (second_one n a.first (get_or a.taken.items (n - a.first) false) from) ∙ is))
+  ])
+]
+  where
+    first_one : (n m : ℕ) (b : Bool) → n < m → (if nat_lt n m then false else b) ≡ false
+    first_one n m b lt = grind (arith, nat_tests)
+
+    second_one : (n m : ℕ) (b : Bool) → m ≤ n → (if nat_lt n m then false else b) ≡ b
+    second_one n m b le = grind (arith, nat_tests)
+
+-- the sector that another place is listed in keeps its place
+pub holder_stays : (a b : Alloc) (content after : Image) (e : Entry) (q p : Place) (i : ℕ) → ListedAt q i p → Changes a b content after e e (λ x. (x ≡ p) ⊎ (x ≡ q)) → named after e q ≡ named content e q
+holder_stays a b content after e list p i at changes = refl
+holder_stays a b content after e lists p i at changes = refl
+holder_stays a b content after e (part j) p i at changes = absurd at
+holder_stays a b content after e (later_list k) list i at changes = absurd at
+holder_stays a b content after e (later_list k) lists i at changes = absurd at
+holder_stays a b content after e (later_list k) (later_list j) i at changes = absurd at
+holder_stays a b content after e (later_list k) (part j) i at changes =
+    let top : SamePlace content after e e lists = changes.stays lists tt (λ touched. not_these touched) in
+    number_of_bytes after (named content e lists) k
+    ∙ ap (λ (l : List ℕ). little_number 4 (drop (4 * k) l)) top.bytes
+    ∙ sym (number_of_bytes content (named content e lists) k)
+  where
+    not_these : (lists ≡ part j) ⊎ (lists ≡ later_list k) → ⊥
+    not_these (inl is) = cc
+    not_these (inr is) = cc
+
+pub staged_here : (n : ℕ) (old new : ℕ → Bool) → ((k : ℕ) → new k ≡ (if k == n then true else old k)) → new n ≡ true
+staged_here n old new is = is n ∙ pick n (old n)
+  where
+    pick : (n : ℕ) (b : Bool) → (if n == n then true else b) ≡ true
+    pick n b = grind (arith, nat_tests)
+
+pub staged_still : (n k : ℕ) (old new : ℕ → Bool) → ((k : ℕ) → new k ≡ (if k == n then true else old k)) → old k ≡ true → new k ≡ true
+staged_still n k old new is was = is k ∙ pick n k (old k) was
+  where
+    pick : (n k : ℕ) (b : Bool) → b ≡ true → (if k == n then true else b) ≡ true
+    pick n k b was = grind (arith, nat_tests)
+
+module _ {D : Type 0} {g : Ghosts D} where
+  pub placed_most : (log : Log D g) (n : ℕ) → placed log n ≤ 1
+  placed_most log n = most (n == 0) (is_staged log n)
+    where
+      most : (b c : Bool) → (if b then 0 else (if c then 1 else 0)) ≤ 1
+      most true c = omega arith
+      most false true = omega arith
+      most false false = omega arith
+
+  pub placed_one : (log : Log D g) (n : ℕ) → n ≢ 0 → is_staged log n ≡ true → placed log n ≡ 1
+  placed_one log n some is = pick n (is_staged log n) some is
+    where
+      pick : (n : ℕ) (b : Bool) → n ≢ 0 → b ≡ true → ◌≡◌ {A = ℕ} (if n == 0 then 0 else (if b then 1 else 0)) 1
+      pick n b some is = grind (arith, nat_tests)
+
+  -- what has a place keeps it
+  pub placed_stays : (old new : Log D g) (n : ℕ) → (is_staged old n ≡ true → is_staged new n ≡ true) → placed old n ≤ placed new n
+  placed_stays old new n stays = pick (n == 0) (is_staged old n) (is_staged new n) stays
+    where
+      pick : (z b c : Bool) → (b ≡ true → c ≡ true) → (if z then 0 else (if b then 1 else 0)) ≤ (if z then 0 else (if c then 1 else 0))
+      pick true b c stays = omega arith
+      pick false false c stays = omega arith
+      pick false true true stays = omega arith
+      pick false true false stays = absurd (false≢true (stays refl))
+
+  -- a sector that is staged takes a place, or had one
+  pub room_placed : (old new : Log D g) (n room now : ℕ) → n ≢ 0 → is_staged new n ≡ true → now ≡ (if is_staged old n then room else room - 1) → room + placed old n ≤ now + placed new n
+  room_placed old new n room now some is left =
+      let one = placed_one new n some is in
+      let least = count n (is_staged old n) room now some left in
+      omega (arith, one, least)
+    where
+      count : (n : ℕ) (b : Bool) (room now : ℕ) → n ≢ 0 → now ≡ (if b then room else room - 1) → room + (if n == 0 then 0 else (if b then 1 else 0)) ≤ now + 1
+      count n b room now some left = grind (arith, nat_tests)
+
+-- the bytes of a place, from what is held of it in memory
+pub bytes_mirrored : (content : Image) (e : Entry) (p : Place) (number : ℕ) (image : List ℕ) → Mirrors content e p number image → part_bytes content (named content e p) ≡ image
+bytes_mirrored content e p number image mirror = ap (part_bytes content) (sym mirror.names) ∙ sym mirror.bytes
+
+-- a change at fewer places
+pub changes_wider : (a b : Alloc) (content after : Image) (e changed : Entry) (One Other : Place → Type 0) → ((p : Place) → One p → Other p) → Changes a b content after e changed One → Changes a b content after e changed Other
+changes_wider a b content after e changed One Other inside changes = record {
+  ready = changes.ready;
+  others = changes.others;
+  takes = changes.takes;
+  stays = λ p there not. changes.stays p there (λ touched. not (inside p touched));
+  size = changes.size;
+}
+
+-- a pointer sector that lists parts
+pub not_a_part : (q : Place) (i j k : ℕ) → ListedAt q i (part j) → q ≡ part k → ⊥
+not_a_part list i j k at is = cc
+not_a_part lists i j k at is = at
+not_a_part (later_list l) i j k at is = cc
+not_a_part (part l) i j k at is = at
+
+-- the number of a part stands in the pointer sector that lists it
+pub part_mirrored : (content : Image) (e : Entry) (q : Place) (i j number : ℕ) (image : List ℕ) → ListedAt q i (part j) → i < 128 → Mirrors content e q number image → little_number 4 (drop (4 * i) image) ≡ named content e (part j)
+part_mirrored content e q i j number image at lt mirror =
+    ap (λ (l : List ℕ). little_number 4 (drop (4 * i) l)) (mirror.bytes ∙ ap (part_bytes content) mirror.names)
+    ∙ sym (number_of_bytes content (named content e q) i) ∙ sym (by_place q at)
+  where
+    by_place : (q : Place) → ListedAt q i (part j) → named content e (part j) ≡ number_in content (named content e q) i
+    by_place list at =
+        let place : j - 58 ≡ i = omega arith in
+        part_listed content e j (omega arith) (omega arith) ∙ ap (number_in content (named content e list)) place
+    by_place (later_list k) at =
+        let group : (j - 186) / 128 ≡ k = omega arith in
+        let place : (j - 186) % 128 ≡ i = omega arith in
+        part_later content e j (omega arith)
+        ∙ ap (λ (x : ℕ). number_in content (named content e (later_list x)) ((j - 186) % 128)) group
+        ∙ ap (number_in content (named content e (later_list k))) place
+    by_place lists at = absurd at
+    by_place (part k) at = absurd at
+
+-- a part's sector is written over
+pub part_over : (a : Alloc) (content after : Image) (e : Entry) (j n : ℕ) (image : List ℕ) → IsReady a content e → j < 16570 → n ≡ named content e (part j) → n ≢ 0 → taken_of a n ≡ true → after ≡ put n image content
+    → Changes a a content after e e (λ q. q ≡ part j) × (part_bytes after (named after e (part j)) ≡ image)
+part_over a content after e j n image ready lt is some taken writes =
+    let stays = λ (x : ℕ) (other : x ≢ n). ap (λ (m : Image). m x) writes ∙ put_other n x image content other in
+    let range = taken_range a n taken in
+    let more = write_named content after e j n ready.naming lt (sym is) some stays in (
+      writes_over a content after e j n ready ready.small lt (sym is) some range.0 range.1 stays,
+      ap (part_bytes after) more.one ∙ bytes_there after n some ∙ ap (λ (m : Image). m n) writes ∙ put_here n image content,
+    )
