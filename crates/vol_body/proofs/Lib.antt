@@ -9,3 +9,4 @@ pub mod Listed
 pub mod OneMore
 pub mod Space
 pub mod Added
+pub mod Written
