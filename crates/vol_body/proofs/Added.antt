@@ -50,6 +50,7 @@ changes_one a b content after e changed p n Touched more takes ready none serves
         naming = naming_more content after e changed p n more ready.naming fresh takes.some there serves;
         taken = names_taken_more content after e changed p n more (taken_of a) (taken_of b) takes.taken ready.taken;
         space = omega (arith, need, used, takes.count, ready.space);
+        small = omega (arith, more.size, small);
       };
       others = others;
       takes = takes_one content after e changed p n more (taken_of a) (taken_of b) takes.taken ready.taken takes.free none there;
@@ -112,7 +113,8 @@ writes_over a content after e j n ready lt is some from below stays =
         small = ready.small;
         naming = naming_by content after e e ready.naming (omega arith) names;
         taken = λ p there found. ap (taken_of a) (names p there) ∙ ready.taken p there (λ none. found (names p there ∙ none));
-        space = used_same content after e e (free_of a) ready.small refl names ready.space;
+        space = used_same content after e e (free_of a) small refl names ready.space;
+        small = small;
       };
       others = λ place. others_stay_one place (first_of a) (end_of a) (taken_of a) content after e n stays from below (λ taken others. others (part j) lt is);
       takes = takes_same (taken_of a) content after e e ready.taken names;

@@ -9,4 +9,5 @@ pub mod Listed
 pub mod OneMore
 pub mod Space
 pub mod Added
-pub mod Written
+pub mod Steps
+pub mod Loads

@@ -8,6 +8,7 @@ use Rattle.vol_alloc.specs.Alloc.{first_of, end_of, taken_of, free_of}
 use Rattle.vol_alloc.specs.declared.sectors.Alloc.{Alloc}
 use Rattle.vol_inode.specs.declared.entry.Entry.{Entry}
 use Rattle.vol_inode.specs.Space.{sectors_of, need_of}
+use Rattle.vol_body.specs.declared.lists.Lists.{Lists}
 use Rattle.vol_body.specs.Body.{Place, part, list, lists, later_list, IsPlace, first_served, named, part_bytes, NamesTaken}
 use Rattle.vol_body.specs.Change.{used_of, OthersStay, TakesAndGives}
 use Rattle.vol_body.specs.Naming.{IsNaming}
@@ -49,6 +50,7 @@ pub record IsReady (a : Alloc) (content : Image) (e : Entry) : Type 0 where
   pub naming : IsNaming content e
   pub taken : NamesTaken (taken_of a) content e
   pub space : need_of e.size ≤ free_of a + used_of content e
+  pub small : e.size ≤ 8483840
 
 -- the file names the same at this place, with the same bytes
 pub record SamePlace (content after : Image) (e changed : Entry) (p : Place) : Type 0 where
@@ -108,3 +110,26 @@ image_of offset bytes first last j =
     let from = max offset (512 * j) in
     let to = min (offset + length bytes) (512 * j + 512) in
     take (from - 512 * j) old ++ take (to - from) (drop (from - offset) bytes) ++ drop (to - 512 * j) old
+
+-- the place is that of a pointer sector
+abbrev pub IsPointer : Place → Type 0
+IsPointer (part j) = ⊥
+IsPointer list = Unit {0}
+IsPointer lists = Unit {0}
+IsPointer (later_list i) = Unit {0}
+
+-- the segment that lists the first part, of those past the first 58
+abbrev pub segment_of : ℕ → ℕ
+segment_of first = (first - 58) / 128
+
+-- the pointer sectors that a write of the parts from one to another uses, in memory
+pub record MirrorsAll (content : Image) (e : Entry) (all : Lists) (first last : ℕ) : Type 0 where
+  pub lists : 186 ≤ last → Mirrors content e lists all.lists.number all.lists.image
+  pub early : 58 + 128 * segment_of first ≤ last → Mirrors content e (segment (segment_of first)) all.early.number all.early.image
+  pub late : 186 + 128 * segment_of first ≤ last → Mirrors content e (segment (segment_of first + 1)) all.late.number all.late.image
+
+-- those that are there are taken
+pub record KnowsAll (a : Alloc) (all : Lists) : Type 0 where
+  pub lists : all.lists.number ≢ 0 → taken_of a all.lists.number ≡ true
+  pub early : all.early.number ≢ 0 → taken_of a all.early.number ≡ true
+  pub late : all.late.number ≢ 0 → taken_of a all.late.number ≡ true
