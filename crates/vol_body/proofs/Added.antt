@@ -36,17 +36,16 @@ place_of lists size small serves = tt
 place_of (later_list i) size small serves = omega arith
 
 -- a change by which the file names one more sector
-changes_one : (a b : Alloc) (content after : Image) (e changed : Entry) (p : Place) (n : ℕ) (Touched : Place → Type 0) → NamesOneMore content after e changed p n → TakesSector a b n → IsReady a content e
+changes_one : (a b : Alloc) (content after : Image) (e changed : Entry) (p : Place) (n : ℕ) (Touched : Place → Type 0) → NamesOneMore content after e changed p n → TakesSector a b n → IsReady a content e → e.size ≤ 8483840
     → named content e p ≡ 0 → first_served p < sectors_of e.size → ((place : ℕ) → OthersStay place (first_of a) (end_of a) (taken_of a) content after e)
     → ((q : Place) → IsPlace q → (Touched q → ⊥) → SamePlace content after e changed q) → Changes a b content after e changed Touched
-changes_one a b content after e changed p n Touched more takes ready none serves others stays =
+changes_one a b content after e changed p n Touched more takes ready small none serves others stays =
     let fresh = free_is_others (taken_of a) content e n ready.taken takes.some takes.free in
-    let there = place_of p e.size ready.small serves in
-    let used = used_more content after e changed p n more none takes.some serves ready.small in
+    let there = place_of p e.size small serves in
+    let used = used_more content after e changed p n more none takes.some serves small in
     let need : need_of changed.size ≡ need_of e.size = ap need_of more.size in
     record {
       ready = record {
-        small = omega (arith, more.size, ready.small);
         naming = naming_more content after e changed p n more ready.naming fresh takes.some there serves;
         taken = names_taken_more content after e changed p n more (taken_of a) (taken_of b) takes.taken ready.taken;
         space = omega (arith, need, used, takes.count, ready.space);
@@ -66,13 +65,13 @@ pointed_more content after e changed s n list image others stays sets is at blan
 pointed_more content after e changed s n lists image others stays sets is at blank none = one_lists content after e changed n others stays (subst (λ (k : ℕ). SetsPointer e changed k n) at sets) none (is ∙ blank)
 pointed_more content after e changed s n (later_list i) image others stays sets is at blank none = absurd at
 
-pub adds_pointer : (a b : Alloc) (content after : Image) (e changed : Entry) (s n : ℕ) (p : Place) (image : List ℕ) → TakesSector a b n → IsReady a content e
+pub adds_pointer : (a b : Alloc) (content after : Image) (e changed : Entry) (s n : ℕ) (p : Place) (image : List ℕ) → TakesSector a b n → IsReady a content e → e.size ≤ 8483840
     → ((x : ℕ) → x ≢ n → after x ≡ content x) → SetsPointer e changed s n → after n ≡ image → PointedAt s p → IsBlank p image → named content e p ≡ 0 → first_served p < sectors_of e.size
     → Changes a b content after e changed (λ q. q ≡ p) × Mirrors after changed p n image
-adds_pointer a b content after e changed s n p image takes ready stays sets is at blank none serves =
+adds_pointer a b content after e changed s n p image takes ready small stays sets is at blank none serves =
     let fresh = free_is_others (taken_of a) content e n ready.taken takes.some takes.free in
     let more = pointed_more content after e changed s n p image fresh stays sets is at blank none in (
-      changes_one a b content after e changed p n (λ q. q ≡ p) more takes ready none serves
+      changes_one a b content after e changed p n (λ q. q ≡ p) more takes ready small none serves
       (λ place. others_stay_one place (first_of a) (end_of a) (taken_of a) content after e n stays takes.from takes.below (λ taken others. both_ways (taken_of a n) takes.free taken))
       (λ q there not. record { name = more.rest q there not; bytes = places_stay content after e changed p n more fresh stays q there not }),
       record { names = sym more.one; bytes = sym is ∙ sym (bytes_there after n takes.some) },
@@ -90,27 +89,26 @@ listed_more content after e n m i lists (later_list k) image naming others some 
     one_later_list content after e n m i naming others some more k there at names none (is ∙ blank)
 listed_more content after e n m i q p image naming others some more is lt at there names blank none = absurd at
 
-pub adds_number : (a b : Alloc) (content after : Image) (e : Entry) (n m i : ℕ) (q p : Place) (image : List ℕ) → TakesSector a b n → IsReady a content e
+pub adds_number : (a b : Alloc) (content after : Image) (e : Entry) (n m i : ℕ) (q p : Place) (image : List ℕ) → TakesSector a b n → IsReady a content e → e.size ≤ 8483840
     → m ≢ 0 → first_of a ≤ m → m < end_of a → ListsOneMore content after m i n → after n ≡ image → i < 128 → ListedAt q i p → IsPlace q → m ≡ named content e q
     → IsBlank p image → named content e p ≡ 0 → first_served p < sectors_of e.size → Changes a b content after e e (λ x. (x ≡ p) ⊎ (x ≡ q)) × Mirrors after e p n image
-adds_number a b content after e n m i q p image takes ready some from below lists_it is lt at q_there names blank none serves =
+adds_number a b content after e n m i q p image takes ready small some from below lists_it is lt at q_there names blank none serves =
     let fresh = free_is_others (taken_of a) content e n ready.taken takes.some takes.free in
-    let there = place_of p e.size ready.small serves in
+    let there = place_of p e.size small serves in
     let more = listed_more content after e n m i q p image ready.naming fresh some lists_it is lt at there (sym names) blank none in (
-      changes_one a b content after e e p n (λ x. (x ≡ p) ⊎ (x ≡ q)) more takes ready none serves
+      changes_one a b content after e e p n (λ x. (x ≡ p) ⊎ (x ≡ q)) more takes ready small none serves
       (λ place. others_stay_two place (first_of a) (end_of a) (taken_of a) content after e n m lists_it.stays takes.from takes.below (λ taken others. both_ways (taken_of a n) takes.free taken) from below (λ taken others. others q q_there (sym names)))
       (λ x x_there not. record { name = more.rest x x_there (λ same. not (inl same)); bytes = places_stay_but content after e e p q n m more ready.naming fresh q_there (sym names) lists_it.stays x x_there (λ same. not (inl same)) (λ same. not (inr same)) }),
       record { names = sym more.one; bytes = sym is ∙ sym (bytes_there after n takes.some) },
     )
 
 -- a sector that a part names is written over
-pub writes_over : (a : Alloc) (content after : Image) (e : Entry) (j n : ℕ) → IsReady a content e → j < 16570 → named content e (part j) ≡ n → n ≢ 0 → first_of a ≤ n → n < end_of a
+pub writes_over : (a : Alloc) (content after : Image) (e : Entry) (j n : ℕ) → IsReady a content e → e.size ≤ 8483840 → j < 16570 → named content e (part j) ≡ n → n ≢ 0 → first_of a ≤ n → n < end_of a
     → ((x : ℕ) → x ≢ n → after x ≡ content x) → Changes a a content after e e (λ q. q ≡ part j)
-writes_over a content after e j n ready lt is some from below stays =
+writes_over a content after e j n ready small lt is some from below stays =
     let more = write_named content after e j n ready.naming lt is some stays in
     let names = names_stay content after e e (part j) n more is in record {
       ready = record {
-        small = ready.small;
         naming = naming_by content after e e ready.naming (omega arith) names;
         taken = λ p there found. ap (taken_of a) (names p there) ∙ ready.taken p there (λ none. found (names p there ∙ none));
         space = used_same content after e e (free_of a) small refl names ready.space;

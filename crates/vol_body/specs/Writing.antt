@@ -46,7 +46,6 @@ pub record Mirrors (content : Image) (e : Entry) (p : Place) (number : ℕ) (ima
 
 -- The file keeps the rules on names, what it names is taken, and there is space for all of it.
 pub record IsReady (a : Alloc) (content : Image) (e : Entry) : Type 0 where
-  pub small : e.size ≤ 8483840
   pub naming : IsNaming content e
   pub taken : NamesTaken (taken_of a) content e
   pub space : need_of e.size ≤ free_of a + used_of content e
