@@ -11,3 +11,4 @@ pub mod Space
 pub mod Added
 pub mod Steps
 pub mod Loads
+pub mod Written
