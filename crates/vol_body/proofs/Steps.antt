@@ -1,5 +1,5 @@
 -- Steps of a write.
-use Rattle.std.proofs.Common.{◌≡◌, ◌≢◌, ◌⊎◌, inl, inr, ◌≤◌, ◌<◌, ◌+◌, ◌-◌, ◌*◌, ◌/◌, ◌%◌, ◌==◌, ℕ, Bool, true, false, if◌then◌else◌, nat_lt, List, length, drop, get_or, refl, sym, ◌∙◌, ap, arith}
+use Rattle.std.proofs.Common.{◌≡◌, ◌≢◌, ◌⊎◌, inl, inr, ◌≤◌, ◌<◌, ◌+◌, ◌-◌, ◌*◌, ◌/◌, ◌%◌, ◌==◌, ℕ, zero, suc, Bool, true, false, if◌then◌else◌, nat_lt, List, length, drop, get_or, refl, sym, ◌∙◌, ap, subst, arith}
 use Rattle.std.proofs.lemmas.Bool.{cases_eq, cases_lt, cases_Bool, false≢true}
 use Rattle.std.proofs.lemmas.List.{get_or_past}
 use Rattle.std.proofs.lemmas.Bool.Decides.{nat_tests}
@@ -12,11 +12,11 @@ use Rattle.vol_alloc.specs.Alloc.{first_of, end_of, taken_of}
 use Rattle.vol_alloc.specs.declared.sectors.Alloc.{Alloc}
 use Rattle.vol_inode.specs.declared.entry.Entry.{Entry}
 use Rattle.vol_body.specs.Body.{Place, part, list, lists, later_list, IsPlace, named, number_in, part_bytes}
-use Rattle.vol_body.specs.Writing.{ListedAt, Mirrors, IsReady, SamePlace, Changes, placed}
+use Rattle.vol_body.specs.Writing.{ListedAt, Mirrors, IsReady, SamePlace, Changes, IsPartIn, HasParts, OnlyPuts, SameRange, segment, placed}
 use Rattle.vol_body.proofs.Listed.{number_of_bytes}
 use Rattle.vol_body.proofs.Places.{part_listed, part_later, bytes_there}
 use Rattle.vol_body.proofs.OneMore.{write_named}
-use Rattle.vol_body.proofs.Added.{writes_over}
+use Rattle.vol_body.proofs.Added.{writes_over, changes_twice}
 
 pub put_here : (n : ℕ) (bytes : List ℕ) (content : Image) → put n bytes content n ≡ bytes
 put_here n bytes content = pick n bytes (content n)
@@ -77,6 +77,17 @@ staged_still n k old new is was = is k ∙ pick n k (old k) was
     pick n k b was = grind (arith, nat_tests)
 
 module _ {D : Type 0} {g : Ghosts D} where
+  pub puts_then : (a b c : Log D g) → OnlyPuts a b → OnlyPuts b c → OnlyPuts a c
+  puts_then a b c one two = record {
+    device = two.device ∙ one.device;
+    sectors = two.sectors ∙ one.sectors;
+    failed = two.failed ∙ one.failed;
+    staged = λ n is. two.staged n (one.staged n is);
+  }
+
+  pub puts_none : (a : Log D g) → OnlyPuts a a
+  puts_none a = record { device = refl; sectors = refl; failed = refl; staged = λ n is. is }
+
   pub placed_most : (log : Log D g) (n : ℕ) → placed log n ≤ 1
   placed_most log n = most (n == 0) (is_staged log n)
     where
@@ -161,3 +172,62 @@ part_over a content after e j n image ready lt is some taken writes =
       writes_over a content after e j n ready ready.small lt (sym is) some range.0 range.1 stays,
       ap (part_bytes after) more.one ∙ bytes_there after n some ∙ ap (λ (m : Image). m n) writes ∙ put_here n image content,
     )
+
+-- sector 0 is no data sector
+pub none_taken : (a : Alloc) → 122 ≤ first_of a → taken_of a 0 ≡ false
+none_taken a behind = elim (cases_Bool (taken_of a 0)) [
+  | inl is ↦ absurd (omega (arith, behind, taken_range a 0 is))
+  | inr free ↦ free
+]
+
+pub part_in_more : (from to : ℕ) (p : Place) → IsPartIn from to p → IsPartIn from (to + 1) p
+part_in_more from to (part j) there = (there.0, omega (arith, there.1))
+part_in_more from to list there = there
+part_in_more from to lists there = there
+part_in_more from to (later_list i) there = there
+
+pub part_in_here : (from j : ℕ) (p : Place) → from ≤ j → p ≡ part j → IsPartIn from (j + 1) p
+part_in_here from j p le is = let here : IsPartIn from (j + 1) (part j) = (le, omega arith) in subst (IsPartIn from (j + 1)) (sym is) here
+
+-- a loop ends behind the last part
+pub part_in_all : (from to j : ℕ) (p : Place) → j - from ≤ to - from → IsPartIn from j p → IsPartIn from to p
+part_in_all from to j (part k) few there = (there.0, omega (arith, there.0, there.1))
+part_in_all from to j list few there = there
+part_in_all from to j lists few there = there
+part_in_all from to j (later_list i) few there = there
+
+-- one more part has its bytes
+pub parts_more : (b c : Alloc) (c1 c2 : Image) (e1 e2 : Entry) (Touched : Place → Type 0) (from j : ℕ) (image : ℕ → List ℕ) → Changes b c c1 c2 e1 e2 Touched → ((k : ℕ) → k < j → Touched (part k) → ⊥) → j < 16570
+    → HasParts c1 e1 from j image → part_bytes c2 (named c2 e2 (part j)) ≡ image j → HasParts c2 e2 from (j + 1) image
+parts_more b c c1 c2 e1 e2 Touched from j image changes apart small so_far here k le lt = elim (cases_lt k j) [
+  | inl before ↦ (changes.stays (part k) (omega arith) (apart k before)).bytes ∙ so_far k le before
+  | inr same ↦
+      let is : k ≡ j = omega arith in
+      ap (λ (x : ℕ). part_bytes c2 (named c2 e2 (part x))) is ∙ here ∙ sym (ap image is)
+]
+
+pub parts_shorter : (content : Image) (e : Entry) (from to j : ℕ) (image : ℕ → List ℕ) → to ≤ j → HasParts content e from j image → HasParts content e from to image
+parts_shorter content e from to j image le parts k from_k lt = parts k from_k (omega arith)
+
+-- the pointer sector of a segment lists its parts
+pub segment_lists : (g start j : ℕ) → start ≡ 58 + 128 * g → start ≤ j → ListedAt (segment g) (j - start) (part j)
+segment_lists zero start j is le = omega arith
+segment_lists (suc k) start j is le = omega arith
+
+pub segment_place : (g start to j : ℕ) → start ≡ 58 + 128 * g → start ≤ j → j < 16570 → IsPlace (segment g)
+segment_place zero start to j is le lt = tt
+segment_place (suc k) start to j is le lt = omega arith
+
+pub segment_other : (g j : ℕ) → segment g ≡ part j → ⊥
+segment_other zero j is = cc
+segment_other (suc k) j is = cc
+
+pub range_then : (a b c : Alloc) → SameRange a b → SameRange b c → SameRange a c
+range_then a b c one two = record { first = two.first ∙ one.first; end = two.end ∙ one.end }
+
+-- one change after another, over the same range of sectors
+pub changes_then : (a b c : Alloc) (c0 c1 c2 : Image) (e0 e1 e2 : Entry) (One Other Both : Place → Type 0) → 122 ≤ first_of a → SameRange a b → SameRange b c
+    → ((p : Place) → One p → Both p) → ((p : Place) → Other p → Both p) → Changes a b c0 c1 e0 e1 One → Changes b c c1 c2 e1 e2 Other → Changes a c c0 c2 e0 e2 Both
+changes_then a b c c0 c1 c2 e0 e1 e2 One Other Both behind range further one_in other_in one other =
+    let still : 122 ≤ first_of c = omega (arith, behind, range.first, further.first) in
+    changes_twice a b c c0 c1 c2 e0 e1 e2 One Other Both (none_taken a behind) (none_taken c still) range.first range.end one_in other_in one other
