@@ -72,8 +72,8 @@ adds_pointer a b content after e changed s n p image takes ready small stays set
     let fresh = free_is_others (taken_of a) content e n ready.taken takes.some takes.free in
     let more = pointed_more content after e changed s n p image fresh stays sets is at blank none in (
       changes_one a b content after e changed p n (λ q. q ≡ p) more takes ready small none serves
-      (λ place. others_stay_one place (first_of a) (end_of a) (taken_of a) content after e n stays takes.from takes.below (λ taken others. both_ways (taken_of a n) takes.free taken))
-      (λ q there not. record { name = more.rest q there not; bytes = places_stay content after e changed p n more fresh stays q there not }),
+          (λ place. others_stay_one place (first_of a) (end_of a) (taken_of a) content after e n stays takes.from takes.below (λ taken others. both_ways (taken_of a n) takes.free taken))
+          (λ q there not. record { name = more.rest q there not; bytes = places_stay content after e changed p n more fresh stays q there not }),
       record { names = sym more.one; bytes = sym is ∙ sym (bytes_there after n takes.some) },
     )
 
@@ -97,8 +97,8 @@ adds_number a b content after e n m i q p image takes ready small some from belo
     let there = place_of p e.size small serves in
     let more = listed_more content after e n m i q p image ready.naming fresh some lists_it is lt at there (sym names) blank none in (
       changes_one a b content after e e p n (λ x. (x ≡ p) ⊎ (x ≡ q)) more takes ready small none serves
-      (λ place. others_stay_two place (first_of a) (end_of a) (taken_of a) content after e n m lists_it.stays takes.from takes.below (λ taken others. both_ways (taken_of a n) takes.free taken) from below (λ taken others. others q q_there (sym names)))
-      (λ x x_there not. record { name = more.rest x x_there (λ same. not (inl same)); bytes = places_stay_but content after e e p q n m more ready.naming fresh q_there (sym names) lists_it.stays x x_there (λ same. not (inl same)) (λ same. not (inr same)) }),
+          (λ place. others_stay_two place (first_of a) (end_of a) (taken_of a) content after e n m lists_it.stays takes.from takes.below (λ taken others. both_ways (taken_of a n) takes.free taken) from below (λ taken others. others q q_there (sym names)))
+          (λ x x_there not. record { name = more.rest x x_there (λ same. not (inl same)); bytes = places_stay_but content after e e p q n m more ready.naming fresh q_there (sym names) lists_it.stays x x_there (λ same. not (inl same)) (λ same. not (inr same)) }),
       record { names = sym more.one; bytes = sym is ∙ sym (bytes_there after n takes.some) },
     )
 

@@ -12,3 +12,4 @@ pub mod Added
 pub mod Steps
 pub mod Loads
 pub mod Written
+pub mod Finished

@@ -186,8 +186,8 @@ write_named content after e j n naming lt is some stays =
     let in_lists = λ (i : ℕ). same_number content after (named content e lists) i (stays_by lists tt (λ equal. cc)) in
     let listed = λ (i : ℕ). same_number content after (named content e list) i (stays_by list tt (λ equal. cc)) in
     let later = λ (k : ℕ) (below : k < 16570).
-        ap (λ (x : ℕ). number_in after x ((k - 186) % 128)) (in_lists ((k - 186) / 128))
-        ∙ same_number content after (named content e (later_list ((k - 186) / 128))) ((k - 186) % 128) (stays_by (later_list ((k - 186) / 128)) (quotient_below k below) (λ equal. cc)) in
+    ap (λ (x : ℕ). number_in after x ((k - 186) % 128)) (in_lists ((k - 186) / 128))
+    ∙ same_number content after (named content e (later_list ((k - 186) / 128))) ((k - 186) % 128) (stays_by (later_list ((k - 186) / 128)) (quotient_below k below) (λ equal. cc)) in
     let keeps : KeepsNumbers content after e e list = record {
       direct = λ k below not. refl;
       first = λ not. refl;

@@ -1,5 +1,5 @@
 -- Steps of a write.
-use Rattle.std.proofs.Common.{◌≡◌, ◌≢◌, ◌⊎◌, inl, inr, ◌≤◌, ◌<◌, ◌+◌, ◌-◌, ◌*◌, ◌/◌, ◌%◌, ◌==◌, ℕ, zero, suc, Bool, true, false, if◌then◌else◌, nat_lt, List, length, drop, get_or, refl, sym, replicate, ◌∙◌, ap, subst, arith}
+use Rattle.std.proofs.Common.{◌≡◌, ◌≢◌, ◌⊎◌, inl, inr, ◌≤◌, ◌<◌, ◌+◌, ◌-◌, ◌*◌, ◌/◌, ◌%◌, ◌==◌, ℕ, zero, suc, Bool, true, false, if◌then◌else◌, nat_lt, List, length, drop, get_or, refl, sym, replicate, Result, Ok, Err, OnErr, ◌∙◌, ap, subst, arith}
 use Rattle.std.proofs.lemmas.Bool.{cases_eq, cases_lt, cases_Bool, false≢true}
 use Rattle.std.proofs.lemmas.List.{get_or_past}
 use Rattle.std.proofs.lemmas.Bool.Decides.{nat_tests}
@@ -35,10 +35,13 @@ put_other n k bytes content other = pick k bytes (content k) other
 pub taken_range : (a : Alloc) (n : ℕ) → taken_of a n ≡ true → (first_of a ≤ n) × (n < end_of a)
 taken_range a n is = elim (cases_lt n a.first) [
   | inl before ↦ absurd (false≢true (sym (first_one n a.first (get_or a.taken.items (n - a.first) false) before) ∙ is))
-  | inr from ↦ (from, elim (cases_lt (n - a.first) (length a.taken.items)) [
-    | inl within ↦ omega (arith, a.size)
-    | inr past ↦ absurd (false≢true (sym (get_or_past a.taken.items (n - a.first) false past) ∙ sym (second_one n a.first (get_or a.taken.items (n - a.first) false) from) ∙ is))
-  ])
+  | inr from ↦ (
+    from,
+    elim (cases_lt (n - a.first) (length a.taken.items)) [
+      | inl within ↦ omega (arith, a.size)
+      | inr past ↦ absurd (false≢true (sym (get_or_past a.taken.items (n - a.first) false past) ∙ sym (second_one n a.first (get_or a.taken.items (n - a.first) false) from) ∙ is))
+    ],
+  )
 ]
   where
     first_one : (n m : ℕ) (b : Bool) → n < m → (if nat_lt n m then false else b) ≡ false
@@ -288,3 +291,11 @@ part_in_span from to first last (part j) starts ends there = (omega (arith, ther
 part_in_span from to first last list starts ends there = there
 part_in_span from to first last lists starts ends there = there
 part_in_span from to first last (later_list i) starts ends there = there
+
+pub room_left : (staged : Bool) (room now : ℕ) → now ≡ (if staged then room else room - 1) → room ≤ now + 1
+room_left true room now is = omega arith
+room_left false room now is = omega arith
+
+pub on_err : {T E : Type 0} {X : Type 0} (r : Result T E) → X → OnErr r X
+on_err (Ok x) is = tt
+on_err (Err e) is = is

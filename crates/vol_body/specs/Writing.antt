@@ -9,8 +9,8 @@ use Rattle.vol_alloc.specs.declared.sectors.Alloc.{Alloc}
 use Rattle.vol_inode.specs.declared.entry.Entry.{Entry}
 use Rattle.vol_inode.specs.Space.{sectors_of, need_of}
 use Rattle.vol_body.specs.declared.lists.Lists.{Lists}
-use Rattle.vol_body.specs.Body.{Place, part, list, lists, later_list, IsPlace, first_served, named, part_bytes, NamesTaken}
-use Rattle.vol_body.specs.Change.{used_of, OthersStay, TakesAndGives}
+use Rattle.vol_body.specs.Body.{Place, part, list, lists, later_list, IsPlace, first_served, named, part_bytes, bytes_of, NamesTaken, IsBody}
+use Rattle.vol_body.specs.Change.{written, used_of, OthersStay, TakesAndGives}
 use Rattle.vol_body.specs.Naming.{IsNaming}
 
 -- the place of the pointer sector that lists the 128 parts from 58 + 128 * g on
@@ -132,3 +132,10 @@ pub record KnowsAll (a : Alloc) (all : Lists) : Type 0 where
   pub lists : all.lists.number ≢ 0 → taken_of a all.lists.number ≡ true
   pub early : all.early.number ≢ 0 → taken_of a all.early.number ≡ true
   pub late : all.late.number ≢ 0 → taken_of a all.late.number ≡ true
+
+-- What a write of some bytes leaves.
+pub record WriteLeaves (place : ℕ) (a b : Alloc) (content after : Image) (e changed : Entry) (offset : ℕ) (new : List ℕ) : Type 0 where
+  pub bytes : bytes_of after changed ≡ written (bytes_of content e) offset new
+  pub rules : IsBody after changed
+  pub others : OthersStay place (first_of a) (end_of a) (taken_of a) content after e
+  pub taken : TakesAndGives (taken_of a) (taken_of b) content after e changed

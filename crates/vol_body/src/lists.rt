@@ -97,7 +97,11 @@ fn load<D: Device>(
     ensures reads { OnlyReads log.old log.new }
     ensures failed { has_failed log.new ≡ is_err result }
 {
-    let image = if number == 0 { [0; 512] } else { log.read(number)? };
+    let image = if number == 0 {
+        [0; 512]
+    } else {
+        log.read(number)?
+    };
     Ok(PointerSector { number, image })
 }
 

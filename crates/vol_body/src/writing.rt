@@ -8,6 +8,7 @@ ghost use Rattle.vol_inode.specs.Spelling.{spelling};
 ghost use Rattle.vol_body.specs.Body.{part, named, part_bytes, NamesTaken, IsBody, bytes_of};
 ghost use Rattle.vol_body.specs.Change.{written, used_of, OthersStay, TakesAndGives};
 ghost use Rattle.vol_body.specs.Reading.{OnlyReads, OnlyStages};
+ghost use Rattle.vol_body.specs.Writing.{SameRange, WriteLeaves};
 
 use crate::lists::load_lists;
 use crate::locate::read_part;
@@ -82,6 +83,45 @@ pub fn write_at<D: Device>(
     if bytes.is_empty() {
         return Ok(());
     }
+    write_some(log, sectors, place, entry, offset, bytes)
+}
+
+/// Writes some bytes.
+fn write_some<D: Device>(
+    log: &mut Log<D>,
+    sectors: &mut Alloc,
+    place: u32,
+    entry: &mut Entry,
+    offset: u32,
+    bytes: &[u8],
+) -> Result<(), DeviceFault>
+    requires behind { 122 ≤ place }
+    requires slot { place < first_of sectors.old }
+    requires within { place < sectors_of log.old }
+    requires there { end_of sectors.old ≤ sectors_of log.old }
+    requires room { 37 ≤ room_of log.old }
+    requires working { has_failed log.old ≡ false }
+    requires small_before { entry.old.size ≤ 8483840 }
+    requires small { offset + length bytes.now ≤ 8483840 }
+    requires few { length bytes.now ≤ 16384 }
+    requires some { 0 < length bytes.now }
+    ensures done { D.honest (device_of log.old)
+        → NamesTaken (taken_of sectors.old) (view log.old) entry.old
+        → IsBody (view log.old) entry.old
+        → need_of (max entry.old.size (offset + length bytes.now))
+        ≤ free_of sectors.old + used_of (view log.old) entry.old
+        → OnOk result (WriteLeaves place sectors.old sectors.new (view log.old) (view log.new)
+        entry.old entry.new offset bytes.now) }
+    ensures entry { OnOk result (entry.new
+        ≡ record entry.old { size = max entry.old.size (offset + length bytes.now); pointers = entry.new.pointers }) }
+    ensures staged { OnOk result (view log.new place ≡ spelling entry.new) }
+    ensures range { SameRange sectors.old sectors.new }
+    ensures room { room_of log.old ≤ room_of log.new + 37 }
+    ensures log { OnlyStages log.old log.new }
+    ensures refused { OnErr result ((OnlyReads log.old log.new) × (entry.new ≡ entry.old)
+        × (sectors.new ≡ sectors.old)) }
+    ensures failed { has_failed log.new ≡ is_err result }
+{
     let end = offset + bytes.len() as u32;
     let first = offset / 512;
     let last = (end - 1) / 512;

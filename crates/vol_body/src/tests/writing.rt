@@ -13,11 +13,7 @@ use vol_log::Log;
 use vol_sector::{FuseDevice, MemoryDevice};
 
 // A log over a device of so many sectors, that passes so many operations.
-fn open(
-    alloc: Global,
-    sectors: u32,
-    operations: u64,
-) -> Result<Log<FuseDevice<MemoryDevice>>, Fail>
+fn open(alloc: Global, sectors: u32, operations: u64) -> Result<Log<FuseDevice<MemoryDevice>>, Fail>
     requires { 138 ≤ sectors }
     ensures { IfOk result (λ log. sectors_of log ≡ sectors) }
 {
@@ -143,7 +139,11 @@ fn a_gap_reads_as_zeros(rt: HostRuntime) -> Result<(), Fail> {
         let bytes = read(&mut log, &sectors, &entry, 1_000 * piece)?;
         for (i, byte) in bytes.iter().enumerate() {
             let at = 1_000 * piece as usize + i;
-            let wanted = if at < 70_000 { 0 } else { if at == 70_000 { 9 } else { 7 } };
+            let wanted = if at < 70_000 {
+                0
+            } else {
+                if at == 70_000 { 9 } else { 7 }
+            };
             assert_eq!(rt; *byte, wanted, "at {at}");
         }
     }
@@ -203,7 +203,10 @@ fn a_write_over_old_bytes_takes_no_sector(rt: HostRuntime) -> Result<(), Fail> {
     assert_eq!(rt; (log.room(), log.failed()), (120, false));
     // parts 1 to 3
     write(&mut log, &mut sectors, &mut entry, 700, &[2; 1_000])?;
-    assert_eq!(rt; (log.room(), sectors.free_count(), entry.size), (116, free, 3_000));
+    assert_eq!(rt;
+        (log.room(), sectors.free_count(), entry.size),
+        (116, free, 3_000)
+    );
     for piece in 0..3u32 {
         let bytes = read(&mut log, &sectors, &entry, 1_000 * piece)?;
         for (i, byte) in bytes.iter().enumerate() {
@@ -232,7 +235,10 @@ fn a_write_after_a_read_that_fails_stages_nothing(rt: HostRuntime) -> Result<(),
     }
     let written = write_at(&mut log, &mut sectors, 123, &mut entry, 100, &[2; 800]);
     assert!(rt; written.is_err());
-    assert_eq!(rt; (log.failed(), log.room(), sectors.free_count()), (true, 120, free));
+    assert_eq!(rt;
+        (log.failed(), log.room(), sectors.free_count()),
+        (true, 120, free)
+    );
     assert!(rt; entry == before);
     let _ = log.into_device();
     Ok(())

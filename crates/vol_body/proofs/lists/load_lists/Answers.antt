@@ -20,13 +20,13 @@ returns-clause-right g c h names =
     let top = c.in_ok-lists.lists in
     let right = λ (reaches : 186 ≤ c.args.last). c.in_ok-lists.ensures.right h names reaches in
     let early = λ (reaches : 58 + 128 * segment_of c.args.first ≤ c.args.last).
-        mirrors_in e (segment (c.saturating_sub-g.result / 128)) c.in_ok-early.early.number c.in_ok-early.early.image one
-        (c.in_ok-early.ensures.right first_honest (subst (λ (m : Image). NamesTaken taken m e) (sym one) names) (omega (arith, group, reaches))
-        (λ further. mirrors_in e lists top.number top.image (sym one) (right further))) in
+    mirrors_in e (segment (c.saturating_sub-g.result / 128)) c.in_ok-early.early.number c.in_ok-early.early.image one
+    (c.in_ok-early.ensures.right first_honest (subst (λ (m : Image). NamesTaken taken m e) (sym one) names) (omega (arith, group, reaches))
+    (λ further. mirrors_in e lists top.number top.image (sym one) (right further))) in
     let late = λ (reaches : 186 + 128 * segment_of c.args.first ≤ c.args.last).
-        mirrors_in e (segment (c.saturating_sub-g.result / 128 + 1)) c.in_ok-late.late.number c.in_ok-late.late.image two
-        (c.in_ok-late.ensures.right second_honest (subst (λ (m : Image). NamesTaken taken m e) (sym two) names) (omega (arith, group, reaches))
-        (λ further. mirrors_in e lists top.number top.image (sym two) (right further))) in
+    mirrors_in e (segment (c.saturating_sub-g.result / 128 + 1)) c.in_ok-late.late.number c.in_ok-late.late.image two
+    (c.in_ok-late.ensures.right second_honest (subst (λ (m : Image). NamesTaken taken m e) (sym two) names) (omega (arith, group, reaches))
+    (λ further. mirrors_in e lists top.number top.image (sym two) (right further))) in
     record {
       lists = right;
       early = λ reaches. subst (λ (x : ℕ). Mirrors content e (segment x) c.in_ok-early.early.number c.in_ok-early.early.image) group (early reaches);

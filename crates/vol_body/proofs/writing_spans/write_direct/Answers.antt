@@ -39,7 +39,7 @@ loop-j-preserved g c =
           let size : sectors_of e1.size ≡ sectors_of e0.size = ap sectors_of before.0.size in
           let now = step.written before.0.ready (omega (arith, size)) in (
             changes_then a b d c0 c1 c2 e0 e1 e2 (IsPartIn from j) (λ q. q ≡ part j) (IsPartIn from (j + 1)) c.requires.behind so_far.range step.range
-            (part_in_more from j) (λ q is. part_in_here from j q from_j is) before.0 now.0,
+                (part_in_more from j) (λ q is. part_in_here from j q from_j is) before.0 now.0,
             parts_more b d c1 c2 e1 e2 (λ q. q ≡ part j) from j image now.0 (λ k below is. different k j below is) (omega (arith, c.requires.direct)) before.1 (now.1 ∙ c.image_of_part-image.ensures),
           );
     }
@@ -53,6 +53,6 @@ returns-clause-written g c ready fits =
     let piece = c.args.piece.now in
     let done = c.loop-j.invariant.written ready fits in (
       changes_wider c.args.sectors.now c.loop-j.sectors (view c.args.log.now) (view c.loop-j.log) c.args.entry.now c.loop-j.entry (IsPartIn from c.loop-j.j) (IsPartIn from c.args.to)
-      (λ p there. part_in_all from c.args.to c.loop-j.j p c.loop-j.invariant.few there) done.0,
+          (λ p there. part_in_all from c.args.to c.loop-j.j p c.loop-j.invariant.few there) done.0,
       parts_shorter (view c.loop-j.log) c.loop-j.entry from c.args.to c.loop-j.j (image_of piece.offset piece.bytes.now piece.first piece.last) c.loop-j-test.false done.1,
     )

@@ -42,7 +42,7 @@ loop-j-preserved g c =
           let le : start ≤ j = omega (arith, c.requires.starts) in
           let now = step.written e q j (segment_lists s start j starts le) (segment_place s start c.args.to j starts le small) small (omega (arith, fits)) before.0.ready before.2 in (
             changes_then a b d c0 c1 c2 e e e (λ p. IsPartIn from j p ⊎ (p ≡ q)) (λ p. (p ≡ part j) ⊎ (p ≡ q)) (λ p. IsPartIn from (j + 1) p ⊎ (p ≡ q)) c.requires.behind so_far.range step.range
-            (λ p touched. widened from j q p touched) (λ p touched. one_more from j q p from_j touched) before.0 now.0,
+                (λ p touched. widened from j q p touched) (λ p touched. one_more from j q p from_j touched) before.0 now.0,
             parts_more b d c1 c2 e e (λ p. (p ≡ part j) ⊎ (p ≡ q)) from j image now.0 (λ k below touched. different k j s below touched) small before.1 (now.1 ∙ c.image_of_part-image.ensures),
             now.2,
           );
@@ -66,7 +66,7 @@ returns-clause-written g c e s starts fits ready mirror =
     let piece = c.args.piece.now in
     let done = c.loop-j.invariant.written e s starts fits ready mirror in (
       changes_wider c.args.sectors.now c.loop-j.sectors (view c.args.log.now) (view c.loop-j.log) e e (λ p. IsPartIn from c.loop-j.j p ⊎ (p ≡ segment s)) (λ p. IsPartIn from c.args.to p ⊎ (p ≡ segment s))
-      (λ p touched. shorter from c.args.to c.loop-j.j p (segment s) c.loop-j.invariant.few touched) done.0,
+          (λ p touched. shorter from c.args.to c.loop-j.j p (segment s) c.loop-j.invariant.few touched) done.0,
       parts_shorter (view c.loop-j.log) e from c.args.to c.loop-j.j (image_of piece.offset piece.bytes.now piece.first piece.last) c.loop-j-test.false done.1,
     )
   where

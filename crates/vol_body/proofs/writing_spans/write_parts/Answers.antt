@@ -63,37 +63,37 @@ returns-clause-written g c ready fits all =
     let size1 : sectors_of e1.size ≡ sectors_of e0.size = ap sectors_of one.0.size in
     let lists_one = λ (reaches : 186 ≤ last). mirror_stays c0 c1 e0 e1 lists top.number top.image (one.0.stays lists tt (λ touched. touched)) (all.lists reaches) in
     let two = c.write_segment.ensures.written one.0.ready (omega (arith, middle_to, size1, fits))
-        (λ some.
-        let reaches : 58 + 128 * s ≤ last = omega (arith, some, middle_from, middle_to, c.saturating_sub-g.ensures) in
-        mirror_stays c0 c1 e0 e1 (segment s) early.number early.image (one.0.stays (segment s) (segment_is_place s last reaches c.requires.last) (λ touched. segment_no_part first to1 s touched))
-        (subst (λ (x : ℕ). Mirrors c0 e0 (segment x) early.number early.image) (sym group) (all.early (omega (arith, reaches, group)))))
-        (λ later. lists_one (omega (arith, later, middle_to))) in
+    (λ some.
+    let reaches : 58 + 128 * s ≤ last = omega (arith, some, middle_from, middle_to, c.saturating_sub-g.ensures) in
+    mirror_stays c0 c1 e0 e1 (segment s) early.number early.image (one.0.stays (segment s) (segment_is_place s last reaches c.requires.last) (λ touched. segment_no_part first to1 s touched))
+    (subst (λ (x : ℕ). Mirrors c0 e0 (segment x) early.number early.image) (sym group) (all.early (omega (arith, reaches, group)))))
+    (λ later. lists_one (omega (arith, later, middle_to))) in
     let size2 : sectors_of e2.size ≡ sectors_of e1.size = ap sectors_of two.0.size in
     let three = c.write_segment-2.ensures.written two.0.ready (omega (arith, size1, size2, fits))
-        (λ some.
-        let reaches : 58 + 128 * (s + 1) ≤ last = omega (arith, some) in
-        let there = segment_is_place (s + 1) last reaches c.requires.last in
-        mirror_stays c1 c2 e1 e2 (segment (s + 1)) late.number late.image (two.0.stays (segment (s + 1)) there (λ touched. next_apart from2 to2 s touched))
-        (mirror_stays c0 c1 e0 e1 (segment (s + 1)) late.number late.image (one.0.stays (segment (s + 1)) there (λ touched. segment_no_part first to1 (s + 1) touched))
-        (subst (λ (x : ℕ). Mirrors c0 e0 (segment (x + 1)) late.number late.image) (sym group) (all.late (omega (arith, reaches, group))))))
-        (λ later. two.2 (lists_one (omega arith))) in
+    (λ some.
+    let reaches : 58 + 128 * (s + 1) ≤ last = omega (arith, some) in
+    let there = segment_is_place (s + 1) last reaches c.requires.last in
+    mirror_stays c1 c2 e1 e2 (segment (s + 1)) late.number late.image (two.0.stays (segment (s + 1)) there (λ touched. next_apart from2 to2 s touched))
+    (mirror_stays c0 c1 e0 e1 (segment (s + 1)) late.number late.image (one.0.stays (segment (s + 1)) there (λ touched. segment_no_part first to1 (s + 1) touched))
+    (subst (λ (x : ℕ). Mirrors c0 e0 (segment (x + 1)) late.number late.image) (sym group) (all.late (omega (arith, reaches, group))))))
+    (λ later. two.2 (lists_one (omega arith))) in
     let Both = λ (p : Place). IsPartIn first (last + 1) p ⊎ IsPointer p in
     let first_two = changes_then a b d c0 c1 c2 e0 e1 e2 (IsPartIn first to1) (λ p. IsPartIn from2 to2 p ⊎ ((p ≡ segment s) ⊎ (p ≡ lists))) Both c.requires.behind c.write_direct.ensures.range c.write_segment.ensures.range
-        (λ p there. inl (part_in_span first to1 first last p (omega arith) (omega (arith, low)) there))
-        (λ p touched. span_touched from2 to2 first last s p (omega (arith, middle_from)) (omega (arith, middle_to)) touched) one.0 two.0 in
+    (λ p there. inl (part_in_span first to1 first last p (omega arith) (omega (arith, low)) there))
+    (λ p touched. span_touched from2 to2 first last s p (omega (arith, middle_from)) (omega (arith, middle_to)) touched) one.0 two.0 in
     let changes = changes_then a d f c0 c2 c3 e0 e2 e3 Both (λ p. IsPartIn from3 (last + 1) p ⊎ ((p ≡ segment (s + 1)) ⊎ (p ≡ lists))) Both c.requires.behind
-        (range_then a b d c.write_direct.ensures.range c.write_segment.ensures.range) c.write_segment-2.ensures.range
-        (λ p touched. touched)
-        (λ p touched. span_touched from3 (last + 1) first last (s + 1) p (omega (arith, c.saturating_sub-g.ensures)) (omega arith) touched) first_two three.0 in
+    (range_then a b d c.write_direct.ensures.range c.write_segment.ensures.range) c.write_segment-2.ensures.range
+    (λ p touched. touched)
+    (λ p touched. span_touched from3 (last + 1) first last (s + 1) p (omega (arith, c.saturating_sub-g.ensures)) (omega arith) touched) first_two three.0 in
     let piece = c.args.piece.now in
     let image = image_of piece.offset piece.bytes.now piece.first piece.last in
     let parts : HasParts c3 e3 first (last + 1) image = λ j from to.
-        let there : j < 16570 = omega (arith, to, c.requires.last) in
-        elim (cases_lt j from3) [
-          | inr le ↦ three.1 j le to
-          | inl before ↦ (three.0.stays (part j) there (λ touched. part_apart from3 (last + 1) (s + 1) j before touched)).bytes ∙ elim (cases_lt j 58) [
-            | inr le ↦ two.1 j (omega (arith, middle_from)) (omega (arith, middle_to))
-            | inl direct ↦ (two.0.stays (part j) there (λ touched. part_apart from2 to2 s j (omega (arith, middle_from)) touched)).bytes ∙ one.1 j from (omega (arith, low))
-          ]
-        ] in
+    let there : j < 16570 = omega (arith, to, c.requires.last) in
+    elim (cases_lt j from3) [
+      | inr le ↦ three.1 j le to
+      | inl before ↦ (three.0.stays (part j) there (λ touched. part_apart from3 (last + 1) (s + 1) j before touched)).bytes ∙ elim (cases_lt j 58) [
+        | inr le ↦ two.1 j (omega (arith, middle_from)) (omega (arith, middle_to))
+        | inl direct ↦ (two.0.stays (part j) there (λ touched. part_apart from2 to2 s j (omega (arith, middle_from)) touched)).bytes ∙ one.1 j from (omega (arith, low))
+      ]
+    ] in
     (changes, parts)

@@ -27,7 +27,7 @@ returns-then-above-ne0-clause-written g c ready fits mirror mirror_all =
     let size : sectors_of e1.size ≡ sectors_of e0.size = ap sectors_of opened.0.changes.size in
     let listed = c.write_listed.ensures.written e1 s refl (omega (arith, size, fits)) opened.0.changes.ready opened.0.mirror in (
       changes_then a b d c0 c1 c2 e0 e1 e1 (λ p. (p ≡ q) ⊎ (p ≡ lists)) (λ p. IsPartIn from to p ⊎ (p ≡ q)) (λ p. IsPartIn from to p ⊎ ((p ≡ q) ⊎ (p ≡ lists))) c.requires.behind c.open_segment.ensures.range c.write_listed.ensures.range
-      (λ p touched. inr touched) (λ p touched. parts_or from to q p touched) opened.0.changes listed.0,
+          (λ p touched. inr touched) (λ p touched. parts_or from to q p touched) opened.0.changes listed.0,
       listed.1,
       λ held. mirror_stays c1 c2 e1 e1 lists new_all.number new_all.image (listed.0.stays lists tt (λ touched. apart from to s touched)) (opened.1 held),
     )
