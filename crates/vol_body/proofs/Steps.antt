@@ -1,5 +1,5 @@
 -- Steps of a write.
-use Rattle.std.proofs.Common.{◌≡◌, ◌≢◌, ◌⊎◌, inl, inr, ◌≤◌, ◌<◌, ◌+◌, ◌-◌, ◌*◌, ◌/◌, ◌%◌, ◌==◌, ℕ, zero, suc, Bool, true, false, if◌then◌else◌, nat_lt, List, length, drop, get_or, refl, sym, ◌∙◌, ap, subst, arith}
+use Rattle.std.proofs.Common.{◌≡◌, ◌≢◌, ◌⊎◌, inl, inr, ◌≤◌, ◌<◌, ◌+◌, ◌-◌, ◌*◌, ◌/◌, ◌%◌, ◌==◌, ℕ, zero, suc, Bool, true, false, if◌then◌else◌, nat_lt, List, length, drop, get_or, refl, sym, replicate, ◌∙◌, ap, subst, arith}
 use Rattle.std.proofs.lemmas.Bool.{cases_eq, cases_lt, cases_Bool, false≢true}
 use Rattle.std.proofs.lemmas.List.{get_or_past}
 use Rattle.std.proofs.lemmas.Bool.Decides.{nat_tests}
@@ -12,8 +12,9 @@ use Rattle.vol_alloc.specs.Alloc.{first_of, end_of, taken_of}
 use Rattle.vol_alloc.specs.declared.sectors.Alloc.{Alloc}
 use Rattle.vol_inode.specs.declared.entry.Entry.{Entry}
 use Rattle.vol_body.specs.Body.{Place, part, list, lists, later_list, IsPlace, named, number_in, part_bytes}
-use Rattle.vol_body.specs.Writing.{ListedAt, Mirrors, IsReady, SamePlace, Changes, IsPartIn, HasParts, OnlyPuts, SameRange, segment, placed}
+use Rattle.vol_body.specs.Writing.{ListedAt, IsBlank, Mirrors, IsReady, SamePlace, Changes, Adds, IsPartIn, HasParts, OnlyPuts, SameRange, segment, placed}
 use Rattle.vol_body.proofs.Listed.{number_of_bytes}
+use Rattle.vol_body.proofs.Changes.{takes_same, stays_same}
 use Rattle.vol_body.proofs.Places.{part_listed, part_later, bytes_there}
 use Rattle.vol_body.proofs.OneMore.{write_named}
 use Rattle.vol_body.proofs.Added.{writes_over, changes_twice}
@@ -231,3 +232,23 @@ pub changes_then : (a b c : Alloc) (c0 c1 c2 : Image) (e0 e1 e2 : Entry) (One Ot
 changes_then a b c c0 c1 c2 e0 e1 e2 One Other Both behind range further one_in other_in one other =
     let still : 122 ≤ first_of c = omega (arith, behind, range.first, further.first) in
     changes_twice a b c c0 c1 c2 e0 e1 e2 One Other Both (none_taken a behind) (none_taken c still) range.first range.end one_in other_in one other
+
+-- nothing changes
+pub changes_none : (a : Alloc) (content : Image) (e : Entry) (Touched : Place → Type 0) → IsReady a content e → Changes a a content content e e Touched
+changes_none a content e Touched ready = record {
+  ready = ready;
+  others = λ place. stays_same place (first_of a) (end_of a) (taken_of a) content e;
+  takes = takes_same (taken_of a) content content e e ready.taken (λ p there. refl);
+  stays = λ p there not. record { name = refl; bytes = refl };
+  size = refl;
+}
+
+pub blank_zeros : (p : Place) → IsBlank p (replicate 512 0)
+blank_zeros (part j) = tt
+blank_zeros list = refl
+blank_zeros lists = refl
+blank_zeros (later_list i) = refl
+
+-- of a place that names none zeros are held
+pub held_zeros : (content : Image) (e : Entry) (p : Place) (number : ℕ) (image : List ℕ) → Mirrors content e p number image → number ≡ 0 → image ≡ replicate 512 0
+held_zeros content e p number image mirror none = mirror.bytes ∙ ap (part_bytes content) none
