@@ -12,7 +12,7 @@ use Rattle.vol_alloc.specs.Alloc.{first_of, end_of, taken_of}
 use Rattle.vol_alloc.specs.declared.sectors.Alloc.{Alloc}
 use Rattle.vol_inode.specs.declared.entry.Entry.{Entry}
 use Rattle.vol_body.specs.Body.{Place, part, list, lists, later_list, IsPlace, named, number_in, part_bytes}
-use Rattle.vol_body.specs.Writing.{ListedAt, IsBlank, Mirrors, IsReady, SamePlace, Changes, Adds, IsPartIn, HasParts, OnlyPuts, SameRange, segment, placed}
+use Rattle.vol_body.specs.Writing.{ListedAt, IsBlank, Mirrors, IsReady, SamePlace, Changes, Adds, IsPartIn, IsPointer, HasParts, OnlyPuts, SameRange, segment, placed}
 use Rattle.vol_body.proofs.Listed.{number_of_bytes}
 use Rattle.vol_body.proofs.Changes.{takes_same, stays_same}
 use Rattle.vol_body.proofs.Places.{part_listed, part_later, bytes_there}
@@ -252,3 +252,39 @@ blank_zeros (later_list i) = refl
 -- of a place that names none zeros are held
 pub held_zeros : (content : Image) (e : Entry) (p : Place) (number : ℕ) (image : List ℕ) → Mirrors content e p number image → number ≡ 0 → image ≡ replicate 512 0
 held_zeros content e p number image mirror none = mirror.bytes ∙ ap (part_bytes content) none
+
+-- a pointer sector is none of the parts, nor another one
+pub segment_no_part : (from to g : ℕ) → IsPartIn from to (segment g) → ⊥
+segment_no_part from to zero there = there
+segment_no_part from to (suc k) there = there
+
+pub segment_not_lists : (g : ℕ) → lists ≡ segment g → ⊥
+segment_not_lists zero is = cc
+segment_not_lists (suc k) is = cc
+
+pub segments_differ : (g : ℕ) → segment (g + 1) ≡ segment g → ⊥
+segments_differ zero is = let one : 0 + 1 ≡ suc 0 = omega arith in clash (sym (ap segment one) ∙ is)
+  where
+    clash : later_list 0 ≡ list → ⊥
+    clash is = cc
+segments_differ (suc k) is = let one : suc k + 1 ≡ suc (suc k) = omega arith in clash k (sym (ap segment one) ∙ is)
+  where
+    clash : (k : ℕ) → later_list (suc k) ≡ later_list k → ⊥
+    clash k is = let same : suc k ≡ k = cc in omega arith
+
+pub segment_is_place : (g last : ℕ) → 58 + 128 * g ≤ last → last < 16570 → IsPlace (segment g)
+segment_is_place zero last le lt = tt
+segment_is_place (suc k) last le lt = omega arith
+
+pub segment_is_pointer : (g : ℕ) (p : Place) → p ≡ segment g → IsPointer p
+segment_is_pointer zero p is = subst IsPointer (sym is) tt
+segment_is_pointer (suc k) p is = subst IsPointer (sym is) tt
+
+pub lists_is_pointer : (p : Place) → p ≡ lists → IsPointer p
+lists_is_pointer p is = subst IsPointer (sym is) tt
+
+pub part_in_span : (from to first last : ℕ) (p : Place) → first ≤ from → to ≤ last + 1 → IsPartIn from to p → IsPartIn first (last + 1) p
+part_in_span from to first last (part j) starts ends there = (omega (arith, there.0), omega (arith, there.1))
+part_in_span from to first last list starts ends there = there
+part_in_span from to first last lists starts ends there = there
+part_in_span from to first last (later_list i) starts ends there = there
