@@ -4,3 +4,12 @@ pub mod Parts
 pub mod Same
 pub mod Needed
 pub mod Grown
+pub mod Changes
+pub mod Listed
+pub mod OneMore
+pub mod Space
+pub mod Added
+pub mod Steps
+pub mod Loads
+pub mod Written
+pub mod Finished

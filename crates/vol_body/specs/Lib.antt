@@ -1,3 +1,5 @@
 pub mod Body
 pub mod Reading
 pub mod Change
+pub mod Naming
+pub mod Writing

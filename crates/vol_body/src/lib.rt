@@ -3,11 +3,17 @@
 
 mod growing;
 mod laws;
+mod lists;
 mod locate;
 mod reading;
 #[cfg(test)]
 mod tests;
+mod writing;
+mod writing_image;
+mod writing_parts;
+mod writing_spans;
 
 pub use growing::grow;
 pub use laws::{names_at_most_what_it_needs, other_files_stay};
 pub use reading::read_at;
+pub use writing::write_at;

@@ -3,6 +3,8 @@
 ghost use Rattle.std.specs.Prelude.{◌≡◌, ◌≤◌, ◌<◌, IfOk};
 ghost use Rattle.vol_log.specs.Log.{sectors_of};
 
+mod writing;
+
 use crate::{grow, read_at};
 use std::alloc::Global;
 use std::test::Fail;
