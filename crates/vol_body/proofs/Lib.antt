@@ -4,3 +4,4 @@ pub mod Parts
 pub mod Same
 pub mod Needed
 pub mod Grown
+pub mod Given

@@ -1,3 +1,4 @@
 pub mod Body
 pub mod Reading
 pub mod Change
+pub mod Shorter

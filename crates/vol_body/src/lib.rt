@@ -1,10 +1,13 @@
 //! The bytes of a file, over the log and the free sectors of a volume.
 #![tactic(auto)]
 
+mod cutting;
+mod giving;
 mod growing;
 mod laws;
 mod locate;
 mod reading;
+mod shrinking;
 #[cfg(test)]
 mod tests;
 
