@@ -1,12 +1,16 @@
 -- How giving sectors back goes on.
-use Rattle.std.proofs.Common.{◌≡◌, ◌≢◌, ◌⊎◌, inl, inr, ⊎_elim, ◌≤◌, ◌<◌, ◌+◌, ◌-◌, ◌*◌, ◌/◌, ◌%◌, ◌==◌, ℕ, suc, Bool, true, false, nat_lt, if◌then◌else◌, List, get_or, slice_index, refl, sym, ◌∙◌, ap, subst, arith}
-use Rattle.std.proofs.lemmas.Bool.{cases_lt, cases_eq}
+use Rattle.std.proofs.Common.{◌≡◌, ◌≢◌, ◌⊎◌, inl, inr, ⊎_elim, ◌≤◌, ◌<◌, ◌+◌, ◌-◌, ◌*◌, ◌/◌, ◌%◌, ◌==◌, ℕ, suc, Bool, true, false, nat_lt, if◌then◌else◌, List, drop, get_or, slice_index, refl, sym, ◌∙◌, ap, subst, arith}
+use Rattle.std.proofs.lemmas.Bool.{cases_lt, cases_eq, cond-true}
+use Rattle.std.proofs.lemmas.List.{get_or_past}
 use Rattle.std.proofs.lemmas.Bool.Decides.{nat_tests}
+use Rattle.byteorder.specs.Endian.{little_number}
 use Rattle.vol_sector.specs.Disk.{Image}
+use Rattle.vol_alloc.specs.declared.sectors.Alloc.{Alloc}
+use Rattle.vol_alloc.specs.Alloc.{end_of, taken_of}
 use Rattle.vol_inode.specs.declared.entry.Entry.{Entry}
 use Rattle.vol_body.specs.Body.{Place, part, list, lists, later_list, IsPlace, first_served, named, number_in}
 use Rattle.vol_body.specs.Shorter.{Gives, StandsFrom, GoesWithList, GoesWithLater, Goes}
-use Rattle.vol_body.proofs.Places.{part_direct, part_listed, part_later}
+use Rattle.vol_body.proofs.Places.{number_there, part_direct, part_listed, part_later}
 
 -- where nothing goes
 pub gives_none : (before : ℕ → Bool) (These : ℕ → Type 0) → ((n : ℕ) → These n → before n ≡ true → ⊥) → Gives before before These
@@ -33,9 +37,9 @@ gives_these a b P Q gives to from = record {
 }
 
 -- one more number of a list
-pub gives_next : (a b c : ℕ → Bool) (numbers : ℕ → ℕ) (from end : ℕ) → from ≤ end → Gives a b (StandsFrom numbers from end) → Gives b c (λ k. k ≡ numbers end) → Gives a c (StandsFrom numbers from (suc end))
+pub gives_next : (a b c : ℕ → Bool) (numbers : ℕ → ℕ) (from end : ℕ) → from ≤ end → Gives a b (StandsFrom numbers from end) → Gives b c (λ k. k ≡ numbers end) → Gives a c (StandsFrom numbers from (end + 1))
 gives_next a b c numbers from end le first second =
-    gives_these a c (λ n. StandsFrom numbers from end n ⊎ (n ≡ numbers end)) (StandsFrom numbers from (suc end)) (gives_then a b c (StandsFrom numbers from end) (λ k. k ≡ numbers end) first second)
+    gives_these a c (λ n. StandsFrom numbers from end n ⊎ (n ≡ numbers end)) (StandsFrom numbers from (end + 1)) (gives_then a b c (StandsFrom numbers from end) (λ k. k ≡ numbers end) first second)
     (λ n either. ⊎_elim (λ s. (s.0, s.1, omega (arith, s.2), s.3)) (λ is. (end, le, omega arith, sym is)) either)
     (λ n s. elim (cases_lt s.0 end) [
       | inl lt ↦ inl (s.0, s.1, lt, s.3)
@@ -44,11 +48,11 @@ gives_next a b c numbers from end le first second =
 
 -- one more later list
 pub gives_next_list : (a b c : ℕ → Bool) (content : Image) (numbers : ℕ → ℕ) (count i : ℕ)
-    → Gives a b (GoesWithLater content numbers count i) → Gives b c (GoesWithList content (numbers i) (count - (186 + 128 * i))) → Gives a c (GoesWithLater content numbers count (suc i))
+    → Gives a b (GoesWithLater content numbers count i) → Gives b c (GoesWithList content (numbers i) (count - (186 + 128 * i))) → Gives a c (GoesWithLater content numbers count (i + 1))
 gives_next_list a b c content numbers count i first second =
     let P = GoesWithLater content numbers count i in
     let Q = GoesWithList content (numbers i) (count - (186 + 128 * i)) in
-    gives_these a c (λ n. P n ⊎ Q n) (GoesWithLater content numbers count (suc i)) (gives_then a b c P Q first second)
+    gives_these a c (λ n. P n ⊎ Q n) (GoesWithLater content numbers count (i + 1)) (gives_then a b c P Q first second)
     (λ n either. ⊎_elim (λ s. (s.0, omega (arith, s.1), s.2)) (λ goes. (i, omega arith, goes)) either)
     (λ n s. elim (cases_lt s.0 i) [
       | inl lt ↦ inl (s.0, lt, s.2)
@@ -62,6 +66,47 @@ gives_lists a b content numbers others count same gives =
     gives_these a b (GoesWithLater content numbers count 128) (GoesWithLater content others count 128) gives
     (λ n s. (s.0, s.1, subst (λ (k : ℕ). GoesWithList content k (count - (186 + 128 * s.0)) n) (same s.0 s.1) s.2))
     (λ n s. (s.0, s.1, subst (λ (k : ℕ). GoesWithList content k (count - (186 + 128 * s.0)) n) (sym (same s.0 s.1)) s.2))
+
+-- what a list's image lists
+pub gives_read : (a b : ℕ → Bool) (content : Image) (of_list from : ℕ) (image : List ℕ) → of_list ≢ 0 → image ≡ content of_list
+    → Gives a b (StandsFrom (λ i. little_number 4 (drop (4 * i) image)) from 128) → Gives a b (StandsFrom (number_in content of_list) from 128)
+gives_read a b content of_list from image there is gives =
+    let same : (i : ℕ) → little_number 4 (drop (4 * i) image) ≡ number_in content of_list i = λ i. ap (λ (bytes : List ℕ). little_number 4 (drop (4 * i) bytes)) is ∙ sym (number_there content of_list i there) in
+    gives_these a b (StandsFrom (λ i. little_number 4 (drop (4 * i) image)) from 128) (StandsFrom (number_in content of_list) from 128) gives
+    (λ n s. (s.0, s.1, s.2, sym (same s.0) ∙ s.3)) (λ n s. (s.0, s.1, s.2, same s.0 ∙ s.3))
+
+pub gives_at : (a b : ℕ → Bool) (one other : Image) (of_list x y : ℕ) → one ≡ other → x ≡ y → Gives a b (GoesWithList one of_list x) → Gives a b (GoesWithList other of_list y)
+gives_at a b one other of_list x y same is gives =
+    subst (λ (k : ℕ). Gives a b (GoesWithList other of_list k)) is (subst (λ (m : Image). Gives a b (GoesWithList m of_list x)) same gives)
+
+-- a number that is taken wherever it isn't 0 is known
+pub known_number : (taken : ℕ → Bool) (m n : ℕ) → m ≡ n → (n ≢ 0 → taken n ≡ true) → (if taken m then m else 0) ≡ n
+known_number taken m n is there = ap (λ (x : ℕ). if taken x then x else 0) is ∙ elim (cases_eq n 0) [
+  | inl none ↦ either (taken n) n none
+  | inr some ↦ cond-true _ _ _ (there some)
+]
+  where
+    either : (b : Bool) (n : ℕ) → n ≡ 0 → (if b then n else 0) ≡ n
+    either true n none = refl
+    either false n none = sym none
+
+-- a known sector is one of the range
+pub known_there : (a : Alloc) (n k end : ℕ) → k ≡ (if taken_of a n then n else 0) → end_of a ≤ end → k ≢ 0 → k < end
+known_there a n k end is le some = elim (cases_lt n (end_of a)) [
+  | inl lt ↦ omega (arith, below (taken_of a n) n, is)
+  | inr past ↦ absurd (some (is ∙ outside past))
+]
+  where
+    below : (b : Bool) (n : ℕ) → (if b then n else 0) ≤ n
+    below true n = omega arith
+    below false n = omega arith
+
+    outside : end_of a ≤ n → (if taken_of a n then n else 0) ≡ 0
+    outside past = neither (nat_lt n a.first) (get_or a.taken.items (n - a.first) false) (get_or_past a.taken.items (n - a.first) false (omega (arith, a.size)))
+      where
+        neither : (b f : Bool) → f ≡ false → (if (if b then false else f) then n else 0) ≡ 0
+        neither true f none = refl
+        neither false f none = ap (λ (x : Bool). if x then n else 0) none
 
 -- Sector 0 stands for none, and is never taken.
 pub none_taken : (first : ℕ) (flags : List Bool) (n : ℕ) → 0 < first → 0 ≡ n → (if nat_lt n first then false else get_or flags (n - first) false) ≡ true → ⊥

@@ -5,3 +5,4 @@ pub mod Same
 pub mod Needed
 pub mod Grown
 pub mod Given
+pub mod Cuts
