@@ -145,8 +145,7 @@ module _ (content : Image) (e : Entry) (count : ℕ) where
   to_later_part i m n a b le is =
       let j = 186 + 128 * i + m in
       let at_list : (j - 186) / 128 ≡ i = omega arith in
-      let at : (j - 186) % 128 ≡ m = omega arith in
-      (
+      let at : (j - 186) % 128 ≡ m = omega arith in (
         part j,
         omega arith,
         omega arith,
@@ -160,8 +159,7 @@ module _ (content : Image) (e : Entry) (count : ℕ) where
 
   to_list : (n : ℕ) → GoesWithList content (named content e list) (count - 58) n → Goes content e count n
   to_list n goes = ⊎_elim (λ s.
-      let back : s.0 + 58 - 58 ≡ s.0 = omega arith in
-      (
+      let back : s.0 + 58 - 58 ≡ s.0 = omega arith in (
         part (s.0 + 58),
         omega (arith, s.2),
         omega (arith, s.1),

@@ -6,3 +6,5 @@ pub mod Needed
 pub mod Grown
 pub mod Given
 pub mod Cuts
+pub mod Zeros
+pub mod Shorter

@@ -5,6 +5,7 @@ use Rattle.vol_sector.specs.Disk.{Image, put}
 use Rattle.vol_inode.specs.Space.{sectors_of, lists_of}
 use Rattle.vol_inode.specs.declared.entry.Entry.{Entry}
 use Rattle.vol_body.specs.declared.cutting.Cut.{Cut}
+use Rattle.vol_body.specs.declared.cutting.Cuts.{Cuts}
 use Rattle.vol_body.specs.Body.{Place, part, list, lists, later_list, IsPlace, first_served, named, number_in}
 
 -- how many bytes of the sector at this place a file of this size keeps
@@ -36,11 +37,27 @@ cut kept bytes = take kept bytes ++ replicate (512 - kept) 0
 pub record IsCut (content : Image) (n kept : ℕ) (c : Cut) : Type 0 where
   pub sector : c.sector ≢ 0 → c.sector ≡ n
   pub image : c.sector ≢ 0 → c.image ≡ cut kept (content n)
+  pub short : c.sector ≢ 0 → kept < 512
   pub same : c.sector ≡ 0 → n ≢ 0 → 0 < kept → kept < 512 → content n ≡ cut kept (content n)
 
 -- the image with what is to be written
 abbrev pub with_cut : Cut → Image → Image
 with_cut c image = if c.sector == 0 then image else put c.sector c.image image
+
+-- what is to be written for a file of this size
+pub record AreCuts (content : Image) (e : Entry) (size : ℕ) (cuts : Cuts) : Type 0 where
+  pub part : IsCut content (named content e (last_part size)) (kept_bytes size (last_part size)) cuts.part
+  pub list : IsCut content (named content e (cut_list size)) (kept_bytes size (cut_list size)) cuts.list
+  pub last : IsCut content (named content e (last_list size)) (kept_bytes size (last_list size)) cuts.last
+
+-- the sectors that are to be written are among these
+pub record AreWithin (first end : ℕ) (cuts : Cuts) : Type 0 where
+  pub part : cuts.part.sector ≢ 0 → (first ≤ cuts.part.sector) × (cuts.part.sector < end)
+  pub list : cuts.list.sector ≢ 0 → (first ≤ cuts.list.sector) × (cuts.list.sector < end)
+  pub last : cuts.last.sector ≢ 0 → (first ≤ cuts.last.sector) × (cuts.last.sector < end)
+
+abbrev pub with_cuts : Cuts → Image → Image
+with_cuts cuts image = with_cut cuts.last (with_cut cuts.list (with_cut cuts.part image))
 
 -- those of these sectors that were taken are free now, and all others stay
 pub record Gives (before now : ℕ → Bool) (These : ℕ → Type 0) : Type 0 where

@@ -3,10 +3,11 @@
 ghost use Rattle.std.specs.Prelude.{◌≡◌, ◌≢◌, ◌≤◌, ◌<◌, ◌+◌, ◌-◌, ◌*◌, ◌/◌, ℕ, true, false, IfOk, is_err, if◌then◌else◌};
 ghost use Rattle.vol_inode.specs.Space.{sectors_of as parts_of};
 ghost use Rattle.vol_log.specs.Log.{view, sectors_of, room_of, has_failed, device_of};
-ghost use Rattle.vol_alloc.specs.Alloc.{end_of, taken_of};
+ghost use Rattle.vol_alloc.specs.Alloc.{first_of, end_of, taken_of};
 ghost use Rattle.vol_body.specs.Body.{NamesTaken, named};
 ghost use Rattle.vol_body.specs.Reading.{OnlyReads};
 ghost use Rattle.vol_body.specs.Shorter.{kept_bytes, cut, IsCut, with_cut, last_part, cut_list, last_list};
+ghost use Rattle.vol_body.specs.Shorter.{AreCuts, AreWithin, with_cuts};
 
 use crate::locate::{known, read_number, sector_of_part};
 use vol_alloc::Alloc;
@@ -19,6 +20,15 @@ use vol_sector::{Device, DeviceFault};
 pub struct Cut {
     pub sector: u32,
     pub image: [u8; 512],
+}
+
+/// What is to be written for a file that is made shorter: for its last part, for its list or the
+/// list of its lists, and for the last of these.
+#[derive(Drop)]
+pub struct Cuts {
+    pub part: Cut,
+    pub list: Cut,
+    pub last: Cut,
 }
 
 /// The bytes before a place, and zeros from it on.
@@ -62,7 +72,7 @@ fn read_cut<D: Device>(
 }
 
 /// What is to be written for the last part of a file of this size.
-pub fn cut_of_part<D: Device>(
+fn cut_of_part<D: Device>(
     log: &mut Log<D>,
     sectors: &Alloc,
     entry: &Entry,
@@ -87,7 +97,7 @@ pub fn cut_of_part<D: Device>(
 }
 
 /// What is to be written for the list of a file of this size, or for the list of its lists.
-pub fn cut_of_list<D: Device>(
+fn cut_of_list<D: Device>(
     log: &mut Log<D>,
     sectors: &Alloc,
     entry: &Entry,
@@ -117,7 +127,7 @@ pub fn cut_of_list<D: Device>(
 }
 
 /// What is to be written for the last of the later lists of a file of this size.
-pub fn cut_of_last_list<D: Device>(
+fn cut_of_last_list<D: Device>(
     log: &mut Log<D>,
     sectors: &Alloc,
     entry: &Entry,
@@ -144,7 +154,7 @@ pub fn cut_of_last_list<D: Device>(
 }
 
 /// Stages what is to be written for a sector, if anything is.
-pub fn stage_cut<D: Device>(log: &mut Log<D>, cut: &Cut)
+fn stage_cut<D: Device>(log: &mut Log<D>, cut: &Cut)
     requires behind { cut.now.sector ≢ 0 → 122 ≤ cut.now.sector }
     requires there { cut.now.sector ≢ 0 → cut.now.sector < sectors_of log.old }
     requires room { 0 < room_of log.old }
@@ -158,4 +168,43 @@ pub fn stage_cut<D: Device>(log: &mut Log<D>, cut: &Cut)
     if cut.sector != 0 {
         log.stage(cut.sector, &cut.image);
     }
+}
+
+/// What is to be written where the file keeps so many bytes.
+pub fn read_cuts<D: Device>(
+    log: &mut Log<D>,
+    sectors: &Alloc,
+    entry: &Entry,
+    size: u32,
+) -> Result<Cuts, DeviceFault>
+    requires there { end_of sectors.now ≤ sectors_of log.old }
+    requires working { has_failed log.old ≡ false }
+    requires small { size ≤ 8483840 }
+    ensures cuts { D.honest (device_of log.old)
+        → NamesTaken (taken_of sectors.now) (view log.old) entry.now
+        → IfOk result (AreCuts (view log.old) entry.now size) }
+    ensures within { IfOk result (AreWithin (first_of sectors.now) (end_of sectors.now)) }
+    ensures reads { OnlyReads log.old log.new }
+    ensures failed { has_failed log.new ≡ is_err result }
+{
+    let part = cut_of_part(log, sectors, entry, size)?;
+    let list = cut_of_list(log, sectors, entry, size)?;
+    let last = cut_of_last_list(log, sectors, entry, size)?;
+    Ok(Cuts { part, list, last })
+}
+
+/// Stages what is to be written, in three places at most.
+pub fn stage_cuts<D: Device>(log: &mut Log<D>, cuts: &Cuts)
+    requires there { AreWithin 122 (sectors_of log.old) cuts.now }
+    requires room { 3 ≤ room_of log.old }
+    requires working { has_failed log.old ≡ false }
+    ensures view { view log.new ≡ with_cuts cuts.now (view log.old) }
+    ensures room { room_of log.old ≤ room_of log.new + 3 }
+    ensures device { device_of log.new ≡ device_of log.old }
+    ensures failed { has_failed log.new ≡ false }
+    ensures sectors { sectors_of log.new ≡ sectors_of log.old }
+{
+    stage_cut(log, &cuts.part);
+    stage_cut(log, &cuts.list);
+    stage_cut(log, &cuts.last);
 }
