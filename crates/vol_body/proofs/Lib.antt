@@ -8,3 +8,4 @@ pub mod Given
 pub mod Cuts
 pub mod Zeros
 pub mod Shorter
+pub mod Shrunk
