@@ -7,10 +7,11 @@ mod growing;
 mod laws;
 mod locate;
 mod reading;
+mod resizing;
 mod shrinking;
 #[cfg(test)]
 mod tests;
 
-pub use growing::grow;
 pub use laws::{names_at_most_what_it_needs, other_files_stay};
 pub use reading::read_at;
+pub use resizing::set_size;
