@@ -91,7 +91,7 @@ module _ (size place first end : ℕ) (content : Image) (e changed : Entry) (cut
   whole_stays : (p : Place) → IsPlace p → named content e p ≢ 0 → kept_bytes size p ≡ 512 → after (named content e p) ≡ content (named content e p)
   whole_stays p there some whole =
       let long : (q : Place) (c : Cut) → IsCut content (named content e q) (kept_bytes size q) c → c.sector ≢ 0 → p ≡ q → ⊥ = λ q c is set same.
-          let kept : kept_bytes size p ≡ kept_bytes size q = ap (kept_bytes size) same in omega (arith, is.short set, kept, whole) in
+      let kept : kept_bytes size p ≡ kept_bytes size q = ap (kept_bytes size) same in omega (arith, is.short set, kept, whole) in
       named_elsewhere p there some
       ∙ untouched (named content e p)
       (λ set. apart p (last_part size) (kept_bytes size (last_part size)) cuts.part there part_there (long (last_part size) cuts.part s.are_cut.part set) some s.are_cut.part set)
@@ -176,10 +176,10 @@ module _ (size place first end : ℕ) (content : Image) (e changed : Entry) (cut
       let more : List ℕ = replicate (size - length old) 0 in
       let enough : size ≤ length (old ++ more) = omega (arith, length-append old more, length-bytes_of content e, s.shorter) in
       ext_get_or 0 (bytes_of after changed) (take size (old ++ more)) (length-bytes_of after changed ∙ s.new_size ∙ sym (length-take-le size (old ++ more) enough)) (λ k lt.
-          let below : k < size = omega (arith, lt, length-bytes_of after changed, s.new_size) in
-          get_or-bytes_of after changed k (omega (arith, below, s.new_size))
-          ∙ kept_byte_at size content after e changed shorter k (omega (arith, below, s.shorter, s.small)) below
-          ∙ sym (get_or-take size (old ++ more) k 0 below ∙ get_or_append_left old more 0 k (omega (arith, below, length-bytes_of content e, s.shorter)) ∙ get_or-bytes_of content e k (omega (arith, below, s.shorter))))
+      let below : k < size = omega (arith, lt, length-bytes_of after changed, s.new_size) in
+      get_or-bytes_of after changed k (omega (arith, below, s.new_size))
+      ∙ kept_byte_at size content after e changed shorter k (omega (arith, below, s.shorter, s.small)) below
+      ∙ sym (get_or-take size (old ++ more) k 0 below ∙ get_or_append_left old more 0 k (omega (arith, below, length-bytes_of content e, s.shorter)) ∙ get_or-bytes_of content e k (omega (arith, below, s.shorter))))
 
   -- what goes isn't named any more
   kept_stays : (p : Place) → IsPlace p → first_served p < sectors_of size → named content e p ≢ 0 → Goes content e (sectors_of size) (named content e p) → ⊥
