@@ -1,6 +1,6 @@
 //! Setting the size.
 
-ghost use Rattle.std.specs.Prelude.{◌≡◌, ◌≤◌, IfOk};
+ghost use Rattle.std.specs.Prelude.{◌≡◌, ◌≤◌, ◌<◌};
 ghost use Rattle.vol_log.specs.Log.{sectors_of};
 ghost use Rattle.vol_alloc.specs.Alloc.{first_of, end_of};
 
@@ -82,19 +82,18 @@ fn file(log: &mut Volume) -> Entry
     entry
 }
 
-// Sets the size where the log has the room, and says whether it did.
+// Sets a size of up to 315 parts where the log has the room, and says whether it did.
 fn resize(log: &mut Volume, sectors: &mut Alloc, entry: &mut Entry, size: u32) -> bool
     requires log { sectors_of log.old ≡ 202 }
     requires first { first_of sectors.old ≡ 138 }
     requires end { end_of sectors.old ≡ 202 }
     requires before { entry.old.size ≤ 161280 }
-    requires after { size ≤ 161280 }
     ensures log { sectors_of log.new ≡ 202 }
     ensures first { first_of sectors.new ≡ 138 }
     ensures end { end_of sectors.new ≡ 202 }
     ensures size { entry.new.size ≤ 161280 }
 {
-    if log.room() < 4 {
+    if log.room() < 4 || size > SIZE {
         return false;
     }
     match set_size(log, sectors, 123, entry, size) {
@@ -111,23 +110,32 @@ fn written(at: usize) -> u8 {
     }
 }
 
+// Are these the bytes of a part that were written before a place of the file, with zeros from there
+// on?
+fn is_part(buffer: &[u8; 512], part: usize, kept: usize) -> bool
+    requires { part < 315 }
+{
+    for (i, byte) in buffer.iter().enumerate() {
+        let at = part * 512 + i;
+        let wanted = if at < kept { written(at) } else { 0 };
+        if *byte != wanted {
+            return false;
+        }
+    }
+    true
+}
+
 // Does the file read as what was written before a place, and as zeros from there on?
 fn reads_as(log: &mut Volume, sectors: &Alloc, entry: &Entry, kept: usize) -> bool
     requires log { sectors_of log.old ≡ 202 }
     requires end { end_of sectors.now ≡ 202 }
     requires size { entry.now.size ≤ 161280 }
-    ensures { sectors_of log.new ≡ 202 }
 {
     for part in 0..315usize {
         let mut buffer = [7; 512];
-        if read_at(log, sectors, entry, part as u64 * 512, &mut buffer) != Ok(512) {
+        let read = read_at(log, sectors, entry, part as u64 * 512, &mut buffer);
+        if read != Ok(512) || !is_part(&buffer, part, kept) {
             return false;
-        }
-        for (i, byte) in buffer.iter().enumerate() {
-            let at = part * 512 + i;
-            if *byte != if at < kept { written(at) } else { 0 } {
-                return false;
-            }
         }
     }
     true
@@ -135,9 +143,7 @@ fn reads_as(log: &mut Volume, sectors: &Alloc, entry: &Entry, kept: usize) -> bo
 
 // Makes the file shorter and then as long as before, and says how many sectors were free then; `None`
 // where a byte is wrong.
-fn shortened(alloc: Global, size: u32) -> Result<Option<u32>, Fail>
-    requires { size ≤ 161280 }
-{
+fn shortened(alloc: Global, size: u32) -> Result<Option<u32>, Fail> {
     let mut log = open(alloc, 1_000)?;
     let mut sectors = Alloc::from_named(alloc, 138, 202, &NAMED)?;
     let mut entry = file(&mut log);
@@ -181,9 +187,7 @@ fn old_bytes_never_come_back(rt: HostRuntime) -> Result<(), Fail> {
 }
 
 // How many places of the log are free once the file on the device has this size.
-fn room_at(alloc: Global, size: u32) -> Result<usize, Fail>
-    requires { size ≤ 161280 }
-{
+fn room_at(alloc: Global, size: u32) -> Result<usize, Fail> {
     let mut log = open(alloc, 1_000)?;
     let mut sectors = Alloc::from_named(alloc, 138, 202, &NAMED)?;
     let mut entry = file(&mut log);
