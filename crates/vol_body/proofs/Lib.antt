@@ -13,3 +13,8 @@ pub mod Steps
 pub mod Loads
 pub mod Written
 pub mod Finished
+pub mod Given
+pub mod Cuts
+pub mod Zeros
+pub mod Shorter
+pub mod Shrunk

@@ -3,3 +3,4 @@ pub mod Reading
 pub mod Change
 pub mod Naming
 pub mod Writing
+pub mod Shorter

@@ -9,7 +9,7 @@ ghost use Rattle.vol_body.specs.Body.{NamesTaken, lists, part_bytes};
 ghost use Rattle.vol_body.specs.Reading.{OnlyReads};
 ghost use Rattle.vol_body.specs.Writing.{Mirrors, MirrorsAll, KnowsAll, segment};
 
-use crate::locate::known;
+use crate::locate::{known, number_at};
 use byteorder::{ByteOrder, LittleEndian};
 use vol_alloc::Alloc;
 use vol_inode::Entry;
@@ -33,14 +33,6 @@ pub struct Lists {
     pub early: PointerSector,
     /// The one that lists the 128 parts behind those of `early`.
     pub late: PointerSector,
-}
-
-/// The `i`-th number that the pointer sector lists.
-pub fn number_at(image: &[u8; 512], i: u32) -> u32
-    requires { i < 128 }
-    ensures { result ≡ little_number 4 (drop (4 * i) image.now) }
-{
-    LittleEndian::read_u32(&image[4 * i as usize..])
 }
 
 /// The pointer sector with another `i`-th number.
