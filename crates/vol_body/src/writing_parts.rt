@@ -10,8 +10,8 @@ ghost use Rattle.vol_body.specs.Body.{Place, part, IsPlace, named, part_bytes};
 ghost use Rattle.vol_body.specs.Writing.{Mirrors, IsReady, IsMissing, Changes, Adds, OnlyPuts};
 ghost use Rattle.vol_body.specs.Writing.{SameRange, PointedAt, ListedAt, IsBlank, placed};
 
-use crate::lists::{PointerSector, number_at, with_number};
-use crate::locate::known;
+use crate::lists::{PointerSector, with_number};
+use crate::locate::{known, number_at};
 use vol_alloc::Alloc;
 use vol_inode::Entry;
 use vol_log::Log;
