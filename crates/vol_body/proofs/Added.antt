@@ -1,5 +1,5 @@
 -- What taking a sector and naming it changes of a file.
-use Rattle.std.proofs.Common.{◌≡◌, ◌≢◌, ◌⊎◌, inl, inr, ◌≤◌, ◌<◌, ◌+◌, ◌-◌, ◌*◌, ◌/◌, ◌%◌, ◌==◌, if◌then◌else◌, ℕ, Bool, true, false, List, replicate, refl, sym, ◌∙◌, ap, subst, arith}
+use Rattle.std.proofs.Common.{◌≡◌, ◌≢◌, ◌⊎◌, inl, inr, ◌≤◌, ◌<◌, ◌+◌, ◌-◌, ◌/◌, ◌==◌, if◌then◌else◌, ℕ, Bool, true, false, List, refl, sym, ◌∙◌, ap, subst, arith}
 use Rattle.std.proofs.lemmas.Bool.{both_ways}
 use Rattle.vol_sector.specs.Disk.{Image}
 use Rattle.vol_alloc.specs.Alloc.{first_of, end_of, taken_of, free_of}
@@ -7,11 +7,11 @@ use Rattle.vol_alloc.specs.declared.sectors.Alloc.{Alloc}
 use Rattle.vol_inode.specs.declared.entry.Entry.{Entry}
 use Rattle.vol_inode.specs.Space.{sectors_of, need_of}
 use Rattle.vol_body.specs.Body.{Place, part, list, lists, later_list, IsPlace, first_served, named, part_bytes, NamesTaken, NamesOthers}
-use Rattle.vol_body.specs.Change.{used_of, OthersStay, TakesAndGives}
+use Rattle.vol_body.specs.Change.{OthersStay}
 use Rattle.vol_body.specs.Naming.{IsNaming, NamesOneMore, SetsPointer, ListsOneMore}
 use Rattle.vol_body.specs.Writing.{PointedAt, ListedAt, IsBlank, Mirrors, IsReady, SamePlace, Changes}
 use Rattle.vol_body.proofs.Changes.{stays_twice, takes_twice, takes_same}
-use Rattle.vol_body.proofs.OneMore.{one_direct, one_list, one_lists, one_listed, one_later_list, one_later, write_named, same_place, naming_by, naming_more, names_stay, names_taken_more, takes_one, others_stay_one, others_stay_two, places_stay, places_stay_but, places_stay_by}
+use Rattle.vol_body.proofs.OneMore.{one_direct, one_list, one_lists, one_listed, one_later_list, one_later, write_named, naming_by, naming_more, names_stay, names_taken_more, takes_one, others_stay_one, others_stay_two, places_stay, places_stay_but, places_stay_by}
 use Rattle.vol_body.proofs.Places.{bytes_there}
 use Rattle.vol_body.proofs.Space.{used_more, used_same}
 

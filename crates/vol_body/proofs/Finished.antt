@@ -1,14 +1,13 @@
 -- What a write leaves, once its parts and the entry are staged.
-use Rattle.std.proofs.Common.{◌≡◌, ◌≢◌, ◌⊎◌, inl, inr, ◌≤◌, ◌<◌, ◌+◌, ◌-◌, ◌*◌, ◌/◌, ℕ, Bool, true, false, List, length, max, refl, sym, ◌∙◌, ap, subst, arith}
+use Rattle.std.proofs.Common.{◌≡◌, ◌⊎◌, inl, inr, ◌≤◌, ◌<◌, ◌+◌, ◌-◌, ◌*◌, ◌/◌, ℕ, List, length, max, refl, sym, ◌∙◌, ap, arith}
 use Rattle.vol_sector.specs.Disk.{Image, put}
 use Rattle.vol_alloc.specs.Alloc.{first_of, end_of, taken_of, free_of}
 use Rattle.vol_alloc.specs.declared.sectors.Alloc.{Alloc}
 use Rattle.vol_inode.specs.declared.entry.Entry.{Entry}
-use Rattle.vol_inode.specs.Space.{sectors_of, need_of}
+use Rattle.vol_inode.specs.Space.{need_of}
 use Rattle.vol_body.specs.declared.lists.Lists.{Lists}
-use Rattle.vol_body.specs.Body.{Place, part, lists, IsPlace, named, part_bytes, NamesTaken, IsBody, SameSectors, IsSameFile}
+use Rattle.vol_body.specs.Body.{Place, part, lists, named, part_bytes, NamesTaken, IsBody, SameSectors, IsSameFile}
 use Rattle.vol_body.specs.Change.{used_of, OthersStay, TakesAndGives}
-use Rattle.vol_body.specs.Naming.{IsNaming}
 use Rattle.vol_body.specs.Writing.{Mirrors, MirrorsAll, IsReady, SameRange, Changes, HasParts, IsPartIn, IsPointer, WriteLeaves, segment, segment_of, image_of}
 use Rattle.vol_body.proofs.Same.{same_file, same_bytes}
 use Rattle.vol_body.proofs.Changes.{stays_by, takes_same, takes_twice}

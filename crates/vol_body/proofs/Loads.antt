@@ -1,10 +1,10 @@
 -- Pointer sectors read into memory.
-use Rattle.std.proofs.Common.{◌≡◌, ◌≢◌, inl, inr, ◌≤◌, ◌<◌, ◌+◌, ◌-◌, ◌*◌, ◌/◌, ◌==◌, ℕ, zero, suc, Bool, true, if◌then◌else◌, List, drop, refl, sym, ◌∙◌, ap, subst, arith, Result, Ok, Err, IfOk}
+use Rattle.std.proofs.Common.{◌≡◌, ◌≢◌, ◌-◌, ◌*◌, ℕ, zero, suc, List, drop, refl, sym, ◌∙◌, ap, subst, arith, Result, Ok, Err, IfOk}
 use Rattle.byteorder.specs.Endian.{little_number}
 use Rattle.vol_sector.specs.Disk.{Image}
 use Rattle.vol_inode.specs.declared.entry.Entry.{Entry}
 use Rattle.vol_body.specs.declared.lists.PointerSector.{PointerSector}
-use Rattle.vol_body.specs.Body.{Place, list, lists, later_list, IsPlace, named, part_bytes}
+use Rattle.vol_body.specs.Body.{Place, lists, later_list, named, part_bytes}
 use Rattle.vol_body.specs.Writing.{Mirrors, segment}
 use Rattle.vol_body.proofs.Listed.{number_of_bytes}
 

@@ -1,6 +1,6 @@
 -- Steps of a write.
 use Rattle.std.proofs.Common.{◌≡◌, ◌≢◌, ◌⊎◌, inl, inr, ◌≤◌, ◌<◌, ◌+◌, ◌-◌, ◌*◌, ◌/◌, ◌%◌, ◌==◌, ℕ, zero, suc, Bool, true, false, if◌then◌else◌, nat_lt, List, length, drop, get_or, refl, sym, replicate, Result, Ok, Err, OnErr, ◌∙◌, ap, subst, arith}
-use Rattle.std.proofs.lemmas.Bool.{cases_eq, cases_lt, cases_Bool, false≢true}
+use Rattle.std.proofs.lemmas.Bool.{cases_lt, cases_Bool, false≢true}
 use Rattle.std.proofs.lemmas.List.{get_or_past}
 use Rattle.std.proofs.lemmas.Bool.Decides.{nat_tests}
 use Rattle.byteorder.specs.Endian.{little_number}
@@ -12,7 +12,7 @@ use Rattle.vol_alloc.specs.Alloc.{first_of, end_of, taken_of}
 use Rattle.vol_alloc.specs.declared.sectors.Alloc.{Alloc}
 use Rattle.vol_inode.specs.declared.entry.Entry.{Entry}
 use Rattle.vol_body.specs.Body.{Place, part, list, lists, later_list, IsPlace, named, number_in, part_bytes}
-use Rattle.vol_body.specs.Writing.{ListedAt, IsBlank, Mirrors, IsReady, SamePlace, Changes, Adds, IsPartIn, IsPointer, HasParts, OnlyPuts, SameRange, segment, placed}
+use Rattle.vol_body.specs.Writing.{ListedAt, IsBlank, Mirrors, IsReady, SamePlace, Changes, IsPartIn, IsPointer, HasParts, OnlyPuts, SameRange, segment, placed}
 use Rattle.vol_body.proofs.Listed.{number_of_bytes}
 use Rattle.vol_body.proofs.Changes.{takes_same, stays_same}
 use Rattle.vol_body.proofs.Places.{part_listed, part_later, bytes_there}

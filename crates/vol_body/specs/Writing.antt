@@ -1,8 +1,8 @@
 -- Steps of a write: what changes of a file, and how its pointer sectors stand in memory.
-use Rattle.std.specs.Prelude.{◌≡◌, ◌≢◌, ◌⊎◌, ◌≤◌, ◌<◌, ◌+◌, ◌-◌, ◌*◌, ◌/◌, ◌%◌, ◌==◌, ◌++◌, ℕ, zero, suc, Bool, true, false, List, length, take, drop, replicate, slice_index, nat_lt, min, max, if◌then◌else◌}
+use Rattle.std.specs.Prelude.{◌≡◌, ◌≢◌, ◌≤◌, ◌<◌, ◌+◌, ◌-◌, ◌*◌, ◌/◌, ◌==◌, ◌++◌, ℕ, zero, suc, true, List, length, take, drop, replicate, nat_lt, min, max, if◌then◌else◌}
 use Rattle.vol_sector.specs.Disk.{Image}
 use Rattle.vol_sector.specs.declared.device.Device.{Ghosts}
-use Rattle.vol_log.specs.Log.{view, staged_of, device_of, sectors_of as log_sectors, has_failed, is_staged}
+use Rattle.vol_log.specs.Log.{device_of, sectors_of as log_sectors, has_failed, is_staged}
 use Rattle.vol_log.specs.declared.log.Log.{Log}
 use Rattle.vol_alloc.specs.Alloc.{first_of, end_of, taken_of, free_of}
 use Rattle.vol_alloc.specs.declared.sectors.Alloc.{Alloc}

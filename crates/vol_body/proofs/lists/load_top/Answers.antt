@@ -1,4 +1,4 @@
-use Rattle.std.proofs.Common.{◌≡◌, ◌∙◌, ℕ, get_or, sym, refl}
+use Rattle.std.proofs.Common.{◌∙◌, get_or, refl}
 use Rattle.vol_log.specs.Log.{view}
 use Rattle.vol_alloc.specs.Alloc.{taken_of}
 use Rattle.vol_body.specs.Body.{lists}

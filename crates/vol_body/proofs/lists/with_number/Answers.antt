@@ -1,4 +1,4 @@
-use Rattle.std.proofs.Common.{◌≡◌, ◌≢◌, ◌≤◌, ◌<◌, ◌+◌, ◌*◌, ◌-◌, ℕ, List, [], ◌++◌, length, take, drop, ◌∙◌, ap, sym, arith}
+use Rattle.std.proofs.Common.{◌≡◌, ◌≤◌, ◌+◌, ◌*◌, ◌-◌, ℕ, List, [], ◌++◌, length, take, drop, ◌∙◌, ap, sym, arith}
 use Rattle.std.proofs.lemmas.List.{take_all, drop_all, drop-drop, length-drop, append-nil, append_assoc}
 use borrow.Rule.Slice.PartMut.{put_mid}
 use Rattle.byteorder.specs.Endian.{little_number, little_bytes}

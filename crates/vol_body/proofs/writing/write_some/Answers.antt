@@ -1,13 +1,11 @@
-use Rattle.std.proofs.Common.{◌≡◌, ◌≤◌, ◌<◌, ◌+◌, ◌-◌, ◌*◌, ◌/◌, ◌⊎◌, ℕ, List, length, max, refl, sym, ◌∙◌, ap, subst, arith, rules}
-use Rattle.vol_sector.specs.Disk.{Image, put}
-use Rattle.vol_log.specs.Log.{view, staged_of, room_of, is_staged}
+use Rattle.std.proofs.Common.{◌≡◌, ◌≤◌, ◌+◌, ◌-◌, ◌/◌, ◌⊎◌, ℕ, length, max, refl, sym, ◌∙◌, ap, subst, arith, rules}
+use Rattle.vol_sector.specs.Disk.{Image}
+use Rattle.vol_log.specs.Log.{view, room_of, is_staged}
 use Rattle.vol_alloc.specs.Alloc.{taken_of, free_of}
-use Rattle.vol_inode.specs.Spelling.{spelling}
-use Rattle.vol_inode.specs.Space.{sectors_of, need_of}
+use Rattle.vol_inode.specs.Space.{need_of}
 use Rattle.vol_inode.specs.declared.entry.Entry.{Entry}
 use Rattle.vol_body.specs.Body.{part, named, part_bytes, NamesTaken}
 use Rattle.vol_body.specs.Change.{used_of}
-use Rattle.vol_body.specs.Reading.{OnlyReads}
 use Rattle.vol_body.specs.Writing.{IsReady, MirrorsAll, Changes, IsPartIn, IsPointer}
 use Rattle.vol_body.proofs.Readings.{reads_then, stages_then}
 use Rattle.vol_body.proofs.Steps.{put_here, room_left, on_err}

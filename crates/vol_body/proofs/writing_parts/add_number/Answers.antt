@@ -1,12 +1,10 @@
-use Rattle.std.proofs.Common.{◌≡◌, ◌≢◌, ◌⊎◌, ◌≤◌, ◌<◌, ◌+◌, ◌*◌, ℕ, true, List, drop, ◌∙◌, ap, sym, arith}
+use Rattle.std.proofs.Common.{◌≡◌, ◌≢◌, ◌*◌, ℕ, List, drop, ◌∙◌, ap, sym, arith}
 use Rattle.std.proofs.lemmas.Bool.{both_ways}
 use Rattle.byteorder.specs.Endian.{little_number}
 use Rattle.vol_sector.specs.Disk.{Image, put}
 use Rattle.vol_log.specs.Log.{view, room_of, is_staged}
-use Rattle.vol_alloc.specs.Alloc.{first_of, end_of, taken_of, free_of}
-use Rattle.vol_body.specs.Body.{Place, named, part_bytes}
+use Rattle.vol_alloc.specs.Alloc.{taken_of, free_of}
 use Rattle.vol_body.specs.Naming.{ListsOneMore}
-use Rattle.vol_body.specs.Writing.{Mirrors, placed}
 use Rattle.vol_body.proofs.Places.{bytes_there}
 use Rattle.vol_body.proofs.Space.{some_free}
 use Rattle.vol_body.proofs.Added.{TakesSector, adds_number}

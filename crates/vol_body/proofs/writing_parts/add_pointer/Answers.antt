@@ -1,7 +1,7 @@
-use Rattle.std.proofs.Common.{◌≡◌, ◌≢◌, ◌<◌, ◌+◌, ℕ, List, length, set, ◌∙◌, ap, sym, arith, rules}
+use Rattle.std.proofs.Common.{◌≡◌, length, set, ◌∙◌, ap, arith, rules}
 use Rattle.vol_sector.specs.Disk.{Image, put}
 use Rattle.vol_log.specs.Log.{view}
-use Rattle.vol_alloc.specs.Alloc.{first_of, end_of, taken_of, free_of}
+use Rattle.vol_alloc.specs.Alloc.{free_of}
 use Rattle.vol_inode.specs.declared.entry.Entry.{Entry}
 use Rattle.vol_body.proofs.Listed.{sets_pointer}
 use Rattle.vol_body.proofs.Space.{some_free}

@@ -1,7 +1,7 @@
-use Rattle.std.proofs.Common.{◌≡◌, ◌≢◌, ◌⊎◌, inl, inr, ◌≤◌, ◌<◌, ◌+◌, ◌-◌, ◌*◌, ℕ, List, replicate, refl, ◌∙◌, sym, ap, subst, arith}
+use Rattle.std.proofs.Common.{◌≡◌, ◌≢◌, ◌⊎◌, inl, inr, ◌<◌, ◌-◌, ℕ, List, replicate, refl, ◌∙◌, sym, ap, subst, arith}
 use Rattle.vol_log.specs.Log.{view}
 use Rattle.vol_inode.specs.Space.{sectors_of}
-use Rattle.vol_body.specs.Body.{Place, list, lists, later_list, named}
+use Rattle.vol_body.specs.Body.{Place, list, lists, later_list}
 use Rattle.vol_body.specs.Writing.{Adds, IsMissing, Mirrors, segment}
 use Rattle.vol_body.proofs.Added.{mirror_stays}
 use Rattle.vol_body.proofs.Loads.{segment_later}

@@ -1,4 +1,4 @@
-use Rattle.std.proofs.Common.{◌≡◌, ◌⊎◌, ◌≤◌, ◌<◌, ◌+◌, ◌-◌, ◌*◌, ℕ, true, false}
+use Rattle.std.proofs.Common.{◌≡◌, ◌⊎◌, ◌≤◌, ◌+◌, ◌-◌, ◌*◌, ℕ, true, false}
 use Rattle.vol_log.specs.Log.{view, room_of, has_failed}
 use Rattle.vol_alloc.specs.Alloc.{taken_of}
 use Rattle.vol_inode.specs.Space.{sectors_of}

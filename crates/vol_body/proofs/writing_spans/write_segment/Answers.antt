@@ -1,4 +1,4 @@
-use Rattle.std.proofs.Common.{◌≡◌, ◌⊎◌, inl, inr, ◌≤◌, ◌<◌, ◌+◌, ◌*◌, ℕ, refl, ap, arith}
+use Rattle.std.proofs.Common.{◌≡◌, ◌⊎◌, inl, inr, ◌<◌, ℕ, refl, ap, arith}
 use Rattle.vol_log.specs.Log.{view}
 use Rattle.vol_inode.specs.Space.{sectors_of}
 use Rattle.vol_body.specs.Body.{Place, lists}
