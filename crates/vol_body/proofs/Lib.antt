@@ -4,8 +4,9 @@ pub mod Parts
 pub mod Same
 pub mod Needed
 pub mod Grown
-pub mod Given
+pub mod GivenBack
 pub mod Cuts
 pub mod Zeros
 pub mod Shorter
 pub mod Shrunk
+pub mod Stagings
