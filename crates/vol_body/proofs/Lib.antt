@@ -13,8 +13,9 @@ pub mod Steps
 pub mod Loads
 pub mod Written
 pub mod Finished
-pub mod Given
+pub mod GivenBack
 pub mod Cuts
 pub mod Zeros
 pub mod Shorter
 pub mod Shrunk
+pub mod Stagings

@@ -1,10 +1,10 @@
 -- How what stays of a log goes on from read to read.
-use Rattle.std.proofs.Common.{◌≡◌, ◌↔◌, ◌⊎◌, inl, inr, ⊎_elim, Bool, false, ℕ, sym, ◌∙◌, ap, subst, arith}
+use Rattle.std.proofs.Common.{◌≡◌, ◌⊎◌, inl, inr, ⊎_elim, Bool, false, ℕ, sym, ◌∙◌, ap, subst, arith}
 use Rattle.vol_sector.specs.Disk.{Image, Disk, Leaves, counted}
 use Rattle.vol_sector.specs.declared.device.Device.{Ghosts}
 use Rattle.vol_log.specs.Log.{view, staged_of, device_of, sectors_of, has_failed}
 use Rattle.vol_log.specs.declared.log.Log.{Log}
-use Rattle.vol_body.specs.Reading.{OnlyReads, OnlyStages}
+use Rattle.vol_body.specs.Reading.{OnlyReads}
 
 leaves_same : (d : Disk) → Leaves d d (λ c. ⊥)
 leaves_same d = record { later = omega arith; since = λ t c le left. inl left; now = λ c may. inl may }
@@ -39,14 +39,4 @@ module _ {D : Type 0} {g : Ghosts D} where
     honest = (λ h. second.honest.0 (first.honest.0 h), λ h. first.honest.1 (second.honest.1 h));
     size = second.size ∙ first.size;
     faults = λ working. second.faults still ∙ ap (counted (has_failed c)) (first.faults working ∙ ap (λ (b : Bool). counted b (g.faults (device_of a))) still);
-  }
-
-  -- a log that is read, and then staged to
-  pub stages_then : (a b c : Log D g) → OnlyReads a b → has_failed b ≡ false → device_of c ≡ device_of b → sectors_of c ≡ sectors_of b → has_failed c ≡ false → OnlyStages a c
-  stages_then a b c reads still device sectors working = record {
-    crash = λ h. subst (λ (d : D). Leaves (g.disk (device_of a)) (g.disk d) (λ c. ⊥)) (sym device) (reads.crash h);
-    sectors = sectors ∙ reads.sectors;
-    honest = subst (λ (d : D). g.honest (device_of a) ↔ g.honest d) (sym device) reads.honest;
-    size = ap g.size device ∙ reads.size;
-    faults = λ was_working. ap g.faults device ∙ reads.faults was_working ∙ ap (λ (b : Bool). counted b (g.faults (device_of a))) (still ∙ sym working);
   }

@@ -1,15 +1,15 @@
 -- What a file is after it was made shorter.
-use Rattle.std.proofs.Common.{◌≡◌, ◌≢◌, ◌⊎◌, inl, inr, ⊎_elim, ◌≤◌, ◌<◌, ◌+◌, ◌-◌, ◌*◌, ◌/◌, ◌%◌, ℕ, Bool, true, false, List, ◌++◌, length, take, replicate, get_or, nat_lt, if◌then◌else◌, refl, sym, ◌∙◌, ap, subst, arith}
-use Rattle.std.proofs.lemmas.Bool.{cases_lt, cases_eq}
+use Rattle.std.proofs.Common.{◌≡◌, ◌≢◌, ◌⊎◌, inl, inr, ⊎_elim, ◌≤◌, ◌<◌, ◌-◌, ◌/◌, ℕ, Bool, true, false, List, ◌++◌, length, take, replicate, get_or, nat_lt, if◌then◌else◌, refl, sym, ◌∙◌, ap, subst, arith}
+use Rattle.std.proofs.lemmas.Bool.{cases_lt}
 use Rattle.std.proofs.lemmas.Bool.Decides.{nat_tests}
-use Rattle.std.proofs.lemmas.List.{ext_get_or, length-append, length-replicate, length-take-le, get_or-take, get_or_append_left}
+use Rattle.std.proofs.lemmas.List.{ext_get_or, length-append, length-take-le, get_or-take, get_or_append_left}
 use Rattle.vol_sector.specs.Disk.{Image, put}
 use Rattle.vol_inode.specs.declared.entry.Entry.{Entry}
-use Rattle.vol_inode.specs.Space.{sectors_of, lists_of}
+use Rattle.vol_inode.specs.Space.{sectors_of}
 use Rattle.vol_body.specs.declared.cutting.Cut.{Cut}
 use Rattle.vol_body.specs.declared.cutting.Cuts.{Cuts}
-use Rattle.vol_body.specs.Body.{Place, part, list, lists, later_list, IsPlace, first_served, named, byte_at, bytes_of, IsBody, NamesTaken, NamesOthers}
-use Rattle.vol_body.specs.Change.{resized, extended, Names, OthersStay, TakesAndGives}
+use Rattle.vol_body.specs.Body.{Place, part, list, lists, later_list, IsPlace, first_served, named, bytes_of, IsBody, NamesTaken}
+use Rattle.vol_body.specs.Change.{resized, OthersStay, TakesAndGives}
 use Rattle.vol_body.specs.Shorter.{kept_bytes, first_of_pointer, last_part, cut_list, last_list, cut, IsCut, AreCuts, AreWithin, with_cut, with_cuts, Gives, Goes}
 use Rattle.vol_body.proofs.Parts.{length-bytes_of, get_or-bytes_of}
 use Rattle.vol_body.proofs.Cuts.{put_past, cut_elsewhere, cut_there}

@@ -1,6 +1,5 @@
 -- What a shorter file keeps and gives back.
-use Rattle.std.specs.Prelude.{◌≡◌, ◌≢◌, ◌≤◌, ◌<◌, ◌+◌, ◌-◌, ◌*◌, ◌/◌, ◌==◌, ◌⊎◌, ◌++◌, ℕ, Bool, true, List, take, drop, replicate, min, nat_lt, slice_index, if◌then◌else◌}
-use Rattle.byteorder.specs.Endian.{little_number}
+use Rattle.std.specs.Prelude.{◌≡◌, ◌≢◌, ◌≤◌, ◌<◌, ◌+◌, ◌-◌, ◌*◌, ◌/◌, ◌==◌, ◌⊎◌, ◌++◌, ℕ, Bool, true, List, take, replicate, min, nat_lt, if◌then◌else◌}
 use Rattle.vol_sector.specs.Disk.{Image, put}
 use Rattle.vol_inode.specs.Space.{sectors_of, lists_of}
 use Rattle.vol_inode.specs.declared.entry.Entry.{Entry}

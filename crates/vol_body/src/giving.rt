@@ -114,12 +114,8 @@ fn give_lists<D: Device>(
     ensures failed { has_failed log.new ≡ is_err result }
 {
     for i in 0..128u32 {
-        give_list(
-            log,
-            sectors,
-            lists[i as usize],
-            count.saturating_sub(186 + 128 * i),
-        )?;
+        let from = count.saturating_sub(186 + 128 * i);
+        give_list(log, sectors, lists[i as usize], from)?;
     }
     Ok(())
 }

@@ -1,4 +1,4 @@
-use Rattle.std.proofs.Common.{◌≡◌, ◌∙◌, ◌++◌, ℕ, List, ap, replicate, drop, take}
+use Rattle.std.proofs.Common.{◌∙◌, ◌++◌, ℕ, List, ap, replicate, drop, take}
 use Rattle.std.proofs.lemmas.List.{drop-replicate}
 use Rattle.vol_body.proofs.cutting.cut_at.Goals as goal
 

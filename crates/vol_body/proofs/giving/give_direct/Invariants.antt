@@ -1,4 +1,4 @@
-use Rattle.std.proofs.Common.{◌≡◌, min, slice_index}
+use Rattle.std.proofs.Common.{◌≡◌, slice_index}
 use Rattle.vol_alloc.specs.Alloc.{first_of, end_of, taken_of}
 use Rattle.vol_body.specs.Shorter.{Gives, StandsFrom}
 use Rattle.vol_body.proofs.giving.give_direct.Given as goal

@@ -1,10 +1,9 @@
-use Rattle.std.proofs.Common.{◌≡◌, ◌∙◌, ◌*◌, ◌⊎◌, inl, inr, ⊎_elim, ℕ, List, drop, sym, ap, arith}
-use Rattle.byteorder.specs.Endian.{little_number}
+use Rattle.std.proofs.Common.{◌≡◌, ◌⊎◌, inl, inr, ⊎_elim, sym}
 use Rattle.vol_log.specs.Log.{view}
 use Rattle.vol_alloc.specs.Alloc.{taken_of}
 use Rattle.vol_body.specs.Body.{number_in}
 use Rattle.vol_body.specs.Shorter.{StandsFrom, GoesWithList}
-use Rattle.vol_body.proofs.Given.{gives_then, gives_these, gives_read}
+use Rattle.vol_body.proofs.GivenBack.{gives_then, gives_these, gives_read}
 use Rattle.vol_body.proofs.giving.give_list.Goals as goal
 
 pub returns-then-from-eq0-clause-gives : goal.returns-then-from-eq0-clause-gives

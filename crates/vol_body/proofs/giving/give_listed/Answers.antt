@@ -1,8 +1,8 @@
-use Rattle.std.proofs.Common.{◌*◌, ◌∙◌, ◌≡◌, ◌≤◌, ℕ, min, drop, sym, subst, arith}
+use Rattle.std.proofs.Common.{◌*◌, ◌∙◌, ◌≡◌, ◌≤◌, ℕ, drop, subst, arith}
 use Rattle.byteorder.specs.Endian.{little_number}
 use Rattle.vol_alloc.specs.Alloc.{taken_of}
 use Rattle.vol_body.specs.Shorter.{Gives}
-use Rattle.vol_body.proofs.Given.{gives_next}
+use Rattle.vol_body.proofs.GivenBack.{gives_next}
 use Rattle.vol_body.proofs.giving.give_listed.Goals as goal
 
 pub loop-i-preserved : goal.loop-i-preserved

@@ -1,4 +1,4 @@
-use Rattle.std.proofs.Common.{◌≡◌, ◌∙◌, ◌<◌, ℕ, List, Result, Ok, Err, OnOk, sym, ap, subst, arith}
+use Rattle.std.proofs.Common.{◌∙◌, Result, Ok, Err, OnOk, sym, ap, subst, arith}
 use Rattle.std.proofs.lemmas.Result.{on_ok_weaker}
 use Rattle.vol_sector.specs.Disk.{Image, put}
 use Rattle.vol_sector.specs.declared.device.DeviceFault.{DeviceFault}

@@ -1,4 +1,4 @@
-use Rattle.std.proofs.Common.{◌≡◌, ◌≤◌, ◌<◌, ℕ, List, inl, inr, replicate, length, get_or, arith}
+use Rattle.std.proofs.Common.{ℕ, inl, inr, replicate, arith}
 use Rattle.std.proofs.lemmas.Bool.{cases_lt}
 use Rattle.std.proofs.lemmas.List.{get_or-replicate, length-replicate, get_or_past}
 use Rattle.vol_body.proofs.shrinking.kept_pointers.Goals as goal

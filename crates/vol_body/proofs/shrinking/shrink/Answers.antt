@@ -1,15 +1,15 @@
-use Rattle.std.proofs.Common.{◌≡◌, ◌≢◌, ◌∙◌, ◌-◌, ◌<◌, ℕ, Bool, true, nat_lt, if◌then◌else◌, List, get_or, OnErr, Ok, Err, Result, sym, ap, subst, arith}
+use Rattle.std.proofs.Common.{◌≡◌, ◌∙◌, ℕ, nat_lt, if◌then◌else◌, get_or, OnErr, Ok, Err, Result, sym, ap, subst, arith}
 use Rattle.vol_sector.specs.Disk.{Image, put}
 use Rattle.vol_sector.specs.declared.device.DeviceFault.{DeviceFault}
 use Rattle.vol_log.specs.Log.{view, device_of}
 use Rattle.vol_alloc.specs.Alloc.{first_of, end_of, taken_of}
 use Rattle.vol_inode.specs.Space.{sectors_of}
-use Rattle.vol_inode.specs.Spelling.{spelling}
 use Rattle.vol_inode.specs.declared.entry.Entry.{Entry}
 use Rattle.vol_body.specs.Body.{NamesTaken, IsBody, bytes_of}
-use Rattle.vol_body.specs.Change.{resized, OthersStay, TakesAndGives}
+use Rattle.vol_body.specs.Change.{OthersStay, TakesAndGives}
 use Rattle.vol_body.specs.Shorter.{first_of_pointer, with_cuts, Gives, Goes}
-use Rattle.vol_body.proofs.Readings.{reads_then, stages_then}
+use Rattle.vol_body.proofs.Readings.{reads_then}
+use Rattle.vol_body.proofs.Stagings.{stages_then}
 use Rattle.vol_body.proofs.Cuts.{put_there, in_range}
 use Rattle.vol_body.proofs.Shrunk.{Shrinks, shrunk_bytes, shrunk_rules, shrunk_others, shrunk_taken}
 use Rattle.vol_body.proofs.shrinking.shrink.Given.{Over}
