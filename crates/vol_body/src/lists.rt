@@ -16,6 +16,15 @@ use vol_inode::Entry;
 use vol_log::Log;
 use vol_sector::{Device, DeviceFault};
 
+/// How many parts of a file the entry itself names.
+pub const DIRECT: u32 = 58;
+
+/// How many parts are named by the entry and by the list of pointer 58.
+pub const LISTED: u32 = 186;
+
+/// How many numbers a pointer sector has.
+pub const NUMBERS: u32 = 128;
+
 /// A pointer sector: its number, and its bytes. Where the file has none the number is 0, and the
 /// bytes are zeros.
 #[derive(Drop)]
@@ -74,7 +83,7 @@ pub fn load_lists<D: Device>(
     ensures reads { OnlyReads log.old log.new }
     ensures failed { has_failed log.new ≡ is_err result }
 {
-    let g = first.saturating_sub(58) / 128;
+    let g = first.saturating_sub(DIRECT) / NUMBERS;
     let lists = load_top(log, sectors, entry, last)?;
     let early = load_segment(log, sectors, entry, &lists, g, last)?;
     let late = load_segment(log, sectors, entry, &lists, g + 1, last)?;
@@ -121,7 +130,7 @@ fn load_top<D: Device>(
     ensures reads { OnlyReads log.old log.new }
     ensures failed { has_failed log.new ≡ is_err result }
 {
-    if last < 186 {
+    if last < LISTED {
         return load(log, sectors, 0);
     }
     let number = known(sectors, entry.pointers[59]);
@@ -149,7 +158,7 @@ fn load_segment<D: Device>(
     ensures reads { OnlyReads log.old log.new }
     ensures failed { has_failed log.new ≡ is_err result }
 {
-    if last < 58 || g > (last - 58) / 128 {
+    if last < DIRECT || g > (last - DIRECT) / NUMBERS {
         return load(log, sectors, 0);
     }
     if g == 0 {

@@ -11,7 +11,7 @@ ghost use Rattle.vol_body.specs.Writing.{Mirrors, IsReady, Changes, Adds, IsPart
 ghost use Rattle.vol_body.specs.Writing.{OnlyPuts, SameRange, segment, placed, image_of};
 ghost use Rattle.vol_body.specs.Writing.{MirrorsAll, KnowsAll, IsPointer, PointedAt};
 
-use crate::lists::{Lists, PointerSector};
+use crate::lists::{DIRECT, LISTED, Lists, NUMBERS, PointerSector};
 use crate::writing_image::{Piece, image_of_part};
 use crate::writing_parts::{add_number, add_pointer, write_direct_part, write_listed_part};
 use vol_alloc::Alloc;
@@ -51,9 +51,9 @@ pub fn write_parts<D: Device>(
     ensures puts { OnlyPuts log.old log.new }
     ensures range { SameRange sectors.old sectors.new }
 {
-    write_direct(log, sectors, entry, piece, first, (last + 1).min(58));
-    let g = first.saturating_sub(58) / 128;
-    let border = 186 + 128 * g;
+    write_direct(log, sectors, entry, piece, first, (last + 1).min(DIRECT));
+    let g = first.saturating_sub(DIRECT) / NUMBERS;
+    let border = LISTED + NUMBERS * g;
     write_segment(
         log,
         sectors,
@@ -62,7 +62,7 @@ pub fn write_parts<D: Device>(
         &mut all.early,
         g,
         piece,
-        first.max(58),
+        first.max(DIRECT),
         (last + 1).min(border),
     );
     write_segment(
@@ -158,7 +158,7 @@ fn write_segment<D: Device>(
     }
     open_segment(log, sectors, entry, all, above, g);
     if above.number != 0 {
-        write_listed(log, sectors, above, 58 + 128 * g, piece, from, to);
+        write_listed(log, sectors, above, DIRECT + NUMBERS * g, piece, from, to);
     }
 }
 
