@@ -203,7 +203,7 @@ fn write_listed<D: Device>(
     }
 }
 
-/// Makes the pointer sector of a segment, and the one that lists it, where there is none.
+/// Makes the pointer sector of a group of 128 parts, and the one that lists it, where there is none.
 fn open_segment<D: Device>(
     log: &mut Log<D>,
     sectors: &mut Alloc,
