@@ -16,6 +16,15 @@ use vol_inode::Entry;
 use vol_log::Log;
 use vol_sector::{Device, DeviceFault};
 
+/// How many parts of a file the entry itself names.
+pub const DIRECT: u32 = 58;
+
+/// How many parts are named by the entry and by the list of pointer 58.
+pub const LISTED: u32 = 186;
+
+/// How many numbers a pointer sector has.
+pub const NUMBERS: u32 = 128;
+
 /// A pointer sector: its number, and its bytes. Where the file has none the number is 0, and the
 /// bytes are zeros.
 #[derive(Drop)]
@@ -66,10 +75,10 @@ pub fn load_lists<D: Device>(
     ensures reads { OnlyReads log.old log.new }
     ensures failed { has_failed log.new ≡ is_err result }
 {
-    let g = first.saturating_sub(58) / 128;
+    let group = first.saturating_sub(DIRECT) / NUMBERS;
     let lists = load_top(log, sectors, entry, last)?;
-    let early = load_segment(log, sectors, entry, &lists, g, last)?;
-    let late = load_segment(log, sectors, entry, &lists, g + 1, last)?;
+    let early = load_segment(log, sectors, entry, &lists, group, last)?;
+    let late = load_segment(log, sectors, entry, &lists, group + 1, last)?;
     Ok(Lists { lists, early, late })
 }
 
@@ -113,41 +122,41 @@ fn load_top<D: Device>(
     ensures reads { OnlyReads log.old log.new }
     ensures failed { has_failed log.new ≡ is_err result }
 {
-    if last < 186 {
+    if last < LISTED {
         return load(log, sectors, 0);
     }
     let number = known(sectors, entry.pointers[59]);
     load(log, sectors, number)
 }
 
-/// Reads the pointer sector that lists the 128 parts from 58 + 128 * `g` on, if the write reaches
+/// Reads the pointer sector that lists the 128 parts from 58 + 128 * `group` on, if the write reaches
 /// them.
 fn load_segment<D: Device>(
     log: &mut Log<D>,
     sectors: &Alloc,
     entry: &Entry,
     above: &PointerSector,
-    g: u32,
+    group: u32,
     last: u32,
 ) -> Result<PointerSector, DeviceFault>
     requires small { last < 16570 }
     requires there { end_of sectors.now ≤ sectors_of log.old }
     requires working { has_failed log.old ≡ false }
     ensures right { D.honest (device_of log.old)
-        → NamesTaken (taken_of sectors.now) (view log.old) entry.now → 58 + 128 * g ≤ last
+        → NamesTaken (taken_of sectors.now) (view log.old) entry.now → 58 + 128 * group ≤ last
         → (186 ≤ last → Mirrors (view log.old) entry.now lists above.now.number above.now.image)
-        → IfOk result (λ s. Mirrors (view log.old) entry.now (segment g) s.number s.image) }
+        → IfOk result (λ s. Mirrors (view log.old) entry.now (segment group) s.number s.image) }
     ensures known { IfOk result (λ s. s.number ≢ 0 → taken_of sectors.now s.number ≡ true) }
     ensures reads { OnlyReads log.old log.new }
     ensures failed { has_failed log.new ≡ is_err result }
 {
-    if last < 58 || g > (last - 58) / 128 {
+    if last < DIRECT || group > (last - DIRECT) / NUMBERS {
         return load(log, sectors, 0);
     }
-    if g == 0 {
+    if group == 0 {
         let first = known(sectors, entry.pointers[58]);
         return load(log, sectors, first);
     }
-    let number = known(sectors, number_at(&above.image, g - 1));
+    let number = known(sectors, number_at(&above.image, group - 1));
     load(log, sectors, number)
 }

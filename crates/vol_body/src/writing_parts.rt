@@ -23,15 +23,15 @@ pub fn add_pointer<D: Device>(
     log: &mut Log<D>,
     sectors: &mut Alloc,
     entry: &mut Entry,
-    s: u32,
+    slot: u32,
     image: &[u8; 512],
 ) -> u32
-    requires slot { s < 60 }
+    requires pointer { slot < 60 }
     requires behind { 122 ≤ first_of sectors.old }
     requires there { end_of sectors.old ≤ sectors_of log.old }
     requires room { 0 < room_of log.old }
     requires working { has_failed log.old ≡ false }
-    ensures added { (p : Place) → PointedAt s p → IsBlank p image.now
+    ensures added { (p : Place) → PointedAt slot p → IsBlank p image.now
         → IsMissing sectors.old (view log.old) entry.old p
         → Adds sectors.old sectors.new (view log.old) (view log.new) entry.old entry.new
         (λ q. q ≡ p) p result image.now }
@@ -47,7 +47,7 @@ pub fn add_pointer<D: Device>(
     }
     let n = sectors.take();
     log.stage(n, image);
-    entry.pointers[s as usize] = n;
+    entry.pointers[slot as usize] = n;
     n
 }
 

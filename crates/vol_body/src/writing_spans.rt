@@ -11,7 +11,7 @@ ghost use Rattle.vol_body.specs.Writing.{Mirrors, IsReady, Changes, Adds, IsPart
 ghost use Rattle.vol_body.specs.Writing.{OnlyPuts, SameRange, segment, placed, image_of};
 ghost use Rattle.vol_body.specs.Writing.{MirrorsAll, KnowsAll, IsPointer, PointedAt};
 
-use crate::lists::{Lists, PointerSector};
+use crate::lists::{DIRECT, LISTED, Lists, NUMBERS, PointerSector};
 use crate::writing_image::{Piece, image_of_part};
 use crate::writing_parts::{add_number, add_pointer, write_direct_part, write_listed_part};
 use vol_alloc::Alloc;
@@ -51,18 +51,18 @@ pub fn write_parts<D: Device>(
     ensures puts { OnlyPuts log.old log.new }
     ensures range { SameRange sectors.old sectors.new }
 {
-    write_direct(log, sectors, entry, piece, first, (last + 1).min(58));
-    let g = first.saturating_sub(58) / 128;
-    let border = 186 + 128 * g;
+    write_direct(log, sectors, entry, piece, first, (last + 1).min(DIRECT));
+    let group = first.saturating_sub(DIRECT) / NUMBERS;
+    let border = LISTED + NUMBERS * group;
     write_segment(
         log,
         sectors,
         entry,
         &mut all.lists,
         &mut all.early,
-        g,
+        group,
         piece,
-        first.max(58),
+        first.max(DIRECT),
         (last + 1).min(border),
     );
     write_segment(
@@ -71,7 +71,7 @@ pub fn write_parts<D: Device>(
         entry,
         &mut all.lists,
         &mut all.late,
-        g + 1,
+        group + 1,
         piece,
         border,
         last + 1,
@@ -112,14 +112,14 @@ fn write_direct<D: Device>(
     }
 }
 
-/// Writes parts between two that the pointer sector of the segment `g` lists.
+/// Writes parts between two that the pointer sector of the group lists.
 fn write_segment<D: Device>(
     log: &mut Log<D>,
     sectors: &mut Alloc,
     entry: &mut Entry,
     all: &mut PointerSector,
     above: &mut PointerSector,
-    g: u32,
+    group: u32,
     piece: &Piece<'_>,
     from: u32,
     to: u32,
@@ -128,8 +128,8 @@ fn write_segment<D: Device>(
     requires there { end_of sectors.old ≤ sectors_of log.old }
     requires room { to - from + 3 ≤ room_of log.old + placed log.old all.old.number }
     requires working { has_failed log.old ≡ false }
-    requires starts { 58 + 128 * g ≤ from }
-    requires ends { to ≤ 186 + 128 * g }
+    requires starts { 58 + 128 * group ≤ from }
+    requires ends { to ≤ 186 + 128 * group }
     requires last { to ≤ 16570 }
     requires touched_first { piece.now.offset < 512 * from + 512 }
     requires touched_last { 512 * to < piece.now.offset + length piece.now.bytes.now + 512 }
@@ -137,10 +137,10 @@ fn write_segment<D: Device>(
     requires known { above.old.number ≢ 0 → taken_of sectors.old above.old.number ≡ true }
     requires known_all { all.old.number ≢ 0 → taken_of sectors.old all.old.number ≡ true }
     ensures written { IsReady sectors.old (view log.old) entry.old → to ≤ count_of entry.old.size
-        → (from < to → Mirrors (view log.old) entry.old (segment g) above.old.number above.old.image)
+        → (from < to → Mirrors (view log.old) entry.old (segment group) above.old.number above.old.image)
         → (186 < to → Mirrors (view log.old) entry.old lists all.old.number all.old.image)
         → Changes sectors.old sectors.new (view log.old) (view log.new) entry.old entry.new
-        (λ p. IsPartIn from to p ⊎ ((p ≡ segment g) ⊎ (p ≡ lists)))
+        (λ p. IsPartIn from to p ⊎ ((p ≡ segment group) ⊎ (p ≡ lists)))
         × HasParts (view log.new) entry.new from to
         (image_of piece.now.offset piece.now.bytes.now piece.now.first piece.now.last)
         × (Mirrors (view log.old) entry.old lists all.old.number all.old.image
@@ -156,9 +156,17 @@ fn write_segment<D: Device>(
     if to <= from {
         return;
     }
-    open_segment(log, sectors, entry, all, above, g);
+    open_segment(log, sectors, entry, all, above, group);
     if above.number != 0 {
-        write_listed(log, sectors, above, 58 + 128 * g, piece, from, to);
+        write_listed(
+            log,
+            sectors,
+            above,
+            DIRECT + NUMBERS * group,
+            piece,
+            from,
+            to,
+        );
     }
 }
 
@@ -203,16 +211,16 @@ fn write_listed<D: Device>(
     }
 }
 
-/// Makes the pointer sector of a segment, and the one that lists it, where there is none.
+/// Makes the pointer sector of a group, and the one that lists it, where there is none.
 fn open_segment<D: Device>(
     log: &mut Log<D>,
     sectors: &mut Alloc,
     entry: &mut Entry,
     all: &mut PointerSector,
     above: &mut PointerSector,
-    g: u32,
+    group: u32,
 )
-    requires place { g < 129 }
+    requires place { group < 129 }
     requires behind { 122 ≤ first_of sectors.old }
     requires there { end_of sectors.old ≤ sectors_of log.old }
     requires room { 3 ≤ room_of log.old + placed log.old all.old.number }
@@ -220,11 +228,11 @@ fn open_segment<D: Device>(
     requires known { above.old.number ≢ 0 → taken_of sectors.old above.old.number ≡ true }
     requires known_all { all.old.number ≢ 0 → taken_of sectors.old all.old.number ≡ true }
     ensures opened { IsReady sectors.old (view log.old) entry.old
-        → 58 + 128 * g < count_of entry.old.size
-        → Mirrors (view log.old) entry.old (segment g) above.old.number above.old.image
-        → (1 ≤ g → Mirrors (view log.old) entry.old lists all.old.number all.old.image)
+        → 58 + 128 * group < count_of entry.old.size
+        → Mirrors (view log.old) entry.old (segment group) above.old.number above.old.image
+        → (1 ≤ group → Mirrors (view log.old) entry.old lists all.old.number all.old.image)
         → Adds sectors.old sectors.new (view log.old) (view log.new) entry.old entry.new
-        (λ p. (p ≡ segment g) ⊎ (p ≡ lists)) (segment g) above.new.number above.new.image
+        (λ p. (p ≡ segment group) ⊎ (p ≡ lists)) (segment group) above.new.number above.new.image
         × (Mirrors (view log.old) entry.old lists all.old.number all.old.image
         → Mirrors (view log.new) entry.new lists all.new.number all.new.image) }
     ensures known { above.new.number ≢ 0 → taken_of sectors.new above.new.number ≡ true }
@@ -236,13 +244,13 @@ fn open_segment<D: Device>(
     ensures puts { OnlyPuts log.old log.new }
     ensures range { SameRange sectors.old sectors.new }
 {
-    if g == 0 {
+    if group == 0 {
         open_pointer(log, sectors, entry, 58, above);
         return;
     }
     open_pointer(log, sectors, entry, 59, all);
     if above.number == 0 && all.number != 0 {
-        above.number = add_number(log, sectors, all, g - 1, &[0; 512]);
+        above.number = add_number(log, sectors, all, group - 1, &[0; 512]);
     }
 }
 
@@ -251,16 +259,16 @@ fn open_pointer<D: Device>(
     log: &mut Log<D>,
     sectors: &mut Alloc,
     entry: &mut Entry,
-    s: u32,
+    slot: u32,
     above: &mut PointerSector,
 )
-    requires slot { s < 60 }
+    requires pointer { slot < 60 }
     requires behind { 122 ≤ first_of sectors.old }
     requires there { end_of sectors.old ≤ sectors_of log.old }
     requires room { 0 < room_of log.old }
     requires working { has_failed log.old ≡ false }
     requires known { above.old.number ≢ 0 → taken_of sectors.old above.old.number ≡ true }
-    ensures opened { (p : Place) → PointedAt s p → 58 ≤ s
+    ensures opened { (p : Place) → PointedAt slot p → 58 ≤ slot
         → IsReady sectors.old (view log.old) entry.old → first_served p < count_of entry.old.size
         → Mirrors (view log.old) entry.old p above.old.number above.old.image
         → Adds sectors.old sectors.new (view log.old) (view log.new) entry.old entry.new
@@ -274,6 +282,6 @@ fn open_pointer<D: Device>(
     ensures range { SameRange sectors.old sectors.new }
 {
     if above.number == 0 {
-        above.number = add_pointer(log, sectors, entry, s, &[0; 512]);
+        above.number = add_pointer(log, sectors, entry, slot, &[0; 512]);
     }
 }

@@ -16,15 +16,15 @@ returns-clause-right g c h names =
     let first_honest = c.in_ok-lists.ensures.reads.honest.0 h in
     let two : view c.load_segment.new.log ≡ content = c.in_ok-early.ensures.reads.view first_honest ∙ one in
     let second_honest = c.in_ok-early.ensures.reads.honest.0 first_honest in
-    let group : c.saturating_sub-g.result / 128 ≡ segment_of c.args.first = ap (λ (x : ℕ). x / 128) c.saturating_sub-g.ensures in
+    let group : c.saturating_sub-group.result / 128 ≡ segment_of c.args.first = ap (λ (x : ℕ). x / 128) c.saturating_sub-group.ensures in
     let top = c.in_ok-lists.lists in
     let right = λ (reaches : 186 ≤ c.args.last). c.in_ok-lists.ensures.right h names reaches in
     let early = λ (reaches : 58 + 128 * segment_of c.args.first ≤ c.args.last).
-    mirrors_in e (segment (c.saturating_sub-g.result / 128)) c.in_ok-early.early.number c.in_ok-early.early.image one
+    mirrors_in e (segment (c.saturating_sub-group.result / 128)) c.in_ok-early.early.number c.in_ok-early.early.image one
     (c.in_ok-early.ensures.right first_honest (subst (λ (m : Image). NamesTaken taken m e) (sym one) names) (omega (arith, group, reaches))
     (λ further. mirrors_in e lists top.number top.image (sym one) (right further))) in
     let late = λ (reaches : 186 + 128 * segment_of c.args.first ≤ c.args.last).
-    mirrors_in e (segment (c.saturating_sub-g.result / 128 + 1)) c.in_ok-late.late.number c.in_ok-late.late.image two
+    mirrors_in e (segment (c.saturating_sub-group.result / 128 + 1)) c.in_ok-late.late.number c.in_ok-late.late.image two
     (c.in_ok-late.ensures.right second_honest (subst (λ (m : Image). NamesTaken taken m e) (sym two) names) (omega (arith, group, reaches))
     (λ further. mirrors_in e lists top.number top.image (sym two) (right further))) in
     record {

@@ -11,10 +11,10 @@ pub returns-clause-right : goal.returns-clause-right
 returns-clause-right g c h names reaches mirror =
     let content = view c.args.log.now in
     let e = c.args.entry.now in
-    let i = c.args.g - 1 in
-    let here = mirror (omega (arith, reaches, c.if-g-eq0.false)) in
-    let below : i < 128 = omega (arith, reaches, c.requires.small, c.if-g-eq0.false) in
+    let i = c.args.group - 1 in
+    let here = mirror (omega (arith, reaches, c.if-group-eq0.false)) in
+    let below : i < 128 = omega (arith, reaches, c.requires.small, c.if-group-eq0.false) in
     let number : c.number_at.result ≡ named content e (later_list i) = c.number_at.ensures ∙ number_mirrored content e i c.args.above.now.number c.args.above.now.image here in
     let known : c.known-number.result ≡ named content e (later_list i) = c.known-number.ensures ∙ known_at (taken_of c.args.sectors.now) content e names (later_list i) below c.number_at.result number in
-    subst (λ (p : Place). IfOk c.load-2.result (λ s. Mirrors content e p s.number s.image)) (sym (segment_later c.args.g c.if-g-eq0.false))
+    subst (λ (p : Place). IfOk c.load-2.result (λ s. Mirrors content e p s.number s.image)) (sym (segment_later c.args.group c.if-group-eq0.false))
     (loaded content e (later_list i) c.known-number.result c.load-2.result known c.load-2.ensures.number (c.load-2.ensures.image h))

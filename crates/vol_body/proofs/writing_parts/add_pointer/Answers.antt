@@ -21,7 +21,7 @@ returns-clause-added g c p at blank missing =
     let n = c.take-n.result in
     let content = view c.args.log.now in
     let e = c.args.entry.now in
-    let s = c.args.s in
+    let s = c.args.slot in
     let image = c.args.image.now in
     let changed : Entry = record e { pointers = set e.pointers s n } in
     let is : view c.stage.new.self ≡ put n image content = c.stage.ensures.view in
@@ -36,6 +36,6 @@ returns-clause-added g c p at blank missing =
     let long : length e.pointers ≡ 60 = search rules in
     let done = adds_pointer a b content (view c.stage.new.self) e changed s n p image takes missing.ready missing.ready.small
     (λ x other. ap (λ (m : Image). m x) is ∙ put_other n x image content other)
-    (sets_pointer e s n (omega (arith, long, c.requires.slot)))
+    (sets_pointer e s n (omega (arith, long, c.requires.pointer)))
     (ap (λ (m : Image). m n) is ∙ put_here n image content) at blank missing.none missing.serves in
     record { changes = done.0; mirror = done.1; some = takes.some }

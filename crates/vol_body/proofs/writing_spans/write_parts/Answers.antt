@@ -35,8 +35,8 @@ pub returns-clause-written : goal.returns-clause-written
 returns-clause-written g c ready fits all =
     let first = c.args.first in
     let last = c.args.last in
-    let s = c.saturating_sub-g.result / 128 in
-    let group : s ≡ segment_of first = ap (λ (x : ℕ). x / 128) c.saturating_sub-g.ensures in
+    let s = c.saturating_sub-group.result / 128 in
+    let group : s ≡ segment_of first = ap (λ (x : ℕ). x / 128) c.saturating_sub-group.ensures in
     let low = c.min.ensures in
     let middle_from = c.max.ensures in
     let middle_to = c.min-2.ensures in
@@ -64,7 +64,7 @@ returns-clause-written g c ready fits all =
     let lists_one = λ (reaches : 186 ≤ last). mirror_stays c0 c1 e0 e1 lists top.number top.image (one.0.stays lists tt (λ touched. touched)) (all.lists reaches) in
     let two = c.write_segment.ensures.written one.0.ready (omega (arith, middle_to, size1, fits))
     (λ some.
-    let reaches : 58 + 128 * s ≤ last = omega (arith, some, middle_from, middle_to, c.saturating_sub-g.ensures) in
+    let reaches : 58 + 128 * s ≤ last = omega (arith, some, middle_from, middle_to, c.saturating_sub-group.ensures) in
     mirror_stays c0 c1 e0 e1 (segment s) early.number early.image (one.0.stays (segment s) (segment_is_place s last reaches c.requires.last) (λ touched. segment_no_part first to1 s touched))
     (subst (λ (x : ℕ). Mirrors c0 e0 (segment x) early.number early.image) (sym group) (all.early (omega (arith, reaches, group)))))
     (λ later. lists_one (omega (arith, later, middle_to))) in
@@ -84,7 +84,7 @@ returns-clause-written g c ready fits all =
     let changes = changes_then a d f c0 c2 c3 e0 e2 e3 Both (λ p. IsPartIn from3 (last + 1) p ⊎ ((p ≡ segment (s + 1)) ⊎ (p ≡ lists))) Both c.requires.behind
     (range_then a b d c.write_direct.ensures.range c.write_segment.ensures.range) c.write_segment-2.ensures.range
     (λ p touched. touched)
-    (λ p touched. span_touched from3 (last + 1) first last (s + 1) p (omega (arith, c.saturating_sub-g.ensures)) (omega arith) touched) first_two three.0 in
+    (λ p touched. span_touched from3 (last + 1) first last (s + 1) p (omega (arith, c.saturating_sub-group.ensures)) (omega arith) touched) first_two three.0 in
     let piece = c.args.piece.now in
     let image = image_of piece.offset piece.bytes.now piece.first piece.last in
     let parts : HasParts c3 e3 first (last + 1) image = λ j from to.
