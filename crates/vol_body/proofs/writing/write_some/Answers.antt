@@ -7,7 +7,8 @@ use Rattle.vol_inode.specs.declared.entry.Entry.{Entry}
 use Rattle.vol_body.specs.Body.{part, named, part_bytes, NamesTaken}
 use Rattle.vol_body.specs.Change.{used_of}
 use Rattle.vol_body.specs.Writing.{IsReady, MirrorsAll, Changes, IsPartIn, IsPointer}
-use Rattle.vol_body.proofs.Readings.{reads_then, stages_then}
+use Rattle.vol_body.proofs.Readings.{reads_then}
+use Rattle.vol_body.proofs.Stagings.{stages_then}
 use Rattle.vol_body.proofs.Steps.{put_here, room_left, on_err}
 use Rattle.vol_body.proofs.Finished.{write_leaves, ready_to_write, mirrors_all_by}
 use Rattle.vol_body.proofs.writing.write_some.Goals as goal
