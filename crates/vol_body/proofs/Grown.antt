@@ -1,13 +1,16 @@
 -- A longer file.
-use Rattle.std.proofs.Common.{◌≡◌, ◌≢◌, inl, inr, ◌≤◌, ◌<◌, ◌+◌, ◌-◌, ◌/◌, ℕ, List, ◌++◌, ◌==◌, if◌then◌else◌, length, replicate, get_or, refl, sym, ◌∙◌, ap, arith}
+use Rattle.std.proofs.Common.{◌≡◌, inl, inr, ◌≤◌, ◌<◌, ◌-◌, ℕ, Bool, List, ◌++◌, length, replicate, refl, sym, ◌∙◌, ap, arith}
 use Rattle.std.proofs.lemmas.Bool.{cases_lt}
-use Rattle.std.proofs.lemmas.Bool.Decides.{nat_tests}
-use Rattle.std.proofs.lemmas.List.{ext_get_or, length-append, length-replicate, get_or_append_left, get_or-append_right, get_or-replicate}
+use Rattle.std.proofs.lemmas.List.{ext_get_or, length-append, length-replicate, get_or_append_left, get_or-append_right, get_or-replicate, take_all}
 use Rattle.vol_sector.specs.Disk.{Image, put}
+use Rattle.vol_alloc.specs.declared.sectors.Alloc.{Alloc}
+use Rattle.vol_alloc.specs.Alloc.{first_of, taken_of}
 use Rattle.vol_inode.specs.declared.entry.Entry.{Entry}
-use Rattle.vol_inode.specs.Space.{sectors_of}
-use Rattle.vol_body.specs.Body.{Place, part, list, lists, later_list, IsPlace, first_served, named, byte_at, bytes_of, IsBody, NamesOthers, SameSectors}
+use Rattle.vol_body.specs.Body.{Place, part, list, lists, later_list, IsPlace, named, bytes_of, IsBody, NamesTaken, NamesOthers, SameSectors}
+use Rattle.vol_body.specs.Change.{resized, OthersStay, TakesAndGives}
 use Rattle.vol_body.proofs.Parts.{length-bytes_of, get_or-bytes_of}
+use Rattle.vol_body.proofs.Same.{same_file}
+use Rattle.vol_body.proofs.Cuts.{put_past, in_range}
 
 -- a file's names don't go by its size
 same_named : (content : Image) (e : Entry) (size : ℕ) (p : Place) → named content (record e { size = size }) p ≡ named content e p
@@ -38,10 +41,36 @@ grown_rules content e size body grows = record {
 
 -- a write to a sector that the file doesn't name
 pub put_elsewhere : (content : Image) (e : Entry) (size n : ℕ) (bytes : List ℕ) → NamesOthers content e n → SameSectors content (put n bytes content) (record e { size = size })
-put_elsewhere content e size n bytes others p there some = skip (named content (record e { size = size }) p) (λ is. others p there (sym (same_named content e size p) ∙ is))
-  where
-    skip : (k : ℕ) → k ≢ n → put n bytes content k ≡ content k
-    skip k other = pick k bytes (content k) other
-      where
-        pick : (k : ℕ) (x y : List ℕ) → k ≢ n → (if k == n then x else y) ≡ y
-        pick k x y other = grind (arith, nat_tests)
+put_elsewhere content e size n bytes others p there some = put_past n (named content (record e { size = size }) p) bytes content (λ is. others p there (sym (same_named content e size p) ∙ is))
+
+-- a write to a slot's sector, for a file that grew
+module _ (content : Image) (e : Entry) (size place : ℕ) (bytes : List ℕ) (others : NamesOthers content e place) where
+  grown_names : (p : Place) → IsPlace p → named (put place bytes content) (record e { size = size }) p ≡ named content e p
+  grown_names p there = (same_file content (put place bytes content) (record e { size = size }) (put_elsewhere content e size place bytes others)).names p there ∙ same_named content e size p
+
+  pub grown_others : (first end : ℕ) (taken : ℕ → Bool) → OthersStay place first end taken content (put place bytes content) e
+  grown_others first end taken = record {
+    outside = λ n other out. put_past place n bytes content other;
+    taken = λ n other is foreign. put_past place n bytes content other;
+  }
+
+  pub grown_taken : (taken : ℕ → Bool) → NamesTaken taken content e → TakesAndGives taken taken content (put place bytes content) e (record e { size = size })
+  grown_taken taken names = record {
+    taken = λ p there some. ap taken (grown_names p there) ∙ names p there (λ none. some (grown_names p there ∙ none));
+    fresh = λ n is foreign. absurd (foreign is.place.0 is.place.1 (sym (grown_names is.place.0 is.place.1) ∙ is.place.2));
+    given = λ n was foreign. absurd (foreign was.place.0 was.place.1 (grown_names was.place.0 was.place.1 ∙ was.place.2));
+    others = λ n foreign foreign_now. refl;
+  }
+
+pub grown_resized : (old : List ℕ) (length_of size : ℕ) → length old ≡ length_of → length_of ≤ size → resized size old ≡ old ++ replicate (size - length_of) 0
+grown_resized old length_of size is grows =
+    let all : List ℕ = old ++ replicate (size - length old) 0 in
+    take_all size all (omega (arith, length-append old (replicate (size - length old) 0), length-replicate {A = ℕ} (size - length old) 0, is, grows))
+    ∙ ap (λ (k : ℕ). old ++ replicate (size - k) 0) is
+
+-- an entry's sector isn't one of the file's
+pub slot_is_other : (a : Alloc) (content : Image) (e : Entry) (place : ℕ) → 0 < place → place < first_of a → NamesTaken (taken_of a) content e → NamesOthers content e place
+slot_is_other a content e place some slot names p there is =
+    let taken = names p there (λ none. omega (arith, some, is, none)) in
+    let within = in_range a (named content e p) taken in
+    omega (arith, within.0, is, slot)

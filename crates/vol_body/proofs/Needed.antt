@@ -105,22 +105,22 @@ at_last count k last p lt is =
           ∙ ap (λ (i : ℕ). get_or last i p) back ∙ is,
     )
 
-pub place_is_there : (content : Image) (e : Entry) (p : Place) → IsBody content e → IsPlace p → named content e p ≢ 0 → Contains (places_of e.size) p
-place_is_there content e (part j) body there names =
-    at_part (sectors_of e.size) j _ _ (serves content e (part j) body there names)
-place_is_there content e list body there names =
-    let lt : 58 < sectors_of e.size = serves content e list body there names in
-    let count = sectors_of e.size in
+-- a place that serves a part of a file is among those of a file of the size
+pub place_there : (size : ℕ) (p : Place) → first_served p < sectors_of size → Contains (places_of size) p
+place_there size (part j) lt = at_part (sectors_of size) j _ _ lt
+place_there size list lt =
+    let count = sectors_of size in
     let B = λ (l : List Place). Contains (map part (range_with_len 0 count) ++ l ++ (if nat_lt 186 count then lists ∷ map later_list (range_with_len 0 (lists_of (count - 186))) else [])) list in
     subst B (sym (take_it 58 count (list ∷ []) [] lt)) (at_list count _)
-place_is_there content e lists body there names =
-    let lt : 186 < sectors_of e.size = serves content e lists body there names in
-    let count = sectors_of e.size in
+place_there size lists lt =
+    let count = sectors_of size in
     subst (λ (l : List Place). Contains l lists) (sym (many count lt)) (at_last count 0 (lists ∷ map later_list (range_with_len 0 (lists_of (count - 186)))) lists (omega arith) refl)
-place_is_there content e (later_list i) body there names =
-    let lt : 186 + 128 * i < sectors_of e.size = serves content e (later_list i) body there names in
-    let count = sectors_of e.size in
+place_there size (later_list i) lt =
+    let count = sectors_of size in
     let n = lists_of (count - 186) in
     let below : i < n = omega arith in
     subst (λ (l : List Place). Contains l (later_list i)) (sym (many count (omega arith)))
     (at_last count (suc i) (lists ∷ map later_list (range_with_len 0 n)) (later_list i) (omega (arith, long_later n)) (get_or-map-range_with_len later_list 0 n i i (later_list i) below (omega arith)))
+
+pub place_is_there : (content : Image) (e : Entry) (p : Place) → IsBody content e → IsPlace p → named content e p ≢ 0 → Contains (places_of e.size) p
+place_is_there content e p body there names = place_there e.size p (serves content e p body there names)

@@ -1,2 +1,6 @@
 pub mod Body
 pub mod Reading
+pub mod Change
+pub mod Naming
+pub mod Writing
+pub mod Shorter

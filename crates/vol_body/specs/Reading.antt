@@ -14,3 +14,11 @@ pub record OnlyReads {D : Type 0} {g : Ghosts D} (old new : Log D g) : Type 0 wh
   pub honest : g.honest (device_of old) ↔ g.honest (device_of new)
   pub size : g.size (device_of new) ≡ g.size (device_of old)
   pub faults : has_failed old ≡ false → g.faults (device_of new) ≡ counted (has_failed new) (g.faults (device_of old))
+
+-- What stays of a log that is read, and then staged to: a crash leaves nothing new. At most one operation fails, and the log then.
+pub record OnlyStages {D : Type 0} {g : Ghosts D} (old new : Log D g) : Type 0 where
+  pub crash : g.honest (device_of old) → Leaves (g.disk (device_of old)) (g.disk (device_of new)) (λ c. ⊥)
+  pub sectors : sectors_of new ≡ sectors_of old
+  pub honest : g.honest (device_of old) ↔ g.honest (device_of new)
+  pub size : g.size (device_of new) ≡ g.size (device_of old)
+  pub faults : has_failed old ≡ false → g.faults (device_of new) ≡ counted (has_failed new) (g.faults (device_of old))

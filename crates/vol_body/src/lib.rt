@@ -1,13 +1,23 @@
 //! The bytes of a file, over the log and the free sectors of a volume.
 #![tactic(auto)]
 
+mod cutting;
+mod giving;
 mod growing;
 mod laws;
+mod lists;
 mod locate;
 mod reading;
+mod resizing;
+mod shrinking;
 #[cfg(test)]
 mod tests;
+mod writing;
+mod writing_image;
+mod writing_parts;
+mod writing_spans;
 
-pub use growing::grow;
 pub use laws::{names_at_most_what_it_needs, other_files_stay};
 pub use reading::read_at;
+pub use resizing::set_size;
+pub use writing::write_at;

@@ -1,7 +1,8 @@
 //! Where the sectors of a file are.
 
 ghost use Rattle.std.specs.Prelude.{◌≡◌, ◌≢◌, ◌≤◌, ◌<◌, ◌↔◌, ◌⊎◌, ℕ, true, false, IfOk, is_err, if◌then◌else◌};
-ghost use Rattle.std.specs.Prelude.{IsErr, length};
+ghost use Rattle.std.specs.Prelude.{IsErr, length, drop, ◌*◌};
+ghost use Rattle.byteorder.specs.Endian.{little_number};
 ghost use Rattle.vol_log.specs.Log.{view, sectors_of, has_failed, device_of};
 ghost use Rattle.vol_alloc.specs.Alloc.{end_of, taken_of};
 ghost use Rattle.vol_body.specs.Body.{NamesTaken, named, number_in, part, part_bytes};
@@ -29,6 +30,14 @@ pub fn known(sectors: &Alloc, n: u32) -> u32
     if sectors.is_taken(n) { n } else { 0 }
 }
 
+/// The `i`-th number of a pointer sector.
+pub fn number_at(image: &[u8; 512], i: u32) -> u32
+    requires { i < 128 }
+    ensures { result ≡ little_number 4 (drop (4 * i) image.now) }
+{
+    LittleEndian::read_u32(&image[4 * i as usize..])
+}
+
 /// The `i`-th number of a pointer sector, where it is that of a taken sector. Sector 0 stands for
 /// none.
 pub fn read_number<D: Device>(
@@ -52,7 +61,7 @@ pub fn read_number<D: Device>(
         return Ok(0);
     }
     let image = log.read(list)?;
-    Ok(known(sectors, LittleEndian::read_u32(&image[4 * i as usize..])))
+    Ok(known(sectors, number_at(&image, i)))
 }
 
 /// The sector of a part of the file, or 0 where it was never written.

@@ -1,4 +1,4 @@
-use Rattle.std.proofs.Common.{◌≡◌, ◌∙◌, ℕ, List, sym, ap, subst}
+use Rattle.std.proofs.Common.{◌∙◌, ℕ, List, sym, ap, subst}
 use Rattle.vol_sector.specs.Disk.{Image, put}
 use Rattle.vol_log.specs.Log.{view}
 use Rattle.vol_inode.specs.Spelling.{spelling}

@@ -12,8 +12,7 @@ returns-clause-number g c h =
     let i = c.args.i in
     let content = view c.args.log.now in
     let image = c.in_ok-image.image in
-    let read : c.read_u32.result ≡ number_in content c.args.list i = c.read_u32.ensures
-    ∙ little_from-take 0 4 (512 - 4 * i) (drop (4 * i) image) (omega (arith, c.requires.place))
+    let read : c.number_at.result ≡ number_in content c.args.list i = c.number_at.ensures
     ∙ ap (λ (l : List ℕ). little_number 4 (drop (4 * i) l)) (c.in_ok-image.ensures.value h)
     ∙ sym (number_there content c.args.list i c.if-list-eq0.false) in
     c.known.ensures ∙ ap (λ (n : ℕ). if taken_of c.args.sectors.now n then n else 0) read

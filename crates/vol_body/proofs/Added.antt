@@ -1,0 +1,143 @@
+-- What taking a sector and naming it changes of a file.
+use Rattle.std.proofs.Common.{◌≡◌, ◌≢◌, ◌⊎◌, inl, inr, ◌≤◌, ◌<◌, ◌+◌, ◌-◌, ◌/◌, ◌==◌, if◌then◌else◌, ℕ, Bool, true, false, List, refl, sym, ◌∙◌, ap, subst, arith}
+use Rattle.std.proofs.lemmas.Bool.{both_ways}
+use Rattle.vol_sector.specs.Disk.{Image}
+use Rattle.vol_alloc.specs.Alloc.{first_of, end_of, taken_of, free_of}
+use Rattle.vol_alloc.specs.declared.sectors.Alloc.{Alloc}
+use Rattle.vol_inode.specs.declared.entry.Entry.{Entry}
+use Rattle.vol_inode.specs.Space.{sectors_of, need_of}
+use Rattle.vol_body.specs.Body.{Place, part, list, lists, later_list, IsPlace, first_served, named, part_bytes, NamesTaken, NamesOthers}
+use Rattle.vol_body.specs.Change.{OthersStay}
+use Rattle.vol_body.specs.Naming.{IsNaming, NamesOneMore, SetsPointer, ListsOneMore}
+use Rattle.vol_body.specs.Writing.{PointedAt, ListedAt, IsBlank, Mirrors, IsReady, SamePlace, Changes}
+use Rattle.vol_body.proofs.Changes.{stays_twice, takes_twice, takes_same}
+use Rattle.vol_body.proofs.OneMore.{one_direct, one_list, one_lists, one_listed, one_later_list, one_later, write_named, naming_by, naming_more, names_stay, names_taken_more, takes_one, others_stay_one, others_stay_two, places_stay, places_stay_but, places_stay_by}
+use Rattle.vol_body.proofs.Places.{bytes_there}
+use Rattle.vol_body.proofs.Space.{used_more, used_same}
+
+-- a sector of the range that was free is taken
+pub record TakesSector (a b : Alloc) (n : ℕ) : Type 0 where
+  pub some : n ≢ 0
+  pub from : first_of a ≤ n
+  pub below : n < end_of a
+  pub free : taken_of a n ≡ false
+  pub taken : (k : ℕ) → taken_of b k ≡ (if k == n then true else taken_of a k)
+  pub count : free_of b + 1 ≡ free_of a
+
+-- a file whose sectors are taken names no free one
+pub free_is_others : (taken : ℕ → Bool) (content : Image) (e : Entry) (n : ℕ) → NamesTaken taken content e → n ≢ 0 → taken n ≡ false → NamesOthers content e n
+free_is_others taken content e n names some free p there is = both_ways (taken n) free (sym (ap taken is) ∙ names p there (λ none. some (sym is ∙ none)))
+
+-- a place that serves a part of a file that isn't too long
+place_of : (p : Place) (size : ℕ) → size ≤ 8483840 → first_served p < sectors_of size → IsPlace p
+place_of (part j) size small serves = omega arith
+place_of list size small serves = tt
+place_of lists size small serves = tt
+place_of (later_list i) size small serves = omega arith
+
+-- a change by which the file names one more sector
+changes_one : (a b : Alloc) (content after : Image) (e changed : Entry) (p : Place) (n : ℕ) (Touched : Place → Type 0) → NamesOneMore content after e changed p n → TakesSector a b n → IsReady a content e → e.size ≤ 8483840
+    → named content e p ≡ 0 → first_served p < sectors_of e.size → ((place : ℕ) → OthersStay place (first_of a) (end_of a) (taken_of a) content after e)
+    → ((q : Place) → IsPlace q → (Touched q → ⊥) → SamePlace content after e changed q) → Changes a b content after e changed Touched
+changes_one a b content after e changed p n Touched more takes ready small none serves others stays =
+    let fresh = free_is_others (taken_of a) content e n ready.taken takes.some takes.free in
+    let there = place_of p e.size small serves in
+    let used = used_more content after e changed p n more none takes.some serves small in
+    let need : need_of changed.size ≡ need_of e.size = ap need_of more.size in
+    record {
+      ready = record {
+        naming = naming_more content after e changed p n more ready.naming fresh takes.some there serves;
+        taken = names_taken_more content after e changed p n more (taken_of a) (taken_of b) takes.taken ready.taken;
+        space = omega (arith, need, used, takes.count, ready.space);
+        small = omega (arith, more.size, small);
+      };
+      others = others;
+      takes = takes_one content after e changed p n more (taken_of a) (taken_of b) takes.taken ready.taken takes.free none there;
+      stays = stays;
+      size = more.size;
+    }
+
+-- by a pointer of the entry
+pointed_more : (content after : Image) (e changed : Entry) (s n : ℕ) (p : Place) (image : List ℕ) → NamesOthers content e n → ((x : ℕ) → x ≢ n → after x ≡ content x) → SetsPointer e changed s n → after n ≡ image
+    → PointedAt s p → IsBlank p image → named content e p ≡ 0 → NamesOneMore content after e changed p n
+pointed_more content after e changed s n (part j) image others stays sets is at blank none = one_direct content after e changed n others stays j at.1 (subst (λ (k : ℕ). SetsPointer e changed k n) at.0 sets)
+pointed_more content after e changed s n list image others stays sets is at blank none = one_list content after e changed n others stays (subst (λ (k : ℕ). SetsPointer e changed k n) at sets) none (is ∙ blank)
+pointed_more content after e changed s n lists image others stays sets is at blank none = one_lists content after e changed n others stays (subst (λ (k : ℕ). SetsPointer e changed k n) at sets) none (is ∙ blank)
+pointed_more content after e changed s n (later_list i) image others stays sets is at blank none = absurd at
+
+pub adds_pointer : (a b : Alloc) (content after : Image) (e changed : Entry) (s n : ℕ) (p : Place) (image : List ℕ) → TakesSector a b n → IsReady a content e → e.size ≤ 8483840
+    → ((x : ℕ) → x ≢ n → after x ≡ content x) → SetsPointer e changed s n → after n ≡ image → PointedAt s p → IsBlank p image → named content e p ≡ 0 → first_served p < sectors_of e.size
+    → Changes a b content after e changed (λ q. q ≡ p) × Mirrors after changed p n image
+adds_pointer a b content after e changed s n p image takes ready small stays sets is at blank none serves =
+    let fresh = free_is_others (taken_of a) content e n ready.taken takes.some takes.free in
+    let more = pointed_more content after e changed s n p image fresh stays sets is at blank none in (
+      changes_one a b content after e changed p n (λ q. q ≡ p) more takes ready small none serves
+          (λ place. others_stay_one place (first_of a) (end_of a) (taken_of a) content after e n stays takes.from takes.below (λ taken others. both_ways (taken_of a n) takes.free taken))
+          (λ q there not. record { name = more.rest q there not; bytes = places_stay content after e changed p n more fresh stays q there not }),
+      record { names = sym more.one; bytes = sym is ∙ sym (bytes_there after n takes.some) },
+    )
+
+-- by a number in a pointer sector
+listed_more : (content after : Image) (e : Entry) (n m i : ℕ) (q p : Place) (image : List ℕ) → IsNaming content e → NamesOthers content e n → m ≢ 0 → ListsOneMore content after m i n → after n ≡ image → i < 128
+    → ListedAt q i p → IsPlace p → named content e q ≡ m → IsBlank p image → named content e p ≡ 0 → NamesOneMore content after e e p n
+listed_more content after e n m i list (part j) image naming others some more is lt at there names blank none =
+    one_listed content after e n m i naming others some more j (omega arith) (omega arith) (omega arith) names
+listed_more content after e n m i (later_list k) (part j) image naming others some more is lt at there names blank none =
+    let group : (j - 186) / 128 ≡ k = omega arith in
+    one_later content after e n m i naming others some more j (omega arith) there (omega arith) (ap (λ (x : ℕ). named content e (later_list x)) group ∙ names)
+listed_more content after e n m i lists (later_list k) image naming others some more is lt at there names blank none =
+    one_later_list content after e n m i naming others some more k there at names none (is ∙ blank)
+listed_more content after e n m i q p image naming others some more is lt at there names blank none = absurd at
+
+pub adds_number : (a b : Alloc) (content after : Image) (e : Entry) (n m i : ℕ) (q p : Place) (image : List ℕ) → TakesSector a b n → IsReady a content e → e.size ≤ 8483840
+    → m ≢ 0 → first_of a ≤ m → m < end_of a → ListsOneMore content after m i n → after n ≡ image → i < 128 → ListedAt q i p → IsPlace q → m ≡ named content e q
+    → IsBlank p image → named content e p ≡ 0 → first_served p < sectors_of e.size → Changes a b content after e e (λ x. (x ≡ p) ⊎ (x ≡ q)) × Mirrors after e p n image
+adds_number a b content after e n m i q p image takes ready small some from below lists_it is lt at q_there names blank none serves =
+    let fresh = free_is_others (taken_of a) content e n ready.taken takes.some takes.free in
+    let there = place_of p e.size small serves in
+    let more = listed_more content after e n m i q p image ready.naming fresh some lists_it is lt at there (sym names) blank none in (
+      changes_one a b content after e e p n (λ x. (x ≡ p) ⊎ (x ≡ q)) more takes ready small none serves
+          (λ place. others_stay_two place (first_of a) (end_of a) (taken_of a) content after e n m lists_it.stays takes.from takes.below (λ taken others. both_ways (taken_of a n) takes.free taken) from below (λ taken others. others q q_there (sym names)))
+          (λ x x_there not. record { name = more.rest x x_there (λ same. not (inl same)); bytes = places_stay_but content after e e p q n m more ready.naming fresh q_there (sym names) lists_it.stays x x_there (λ same. not (inl same)) (λ same. not (inr same)) }),
+      record { names = sym more.one; bytes = sym is ∙ sym (bytes_there after n takes.some) },
+    )
+
+-- a sector that a part names is written over
+pub writes_over : (a : Alloc) (content after : Image) (e : Entry) (j n : ℕ) → IsReady a content e → e.size ≤ 8483840 → j < 16570 → named content e (part j) ≡ n → n ≢ 0 → first_of a ≤ n → n < end_of a
+    → ((x : ℕ) → x ≢ n → after x ≡ content x) → Changes a a content after e e (λ q. q ≡ part j)
+writes_over a content after e j n ready small lt is some from below stays =
+    let more = write_named content after e j n ready.naming lt is some stays in
+    let names = names_stay content after e e (part j) n more is in record {
+      ready = record {
+        naming = naming_by content after e e ready.naming (omega arith) names;
+        taken = λ p there found. ap (taken_of a) (names p there) ∙ ready.taken p there (λ none. found (names p there ∙ none));
+        space = used_same content after e e (free_of a) small refl names ready.space;
+        small = small;
+      };
+      others = λ place. others_stay_one place (first_of a) (end_of a) (taken_of a) content after e n stays from below (λ taken others. others (part j) lt is);
+      takes = takes_same (taken_of a) content after e e ready.taken names;
+      stays = λ q there not. record { name = names q there; bytes = places_stay_by content after e e (part j) n more ready.naming lt is stays q there not };
+      size = refl;
+    }
+
+-- a pointer sector that isn't touched stands as it did
+pub mirror_stays : (content after : Image) (e changed : Entry) (p : Place) (number : ℕ) (image : List ℕ) → SamePlace content after e changed p → Mirrors content e p number image → Mirrors after changed p number image
+mirror_stays content after e changed p number image same mirror = record {
+  names = mirror.names ∙ sym same.name;
+  bytes = mirror.bytes ∙ ap (part_bytes content) mirror.names ∙ sym same.bytes ∙ ap (part_bytes after) (same.name ∙ sym mirror.names);
+}
+
+-- one change after another
+pub changes_twice : (a b c : Alloc) (c0 c1 c2 : Image) (e0 e1 e2 : Entry) (One Other Both : Place → Type 0) → taken_of a 0 ≡ false → taken_of c 0 ≡ false → first_of b ≡ first_of a → end_of b ≡ end_of a
+    → ((p : Place) → One p → Both p) → ((p : Place) → Other p → Both p) → Changes a b c0 c1 e0 e1 One → Changes b c c1 c2 e1 e2 Other → Changes a c c0 c2 e0 e2 Both
+changes_twice a b c c0 c1 c2 e0 e1 e2 One Other Both none still first_is end_is one_in other_in one other = record {
+  ready = other.ready;
+  others = λ place. stays_twice (taken_of a) (taken_of b) c0 c1 e0 e1 none one.takes place (first_of a) (end_of a) c2 (one.others place)
+      (subst (λ (x : ℕ). OthersStay place x (end_of a) (taken_of b) c1 c2 e1) first_is (subst (λ (x : ℕ). OthersStay place (first_of b) x (taken_of b) c1 c2 e1) end_is (other.others place)));
+  takes = takes_twice (taken_of a) (taken_of b) (taken_of c) c0 c1 c2 e0 e1 e2 none still one.takes other.takes;
+  stays = λ p there not.
+      let before = one.stays p there (λ is. not (one_in p is)) in
+      let after = other.stays p there (λ is. not (other_in p is)) in
+      record { name = after.name ∙ before.name; bytes = after.bytes ∙ before.bytes };
+  size = other.size ∙ one.size;
+}

@@ -1,0 +1,174 @@
+-- How giving sectors back goes on.
+use Rattle.std.proofs.Common.{◌≡◌, ◌≢◌, ◌⊎◌, inl, inr, ⊎_elim, ◌≤◌, ◌<◌, ◌+◌, ◌-◌, ◌*◌, ◌/◌, ◌%◌, ℕ, Bool, true, false, nat_lt, if◌then◌else◌, List, drop, get_or, slice_index, refl, sym, ◌∙◌, ap, subst, arith}
+use Rattle.std.proofs.lemmas.Bool.{cases_lt, cases_eq, cond-true}
+use Rattle.std.proofs.lemmas.List.{get_or_past}
+use Rattle.std.proofs.lemmas.Bool.Decides.{nat_tests}
+use Rattle.byteorder.specs.Endian.{little_number}
+use Rattle.vol_sector.specs.Disk.{Image}
+use Rattle.vol_alloc.specs.declared.sectors.Alloc.{Alloc}
+use Rattle.vol_alloc.specs.Alloc.{end_of, taken_of}
+use Rattle.vol_inode.specs.declared.entry.Entry.{Entry}
+use Rattle.vol_body.specs.Body.{Place, part, list, lists, later_list, IsPlace, first_served, named, number_in}
+use Rattle.vol_body.specs.Shorter.{Gives, StandsFrom, GoesWithList, GoesWithLater, Goes}
+use Rattle.vol_body.proofs.Places.{number_there, part_direct, part_listed, part_later}
+
+-- where nothing goes
+pub gives_none : (before : ℕ → Bool) (These : ℕ → Type 0) → ((n : ℕ) → These n → before n ≡ true → ⊥) → Gives before before These
+gives_none before These none = record {
+  none_taken = λ n is. is;
+  given = none;
+  others = λ n not_one. refl;
+}
+
+-- one after another
+pub gives_then : (a b c : ℕ → Bool) (P Q : ℕ → Type 0) → Gives a b P → Gives b c Q → Gives a c (λ n. P n ⊎ Q n)
+gives_then a b c P Q first second = record {
+  none_taken = λ n is. first.none_taken n (second.none_taken n is);
+  given = λ n either is. ⊎_elim (λ p. first.given n p (second.none_taken n is)) (λ q. second.given n q is) either;
+  others = λ n none. second.others n (λ q. none (inr q)) ∙ first.others n (λ p. none (inl p));
+}
+
+-- the same sectors in other words
+pub gives_these : (a b : ℕ → Bool) (P Q : ℕ → Type 0) → Gives a b P → ((n : ℕ) → P n → Q n) → ((n : ℕ) → Q n → P n) → Gives a b Q
+gives_these a b P Q gives to from = record {
+  none_taken = gives.none_taken;
+  given = λ n q is. gives.given n (from n q) is;
+  others = λ n none. gives.others n (λ p. none (to n p));
+}
+
+-- one more number of a list
+pub gives_next : (a b c : ℕ → Bool) (numbers : ℕ → ℕ) (from end : ℕ) → from ≤ end → Gives a b (StandsFrom numbers from end) → Gives b c (λ k. k ≡ numbers end) → Gives a c (StandsFrom numbers from (end + 1))
+gives_next a b c numbers from end le first second =
+    gives_these a c (λ n. StandsFrom numbers from end n ⊎ (n ≡ numbers end)) (StandsFrom numbers from (end + 1)) (gives_then a b c (StandsFrom numbers from end) (λ k. k ≡ numbers end) first second)
+    (λ n either. ⊎_elim (λ s. (s.0, s.1, omega (arith, s.2), s.3)) (λ is. (end, le, omega arith, sym is)) either)
+    (λ n s. elim (cases_lt s.0 end) [
+      | inl lt ↦ inl (s.0, s.1, lt, s.3)
+      | inr ge ↦ inr (let at : s.0 ≡ end = omega (arith, s.2, ge) in sym s.3 ∙ ap numbers at)
+    ])
+
+-- one more later list
+pub gives_next_list : (a b c : ℕ → Bool) (content : Image) (numbers : ℕ → ℕ) (count i : ℕ)
+    → Gives a b (GoesWithLater content numbers count i) → Gives b c (GoesWithList content (numbers i) (count - (186 + 128 * i))) → Gives a c (GoesWithLater content numbers count (i + 1))
+gives_next_list a b c content numbers count i first second =
+    let P = GoesWithLater content numbers count i in
+    let Q = GoesWithList content (numbers i) (count - (186 + 128 * i)) in
+    gives_these a c (λ n. P n ⊎ Q n) (GoesWithLater content numbers count (i + 1)) (gives_then a b c P Q first second)
+    (λ n either. ⊎_elim (λ s. (s.0, omega (arith, s.1), s.2)) (λ goes. (i, omega arith, goes)) either)
+    (λ n s. elim (cases_lt s.0 i) [
+      | inl lt ↦ inl (s.0, lt, s.2)
+      | inr ge ↦ inr (let at : s.0 ≡ i = omega (arith, s.1, ge) in subst (λ (k : ℕ). GoesWithList content (numbers k) (count - (186 + 128 * k)) n) at s.2)
+    ])
+
+-- the same lists by other numbers
+pub gives_lists : (a b : ℕ → Bool) (content : Image) (numbers others : ℕ → ℕ) (count : ℕ) → ((i : ℕ) → i < 128 → numbers i ≡ others i)
+    → Gives a b (GoesWithLater content numbers count 128) → Gives a b (GoesWithLater content others count 128)
+gives_lists a b content numbers others count same gives =
+    gives_these a b (GoesWithLater content numbers count 128) (GoesWithLater content others count 128) gives
+    (λ n s. (s.0, s.1, subst (λ (k : ℕ). GoesWithList content k (count - (186 + 128 * s.0)) n) (same s.0 s.1) s.2))
+    (λ n s. (s.0, s.1, subst (λ (k : ℕ). GoesWithList content k (count - (186 + 128 * s.0)) n) (sym (same s.0 s.1)) s.2))
+
+-- what a list's image lists
+pub gives_read : (a b : ℕ → Bool) (content : Image) (of_list from : ℕ) (image : List ℕ) → of_list ≢ 0 → image ≡ content of_list
+    → Gives a b (StandsFrom (λ i. little_number 4 (drop (4 * i) image)) from 128) → Gives a b (StandsFrom (number_in content of_list) from 128)
+gives_read a b content of_list from image there is gives =
+    let same : (i : ℕ) → little_number 4 (drop (4 * i) image) ≡ number_in content of_list i = λ i. ap (λ (bytes : List ℕ). little_number 4 (drop (4 * i) bytes)) is ∙ sym (number_there content of_list i there) in
+    gives_these a b (StandsFrom (λ i. little_number 4 (drop (4 * i) image)) from 128) (StandsFrom (number_in content of_list) from 128) gives
+    (λ n s. (s.0, s.1, s.2, sym (same s.0) ∙ s.3)) (λ n s. (s.0, s.1, s.2, same s.0 ∙ s.3))
+
+pub gives_at : (a b : ℕ → Bool) (one other : Image) (of_list x y : ℕ) → one ≡ other → x ≡ y → Gives a b (GoesWithList one of_list x) → Gives a b (GoesWithList other of_list y)
+gives_at a b one other of_list x y same is gives =
+    subst (λ (k : ℕ). Gives a b (GoesWithList other of_list k)) is (subst (λ (m : Image). Gives a b (GoesWithList m of_list x)) same gives)
+
+-- a number that is taken wherever it isn't 0 is known
+pub known_number : (taken : ℕ → Bool) (m n : ℕ) → m ≡ n → (n ≢ 0 → taken n ≡ true) → (if taken m then m else 0) ≡ n
+known_number taken m n is there = ap (λ (x : ℕ). if taken x then x else 0) is ∙ elim (cases_eq n 0) [
+  | inl none ↦ either (taken n) n none
+  | inr some ↦ cond-true _ _ _ (there some)
+]
+  where
+    either : (b : Bool) (n : ℕ) → n ≡ 0 → (if b then n else 0) ≡ n
+    either true n none = refl
+    either false n none = sym none
+
+-- a known sector is one of the range
+pub known_there : (a : Alloc) (n k end : ℕ) → k ≡ (if taken_of a n then n else 0) → end_of a ≤ end → k ≢ 0 → k < end
+known_there a n k end is le some = elim (cases_lt n (end_of a)) [
+  | inl lt ↦ omega (arith, below (taken_of a n) n, is)
+  | inr past ↦ absurd (some (is ∙ outside past))
+]
+  where
+    below : (b : Bool) (n : ℕ) → (if b then n else 0) ≤ n
+    below true n = omega arith
+    below false n = omega arith
+
+    outside : end_of a ≤ n → (if taken_of a n then n else 0) ≡ 0
+    outside past = neither (nat_lt n a.first) (get_or a.taken.items (n - a.first) false) (get_or_past a.taken.items (n - a.first) false (omega (arith, a.size)))
+      where
+        neither : (b f : Bool) → f ≡ false → (if (if b then false else f) then n else 0) ≡ 0
+        neither true f none = refl
+        neither false f none = ap (λ (x : Bool). if x then n else 0) none
+
+-- Sector 0 stands for none, and is never taken.
+pub none_taken : (first : ℕ) (flags : List Bool) (n : ℕ) → 0 < first → 0 ≡ n → (if nat_lt n first then false else get_or flags (n - first) false) ≡ true → ⊥
+none_taken first flags n lt is taken = grind (arith, nat_tests)
+
+pub no_list : (content : Image) (from n : ℕ) → GoesWithList content 0 from n → 0 ≡ n
+no_list content from n goes = ⊎_elim (λ s. s.3) (λ s. s.1) goes
+
+pub short_list : (content : Image) (of_list from n : ℕ) → 128 ≤ from → GoesWithList content of_list from n → ⊥
+short_list content of_list from n le goes = ⊎_elim (λ s. omega (arith, s.1, s.2)) (λ s. omega (arith, s.0)) goes
+
+module _ (content : Image) (e : Entry) (count : ℕ) where
+  -- what goes, list by list
+  abbrev pub GoesLater : ℕ → Type 0
+  GoesLater n = GoesWithLater content (number_in content (named content e lists)) count 128 n ⊎ ((count ≤ 186) × (named content e lists ≡ n))
+
+  abbrev pub GoesByLists : ℕ → Type 0
+  GoesByLists n = (GoesLater n ⊎ GoesWithList content (named content e list) (count - 58) n) ⊎ StandsFrom (slice_index e.pointers) count 58 n
+
+  from_part : (j n : ℕ) → j < 16570 → count ≤ j → named content e (part j) ≡ n → GoesByLists n
+  from_part j n there le is = elim (cases_lt j 58) [
+    | inl direct ↦ inr (j, le, direct, sym (part_direct content e j direct) ∙ is)
+    | inr past ↦ elim (cases_lt j 186) [
+      | inl listed ↦ inl (inr (inl (j - 58, omega arith, omega arith, sym (part_listed content e j past listed) ∙ is)))
+      | inr later ↦ inl (inl (inl ((j - 186) / 128, omega arith, inl ((j - 186) % 128, omega arith, omega arith, sym (part_later content e j later) ∙ is))))
+    ]
+  ]
+
+  from_place : (p : Place) (n : ℕ) → IsPlace p → count ≤ first_served p → named content e p ≡ n → GoesByLists n
+  from_place (part j) n there le is = from_part j n there le is
+  from_place list n there le is = inl (inr (inr (omega arith, is)))
+  from_place lists n there le is = inl (inl (inr (le, is)))
+  from_place (later_list i) n there le is = inl (inl (inl (i, there, inr (omega arith, is))))
+
+  to_later_part : (i m n : ℕ) → i < 128 → m < 128 → count - (186 + 128 * i) ≤ m → number_in content (named content e (later_list i)) m ≡ n → Goes content e count n
+  to_later_part i m n a b le is =
+      let j = 186 + 128 * i + m in
+      let at_list : (j - 186) / 128 ≡ i = omega arith in
+      let at : (j - 186) % 128 ≡ m = omega arith in (
+        part j,
+        omega arith,
+        omega arith,
+        part_later content e j (omega arith)
+            ∙ ap (λ (k : ℕ). number_in content (named content e (later_list k)) ((j - 186) % 128)) at_list
+            ∙ ap (number_in content (named content e (later_list i))) at ∙ is,
+      )
+
+  to_later : (n : ℕ) → GoesWithLater content (number_in content (named content e lists)) count 128 n → Goes content e count n
+  to_later n s = ⊎_elim (λ r. to_later_part s.0 r.0 n s.1 r.2 r.1 r.3) (λ r. (later_list s.0, s.1, omega (arith, r.0), r.1)) s.2
+
+  to_list : (n : ℕ) → GoesWithList content (named content e list) (count - 58) n → Goes content e count n
+  to_list n goes = ⊎_elim (λ s.
+      let back : s.0 + 58 - 58 ≡ s.0 = omega arith in (
+        part (s.0 + 58),
+        omega (arith, s.2),
+        omega (arith, s.1),
+        part_listed content e (s.0 + 58) (omega arith) (omega (arith, s.2)) ∙ ap (number_in content (named content e list)) back ∙ s.3,
+      ))
+      (λ s. (list, tt, omega (arith, s.0), s.1)) goes
+
+  pub gives_all : (a b : ℕ → Bool) → Gives a b GoesByLists → Gives a b (Goes content e count)
+  gives_all a b gives = gives_these a b GoesByLists (Goes content e count) gives
+      (λ n either. ⊎_elim (λ listed. ⊎_elim (λ later. ⊎_elim (to_later n) (λ s. (lists, tt, s.0, s.1)) later) (to_list n) listed)
+      (λ s. (part s.0, omega (arith, s.2), s.1, part_direct content e s.0 s.2 ∙ s.3)) either)
+      (λ n s. from_place s.0 n s.1 s.2 s.3)

@@ -1,0 +1,175 @@
+-- How many sectors a file names, and that one is free for another.
+use Rattle.std.proofs.Common.{◌≡◌, ◌≢◌, inl, inr, ◌≤◌, ◌<◌, ◌+◌, ◌-◌, ◌==◌, ℕ, zero, suc, Bool, true, false, not, cond, if◌then◌else◌, nat_lt, List, [], ◌∷◌, ◌++◌, map, take, refl, sym, ◌∙◌, ap, arith}
+use Rattle.std.specs.Prelude.{count_by}
+use Rattle.std.specs.List.{All, Contains, range_with_len}
+use Rattle.std.proofs.lemmas.Bool.{cases_lt, eq-eqb, ne_eqb, true≢false, both_ways}
+use Rattle.std.proofs.lemmas.List.Elements.{All-nil, All-cons, All-head, All-tail, All-map, All-append, All-weaker, All-from_get_or}
+use Rattle.std.proofs.lemmas.Bool.Decides.{nat_tests}
+use Rattle.std.proofs.lemmas.List.Sums.{sum_by-cons, sum_by-append, sum_by-take-le, count_by-le-length}
+use Rattle.std.proofs.lemmas.List.FromFn.{take-map-range_with_len, length-range_with_len, get_or-range_with_len}
+use Rattle.vol_sector.specs.Disk.{Image}
+use Rattle.vol_inode.specs.declared.entry.Entry.{Entry}
+use Rattle.vol_inode.specs.Space.{sectors_of, lists_of, need_of}
+use Rattle.vol_body.specs.Body.{Place, part, list, lists, later_list, IsPlace, first_served, named, places_of}
+use Rattle.vol_body.specs.Change.{used_of}
+use Rattle.vol_body.specs.Naming.{NamesOneMore}
+use Rattle.vol_body.proofs.Needed.{place_there, length-places_of}
+use Rattle.vol_body.proofs.OneMore.{named_now, names_by_pointers}
+
+-- what a test counts, one more element in front
+count_cons : {X : Type 0} (f : X → Bool) (x : X) (xs : List X) → count_by f (x ∷ xs) ≡ cond (f x) 1 0 + count_by f xs
+count_cons f x xs = sum_by-cons (λ y. cond (f y) 1 0) x xs
+
+one_or_none : (b c : Bool) → (b ≡ true → c ≡ true) → cond {A = ℕ} b 1 0 ≤ cond {A = ℕ} c 1 0
+one_or_none true true only = omega arith
+one_or_none true false only = absurd (true≢false (sym (only refl)))
+one_or_none false true only = omega arith
+one_or_none false false only = omega arith
+
+module _ {X : Type 0} (f g : X → Bool) where
+  count_le : (xs : List X) → All (λ x. f x ≡ true → g x ≡ true) xs → count_by f xs ≤ count_by g xs
+  count_le [] all = omega arith
+  count_le (x ∷ xs) all =
+      let here = one_or_none (f x) (g x) (All-head (λ y. f y ≡ true → g y ≡ true) x xs all) in
+      let rest = count_le xs (All-tail (λ y. f y ≡ true → g y ≡ true) x xs all) in
+      omega (arith, count_cons f x xs, count_cons g x xs)
+
+  -- a test that passes what another passes, and one more
+  pub count_more : (xs : List X) → All (λ x. f x ≡ true → g x ≡ true) xs → (x : X) → Contains xs x → f x ≡ false → g x ≡ true → count_by f xs + 1 ≤ count_by g xs
+  count_more [] all x there fails passes = absurd (omega (arith, there.1))
+  count_more (y ∷ xs) all x (zero, lt, is) fails passes =
+      let rest = count_le xs (All-tail (λ z. f z ≡ true → g z ≡ true) y xs all) in
+      let none : cond {A = ℕ} (f y) 1 0 ≡ 0 = ap (λ (z : X). cond {A = ℕ} (f z) 1 0) is ∙ ap (λ (b : Bool). cond {A = ℕ} b 1 0) fails in
+      let one : cond {A = ℕ} (g y) 1 0 ≡ 1 = ap (λ (z : X). cond {A = ℕ} (g z) 1 0) is ∙ ap (λ (b : Bool). cond {A = ℕ} b 1 0) passes in
+      omega (arith, count_cons f y xs, count_cons g y xs)
+  count_more (y ∷ xs) all x (suc k, lt, is) fails passes =
+      let here = one_or_none (f y) (g y) (All-head (λ z. f z ≡ true → g z ≡ true) y xs all) in
+      let rest = count_more xs (All-tail (λ z. f z ≡ true → g z ≡ true) y xs all) x (k, omega arith, is) fails passes in
+      omega (arith, count_cons f y xs, count_cons g y xs)
+
+-- the places of a file that isn't too long are such
+range_below : (count bound : ℕ) → count ≤ bound → All (λ (j : ℕ). j < bound) (range_with_len 0 count)
+range_below count bound le = All-from_get_or (λ (j : ℕ). j < bound) (range_with_len 0 count) 0 (λ i lt.
+    let short : i < count = omega (arith, length-range_with_len 0 count) in
+    omega (arith, get_or-range_with_len 0 count i 0 short))
+
+are_places : (size : ℕ) → size ≤ 8483840 → All IsPlace (places_of size)
+are_places size small =
+    let count = sectors_of size in
+    let n = lists_of (count - 186) in
+    let parts : All IsPlace (map part (range_with_len 0 count)) = All-map IsPlace part (range_with_len 0 count) (range_below count 16570 (omega arith)) in
+    let later : All IsPlace (map later_list (range_with_len 0 n)) = All-map IsPlace later_list (range_with_len 0 n) (range_below n 128 (omega arith)) in
+    let first : All IsPlace (if nat_lt 58 count then list ∷ [] else []) = either (nat_lt 58 count) (list ∷ []) (All-cons IsPlace list [] tt (All-nil IsPlace)) in
+    let second : All IsPlace (if nat_lt 186 count then lists ∷ map later_list (range_with_len 0 n) else []) = either (nat_lt 186 count) (lists ∷ map later_list (range_with_len 0 n)) (All-cons IsPlace lists (map later_list (range_with_len 0 n)) tt later) in
+    All-append IsPlace (map part (range_with_len 0 count) ++ (if nat_lt 58 count then list ∷ [] else [])) (if nat_lt 186 count then lists ∷ map later_list (range_with_len 0 n) else []) (All-append IsPlace (map part (range_with_len 0 count)) (if nat_lt 58 count then list ∷ [] else []) parts first) second
+  where
+    either : (b : Bool) (xs : List Place) → All IsPlace xs → All IsPlace (if b then xs else [])
+    either true xs all = all
+    either false xs all = All-nil IsPlace
+
+-- the test of `used_of`
+names_one : (n : ℕ) → n ≢ 0 → not (n == 0) ≡ true
+names_one n some = ap not (ne_eqb n 0 some)
+
+names_none : (n : ℕ) → n ≡ 0 → not (n == 0) ≡ false
+names_none n none = ap not (eq-eqb n 0 none)
+
+-- it names at least one more
+pub used_more : (content after : Image) (e changed : Entry) (p : Place) (n : ℕ) → NamesOneMore content after e changed p n → named content e p ≡ 0 → n ≢ 0 → first_served p < sectors_of e.size → e.size ≤ 8483840
+    → used_of content e + 1 ≤ used_of after changed
+used_more content after e changed p n more none some serves small =
+    let f = λ (q : Place). not (named content e q == 0) in
+    let g = λ (q : Place). not (named after changed q == 0) in
+    let all : All (λ q. f q ≡ true → g q ≡ true) (places_of e.size) = All-weaker IsPlace (λ q. f q ≡ true → g q ≡ true) keeps (places_of e.size) (are_places e.size small) in
+    let size : used_of after changed ≡ count_by g (places_of e.size) = ap (λ (k : ℕ). count_by g (places_of k)) more.size in
+    let more_count = count_more f g (places_of e.size) all p (place_there e.size p serves) (names_none (named content e p) none) (names_one (named after changed p) (λ is. some (sym more.one ∙ is))) in
+    omega (arith, size, more_count)
+  where
+    keeps : (q : Place) → IsPlace q → not (named content e q == 0) ≡ true → not (named after changed q == 0) ≡ true
+    keeps q there is = names_one (named after changed q) (λ zero. elim (named_now content after e changed p n more q there) [
+      | inl one ↦ some (sym one ∙ zero)
+      | inr same ↦ both_ways (not (named content e q == 0)) (names_none (named content e q) (sym same ∙ zero)) is
+    ])
+
+-- it names fewer than it needs, where a place names none
+pub some_place : (content : Image) (e : Entry) (p : Place) → named content e p ≡ 0 → first_served p < sectors_of e.size → used_of content e + 1 ≤ need_of e.size
+some_place content e p none serves =
+    let f = λ (q : Place). not (named content e q == 0) in
+    let all : All (λ q. f q ≡ true → true ≡ true) (places_of e.size) = All-from_get_or (λ q. f q ≡ true → true ≡ true) (places_of e.size) list (λ i lt is. refl) in
+    let more = count_more f (λ q. true) (places_of e.size) all p (place_there e.size p serves) (names_none (named content e p) none) refl in
+    omega (arith, more, count_by-le-length (λ q. true) (places_of e.size), length-places_of e.size)
+
+-- where the space is reserved, a sector is free for such a place
+pub some_free : (content : Image) (e : Entry) (p : Place) (free : ℕ) → need_of e.size ≤ free + used_of content e → named content e p ≡ 0 → first_served p < sectors_of e.size → 0 < free
+some_free content e p free reserved none serves = omega (arith, some_place content e p none serves)
+
+-- A longer file names as many, or more.
+count_part : {X : Type 0} (f : X → Bool) (g : ℕ → X) (a b : ℕ) → a ≤ b → count_by f (map g (range_with_len 0 a)) ≤ count_by f (map g (range_with_len 0 b))
+count_part f g a b le =
+    let all = map g (range_with_len 0 b) in
+    let some = sum_by-take-le (λ x. cond (f x) 1 0) all a in
+    let front : count_by f (take a all) ≡ count_by f (map g (range_with_len 0 a)) = ap (count_by f) (take-map-range_with_len g 0 b a le) in
+    omega (arith, some, front)
+
+count_append : {X : Type 0} (f : X → Bool) (xs ys : List X) → count_by f (xs ++ ys) ≡ count_by f xs + count_by f ys
+count_append f xs ys = sum_by-append (λ x. cond (f x) 1 0) xs ys
+
+pub count_grown : (f : Place → Bool) (a b : ℕ) → a ≤ b
+    → count_by f (map part (range_with_len 0 a) ++ (if nat_lt 58 a then list ∷ [] else []) ++ (if nat_lt 186 a then lists ∷ map later_list (range_with_len 0 (lists_of (a - 186))) else []))
+    ≤ count_by f (map part (range_with_len 0 b) ++ (if nat_lt 58 b then list ∷ [] else []) ++ (if nat_lt 186 b then lists ∷ map later_list (range_with_len 0 (lists_of (b - 186))) else []))
+count_grown f a b le =
+    let parts = λ (c : ℕ). map part (range_with_len 0 c) in
+    let first = λ (c : ℕ). if nat_lt 58 c then list ∷ [] else [] in
+    let later = λ (c : ℕ). lists ∷ map later_list (range_with_len 0 (lists_of (c - 186))) in
+    let second = λ (c : ℕ). if nat_lt 186 c then later c else [] in
+    let in_parts = count_part f part a b le in
+    let in_first : count_by f (first a) ≤ count_by f (first b) = either f 58 a b (list ∷ []) (list ∷ []) le (omega arith) in
+    let in_later : count_by f (later a) ≤ count_by f (later b) = omega (arith, count_cons f lists (map later_list (range_with_len 0 (lists_of (a - 186)))), count_cons f lists (map later_list (range_with_len 0 (lists_of (b - 186)))), count_part f later_list (lists_of (a - 186)) (lists_of (b - 186)) (omega arith)) in
+    let in_second : count_by f (second a) ≤ count_by f (second b) = either f 186 a b (later a) (later b) le in_later in
+    omega (arith, in_parts, in_first, in_second, count_append f (parts a ++ first a) (second a), count_append f (parts a) (first a), count_append f (parts b ++ first b) (second b), count_append f (parts b) (first b))
+  where
+    either : (f : Place → Bool) (n a b : ℕ) (xs ys : List Place) → a ≤ b → count_by f xs ≤ count_by f ys → count_by f (if nat_lt n a then xs else []) ≤ count_by f (if nat_lt n b then ys else [])
+    either f n a b xs ys le fewer = elim (cases_lt n a) [
+      | inl lt ↦
+          let e : count_by f (if nat_lt n a then xs else []) ≡ count_by f xs = ap (count_by f) (taken n a xs lt) in
+          let g : count_by f (if nat_lt n b then ys else []) ≡ count_by f ys = ap (count_by f) (taken n b ys (omega arith)) in
+          omega (arith, e, g)
+      | inr short ↦
+          let e : count_by f (if nat_lt n a then xs else []) ≡ count_by f [] = ap (count_by f) (left n a xs short) in
+          omega (arith, e)
+    ]
+      where
+        taken : (n c : ℕ) (xs : List Place) → n < c → (if nat_lt n c then xs else []) ≡ xs
+        taken n c xs lt = grind (arith, nat_tests)
+
+        left : (n c : ℕ) (xs : List Place) → c ≤ n → (if nat_lt n c then xs else []) ≡ []
+        left n c xs le = grind (arith, nat_tests)
+
+pub used_grown : (content : Image) (e : Entry) (size : ℕ) → e.size ≤ size → used_of content e ≤ used_of content (record e { size = size })
+used_grown content e size le =
+    let f = λ (p : Place). not (named content e p == 0) in
+    let g = λ (p : Place). not (named content (record e { size = size }) p == 0) in
+    let grown = count_grown f (sectors_of e.size) (sectors_of size) (omega arith) in
+    let same : count_by g (places_of size) ≡ count_by f (places_of size) = same_count g f (λ p. ap (λ (n : ℕ). not (n == 0)) (names_by_pointers content e (record e { size = size }) p refl)) (places_of size) in
+    omega (arith, grown, same)
+  where
+    same_count : (g f : Place → Bool) → ((p : Place) → g p ≡ f p) → (ps : List Place) → count_by g ps ≡ count_by f ps
+    same_count g f same [] = refl
+    same_count g f same (p ∷ ps) =
+        let here : cond {A = ℕ} (g p) 1 0 ≡ cond {A = ℕ} (f p) 1 0 = ap (λ (b : Bool). cond {A = ℕ} b 1 0) (same p) in
+        let rest = same_count g f same ps in
+        omega (arith, here, rest, count_cons g p ps, count_cons f p ps)
+
+-- a file of the same size that names the same sectors has the same space
+pub used_same : (content after : Image) (e changed : Entry) (free : ℕ) → e.size ≤ 8483840 → changed.size ≡ e.size → ((p : Place) → IsPlace p → named after changed p ≡ named content e p)
+    → need_of e.size ≤ free + used_of content e → need_of changed.size ≤ free + used_of after changed
+used_same content after e changed free small size names reserved =
+    let f = λ (q : Place). not (named content e q == 0) in
+    let g = λ (q : Place). not (named after changed q == 0) in
+    let fewer = count_le f g (places_of e.size) (All-weaker IsPlace (λ q. f q ≡ true → g q ≡ true) keeps (places_of e.size) (are_places e.size small)) in
+    let used : used_of after changed ≡ count_by g (places_of e.size) = ap (λ (k : ℕ). count_by g (places_of k)) size in
+    let need : need_of changed.size ≡ need_of e.size = ap need_of size in
+    omega (arith, fewer, used, need, reserved)
+  where
+    keeps : (q : Place) → IsPlace q → not (named content e q == 0) ≡ true → not (named after changed q == 0) ≡ true
+    keeps q there is = ap (λ (n : ℕ). not (n == 0)) (names q there) ∙ is

@@ -1,0 +1,16 @@
+-- What stays of a log that is read, and then staged to.
+use Rattle.std.proofs.Common.{◌≡◌, ◌↔◌, Bool, false, sym, ◌∙◌, ap, subst}
+use Rattle.vol_sector.specs.Disk.{Leaves, counted}
+use Rattle.vol_sector.specs.declared.device.Device.{Ghosts}
+use Rattle.vol_log.specs.Log.{device_of, sectors_of, has_failed}
+use Rattle.vol_log.specs.declared.log.Log.{Log}
+use Rattle.vol_body.specs.Reading.{OnlyReads, OnlyStages}
+
+pub stages_then : {D : Type 0} {g : Ghosts D} (a b c : Log D g) → OnlyReads a b → has_failed b ≡ false → device_of c ≡ device_of b → sectors_of c ≡ sectors_of b → has_failed c ≡ false → OnlyStages a c
+stages_then {D = D} {g = g} a b c reads still device sectors working = record {
+  crash = λ h. subst (λ (d : D). Leaves (g.disk (device_of a)) (g.disk d) (λ c. ⊥)) (sym device) (reads.crash h);
+  sectors = sectors ∙ reads.sectors;
+  honest = subst (λ (d : D). g.honest (device_of a) ↔ g.honest d) (sym device) reads.honest;
+  size = ap g.size device ∙ reads.size;
+  faults = λ was_working. ap g.faults device ∙ reads.faults was_working ∙ ap (λ (b : Bool). counted b (g.faults (device_of a))) (still ∙ sym working);
+}

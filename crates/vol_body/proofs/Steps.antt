@@ -1,0 +1,301 @@
+-- Steps of a write.
+use Rattle.std.proofs.Common.{◌≡◌, ◌≢◌, ◌⊎◌, inl, inr, ◌≤◌, ◌<◌, ◌+◌, ◌-◌, ◌*◌, ◌/◌, ◌%◌, ◌==◌, ℕ, zero, suc, Bool, true, false, if◌then◌else◌, nat_lt, List, length, drop, get_or, refl, sym, replicate, Result, Ok, Err, OnErr, ◌∙◌, ap, subst, arith}
+use Rattle.std.proofs.lemmas.Bool.{cases_lt, cases_Bool, false≢true}
+use Rattle.std.proofs.lemmas.List.{get_or_past}
+use Rattle.std.proofs.lemmas.Bool.Decides.{nat_tests}
+use Rattle.byteorder.specs.Endian.{little_number}
+use Rattle.vol_sector.specs.Disk.{Image, put}
+use Rattle.vol_sector.specs.declared.device.Device.{Ghosts}
+use Rattle.vol_log.specs.Log.{is_staged}
+use Rattle.vol_log.specs.declared.log.Log.{Log}
+use Rattle.vol_alloc.specs.Alloc.{first_of, end_of, taken_of}
+use Rattle.vol_alloc.specs.declared.sectors.Alloc.{Alloc}
+use Rattle.vol_inode.specs.declared.entry.Entry.{Entry}
+use Rattle.vol_body.specs.Body.{Place, part, list, lists, later_list, IsPlace, named, number_in, part_bytes}
+use Rattle.vol_body.specs.Writing.{ListedAt, IsBlank, Mirrors, IsReady, SamePlace, Changes, IsPartIn, IsPointer, HasParts, OnlyPuts, SameRange, segment, placed}
+use Rattle.vol_body.proofs.Listed.{number_of_bytes}
+use Rattle.vol_body.proofs.Changes.{takes_same, stays_same}
+use Rattle.vol_body.proofs.Places.{part_listed, part_later, bytes_there}
+use Rattle.vol_body.proofs.OneMore.{write_named}
+use Rattle.vol_body.proofs.Added.{writes_over, changes_twice}
+
+pub put_here : (n : ℕ) (bytes : List ℕ) (content : Image) → put n bytes content n ≡ bytes
+put_here n bytes content = pick n bytes (content n)
+  where
+    pick : (n : ℕ) (x y : List ℕ) → (if n == n then x else y) ≡ x
+    pick n x y = grind (arith, nat_tests)
+
+pub put_other : (n k : ℕ) (bytes : List ℕ) (content : Image) → k ≢ n → put n bytes content k ≡ content k
+put_other n k bytes content other = pick k bytes (content k) other
+  where
+    pick : (k : ℕ) (x y : List ℕ) → k ≢ n → (if k == n then x else y) ≡ y
+    pick k x y other = grind (arith, nat_tests)
+
+-- a taken sector is in the range
+pub taken_range : (a : Alloc) (n : ℕ) → taken_of a n ≡ true → (first_of a ≤ n) × (n < end_of a)
+taken_range a n is = elim (cases_lt n a.first) [
+  | inl before ↦ absurd (false≢true (sym (first_one n a.first (get_or a.taken.items (n - a.first) false) before) ∙ is))
+  | inr from ↦ (
+    from,
+    elim (cases_lt (n - a.first) (length a.taken.items)) [
+      | inl within ↦ omega (arith, a.size)
+      | inr past ↦ absurd (false≢true (sym (get_or_past a.taken.items (n - a.first) false past) ∙ sym (second_one n a.first (get_or a.taken.items (n - a.first) false) from) ∙ is))
+    ],
+  )
+]
+  where
+    first_one : (n m : ℕ) (b : Bool) → n < m → (if nat_lt n m then false else b) ≡ false
+    first_one n m b lt = grind (arith, nat_tests)
+
+    second_one : (n m : ℕ) (b : Bool) → m ≤ n → (if nat_lt n m then false else b) ≡ b
+    second_one n m b le = grind (arith, nat_tests)
+
+-- the sector that another place is listed in keeps its place
+pub holder_stays : (a b : Alloc) (content after : Image) (e : Entry) (q p : Place) (i : ℕ) → ListedAt q i p → Changes a b content after e e (λ x. (x ≡ p) ⊎ (x ≡ q)) → named after e q ≡ named content e q
+holder_stays a b content after e list p i at changes = refl
+holder_stays a b content after e lists p i at changes = refl
+holder_stays a b content after e (part j) p i at changes = absurd at
+holder_stays a b content after e (later_list k) list i at changes = absurd at
+holder_stays a b content after e (later_list k) lists i at changes = absurd at
+holder_stays a b content after e (later_list k) (later_list j) i at changes = absurd at
+holder_stays a b content after e (later_list k) (part j) i at changes =
+    let top : SamePlace content after e e lists = changes.stays lists tt (λ touched. not_these touched) in
+    number_of_bytes after (named content e lists) k
+    ∙ ap (λ (l : List ℕ). little_number 4 (drop (4 * k) l)) top.bytes
+    ∙ sym (number_of_bytes content (named content e lists) k)
+  where
+    not_these : (lists ≡ part j) ⊎ (lists ≡ later_list k) → ⊥
+    not_these (inl is) = cc
+    not_these (inr is) = cc
+
+pub staged_here : (n : ℕ) (old new : ℕ → Bool) → ((k : ℕ) → new k ≡ (if k == n then true else old k)) → new n ≡ true
+staged_here n old new is = is n ∙ pick n (old n)
+  where
+    pick : (n : ℕ) (b : Bool) → (if n == n then true else b) ≡ true
+    pick n b = grind (arith, nat_tests)
+
+pub staged_still : (n k : ℕ) (old new : ℕ → Bool) → ((k : ℕ) → new k ≡ (if k == n then true else old k)) → old k ≡ true → new k ≡ true
+staged_still n k old new is was = is k ∙ pick n k (old k) was
+  where
+    pick : (n k : ℕ) (b : Bool) → b ≡ true → (if k == n then true else b) ≡ true
+    pick n k b was = grind (arith, nat_tests)
+
+module _ {D : Type 0} {g : Ghosts D} where
+  pub puts_then : (a b c : Log D g) → OnlyPuts a b → OnlyPuts b c → OnlyPuts a c
+  puts_then a b c one two = record {
+    device = two.device ∙ one.device;
+    sectors = two.sectors ∙ one.sectors;
+    failed = two.failed ∙ one.failed;
+    staged = λ n is. two.staged n (one.staged n is);
+  }
+
+  pub puts_none : (a : Log D g) → OnlyPuts a a
+  puts_none a = record { device = refl; sectors = refl; failed = refl; staged = λ n is. is }
+
+  pub placed_most : (log : Log D g) (n : ℕ) → placed log n ≤ 1
+  placed_most log n = most (n == 0) (is_staged log n)
+    where
+      most : (b c : Bool) → (if b then 0 else (if c then 1 else 0)) ≤ 1
+      most true c = omega arith
+      most false true = omega arith
+      most false false = omega arith
+
+  pub placed_one : (log : Log D g) (n : ℕ) → n ≢ 0 → is_staged log n ≡ true → placed log n ≡ 1
+  placed_one log n some is = pick n (is_staged log n) some is
+    where
+      pick : (n : ℕ) (b : Bool) → n ≢ 0 → b ≡ true → ◌≡◌ {A = ℕ} (if n == 0 then 0 else (if b then 1 else 0)) 1
+      pick n b some is = grind (arith, nat_tests)
+
+  -- what has a place keeps it
+  pub placed_stays : (old new : Log D g) (n : ℕ) → (is_staged old n ≡ true → is_staged new n ≡ true) → placed old n ≤ placed new n
+  placed_stays old new n stays = pick (n == 0) (is_staged old n) (is_staged new n) stays
+    where
+      pick : (z b c : Bool) → (b ≡ true → c ≡ true) → (if z then 0 else (if b then 1 else 0)) ≤ (if z then 0 else (if c then 1 else 0))
+      pick true b c stays = omega arith
+      pick false false c stays = omega arith
+      pick false true true stays = omega arith
+      pick false true false stays = absurd (false≢true (stays refl))
+
+  -- a sector that is staged takes a place, or had one
+  pub room_placed : (old new : Log D g) (n room now : ℕ) → n ≢ 0 → is_staged new n ≡ true → now ≡ (if is_staged old n then room else room - 1) → room + placed old n ≤ now + placed new n
+  room_placed old new n room now some is left =
+      let one = placed_one new n some is in
+      let least = count n (is_staged old n) room now some left in
+      omega (arith, one, least)
+    where
+      count : (n : ℕ) (b : Bool) (room now : ℕ) → n ≢ 0 → now ≡ (if b then room else room - 1) → room + (if n == 0 then 0 else (if b then 1 else 0)) ≤ now + 1
+      count n b room now some left = grind (arith, nat_tests)
+
+-- the bytes of a place, from what is held of it in memory
+pub bytes_mirrored : (content : Image) (e : Entry) (p : Place) (number : ℕ) (image : List ℕ) → Mirrors content e p number image → part_bytes content (named content e p) ≡ image
+bytes_mirrored content e p number image mirror = ap (part_bytes content) (sym mirror.names) ∙ sym mirror.bytes
+
+-- a change at fewer places
+pub changes_wider : (a b : Alloc) (content after : Image) (e changed : Entry) (One Other : Place → Type 0) → ((p : Place) → One p → Other p) → Changes a b content after e changed One → Changes a b content after e changed Other
+changes_wider a b content after e changed One Other inside changes = record {
+  ready = changes.ready;
+  others = changes.others;
+  takes = changes.takes;
+  stays = λ p there not. changes.stays p there (λ touched. not (inside p touched));
+  size = changes.size;
+}
+
+-- a pointer sector that lists parts
+pub not_a_part : (q : Place) (i j k : ℕ) → ListedAt q i (part j) → q ≡ part k → ⊥
+not_a_part list i j k at is = cc
+not_a_part lists i j k at is = at
+not_a_part (later_list l) i j k at is = cc
+not_a_part (part l) i j k at is = at
+
+-- the number of a part stands in the pointer sector that lists it
+pub part_mirrored : (content : Image) (e : Entry) (q : Place) (i j number : ℕ) (image : List ℕ) → ListedAt q i (part j) → i < 128 → Mirrors content e q number image → little_number 4 (drop (4 * i) image) ≡ named content e (part j)
+part_mirrored content e q i j number image at lt mirror =
+    ap (λ (l : List ℕ). little_number 4 (drop (4 * i) l)) (mirror.bytes ∙ ap (part_bytes content) mirror.names)
+    ∙ sym (number_of_bytes content (named content e q) i) ∙ sym (by_place q at)
+  where
+    by_place : (q : Place) → ListedAt q i (part j) → named content e (part j) ≡ number_in content (named content e q) i
+    by_place list at =
+        let place : j - 58 ≡ i = omega arith in
+        part_listed content e j (omega arith) (omega arith) ∙ ap (number_in content (named content e list)) place
+    by_place (later_list k) at =
+        let group : (j - 186) / 128 ≡ k = omega arith in
+        let place : (j - 186) % 128 ≡ i = omega arith in
+        part_later content e j (omega arith)
+        ∙ ap (λ (x : ℕ). number_in content (named content e (later_list x)) ((j - 186) % 128)) group
+        ∙ ap (number_in content (named content e (later_list k))) place
+    by_place lists at = absurd at
+    by_place (part k) at = absurd at
+
+-- a part's sector is written over
+pub part_over : (a : Alloc) (content after : Image) (e : Entry) (j n : ℕ) (image : List ℕ) → IsReady a content e → j < 16570 → n ≡ named content e (part j) → n ≢ 0 → taken_of a n ≡ true → after ≡ put n image content
+    → Changes a a content after e e (λ q. q ≡ part j) × (part_bytes after (named after e (part j)) ≡ image)
+part_over a content after e j n image ready lt is some taken writes =
+    let stays = λ (x : ℕ) (other : x ≢ n). ap (λ (m : Image). m x) writes ∙ put_other n x image content other in
+    let range = taken_range a n taken in
+    let more = write_named content after e j n ready.naming lt (sym is) some stays in (
+      writes_over a content after e j n ready ready.small lt (sym is) some range.0 range.1 stays,
+      ap (part_bytes after) more.one ∙ bytes_there after n some ∙ ap (λ (m : Image). m n) writes ∙ put_here n image content,
+    )
+
+-- sector 0 is no data sector
+pub none_taken : (a : Alloc) → 122 ≤ first_of a → taken_of a 0 ≡ false
+none_taken a behind = elim (cases_Bool (taken_of a 0)) [
+  | inl is ↦ absurd (omega (arith, behind, taken_range a 0 is))
+  | inr free ↦ free
+]
+
+pub part_in_more : (from to : ℕ) (p : Place) → IsPartIn from to p → IsPartIn from (to + 1) p
+part_in_more from to (part j) there = (there.0, omega (arith, there.1))
+part_in_more from to list there = there
+part_in_more from to lists there = there
+part_in_more from to (later_list i) there = there
+
+pub part_in_here : (from j : ℕ) (p : Place) → from ≤ j → p ≡ part j → IsPartIn from (j + 1) p
+part_in_here from j p le is = let here : IsPartIn from (j + 1) (part j) = (le, omega arith) in subst (IsPartIn from (j + 1)) (sym is) here
+
+-- a loop ends behind the last part
+pub part_in_all : (from to j : ℕ) (p : Place) → j - from ≤ to - from → IsPartIn from j p → IsPartIn from to p
+part_in_all from to j (part k) few there = (there.0, omega (arith, there.0, there.1))
+part_in_all from to j list few there = there
+part_in_all from to j lists few there = there
+part_in_all from to j (later_list i) few there = there
+
+-- one more part has its bytes
+pub parts_more : (b c : Alloc) (c1 c2 : Image) (e1 e2 : Entry) (Touched : Place → Type 0) (from j : ℕ) (image : ℕ → List ℕ) → Changes b c c1 c2 e1 e2 Touched → ((k : ℕ) → k < j → Touched (part k) → ⊥) → j < 16570
+    → HasParts c1 e1 from j image → part_bytes c2 (named c2 e2 (part j)) ≡ image j → HasParts c2 e2 from (j + 1) image
+parts_more b c c1 c2 e1 e2 Touched from j image changes apart small so_far here k le lt = elim (cases_lt k j) [
+  | inl before ↦ (changes.stays (part k) (omega arith) (apart k before)).bytes ∙ so_far k le before
+  | inr same ↦
+      let is : k ≡ j = omega arith in
+      ap (λ (x : ℕ). part_bytes c2 (named c2 e2 (part x))) is ∙ here ∙ sym (ap image is)
+]
+
+pub parts_shorter : (content : Image) (e : Entry) (from to j : ℕ) (image : ℕ → List ℕ) → to ≤ j → HasParts content e from j image → HasParts content e from to image
+parts_shorter content e from to j image le parts k from_k lt = parts k from_k (omega arith)
+
+-- the pointer sector of a segment lists its parts
+pub segment_lists : (g start j : ℕ) → start ≡ 58 + 128 * g → start ≤ j → ListedAt (segment g) (j - start) (part j)
+segment_lists zero start j is le = omega arith
+segment_lists (suc k) start j is le = omega arith
+
+pub segment_place : (g start to j : ℕ) → start ≡ 58 + 128 * g → start ≤ j → j < 16570 → IsPlace (segment g)
+segment_place zero start to j is le lt = tt
+segment_place (suc k) start to j is le lt = omega arith
+
+pub segment_other : (g j : ℕ) → segment g ≡ part j → ⊥
+segment_other zero j is = cc
+segment_other (suc k) j is = cc
+
+pub range_then : (a b c : Alloc) → SameRange a b → SameRange b c → SameRange a c
+range_then a b c one two = record { first = two.first ∙ one.first; end = two.end ∙ one.end }
+
+-- one change after another, over the same range of sectors
+pub changes_then : (a b c : Alloc) (c0 c1 c2 : Image) (e0 e1 e2 : Entry) (One Other Both : Place → Type 0) → 122 ≤ first_of a → SameRange a b → SameRange b c
+    → ((p : Place) → One p → Both p) → ((p : Place) → Other p → Both p) → Changes a b c0 c1 e0 e1 One → Changes b c c1 c2 e1 e2 Other → Changes a c c0 c2 e0 e2 Both
+changes_then a b c c0 c1 c2 e0 e1 e2 One Other Both behind range further one_in other_in one other =
+    let still : 122 ≤ first_of c = omega (arith, behind, range.first, further.first) in
+    changes_twice a b c c0 c1 c2 e0 e1 e2 One Other Both (none_taken a behind) (none_taken c still) range.first range.end one_in other_in one other
+
+-- nothing changes
+pub changes_none : (a : Alloc) (content : Image) (e : Entry) (Touched : Place → Type 0) → IsReady a content e → Changes a a content content e e Touched
+changes_none a content e Touched ready = record {
+  ready = ready;
+  others = λ place. stays_same place (first_of a) (end_of a) (taken_of a) content e;
+  takes = takes_same (taken_of a) content content e e ready.taken (λ p there. refl);
+  stays = λ p there not. record { name = refl; bytes = refl };
+  size = refl;
+}
+
+pub blank_zeros : (p : Place) → IsBlank p (replicate 512 0)
+blank_zeros (part j) = tt
+blank_zeros list = refl
+blank_zeros lists = refl
+blank_zeros (later_list i) = refl
+
+-- of a place that names none zeros are held
+pub held_zeros : (content : Image) (e : Entry) (p : Place) (number : ℕ) (image : List ℕ) → Mirrors content e p number image → number ≡ 0 → image ≡ replicate 512 0
+held_zeros content e p number image mirror none = mirror.bytes ∙ ap (part_bytes content) none
+
+-- a pointer sector is none of the parts, nor another one
+pub segment_no_part : (from to g : ℕ) → IsPartIn from to (segment g) → ⊥
+segment_no_part from to zero there = there
+segment_no_part from to (suc k) there = there
+
+pub segment_not_lists : (g : ℕ) → lists ≡ segment g → ⊥
+segment_not_lists zero is = cc
+segment_not_lists (suc k) is = cc
+
+pub segments_differ : (g : ℕ) → segment (g + 1) ≡ segment g → ⊥
+segments_differ zero is = let one : 0 + 1 ≡ suc 0 = omega arith in clash (sym (ap segment one) ∙ is)
+  where
+    clash : later_list 0 ≡ list → ⊥
+    clash is = cc
+segments_differ (suc k) is = let one : suc k + 1 ≡ suc (suc k) = omega arith in clash k (sym (ap segment one) ∙ is)
+  where
+    clash : (k : ℕ) → later_list (suc k) ≡ later_list k → ⊥
+    clash k is = let same : suc k ≡ k = cc in omega arith
+
+pub segment_is_place : (g last : ℕ) → 58 + 128 * g ≤ last → last < 16570 → IsPlace (segment g)
+segment_is_place zero last le lt = tt
+segment_is_place (suc k) last le lt = omega arith
+
+pub segment_is_pointer : (g : ℕ) (p : Place) → p ≡ segment g → IsPointer p
+segment_is_pointer zero p is = subst IsPointer (sym is) tt
+segment_is_pointer (suc k) p is = subst IsPointer (sym is) tt
+
+pub lists_is_pointer : (p : Place) → p ≡ lists → IsPointer p
+lists_is_pointer p is = subst IsPointer (sym is) tt
+
+pub part_in_span : (from to first last : ℕ) (p : Place) → first ≤ from → to ≤ last + 1 → IsPartIn from to p → IsPartIn first (last + 1) p
+part_in_span from to first last (part j) starts ends there = (omega (arith, there.0), omega (arith, there.1))
+part_in_span from to first last list starts ends there = there
+part_in_span from to first last lists starts ends there = there
+part_in_span from to first last (later_list i) starts ends there = there
+
+pub room_left : (staged : Bool) (room now : ℕ) → now ≡ (if staged then room else room - 1) → room ≤ now + 1
+room_left true room now is = omega arith
+room_left false room now is = omega arith
+
+pub on_err : {T E : Type 0} {X : Type 0} (r : Result T E) → X → OnErr r X
+on_err (Ok x) is = tt
+on_err (Err e) is = is

@@ -1,0 +1,87 @@
+use Rattle.std.proofs.Common.{◌≡◌, ◌≤◌, ◌+◌, ◌-◌, ◌/◌, ◌⊎◌, ℕ, length, max, refl, sym, ◌∙◌, ap, subst, arith, rules}
+use Rattle.vol_sector.specs.Disk.{Image}
+use Rattle.vol_log.specs.Log.{view, room_of, is_staged}
+use Rattle.vol_alloc.specs.Alloc.{taken_of, free_of}
+use Rattle.vol_inode.specs.Space.{need_of}
+use Rattle.vol_inode.specs.declared.entry.Entry.{Entry}
+use Rattle.vol_body.specs.Body.{part, named, part_bytes, NamesTaken}
+use Rattle.vol_body.specs.Change.{used_of}
+use Rattle.vol_body.specs.Writing.{IsReady, MirrorsAll, Changes, IsPartIn, IsPointer}
+use Rattle.vol_body.proofs.Readings.{reads_then}
+use Rattle.vol_body.proofs.Stagings.{stages_then}
+use Rattle.vol_body.proofs.Steps.{put_here, room_left, on_err}
+use Rattle.vol_body.proofs.Finished.{write_leaves, ready_to_write, mirrors_all_by}
+use Rattle.vol_body.proofs.writing.write_some.Goals as goal
+
+pub returns-in_err-behind-clause-refused : goal.returns-in_err-behind-clause-refused
+returns-in_err-behind-clause-refused g c =
+    on_err c.from_residual-in_err-behind.result
+    (reads_then c.args.log.now c.read_edge.new.log c.read_edge-2.new.log c.in_ok-before.ensures.failed c.in_ok-before.ensures.reads c.in_err-behind.ensures.reads, refl, refl)
+
+pub returns-in_err-all-clause-log : goal.returns-in_err-all-clause-log
+returns-in_err-all-clause-log g c =
+    let edges = reads_then c.args.log.now c.read_edge.new.log c.read_edge-2.new.log c.in_ok-before.ensures.failed c.in_ok-before.ensures.reads c.in_ok-behind.ensures.reads in
+    let reads = reads_then c.args.log.now c.read_edge-2.new.log c.load_lists.new.log c.in_ok-behind.ensures.failed edges c.in_err-all.ensures.reads in
+    record { crash = reads.crash; sectors = reads.sectors; honest = reads.honest; size = reads.size; faults = reads.faults }
+
+pub returns-in_err-all-clause-refused : goal.returns-in_err-all-clause-refused
+returns-in_err-all-clause-refused g c =
+    let edges = reads_then c.args.log.now c.read_edge.new.log c.read_edge-2.new.log c.in_ok-before.ensures.failed c.in_ok-before.ensures.reads c.in_ok-behind.ensures.reads in
+    on_err c.from_residual-in_err-all.result
+    (reads_then c.args.log.now c.read_edge-2.new.log c.load_lists.new.log c.in_ok-behind.ensures.failed edges c.in_err-all.ensures.reads, refl, refl)
+
+pub returns-clause-staged : goal.returns-clause-staged
+returns-clause-staged g c =
+    ap (λ (m : Image). m c.args.place) c.stage.ensures.view ∙ put_here c.args.place c.write_entry.result (view c.write_parts.new.log) ∙ c.write_entry.ensures
+
+pub returns-clause-room : goal.returns-clause-room
+returns-clause-room g c =
+    let edges = reads_then c.args.log.now c.read_edge.new.log c.read_edge-2.new.log c.in_ok-before.ensures.failed c.in_ok-before.ensures.reads c.in_ok-behind.ensures.reads in
+    let reads = reads_then c.args.log.now c.read_edge-2.new.log c.load_lists.new.log c.in_ok-behind.ensures.failed edges c.in_ok-all.ensures.reads in
+    let same : room_of c.load_lists.new.log ≡ room_of c.args.log.now = ap (λ l. 120 - length l) reads.staged in
+    let last = room_left (is_staged c.write_parts.new.log c.args.place) (room_of c.write_parts.new.log) (room_of c.stage.new.self) c.stage.ensures.room in
+    omega (arith, same, last, c.write_parts.ensures.room)
+
+pub returns-clause-log : goal.returns-clause-log
+returns-clause-log g c =
+    let edges = reads_then c.args.log.now c.read_edge.new.log c.read_edge-2.new.log c.in_ok-before.ensures.failed c.in_ok-before.ensures.reads c.in_ok-behind.ensures.reads in
+    let reads = reads_then c.args.log.now c.read_edge-2.new.log c.load_lists.new.log c.in_ok-behind.ensures.failed edges c.in_ok-all.ensures.reads in
+    let puts = c.write_parts.ensures.puts in
+    stages_then c.args.log.now c.load_lists.new.log c.stage.new.self reads c.in_ok-all.ensures.failed
+    (c.stage.ensures.device ∙ puts.device) (c.stage.ensures.sectors ∙ puts.sectors) c.stage.ensures.failed
+
+pub returns-clause-done : goal.returns-clause-done
+returns-clause-done g c h names body space =
+    let content = view c.args.log.now in
+    let e = c.args.entry.now in
+    let offset = c.args.offset in
+    let bytes = c.args.bytes.now in
+    let a = c.args.sectors.now in
+    let b = c.write_parts.new.sectors in
+    let first = offset / 512 in
+    let last = (offset + length bytes - 1) / 512 in
+    let size = c.max-entry.result in
+    let longer : Entry = record e { size = size } in
+    let changed = c.write_parts.new.entry in
+    let between = view c.write_parts.new.log in
+    let start = view c.load_lists.new.log in
+    let all = c.in_ok-all.all in
+    let one : view c.read_edge.new.log ≡ content = c.in_ok-before.ensures.reads.view h in
+    let h1 = c.in_ok-before.ensures.reads.honest.0 h in
+    let two : view c.read_edge-2.new.log ≡ content = c.in_ok-behind.ensures.reads.view h1 ∙ one in
+    let h2 = c.in_ok-behind.ensures.reads.honest.0 h1 in
+    let three : start ≡ content = c.in_ok-all.ensures.reads.view h2 ∙ two in
+    let names_in = λ (m : Image) (same : m ≡ content). subst (λ (k : Image). NamesTaken (taken_of a) k e) (sym same) names in
+    let size_is : size ≡ max e.size (offset + length bytes) = c.max-entry.ensures in
+    let small : size ≤ 8483840 = omega (arith, size_is, c.requires.small, c.requires.small_before) in
+    let ready : IsReady a content longer = ready_to_write a content e size body names (omega (arith, size_is)) small (subst (λ (s : ℕ). need_of s ≤ free_of a + used_of content e) (sym size_is) space) in
+    let mirrors : MirrorsAll content longer all first last = mirrors_all_by content e longer all first last refl (subst (λ (k : Image). MirrorsAll k e all first last) two (c.in_ok-all.ensures.right h2 (names_in (view c.read_edge-2.new.log) two))) in
+    let written = c.write_parts.ensures.written (subst (λ (k : Image). IsReady a k longer) (sym three) ready) (omega (arith, size_is, c.requires.some))
+    (subst (λ (k : Image). MirrorsAll k longer all first last) (sym three) mirrors) in
+    let changes : Changes a b content between longer changed (λ p. IsPartIn first (last + 1) p ⊎ IsPointer p) =
+    subst (λ (k : Image). Changes a b k between longer changed (λ p. IsPartIn first (last + 1) p ⊎ IsPointer p)) three written.0 in
+    write_leaves c.args.place offset bytes c.in_ok-before.before c.in_ok-behind.behind c.write_entry.result a b content between (view c.stage.new.self) e changed size
+    c.requires.behind c.requires.slot c.write_parts.ensures.range c.requires.small_before c.requires.small c.requires.some size_is body names changes written.1 c.stage.ensures.view
+    (search rules) (search rules)
+    (λ partly. c.in_ok-before.ensures.bytes h names partly)
+    (λ partly. c.in_ok-behind.ensures.bytes h1 (names_in (view c.read_edge.new.log) one) partly ∙ ap (λ (m : Image). part_bytes m (named m e (part last))) one)

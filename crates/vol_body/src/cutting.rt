@@ -1,0 +1,210 @@
+//! The sectors of which a shorter file keeps a beginning alone.
+
+ghost use Rattle.std.specs.Prelude.{◌≡◌, ◌≢◌, ◌≤◌, ◌<◌, ◌+◌, ◌-◌, ◌*◌, ◌/◌, ℕ, true, false, IfOk, is_err, if◌then◌else◌};
+ghost use Rattle.vol_inode.specs.Space.{sectors_of as parts_of};
+ghost use Rattle.vol_log.specs.Log.{view, sectors_of, room_of, has_failed, device_of};
+ghost use Rattle.vol_alloc.specs.Alloc.{first_of, end_of, taken_of};
+ghost use Rattle.vol_body.specs.Body.{NamesTaken, named};
+ghost use Rattle.vol_body.specs.Reading.{OnlyReads};
+ghost use Rattle.vol_body.specs.Shorter.{kept_bytes, cut, IsCut, with_cut, last_part, cut_list, last_list};
+ghost use Rattle.vol_body.specs.Shorter.{AreCuts, AreWithin, with_cuts};
+
+use crate::locate::{known, read_number, sector_of_part};
+use vol_alloc::Alloc;
+use vol_inode::Entry;
+use vol_log::Log;
+use vol_sector::{Device, DeviceFault};
+
+/// What is to be written for a sector of which a beginning is kept. Sector 0 stands for nothing.
+#[derive(Drop)]
+pub struct Cut {
+    pub sector: u32,
+    pub image: [u8; 512],
+}
+
+/// What is to be written for a file that is made shorter: for its last part, for its list or the
+/// list of its lists, and for the last of these.
+#[derive(Drop)]
+pub struct Cuts {
+    pub part: Cut,
+    pub list: Cut,
+    pub last: Cut,
+}
+
+/// The bytes before a place, and zeros from it on.
+fn cut_at(image: &[u8; 512], kept: usize) -> [u8; 512]
+    requires { kept ≤ 512 }
+    ensures { result ≡ cut kept image.now }
+{
+    let mut cut = [0; 512];
+    cut[..kept].copy_from_slice(&image[..kept]);
+    cut
+}
+
+/// What is to be written for a sector of which so many bytes are kept: nothing where it is sector
+/// 0, is kept whole or not at all, or has zeros behind them already.
+fn read_cut<D: Device>(
+    log: &mut Log<D>,
+    sectors: &Alloc,
+    n: u32,
+    kept: u32,
+) -> Result<Cut, DeviceFault>
+    requires taken { n ≢ 0 → taken_of sectors.now n ≡ true }
+    requires there { end_of sectors.now ≤ sectors_of log.old }
+    requires working { has_failed log.old ≡ false }
+    requires within { kept ≤ 512 }
+    ensures cut { D.honest (device_of log.old) → IfOk result (IsCut (view log.old) n kept) }
+    ensures taken { IfOk result (λ cut. cut.sector ≢ 0
+        → taken_of sectors.now cut.sector ≡ true) }
+    ensures reads { OnlyReads log.old log.new }
+    ensures failed { has_failed log.new ≡ is_err result }
+{
+    if n == 0 || kept == 0 || kept == 512 {
+        return Ok(Cut {
+            sector: 0,
+            image: [0; 512],
+        });
+    }
+    let old = log.read(n)?;
+    let image = cut_at(&old, kept as usize);
+    let sector = if image == old { 0 } else { n };
+    Ok(Cut { sector, image })
+}
+
+/// What is to be written for the last part of a file of this size.
+fn cut_of_part<D: Device>(
+    log: &mut Log<D>,
+    sectors: &Alloc,
+    entry: &Entry,
+    size: u32,
+) -> Result<Cut, DeviceFault>
+    requires there { end_of sectors.now ≤ sectors_of log.old }
+    requires working { has_failed log.old ≡ false }
+    requires small { size ≤ 8483840 }
+    ensures cut { D.honest (device_of log.old)
+        → NamesTaken (taken_of sectors.now) (view log.old) entry.now
+        → IfOk result (IsCut (view log.old) (named (view log.old) entry.now (last_part size))
+        (kept_bytes size (last_part size))) }
+    ensures taken { IfOk result (λ cut. cut.sector ≢ 0
+        → taken_of sectors.now cut.sector ≡ true) }
+    ensures reads { OnlyReads log.old log.new }
+    ensures failed { has_failed log.new ≡ is_err result }
+{
+    let j = size.div_ceil(512).saturating_sub(1);
+    let n = sector_of_part(log, sectors, entry, j)?;
+    let kept = (size - 512 * j).min(512);
+    read_cut(log, sectors, n, kept)
+}
+
+/// What is to be written for the list of a file of this size, or for the list of its lists.
+fn cut_of_list<D: Device>(
+    log: &mut Log<D>,
+    sectors: &Alloc,
+    entry: &Entry,
+    size: u32,
+) -> Result<Cut, DeviceFault>
+    requires there { end_of sectors.now ≤ sectors_of log.old }
+    requires working { has_failed log.old ≡ false }
+    requires small { size ≤ 8483840 }
+    ensures cut { D.honest (device_of log.old)
+        → NamesTaken (taken_of sectors.now) (view log.old) entry.now
+        → IfOk result (IsCut (view log.old) (named (view log.old) entry.now (cut_list size))
+        (kept_bytes size (cut_list size))) }
+    ensures taken { IfOk result (λ cut. cut.sector ≢ 0
+        → taken_of sectors.now cut.sector ≡ true) }
+    ensures reads { OnlyReads log.old log.new }
+    ensures failed { has_failed log.new ≡ is_err result }
+{
+    let count = size.div_ceil(512);
+    if count > 186 {
+        let kept = 4 * (count - 186).div_ceil(128).min(128);
+        let lists = known(sectors, entry.pointers[59]);
+        return read_cut(log, sectors, lists, kept);
+    }
+    let kept = 4 * count.saturating_sub(58).min(128);
+    let list = known(sectors, entry.pointers[58]);
+    read_cut(log, sectors, list, kept)
+}
+
+/// What is to be written for the last of the later lists of a file of this size.
+fn cut_of_last_list<D: Device>(
+    log: &mut Log<D>,
+    sectors: &Alloc,
+    entry: &Entry,
+    size: u32,
+) -> Result<Cut, DeviceFault>
+    requires there { end_of sectors.now ≤ sectors_of log.old }
+    requires working { has_failed log.old ≡ false }
+    requires small { size ≤ 8483840 }
+    ensures cut { D.honest (device_of log.old)
+        → NamesTaken (taken_of sectors.now) (view log.old) entry.now
+        → IfOk result (IsCut (view log.old) (named (view log.old) entry.now (last_list size))
+        (kept_bytes size (last_list size))) }
+    ensures taken { IfOk result (λ cut. cut.sector ≢ 0
+        → taken_of sectors.now cut.sector ≡ true) }
+    ensures reads { OnlyReads log.old log.new }
+    ensures failed { has_failed log.new ≡ is_err result }
+{
+    let count = size.div_ceil(512);
+    let i = count.saturating_sub(187) / 128;
+    let kept = 4 * count.saturating_sub(186 + 128 * i).min(128);
+    let lists = known(sectors, entry.pointers[59]);
+    let n = read_number(log, sectors, lists, i)?;
+    read_cut(log, sectors, n, kept)
+}
+
+/// Stages what is to be written for a sector, if anything is.
+fn stage_cut<D: Device>(log: &mut Log<D>, cut: &Cut)
+    requires behind { cut.now.sector ≢ 0 → 122 ≤ cut.now.sector }
+    requires there { cut.now.sector ≢ 0 → cut.now.sector < sectors_of log.old }
+    requires room { 0 < room_of log.old }
+    requires working { has_failed log.old ≡ false }
+    ensures view { view log.new ≡ with_cut cut.now (view log.old) }
+    ensures room { room_of log.old ≤ room_of log.new + 1 }
+    ensures device { device_of log.new ≡ device_of log.old }
+    ensures failed { has_failed log.new ≡ false }
+    ensures sectors { sectors_of log.new ≡ sectors_of log.old }
+{
+    if cut.sector != 0 {
+        log.stage(cut.sector, &cut.image);
+    }
+}
+
+/// What is to be written where the file keeps so many bytes.
+pub fn read_cuts<D: Device>(
+    log: &mut Log<D>,
+    sectors: &Alloc,
+    entry: &Entry,
+    size: u32,
+) -> Result<Cuts, DeviceFault>
+    requires there { end_of sectors.now ≤ sectors_of log.old }
+    requires working { has_failed log.old ≡ false }
+    requires small { size ≤ 8483840 }
+    ensures cuts { D.honest (device_of log.old)
+        → NamesTaken (taken_of sectors.now) (view log.old) entry.now
+        → IfOk result (AreCuts (view log.old) entry.now size) }
+    ensures within { IfOk result (AreWithin (first_of sectors.now) (end_of sectors.now)) }
+    ensures reads { OnlyReads log.old log.new }
+    ensures failed { has_failed log.new ≡ is_err result }
+{
+    let part = cut_of_part(log, sectors, entry, size)?;
+    let list = cut_of_list(log, sectors, entry, size)?;
+    let last = cut_of_last_list(log, sectors, entry, size)?;
+    Ok(Cuts { part, list, last })
+}
+
+/// Stages what is to be written, in three places at most.
+pub fn stage_cuts<D: Device>(log: &mut Log<D>, cuts: &Cuts)
+    requires there { AreWithin 122 (sectors_of log.old) cuts.now }
+    requires room { 3 ≤ room_of log.old }
+    requires working { has_failed log.old ≡ false }
+    ensures view { view log.new ≡ with_cuts cuts.now (view log.old) }
+    ensures room { room_of log.old ≤ room_of log.new + 3 }
+    ensures device { device_of log.new ≡ device_of log.old }
+    ensures failed { has_failed log.new ≡ false }
+    ensures sectors { sectors_of log.new ≡ sectors_of log.old }
+{
+    stage_cut(log, &cuts.part);
+    stage_cut(log, &cuts.list);
+    stage_cut(log, &cuts.last);
+}

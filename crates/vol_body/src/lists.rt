@@ -1,0 +1,162 @@
+//! The pointer sectors of a file, in memory.
+
+ghost use Rattle.std.specs.Prelude.{◌≡◌, ◌≢◌, ◌≤◌, ◌<◌, ◌+◌, ◌*◌, ◌^◌, ℕ, true, false, drop, IfOk, is_err};
+ghost use Rattle.std.specs.Prelude.{if◌then◌else◌};
+ghost use Rattle.byteorder.specs.Endian.{little_number};
+ghost use Rattle.vol_log.specs.Log.{view, sectors_of, has_failed, device_of};
+ghost use Rattle.vol_alloc.specs.Alloc.{end_of, taken_of};
+ghost use Rattle.vol_body.specs.Body.{NamesTaken, lists, part_bytes};
+ghost use Rattle.vol_body.specs.Reading.{OnlyReads};
+ghost use Rattle.vol_body.specs.Writing.{Mirrors, MirrorsAll, KnowsAll, segment};
+
+use crate::locate::{known, number_at};
+use byteorder::{ByteOrder, LittleEndian};
+use vol_alloc::Alloc;
+use vol_inode::Entry;
+use vol_log::Log;
+use vol_sector::{Device, DeviceFault};
+
+/// How many parts of a file the entry itself names.
+pub const DIRECT: u32 = 58;
+
+/// How many parts are named by the entry and by the list of pointer 58.
+pub const LISTED: u32 = 186;
+
+/// How many numbers a pointer sector has.
+pub const NUMBERS: u32 = 128;
+
+/// A pointer sector: its number, and its bytes. Where the file has none the number is 0, and the
+/// bytes are zeros.
+#[derive(Drop)]
+pub struct PointerSector {
+    pub number: u32,
+    pub image: [u8; 512],
+}
+
+/// The pointer sectors that a write uses.
+#[derive(Drop)]
+pub struct Lists {
+    /// The one that pointer 59 names.
+    pub lists: PointerSector,
+    /// The one that lists the first part past the first 58 that is written.
+    pub early: PointerSector,
+    /// The one that lists the 128 parts behind those of `early`.
+    pub late: PointerSector,
+}
+
+/// The pointer sector with another `i`-th number.
+pub fn with_number(image: &[u8; 512], i: u32, n: u32) -> [u8; 512]
+    requires { i < 128 }
+    ensures one { little_number 4 (drop (4 * i) result) ≡ n }
+    ensures rest { (k : ℕ) → k < 128 → k ≢ i
+        → little_number 4 (drop (4 * k) result) ≡ little_number 4 (drop (4 * k) image.now) }
+{
+    let mut image = *image;
+    LittleEndian::write_u32(&mut image[4 * i as usize..], n);
+    image
+}
+
+/// Reads the pointer sectors that a write of the parts from `first` to `last` uses.
+pub fn load_lists<D: Device>(
+    log: &mut Log<D>,
+    sectors: &Alloc,
+    entry: &Entry,
+    first: u32,
+    last: u32,
+) -> Result<Lists, DeviceFault>
+    requires some { first ≤ last }
+    requires small { last < 16570 }
+    requires there { end_of sectors.now ≤ sectors_of log.old }
+    requires working { has_failed log.old ≡ false }
+    ensures right { D.honest (device_of log.old)
+        → NamesTaken (taken_of sectors.now) (view log.old) entry.now
+        → IfOk result (λ all. MirrorsAll (view log.old) entry.now all first last) }
+    ensures known { IfOk result (λ all. KnowsAll sectors.now all) }
+    ensures reads { OnlyReads log.old log.new }
+    ensures failed { has_failed log.new ≡ is_err result }
+{
+    let group = first.saturating_sub(DIRECT) / NUMBERS;
+    let lists = load_top(log, sectors, entry, last)?;
+    let early = load_segment(log, sectors, entry, &lists, group, last)?;
+    let late = load_segment(log, sectors, entry, &lists, group + 1, last)?;
+    Ok(Lists { lists, early, late })
+}
+
+/// Reads a pointer sector.
+fn load<D: Device>(
+    log: &mut Log<D>,
+    sectors: &Alloc,
+    number: u32,
+) -> Result<PointerSector, DeviceFault>
+    requires taken { number ≢ 0 → taken_of sectors.now number ≡ true }
+    requires there { end_of sectors.now ≤ sectors_of log.old }
+    requires working { has_failed log.old ≡ false }
+    ensures image { D.honest (device_of log.old) → IfOk result (λ s.
+        s.image ≡ part_bytes (view log.old) number) }
+    ensures number { IfOk result (λ s. s.number ≡ number) }
+    ensures known { IfOk result (λ s. s.number ≢ 0 → taken_of sectors.now s.number ≡ true) }
+    ensures reads { OnlyReads log.old log.new }
+    ensures failed { has_failed log.new ≡ is_err result }
+{
+    let image = if number == 0 {
+        [0; 512]
+    } else {
+        log.read(number)?
+    };
+    Ok(PointerSector { number, image })
+}
+
+/// Reads the pointer sector of pointer 59, if the write reaches the parts that it serves.
+fn load_top<D: Device>(
+    log: &mut Log<D>,
+    sectors: &Alloc,
+    entry: &Entry,
+    last: u32,
+) -> Result<PointerSector, DeviceFault>
+    requires there { end_of sectors.now ≤ sectors_of log.old }
+    requires working { has_failed log.old ≡ false }
+    ensures right { D.honest (device_of log.old)
+        → NamesTaken (taken_of sectors.now) (view log.old) entry.now → 186 ≤ last
+        → IfOk result (λ s. Mirrors (view log.old) entry.now lists s.number s.image) }
+    ensures known { IfOk result (λ s. s.number ≢ 0 → taken_of sectors.now s.number ≡ true) }
+    ensures reads { OnlyReads log.old log.new }
+    ensures failed { has_failed log.new ≡ is_err result }
+{
+    if last < LISTED {
+        return load(log, sectors, 0);
+    }
+    let number = known(sectors, entry.pointers[59]);
+    load(log, sectors, number)
+}
+
+/// Reads the pointer sector that lists the 128 parts from 58 + 128 * `group` on, if the write reaches
+/// them.
+fn load_segment<D: Device>(
+    log: &mut Log<D>,
+    sectors: &Alloc,
+    entry: &Entry,
+    above: &PointerSector,
+    group: u32,
+    last: u32,
+) -> Result<PointerSector, DeviceFault>
+    requires small { last < 16570 }
+    requires there { end_of sectors.now ≤ sectors_of log.old }
+    requires working { has_failed log.old ≡ false }
+    ensures right { D.honest (device_of log.old)
+        → NamesTaken (taken_of sectors.now) (view log.old) entry.now → 58 + 128 * group ≤ last
+        → (186 ≤ last → Mirrors (view log.old) entry.now lists above.now.number above.now.image)
+        → IfOk result (λ s. Mirrors (view log.old) entry.now (segment group) s.number s.image) }
+    ensures known { IfOk result (λ s. s.number ≢ 0 → taken_of sectors.now s.number ≡ true) }
+    ensures reads { OnlyReads log.old log.new }
+    ensures failed { has_failed log.new ≡ is_err result }
+{
+    if last < DIRECT || group > (last - DIRECT) / NUMBERS {
+        return load(log, sectors, 0);
+    }
+    if group == 0 {
+        let first = known(sectors, entry.pointers[58]);
+        return load(log, sectors, first);
+    }
+    let number = known(sectors, number_at(&above.image, group - 1));
+    load(log, sectors, number)
+}

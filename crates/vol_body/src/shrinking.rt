@@ -1,0 +1,97 @@
+//! Shortening a file.
+
+ghost use Rattle.std.specs.Prelude.{◌≡◌, ◌≢◌, ◌≤◌, ◌<◌, ◌+◌, ◌-◌, ℕ, true, false, IfOk, OnOk, OnErr, IsErr, is_err};
+ghost use Rattle.std.specs.Prelude.{length, nat_lt, slice_index, if◌then◌else◌};
+ghost use Rattle.vol_log.specs.Log.{view, sectors_of, room_of, has_failed, device_of};
+ghost use Rattle.vol_alloc.specs.Alloc.{first_of, end_of, taken_of};
+ghost use Rattle.vol_inode.specs.Spelling.{spelling};
+ghost use Rattle.vol_inode.specs.Space.{sectors_of as parts_of};
+ghost use Rattle.vol_body.specs.Body.{NamesTaken, bytes_of, IsBody};
+ghost use Rattle.vol_body.specs.Change.{resized, OthersStay, TakesAndGives};
+ghost use Rattle.vol_body.specs.Shorter.{first_of_pointer};
+ghost use Rattle.vol_body.specs.Reading.{OnlyReads, OnlyStages};
+
+use crate::cutting::{read_cuts, stage_cuts};
+use crate::giving::give_back;
+use vol_alloc::Alloc;
+use vol_inode::{Entry, write_entry};
+use vol_log::Log;
+use vol_sector::{Device, DeviceFault};
+
+/// The pointers of a file that keeps so many parts.
+fn kept_pointers(pointers: &[u32; 60], count: u32) -> [u32; 60]
+    ensures { (j : ℕ) → j < 60 → slice_index result j
+        ≡ (if nat_lt (first_of_pointer j) count then slice_index pointers.now j else 0) }
+{
+    let mut kept = [0; 60];
+    for j in 0..60 {
+        let first = if j < 59 { j as u32 } else { 186 };
+        if first < count {
+            kept[j] = pointers[j];
+        }
+    }
+    kept
+}
+
+/// Shortens the file, whose entry is in this sector. It stages the entry, and at most three
+/// sectors of which the file keeps a beginning, with zeros behind it; it gives back those that the
+/// file names no more.
+///
+/// It is refused where a device operation failed, or had failed before. Then nothing was staged, and
+/// the sectors may have been given back.
+pub fn shrink<D: Device>(
+    log: &mut Log<D>,
+    sectors: &mut Alloc,
+    place: u32,
+    entry: &mut Entry,
+    size: u32,
+) -> Result<(), DeviceFault>
+    requires behind { 122 ≤ place }
+    requires slot { place < first_of sectors.old }
+    requires within { place < sectors_of log.old }
+    requires there { end_of sectors.old ≤ sectors_of log.old }
+    requires room { 4 ≤ room_of log.old }
+    requires shorter { size < entry.old.size }
+    requires small_before { entry.old.size ≤ 8483840 }
+    ensures bytes { D.honest (device_of log.old)
+        → NamesTaken (taken_of sectors.old) (view log.old) entry.old
+        → IsBody (view log.old) entry.old
+        → OnOk result (bytes_of (view log.new) entry.new
+        ≡ resized size (bytes_of (view log.old) entry.old)) }
+    ensures rules { D.honest (device_of log.old)
+        → NamesTaken (taken_of sectors.old) (view log.old) entry.old
+        → IsBody (view log.old) entry.old
+        → OnOk result (IsBody (view log.new) entry.new) }
+    ensures others { D.honest (device_of log.old)
+        → NamesTaken (taken_of sectors.old) (view log.old) entry.old
+        → IsBody (view log.old) entry.old
+        → OnOk result (OthersStay place (first_of sectors.old) (end_of sectors.old)
+        (taken_of sectors.old) (view log.old) (view log.new) entry.old) }
+    ensures taken { D.honest (device_of log.old)
+        → NamesTaken (taken_of sectors.old) (view log.old) entry.old
+        → IsBody (view log.old) entry.old
+        → OnOk result (TakesAndGives (taken_of sectors.old) (taken_of sectors.new)
+        (view log.old) (view log.new) entry.old entry.new) }
+    ensures entry { OnOk result (entry.new
+        ≡ record entry.old { size = size; pointers = entry.new.pointers }) }
+    ensures staged { OnOk result (view log.new place ≡ spelling entry.new) }
+    ensures range { (first_of sectors.new ≡ first_of sectors.old)
+        × (end_of sectors.new ≡ end_of sectors.old) }
+    ensures room { room_of log.old ≤ room_of log.new + 4 }
+    ensures log { OnlyStages log.old log.new }
+    ensures refused { OnErr result ((OnlyReads log.old log.new) × (entry.new ≡ entry.old)) }
+    ensures failed { has_failed log.new ≡ is_err result }
+    ensures idle { has_failed log.old ≡ true → (log.new ≡ log.old) × IsErr result }
+{
+    if log.failed() {
+        return Err(DeviceFault);
+    }
+    let cuts = read_cuts(log, sectors, entry, size)?;
+    let count = size.div_ceil(512);
+    give_back(log, sectors, entry, count)?;
+    stage_cuts(log, &cuts);
+    entry.size = size;
+    entry.pointers = kept_pointers(&entry.pointers, count);
+    log.stage(place, &write_entry(entry));
+    Ok(())
+}

@@ -1,0 +1,167 @@
+//! Writing the bytes of a file.
+
+ghost use Rattle.std.specs.Prelude.{◌≡◌, ◌≢◌, ◌≤◌, ◌<◌, ◌+◌, ◌*◌, ℕ, true, false, length, max, OnOk, OnErr, IfOk, IsErr, is_err};
+ghost use Rattle.vol_log.specs.Log.{view, sectors_of, room_of, has_failed, device_of};
+ghost use Rattle.vol_alloc.specs.Alloc.{first_of, end_of, taken_of, free_of};
+ghost use Rattle.vol_inode.specs.Space.{need_of};
+ghost use Rattle.vol_inode.specs.Spelling.{spelling};
+ghost use Rattle.vol_body.specs.Body.{part, named, part_bytes, NamesTaken, IsBody, bytes_of};
+ghost use Rattle.vol_body.specs.Change.{written, used_of, OthersStay, TakesAndGives};
+ghost use Rattle.vol_body.specs.Reading.{OnlyReads, OnlyStages};
+ghost use Rattle.vol_body.specs.Writing.{SameRange, WriteLeaves};
+
+use crate::lists::load_lists;
+use crate::locate::read_part;
+use crate::writing_image::Piece;
+use crate::writing_spans::write_parts;
+use vol_alloc::Alloc;
+use vol_inode::{Entry, write_entry};
+use vol_log::Log;
+use vol_sector::{Device, DeviceFault};
+
+/// Writes the bytes, at most 16,384, at the offset of the file whose entry is in the sector
+/// `place`. A gap before them reads as zeros. Of no bytes nothing changes.
+///
+/// It is refused where a device operation failed, or had failed before, and then nothing was
+/// staged. All reads come before the first sector is staged.
+pub fn write_at<D: Device>(
+    log: &mut Log<D>,
+    sectors: &mut Alloc,
+    place: u32,
+    entry: &mut Entry,
+    offset: u32,
+    bytes: &[u8],
+) -> Result<(), DeviceFault>
+    requires behind { 122 ≤ place }
+    requires slot { place < first_of sectors.old }
+    requires within { place < sectors_of log.old }
+    requires there { end_of sectors.old ≤ sectors_of log.old }
+    requires room { 37 ≤ room_of log.old }
+    requires small_before { entry.old.size ≤ 8483840 }
+    requires small { offset + length bytes.now ≤ 8483840 }
+    requires few { length bytes.now ≤ 16384 }
+    requires space { D.honest (device_of log.old)
+        → NamesTaken (taken_of sectors.old) (view log.old) entry.old
+        → IsBody (view log.old) entry.old
+        → need_of (max entry.old.size (offset + length bytes.now))
+        ≤ free_of sectors.old + used_of (view log.old) entry.old }
+    ensures bytes { D.honest (device_of log.old)
+        → NamesTaken (taken_of sectors.old) (view log.old) entry.old
+        → IsBody (view log.old) entry.old
+        → OnOk result (bytes_of (view log.new) entry.new
+        ≡ written (bytes_of (view log.old) entry.old) offset bytes.now) }
+    ensures rules { D.honest (device_of log.old)
+        → NamesTaken (taken_of sectors.old) (view log.old) entry.old
+        → IsBody (view log.old) entry.old → OnOk result (IsBody (view log.new) entry.new) }
+    ensures others { D.honest (device_of log.old)
+        → NamesTaken (taken_of sectors.old) (view log.old) entry.old
+        → IsBody (view log.old) entry.old
+        → OnOk result (OthersStay place (first_of sectors.old) (end_of sectors.old)
+        (taken_of sectors.old) (view log.old) (view log.new) entry.old) }
+    ensures taken { D.honest (device_of log.old)
+        → NamesTaken (taken_of sectors.old) (view log.old) entry.old
+        → IsBody (view log.old) entry.old
+        → OnOk result (TakesAndGives (taken_of sectors.old) (taken_of sectors.new)
+        (view log.old) (view log.new) entry.old entry.new) }
+    ensures entry { 0 < length bytes.now → OnOk result (entry.new
+        ≡ record entry.old { size = max entry.old.size (offset + length bytes.now); pointers = entry.new.pointers }) }
+    ensures staged { 0 < length bytes.now → OnOk result (view log.new place ≡ spelling entry.new) }
+    ensures nothing { length bytes.now ≡ 0 → (log.new ≡ log.old) × (sectors.new ≡ sectors.old)
+        × (entry.new ≡ entry.old) }
+    ensures range { (first_of sectors.new ≡ first_of sectors.old)
+        × (end_of sectors.new ≡ end_of sectors.old) }
+    ensures room { room_of log.old ≤ room_of log.new + 37 }
+    ensures log { OnlyStages log.old log.new }
+    ensures refused { OnErr result ((OnlyReads log.old log.new) × (entry.new ≡ entry.old)
+        × (sectors.new ≡ sectors.old)) }
+    ensures failed { has_failed log.new ≡ is_err result }
+    ensures idle { has_failed log.old ≡ true → (log.new ≡ log.old) × IsErr result }
+{
+    if log.failed() {
+        return Err(DeviceFault);
+    }
+    if bytes.is_empty() {
+        return Ok(());
+    }
+    write_some(log, sectors, place, entry, offset, bytes)
+}
+
+/// Writes some bytes.
+fn write_some<D: Device>(
+    log: &mut Log<D>,
+    sectors: &mut Alloc,
+    place: u32,
+    entry: &mut Entry,
+    offset: u32,
+    bytes: &[u8],
+) -> Result<(), DeviceFault>
+    requires behind { 122 ≤ place }
+    requires slot { place < first_of sectors.old }
+    requires within { place < sectors_of log.old }
+    requires there { end_of sectors.old ≤ sectors_of log.old }
+    requires room { 37 ≤ room_of log.old }
+    requires working { has_failed log.old ≡ false }
+    requires small_before { entry.old.size ≤ 8483840 }
+    requires small { offset + length bytes.now ≤ 8483840 }
+    requires few { length bytes.now ≤ 16384 }
+    requires some { 0 < length bytes.now }
+    ensures done { D.honest (device_of log.old)
+        → NamesTaken (taken_of sectors.old) (view log.old) entry.old
+        → IsBody (view log.old) entry.old
+        → need_of (max entry.old.size (offset + length bytes.now))
+        ≤ free_of sectors.old + used_of (view log.old) entry.old
+        → OnOk result (WriteLeaves place sectors.old sectors.new (view log.old) (view log.new)
+        entry.old entry.new offset bytes.now) }
+    ensures entry { OnOk result (entry.new
+        ≡ record entry.old { size = max entry.old.size (offset + length bytes.now); pointers = entry.new.pointers }) }
+    ensures staged { OnOk result (view log.new place ≡ spelling entry.new) }
+    ensures range { SameRange sectors.old sectors.new }
+    ensures room { room_of log.old ≤ room_of log.new + 37 }
+    ensures log { OnlyStages log.old log.new }
+    ensures refused { OnErr result ((OnlyReads log.old log.new) × (entry.new ≡ entry.old)
+        × (sectors.new ≡ sectors.old)) }
+    ensures failed { has_failed log.new ≡ is_err result }
+{
+    let end = offset + bytes.len() as u32;
+    let first = offset / 512;
+    let last = (end - 1) / 512;
+    let before = read_edge(log, sectors, entry, offset, end, first)?;
+    let behind = read_edge(log, sectors, entry, offset, end, last)?;
+    let mut all = load_lists(log, sectors, entry, first, last)?;
+    let piece = Piece {
+        offset: offset as usize,
+        bytes,
+        first: before,
+        last: behind,
+    };
+    entry.size = entry.size.max(end);
+    write_parts(log, sectors, entry, &mut all, &piece, first, last);
+    log.stage(place, &write_entry(entry));
+    Ok(())
+}
+
+/// Reads a part, unless it will be written whole.
+fn read_edge<D: Device>(
+    log: &mut Log<D>,
+    sectors: &Alloc,
+    entry: &Entry,
+    offset: u32,
+    end: u32,
+    j: u32,
+) -> Result<[u8; 512], DeviceFault>
+    requires place { j < 16570 }
+    requires there { end_of sectors.now ≤ sectors_of log.old }
+    requires working { has_failed log.old ≡ false }
+    ensures bytes { D.honest (device_of log.old)
+        → NamesTaken (taken_of sectors.now) (view log.old) entry.now
+        → (offset ≤ 512 * j → 512 * j + 512 ≤ end → ⊥)
+        → IfOk result (λ image. image
+        ≡ part_bytes (view log.old) (named (view log.old) entry.now (part j))) }
+    ensures reads { OnlyReads log.old log.new }
+    ensures failed { has_failed log.new ≡ is_err result }
+{
+    if offset <= 512 * j && 512 * j + 512 <= end {
+        return Ok([0; 512]);
+    }
+    read_part(log, sectors, entry, j)
+}

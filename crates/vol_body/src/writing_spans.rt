@@ -1,0 +1,287 @@
+//! Writing all the parts that a write touches.
+
+ghost use Rattle.std.specs.Prelude.{◌≡◌, ◌≢◌, ◌⊎◌, ◌≤◌, ◌<◌, ◌+◌, ◌-◌, ◌*◌, ℕ, true, false, length, slice_index};
+ghost use Rattle.std.specs.Prelude.{if◌then◌else◌};
+ghost use Rattle.vol_log.specs.Log.{view, sectors_of, room_of, has_failed};
+ghost use Rattle.vol_alloc.specs.Alloc.{first_of, end_of, taken_of};
+ghost use Rattle.vol_inode.specs.Space.{sectors_of as count_of};
+ghost use Rattle.vol_inode.specs.declared.entry.Entry.{Entry};
+ghost use Rattle.vol_body.specs.Body.{Place, list, lists, later_list, IsPlace, first_served};
+ghost use Rattle.vol_body.specs.Writing.{Mirrors, IsReady, Changes, Adds, IsPartIn, HasParts};
+ghost use Rattle.vol_body.specs.Writing.{OnlyPuts, SameRange, segment, placed, image_of};
+ghost use Rattle.vol_body.specs.Writing.{MirrorsAll, KnowsAll, IsPointer, PointedAt};
+
+use crate::lists::{DIRECT, LISTED, Lists, NUMBERS, PointerSector};
+use crate::writing_image::{Piece, image_of_part};
+use crate::writing_parts::{add_number, add_pointer, write_direct_part, write_listed_part};
+use vol_alloc::Alloc;
+use vol_inode::Entry;
+use vol_log::Log;
+use vol_sector::Device;
+
+/// Writes all the parts that are touched, from `first` to `last`.
+pub fn write_parts<D: Device>(
+    log: &mut Log<D>,
+    sectors: &mut Alloc,
+    entry: &mut Entry,
+    all: &mut Lists,
+    piece: &Piece<'_>,
+    first: u32,
+    last: u32,
+)
+    requires behind { 122 ≤ first_of sectors.old }
+    requires there { end_of sectors.old ≤ sectors_of log.old }
+    requires room { 37 ≤ room_of log.old }
+    requires working { has_failed log.old ≡ false }
+    requires few { last < first + 33 }
+    requires some { first ≤ last }
+    requires last { last < 16570 }
+    requires touched_first { piece.now.offset < 512 * first + 512 }
+    requires touched_last { 512 * last < piece.now.offset + length piece.now.bytes.now }
+    requires small { piece.now.offset + length piece.now.bytes.now ≤ 8483840 }
+    requires known { KnowsAll sectors.old all.old }
+    ensures written { IsReady sectors.old (view log.old) entry.old → last < count_of entry.old.size
+        → MirrorsAll (view log.old) entry.old all.old first last
+        → Changes sectors.old sectors.new (view log.old) (view log.new) entry.old entry.new
+        (λ p. IsPartIn first (last + 1) p ⊎ IsPointer p)
+        × HasParts (view log.new) entry.new first (last + 1)
+        (image_of piece.now.offset piece.now.bytes.now piece.now.first piece.now.last) }
+    ensures entry { entry.new ≡ record entry.old { pointers = entry.new.pointers } }
+    ensures room { room_of log.old ≤ room_of log.new + 36 }
+    ensures puts { OnlyPuts log.old log.new }
+    ensures range { SameRange sectors.old sectors.new }
+{
+    write_direct(log, sectors, entry, piece, first, (last + 1).min(DIRECT));
+    let group = first.saturating_sub(DIRECT) / NUMBERS;
+    let border = LISTED + NUMBERS * group;
+    write_segment(
+        log,
+        sectors,
+        entry,
+        &mut all.lists,
+        &mut all.early,
+        group,
+        piece,
+        first.max(DIRECT),
+        (last + 1).min(border),
+    );
+    write_segment(
+        log,
+        sectors,
+        entry,
+        &mut all.lists,
+        &mut all.late,
+        group + 1,
+        piece,
+        border,
+        last + 1,
+    );
+}
+
+/// Writes the parts between two that the entry itself names.
+fn write_direct<D: Device>(
+    log: &mut Log<D>,
+    sectors: &mut Alloc,
+    entry: &mut Entry,
+    piece: &Piece<'_>,
+    from: u32,
+    to: u32,
+)
+    requires direct { to ≤ 58 }
+    requires behind { 122 ≤ first_of sectors.old }
+    requires there { end_of sectors.old ≤ sectors_of log.old }
+    requires room { to - from ≤ room_of log.old }
+    requires working { has_failed log.old ≡ false }
+    requires touched_first { piece.now.offset < 512 * from + 512 }
+    requires touched_last { 512 * to < piece.now.offset + length piece.now.bytes.now + 512 }
+    requires small { piece.now.offset + length piece.now.bytes.now ≤ 8483840 }
+    ensures written { IsReady sectors.old (view log.old) entry.old → to ≤ count_of entry.old.size
+        → Changes sectors.old sectors.new (view log.old) (view log.new) entry.old entry.new
+        (IsPartIn from to)
+        × HasParts (view log.new) entry.new from to
+        (image_of piece.now.offset piece.now.bytes.now piece.now.first piece.now.last) }
+    ensures keeps { (n : ℕ) → taken_of sectors.old n ≡ true → taken_of sectors.new n ≡ true }
+    ensures entry { entry.new ≡ record entry.old { pointers = entry.new.pointers } }
+    ensures room { room_of log.old ≤ room_of log.new + (to - from) }
+    ensures puts { OnlyPuts log.old log.new }
+    ensures range { SameRange sectors.old sectors.new }
+{
+    for j in from..to {
+        let image = image_of_part(piece, j);
+        write_direct_part(log, sectors, entry, j, &image);
+    }
+}
+
+/// Writes parts between two that the pointer sector of the group lists.
+fn write_segment<D: Device>(
+    log: &mut Log<D>,
+    sectors: &mut Alloc,
+    entry: &mut Entry,
+    all: &mut PointerSector,
+    above: &mut PointerSector,
+    group: u32,
+    piece: &Piece<'_>,
+    from: u32,
+    to: u32,
+)
+    requires behind { 122 ≤ first_of sectors.old }
+    requires there { end_of sectors.old ≤ sectors_of log.old }
+    requires room { to - from + 3 ≤ room_of log.old + placed log.old all.old.number }
+    requires working { has_failed log.old ≡ false }
+    requires starts { 58 + 128 * group ≤ from }
+    requires ends { to ≤ 186 + 128 * group }
+    requires last { to ≤ 16570 }
+    requires touched_first { piece.now.offset < 512 * from + 512 }
+    requires touched_last { 512 * to < piece.now.offset + length piece.now.bytes.now + 512 }
+    requires small { piece.now.offset + length piece.now.bytes.now ≤ 8483840 }
+    requires known { above.old.number ≢ 0 → taken_of sectors.old above.old.number ≡ true }
+    requires known_all { all.old.number ≢ 0 → taken_of sectors.old all.old.number ≡ true }
+    ensures written { IsReady sectors.old (view log.old) entry.old → to ≤ count_of entry.old.size
+        → (from < to → Mirrors (view log.old) entry.old (segment group) above.old.number above.old.image)
+        → (186 < to → Mirrors (view log.old) entry.old lists all.old.number all.old.image)
+        → Changes sectors.old sectors.new (view log.old) (view log.new) entry.old entry.new
+        (λ p. IsPartIn from to p ⊎ ((p ≡ segment group) ⊎ (p ≡ lists)))
+        × HasParts (view log.new) entry.new from to
+        (image_of piece.now.offset piece.now.bytes.now piece.now.first piece.now.last)
+        × (Mirrors (view log.old) entry.old lists all.old.number all.old.image
+        → Mirrors (view log.new) entry.new lists all.new.number all.new.image) }
+    ensures keeps { (n : ℕ) → taken_of sectors.old n ≡ true → taken_of sectors.new n ≡ true }
+    ensures known_all { all.new.number ≢ 0 → taken_of sectors.new all.new.number ≡ true }
+    ensures entry { entry.new ≡ record entry.old { pointers = entry.new.pointers } }
+    ensures room { room_of log.old + placed log.old all.old.number
+        ≤ room_of log.new + placed log.new all.new.number + (to - from) + 1 }
+    ensures puts { OnlyPuts log.old log.new }
+    ensures range { SameRange sectors.old sectors.new }
+{
+    if to <= from {
+        return;
+    }
+    open_segment(log, sectors, entry, all, above, group);
+    if above.number != 0 {
+        write_listed(
+            log,
+            sectors,
+            above,
+            DIRECT + NUMBERS * group,
+            piece,
+            from,
+            to,
+        );
+    }
+}
+
+/// Writes parts between two that one pointer sector lists, which has the number of part `start`
+/// first.
+fn write_listed<D: Device>(
+    log: &mut Log<D>,
+    sectors: &mut Alloc,
+    above: &mut PointerSector,
+    start: u32,
+    piece: &Piece<'_>,
+    from: u32,
+    to: u32,
+)
+    requires behind { 122 ≤ first_of sectors.old }
+    requires there { end_of sectors.old ≤ sectors_of log.old }
+    requires known { taken_of sectors.old above.old.number ≡ true }
+    requires room { to - from + 2 ≤ room_of log.old + placed log.old above.old.number }
+    requires working { has_failed log.old ≡ false }
+    requires starts { start ≤ from }
+    requires ends { to ≤ start + 128 }
+    requires last { to ≤ 16570 }
+    requires touched_first { piece.now.offset < 512 * from + 512 }
+    requires touched_last { 512 * to < piece.now.offset + length piece.now.bytes.now + 512 }
+    requires small { piece.now.offset + length piece.now.bytes.now ≤ 8483840 }
+    ensures written { (e : Entry) (g : ℕ) → start ≡ 58 + 128 * g → to ≤ count_of e.size
+        → IsReady sectors.old (view log.old) e
+        → Mirrors (view log.old) e (segment g) above.old.number above.old.image
+        → Changes sectors.old sectors.new (view log.old) (view log.new) e e
+        (λ p. IsPartIn from to p ⊎ (p ≡ segment g))
+        × HasParts (view log.new) e from to
+        (image_of piece.now.offset piece.now.bytes.now piece.now.first piece.now.last) }
+    ensures keeps { (n : ℕ) → taken_of sectors.old n ≡ true → taken_of sectors.new n ≡ true }
+    ensures room { room_of log.old + placed log.old above.old.number
+        ≤ room_of log.new + placed log.new above.old.number + (to - from) }
+    ensures puts { OnlyPuts log.old log.new }
+    ensures range { SameRange sectors.old sectors.new }
+{
+    for j in from..to {
+        let image = image_of_part(piece, j);
+        write_listed_part(log, sectors, above, j - start, &image);
+    }
+}
+
+/// Makes the pointer sector of a group, and the one that lists it, where there is none.
+fn open_segment<D: Device>(
+    log: &mut Log<D>,
+    sectors: &mut Alloc,
+    entry: &mut Entry,
+    all: &mut PointerSector,
+    above: &mut PointerSector,
+    group: u32,
+)
+    requires place { group < 129 }
+    requires behind { 122 ≤ first_of sectors.old }
+    requires there { end_of sectors.old ≤ sectors_of log.old }
+    requires room { 3 ≤ room_of log.old + placed log.old all.old.number }
+    requires working { has_failed log.old ≡ false }
+    requires known { above.old.number ≢ 0 → taken_of sectors.old above.old.number ≡ true }
+    requires known_all { all.old.number ≢ 0 → taken_of sectors.old all.old.number ≡ true }
+    ensures opened { IsReady sectors.old (view log.old) entry.old
+        → 58 + 128 * group < count_of entry.old.size
+        → Mirrors (view log.old) entry.old (segment group) above.old.number above.old.image
+        → (1 ≤ group → Mirrors (view log.old) entry.old lists all.old.number all.old.image)
+        → Adds sectors.old sectors.new (view log.old) (view log.new) entry.old entry.new
+        (λ p. (p ≡ segment group) ⊎ (p ≡ lists)) (segment group) above.new.number above.new.image
+        × (Mirrors (view log.old) entry.old lists all.old.number all.old.image
+        → Mirrors (view log.new) entry.new lists all.new.number all.new.image) }
+    ensures known { above.new.number ≢ 0 → taken_of sectors.new above.new.number ≡ true }
+    ensures known_all { all.new.number ≢ 0 → taken_of sectors.new all.new.number ≡ true }
+    ensures keeps { (n : ℕ) → taken_of sectors.old n ≡ true → taken_of sectors.new n ≡ true }
+    ensures entry { entry.new ≡ record entry.old { pointers = entry.new.pointers } }
+    ensures room { room_of log.old + placed log.old all.old.number + placed log.old above.old.number
+        ≤ room_of log.new + placed log.new all.new.number + placed log.new above.new.number }
+    ensures puts { OnlyPuts log.old log.new }
+    ensures range { SameRange sectors.old sectors.new }
+{
+    if group == 0 {
+        open_pointer(log, sectors, entry, 58, above);
+        return;
+    }
+    open_pointer(log, sectors, entry, 59, all);
+    if above.number == 0 && all.number != 0 {
+        above.number = add_number(log, sectors, all, group - 1, &[0; 512]);
+    }
+}
+
+/// Makes the pointer sector that pointer 58 or 59 of the entry names, where there is none.
+fn open_pointer<D: Device>(
+    log: &mut Log<D>,
+    sectors: &mut Alloc,
+    entry: &mut Entry,
+    slot: u32,
+    above: &mut PointerSector,
+)
+    requires pointer { slot < 60 }
+    requires behind { 122 ≤ first_of sectors.old }
+    requires there { end_of sectors.old ≤ sectors_of log.old }
+    requires room { 0 < room_of log.old }
+    requires working { has_failed log.old ≡ false }
+    requires known { above.old.number ≢ 0 → taken_of sectors.old above.old.number ≡ true }
+    ensures opened { (p : Place) → PointedAt slot p → 58 ≤ slot
+        → IsReady sectors.old (view log.old) entry.old → first_served p < count_of entry.old.size
+        → Mirrors (view log.old) entry.old p above.old.number above.old.image
+        → Adds sectors.old sectors.new (view log.old) (view log.new) entry.old entry.new
+        (λ q. q ≡ p) p above.new.number above.new.image }
+    ensures known { above.new.number ≢ 0 → taken_of sectors.new above.new.number ≡ true }
+    ensures keeps { (n : ℕ) → taken_of sectors.old n ≡ true → taken_of sectors.new n ≡ true }
+    ensures entry { entry.new ≡ record entry.old { pointers = entry.new.pointers } }
+    ensures room { room_of log.old + placed log.old above.old.number
+        ≤ room_of log.new + placed log.new above.new.number }
+    ensures puts { OnlyPuts log.old log.new }
+    ensures range { SameRange sectors.old sectors.new }
+{
+    if above.number == 0 {
+        above.number = add_pointer(log, sectors, entry, slot, &[0; 512]);
+    }
+}
