@@ -1,6 +1,6 @@
 -- How what stays of a log goes on from read to read.
-use Rattle.std.proofs.Common.{◌≡◌, ◌⊎◌, inl, inr, ⊎_elim, Bool, false, ℕ, sym, ◌∙◌, ap, subst, arith}
-use Rattle.vol_sector.specs.Disk.{Image, Disk, Leaves, counted}
+use Rattle.std.proofs.Common.{◌≡◌, inl, inr, ⊎_elim, Bool, false, sym, ◌∙◌, ap, arith}
+use Rattle.vol_sector.specs.Disk.{Disk, Leaves, counted}
 use Rattle.vol_sector.specs.declared.device.Device.{Ghosts}
 use Rattle.vol_log.specs.Log.{view, staged_of, device_of, sectors_of, has_failed}
 use Rattle.vol_log.specs.declared.log.Log.{Log}

@@ -1,5 +1,5 @@
 -- What stays of a log that is only read.
-use Rattle.std.specs.Prelude.{◌≡◌, ◌↔◌, ◌⊎◌, ◌≤◌, ◌<◌, ◌+◌, ◌-◌, ℕ, Bool, false, List, length, min, slice_index}
+use Rattle.std.specs.Prelude.{◌≡◌, ◌↔◌, false}
 use Rattle.vol_sector.specs.Disk.{Leaves, counted}
 use Rattle.vol_sector.specs.declared.device.Device.{Ghosts}
 use Rattle.vol_log.specs.Log.{view, staged_of, device_of, sectors_of, has_failed}

@@ -9,21 +9,12 @@ ghost use Rattle.vol_body.specs.Body.{NamesTaken, lists, part_bytes};
 ghost use Rattle.vol_body.specs.Reading.{OnlyReads};
 ghost use Rattle.vol_body.specs.Writing.{Mirrors, MirrorsAll, KnowsAll, segment};
 
-use crate::locate::{known, number_at};
+use crate::locate::{DIRECT, LISTED, NUMBERS, known, number_at};
 use byteorder::{ByteOrder, LittleEndian};
 use vol_alloc::Alloc;
 use vol_inode::Entry;
 use vol_log::Log;
 use vol_sector::{Device, DeviceFault};
-
-/// How many parts of a file the entry itself names.
-pub const DIRECT: u32 = 58;
-
-/// How many parts are named by the entry and by the list of pointer 58.
-pub const LISTED: u32 = 186;
-
-/// How many numbers a pointer sector has.
-pub const NUMBERS: u32 = 128;
 
 /// A pointer sector: its number, and its bytes. Where the file has none the number is 0, and the
 /// bytes are zeros.

@@ -14,14 +14,14 @@ use vol_inode::Entry;
 use vol_log::Log;
 use vol_sector::{Device, DeviceFault};
 
-// How many parts of a file the entry itself names.
-const DIRECT: u32 = 58;
+/// How many parts of a file the entry itself names.
+pub const DIRECT: u32 = 58;
 
-// How many parts are named by the entry and by the list of pointer 58.
-const LISTED: u32 = 186;
+/// How many parts are named by the entry and by the list of pointer 58.
+pub const LISTED: u32 = 186;
 
-// How many numbers a pointer sector has.
-const NUMBERS: u32 = 128;
+/// How many numbers a pointer sector has.
+pub const NUMBERS: u32 = 128;
 
 /// The number, if it is that of a taken sector, else 0. A device that isn't honest may give any.
 pub fn known(sectors: &Alloc, n: u32) -> u32

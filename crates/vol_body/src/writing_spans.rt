@@ -11,7 +11,8 @@ ghost use Rattle.vol_body.specs.Writing.{Mirrors, IsReady, Changes, Adds, IsPart
 ghost use Rattle.vol_body.specs.Writing.{OnlyPuts, SameRange, segment, placed, image_of};
 ghost use Rattle.vol_body.specs.Writing.{MirrorsAll, KnowsAll, IsPointer, PointedAt};
 
-use crate::lists::{DIRECT, LISTED, Lists, NUMBERS, PointerSector};
+use crate::lists::{Lists, PointerSector};
+use crate::locate::{DIRECT, LISTED, NUMBERS};
 use crate::writing_image::{Piece, image_of_part};
 use crate::writing_parts::{add_number, add_pointer, write_direct_part, write_listed_part};
 use vol_alloc::Alloc;

@@ -1,7 +1,7 @@
-use Rattle.std.proofs.Common.{◌≡◌, ◌∙◌, ◌+◌, ◌-◌, ◌/◌, ◌%◌, ◌≤◌, ◌<◌, ℕ, List, length, take, drop, min, sym, ap, subst, arith, rules}
+use Rattle.std.proofs.Common.{◌≡◌, ◌∙◌, ◌+◌, ◌/◌, ◌%◌, ◌≤◌, take, drop, sym, ap, subst, arith, rules}
 use Rattle.std.proofs.lemmas.List.{drop-drop, length-drop}
 use Rattle.vol_sector.specs.Disk.{Image}
-use Rattle.vol_log.specs.Log.{view, device_of}
+use Rattle.vol_log.specs.Log.{view}
 use Rattle.vol_alloc.specs.Alloc.{taken_of}
 use Rattle.vol_body.specs.Body.{part, named, part_bytes, bytes_of, NamesTaken}
 use Rattle.vol_body.proofs.Readings.{reads_then}
