@@ -157,6 +157,7 @@ fn read_edge<D: Device>(
         → (offset ≤ 512 * j → 512 * j + 512 ≤ end → ⊥)
         → IfOk result (λ image. image
         ≡ part_bytes (view log.old) (named (view log.old) entry.now (part j))) }
+    ensures whole { offset ≤ 512 * j → 512 * j + 512 ≤ end → log.new ≡ log.old }
     ensures reads { OnlyReads log.old log.new }
     ensures failed { has_failed log.new ≡ is_err result }
 {
