@@ -40,7 +40,7 @@ impl<'a> Model for Machine<'a> {
 
 impl<'a> Machine<'a> {
     /// Instantiates the module (section 4.5.4) over the calls that the host links, with at most so many pages of memory.
-    /// A refusal hands the module back. First of all a module is refused with fault 12 that isn't run so far.
+    /// A refusal hands the module back. Last of all a module is refused with fault 12 that isn't run so far.
     pub fn new<H: Host>(
         alloc: Global,
         valid: Valid<'a>,
