@@ -29,7 +29,7 @@ failures_of m = m.failures
 abbrev pub tried_of : MemoryDevice → List Bool
 tried_of m = m.tried.operations
 
--- what its record allows, where each operation tried counts
+-- what its record allows, where each operation tried counts: a crash now may leave what is `LeftBy` the record
 abbrev pub disk_of : MemoryDevice → Disk
 disk_of m = counting (tried_of m) (recorded (first_of m) (record_of m))
 
