@@ -1,7 +1,7 @@
 //! The batch: what is staged, as a list in staging order, and the index that finds it.
 
 ghost use Rattle.std.specs.Prelude.{◌≡◌, ◌≢◌, ◌≤◌, ◌<◌, ◌+◌, ◌==◌, List, [], ℕ, length, IfOk, MatchOption};
-ghost use Rattle.std.specs.Prelude.{vec_len, vec_capacity, true, if◌then◌else◌};
+ghost use Rattle.std.specs.Prelude.{vec_len, vec_capacity, true, if◌then◌else◌, is_some};
 ghost use Rattle.vol_sector.specs.Disk.{Image, put};
 ghost use Rattle.vol_log.specs.Header.{Places};
 ghost use Rattle.vol_log.specs.Batch.{numbers, over, holds};
@@ -26,8 +26,9 @@ pub fn reserve(alloc: Global) -> Result<(Vec<Staged>, Vec<(u32, usize)>), AllocE
 /// What is staged for the sector, if anything is.
 pub fn staged_image(batch: &[Staged], index: &[(u32, usize)], n: u32) -> Option<[u8; 512]>
     requires { IsIndex (numbers batch.now) index.now }
-    ensures { (m : Image) → MatchOption result (over batch.now m n ≡ m n)
+    ensures image { (m : Image) → MatchOption result (over batch.now m n ≡ m n)
         (λ bytes. over batch.now m n ≡ bytes) }
+    ensures staged { is_some result ≡ holds batch.now n }
 {
     match search(index, n) {
         Ok(at) => {

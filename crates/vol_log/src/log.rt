@@ -5,7 +5,7 @@ ghost use Rattle.std.specs.Prelude.{List, [], Bool, false, true};
 ghost use Rattle.std.specs.Prelude.{length, OnOk, OnErr, IfOk, IfErr, IsOk, IsErr, is_err};
 ghost use Rattle.std.specs.Prelude.{if◌then◌else◌};
 ghost use Rattle.std.specs.Prelude.{vec_len, vec_capacity};
-ghost use Rattle.vol_sector.specs.Disk.{Image, Leaves, put, counted, OneMoreOrSame};
+ghost use Rattle.vol_sector.specs.Disk.{Image, Leaves, put, counted, OneMore};
 ghost use Rattle.vol_sector.specs.Fault.{is_device};
 ghost use Rattle.vol_log.specs.Header.{Places};
 ghost use Rattle.vol_log.specs.Index.{IsIndex};
@@ -119,8 +119,8 @@ impl<D: Device> Log<D> {
         self.failed
     }
 
-    /// The sector with what is staged for it. Where the log has failed, it answers that and does
-    /// no device operation.
+    /// The sector with what is staged for it. Where the log has failed, it answers that. It does
+    /// one device operation, or none where the log has failed or the sector is staged.
     pub fn read(&mut self, n: u32) -> Result<[u8; 512], DeviceFault>
         requires { n < sectors_of self.old }
         ensures value { D.honest (device_of self.old)
@@ -128,8 +128,11 @@ impl<D: Device> Log<D> {
         ensures view { D.honest (device_of self.old) → view self.new ≡ view self.old }
         ensures crash { D.honest (device_of self.old)
             → Leaves (D.disk (device_of self.old)) (D.disk (device_of self.new)) (λ c. ⊥) }
-        ensures moment { D.honest (device_of self.old)
-            → OneMoreOrSame (D.disk (device_of self.old)) (D.disk (device_of self.new)) }
+        ensures one_operation { D.honest (device_of self.old) → has_failed self.old ≡ false
+            → is_staged self.old n ≡ false
+            → OneMore (D.disk (device_of self.old)) (D.disk (device_of self.new)) }
+        ensures no_operation { (has_failed self.old ≡ true) ⊎ (is_staged self.old n ≡ true)
+            → device_of self.new ≡ device_of self.old }
         ensures failed { has_failed self.new ≡ is_err result }
         ensures idle { has_failed self.old ≡ true
             → (device_of self.new ≡ device_of self.old) × IsErr result }

@@ -1,2 +1,4 @@
+pub mod Counting
 pub mod Crash
 pub mod Records
+pub mod Walks

@@ -3,7 +3,7 @@ use Rattle.std.proofs.Common.{◌≡◌, ◌≢◌, ◌⊎◌, inl, inr, ⊎_eli
 use Rattle.std.proofs.lemmas.Bool.{cases_eq}
 use Rattle.std.proofs.lemmas.Bool.Decides.{nat_tests}
 use Rattle.std.proofs.lemmas.List.{take_all, take-append-le, length_push, get_or-set_same, get_or-set_other, get_or-replicate}
-use Rattle.vol_sector.specs.Disk.{Image, Disk, put, Wrote, After, Leaves, Keeps, Only}
+use Rattle.vol_sector.specs.Disk.{Image, put, Wrote, After, Leaves, Keeps, Only}
 use Rattle.vol_sector.specs.Record.{newest, choices, Among, LeftBy, LeftSince, recorded}
 use Rattle.vol_sector.specs.RecordLaws.{image_of, stays_left}
 use Rattle.vol_sector.specs.Memory.{IsUnused}
@@ -111,9 +111,6 @@ leaves_sync first ops = record {
   now = λ c left. inl (left_sync first ops c left);
 }
 
-pub leaves_same : (d : Disk) (P : Image → Type 0) → Leaves d d P
-leaves_same d P = record { later = omega arith; since = λ t c le left. inl left; now = λ c may. inl may }
-
 -- the sectors in memory stay those that the record gives
 pub agrees_write : (first now : List (List ℕ)) (ops : List Operation) (m : ℕ) (image : List ℕ) → m < length now → ((n : ℕ) → image_of now n ≡ newest n (image_of first n) ops) → (n : ℕ) → image_of (set now m image) n ≡ newest n (image_of first n) (ops ++ Write m image ∷ [])
 agrees_write first now ops m image lt agree n = elim (cases_eq n m) [
@@ -141,6 +138,7 @@ unused_zeros m long sectors room items zeros same are unused = record {
   sectors_is = unused.sectors_is ∙ same;
   room_is = unused.room_is;
   record_is = unused.record_is;
+  tried_is = unused.tried_is;
   failures_is = unused.failures_is;
   image_is = λ n lt. unused.image_is n (omega (arith, lt, same)) ∙ ap (λ (l : List (List ℕ)). get_or l n []) are ∙ get_or-replicate sectors n zeros [] lt;
 }

@@ -1,5 +1,5 @@
 -- What a disk of sectors may give and leave.
-use Rattle.std.specs.Prelude.{◌≡◌, ◌↔◌, ◌⊎◌, ◌+◌, ◌-◌, ◌^◌, ◌≤◌, ◌==◌, ℕ, List, Bool, min, if◌then◌else◌}
+use Rattle.std.specs.Prelude.{◌≡◌, ◌⊎◌, ◌+◌, ◌-◌, ◌^◌, ◌≤◌, ◌==◌, ℕ, List, Bool, min, if◌then◌else◌}
 
 -- the bytes of each sector
 abbrev pub Image : Type 0
@@ -9,14 +9,13 @@ Image = ℕ → List ℕ
 abbrev pub put : ℕ → List ℕ → Image → Image
 put n bytes image k = if k == n then bytes else image k
 
--- What is known of a disk at one moment. A moment is a count of the operations tried. Of those that leave the disk as it is,
--- reads and failed operations among them, it may count none: no device has a count of them without an end.
+-- What is known of a disk at one moment. A moment is the count of operations tried, failed ones among them.
 pub record Disk : Type 1 where
   -- what reads give
   pub seen : Image
   -- what a crash now may leave
   pub may_leave : Image → Type 0
-  -- the moment, as a number that doesn't fall
+  -- how many operations were tried
   pub moment : ℕ
   -- what a crash at some moment from that one on may have left
   pub left_since : ℕ → Image → Type 0
@@ -47,20 +46,13 @@ pub record Leaves (old new : Disk) (P : Image → Type 0) : Type 0 where
 abbrev pub Keeps : Disk → Disk → Type 0
 Keeps old new = (t : ℕ) (c : Image) → t ≤ old.moment → old.left_since t c → new.left_since t c
 
--- one operation counted as one moment
+-- one operation was tried
 abbrev pub OneMore : Disk → Disk → Type 0
 OneMore old new = new.moment ≡ old.moment + 1
 
--- the disk is as it was
-pub record IsAsBefore (old new : Disk) : Type 0 where
-  pub seen : new.seen ≡ old.seen
-  pub moment : new.moment ≡ old.moment
-  pub now : (c : Image) → new.may_leave c ↔ old.may_leave c
-  pub since : (t : ℕ) (c : Image) → new.left_since t c ↔ old.left_since t c
-
--- an operation counted as one moment, or left the disk as it was
-abbrev pub OneMoreOrSame : Disk → Disk → Type 0
-OneMoreOrSame old new = OneMore old new ⊎ IsAsBefore old new
+-- one operation was tried, and a crash may leave what has P, too
+abbrev pub OneOperation : Disk → Disk → (Image → Type 0) → Type 0
+OneOperation old new P = Leaves old new P × Keeps old new × OneMore old new
 
 -- the count of failed operations after one more, where it has room for it
 abbrev pub counted : Bool → ℕ → ℕ

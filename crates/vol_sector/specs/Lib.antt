@@ -1,3 +1,6 @@
+pub mod Breakable
+pub mod Counting
+pub mod CountingLaws
 pub mod Crash
 pub mod Disk
 pub mod Fault

@@ -1,6 +1,7 @@
 -- What a caller sees of a device in memory.
-use Rattle.std.specs.Prelude.{◌≡◌, ◌<◌, ℕ, List, [], vec_len}
+use Rattle.std.specs.Prelude.{◌≡◌, ◌<◌, ℕ, List, [], Bool, vec_len}
 use Rattle.vol_sector.specs.Disk.{Image, Disk}
+use Rattle.vol_sector.specs.Counting.{counting}
 use Rattle.vol_sector.specs.Record.{recorded}
 use Rattle.vol_sector.specs.RecordLaws.{image_of}
 use Rattle.vol_sector.specs.declared.memory.MemoryDevice.{MemoryDevice}
@@ -24,14 +25,27 @@ sectors_of m = vec_len m.current
 abbrev pub failures_of : MemoryDevice → ℕ
 failures_of m = m.failures
 
--- what its record allows
+-- the operations tried, the newest first: was each recorded?
+abbrev pub tried_of : MemoryDevice → List Bool
+tried_of m = m.tried.operations
+
+-- what its record allows, where each operation tried counts: a crash now may leave what is `LeftBy` the record
 abbrev pub disk_of : MemoryDevice → Disk
-disk_of m = recorded (first_of m) (record_of m)
+disk_of m = counting (tried_of m) (recorded (first_of m) (record_of m))
 
 -- a device of so many sectors with this image, on which nothing was done
 pub record IsUnused (m : MemoryDevice) (sectors room : ℕ) (image : Image) : Type 0 where
   pub sectors_is : sectors_of m ≡ sectors
   pub room_is : room_of m ≡ room
   pub record_is : record_of m ≡ []
+  pub tried_is : tried_of m ≡ []
   pub failures_is : failures_of m ≡ 0
   pub image_is : (n : ℕ) → n < sectors → first_of m n ≡ image n
+
+-- all as before, but for the count of operations tried
+pub record IsUnchanged (old new : MemoryDevice) : Type 0 where
+  pub first_is : first_of new ≡ first_of old
+  pub record_is : record_of new ≡ record_of old
+  pub room_is : room_of new ≡ room_of old
+  pub sectors_is : sectors_of new ≡ sectors_of old
+  pub failures_is : failures_of new ≡ failures_of old

@@ -2,7 +2,7 @@
 
 ghost use Rattle.std.specs.Prelude.{◌≡◌, ◌⊎◌, ◌≤◌, ◌<◌, ◌↔◌, List, ℕ, IfOk, OnOk, OnErr, is_err};
 ghost use Rattle.vol_sector.specs.Disk.{Image, Disk, put, After, Stays, Wrote, Only, Leaves, Keeps};
-ghost use Rattle.vol_sector.specs.Disk.{counted, OneMoreOrSame, OneMore};
+ghost use Rattle.vol_sector.specs.Disk.{counted, OneMore};
 
 use thiserror::Error;
 
@@ -15,8 +15,9 @@ pub struct DeviceFault;
 ///
 /// A crash leaves each sector, apart from the others, at its value of the last successful sync or
 /// at any value whose write was tried since, failed writes among them. A failed sync settles
-/// nothing. What is said of contents holds of an honest device alone. Each failed operation raises
-/// the count of failures by one and nothing else does; at its last value the count stays.
+/// nothing. What is said of contents and moments holds of an honest device alone. Each read, write
+/// and sync raises the moment by one, failed ones among them. Each failed operation raises the count
+/// of failures by one and nothing else does; at its last value the count stays.
 pub trait Device {
     /// What is known of the disk.
     ghost disk: { Self → Disk };
@@ -45,7 +46,7 @@ pub trait Device {
         ensures seen { honest self.old → (disk self.new).seen ≡ (disk self.old).seen }
         ensures crash { honest self.old → Leaves (disk self.old) (disk self.new) (λ c. ⊥) }
         ensures keeps { honest self.old → Keeps (disk self.old) (disk self.new) }
-        ensures moment { honest self.old → OneMoreOrSame (disk self.old) (disk self.new) }
+        ensures moment { honest self.old → OneMore (disk self.old) (disk self.new) }
         ensures honest { honest self.old ↔ honest self.new }
         ensures size { size self.new ≡ size self.old }
         ensures faults { faults self.new ≡ counted (is_err result) (faults self.old) };
@@ -61,8 +62,7 @@ pub trait Device {
         ensures crash { honest self.old → Leaves (disk self.old) (disk self.new)
             (After (Wrote n image.now) (disk self.old).may_leave) }
         ensures keeps { honest self.old → Keeps (disk self.old) (disk self.new) }
-        ensures moment { honest self.old → OneMoreOrSame (disk self.old) (disk self.new) }
-        ensures rises { honest self.old → OnOk result (OneMore (disk self.old) (disk self.new)) }
+        ensures moment { honest self.old → OneMore (disk self.old) (disk self.new) }
         ensures honest { honest self.old ↔ honest self.new }
         ensures size { size self.new ≡ size self.old }
         ensures faults { faults self.new ≡ counted (is_err result) (faults self.old) };
@@ -74,8 +74,7 @@ pub trait Device {
         ensures seen { honest self.old → (disk self.new).seen ≡ (disk self.old).seen }
         ensures crash { honest self.old → Leaves (disk self.old) (disk self.new) (λ c. ⊥) }
         ensures keeps { honest self.old → Keeps (disk self.old) (disk self.new) }
-        ensures moment { honest self.old → OneMoreOrSame (disk self.old) (disk self.new) }
-        ensures rises { honest self.old → OnOk result (OneMore (disk self.old) (disk self.new)) }
+        ensures moment { honest self.old → OneMore (disk self.old) (disk self.new) }
         ensures honest { honest self.old ↔ honest self.new }
         ensures size { size self.new ≡ size self.old }
         ensures faults { faults self.new ≡ counted (is_err result) (faults self.old) };

@@ -1,31 +1,32 @@
 //! A device that fails at one chosen operation.
 
 ghost use Rattle.std.specs.Prelude.{◌≡◌, ◌+◌, ◌-◌, ◌^◌, ◌<◌, ◌==◌, ◌↔◌, ℕ, min, IsTrue, not};
-ghost use Rattle.vol_sector.specs.Disk.{counted};
+ghost use Rattle.vol_sector.specs.Counting.{counting};
+ghost use Rattle.vol_sector.specs.CountingLaws.{counting_now, only_counting};
 
+use crate::breakable::Breakable;
 use crate::{Device, DeviceFault};
 
 /// Fails one operation (a read, write or sync) without effect, and passes all others to its device.
 #[derive(Drop)]
 pub struct FlakyDevice<D> {
-    device: D,
+    inner: Breakable<D>,
     until: u64,
-    failures: u64,
 }
 
 impl<D: Device> FlakyDevice<D> {
-    ghost use Rattle.vol_sector.specs.Flaky.{device_of, until_of, failures_of};
+    ghost use Rattle.vol_sector.specs.Flaky.{device_of, until_of, failures_of, disk_of};
 
     /// The device, whose operation with this number, counted from 1, will fail. At 0 none will.
     pub fn new(device: D, operation: u64) -> Self
         ensures device { device_of result ≡ device }
         ensures until { until_of result ≡ operation }
         ensures failures { failures_of result ≡ 0 }
+        ensures moment { (disk_of D.disk result).moment ≡ 0 }
     {
         FlakyDevice {
-            device,
+            inner: Breakable::new(device),
             until: operation,
-            failures: 0,
         }
     }
 
@@ -33,71 +34,64 @@ impl<D: Device> FlakyDevice<D> {
     pub fn into_inner(self) -> D
         ensures { result ≡ device_of self }
     {
-        let FlakyDevice {
-            device,
-            until: _,
-            failures: _,
-        } = self;
-        device
+        let FlakyDevice { inner, until: _ } = self;
+        inner.into_inner()
     }
+}
 
-    /// Counts one operation, which fails where it is the chosen one.
-    fn passes(&mut self) -> bool
-        ensures passes { result ≡ not (until_of self.old == 1) }
-        ensures until { until_of self.new ≡ until_of self.old - 1 }
-        ensures device { device_of self.new ≡ device_of self.old }
-        ensures failures { failures_of self.new
-            ≡ counted (until_of self.old == 1) (failures_of self.old) }
-    {
-        let chosen = self.until == 1;
-        self.until = self.until.saturating_sub(1);
-        if chosen {
-            self.failures = self.failures.saturating_add(1);
-        }
-        !chosen
-    }
+/// Counts one operation, which fails where it is the chosen one.
+fn passes(until: &mut u64) -> bool
+    ensures passes { result ≡ not (until.old == 1) }
+    ensures until { until.new ≡ until.old - 1 }
+{
+    let chosen = *until == 1;
+    *until = until.saturating_sub(1);
+    !chosen
 }
 
 impl<D: Device> Device for FlakyDevice<D> {
     ghost use Rattle.std.specs.Prelude.{◌≢◌, ◌≤◌, List, IfOk, OnOk, IsErr, is_err};
     ghost use Rattle.vol_sector.specs.Disk.{Image, put, After, Wrote, Only, Leaves, Keeps};
-    ghost use Rattle.vol_sector.specs.Disk.{OneMoreOrSame, OneMore, both_counts};
-    ghost use Rattle.vol_sector.specs.Flaky.{device_of, until_of, failures_of};
+    ghost use Rattle.vol_sector.specs.Disk.{OneMore, OneOperation, both_counts, counted};
+    ghost use Rattle.vol_sector.specs.Flaky.{device_of, until_of, failures_of, disk_of};
 
-    ghost disk = { λ f. D.disk f.device };
+    ghost disk = { λ f. counting f.inner.tried.operations (D.disk f.inner.device) };
 
-    ghost honest = { λ f. D.honest f.device };
+    ghost honest = { λ f. D.honest f.inner.device };
 
-    ghost size = { λ f. D.size f.device };
+    ghost size = { λ f. D.size f.inner.device };
 
-    ghost faults = { λ f. both_counts (D.faults f.device) f.failures };
+    ghost faults = { λ f. both_counts (D.faults f.inner.device) f.inner.failures };
 
-    ghost counts_now = { λ f t c h le may. D.counts_now f.device t c h le may };
+    ghost counts_now = { λ f t c h le may. counting_now f.inner.tried.operations
+        (D.disk f.inner.device) (λ s x past left. D.counts_now f.inner.device s x h past left)
+        t c le may };
 
-    ghost only_now = { λ f c h left. D.only_now f.device c h left };
+    ghost only_now = { λ f c h left. only_counting f.inner.tried.operations
+        (D.disk f.inner.device) (λ x last. D.only_now f.inner.device x h last) c left };
 
-    ghost may_stay = { λ f h. D.may_stay f.device h };
+    ghost may_stay = { λ f h. D.may_stay f.inner.device h };
 
     fn sectors(&self) -> u32 {
-        self.device.sectors()
+        self.inner.sectors()
     }
 
     fn failures(&self) -> u64 {
-        self.device.failures().saturating_add(self.failures)
+        self.inner.failures()
     }
 
     fn read(&mut self, n: u32) -> Result<[u8; 512], DeviceFault>
         requires { n < D.size (device_of self.old) }
         ensures bytes { D.honest (device_of self.old)
-            → IfOk result (λ bytes. bytes ≡ (D.disk (device_of self.old)).seen n) }
+            → IfOk result (λ bytes. bytes ≡ (disk_of D.disk self.old).seen n) }
         ensures seen { D.honest (device_of self.old)
-            → (D.disk (device_of self.new)).seen ≡ (D.disk (device_of self.old)).seen }
+            → (disk_of D.disk self.new).seen ≡ (disk_of D.disk self.old).seen }
         ensures crash { D.honest (device_of self.old)
-            → Leaves (D.disk (device_of self.old)) (D.disk (device_of self.new)) (λ c. ⊥) }
+            → Leaves (disk_of D.disk self.old) (disk_of D.disk self.new) (λ c. ⊥) }
         ensures keeps { D.honest (device_of self.old)
-            → Keeps (D.disk (device_of self.old)) (D.disk (device_of self.new)) }
+            → Keeps (disk_of D.disk self.old) (disk_of D.disk self.new) }
         ensures moment { D.honest (device_of self.old)
-            → OneMoreOrSame (D.disk (device_of self.old)) (D.disk (device_of self.new)) }
+            → OneMore (disk_of D.disk self.old) (disk_of D.disk self.new) }
         ensures honest { D.honest (device_of self.old) ↔ D.honest (device_of self.new) }
         ensures size { D.size (device_of self.new) ≡ D.size (device_of self.old) }
         ensures faults { both_counts (D.faults (device_of self.new)) (failures_of self.new)
@@ -109,30 +103,30 @@ impl<D: Device> Device for FlakyDevice<D> {
         ensures passes { until_of self.old ≢ 1
             → D.faults (device_of self.new)
             ≡ counted (is_err result) (D.faults (device_of self.old)) }
+        ensures passes_on { until_of self.old ≢ 1 → D.honest (device_of self.old)
+            → OneOperation (D.disk (device_of self.old)) (D.disk (device_of self.new)) (λ c. ⊥) }
     {
-        if !self.passes() {
-            return Err(DeviceFault);
+        if !passes(&mut self.until) {
+            return Err(self.inner.fail());
         }
-        self.device.read(n)
+        self.inner.read(n)
     }
 
     fn write(&mut self, n: u32, image: &[u8; 512]) -> Result<(), DeviceFault>
         requires { n < D.size (device_of self.old) }
         ensures written { D.honest (device_of self.old)
-            → OnOk result ((D.disk (device_of self.new)).seen
-            ≡ put n image.now (D.disk (device_of self.old)).seen) }
+            → OnOk result ((disk_of D.disk self.new).seen
+            ≡ put n image.now (disk_of D.disk self.old).seen) }
         ensures tried { D.honest (device_of self.old)
-            → Wrote n image.now (D.disk (device_of self.old)).seen
-            (D.disk (device_of self.new)).seen }
+            → Wrote n image.now (disk_of D.disk self.old).seen
+            (disk_of D.disk self.new).seen }
         ensures crash { D.honest (device_of self.old)
-            → Leaves (D.disk (device_of self.old)) (D.disk (device_of self.new))
-            (After (Wrote n image.now) (D.disk (device_of self.old)).may_leave) }
+            → Leaves (disk_of D.disk self.old) (disk_of D.disk self.new)
+            (After (Wrote n image.now) (disk_of D.disk self.old).may_leave) }
         ensures keeps { D.honest (device_of self.old)
-            → Keeps (D.disk (device_of self.old)) (D.disk (device_of self.new)) }
+            → Keeps (disk_of D.disk self.old) (disk_of D.disk self.new) }
         ensures moment { D.honest (device_of self.old)
-            → OneMoreOrSame (D.disk (device_of self.old)) (D.disk (device_of self.new)) }
-        ensures rises { D.honest (device_of self.old)
-            → OnOk result (OneMore (D.disk (device_of self.old)) (D.disk (device_of self.new))) }
+            → OneMore (disk_of D.disk self.old) (disk_of D.disk self.new) }
         ensures honest { D.honest (device_of self.old) ↔ D.honest (device_of self.new) }
         ensures size { D.size (device_of self.new) ≡ D.size (device_of self.old) }
         ensures faults { both_counts (D.faults (device_of self.new)) (failures_of self.new)
@@ -144,27 +138,28 @@ impl<D: Device> Device for FlakyDevice<D> {
         ensures passes { until_of self.old ≢ 1
             → D.faults (device_of self.new)
             ≡ counted (is_err result) (D.faults (device_of self.old)) }
+        ensures passes_on { until_of self.old ≢ 1 → D.honest (device_of self.old)
+            → OneOperation (D.disk (device_of self.old)) (D.disk (device_of self.new))
+            (After (Wrote n image.now) (D.disk (device_of self.old)).may_leave) }
     {
-        if !self.passes() {
-            return Err(DeviceFault);
+        if !passes(&mut self.until) {
+            return Err(self.inner.fail());
         }
-        self.device.write(n, image)
+        self.inner.write(n, image)
     }
 
     fn sync(&mut self) -> Result<(), DeviceFault>
         ensures durable { D.honest (device_of self.old)
-            → OnOk result (Only (D.disk (device_of self.old)).seen
-            (D.disk (device_of self.new)).may_leave) }
+            → OnOk result (Only (disk_of D.disk self.old).seen
+            (disk_of D.disk self.new).may_leave) }
         ensures seen { D.honest (device_of self.old)
-            → (D.disk (device_of self.new)).seen ≡ (D.disk (device_of self.old)).seen }
+            → (disk_of D.disk self.new).seen ≡ (disk_of D.disk self.old).seen }
         ensures crash { D.honest (device_of self.old)
-            → Leaves (D.disk (device_of self.old)) (D.disk (device_of self.new)) (λ c. ⊥) }
+            → Leaves (disk_of D.disk self.old) (disk_of D.disk self.new) (λ c. ⊥) }
         ensures keeps { D.honest (device_of self.old)
-            → Keeps (D.disk (device_of self.old)) (D.disk (device_of self.new)) }
+            → Keeps (disk_of D.disk self.old) (disk_of D.disk self.new) }
         ensures moment { D.honest (device_of self.old)
-            → OneMoreOrSame (D.disk (device_of self.old)) (D.disk (device_of self.new)) }
-        ensures rises { D.honest (device_of self.old)
-            → OnOk result (OneMore (D.disk (device_of self.old)) (D.disk (device_of self.new))) }
+            → OneMore (disk_of D.disk self.old) (disk_of D.disk self.new) }
         ensures honest { D.honest (device_of self.old) ↔ D.honest (device_of self.new) }
         ensures size { D.size (device_of self.new) ≡ D.size (device_of self.old) }
         ensures faults { both_counts (D.faults (device_of self.new)) (failures_of self.new)
@@ -176,10 +171,12 @@ impl<D: Device> Device for FlakyDevice<D> {
         ensures passes { until_of self.old ≢ 1
             → D.faults (device_of self.new)
             ≡ counted (is_err result) (D.faults (device_of self.old)) }
+        ensures passes_on { until_of self.old ≢ 1 → D.honest (device_of self.old)
+            → OneOperation (D.disk (device_of self.old)) (D.disk (device_of self.new)) (λ c. ⊥) }
     {
-        if !self.passes() {
-            return Err(DeviceFault);
+        if !passes(&mut self.until) {
+            return Err(self.inner.fail());
         }
-        self.device.sync()
+        self.inner.sync()
     }
 }

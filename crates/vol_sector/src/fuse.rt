@@ -1,32 +1,33 @@
 //! A device that fails from a chosen operation on.
 
 ghost use Rattle.std.specs.Prelude.{◌≡◌, ◌+◌, ◌-◌, ◌^◌, ◌<◌, ◌==◌, ◌↔◌, ℕ, min, IsTrue};
-ghost use Rattle.vol_sector.specs.Disk.{counted};
+ghost use Rattle.vol_sector.specs.Counting.{counting};
+ghost use Rattle.vol_sector.specs.CountingLaws.{counting_now, only_counting};
 
+use crate::breakable::Breakable;
 use crate::{Device, DeviceFault};
 
 /// Passes a number of operations (reads, writes and syncs) to its device, and then fails all,
 /// without effect.
 #[derive(Drop)]
 pub struct FuseDevice<D> {
-    device: D,
+    inner: Breakable<D>,
     left: u64,
-    failures: u64,
 }
 
 impl<D: Device> FuseDevice<D> {
-    ghost use Rattle.vol_sector.specs.Fuse.{device_of, left_of, failures_of};
+    ghost use Rattle.vol_sector.specs.Fuse.{device_of, left_of, failures_of, disk_of};
 
     /// The device, with this many operations that pass.
     pub fn new(device: D, operations: u64) -> Self
         ensures device { device_of result ≡ device }
         ensures left { left_of result ≡ operations }
         ensures failures { failures_of result ≡ 0 }
+        ensures moment { (disk_of D.disk result).moment ≡ 0 }
     {
         FuseDevice {
-            device,
+            inner: Breakable::new(device),
             left: operations,
-            failures: 0,
         }
     }
 
@@ -34,71 +35,66 @@ impl<D: Device> FuseDevice<D> {
     pub fn into_inner(self) -> D
         ensures { result ≡ device_of self }
     {
-        let FuseDevice {
-            device,
-            left: _,
-            failures: _,
-        } = self;
-        device
+        let FuseDevice { inner, left: _ } = self;
+        inner.into_inner()
     }
+}
 
-    /// Takes one of the operations that pass; where none is left, the operation fails.
-    fn passes(&mut self) -> bool
-        ensures passes { IsTrue result ↔ (0 < left_of self.old) }
-        ensures left { left_of self.new ≡ left_of self.old - 1 }
-        ensures device { device_of self.new ≡ device_of self.old }
-        ensures failures { failures_of self.new
-            ≡ counted (left_of self.old == 0) (failures_of self.old) }
-    {
-        if self.left == 0 {
-            self.failures = self.failures.saturating_add(1);
-            return false;
-        }
-        self.left -= 1;
-        true
+/// Takes one of the operations that pass, where one is left.
+fn passes(left: &mut u64) -> bool
+    ensures passes { IsTrue result ↔ (0 < left.old) }
+    ensures left { left.new ≡ left.old - 1 }
+{
+    if *left == 0 {
+        return false;
     }
+    *left -= 1;
+    true
 }
 
 impl<D: Device> Device for FuseDevice<D> {
     ghost use Rattle.std.specs.Prelude.{◌≢◌, ◌≤◌, List, IfOk, OnOk, IsErr, is_err};
     ghost use Rattle.vol_sector.specs.Disk.{Image, put, After, Wrote, Only, Leaves, Keeps};
-    ghost use Rattle.vol_sector.specs.Disk.{OneMoreOrSame, OneMore, both_counts};
-    ghost use Rattle.vol_sector.specs.Fuse.{device_of, left_of, failures_of};
+    ghost use Rattle.vol_sector.specs.Disk.{OneMore, OneOperation, both_counts, counted};
+    ghost use Rattle.vol_sector.specs.Fuse.{device_of, left_of, failures_of, disk_of};
 
-    ghost disk = { λ f. D.disk f.device };
+    ghost disk = { λ f. counting f.inner.tried.operations (D.disk f.inner.device) };
 
-    ghost honest = { λ f. D.honest f.device };
+    ghost honest = { λ f. D.honest f.inner.device };
 
-    ghost size = { λ f. D.size f.device };
+    ghost size = { λ f. D.size f.inner.device };
 
-    ghost faults = { λ f. both_counts (D.faults f.device) f.failures };
+    ghost faults = { λ f. both_counts (D.faults f.inner.device) f.inner.failures };
 
-    ghost counts_now = { λ f t c h le may. D.counts_now f.device t c h le may };
+    ghost counts_now = { λ f t c h le may. counting_now f.inner.tried.operations
+        (D.disk f.inner.device) (λ s x past left. D.counts_now f.inner.device s x h past left)
+        t c le may };
 
-    ghost only_now = { λ f c h left. D.only_now f.device c h left };
+    ghost only_now = { λ f c h left. only_counting f.inner.tried.operations
+        (D.disk f.inner.device) (λ x last. D.only_now f.inner.device x h last) c left };
 
-    ghost may_stay = { λ f h. D.may_stay f.device h };
+    ghost may_stay = { λ f h. D.may_stay f.inner.device h };
 
     fn sectors(&self) -> u32 {
-        self.device.sectors()
+        self.inner.sectors()
     }
 
     fn failures(&self) -> u64 {
-        self.device.failures().saturating_add(self.failures)
+        self.inner.failures()
     }
 
     fn read(&mut self, n: u32) -> Result<[u8; 512], DeviceFault>
         requires { n < D.size (device_of self.old) }
         ensures bytes { D.honest (device_of self.old)
-            → IfOk result (λ bytes. bytes ≡ (D.disk (device_of self.old)).seen n) }
+            → IfOk result (λ bytes. bytes ≡ (disk_of D.disk self.old).seen n) }
         ensures seen { D.honest (device_of self.old)
-            → (D.disk (device_of self.new)).seen ≡ (D.disk (device_of self.old)).seen }
+            → (disk_of D.disk self.new).seen ≡ (disk_of D.disk self.old).seen }
         ensures crash { D.honest (device_of self.old)
-            → Leaves (D.disk (device_of self.old)) (D.disk (device_of self.new)) (λ c. ⊥) }
+            → Leaves (disk_of D.disk self.old) (disk_of D.disk self.new) (λ c. ⊥) }
         ensures keeps { D.honest (device_of self.old)
-            → Keeps (D.disk (device_of self.old)) (D.disk (device_of self.new)) }
+            → Keeps (disk_of D.disk self.old) (disk_of D.disk self.new) }
         ensures moment { D.honest (device_of self.old)
-            → OneMoreOrSame (D.disk (device_of self.old)) (D.disk (device_of self.new)) }
+            → OneMore (disk_of D.disk self.old) (disk_of D.disk self.new) }
         ensures honest { D.honest (device_of self.old) ↔ D.honest (device_of self.new) }
         ensures size { D.size (device_of self.new) ≡ D.size (device_of self.old) }
         ensures faults { both_counts (D.faults (device_of self.new)) (failures_of self.new)
@@ -110,30 +106,30 @@ impl<D: Device> Device for FuseDevice<D> {
         ensures passes { 0 < left_of self.old
             → D.faults (device_of self.new)
             ≡ counted (is_err result) (D.faults (device_of self.old)) }
+        ensures passes_on { 0 < left_of self.old → D.honest (device_of self.old)
+            → OneOperation (D.disk (device_of self.old)) (D.disk (device_of self.new)) (λ c. ⊥) }
     {
-        if !self.passes() {
-            return Err(DeviceFault);
+        if !passes(&mut self.left) {
+            return Err(self.inner.fail());
         }
-        self.device.read(n)
+        self.inner.read(n)
     }
 
     fn write(&mut self, n: u32, image: &[u8; 512]) -> Result<(), DeviceFault>
         requires { n < D.size (device_of self.old) }
         ensures written { D.honest (device_of self.old)
-            → OnOk result ((D.disk (device_of self.new)).seen
-            ≡ put n image.now (D.disk (device_of self.old)).seen) }
+            → OnOk result ((disk_of D.disk self.new).seen
+            ≡ put n image.now (disk_of D.disk self.old).seen) }
         ensures tried { D.honest (device_of self.old)
-            → Wrote n image.now (D.disk (device_of self.old)).seen
-            (D.disk (device_of self.new)).seen }
+            → Wrote n image.now (disk_of D.disk self.old).seen
+            (disk_of D.disk self.new).seen }
         ensures crash { D.honest (device_of self.old)
-            → Leaves (D.disk (device_of self.old)) (D.disk (device_of self.new))
-            (After (Wrote n image.now) (D.disk (device_of self.old)).may_leave) }
+            → Leaves (disk_of D.disk self.old) (disk_of D.disk self.new)
+            (After (Wrote n image.now) (disk_of D.disk self.old).may_leave) }
         ensures keeps { D.honest (device_of self.old)
-            → Keeps (D.disk (device_of self.old)) (D.disk (device_of self.new)) }
+            → Keeps (disk_of D.disk self.old) (disk_of D.disk self.new) }
         ensures moment { D.honest (device_of self.old)
-            → OneMoreOrSame (D.disk (device_of self.old)) (D.disk (device_of self.new)) }
-        ensures rises { D.honest (device_of self.old)
-            → OnOk result (OneMore (D.disk (device_of self.old)) (D.disk (device_of self.new))) }
+            → OneMore (disk_of D.disk self.old) (disk_of D.disk self.new) }
         ensures honest { D.honest (device_of self.old) ↔ D.honest (device_of self.new) }
         ensures size { D.size (device_of self.new) ≡ D.size (device_of self.old) }
         ensures faults { both_counts (D.faults (device_of self.new)) (failures_of self.new)
@@ -145,27 +141,28 @@ impl<D: Device> Device for FuseDevice<D> {
         ensures passes { 0 < left_of self.old
             → D.faults (device_of self.new)
             ≡ counted (is_err result) (D.faults (device_of self.old)) }
+        ensures passes_on { 0 < left_of self.old → D.honest (device_of self.old)
+            → OneOperation (D.disk (device_of self.old)) (D.disk (device_of self.new))
+            (After (Wrote n image.now) (D.disk (device_of self.old)).may_leave) }
     {
-        if !self.passes() {
-            return Err(DeviceFault);
+        if !passes(&mut self.left) {
+            return Err(self.inner.fail());
         }
-        self.device.write(n, image)
+        self.inner.write(n, image)
     }
 
     fn sync(&mut self) -> Result<(), DeviceFault>
         ensures durable { D.honest (device_of self.old)
-            → OnOk result (Only (D.disk (device_of self.old)).seen
-            (D.disk (device_of self.new)).may_leave) }
+            → OnOk result (Only (disk_of D.disk self.old).seen
+            (disk_of D.disk self.new).may_leave) }
         ensures seen { D.honest (device_of self.old)
-            → (D.disk (device_of self.new)).seen ≡ (D.disk (device_of self.old)).seen }
+            → (disk_of D.disk self.new).seen ≡ (disk_of D.disk self.old).seen }
         ensures crash { D.honest (device_of self.old)
-            → Leaves (D.disk (device_of self.old)) (D.disk (device_of self.new)) (λ c. ⊥) }
+            → Leaves (disk_of D.disk self.old) (disk_of D.disk self.new) (λ c. ⊥) }
         ensures keeps { D.honest (device_of self.old)
-            → Keeps (D.disk (device_of self.old)) (D.disk (device_of self.new)) }
+            → Keeps (disk_of D.disk self.old) (disk_of D.disk self.new) }
         ensures moment { D.honest (device_of self.old)
-            → OneMoreOrSame (D.disk (device_of self.old)) (D.disk (device_of self.new)) }
-        ensures rises { D.honest (device_of self.old)
-            → OnOk result (OneMore (D.disk (device_of self.old)) (D.disk (device_of self.new))) }
+            → OneMore (disk_of D.disk self.old) (disk_of D.disk self.new) }
         ensures honest { D.honest (device_of self.old) ↔ D.honest (device_of self.new) }
         ensures size { D.size (device_of self.new) ≡ D.size (device_of self.old) }
         ensures faults { both_counts (D.faults (device_of self.new)) (failures_of self.new)
@@ -177,10 +174,12 @@ impl<D: Device> Device for FuseDevice<D> {
         ensures passes { 0 < left_of self.old
             → D.faults (device_of self.new)
             ≡ counted (is_err result) (D.faults (device_of self.old)) }
+        ensures passes_on { 0 < left_of self.old → D.honest (device_of self.old)
+            → OneOperation (D.disk (device_of self.old)) (D.disk (device_of self.new)) (λ c. ⊥) }
     {
-        if !self.passes() {
-            return Err(DeviceFault);
+        if !passes(&mut self.left) {
+            return Err(self.inner.fail());
         }
-        self.device.sync()
+        self.inner.sync()
     }
 }

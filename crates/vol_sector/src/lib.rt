@@ -1,6 +1,7 @@
 //! Devices of 512-byte sectors, what a crash may leave of them, and why a volume is refused.
 #![tactic(auto)]
 
+mod breakable;
 mod device;
 mod fault;
 mod flaky;
@@ -10,6 +11,7 @@ mod memory;
 mod record;
 #[cfg(test)]
 mod tests;
+mod tried;
 
 pub use device::{Device, DeviceFault};
 pub use fault::{Refused, VolumeFault};

@@ -3,11 +3,14 @@
 ghost use Rattle.std.specs.Prelude.{◌≡◌, ◌≤◌, ◌<◌, ◌^◌, ◌∷◌, [], ℕ};
 ghost use Rattle.std.specs.Prelude.{replicate, vec_len, vec_capacity, IfOk};
 ghost use Rattle.std.specs.Prelude.{List, length, count_by, false, min, slice_index_or, ◌+◌};
+ghost use Rattle.vol_sector.specs.Counting.{counting};
+ghost use Rattle.vol_sector.specs.CountingLaws.{counting_now, only_counting};
 ghost use Rattle.vol_sector.specs.Record.{newest, recorded, choices, LeftBy};
 ghost use Rattle.vol_sector.specs.RecordLaws.{image_of, stays_left, left_now, only_left};
 ghost use Rattle.vol_sector.specs.Record.{is_write};
 ghost use Rattle.vol_sector.specs.Crash.{written_since, written_below, picked, crashed_image};
 
+use crate::tried::Tried;
 use crate::{Device, DeviceFault, Operation};
 use std::alloc::{AllocError, Global};
 
@@ -19,6 +22,7 @@ pub struct MemoryDevice {
     current: Vec<[u8; 512]>,
     operations: Vec<Operation>,
     limit: usize,
+    tried: Tried,
     failures: u64,
     ghost same_size: { vec_len first ≡ vec_len current },
     ghost small: { vec_len current < 2 ^ 32 },
@@ -29,7 +33,10 @@ pub struct MemoryDevice {
 }
 
 impl MemoryDevice {
+    ghost use Rattle.std.specs.Prelude.{true};
+    ghost use Rattle.vol_sector.specs.Disk.{Leaves, Keeps, counted};
     ghost use Rattle.vol_sector.specs.Memory.{first_of, record_of, room_of, sectors_of, IsUnused};
+    ghost use Rattle.vol_sector.specs.Memory.{tried_of, failures_of, disk_of};
 
     /// A device of so many sectors of zeros, whose record has room for so many writes and syncs.
     /// It fails only where memory is refused.
@@ -55,6 +62,7 @@ impl MemoryDevice {
             current,
             operations,
             limit: room,
+            tried: Tried::new(),
             failures: 0,
         })
     }
@@ -109,6 +117,22 @@ impl MemoryDevice {
             image.push(choice(&self.first[n], &self.operations, n as u32, pick))?;
         }
         MemoryDevice::from_sectors(alloc, image, self.limit)
+    }
+
+    /// Counts an operation that fails, which changes nothing else.
+    fn fail(&mut self) -> DeviceFault
+        ensures tried { tried_of self.new ≡ false ∷ tried_of self.old }
+        ensures failures { failures_of self.new ≡ counted true (failures_of self.old) }
+        ensures first { first_of self.new ≡ first_of self.old }
+        ensures record { record_of self.new ≡ record_of self.old }
+        ensures room { room_of self.new ≡ room_of self.old }
+        ensures sectors { sectors_of self.new ≡ sectors_of self.old }
+        ensures crash { Leaves (disk_of self.old) (disk_of self.new) (λ c. ⊥) }
+        ensures keeps { Keeps (disk_of self.old) (disk_of self.new) }
+    {
+        self.tried = self.tried.kept();
+        self.failures = self.failures.saturating_add(1);
+        DeviceFault
     }
 }
 
@@ -180,12 +204,13 @@ fn choice(first: &[u8; 512], operations: &[Operation], n: u32, pick: u32) -> [u8
 impl Device for MemoryDevice {
     ghost use Rattle.std.specs.Prelude.{◌⊎◌, ◌↔◌, ◌++◌, OnOk, OnErr, IsOk, IsErr, is_err};
     ghost use Rattle.vol_sector.specs.Disk.{put, After, Wrote, Only, Leaves, Keeps};
-    ghost use Rattle.vol_sector.specs.Disk.{counted, OneMoreOrSame, OneMore};
+    ghost use Rattle.vol_sector.specs.Disk.{counted, OneMore};
     ghost use Rattle.vol_sector.specs.Memory.{first_of, record_of, room_of, sectors_of};
-    ghost use Rattle.vol_sector.specs.Memory.{failures_of, disk_of};
+    ghost use Rattle.vol_sector.specs.Memory.{failures_of, disk_of, IsUnchanged};
     ghost use Rattle.vol_sector.specs.declared.record.Operation.TheVariants.{Write, Sync};
 
-    ghost disk = { λ m. recorded (image_of m.first.items) m.operations.items };
+    ghost disk = { λ m.
+        counting m.tried.operations (recorded (image_of m.first.items) m.operations.items) };
 
     ghost honest = { λ m. Unit {0} };
 
@@ -193,11 +218,13 @@ impl Device for MemoryDevice {
 
     ghost faults = { λ m. m.failures };
 
-    ghost counts_now = { λ m t c h le may.
-        left_now (image_of m.first.items) m.operations.items t c le may };
+    ghost counts_now = { λ m t c h le may. counting_now m.tried.operations
+        (recorded (image_of m.first.items) m.operations.items)
+        (left_now (image_of m.first.items) m.operations.items) t c le may };
 
-    ghost only_now = { λ m c h left.
-        only_left (image_of m.first.items) m.operations.items c left };
+    ghost only_now = { λ m c h left. only_counting m.tried.operations
+        (recorded (image_of m.first.items) m.operations.items)
+        (only_left (image_of m.first.items) m.operations.items) c left };
 
     ghost may_stay = { λ m h. stays_left (image_of m.first.items) m.operations.items };
 
@@ -215,13 +242,14 @@ impl Device for MemoryDevice {
         ensures seen { Unit {0} → (disk_of self.new).seen ≡ (disk_of self.old).seen }
         ensures crash { Unit {0} → Leaves (disk_of self.old) (disk_of self.new) (λ c. ⊥) }
         ensures keeps { Unit {0} → Keeps (disk_of self.old) (disk_of self.new) }
-        ensures moment { Unit {0} → OneMoreOrSame (disk_of self.old) (disk_of self.new) }
+        ensures moment { Unit {0} → OneMore (disk_of self.old) (disk_of self.new) }
         ensures honest { Unit {0} ↔ Unit {0} }
         ensures size { sectors_of self.new ≡ sectors_of self.old }
         ensures faults { failures_of self.new ≡ counted (is_err result) (failures_of self.old) }
         ensures never_fails { IsOk result }
-        ensures same { self.new ≡ self.old }
+        ensures same { IsUnchanged self.old self.new }
     {
+        self.tried = self.tried.kept(); // a read is tried, but not recorded
         Ok(self.current[n as usize])
     }
 
@@ -234,8 +262,7 @@ impl Device for MemoryDevice {
         ensures crash { Unit {0} → Leaves (disk_of self.old) (disk_of self.new)
             (After (Wrote n image.now) (disk_of self.old).may_leave) }
         ensures keeps { Unit {0} → Keeps (disk_of self.old) (disk_of self.new) }
-        ensures moment { Unit {0} → OneMoreOrSame (disk_of self.old) (disk_of self.new) }
-        ensures rises { Unit {0} → OnOk result (OneMore (disk_of self.old) (disk_of self.new)) }
+        ensures moment { Unit {0} → OneMore (disk_of self.old) (disk_of self.new) }
         ensures honest { Unit {0} ↔ Unit {0} }
         ensures size { sectors_of self.new ≡ sectors_of self.old }
         ensures faults { failures_of self.new ≡ counted (is_err result) (failures_of self.old) }
@@ -247,19 +274,16 @@ impl Device for MemoryDevice {
         ensures room { room_of self.new ≡ room_of self.old }
     {
         if self.operations.len() >= self.limit {
-            self.failures = self.failures.saturating_add(1);
-            return Err(DeviceFault);
+            return Err(self.fail());
         }
         let image = *image;
         match self.operations.push(Operation::Write(n, image)) {
             Ok(()) => {
                 self.current[n as usize] = image;
+                self.tried = self.tried.passed(); // the write is in the record now
                 Ok(())
             }
-            Err(_) => {
-                self.failures = self.failures.saturating_add(1);
-                Err(DeviceFault)
-            }
+            Err(_) => Err(self.fail()),
         }
     }
 
@@ -269,8 +293,7 @@ impl Device for MemoryDevice {
         ensures seen { Unit {0} → (disk_of self.new).seen ≡ (disk_of self.old).seen }
         ensures crash { Unit {0} → Leaves (disk_of self.old) (disk_of self.new) (λ c. ⊥) }
         ensures keeps { Unit {0} → Keeps (disk_of self.old) (disk_of self.new) }
-        ensures moment { Unit {0} → OneMoreOrSame (disk_of self.old) (disk_of self.new) }
-        ensures rises { Unit {0} → OnOk result (OneMore (disk_of self.old) (disk_of self.new)) }
+        ensures moment { Unit {0} → OneMore (disk_of self.old) (disk_of self.new) }
         ensures honest { Unit {0} ↔ Unit {0} }
         ensures size { sectors_of self.new ≡ sectors_of self.old }
         ensures faults { failures_of self.new ≡ counted (is_err result) (failures_of self.old) }
@@ -282,15 +305,14 @@ impl Device for MemoryDevice {
         ensures room { room_of self.new ≡ room_of self.old }
     {
         if self.operations.len() >= self.limit {
-            self.failures = self.failures.saturating_add(1);
-            return Err(DeviceFault);
+            return Err(self.fail());
         }
         match self.operations.push(Operation::Sync) {
-            Ok(()) => Ok(()),
-            Err(_) => {
-                self.failures = self.failures.saturating_add(1);
-                Err(DeviceFault)
+            Ok(()) => {
+                self.tried = self.tried.passed();
+                Ok(())
             }
+            Err(_) => Err(self.fail()),
         }
     }
 }

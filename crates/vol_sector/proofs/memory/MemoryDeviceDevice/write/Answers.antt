@@ -1,14 +1,18 @@
 use Rattle.std.proofs.Common.{◌∙◌, List, sym, subst, ap, arith}
+use Rattle.std.proofs.lemmas.List.{length_push}
 use Rattle.vol_sector.specs.Disk.{Leaves, Keeps, After, Wrote}
+use Rattle.vol_sector.specs.Counting.{counting}
+use Rattle.vol_sector.specs.Memory.{first_of, record_of, tried_of, disk_of}
 use Rattle.vol_sector.specs.Record.{newest, recorded, LeftBy}
 use Rattle.vol_sector.specs.RecordLaws.{image_of}
 use Rattle.vol_sector.specs.declared.record.Operation.{Operation}
 use Rattle.vol_sector.specs.declared.record.Operation.TheVariants.{Write}
+use Rattle.vol_sector.proofs.Counting.{leaves_passed, keeps_passed, leaves_any}
 use Rattle.vol_sector.proofs.Records.{keeps_push, leaves_write, agrees_write}
 use Rattle.vol_sector.proofs.memory.MemoryDeviceDevice.write.Goals as goal
 
-pub invariant_of-self-in-Ok-clause-agrees : goal.invariant_of-self-in-Ok-clause-agrees
-invariant_of-self-in-Ok-clause-agrees c n =
+pub invariant_of-self-clause-agrees : goal.invariant_of-self-clause-agrees
+invariant_of-self-clause-agrees c n =
     let m = c.args.self.now in
     agrees_write m.first.items m.current.items m.operations.items c.args.n c.args.image.now (omega (arith, c.requires)) m.agrees n
     ∙ ap (λ (ops : List Operation). newest n (image_of m.first.items n) ops) (sym c.in-Ok.ensures.items)
@@ -16,12 +20,21 @@ invariant_of-self-in-Ok-clause-agrees c n =
 pub returns-in-Ok-clause-crash : goal.returns-in-Ok-clause-crash
 returns-in-Ok-clause-crash c h =
     let m = c.args.self.now in
-    let first = image_of m.first.items in
-    subst (λ (ops : List Operation). Leaves (recorded first m.operations.items) (recorded first ops) (After (Wrote c.args.n c.args.image.now) (LeftBy first m.operations.items))) (sym c.in-Ok.ensures.items)
-    (leaves_write first m.operations.items c.args.n c.args.image.now)
+    let first = first_of m in
+    let ops = record_of m in
+    let tried = c.passed-self.result.operations in
+    let step = After (Wrote c.args.n c.args.image.now) (LeftBy first ops) in
+    subst (λ (r : List Operation). Leaves (disk_of m) (counting tried (recorded first r)) step) (sym c.in-Ok.ensures.items)
+    (leaves_passed (tried_of m) tried (recorded first ops) (recorded first _) step c.passed-self.ensures (length_push ops (Write c.args.n c.args.image.now)) (leaves_write first ops c.args.n c.args.image.now))
 
 pub returns-in-Ok-clause-keeps : goal.returns-in-Ok-clause-keeps
 returns-in-Ok-clause-keeps c h =
     let m = c.args.self.now in
-    let first = image_of m.first.items in
-    subst (λ (ops : List Operation). Keeps (recorded first m.operations.items) (recorded first ops)) (sym c.in-Ok.ensures.items) (keeps_push first m.operations.items (Write c.args.n c.args.image.now))
+    let first = first_of m in
+    let ops = record_of m in
+    let tried = c.passed-self.result.operations in
+    subst (λ (r : List Operation). Keeps (disk_of m) (counting tried (recorded first r))) (sym c.in-Ok.ensures.items)
+    (keeps_passed (tried_of m) tried (recorded first ops) (recorded first _) c.passed-self.ensures (length_push ops (Write c.args.n c.args.image.now)) (keeps_push first ops (Write c.args.n c.args.image.now)))
+
+pub returns-then-len-self-clause-crash : goal.returns-then-len-self-clause-crash
+returns-then-len-self-clause-crash c h = leaves_any (disk_of c.args.self.now) (disk_of c.fail.new.self) _ c.fail.ensures.crash

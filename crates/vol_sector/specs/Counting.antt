@@ -1,0 +1,16 @@
+-- A disk that counts each operation tried.
+use Rattle.std.specs.Prelude.{ℕ, ◌-◌, List, Bool, length, take, count_by}
+use Rattle.vol_sector.specs.Disk.{Disk}
+
+-- of the operations tried since a moment, the newest first, how many passed to the disk below
+abbrev pub passed_since : List Bool → ℕ → ℕ
+passed_since tried t = count_by (λ passed. passed) (take (length tried - t) tried)
+
+-- the disk below with each operation counted, also those that didn't pass to it
+abbrev pub counting : List Bool → Disk → Disk
+counting tried below = record {
+  seen = below.seen;
+  may_leave = below.may_leave;
+  moment = length tried;
+  left_since = λ t. below.left_since (below.moment - passed_since tried t);
+}
