@@ -1,6 +1,6 @@
 -- What memory ends as, where a part of it is lent to be written.
-use Rattle.std.specs.Prelude.{ℕ, List, length}
-use Rattle.std.specs.Borrow.{Lends, Fml, MutBor, Array, u8}
+use Rattle.std.specs.Prelude.{ℕ, List, length, Option}
+use Rattle.std.specs.Borrow.{Lends, LendsIf, Fml, MutBor, Array, u8}
 use Rattle.std.specs.List.{refill}
 use Rattle.wasm_store.specs.contracts.memory.Memory.{the_row}
 use Rattle.wasm_store.specs.Bytes.{written}
@@ -12,3 +12,7 @@ rewritten memory a bs = refill (length memory) memory (written memory a bs)
 -- memory ends with the last bytes behind the part
 abbrev pub LendsPart : MutBor (List ℕ) → ℕ → MutBor (List ℕ) → Fml
 LendsPart memory address part = Lends the_row (Array u8 0) memory part (rewritten memory.now address)
+
+-- the same where the part is lent; else memory stays
+abbrev pub LendsPartIf : MutBor (List ℕ) → ℕ → Option (MutBor (List ℕ)) → Fml
+LendsPartIf memory address part = LendsIf the_row (Array u8 0) memory part (rewritten memory.now address) memory.now

@@ -28,7 +28,7 @@ impl Memory {
     ghost use Rattle.std.specs.Bool.{OnTrue, OnFalse};
     ghost use Rattle.std.specs.Borrow.{sem};
     ghost use Rattle.wasm_store.specs.Bytes.{from_bytes, to_bytes, bytes_at, written};
-    ghost use Rattle.wasm_store.specs.Lending.{LendsPart};
+    ghost use Rattle.wasm_store.specs.Lending.{LendsPart, LendsPartIf};
 
     /// Memory of so many pages of 65,536 bytes, all zeros.
     pub fn new(alloc: Global, pages: u32) -> Result<Memory, AllocError>
@@ -54,15 +54,28 @@ impl Memory {
         self.access(address, 0, len)
     }
 
+    /// So many bytes from an address, to be written, where they are in memory.
+    pub fn slice_mut(&mut self, address: u32, len: u32) -> Option<&mut [u8]>
+        ensures* writes_back { sem 𝓛 (LendsPartIf self.entry address result) }
+        ensures inside { IfSome result (λ s. (address + len ≤ length self.old) × (s.now ≡ bytes_at self.old address len)) }
+        ensures outside { IfNone result (length self.old < address + len) }
+    {
+        if self.has_range(address, len) {
+            Some(self.range_mut(address, len))
+        } else {
+            None
+        }
+    }
+
     /// Whether so many bytes from an address are in memory, also where there are none of them.
-    pub fn has_range(&self, address: u32, len: u32) -> bool
+    fn has_range(&self, address: u32, len: u32) -> bool
         ensures { IsTrue result ↔ (address + len ≤ length self.now) }
     {
         address as usize + len as usize <= self.bytes.len()
     }
 
-    /// So many bytes from an address, to be written. `has_range` says whether they are in memory.
-    pub fn slice_mut(&mut self, address: u32, len: u32) -> &mut [u8]
+    /// So many bytes from an address, to be written.
+    fn range_mut(&mut self, address: u32, len: u32) -> &mut [u8]
         requires { address + len ≤ length self.old }
         ensures* writes_back { sem 𝓛 (LendsPart self.entry address result) }
         ensures value { result.now ≡ bytes_at self.old address len }

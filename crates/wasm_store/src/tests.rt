@@ -145,13 +145,11 @@ impl Sample {
         }
     }
 
-    /// Fills a part of memory that is lent, if it is there.
-    fn fill_lent(&mut self, address: u32, value: u8, len: u32) -> bool {
-        let inside = self.memory.has_range(address, len);
-        if inside {
-            self.memory.slice_mut(address, len).fill(value);
-        }
-        inside
+    /// Fills a part of memory that is lent, and gives its length, if it is there.
+    fn fill_lent(&mut self, address: u32, value: u8, len: u32) -> Option<usize> {
+        let part = self.memory.slice_mut(address, len)?;
+        part.fill(value);
+        Some(part.len())
     }
 }
 
@@ -275,9 +273,19 @@ fn growing_keeps_the_bytes(rt: HostRuntime) -> Result<(), Fail> {
 #[test]
 fn lent_bytes_are_written(rt: HostRuntime) -> Result<(), Fail> {
     let mut memory = Sample::new(rt.alloc(), 1)?;
-    assert!(rt; !memory.fill_lent(65_535, 7, 2));
-    assert!(rt; memory.fill_lent(65_534, 7, 2));
+    assert_eq!(rt; memory.fill_lent(65_535, 7, 2), None);
+    assert_eq!(rt; memory.fill_lent(u32::MAX, 7, u32::MAX), None);
+    assert!(rt; memory.has(65_534, &[0, 0]));
+    assert_eq!(rt; memory.fill_lent(65_534, 7, 2), Some(2));
     assert!(rt; memory.has(65_533, &[0, 7, 7]));
+    Ok(())
+}
+
+#[test]
+fn an_empty_part_is_lent_up_to_the_end(rt: HostRuntime) -> Result<(), Fail> {
+    let mut memory = Sample::new(rt.alloc(), 1)?;
+    assert_eq!(rt; memory.fill_lent(65_536, 7, 0), Some(0));
+    assert_eq!(rt; memory.fill_lent(65_537, 7, 0), None);
     Ok(())
 }
 

@@ -1,6 +1,6 @@
 use Rattle.std.proofs.Common.{refl, ◌∙◌}
 use Rattle.wasm_store.proofs.Parts.{part_written, part_read}
-use Rattle.wasm_store.proofs.memory.Memory.slice_mut.Goals as goal
+use Rattle.wasm_store.proofs.memory.Memory.range_mut.Goals as goal
 
 pub returns : goal.returns
 returns c =
