@@ -1,0 +1,4 @@
+//! The names of a volume: which serial an entry has by its directory and its name.
+#![tactic(auto)]
+
+mod sorted;
