@@ -1,2 +1,6 @@
 pub mod Search
 pub mod Edits
+pub mod Orders
+pub mod Spelled
+pub mod Room
+pub mod Listings
