@@ -4,3 +4,4 @@ pub mod Orders
 pub mod Spelled
 pub mod Room
 pub mod Listings
+pub mod Lookups

@@ -104,10 +104,10 @@ module _ (slots : ℕ) (keys : List (List ℕ × ℕ)) (children : List (ℕ × 
       λ either. elim either [
         | inl h ↦ record { narrow = h.narrow; plain = h.plain; held = more.kept (key_of q m, t) h.held }
         | inr (parent, name, serial) ↦ record {
-            narrow = subst (λ (x : ℕ). x < 2 ^ 32) (sym parent) narrow;
-            plain = subst IsPlain (sym name) plain;
-            held = subst (λ (x : List ℕ × ℕ). Contains new_keys x) (λ i. (key_of (sym parent i) (sym name i), sym serial i)) more.there;
-          }
+          narrow = subst (λ (x : ℕ). x < 2 ^ 32) (sym parent) narrow;
+          plain = subst IsPlain (sym name) plain;
+          held = subst (λ (x : List ℕ × ℕ). Contains new_keys x) (λ i. (key_of (sym parent i) (sym name i), sym serial i)) more.there;
+        }
       ],
     )
 

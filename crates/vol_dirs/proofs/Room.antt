@@ -30,10 +30,10 @@ module _ {K : Type 0} (xs : List (K × ℕ)) (n : ℕ) (d : K × ℕ) where
       let long : length places ≡ length xs = length-map xs (λ (x : K × ℕ). x.1 - 1) in
       let read : (i e : ℕ) → i < length xs → get_or places i e ≡ number i - 1 = λ i e lt. get_or-map (λ (x : K × ℕ). x.1 - 1) xs i d e lt in
       let distinct : IsDistinct eqb places = IsDistinct-from_apart eqb places (λ i j e lt there. apart _ _ (λ equal.
-          let inside : j < length xs = omega (arith, long) in
-          let first = within i (omega arith) in
-          let second = within j inside in
-          differ i j lt inside (omega (arith, read i e (omega arith), read j e inside, first.0, second.0)))) in
+      let inside : j < length xs = omega (arith, long) in
+      let first = within i (omega arith) in
+      let second = within j inside in
+      differ i j lt inside (omega (arith, read i e (omega arith), read j e inside, first.0, second.0)))) in
       let below : (q : ℕ) → list_any (eqb q) places ≡ true → q < n = λ q any.
       let at = Any-from_list_any (eqb q) places any in
       let inside : at.0 < length xs = omega (arith, long, at.2) in
