@@ -40,14 +40,19 @@ pub record IsNameOf (entry : Entry) (own : ℕ) (parent : ℕ) (name : List ℕ)
   pub name_is : name ≡ name_of entry
   pub serial_is : serial ≡ own
 
+-- the bytes are those of an entry with this parent and name
+pub record IsSpelled (version : Version) (bytes : List ℕ) (parent : ℕ) (name : List ℕ) : Type 0 where
+  pub entry : Entry
+  pub right : IsEntry version entry
+  pub spelled : bytes ≡ spelling entry
+  pub parent_is : parent ≡ entry.parent
+  pub name_is : name ≡ name_of entry
+
 -- the serial's slot holds an entry with this parent and name
 pub record IsInSlot (version : Version) (image : Image) (slots parent : ℕ) (name : List ℕ) (serial : ℕ) : Type 0 where
   pub first : 1 ≤ serial
   pub last : serial ≤ slots
-  pub entry : Entry
-  pub right : IsEntry version entry
-  pub spelled : image (121 + serial) ≡ spelling entry
-  pub named : IsNameOf entry serial parent name serial
+  pub spelled : IsSpelled version (image (121 + serial)) parent name
 
 -- exactly the entries in the slots are held
 abbrev pub Shows : Version → Image → ℕ → Dirs → Type 0

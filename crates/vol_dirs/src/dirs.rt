@@ -8,6 +8,7 @@ ghost use Rattle.vol_log.specs.Log.{view, device_of, sectors_of, room_of, is_sta
 ghost use Rattle.vol_inode.specs.Name.{IsName};
 ghost use Rattle.vol_inode.specs.Entry.{IsEntry, HasName, name_of};
 ghost use Rattle.vol_inode.specs.Spelling.{spelling, unused};
+ghost use Rattle.vol_inode.specs.declared.version.Version.{Version};
 ghost use Rattle.vol_dirs.specs.Key.{IsPlain};
 ghost use Rattle.vol_dirs.specs.Listing.{IsListing};
 
@@ -40,7 +41,7 @@ pub struct Dirs {
 
 impl Dirs {
     ghost use Rattle.vol_dirs.specs.Names.{slots_of, Names, IsFree, IsNameOf, IsNextChild, NoChildOver};
-    ghost use Rattle.vol_dirs.specs.Names.{Shows};
+    ghost use Rattle.vol_dirs.specs.Names.{IsSpelled, Shows};
     ghost use Rattle.vol_dirs.specs.Reading.{OnlyReads};
 
     /// Reads the slots, one after another. A slot that `read_entry` refuses counts as unused.
@@ -69,9 +70,7 @@ impl Dirs {
         let mut dirs = Dirs::reserve(alloc, slots)?;
         for slot in 0..slots {
             let image = log.read(122 + slot)?;
-            if let Ok(Some(entry)) = read_entry(version, &image) {
-                dirs.hold(slot + 1, &entry);
-            }
+            dirs.hold_image(version, slot + 1, &image);
         }
         Ok(dirs)
     }
@@ -135,6 +134,9 @@ impl Dirs {
         ensures device { device_of log.new ≡ device_of log.old }
         ensures failed { has_failed log.new ≡ false }
         ensures sectors { sectors_of log.new ≡ sectors_of log.old }
+        ensures shows { (version : Version) → IsEntry version entry.now
+            → Shows version (view log.old) (slots_of self.old) self.old
+            → Shows version (view log.new) (slots_of self.new) self.new }
     {
         log.stage(121 + serial, &write_entry(entry));
         self.hold(serial, entry);
@@ -157,6 +159,9 @@ impl Dirs {
         ensures device { device_of log.new ≡ device_of log.old }
         ensures failed { has_failed log.new ≡ false }
         ensures sectors { sectors_of log.new ≡ sectors_of log.old }
+        ensures shows { (version : Version)
+            → Shows version (view log.old) (slots_of self.old) self.old
+            → Shows version (view log.new) (slots_of self.new) self.new }
     {
         log.stage(121 + serial, &[0; 512]);
         self.forget(serial, entry);
@@ -180,6 +185,9 @@ impl Dirs {
         ensures device { device_of log.new ≡ device_of log.old }
         ensures failed { has_failed log.new ≡ false }
         ensures sectors { sectors_of log.new ≡ sectors_of log.old }
+        ensures shows { (version : Version) → IsEntry version to.now
+            → Shows version (view log.old) (slots_of self.old) self.old
+            → Shows version (view log.new) (slots_of self.new) self.new }
     {
         log.stage(121 + serial, &write_entry(to));
         self.forget(serial, from);
@@ -219,6 +227,21 @@ impl Dirs {
             keys: Vec::with_capacity(alloc, slots as usize)?,
             children: Vec::with_capacity(alloc, slots as usize)?,
         })
+    }
+
+    /// Takes up the name of the entry that a slot holds, if it holds one.
+    fn hold_image(&mut self, version: Version, serial: u32, image: &[u8; 512])
+        requires first { 1 ≤ serial }
+        requires last { serial ≤ slots_of self.old }
+        requires free { IsFree self.old serial }
+        ensures names { (p : ℕ) (n : List ℕ) (s : ℕ) → Names self.new p n s
+            ↔ (Names self.old p n s ⊎ (s ≡ serial) × IsSpelled version image.now p n) }
+        ensures slots { slots_of self.new ≡ slots_of self.old }
+    {
+        let Ok(Some(entry)) = read_entry(version, image) else {
+            return;
+        };
+        self.hold(serial, &entry);
     }
 
     /// Takes up the name of an entry whose serial isn't held.

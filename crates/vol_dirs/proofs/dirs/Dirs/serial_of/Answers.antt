@@ -23,9 +23,9 @@ returns c =
     let narrow : c.args.parent < 2 ^ 32 = omega arith in
     one_or_none _ _ _ _ _ c.then_some.ensures
     (λ test.
-        let same : c.in_ok-found.found ≡ key = tells.0 (sym c.eq.ensures ∙ test) ∙ c.key_of-key.ensures in
-        record { narrow = narrow; plain = plain_name c.args.name.now c.requires; held = subst (λ (k : List ℕ). Contains dirs.keys.items (k, c.in_ok-found.serial)) same least.there })
+    let same : c.in_ok-found.found ≡ key = tells.0 (sym c.eq.ensures ∙ test) ∙ c.key_of-key.ensures in
+    record { narrow = narrow; plain = plain_name c.args.name.now c.requires; held = subst (λ (k : List ℕ). Contains dirs.keys.items (k, c.in_ok-found.serial)) same least.there })
     (λ test s held.
-        let differ : c.in_ok-found.found ≢ key = λ same. false≢true (sym test ∙ c.eq.ensures ∙ tells.1 (same ∙ sym c.key_of-key.ensures)) in
-        let bounds = dirs.listing.numbered key s held.held in
-        no_key_before dirs.keys.items key c.in_ok-found.found c.in_ok-found.serial s least differ bounds.0 held.held)
+    let differ : c.in_ok-found.found ≢ key = λ same. false≢true (sym test ∙ c.eq.ensures ∙ tells.1 (same ∙ sym c.key_of-key.ensures)) in
+    let bounds = dirs.listing.numbered key s held.held in
+    no_key_before dirs.keys.items key c.in_ok-found.found c.in_ok-found.serial s least differ bounds.0 held.held)
