@@ -32,6 +32,9 @@ module _ (slots : ℕ) (keys : List (List ℕ × ℕ)) (children : List (ℕ × 
   pub key_free : (s : ℕ) → ((p : ℕ) (n : List ℕ) → Holds keys p n s → ⊥) → (key : List ℕ) → Contains keys (key, s) → ⊥
   key_free s free key has = free (parent_in key) (name_in key) (name_held key s has)
 
+  pub one_name : (p q : ℕ) (n m : List ℕ) (s : ℕ) → Holds keys p n s → Holds keys q m s → (p ≡ q) × (n ≡ m)
+  one_name p q n m s one other = same_key p q n m one.narrow other.narrow one.plain other.plain (is.one_each (key_of p n) (key_of q m) s one.held other.held)
+
   module _ (p s : ℕ) (n : List ℕ) (narrow : p < 2 ^ 32) (plain : IsPlain n) (new_keys : List (List ℕ × ℕ)) (new_children : List (ℕ × ℕ)) where
     pub listing_more : 1 ≤ s → s ≤ slots → ((key : List ℕ) → Contains keys (key, s) → ⊥) → Adds keys new_keys (key_of p n, s) → Adds children new_children (p, s)
         → Rises key_order new_keys → Rises child_order new_children → IsListing slots new_keys new_children

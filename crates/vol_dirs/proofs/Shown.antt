@@ -109,6 +109,15 @@ module _ (v : Version) (slots s : ℕ) (before after : Image) (old new : Dirs) (
       elsewhere : (u : ℕ) → u ≢ s → after (121 + u) ≡ before (121 + u)
       elsewhere u differ = ap (λ (m : Image). m (121 + u)) is ∙ put_other (121 + s) (121 + u) unused before (λ same. differ (omega arith))
 
+pub free_slot : (v : Version) (image : Image) (slots s : ℕ) (dirs : Dirs) → Shows v image slots dirs → image (121 + s) ≡ unused → IsFree dirs s
+free_slot v image slots s dirs shown is p n held = let slot = (shown p n s).0 held in let spelled = slot.spelled in not_unused spelled.entry (sym spelled.spelled ∙ is)
+
+pub same_shown : (v : Version) (one other : Image) (slots : ℕ) (dirs : Dirs) → Shows v one slots dirs → ((s : ℕ) → 1 ≤ s → s ≤ slots → other (121 + s) ≡ one (121 + s)) → Shows v other slots dirs
+same_shown v one other slots dirs shown same p n t = (
+  λ held. let slot = (shown p n t).0 held in same_slot v one other slots slots p n t (same t slot.first slot.last) slot.last slot,
+  λ slot. (shown p n t).1 (same_slot v other one slots slots p n t (sym (same t slot.first slot.last)) slot.last slot),
+)
+
 -- no slot was read yet
 pub shown_first : (v : Version) (image : Image) (dirs : Dirs) → ((s : ℕ) → IsFree dirs s) → Shows v image 0 dirs
 shown_first v image dirs free p n t = (λ held. absurd (free t p n held), λ slot. absurd (omega (arith, slot.first, slot.last)))
