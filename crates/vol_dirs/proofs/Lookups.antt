@@ -1,19 +1,19 @@
 -- What the least key or child over a bound says of names.
-use Rattle.std.proofs.Common.{◌≡◌, ◌≢◌, ◌⊎◌, inl, inr, ℕ, ◌+◌, ◌≤◌, ◌<◌, ◌^◌, Bool, true, false, ◌&&◌, ◌==◌, List, Option, Some, None, MatchOption, length, get_or, refl, sym, ◌∙◌, ap, subst, arith}
-use Rattle.std.specs.List.{Contains, Any, list_any}
+use Rattle.std.proofs.Common.{◌≡◌, ◌≢◌, ◌⊎◌, inl, inr, ℕ, ◌≤◌, ◌<◌, Bool, true, false, ◌&&◌, ◌==◌, List, Option, None, MatchOption, get_or, refl, sym, ◌∙◌, ap, subst, arith}
+use Rattle.std.specs.List.{Contains, list_any}
 use Rattle.std.specs.Cmp.Lexicographic.{slice_cmp}
 use Rattle.std.specs.Ordering.{ordering_then, nat_cmp}
 use Rattle.std.specs.Bool.{then_some}
 use Rattle.std.specs.declared.cmp.Ordering.{Ordering}
 use Rattle.std.specs.declared.cmp.Ordering.TheVariants.{Less, Equal, Greater}
-use Rattle.std.proofs.lemmas.Bool.{cases_lt, cases_eq}
+use Rattle.std.proofs.lemmas.Bool.{cases_lt}
 use Rattle.std.proofs.lemmas.Bool.Decides.{nat_tests}
 use Rattle.std.proofs.lemmas.Cmp.{tied_itself, nat_list_cmp_total}
 use Rattle.std.proofs.lemmas.List.Folds.{Any-from_list_any, list_any_at}
 use Rattle.vol_dirs.specs.Rising.{IsLeastOver, NoneIsOver}
-use Rattle.vol_dirs.specs.Key.{key_of, parent_in, name_in, IsPlain}
+use Rattle.vol_dirs.specs.Key.{key_of, parent_in, name_in}
 use Rattle.vol_dirs.specs.Listing.{Holds, IsListing, key_order, child_order}
-use Rattle.vol_dirs.specs.Names.{Names, IsChild, NoChildOver, IsNextChild}
+use Rattle.vol_dirs.specs.Names.{NoChildOver, IsNextChild}
 use Rattle.vol_dirs.specs.declared.dirs.Dirs.{Dirs}
 use Rattle.vol_dirs.proofs.Orders.{key_ties}
 use Rattle.vol_dirs.proofs.Spelled.{parent_of_key}

@@ -1,6 +1,6 @@
 -- One entry a serial: so there is room for the entries of all slots.
-use Rattle.std.proofs.Common.{◌≡◌, ◌≢◌, inl, inr, ℕ, zero, suc, ◌+◌, ◌-◌, ◌≤◌, ◌<◌, List, [], ◌∷◌, length, map, get_or, eqb, true, false, refl, sym, ◌∙◌, ap, subst, arith}
-use Rattle.std.specs.List.{Contains, Any, IsDistinct, list_any}
+use Rattle.std.proofs.Common.{◌≡◌, ◌≢◌, inl, inr, ℕ, zero, suc, ◌-◌, ◌≤◌, ◌<◌, List, [], ◌∷◌, length, map, get_or, eqb, true, false, sym, ◌∙◌, ap, subst, arith}
+use Rattle.std.specs.List.{Contains, IsDistinct, list_any}
 use Rattle.std.proofs.lemmas.Bool.{cases_lt}
 use Rattle.std.proofs.lemmas.Bool.Decides.{nat_tests}
 use Rattle.std.proofs.lemmas.List.{get_or-map, length-map}
@@ -9,7 +9,7 @@ use Rattle.std.proofs.lemmas.List.Elements.{Contains-get_or}
 use Rattle.std.proofs.lemmas.Map.Keys.{IsDistinct-from_apart}
 use Rattle.std.proofs.lemmas.Map.Steps.{length-le_from_distinct_below}
 use Rattle.vol_dirs.specs.Key.{parent_in}
-use Rattle.vol_dirs.specs.Listing.{IsListing, key_order, child_order}
+use Rattle.vol_dirs.specs.Listing.{IsListing}
 use Rattle.vol_dirs.proofs.Search.{not_itself}
 use Rattle.vol_dirs.proofs.Orders.{key_total, child_total}
 

@@ -1,4 +1,4 @@
-use Rattle.std.proofs.Common.{◌≡◌, ◌∷◌, ◌++◌, ◌∙◌, ◌-◌, ◌+◌, List, ℕ, ◌/◌, ◌%◌, ap, arith, length, replicate}
+use Rattle.std.proofs.Common.{◌∷◌, ◌∙◌, ◌-◌, ◌+◌, List, ℕ, ◌/◌, ◌%◌, ap, arith, length, replicate}
 use borrow.Rule.Slice.PartMut.{put_mid}
 use Rattle.vol_dirs.proofs.Spelled.{name_written}
 use Rattle.vol_dirs.proofs.keys.key_of.Goals as goal

@@ -1,8 +1,5 @@
-use Rattle.std.proofs.Common.{◌≡◌, ◌≤◌, ℕ, sym, subst, length, arith, List}
-use Rattle.std.specs.List.{HoldsAt, insert}
-use Rattle.std.specs.List.Sorted.{IsPartitionPoint, IsNonDecreasingBy}
-use Rattle.std.specs.Ordering.{ordering_index}
-use Rattle.std.specs.declared.cmp.Ordering.TheVariants.{Less, Equal, Greater}
+use Rattle.std.proofs.Common.{◌≡◌, ◌≤◌, sym, subst, length, arith}
+use Rattle.std.specs.List.{insert}
 use Rattle.vol_dirs.specs.Rising.{Rises, Adds}
 use Rattle.vol_dirs.proofs.Search.{comparisons_rise}
 use Rattle.vol_dirs.proofs.Edits.{insert_adds, insert_rises, adds_nothing}

@@ -1,6 +1,5 @@
-use Rattle.std.proofs.Common.{◌≡◌, ◌<◌, ◌≤◌, ◌^◌, arith}
 use Rattle.vol_inode.specs.Entry.{name_of}
-use Rattle.vol_dirs.proofs.Orders.{key_ties, child_ties}
+use Rattle.vol_dirs.proofs.Orders.{key_ties}
 use Rattle.vol_dirs.proofs.Listings.{listing_less, names_less}
 use Rattle.vol_dirs.proofs.dirs.Dirs.forget.Goals as goal
 

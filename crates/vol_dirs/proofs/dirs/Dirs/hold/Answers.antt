@@ -1,6 +1,6 @@
-use Rattle.std.proofs.Common.{◌≡◌, ◌<◌, ◌≤◌, ◌^◌, inl, inr, arith, length}
+use Rattle.std.proofs.Common.{◌<◌, ◌^◌, inl, inr, arith}
 use Rattle.vol_inode.specs.Entry.{name_of}
-use Rattle.vol_dirs.proofs.Orders.{key_ties, child_ties}
+use Rattle.vol_dirs.proofs.Orders.{key_ties}
 use Rattle.vol_dirs.proofs.Listings.{listing_more, names_more, key_free}
 use Rattle.vol_dirs.proofs.Room.{room_for_key, room_for_child}
 use Rattle.vol_dirs.proofs.dirs.Dirs.hold.Goals as goal

@@ -1,6 +1,6 @@
-use Rattle.std.proofs.Common.{◌≡◌, ◌≤◌, ◌+◌, ◌∙◌, ◌↔◌, ◌⊎◌, inl, inr, ℕ, Bool, List, sym, ap, subst, arith}
+use Rattle.std.proofs.Common.{◌≡◌, ◌+◌, ◌∙◌, ◌↔◌, ◌⊎◌, inl, inr, ℕ, Bool, List, sym, ap, subst, arith}
 use Rattle.vol_sector.specs.Disk.{Image, counted}
-use Rattle.vol_log.specs.Log.{view, device_of}
+use Rattle.vol_log.specs.Log.{view, device_of, has_failed}
 use Rattle.vol_dirs.specs.Names.{Names, IsSpelled, Shows}
 use Rattle.vol_dirs.specs.Reading.{OnlyReads}
 use Rattle.vol_dirs.proofs.Readings.{reads_same, reads_then}
@@ -12,7 +12,7 @@ loop-slot-init g c =
     let free = c.in_ok-dirs.ensures.free in
     record {
       kept = c.in_ok-dirs.ensures.slots;
-      working = sym c.if-failed.ensures;
+      working = sym {b = has_failed c.args.log.now} c.if-failed.ensures;
       reads = reads_same c.args.log.now;
       below = λ p n s held. absurd (free s p n held);
       shown = λ honest. shown_first c.args.version (view c.args.log.now) c.in_ok-dirs.dirs free;

@@ -1,4 +1,4 @@
-use Rattle.std.proofs.Common.{◌≡◌, ◌∙◌, ◌+◌, sym, ap, subst}
+use Rattle.std.proofs.Common.{◌≡◌, ◌∙◌, ◌+◌, sym, subst}
 use Rattle.vol_sector.specs.Disk.{Image}
 use Rattle.vol_log.specs.Log.{view}
 use Rattle.vol_inode.specs.declared.version.Version.TheVariants.{One}

@@ -1,8 +1,8 @@
-use Rattle.std.proofs.Common.{◌≡◌, ℕ, sym, subst}
+use Rattle.std.proofs.Common.{ℕ, sym, subst}
 use Rattle.vol_sector.specs.Disk.{Image}
 use Rattle.vol_log.specs.Log.{view}
 use Rattle.vol_inode.specs.declared.version.Version.TheVariants.{One}
-use Rattle.vol_dirs.specs.Names.{slots_of, Shows}
+use Rattle.vol_dirs.specs.Names.{Shows}
 use Rattle.vol_dirs.proofs.tests.changing.open_dirs.Goals as goal
 
 pub returns-in-Ok-clause-shows : goal.returns-in-Ok-clause-shows
