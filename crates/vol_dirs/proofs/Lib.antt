@@ -1,0 +1,9 @@
+pub mod Search
+pub mod Edits
+pub mod Orders
+pub mod Spelled
+pub mod Room
+pub mod Listings
+pub mod Lookups
+pub mod Readings
+pub mod Shown

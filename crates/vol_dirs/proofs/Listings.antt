@@ -1,0 +1,131 @@
+-- What an entry more or less does to the keys and the children.
+use Rattle.std.proofs.Common.{◌≡◌, ◌≢◌, ◌⊎◌, ◌↔◌, inl, inr, ℕ, ◌≤◌, ◌<◌, ◌^◌, List, [], sym, ◌∙◌, ap, subst, arith}
+use Rattle.std.specs.List.{Contains}
+use Rattle.vol_dirs.specs.Rising.{Rises, Adds, Drops}
+use Rattle.vol_dirs.specs.Key.{key_of, parent_in, name_in, IsPlain, IsKey}
+use Rattle.vol_dirs.specs.Listing.{Holds, IsListing, key_order, child_order}
+use Rattle.vol_dirs.proofs.Spelled.{parent_of_key, key_is, plain_in_key, same_key}
+
+-- nothing is held
+pub no_listing : (slots : ℕ) → IsListing slots [] []
+no_listing slots = record {
+  keys_rise = λ i j d lt there. absurd (omega arith);
+  children_rise = λ i j d lt there. absurd (omega arith);
+  numbered = λ key s has. absurd (omega (arith, has.1));
+  formed = λ key s has. absurd (omega (arith, has.1));
+  one_each = λ key other s has also. absurd (omega (arith, has.1));
+  no_more = λ p s has none. omega (arith, has.1);
+  no_fewer = λ key s has none. omega (arith, has.1);
+}
+
+module _ (slots : ℕ) (keys : List (List ℕ × ℕ)) (children : List (ℕ × ℕ)) (is : IsListing slots keys children) where
+  -- each key that is held is that of a name
+  pub name_held : (key : List ℕ) (s : ℕ) → Contains keys (key, s) → Holds keys (parent_in key) (name_in key) s
+  name_held key s has =
+      let formed = is.formed key s has in
+      record {
+        narrow = formed.narrow;
+        plain = plain_in_key key formed;
+        held = subst (λ (k : List ℕ). Contains keys (k, s)) (sym formed.spelled) has;
+      }
+
+  pub key_free : (s : ℕ) → ((p : ℕ) (n : List ℕ) → Holds keys p n s → ⊥) → (key : List ℕ) → Contains keys (key, s) → ⊥
+  key_free s free key has = free (parent_in key) (name_in key) (name_held key s has)
+
+  pub one_name : (p q : ℕ) (n m : List ℕ) (s : ℕ) → Holds keys p n s → Holds keys q m s → (p ≡ q) × (n ≡ m)
+  one_name p q n m s one other = same_key p q n m one.narrow other.narrow one.plain other.plain (is.one_each (key_of p n) (key_of q m) s one.held other.held)
+
+  module _ (p s : ℕ) (n : List ℕ) (narrow : p < 2 ^ 32) (plain : IsPlain n) (new_keys : List (List ℕ × ℕ)) (new_children : List (ℕ × ℕ)) where
+    pub listing_more : 1 ≤ s → s ≤ slots → ((key : List ℕ) → Contains keys (key, s) → ⊥) → Adds keys new_keys (key_of p n, s) → Adds children new_children (p, s)
+        → Rises key_order new_keys → Rises child_order new_children → IsListing slots new_keys new_children
+    listing_more first last free more more_children keys_rise children_rise = record {
+      keys_rise = keys_rise;
+      children_rise = children_rise;
+      numbered = λ key t has. elim (more.only (key, t) has) [
+        | inl old ↦ is.numbered key t old
+        | inr this ↦ let serial = ap (λ (x : List ℕ × ℕ). x.1) this in (omega (arith, serial), omega (arith, serial))
+      ];
+      formed = λ key t has. elim (more.only (key, t) has) [
+        | inl old ↦ is.formed key t old
+        | inr this ↦ subst IsKey (ap (λ (x : List ℕ × ℕ). x.0) this) (key_is p n narrow plain)
+      ];
+      one_each = λ key other t has also. elim (more.only (key, t) has) [
+        | inl old ↦ elim (more.only (other, t) also) [
+          | inl old2 ↦ is.one_each key other t old old2
+          | inr this2 ↦ absurd (free key (subst (λ (u : ℕ). Contains keys (key, u)) (sym (ap (λ (x : List ℕ × ℕ). x.1) this2)) old))
+        ]
+        | inr this ↦ elim (more.only (other, t) also) [
+          | inl old2 ↦ absurd (free other (subst (λ (u : ℕ). Contains keys (other, u)) (sym (ap (λ (x : List ℕ × ℕ). x.1) this)) old2))
+          | inr this2 ↦ sym (ap (λ (x : List ℕ × ℕ). x.0) this) ∙ ap (λ (x : List ℕ × ℕ). x.0) this2
+        ]
+      ];
+      no_more = λ q t has none. elim (more_children.only (q, t) has) [
+        | inl old ↦ is.no_more q t old (λ key held parent. none key (more.kept (key, t) held) parent)
+        | inr this ↦ none (key_of p n) (subst (λ (u : ℕ). Contains new_keys (key_of p n, u)) (ap (λ (x : ℕ × ℕ). x.1) this) more.there) (parent_of_key p n narrow plain ∙ ap (λ (x : ℕ × ℕ). x.0) this)
+      ];
+      no_fewer = λ key t has none. elim (more.only (key, t) has) [
+        | inl old ↦ is.no_fewer key t old (λ child. none (more_children.kept (parent_in key, t) child))
+        | inr this ↦
+            let parent : p ≡ parent_in key = sym (parent_of_key p n narrow plain) ∙ ap (λ (x : List ℕ × ℕ). parent_in x.0) this in
+            let serial : s ≡ t = ap (λ (x : List ℕ × ℕ). x.1) this in
+            none (subst (λ (x : ℕ × ℕ). Contains new_children x) (λ i. (parent i, serial i)) more_children.there)
+      ];
+    }
+
+    pub listing_less : Contains keys (key_of p n, s) → Drops keys new_keys (key_of p n, s) → Drops children new_children (p, s)
+        → Rises key_order new_keys → Rises child_order new_children → IsListing slots new_keys new_children
+    listing_less held less less_children keys_rise children_rise = record {
+      keys_rise = keys_rise;
+      children_rise = children_rise;
+      numbered = λ key t has. is.numbered key t (less.only (key, t) has);
+      formed = λ key t has. is.formed key t (less.only (key, t) has);
+      one_each = λ key other t has also. is.one_each key other t (less.only (key, t) has) (less.only (other, t) also);
+      no_more = λ q t has none. is.no_more q t (less_children.only (q, t) has) (λ key old parent. elim (less.kept (key, t) old) [
+        | inl still ↦ none key still parent
+        | inr this ↦
+            let same_parent : q ≡ p = sym parent ∙ sym (ap (λ (x : List ℕ × ℕ). parent_in x.0) this) ∙ parent_of_key p n narrow plain in
+            let same_serial : t ≡ s = sym (ap (λ (x : List ℕ × ℕ). x.1) this) in
+            less_children.gone (subst (λ (x : ℕ × ℕ). Contains new_children x) (λ i. (same_parent i, same_serial i)) has)
+      ]);
+      no_fewer = λ key t has none. is.no_fewer key t (less.only (key, t) has) (λ child. elim (less_children.kept (parent_in key, t) child) [
+        | inl still ↦ none still
+        | inr this ↦
+            let serial : t ≡ s = sym (ap (λ (x : ℕ × ℕ). x.1) this) in
+            let at_s : Contains new_keys (key, s) = subst (λ (u : ℕ). Contains new_keys (key, u)) serial has in
+            let bytes : key ≡ key_of p n = is.one_each key (key_of p n) s (less.only (key, s) at_s) held in
+            less.gone (subst (λ (k : List ℕ). Contains new_keys (k, s)) bytes at_s)
+      ]);
+    }
+
+    pub names_more : Adds keys new_keys (key_of p n, s) → (q : ℕ) (m : List ℕ) (t : ℕ)
+        → Holds new_keys q m t ↔ (Holds keys q m t ⊎ (q ≡ p) × (m ≡ n) × (t ≡ s))
+    names_more more q m t = (
+      λ h. elim (more.only (key_of q m, t) h.held) [
+        | inl old ↦ inl (record { narrow = h.narrow; plain = h.plain; held = old })
+        | inr this ↦ let same = same_key p q n m narrow h.narrow plain h.plain (ap (λ (x : List ℕ × ℕ). x.0) this) in inr (sym same.0, sym same.1, sym (ap (λ (x : List ℕ × ℕ). x.1) this))
+      ],
+      λ either. elim either [
+        | inl h ↦ record { narrow = h.narrow; plain = h.plain; held = more.kept (key_of q m, t) h.held }
+        | inr (parent, name, serial) ↦ record {
+          narrow = subst (λ (x : ℕ). x < 2 ^ 32) (sym parent) narrow;
+          plain = subst IsPlain (sym name) plain;
+          held = subst (λ (x : List ℕ × ℕ). Contains new_keys x) (λ i. (key_of (sym parent i) (sym name i), sym serial i)) more.there;
+        }
+      ],
+    )
+
+    pub names_less : Contains keys (key_of p n, s) → Drops keys new_keys (key_of p n, s) → (q : ℕ) (m : List ℕ) (t : ℕ)
+        → Holds new_keys q m t ↔ (Holds keys q m t × (t ≢ s))
+    names_less held less q m t = (
+      λ h. (
+        record { narrow = h.narrow; plain = h.plain; held = less.only (key_of q m, t) h.held },
+        λ serial.
+            let at_s : Contains new_keys (key_of q m, s) = subst (λ (u : ℕ). Contains new_keys (key_of q m, u)) serial h.held in
+            let bytes : key_of q m ≡ key_of p n = is.one_each (key_of q m) (key_of p n) s (less.only (key_of q m, s) at_s) held in
+            less.gone (subst (λ (k : List ℕ). Contains new_keys (k, s)) bytes at_s),
+      ),
+      λ (h, other). elim (less.kept (key_of q m, t) h.held) [
+        | inl still ↦ record { narrow = h.narrow; plain = h.plain; held = still }
+        | inr this ↦ absurd (other (sym (ap (λ (x : List ℕ × ℕ). x.1) this)))
+      ],
+    )

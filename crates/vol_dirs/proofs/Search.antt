@@ -1,0 +1,76 @@
+-- What a binary search among items in rising order finds.
+use Rattle.std.proofs.Common.{◌≡◌, inl, inr, ℕ, ◌+◌, ◌≤◌, ◌<◌, List, length, get_or, sym, ◌∙◌, ap, arith}
+use Rattle.std.specs.List.{HoldsAt}
+use Rattle.std.specs.List.Sorted.{IsSortedBy, IsNonDecreasingBy, IsPartitionPoint}
+use Rattle.std.specs.Cmp.{IsTotalOrder}
+use Rattle.std.specs.Ordering.{ordering_reverse, ordering_index, is_lt}
+use Rattle.std.specs.declared.cmp.Ordering.{Ordering}
+use Rattle.std.specs.declared.cmp.Ordering.TheVariants.{Less, Equal, Greater}
+use Rattle.std.proofs.lemmas.Cmp.{alike_right, tied_back}
+use Rattle.std.proofs.lemmas.Bool.{cases_lt, cases_eq}
+use Rattle.std.proofs.lemmas.List.{get_or_default}
+use Rattle.std.proofs.lemmas.List.Sorted.{searchable_from_sorted}
+use Rattle.vol_dirs.specs.Rising.{Rises, IsFirstOver, IsLeastOver, NoneIsOver}
+
+module _ {X : Type 0} {order : X → X → Ordering} (o : IsTotalOrder order) where
+  -- the other way round
+  pub greater_back : (a b : X) → order a b ≡ Less → order b a ≡ Greater
+  greater_back a b less = o.antisymm b a ∙ ap ordering_reverse less
+
+  pub less_back : (a b : X) → order a b ≡ Greater → order b a ≡ Less
+  less_back a b greater = o.antisymm b a ∙ ap ordering_reverse greater
+
+  pub not_both : (a b : X) → order a b ≡ Less → order b a ≡ Less → ⊥
+  not_both a b less back = let e = greater_back a b less in cc
+
+  pub not_itself : (a b : X) → a ≡ b → order a b ≡ Less → ⊥
+  not_itself a b same less = not_both a b less (ap (λ (x : X). order x a) (sym same) ∙ (ap (order a) same ∙ less))
+
+  module _ (xs : List X) (rises : Rises order xs) (x : X) where
+    in_order : IsSortedBy (λ a b. is_lt (order a b)) xs
+    in_order k d low high = ap is_lt (greater_back (get_or xs k d) (get_or xs (k + 1) d) (rises k (k + 1) d (omega arith) high))
+
+    -- the comparisons with the item rise, as a binary search asks
+    pub comparisons_rise : IsNonDecreasingBy (λ y. ordering_index (order y x)) xs
+    comparisons_rise = searchable_from_sorted o (λ y. y) xs x in_order
+
+    pub first_after : (at : ℕ) → at < length xs → HoldsAt (λ y. order y x ≡ Equal) xs at → IsFirstOver order xs x (at + 1)
+    first_after at there tied = record {
+      before = λ k d lt over. elim (cases_eq k at) [
+        | inl same ↦ let e = tied_back o (get_or xs at d) x (tied d) in let f = ap (λ (q : ℕ). order x (get_or xs q d)) same in cc
+        | inr other ↦
+            let e = alike_right o (get_or xs at d) x (get_or xs k d) (tied d) in
+            let less = rises k at d (omega arith) there in
+            not_both x (get_or xs k d) over (sym e ∙ less)
+      ];
+      from = λ k d le lt.
+          let e = o.congr (get_or xs at d) x (get_or xs k d) (tied d) in
+          sym e ∙ rises at k d (omega arith) lt;
+    }
+
+    pub first_in_gap : (at : ℕ) → IsPartitionPoint (λ y. order y x ≡ Less) (λ y. order y x ≡ Greater) xs at → IsFirstOver order xs x at
+    first_in_gap at parted = record {
+      before = λ k d lt over. not_both x (get_or xs k d) over (parted.0 k d (omega arith) lt);
+      from = λ k d le lt. less_back (get_or xs k d) x (parted.1 k d le lt);
+    }
+
+    pub least_of_first : (at : ℕ) (item : X) → IsFirstOver order xs x at → at < length xs → item ≡ get_or xs at item → IsLeastOver order xs x item
+    least_of_first at item first there is = record {
+      there = (at, there, sym is);
+      over = ap (order x) is ∙ first.from at item (omega arith) there;
+      least = λ y has over less.
+          let k = has.0 in
+          let here : get_or xs k item ≡ y = get_or_default xs k item y has.1 ∙ has.2 in
+          elim (cases_lt k at) [
+            | inl lt ↦ first.before k item lt (ap (order x) here ∙ over)
+            | inr le ↦ elim (cases_eq k at) [
+              | inl same ↦ not_itself y item (sym here ∙ (ap (λ (q : ℕ). get_or xs q item) same ∙ sym is)) less
+              | inr other ↦
+                  let rest = rises at k item (omega arith) has.1 in
+                  not_both y item less (ap (λ (z : X). order z y) is ∙ (ap (order (get_or xs at item)) (sym here) ∙ rest))
+            ]
+          ];
+    }
+
+    pub none_of_first : (at : ℕ) → IsFirstOver order xs x at → length xs ≤ at → NoneIsOver order xs x
+    none_of_first at first le y has over = first.before has.0 y (omega (arith, has.1)) (ap (order x) has.2 ∙ over)

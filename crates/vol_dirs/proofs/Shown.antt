@@ -1,0 +1,137 @@
+-- What the names show of the slots, from call to call.
+use Rattle.std.proofs.Common.{◌≡◌, ◌≢◌, ◌⊎◌, ◌↔◌, inl, inr, ℕ, ◌+◌, ◌≤◌, List, take, get_or, refl, sym, ◌∙◌, ap, subst, arith}
+use Rattle.std.proofs.lemmas.Bool.{cases_eq}
+use Rattle.std.proofs.lemmas.Bool.Decides.{nat_tests}
+use Rattle.vol_sector.specs.Disk.{Image, put}
+use Rattle.vol_inode.specs.declared.entry.Entry.{Entry}
+use Rattle.vol_inode.specs.declared.entry.Kind.{Kind}
+use Rattle.vol_inode.specs.declared.entry.Kind.TheVariants.{Directory, File}
+use Rattle.vol_inode.specs.declared.version.Version.{Version}
+use Rattle.vol_inode.specs.Entry.{IsEntry, name_of}
+use Rattle.vol_inode.specs.Spelling.{spelling, kind_byte, unused}
+use Rattle.vol_inode.proofs.Fields.{parent_is, name_is}
+use Rattle.vol_dirs.specs.declared.dirs.Dirs.{Dirs}
+use Rattle.vol_dirs.specs.Names.{Names, IsFree, IsNameOf, IsSpelled, IsInSlot, Shows}
+
+put_same : (at k : ℕ) (bytes : List ℕ) (image : Image) → k ≡ at → put at bytes image k ≡ bytes
+put_same at k bytes image same = grind (arith, nat_tests)
+
+put_other : (at k : ℕ) (bytes : List ℕ) (image : Image) → k ≢ at → put at bytes image k ≡ image k
+put_other at k bytes image differ = grind (arith, nat_tests)
+
+-- two entries with the same sector
+same_entry : (v : Version) (e f : Entry) → IsEntry v e → IsEntry v f → spelling e ≡ spelling f → (e.parent ≡ f.parent) × (name_of e ≡ name_of f)
+same_entry v e f one other same =
+    let long : e.name_length ≡ f.name_length = ap (λ (l : List ℕ). get_or l 1 0) same in
+    let name : e.name ≡ f.name = sym (name_is (spelling e) e one.widths refl) ∙ name_is (spelling e) f other.widths same in (
+      sym (parent_is (spelling e) e one.widths refl) ∙ parent_is (spelling e) f other.widths same,
+      λ i. take (long i) (name i),
+    )
+
+some_kind : (k : Kind) → kind_byte k ≡ 0 → ⊥
+some_kind Directory is = omega arith
+some_kind File is = omega arith
+
+-- an entry's sector isn't that of an unused slot
+not_unused : (e : Entry) → spelling e ≡ unused → ⊥
+not_unused e same = some_kind e.kind (ap (λ (l : List ℕ). get_or l 0 0) same)
+
+-- what is in a slot is seen in an image with the same sector there
+same_slot : (v : Version) (one other : Image) (slots more p : ℕ) (n : List ℕ) (t : ℕ) → other (121 + t) ≡ one (121 + t) → t ≤ more → IsInSlot v one slots p n t → IsInSlot v other more p n t
+same_slot v one other slots more p n t same last slot = record {
+  first = slot.first;
+  last = last;
+  spelled = subst (λ (b : List ℕ). IsSpelled v b p n) (sym same) slot.spelled;
+}
+
+pub spelled_by : (v : Version) (bytes : List ℕ) (e : Entry) (s p : ℕ) (n : List ℕ) (t : ℕ) → IsEntry v e → bytes ≡ spelling e → IsNameOf e s p n t → IsSpelled v bytes p n
+spelled_by v bytes e s p n t right is that = record { entry = e; right = right; spelled = is; parent_is = that.parent_is; name_is = that.name_is }
+
+-- the entry is in its slot
+own_slot : (v : Version) (image : Image) (slots s : ℕ) (e : Entry) (p : ℕ) (n : List ℕ) (t : ℕ) → IsEntry v e → 1 ≤ s → s ≤ slots → image (121 + s) ≡ spelling e → IsNameOf e s p n t → IsInSlot v image slots p n t
+own_slot v image slots s e p n t right first last is that = record {
+  first = subst (λ (x : ℕ). 1 ≤ x) (sym that.serial_is) first;
+  last = subst (λ (x : ℕ). x ≤ slots) (sym that.serial_is) last;
+  spelled = spelled_by v (image (121 + t)) e s p n t right (ap (λ (x : ℕ). image (121 + x)) that.serial_is ∙ is) that;
+}
+
+-- and no other is
+pub spelled_is : (v : Version) (bytes : List ℕ) (e : Entry) (s p : ℕ) (n : List ℕ) (t : ℕ) → IsEntry v e → bytes ≡ spelling e → t ≡ s → IsSpelled v bytes p n → IsNameOf e s p n t
+spelled_is v bytes e s p n t right is at spelled =
+    let same = same_entry v spelled.entry e spelled.right right (sym spelled.spelled ∙ is) in
+    record { parent_is = spelled.parent_is ∙ same.0; name_is = spelled.name_is ∙ same.1; serial_is = at }
+
+slot_is_own : (v : Version) (image : Image) (slots s : ℕ) (e : Entry) (p : ℕ) (n : List ℕ) (t : ℕ) → IsEntry v e → image (121 + s) ≡ spelling e → t ≡ s → IsInSlot v image slots p n t → IsNameOf e s p n t
+slot_is_own v image slots s e p n t right is at slot = spelled_is v (image (121 + t)) e s p n t right (ap (λ (x : ℕ). image (121 + x)) at ∙ is) at slot.spelled
+
+module _ (v : Version) (slots s : ℕ) (before after : Image) (old new : Dirs) (shown : Shows v before slots old) where
+  pub shown_put : (e : Entry) → IsEntry v e → 1 ≤ s → s ≤ slots → after ≡ put (121 + s) (spelling e) before
+      → ((p : ℕ) (n : List ℕ) (t : ℕ) → Names new p n t ↔ (Names old p n t × (t ≢ s) ⊎ IsNameOf e s p n t)) → Shows v after slots new
+  shown_put e right first last is names p n t = (
+    λ held. elim ((names p n t).0 held) [
+      | inl (h, differ) ↦ let slot = (shown p n t).0 h in same_slot v before after slots slots p n t (elsewhere t differ) slot.last slot
+      | inr that ↦ own_slot v after slots s e p n t right first last here that
+    ],
+    λ slot. elim (cases_eq t s) [
+      | inl same ↦ (names p n t).1 (inr (slot_is_own v after slots s e p n t right here same slot))
+      | inr differ ↦ (names p n t).1 (inl ((shown p n t).1 (same_slot v after before slots slots p n t (sym (elsewhere t differ)) slot.last slot), differ))
+    ],
+  )
+    where
+      here : after (121 + s) ≡ spelling e
+      here = ap (λ (m : Image). m (121 + s)) is ∙ put_same (121 + s) (121 + s) (spelling e) before refl
+
+      elsewhere : (u : ℕ) → u ≢ s → after (121 + u) ≡ before (121 + u)
+      elsewhere u differ = ap (λ (m : Image). m (121 + u)) is ∙ put_other (121 + s) (121 + u) (spelling e) before (λ same. differ (omega arith))
+
+  pub shown_added : (e : Entry) → IsEntry v e → 1 ≤ s → s ≤ slots → IsFree old s → after ≡ put (121 + s) (spelling e) before
+      → ((p : ℕ) (n : List ℕ) (t : ℕ) → Names new p n t ↔ (Names old p n t ⊎ IsNameOf e s p n t)) → Shows v after slots new
+  shown_added e right first last free is names = shown_put e right first last is (λ p n t. (
+    λ held. elim ((names p n t).0 held) [
+      | inl h ↦ inl (h, λ same. free p n (subst (λ (x : ℕ). Names old p n x) same h))
+      | inr that ↦ inr that
+    ],
+    λ either. (names p n t).1 (elim either [ inl (h, differ) ↦ inl h | inr that ↦ inr that ]),
+  ))
+
+  pub shown_removed : after ≡ put (121 + s) unused before → ((p : ℕ) (n : List ℕ) (t : ℕ) → Names new p n t ↔ Names old p n t × (t ≢ s)) → Shows v after slots new
+  shown_removed is names p n t = (
+    λ held. let h = (names p n t).0 held in let slot = (shown p n t).0 h.0 in same_slot v before after slots slots p n t (elsewhere t h.1) slot.last slot,
+    λ slot. elim (cases_eq t s) [
+      | inl same ↦ let spelled = slot.spelled in absurd (not_unused spelled.entry (sym spelled.spelled ∙ ap (λ (x : ℕ). after (121 + x)) same ∙ here))
+      | inr differ ↦ (names p n t).1 ((shown p n t).1 (same_slot v after before slots slots p n t (sym (elsewhere t differ)) slot.last slot), differ)
+    ],
+  )
+    where
+      here : after (121 + s) ≡ unused
+      here = ap (λ (m : Image). m (121 + s)) is ∙ put_same (121 + s) (121 + s) unused before refl
+
+      elsewhere : (u : ℕ) → u ≢ s → after (121 + u) ≡ before (121 + u)
+      elsewhere u differ = ap (λ (m : Image). m (121 + u)) is ∙ put_other (121 + s) (121 + u) unused before (λ same. differ (omega arith))
+
+pub free_slot : (v : Version) (image : Image) (slots s : ℕ) (dirs : Dirs) → Shows v image slots dirs → image (121 + s) ≡ unused → IsFree dirs s
+free_slot v image slots s dirs shown is p n held = let slot = (shown p n s).0 held in let spelled = slot.spelled in not_unused spelled.entry (sym spelled.spelled ∙ is)
+
+pub same_shown : (v : Version) (one other : Image) (slots : ℕ) (dirs : Dirs) → Shows v one slots dirs → ((s : ℕ) → 1 ≤ s → s ≤ slots → other (121 + s) ≡ one (121 + s)) → Shows v other slots dirs
+same_shown v one other slots dirs shown same p n t = (
+  λ held. let slot = (shown p n t).0 held in same_slot v one other slots slots p n t (same t slot.first slot.last) slot.last slot,
+  λ slot. (shown p n t).1 (same_slot v other one slots slots p n t (sym (same t slot.first slot.last)) slot.last slot),
+)
+
+-- no slot was read yet
+pub shown_first : (v : Version) (image : Image) (dirs : Dirs) → ((s : ℕ) → IsFree dirs s) → Shows v image 0 dirs
+shown_first v image dirs free p n t = (λ held. absurd (free t p n held), λ slot. absurd (omega (arith, slot.first, slot.last)))
+
+-- one slot more was read
+pub shown_next : (v : Version) (image : Image) (k : ℕ) (old new : Dirs) → Shows v image k old
+    → ((p : ℕ) (n : List ℕ) (t : ℕ) → Names new p n t ↔ (Names old p n t ⊎ (t ≡ k + 1) × IsSpelled v (image (122 + k)) p n)) → Shows v image (k + 1) new
+shown_next v image k old new shown names p n t = (
+  λ held. elim ((names p n t).0 held) [
+    | inl h ↦ let slot = (shown p n t).0 h in same_slot v image image k (k + 1) p n t refl (omega (arith, slot.last)) slot
+    | inr (same, spelled) ↦ record { first = omega arith; last = omega arith; spelled = subst (λ (b : List ℕ). IsSpelled v b p n) (ap image (omega arith)) spelled }
+  ],
+  λ slot. elim (cases_eq t (k + 1)) [
+    | inl same ↦ (names p n t).1 (inr (same, subst (λ (b : List ℕ). IsSpelled v b p n) (ap image (omega arith)) slot.spelled))
+    | inr differ ↦ (names p n t).1 (inl ((shown p n t).1 (same_slot v image image (k + 1) k p n t refl (omega (arith, slot.last)) slot)))
+  ],
+)

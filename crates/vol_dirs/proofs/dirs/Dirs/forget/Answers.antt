@@ -1,0 +1,25 @@
+use Rattle.vol_inode.specs.Entry.{name_of}
+use Rattle.vol_dirs.proofs.Orders.{key_ties}
+use Rattle.vol_dirs.proofs.Listings.{listing_less, names_less}
+use Rattle.vol_dirs.proofs.dirs.Dirs.forget.Goals as goal
+
+pub remove-requires-clause-ties : goal.remove-requires-clause-ties
+remove-requires-clause-ties c = key_ties
+
+pub invariant_of-self-clause-listing : goal.invariant_of-self-clause-listing
+invariant_of-self-clause-listing c =
+    let old = c.args.self.now in
+    let e = c.args.entry.now in
+    let less = rw c.key_of-key.ensures at c.remove.ensures.drops in
+    let held = c.requires.held in
+    listing_less old.slots old.keys.items old.children.items old.listing e.parent c.args.serial (name_of e) held.narrow held.plain c.remove.new.items.items c.remove-2.new.items.items
+    held.held less c.remove-2.ensures.drops c.remove.ensures.rises c.remove-2.ensures.rises
+
+pub returns-clause-names : goal.returns-clause-names
+returns-clause-names c p n s =
+    let old = c.args.self.now in
+    let e = c.args.entry.now in
+    let less = rw c.key_of-key.ensures at c.remove.ensures.drops in
+    let held = c.requires.held in
+    names_less old.slots old.keys.items old.children.items old.listing e.parent c.args.serial (name_of e) held.narrow held.plain c.remove.new.items.items c.remove-2.new.items.items
+    held.held less p n s

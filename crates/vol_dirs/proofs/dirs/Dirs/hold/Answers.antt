@@ -1,0 +1,42 @@
+use Rattle.std.proofs.Common.{◌<◌, ◌^◌, inl, inr, arith}
+use Rattle.vol_inode.specs.Entry.{name_of}
+use Rattle.vol_dirs.proofs.Orders.{key_ties}
+use Rattle.vol_dirs.proofs.Listings.{listing_more, names_more, key_free}
+use Rattle.vol_dirs.proofs.Room.{room_for_key, room_for_child}
+use Rattle.vol_dirs.proofs.dirs.Dirs.hold.Goals as goal
+
+pub insert-requires-clause-ties : goal.insert-requires-clause-ties
+insert-requires-clause-ties c = key_ties
+
+pub insert-requires-clause-room : goal.insert-requires-clause-room
+insert-requires-clause-room c =
+    let old = c.args.self.now in
+    let free = key_free old.slots old.keys.items old.children.items old.listing c.args.serial c.requires.free in
+    omega (arith, room_for_key old.slots old.keys.items old.children.items old.listing c.args.serial c.requires.first c.requires.last free)
+
+pub insert-requires-2-clause-room : goal.insert-requires-2-clause-room
+insert-requires-2-clause-room c =
+    let old = c.args.self.now in
+    let free = key_free old.slots old.keys.items old.children.items old.listing c.args.serial c.requires.free in
+    omega (arith, room_for_child old.slots old.keys.items old.children.items old.listing c.args.serial c.requires.first c.requires.last free)
+
+pub invariant_of-self-clause-listing : goal.invariant_of-self-clause-listing
+invariant_of-self-clause-listing c =
+    let old = c.args.self.now in
+    let e = c.args.entry.now in
+    let free = key_free old.slots old.keys.items old.children.items old.listing c.args.serial c.requires.free in
+    let more = rw c.key_of-key.ensures at c.insert.ensures.adds in
+    let narrow : e.parent < 2 ^ 32 = omega arith in
+    listing_more old.slots old.keys.items old.children.items old.listing e.parent c.args.serial (name_of e) narrow c.requires.plain c.insert.new.items.items c.insert-2.new.items.items
+    c.requires.first c.requires.last free more c.insert-2.ensures.adds c.insert.ensures.rises c.insert-2.ensures.rises
+
+pub returns-clause-names : goal.returns-clause-names
+returns-clause-names c p n s =
+    let old = c.args.self.now in
+    let e = c.args.entry.now in
+    let more = rw c.key_of-key.ensures at c.insert.ensures.adds in
+    let narrow : e.parent < 2 ^ 32 = omega arith in
+    let names = names_more old.slots old.keys.items old.children.items old.listing e.parent c.args.serial (name_of e) narrow c.requires.plain c.insert.new.items.items c.insert-2.new.items.items more p n s in (
+      λ h. elim (names.0 h) [ inl kept ↦ inl kept | inr (parent, name, serial) ↦ inr (record { parent_is = parent; name_is = name; serial_is = serial }) ],
+      λ either. names.1 (elim either [ inl kept ↦ inl kept | inr that ↦ inr (that.parent_is, that.name_is, that.serial_is) ]),
+    )

@@ -1,0 +1,55 @@
+use Rattle.std.proofs.Common.{◌≡◌, ◌+◌, ◌∙◌, ◌↔◌, ◌⊎◌, inl, inr, ℕ, Bool, List, sym, ap, subst, arith}
+use Rattle.vol_sector.specs.Disk.{Image, counted}
+use Rattle.vol_log.specs.Log.{view, device_of, has_failed}
+use Rattle.vol_dirs.specs.Names.{Names, IsSpelled, Shows}
+use Rattle.vol_dirs.specs.Reading.{OnlyReads}
+use Rattle.vol_dirs.proofs.Readings.{reads_same, reads_then}
+use Rattle.vol_dirs.proofs.Shown.{shown_first, shown_next}
+use Rattle.vol_dirs.proofs.dirs.Dirs.open.Goals as goal
+
+pub loop-slot-init : goal.loop-slot-init
+loop-slot-init g c =
+    let free = c.in_ok-dirs.ensures.free in
+    record {
+      kept = c.in_ok-dirs.ensures.slots;
+      working = sym {b = has_failed c.args.log.now} c.if-failed.ensures;
+      reads = reads_same c.args.log.now;
+      below = λ p n s held. absurd (free s p n held);
+      shown = λ honest. shown_first c.args.version (view c.args.log.now) c.in_ok-dirs.dirs free;
+    }
+
+pub hold_image-requires-clause-free : goal.hold_image-requires-clause-free
+hold_image-requires-clause-free g c p n held = let le = c.loop-slot.invariant.below p n _ held in omega (arith, le)
+
+pub loop-slot-preserved : goal.loop-slot-preserved
+loop-slot-preserved g c =
+    let so_far = c.loop-slot.invariant in
+    let read = c.in_ok-image.ensures in
+    let one : OnlyReads c.loop-slot.log c.read.new.self = record {
+      view = read.view;
+      staged = read.staged;
+      crash = read.crash;
+      sectors = read.sectors;
+      honest = read.honest;
+      size = read.size;
+      faults = λ working. read.faults working ∙ ap (λ (b : Bool). counted b (g.D.Device.faults (device_of c.loop-slot.log))) (sym read.failed);
+    } in
+    record {
+      kept = c.hold_image.ensures.slots ∙ so_far.kept;
+      working = read.failed;
+      reads = reads_then c.args.log.now c.loop-slot.log c.read.new.self so_far.working so_far.reads one;
+      below = λ p n s held. elim ((c.hold_image.ensures.names p n s).0 held) [
+        | inl old ↦ omega (arith, so_far.below p n s old)
+        | inr (same, spelled) ↦ omega arith
+      ];
+      shown = λ honest.
+          let content = view c.args.log.now in
+          let bytes : c.in_ok-image.image ≡ content (122 + c.loop-slot.slot) = read.value (so_far.reads.honest.0 honest) ∙ ap (λ (m : Image). m (122 + c.loop-slot.slot)) (so_far.reads.view honest) in
+          let names = subst (λ (b : List ℕ). (p : ℕ) (n : List ℕ) (t : ℕ) → Names c.hold_image.new.self p n t ↔ (Names c.loop-slot.dirs p n t ⊎ (t ≡ c.loop-slot.slot + 1) × IsSpelled c.args.version b p n)) bytes c.hold_image.ensures.names in
+          shown_next c.args.version content c.loop-slot.slot c.loop-slot.dirs c.hold_image.new.self (so_far.shown honest) names;
+    }
+
+pub returns-clause-shows : goal.returns-clause-shows
+returns-clause-shows g c honest =
+    let all : c.loop-slot.slot ≡ c.args.slots = omega arith in
+    subst (λ (k : ℕ). Shows c.args.version (view c.args.log.now) k c.loop-slot.dirs) all (c.loop-slot.invariant.shown honest)

@@ -1,0 +1,61 @@
+use Rattle.std.proofs.Common.{◌≡◌, ◌≢◌, ◌∙◌, ◌+◌, ℕ, List, ◌⊎◌, ◌↔◌, inl, inr, refl, sym, ap, subst, arith}
+use Rattle.vol_sector.specs.Disk.{put}
+use Rattle.vol_log.specs.Log.{view}
+use Rattle.vol_inode.specs.Entry.{name_of}
+use Rattle.vol_dirs.specs.Key.{key_of}
+use Rattle.vol_inode.specs.Spelling.{spelling}
+use Rattle.vol_dirs.specs.Names.{slots_of, Names, IsNameOf, Shows}
+use Rattle.vol_dirs.proofs.Shown.{shown_put}
+use Rattle.vol_dirs.proofs.dirs.Dirs.relocate.Goals as goal
+
+pub overflow_add-serial : goal.overflow_add-serial
+overflow_add-serial g c =
+    let bounds = c.args.self.now.listing.numbered (key_of c.args.from.now.parent (name_of c.args.from.now)) c.args.serial c.requires.held.held in
+    omega (arith, bounds.0, bounds.1)
+
+pub stage-requires-clause-place : goal.stage-requires-clause-place
+stage-requires-clause-place g c =
+    let bounds = c.args.self.now.listing.numbered (key_of c.args.from.now.parent (name_of c.args.from.now)) c.args.serial c.requires.held.held in
+    omega (arith, bounds.0, bounds.1)
+
+pub stage-requires-clause-there : goal.stage-requires-clause-there
+stage-requires-clause-there g c =
+    let bounds = c.args.self.now.listing.numbered (key_of c.args.from.now.parent (name_of c.args.from.now)) c.args.serial c.requires.held.held in
+    omega (arith, bounds.0, bounds.1)
+
+pub hold-requires-clause-first : goal.hold-requires-clause-first
+hold-requires-clause-first g c =
+    let bounds = c.args.self.now.listing.numbered (key_of c.args.from.now.parent (name_of c.args.from.now)) c.args.serial c.requires.held.held in
+    bounds.0
+
+pub hold-requires-clause-last : goal.hold-requires-clause-last
+hold-requires-clause-last g c =
+    let bounds = c.args.self.now.listing.numbered (key_of c.args.from.now.parent (name_of c.args.from.now)) c.args.serial c.requires.held.held in
+    omega (arith, bounds.1, c.forget.ensures.slots)
+
+pub hold-requires-clause-free : goal.hold-requires-clause-free
+hold-requires-clause-free g c p n held = let old = (c.forget.ensures.names p n c.args.serial).0 held in old.1 refl
+
+pub returns-clause-names : goal.returns-clause-names
+returns-clause-names g c p n s =
+    let first = c.forget.ensures.names p n s in
+    let then = c.hold.ensures.names p n s in (
+      λ h. elim (then.0 h) [ inl kept ↦ inl (first.0 kept) | inr that ↦ inr that ],
+      λ either. then.1 (elim either [ inl kept ↦ inl (first.1 kept) | inr that ↦ inr that ]),
+    )
+
+pub returns-clause-view : goal.returns-clause-view
+returns-clause-view g c = c.stage.ensures.view ∙ ap (λ (b : List ℕ). put (121 + c.args.serial) b (view c.args.log.now)) c.write_entry.ensures
+
+pub returns-clause-shows : goal.returns-clause-shows
+returns-clause-shows g c v right shown =
+    let old = c.args.self.now in
+    let bounds = old.listing.numbered (key_of c.args.from.now.parent (name_of c.args.from.now)) c.args.serial c.requires.held.held in
+    let is : view c.stage.new.self ≡ put (121 + c.args.serial) (spelling c.args.to.now) (view c.args.log.now) = c.stage.ensures.view ∙ ap (λ (b : List ℕ). put (121 + c.args.serial) b (view c.args.log.now)) c.write_entry.ensures in
+    let same : slots_of c.hold.new.self ≡ slots_of old = c.hold.ensures.slots ∙ c.forget.ensures.slots in
+    let names : (p : ℕ) (n : List ℕ) (s : ℕ) → Names c.hold.new.self p n s ↔ (Names old p n s × (s ≢ c.args.serial) ⊎ IsNameOf c.args.to.now c.args.serial p n s) = λ p n s. (
+      λ h. elim ((c.hold.ensures.names p n s).0 h) [ inl kept ↦ inl ((c.forget.ensures.names p n s).0 kept) | inr that ↦ inr that ],
+      λ either. (c.hold.ensures.names p n s).1 (elim either [ inl kept ↦ inl ((c.forget.ensures.names p n s).1 kept) | inr that ↦ inr that ]),
+    ) in
+    subst (λ (k : ℕ). Shows v (view c.stage.new.self) k c.hold.new.self) (sym same)
+    (shown_put v (slots_of old) c.args.serial (view c.args.log.now) (view c.stage.new.self) old c.hold.new.self shown c.args.to.now right bounds.0 bounds.1 is names)

@@ -1,0 +1,31 @@
+use Rattle.std.proofs.Common.{◌≡◌, ◌≢◌, ◌<◌, ◌^◌, ◌∙◌, ℕ, List, sym, subst, arith}
+use Rattle.std.specs.List.{Contains}
+use Rattle.std.proofs.lemmas.Bool.{false≢true}
+use Rattle.std.proofs.lemmas.Slice.Eq.{bytes_eq-Decides}
+use Rattle.vol_dirs.specs.Key.{key_of}
+use Rattle.vol_dirs.proofs.Spelled.{plain_name}
+use Rattle.vol_dirs.proofs.Lookups.{one_or_none, none_at_all, no_key, no_key_before}
+use Rattle.vol_dirs.proofs.dirs.Dirs.serial_of.Goals as goal
+
+pub returns-in_err-found : goal.returns-in_err-found
+returns-in_err-found c = none_at_all _ _ _ c.from_residual.ensures (λ s held.
+    let dirs = c.args.self.now in
+    let none = rw (c.deref.ensures.value, c.key_of-key.ensures) at c.in_err-found.ensures.none in
+    let bounds = dirs.listing.numbered (key_of c.args.parent c.args.name.now) s held.held in
+    no_key dirs.keys.items (key_of c.args.parent c.args.name.now) s none bounds.0 held.held)
+
+pub returns : goal.returns
+returns c =
+    let dirs = c.args.self.now in
+    let key = key_of c.args.parent c.args.name.now in
+    let least = rw (c.deref.ensures.value, c.key_of-key.ensures) at c.in_ok-found.ensures.found in
+    let tells = bytes_eq-Decides c.in_ok-found.found c.key_of-key.result in
+    let narrow : c.args.parent < 2 ^ 32 = omega arith in
+    one_or_none _ _ _ _ _ c.then_some.ensures
+    (λ test.
+    let same : c.in_ok-found.found ≡ key = tells.0 (sym c.eq.ensures ∙ test) ∙ c.key_of-key.ensures in
+    record { narrow = narrow; plain = plain_name c.args.name.now c.requires; held = subst (λ (k : List ℕ). Contains dirs.keys.items (k, c.in_ok-found.serial)) same least.there })
+    (λ test s held.
+    let differ : c.in_ok-found.found ≢ key = λ same. false≢true (sym test ∙ c.eq.ensures ∙ tells.1 (same ∙ sym c.key_of-key.ensures)) in
+    let bounds = dirs.listing.numbered key s held.held in
+    no_key_before dirs.keys.items key c.in_ok-found.found c.in_ok-found.serial s least differ bounds.0 held.held)

@@ -1,0 +1,59 @@
+-- What a caller sees of the names of a volume.
+use Rattle.std.specs.Prelude.{◌≡◌, ◌↔◌, ◌+◌, ◌≤◌, ◌<◌, ℕ, List}
+use Rattle.vol_sector.specs.Disk.{Image}
+use Rattle.vol_inode.specs.declared.entry.Entry.{Entry}
+use Rattle.vol_inode.specs.declared.version.Version.{Version}
+use Rattle.vol_inode.specs.Entry.{IsEntry, name_of}
+use Rattle.vol_inode.specs.Spelling.{spelling}
+use Rattle.vol_dirs.specs.Listing.{Holds}
+use Rattle.vol_dirs.specs.declared.dirs.Dirs.{Dirs}
+
+-- how many slots the volume has
+abbrev pub slots_of : Dirs → ℕ
+slots_of dirs = dirs.slots
+
+-- an entry with this parent, name and serial is held
+abbrev pub Names : Dirs → ℕ → List ℕ → ℕ → Type 0
+Names dirs parent name serial = Holds dirs.keys.items parent name serial
+
+-- no entry of this serial is held
+abbrev pub IsFree : Dirs → ℕ → Type 0
+IsFree dirs serial = (parent : ℕ) (name : List ℕ) → Names dirs parent name serial → ⊥
+
+-- an entry of this serial is held in the directory
+abbrev pub IsChild : Dirs → ℕ → ℕ → Type 0
+IsChild dirs parent serial = (name : List ℕ) × Names dirs parent name serial
+
+-- no entry in the directory has a greater serial
+abbrev pub NoChildOver : Dirs → ℕ → ℕ → Type 0
+NoChildOver dirs parent after = (serial : ℕ) → IsChild dirs parent serial → serial ≤ after
+
+-- the least greater serial of an entry in the directory
+pub record IsNextChild (dirs : Dirs) (parent after serial : ℕ) : Type 0 where
+  pub over : after < serial
+  pub child : IsChild dirs parent serial
+  pub least : (other : ℕ) → IsChild dirs parent other → after < other → serial ≤ other
+
+-- the entry has this parent and name, and this is its serial
+pub record IsNameOf (entry : Entry) (own : ℕ) (parent : ℕ) (name : List ℕ) (serial : ℕ) : Type 0 where
+  pub parent_is : parent ≡ entry.parent
+  pub name_is : name ≡ name_of entry
+  pub serial_is : serial ≡ own
+
+-- the bytes are those of an entry with this parent and name
+pub record IsSpelled (version : Version) (bytes : List ℕ) (parent : ℕ) (name : List ℕ) : Type 0 where
+  pub entry : Entry
+  pub right : IsEntry version entry
+  pub spelled : bytes ≡ spelling entry
+  pub parent_is : parent ≡ entry.parent
+  pub name_is : name ≡ name_of entry
+
+-- the serial's slot holds an entry with this parent and name
+pub record IsInSlot (version : Version) (image : Image) (slots parent : ℕ) (name : List ℕ) (serial : ℕ) : Type 0 where
+  pub first : 1 ≤ serial
+  pub last : serial ≤ slots
+  pub spelled : IsSpelled version (image (121 + serial)) parent name
+
+-- exactly the entries in the slots are held
+abbrev pub Shows : Version → Image → ℕ → Dirs → Type 0
+Shows version image slots dirs = (parent : ℕ) (name : List ℕ) (serial : ℕ) → Names dirs parent name serial ↔ IsInSlot version image slots parent name serial

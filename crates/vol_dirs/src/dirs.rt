@@ -1,0 +1,273 @@
+//! The names of a volume, answered from memory.
+
+ghost use Rattle.std.specs.Prelude.{◌≡◌, ◌≤◌, ◌<◌, ◌+◌, ◌-◌, ◌==◌, ◌⊎◌, if◌then◌else◌, ◌↔◌, ◌≢◌, ℕ, List, vec_capacity};
+ghost use Rattle.std.specs.Prelude.{true, false, IfOk, IfErr, IsErr, is_err, MatchOption};
+ghost use Rattle.vol_sector.specs.Disk.{put};
+ghost use Rattle.vol_sector.specs.Fault.{device_failed};
+ghost use Rattle.vol_log.specs.Log.{view, device_of, sectors_of, room_of, is_staged, has_failed};
+ghost use Rattle.vol_inode.specs.Name.{IsName};
+ghost use Rattle.vol_inode.specs.Entry.{IsEntry, HasName, name_of};
+ghost use Rattle.vol_inode.specs.Spelling.{spelling, unused};
+ghost use Rattle.vol_inode.specs.declared.version.Version.{Version};
+ghost use Rattle.vol_dirs.specs.Key.{IsPlain};
+ghost use Rattle.vol_dirs.specs.Listing.{IsListing};
+
+use crate::keys::key_of;
+use crate::sorted::{insert, least_over, remove};
+use std::alloc::{AllocError, Global};
+use vol_inode::{Entry, Version, read_entry, write_entry};
+use vol_log::Log;
+use vol_sector::{Device, DeviceFault, VolumeFault};
+
+// As many slots as have sectors behind the log: no log has more sectors than 32 bits can number.
+const MOST_SLOTS: u32 = u32::MAX - 122;
+
+/// The names of a volume's entries.
+///
+/// The slot of the entry with serial s, which counts from 1, is sector 121 + s: it holds the entry,
+/// or zeros where it isn't used. What the slots hold is kept in memory too, in two sorted vectors
+/// with room for all slots: the keys of the names with their serials, and the parents with their
+/// serials.
+#[derive(Drop)]
+pub struct Dirs {
+    slots: u32,
+    keys: Vec<([u8; 259], u32)>,
+    children: Vec<(u32, u32)>,
+    ghost few: { slots ≤ 4294967173 },
+    ghost listing: { IsListing slots keys.items children.items },
+    ghost keys_room: { slots ≤ vec_capacity keys },
+    ghost children_room: { slots ≤ vec_capacity children },
+}
+
+impl Dirs {
+    ghost use Rattle.vol_dirs.specs.Names.{slots_of, Names, IsFree, IsNameOf, IsNextChild, NoChildOver};
+    ghost use Rattle.vol_dirs.specs.Names.{IsSpelled, Shows};
+    ghost use Rattle.vol_dirs.specs.Reading.{OnlyReads};
+
+    /// Reads the slots, one after another. A slot that `read_entry` refuses counts as unused.
+    ///
+    /// It is refused as `Device` where the log has failed, before or now, and else as `Memory`. It
+    /// reserves the memory for all later calls.
+    pub fn open<D: Device>(
+        alloc: Global,
+        log: &mut Log<D>,
+        version: Version,
+        slots: u32,
+    ) -> Result<Dirs, VolumeFault>
+        requires there { 122 + slots ≤ sectors_of log.old }
+        ensures shows { D.honest (device_of log.old)
+            → IfOk result (λ dirs. Shows version (view log.old) slots dirs) }
+        ensures slots { IfOk result (λ dirs. slots_of dirs ≡ slots) }
+        ensures refused { IfErr result (λ fault. (fault ≡ VolumeFault.Device)
+            ⊎ (fault ≡ VolumeFault.Memory)) }
+        ensures failed { has_failed log.new ≡ device_failed result }
+        ensures idle { has_failed log.old ≡ true → log.new ≡ log.old }
+        ensures reads { OnlyReads log.old log.new }
+    {
+        if log.failed() {
+            return Err(VolumeFault::Device);
+        }
+        let mut dirs = Dirs::reserve(alloc, slots)?;
+        for slot in 0..slots {
+            let image = log.read(122 + slot)?;
+            dirs.hold_image(version, slot + 1, &image);
+        }
+        Ok(dirs)
+    }
+
+    /// The serial of the entry with this name in a directory. Where the log has failed, it answers
+    /// that.
+    pub fn lookup<D: Device>(
+        &self,
+        log: &Log<D>,
+        parent: u32,
+        name: &[u8],
+    ) -> Result<Option<u32>, DeviceFault>
+        requires { IsName name.now }
+        ensures failed { is_err result ≡ has_failed log.now }
+        ensures found { IfOk result (λ found. MatchOption found
+            ((s : ℕ) → Names self.now parent name.now s → ⊥)
+            (λ s. Names self.now parent name.now s)) }
+    {
+        if log.failed() {
+            return Err(DeviceFault);
+        }
+        Ok(self.serial_of(parent, name))
+    }
+
+    /// The least serial over `after` of an entry in a directory. Where the log has failed, it
+    /// answers that.
+    pub fn next_child<D: Device>(
+        &self,
+        log: &Log<D>,
+        parent: u32,
+        after: u32,
+    ) -> Result<Option<u32>, DeviceFault>
+        ensures failed { is_err result ≡ has_failed log.now }
+        ensures found { IfOk result (λ found. MatchOption found
+            (NoChildOver self.now parent after)
+            (λ s. IsNextChild self.now parent after s)) }
+    {
+        if log.failed() {
+            return Err(DeviceFault);
+        }
+        Ok(self.child_over(parent, after))
+    }
+
+    /// Stages an entry in an unused slot.
+    pub fn add<D: Device>(&mut self, log: &mut Log<D>, serial: u32, entry: &Entry)
+        requires first { 1 ≤ serial }
+        requires last { serial ≤ slots_of self.old }
+        requires free { IsFree self.old serial }
+        requires named { HasName entry.now }
+        requires there { 122 + slots_of self.old ≤ sectors_of log.old }
+        requires room { 0 < room_of log.old }
+        requires working { has_failed log.old ≡ false }
+        ensures names { (p : ℕ) (n : List ℕ) (s : ℕ) → Names self.new p n s
+            ↔ (Names self.old p n s ⊎ IsNameOf entry.now serial p n s) }
+        ensures slots { slots_of self.new ≡ slots_of self.old }
+        ensures view { view log.new ≡ put (121 + serial) (spelling entry.now) (view log.old) }
+        ensures room { room_of log.new ≡ (if is_staged log.old (121 + serial)
+            then room_of log.old else room_of log.old - 1) }
+        ensures staged { (k : ℕ) → is_staged log.new k
+            ≡ (if k == 121 + serial then true else is_staged log.old k) }
+        ensures device { device_of log.new ≡ device_of log.old }
+        ensures failed { has_failed log.new ≡ false }
+        ensures sectors { sectors_of log.new ≡ sectors_of log.old }
+        ensures shows { (version : Version) → IsEntry version entry.now
+            → Shows version (view log.old) (slots_of self.old) self.old
+            → Shows version (view log.new) (slots_of self.new) self.new }
+    {
+        log.stage(121 + serial, &write_entry(entry));
+        self.hold(serial, entry);
+    }
+
+    /// Stages an unused slot in an entry's place.
+    pub fn remove<D: Device>(&mut self, log: &mut Log<D>, serial: u32, entry: &Entry)
+        requires held { Names self.old entry.now.parent (name_of entry.now) serial }
+        requires there { 122 + slots_of self.old ≤ sectors_of log.old }
+        requires room { 0 < room_of log.old }
+        requires working { has_failed log.old ≡ false }
+        ensures names { (p : ℕ) (n : List ℕ) (s : ℕ) → Names self.new p n s
+            ↔ (Names self.old p n s × (s ≢ serial)) }
+        ensures slots { slots_of self.new ≡ slots_of self.old }
+        ensures view { view log.new ≡ put (121 + serial) unused (view log.old) }
+        ensures room { room_of log.new ≡ (if is_staged log.old (121 + serial)
+            then room_of log.old else room_of log.old - 1) }
+        ensures staged { (k : ℕ) → is_staged log.new k
+            ≡ (if k == 121 + serial then true else is_staged log.old k) }
+        ensures device { device_of log.new ≡ device_of log.old }
+        ensures failed { has_failed log.new ≡ false }
+        ensures sectors { sectors_of log.new ≡ sectors_of log.old }
+        ensures shows { (version : Version)
+            → Shows version (view log.old) (slots_of self.old) self.old
+            → Shows version (view log.new) (slots_of self.new) self.new }
+    {
+        log.stage(121 + serial, &[0; 512]);
+        self.forget(serial, entry);
+    }
+
+    /// Stages an entry with another parent or name in its place.
+    pub fn relocate<D: Device>(&mut self, log: &mut Log<D>, serial: u32, from: &Entry, to: &Entry)
+        requires held { Names self.old from.now.parent (name_of from.now) serial }
+        requires named { HasName to.now }
+        requires there { 122 + slots_of self.old ≤ sectors_of log.old }
+        requires room { 0 < room_of log.old }
+        requires working { has_failed log.old ≡ false }
+        ensures names { (p : ℕ) (n : List ℕ) (s : ℕ) → Names self.new p n s
+            ↔ ((Names self.old p n s × (s ≢ serial)) ⊎ IsNameOf to.now serial p n s) }
+        ensures slots { slots_of self.new ≡ slots_of self.old }
+        ensures view { view log.new ≡ put (121 + serial) (spelling to.now) (view log.old) }
+        ensures room { room_of log.new ≡ (if is_staged log.old (121 + serial)
+            then room_of log.old else room_of log.old - 1) }
+        ensures staged { (k : ℕ) → is_staged log.new k
+            ≡ (if k == 121 + serial then true else is_staged log.old k) }
+        ensures device { device_of log.new ≡ device_of log.old }
+        ensures failed { has_failed log.new ≡ false }
+        ensures sectors { sectors_of log.new ≡ sectors_of log.old }
+        ensures shows { (version : Version) → IsEntry version to.now
+            → Shows version (view log.old) (slots_of self.old) self.old
+            → Shows version (view log.new) (slots_of self.new) self.new }
+    {
+        log.stage(121 + serial, &write_entry(to));
+        self.forget(serial, from);
+        self.hold(serial, to);
+    }
+
+    /// The serial that a name in a directory is held with.
+    fn serial_of(&self, parent: u32, name: &[u8]) -> Option<u32>
+        requires { IsName name.now }
+        ensures { MatchOption result ((s : ℕ) → Names self.now parent name.now s → ⊥)
+            (λ s. Names self.now parent name.now s) }
+    {
+        let key = key_of(parent, name);
+        let (found, serial) = least_over(&self.keys, &(key, 0))?;
+        (found == key).then_some(serial)
+    }
+
+    /// The least serial over `after` that is held with a directory.
+    fn child_over(&self, parent: u32, after: u32) -> Option<u32>
+        ensures { MatchOption result (NoChildOver self.now parent after)
+            (λ s. IsNextChild self.now parent after s) }
+    {
+        let (found, serial) = least_over(&self.children, &(parent, after))?;
+        (found == parent).then_some(serial)
+    }
+
+    /// No names, with the memory for those of all slots.
+    fn reserve(alloc: Global, slots: u32) -> Result<Dirs, AllocError>
+        ensures slots { IfOk result (λ dirs. slots_of dirs ≡ slots) }
+        ensures free { IfOk result (λ dirs. (serial : ℕ) → IsFree dirs serial) }
+    {
+        if slots > MOST_SLOTS {
+            return Err(AllocError);
+        }
+        Ok(Dirs {
+            slots,
+            keys: Vec::with_capacity(alloc, slots as usize)?,
+            children: Vec::with_capacity(alloc, slots as usize)?,
+        })
+    }
+
+    /// Takes up the name of the entry that a slot holds, if it holds one.
+    fn hold_image(&mut self, version: Version, serial: u32, image: &[u8; 512])
+        requires first { 1 ≤ serial }
+        requires last { serial ≤ slots_of self.old }
+        requires free { IsFree self.old serial }
+        ensures names { (p : ℕ) (n : List ℕ) (s : ℕ) → Names self.new p n s
+            ↔ (Names self.old p n s ⊎ (s ≡ serial) × IsSpelled version image.now p n) }
+        ensures slots { slots_of self.new ≡ slots_of self.old }
+    {
+        let Ok(Some(entry)) = read_entry(version, image) else {
+            return;
+        };
+        self.hold(serial, &entry);
+    }
+
+    /// Takes up the name of an entry whose serial isn't held.
+    fn hold(&mut self, serial: u32, entry: &Entry)
+        requires first { 1 ≤ serial }
+        requires last { serial ≤ slots_of self.old }
+        requires free { IsFree self.old serial }
+        requires plain { IsPlain (name_of entry.now) }
+        ensures names { (p : ℕ) (n : List ℕ) (s : ℕ) → Names self.new p n s
+            ↔ (Names self.old p n s ⊎ IsNameOf entry.now serial p n s) }
+        ensures slots { slots_of self.new ≡ slots_of self.old }
+    {
+        let key = key_of(entry.parent, &entry.name[..entry.name_length as usize]);
+        insert(&mut self.keys, (key, serial));
+        insert(&mut self.children, (entry.parent, serial));
+    }
+
+    /// Gives up the name of an entry that is held.
+    fn forget(&mut self, serial: u32, entry: &Entry)
+        requires held { Names self.old entry.now.parent (name_of entry.now) serial }
+        ensures names { (p : ℕ) (n : List ℕ) (s : ℕ) → Names self.new p n s
+            ↔ (Names self.old p n s × (s ≢ serial)) }
+        ensures slots { slots_of self.new ≡ slots_of self.old }
+    {
+        let key = key_of(entry.parent, &entry.name[..entry.name_length as usize]);
+        remove(&mut self.keys, &(key, serial));
+        remove(&mut self.children, &(entry.parent, serial));
+    }
+}

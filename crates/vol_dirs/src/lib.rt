@@ -1,0 +1,12 @@
+//! The names of a volume: which serial an entry has by its directory and its name.
+#![tactic(auto)]
+
+mod dirs;
+mod keys;
+mod laws;
+mod sorted;
+#[cfg(test)]
+mod tests;
+
+pub use dirs::Dirs;
+pub use laws::{each_serial_has_one_name, other_sectors_are_not_shown, unused_slots_are_free};
