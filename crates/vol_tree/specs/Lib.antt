@@ -1,0 +1,5 @@
+pub mod Tree
+pub mod Space
+pub mod Calls
+pub mod Laws
+pub mod Numbers

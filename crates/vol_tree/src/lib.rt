@@ -1,0 +1,11 @@
+//! A volume of files in directories, kept through a crash.
+#![tactic(auto)]
+
+mod errno;
+mod laws;
+
+pub use errno::Errno;
+pub use laws::{
+    created_has_the_least_serial, created_is_a_tree, paths_determine_the_tree,
+    rename_moves_the_subtree, within_is_below,
+};
