@@ -3,3 +3,5 @@ pub mod Space
 pub mod Calls
 pub mod Laws
 pub mod Numbers
+pub mod Superblock
+pub mod Stands

@@ -3,6 +3,7 @@
 
 mod errno;
 mod laws;
+mod superblock;
 
 pub use errno::Errno;
 pub use laws::{
