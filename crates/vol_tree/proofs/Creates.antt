@@ -1,9 +1,8 @@
 -- A created entry has the least serial.
-use Rattle.std.proofs.Common.{is_some, ◌≡◌, ◌≢◌, ℕ, zero, suc, ◌+◌, ◌<◌, Option, Some, None, Result, Ok, Err, refl, sym, ◌∙◌, ap, subst, arith}
+use Rattle.std.proofs.Common.{◌≡◌, ℕ, suc, Some, None, ◌∙◌, ap, subst, arith}
 use Rattle.std.proofs.lemmas.List.{get_or-set_same}
-use Rattle.vol_tree.specs.Tree.{Tree, Name, Node, Entry, entry, changed, lookup, least_from, is_unused}
+use Rattle.vol_tree.specs.Tree.{Tree, Entry, entry, changed, lookup, least_from, is_unused}
 use Rattle.vol_tree.specs.Laws.{CreatesLeast, CreatedHasTheLeastSerial}
-use Rattle.vol_tree.specs.declared.errno.Errno.{Errno}
 use Rattle.vol_tree.specs.declared.errno.Errno.TheVariants as errno
 use Rattle.vol_tree.proofs.Entries.{entry-changed_other}
 use Rattle.vol_tree.proofs.Lookups.{found, unused_none, used_some, not_refused, taken}
@@ -16,7 +15,7 @@ made T e serial h =
       unused = ap (entry T) at ∙ unused_none _ f.passes;
       least = λ t l. used_some _ (f.before t (omega (arith, f.is)));
       there = ap (λ (s : ℕ). entry (changed T s (Some e)) s) at ∙ get_or-set_same T f.place (Some e) None f.within;
-      others = λ t n. entry-changed_other T serial t (Some e) n
+      others = λ t n. entry-changed_other T serial t (Some e) n;
     }
 
 pub created_least : CreatedHasTheLeastSerial

@@ -1,12 +1,11 @@
 -- The map from paths says all of a tree.
-use Rattle.std.proofs.Common.{is_some, ◌≡◌, ◌≢◌, ℕ, zero, suc, ◌+◌, ◌<◌, ◌≤◌, Bool, true, false, List, [], ◌∷◌, ◌++◌, length, get_or, Option, Some, None, refl, sym, ◌∙◌, ap, subst, inl, inr, arith}
+use Rattle.std.proofs.Common.{is_some, ◌≡◌, ℕ, suc, true, [], ◌∷◌, Option, Some, None, refl, sym, ◌∙◌, ap, subst}
 use Rattle.std.specs.Option.{option_map}
 use Rattle.std.proofs.lemmas.List.{ext_get_or}
-use Rattle.std.proofs.lemmas.Option.{same_Some, none-some}
-use Rattle.std.proofs.lemmas.Bool.{cases_eq, false≢true}
-use Rattle.vol_tree.specs.Tree.{Tree, Path, Name, Node, Entry, entry, Leads, IsAt, IsTree, root}
+use Rattle.std.proofs.lemmas.Option.{same_Some}
+use Rattle.std.proofs.lemmas.Bool.{false≢true}
+use Rattle.vol_tree.specs.Tree.{Tree, Path, Entry, entry, Leads, IsAt, IsTree, root}
 use Rattle.vol_tree.specs.Laws.{SamePaths, PathsDetermineTheTree}
-use Rattle.vol_tree.proofs.Entries.{one_path}
 
 -- at most one entry stands at a path
 pub one_serial : (T : Tree) (t : IsTree T) (p : Path) (a b : ℕ) → IsAt T p a → IsAt T p b → a ≡ b

@@ -1,16 +1,16 @@
 -- Entries of changed trees, and paths that lead through them.
-use Rattle.std.proofs.Common.{is_some, ◌≡◌, ◌≢◌, ℕ, zero, suc, ◌+◌, ◌<◌, ◌≤◌, Bool, true, false, cond, List, [], ◌∷◌, ◌++◌, length, get_or, set, Option, Some, None, refl, sym, ◌∙◌, ap, subst, inl, inr, arith}
+use Rattle.std.proofs.Common.{is_some, ◌≡◌, ◌≢◌, ℕ, zero, suc, ◌<◌, [], ◌∷◌, ◌++◌, length, Option, Some, None, refl, sym, ◌∙◌, ap, subst, inl, inr, arith}
 use Rattle.std.proofs.lemmas.List.{get_or-set_same, get_or-set_other, get_or_past, length-append}
 use Rattle.std.proofs.lemmas.Option.{same_Some, none-some}
-use Rattle.std.proofs.lemmas.Bool.{cases_lt, cases_eq}
-use Rattle.vol_tree.specs.Tree.{Tree, Path, Name, Node, Directory, File, Entry, entry, changed, Leads, IsAt, IsTree, root}
+use Rattle.std.proofs.lemmas.Bool.{cases_lt}
+use Rattle.vol_tree.specs.Tree.{Tree, Path, Name, Entry, entry, changed, Leads, IsAt, IsTree, root}
 
 -- a serial with an entry is within the slots
 pub used_within : (T : Tree) (slot : ℕ) (e : Entry) → entry T (suc slot) ≡ Some e → slot < length T
 used_within T slot e h = elim (cases_lt slot (length T)) [
-    | inl l ↦ l
-    | inr past ↦ absurd (none-some e (sym (get_or_past T slot None past) ∙ h))
-  ]
+  | inl l ↦ l
+  | inr past ↦ absurd (none-some e (sym (get_or_past T slot None past) ∙ h))
+]
 
 pub entry-changed_same : (T : Tree) (s : ℕ) (d : Entry) (e : Option Entry) → entry T s ≡ Some d → entry (changed T s e) s ≡ e
 entry-changed_same T zero d e h = absurd (none-some d h)

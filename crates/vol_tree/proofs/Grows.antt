@@ -1,13 +1,12 @@
 -- A tree with a created entry is a tree.
-use Rattle.std.proofs.Common.{is_some, ◌≡◌, ◌≢◌, ℕ, zero, suc, ◌+◌, ◌<◌, Bool, true, false, cond, List, [], ◌∷◌, length, get_or, Option, Some, None, Result, Ok, Err, refl, sym, ◌∙◌, ap, subst, inl, inr, arith, eqb, ◌&&◌, ◌⊎◌}
+use Rattle.std.proofs.Common.{is_some, ◌≡◌, ◌≢◌, ℕ, zero, suc, ◌<◌, Bool, true, false, [], ◌∷◌, length, get_or, Option, Some, None, Result, Ok, Err, refl, sym, ◌∙◌, ap, subst, inl, inr, arith, eqb, ◌⊎◌}
 use Rattle.std.specs.Option.{option_map_or}
 use Rattle.std.proofs.lemmas.Option.{same_Some, none-some}
 use Rattle.std.proofs.lemmas.Bool.{cases_eq, cases_Bool, cond-true, cond-false, false≢true, and_from, eq-eqb}
 use Rattle.std.proofs.lemmas.Bool.Decides.{Decides-eqb}
 use Rattle.std.proofs.lemmas.Slice.Eq.{slice_eq-Decides}
-use Rattle.vol_tree.specs.Tree.{Tree, Path, Name, Node, Entry, entry, changed, lookup, least_from, is_child, is_unused, same_name, Leads, IsAt, IsTree, IsDirectory, root}
+use Rattle.vol_tree.specs.Tree.{Tree, Path, Name, Entry, entry, lookup, least_from, is_child, same_name, IsAt, IsTree, IsDirectory, root}
 use Rattle.vol_inode.specs.Name.{IsName}
-use Rattle.vol_tree.specs.Calls.{created}
 use Rattle.vol_tree.specs.Laws.{CreatesLeast, CreatedIsTree}
 use Rattle.vol_tree.specs.declared.errno.Errno.{Errno}
 use Rattle.vol_tree.specs.declared.errno.Errno.TheVariants as errno
@@ -17,12 +16,12 @@ use Rattle.vol_tree.proofs.Creates.{created_least}
 none_passes : (n : ℕ) (test : Option Entry → Bool) (T : Tree) → least_from n test T ≡ None → (i : ℕ) → i < length T → test (get_or T i None) ≡ false
 none_passes n test [] h i l = absurd (omega arith)
 none_passes n test (e ∷ T) h i l = elim (cases_Bool (test e)) [
-    | inl hit ↦ absurd (none-some n (sym h ∙ cond-true _ _ _ hit))
-    | inr miss ↦ elim i as (λ i. i < suc (length T) → test (get_or (e ∷ T) i None) ≡ false) [
-        | zero ↦ λ l. miss
-        | suc j ↦ λ l. none_passes (suc n) test T (sym (cond-false _ _ _ miss) ∙ h) j (omega arith)
-      ] l
-  ]
+  | inl hit ↦ absurd (none-some n (sym h ∙ cond-true _ _ _ hit))
+  | inr miss ↦ elim i as (λ i. i < suc (length T) → test (get_or (e ∷ T) i None) ≡ false) [
+    | zero ↦ λ l. miss
+    | suc j ↦ λ l. none_passes (suc n) test T (sym (cond-false _ _ _ miss) ∙ h) j (omega arith)
+  ] l
+]
 
 -- where a look-up finds nothing, no entry has that name in that directory
 not_there : (T : Tree) (parent : ℕ) (name : Name) → lookup T parent name ≡ None → (s : ℕ) (e : Entry) → entry T s ≡ Some e → e.parent ≡ parent → e.name ≡ name → ⊥
@@ -57,42 +56,42 @@ module _ (T U : Tree) (t : IsTree T) (s : ℕ) (e : Entry) (c : CreatesLeast T U
 
   which : (x : ℕ) (d : Entry) → entry U x ≡ Some d → IsNewOr x d
   which x d h = elim (cases_eq x s) [
-      | inl same ↦ inl (same, same_Some d e (sym h ∙ (ap (entry U) same ∙ c.there)))
-      | inr other ↦ inr (sym (c.others x other) ∙ h)
-    ]
+    | inl same ↦ inl (same, same_Some d e (sym h ∙ (ap (entry U) same ∙ c.there)))
+    | inr other ↦ inr (sym (c.others x other) ∙ h)
+  ]
 
   grown : IsTree U
   grown = record {
     top = still 1 root t.top;
     named = λ x d h not_top. elim (which x d h) [
-        | inl new ↦ subst (λ (d : Entry). IsName d.name) (sym new.1) name
-        | inr old ↦ t.named x d old not_top
-      ];
+      | inl new ↦ subst (λ (d : Entry). IsName d.name) (sym new.1) name
+      | inr old ↦ t.named x d old not_top
+    ];
     inside = λ x d h not_top. elim (which x d h) [
-        | inl new ↦ is_directory_still d.parent (subst (λ (d : Entry). IsDirectory T d.parent) (sym new.1) inside)
-        | inr old ↦ is_directory_still d.parent (t.inside x d old not_top)
-      ];
+      | inl new ↦ is_directory_still d.parent (subst (λ (d : Entry). IsDirectory T d.parent) (sym new.1) inside)
+      | inr old ↦ is_directory_still d.parent (t.inside x d old not_top)
+    ];
     apart = λ x y d f h g parents names. elim (which x d h) [
-        | inl new ↦ elim (which y f g) [
-            | inl too ↦ new.0 ∙ sym too.0
-            | inr old ↦ absurd (not_there T e.parent e.name free y f old (sym parents ∙ ap (λ (d : Entry). d.parent) new.1) (sym names ∙ ap (λ (d : Entry). d.name) new.1))
-          ]
-        | inr old ↦ elim (which y f g) [
-            | inl new ↦ absurd (not_there T e.parent e.name free x d old (parents ∙ ap (λ (d : Entry). d.parent) new.1) (names ∙ ap (λ (d : Entry). d.name) new.1))
-            | inr too ↦ t.apart x y d f old too parents names
-          ]
-      ];
-    reached = λ x used. elim (cases_eq x s) [
-        | inl same ↦
-            let above = t.reached e.parent (ap is_some inside.1) in
-            (e.name ∷ above.0, (e, ap (entry U) same ∙ c.there, refl, leads_still above.0 e.parent above.1))
-        | inr other ↦
-            let path = t.reached x (ap is_some (sym (c.others x other)) ∙ used) in
-            (path.0, leads_still path.0 x path.1)
+      | inl new ↦ elim (which y f g) [
+        | inl too ↦ new.0 ∙ sym too.0
+        | inr old ↦ absurd (not_there T e.parent e.name free y f old (sym parents ∙ ap (λ (d : Entry). d.parent) new.1) (sym names ∙ ap (λ (d : Entry). d.name) new.1))
       ]
+      | inr old ↦ elim (which y f g) [
+        | inl new ↦ absurd (not_there T e.parent e.name free x d old (parents ∙ ap (λ (d : Entry). d.parent) new.1) (names ∙ ap (λ (d : Entry). d.name) new.1))
+        | inr too ↦ t.apart x y d f old too parents names
+      ]
+    ];
+    reached = λ x used. elim (cases_eq x s) [
+      | inl same ↦
+          let above = t.reached e.parent (ap is_some inside.1) in
+          (e.name ∷ above.0, (e, ap (entry U) same ∙ c.there, refl, leads_still above.0 e.parent above.1))
+      | inr other ↦
+          let path = t.reached x (ap is_some (sym (c.others x other)) ∙ used) in
+          (path.0, leads_still path.0 x path.1)
+    ];
   }
 
 pub created_grows : CreatedIsTree
 created_grows T U parent s name node t is_name inside h =
     grown T U t s (record { parent = parent; name = name; node = node }) (created_least T U parent s name node h)
-      (was_missing (lookup T parent name) errno.Exist _ (U, s) h) is_name inside
+    (was_missing (lookup T parent name) errno.Exist _ (U, s) h) is_name inside

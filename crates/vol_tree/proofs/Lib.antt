@@ -5,3 +5,4 @@ pub mod Creates
 pub mod Determines
 pub mod Grows
 pub mod Within
+pub mod OneTree

@@ -1,5 +1,5 @@
 -- What a search of the slots finds.
-use Rattle.std.proofs.Common.{is_some, ◌≡◌, ◌≢◌, ℕ, zero, suc, ◌+◌, ◌-◌, ◌<◌, ◌≤◌, Bool, true, false, cond, ◌&&◌, List, [], ◌∷◌, ◌++◌, length, get_or, Option, Some, None, Result, Ok, Err, refl, sym, ◌∙◌, ap, subst, inl, inr, arith, eqb}
+use Rattle.std.proofs.Common.{is_some, ◌≡◌, ℕ, zero, suc, ◌+◌, ◌<◌, Bool, true, false, [], ◌∷◌, length, get_or, Option, Some, None, Result, Ok, Err, refl, sym, ◌∙◌, ap, inl, inr, arith, eqb}
 use Rattle.std.specs.Option.{option_map_or}
 use Rattle.std.proofs.lemmas.Option.{same_Some, none-some}
 use Rattle.std.proofs.lemmas.Bool.{cases_Bool, cond-true, cond-false, and_parts, eqb-true, false≢true}
@@ -26,23 +26,23 @@ one_on n test e T serial fails f = record {
   within = omega (arith, f.within);
   passes = f.passes;
   before = λ j l. elim j as (λ j. j < suc f.place → test (get_or (e ∷ T) j None) ≡ false) [
-      | zero ↦ λ l. fails
-      | suc i ↦ λ l. f.before i (omega arith)
-    ] l
+    | zero ↦ λ l. fails
+    | suc i ↦ λ l. f.before i (omega arith)
+  ] l;
 }
 
 pub found : (n : ℕ) (test : Option Entry → Bool) (T : Tree) (serial : ℕ) → least_from n test T ≡ Some serial → FoundAt n test T serial
 found n test [] serial h = absurd (none-some serial h)
 found n test (e ∷ T) serial h = elim (cases_Bool (test e)) [
-    | inl hit ↦ record {
-        place = 0;
-        is = let same : n ≡ serial = same_Some n serial (sym (cond-true _ _ _ hit) ∙ h) in omega arith;
-        within = omega arith;
-        passes = hit;
-        before = λ j l. absurd (omega arith)
-      }
-    | inr miss ↦ one_on n test e T serial miss (found (suc n) test T serial (sym (cond-false _ _ _ miss) ∙ h))
-  ]
+  | inl hit ↦ record {
+    place = 0;
+    is = let same : n ≡ serial = same_Some n serial (sym (cond-true _ _ _ hit) ∙ h) in omega arith;
+    within = omega arith;
+    passes = hit;
+    before = λ j l. absurd (omega arith);
+  }
+  | inr miss ↦ one_on n test e T serial miss (found (suc n) test T serial (sym (cond-false _ _ _ miss) ∙ h))
+]
 
 is_child_parts : (directory : ℕ) (name : Name) (o : Option Entry) → is_child directory name o ≡ true → (e : Entry) × (o ≡ Some e) × (e.parent ≡ directory) × (e.name ≡ name)
 is_child_parts directory name None h = absurd (false≢true h)

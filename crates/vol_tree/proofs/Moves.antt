@@ -1,10 +1,8 @@
 -- Moving an entry moves what is below it, and nothing else.
-use Rattle.std.proofs.Common.{◌≡◌, ◌≢◌, ℕ, zero, suc, ◌+◌, ◌<◌, ◌≤◌, Bool, true, false, List, [], ◌∷◌, ◌++◌, Option, Some, None, refl, sym, ◌∙◌, ap, subst, inl, inr, arith}
+use Rattle.std.proofs.Common.{◌≡◌, ◌≢◌, ℕ, [], ◌∷◌, Option, Some, refl, sym, ◌∙◌, ap, subst, inl, inr}
 use Rattle.std.specs.Option.{option_map, option_map_or}
-use Rattle.std.proofs.lemmas.Option.{same_Some, none-some}
 use Rattle.std.proofs.lemmas.Bool.{cases_eq}
-use Rattle.vol_tree.specs.Tree.{Tree, Path, Name, Node, Entry, entry, changed, Leads, IsAt, IsTree}
-use Rattle.vol_tree.specs.Calls.{moved}
+use Rattle.vol_tree.specs.Tree.{Tree, Path, Name, Entry, entry, changed, Leads, IsAt, IsTree}
 use Rattle.vol_tree.specs.Laws.{MovesSubtree, RenameMovesTheSubtree}
 use Rattle.vol_tree.proofs.Entries.{entry-changed_same, entry-changed_other, no_cycle}
 
@@ -29,23 +27,23 @@ module _ (T : Tree) (t : IsTree T) (s parent : ℕ) (name : Name) (e : Entry) (h
 
   nodes : (x : ℕ) → option_map (λ (e : Entry). e.node) (entry U x) ≡ option_map (λ (e : Entry). e.node) (entry T x)
   nodes x = elim (cases_eq x s) [
-      | inl same ↦ ap (λ (y : ℕ). option_map (λ (e : Entry). e.node) (entry U y)) same
-          ∙ ap (option_map (λ (e : Entry). e.node)) (entry-changed_same T s e (Some there) h)
-          ∙ ap (option_map (λ (e : Entry). e.node)) (sym h)
-          ∙ ap (λ (y : ℕ). option_map (λ (e : Entry). e.node) (entry T y)) (sym same)
-      | inr apart ↦ ap (option_map (λ (e : Entry). e.node)) (entry-changed_other T s x (Some there) apart)
-    ]
+    | inl same ↦ ap (λ (y : ℕ). option_map (λ (e : Entry). e.node) (entry U y)) same
+        ∙ ap (option_map (λ (e : Entry). e.node)) (entry-changed_same T s e (Some there) h)
+        ∙ ap (option_map (λ (e : Entry). e.node)) (sym h)
+        ∙ ap (λ (y : ℕ). option_map (λ (e : Entry). e.node) (entry T y)) (sym same)
+    | inr apart ↦ ap (option_map (λ (e : Entry). e.node)) (entry-changed_other T s x (Some there) apart)
+  ]
 
   moves : MovesSubtree T U s parent name
   moves = record {
     subtree = subtree;
     top = λ path g. (there, entry-changed_same T s e (Some there) h, refl, others path parent g outside);
     others = others;
-    nodes = nodes
+    nodes = nodes;
   }
 
 pub rename_moves : RenameMovesTheSubtree
 rename_moves T s parent name e t h outside =
     subst (λ (U : Tree). MovesSubtree T U s parent name)
-      (sym (ap (λ (o : Option Entry). option_map_or (λ (e : Entry). changed T s (Some (record e { parent = parent; name = name }))) o T) h))
-      (moves T t s parent name e h outside)
+    (sym (ap (λ (o : Option Entry). option_map_or (λ (e : Entry). changed T s (Some (record e { parent = parent; name = name }))) o T) h))
+    (moves T t s parent name e h outside)

@@ -1,9 +1,8 @@
 -- A walk up of as many steps as there are slots finds every entry above.
-use Rattle.std.proofs.Common.{is_some, ◌≡◌, ◌≢◌, ℕ, zero, suc, ◌+◌, ◌<◌, ◌≤◌, Bool, true, false, cond, ◌||◌, List, [], ◌∷◌, length, get_or, Option, Some, None, refl, sym, ◌∙◌, ap, subst, inl, inr, arith, eqb}
+use Rattle.std.proofs.Common.{is_some, ◌≡◌, ℕ, zero, suc, ◌+◌, ◌<◌, ◌≤◌, Bool, true, false, ◌||◌, List, [], ◌∷◌, length, Option, Some, None, refl, sym, ◌∙◌, ap, subst, inl, inr, arith, eqb}
 use Rattle.std.specs.Option.{option_map_or}
 use Rattle.std.specs.List.{list_any, IsDistinct, AllByRecursion}
-use Rattle.std.proofs.lemmas.Bool.{cases_Bool, or_cases, or_left, or_right, or_from, eq-eqb, eqb-true, ne_eqb, false≢true}
-use Rattle.std.proofs.lemmas.Option.{none-some}
+use Rattle.std.proofs.lemmas.Bool.{or_cases, eq-eqb, eqb-true, ne_eqb, false≢true}
 use Rattle.std.proofs.lemmas.Map.Steps.{length-le_from_distinct_below}
 use Rattle.vol_tree.specs.Tree.{Tree, Path, Entry, entry, Leads, IsTree}
 use Rattle.vol_tree.specs.Calls.{is_within}
@@ -28,9 +27,9 @@ within_from T top (suc n) (x ∷ path) s h l =
 leads_from : (T : Tree) (top n : ℕ) (s : ℕ) → is_within n T top s ≡ true → (path : Path) × Leads T top path s
 leads_from T top zero s h = ([], eqb-true s top h)
 leads_from T top (suc n) s h = elim (or_cases (eqb s top) _ h) [
-    | inl here ↦ ([], eqb-true s top here)
-    | inr above ↦ go (λ d. leads_from T top n d) (entry T s) refl above
-  ]
+  | inl here ↦ ([], eqb-true s top here)
+  | inr above ↦ go (λ d. leads_from T top n d) (entry T s) refl above
+]
   where
     go : ((d : ℕ) → is_within n T top d ≡ true → (path : Path) × Leads T top path d) → (o : Option Entry) → entry T s ≡ o → option_map_or (λ (e : Entry). is_within n T top e.parent) o false ≡ true → (path : Path) × Leads T top path s
     go on None e b = absurd (false≢true b)
@@ -53,16 +52,18 @@ module _ (T : Tree) (t : IsTree T) (top : ℕ) (used : is_some (entry T top) ≡
 
   apart_from : (s : ℕ) (path : Path) (y : ℕ) → Leads T top path y → ((q : Path) → Leads T s q y → ⊥) → AllByRecursion (λ x. eqb s x ≡ false) (serials T path y)
   apart_from s [] y h never = (ne_eqb s y (λ same. never [] (sym same)), tt)
-  apart_from s (n ∷ path) y h never =
-      (ne_eqb s y (λ same. never [] (sym same)),
-       apart_from s path _ (on_up n path y h) (λ q l. never (h.0.name ∷ q) (h.0, h.1, refl, subst (λ (x : ℕ). Leads T s q x) (sym (up y h.0 h.1)) l)))
+  apart_from s (n ∷ path) y h never = (
+    ne_eqb s y (λ same. never [] (sym same)),
+    apart_from s path _ (on_up n path y h) (λ q l. never (h.0.name ∷ q) (h.0, h.1, refl, subst (λ (x : ℕ). Leads T s q x) (sym (up y h.0 h.1)) l)),
+  )
 
   distinct : (path : Path) (y : ℕ) → Leads T top path y → IsDistinct eqb (serials T path y)
   unfolding IsDistinct
   distinct [] y h = (tt, tt)
-  distinct (n ∷ path) y h =
-      (apart_from y path _ (on_up n path y h) (λ q l. no_cycle T t h.0.name q y (h.0, h.1, refl, subst (λ (x : ℕ). Leads T y q x) (sym (up y h.0 h.1)) l)),
-       distinct path _ (on_up n path y h))
+  distinct (n ∷ path) y h = (
+    apart_from y path _ (on_up n path y h) (λ q l. no_cycle T t h.0.name q y (h.0, h.1, refl, subst (λ (x : ℕ). Leads T y q x) (sym (up y h.0 h.1)) l)),
+    distinct path _ (on_up n path y h),
+  )
 
   within_slots : (s : ℕ) → is_some (entry T s) ≡ true → s < length T + 1
   within_slots zero u = omega arith
@@ -74,13 +75,13 @@ module _ (T : Tree) (t : IsTree T) (top : ℕ) (used : is_some (entry T top) ≡
 
   low : (path : Path) (y : ℕ) → Leads T top path y → (q : ℕ) → list_any (eqb q) (serials T path y) ≡ true → q < length T + 1
   low [] y h q a = elim (or_cases (eqb q y) false a) [
-      | inl here ↦ subst (λ (x : ℕ). x < length T + 1) (sym (eqb-true q y here ∙ h)) (within_slots top used)
-      | inr none ↦ absurd (false≢true none)
-    ]
+    | inl here ↦ subst (λ (x : ℕ). x < length T + 1) (sym (eqb-true q y here ∙ h)) (within_slots top used)
+    | inr none ↦ absurd (false≢true none)
+  ]
   low (n ∷ path) y h q a = elim (or_cases (eqb q y) _ a) [
-      | inl here ↦ subst (λ (x : ℕ). x < length T + 1) (sym (eqb-true q y here)) (within_slots y (ap is_some h.1))
-      | inr above ↦ low path _ (on_up n path y h) q above
-    ]
+    | inl here ↦ subst (λ (x : ℕ). x < length T + 1) (sym (eqb-true q y here)) (within_slots y (ap is_some h.1))
+    | inr above ↦ low path _ (on_up n path y h) q above
+  ]
 
   long : (path : Path) (y : ℕ) → length (serials T path y) ≡ suc (length path)
   long [] y = refl

@@ -1,9 +1,9 @@
 -- What each call on a tree answers, and the tree that it leaves.
-use Rattle.std.specs.Prelude.{◌≡◌, ℕ, zero, suc, ◌+◌, ◌-◌, ◌*◌, Bool, true, false, ◌&&◌, ◌||◌, not, ◌==◌, nat_lt, nat_le, List, [], ◌∷◌, ◌++◌, length, take, drop, replicate, Option, Some, None, Result, Ok, Err, if◌then◌else◌}
+use Rattle.std.specs.Prelude.{ℕ, zero, suc, ◌+◌, ◌-◌, Bool, true, false, ◌&&◌, ◌||◌, not, ◌==◌, nat_lt, List, [], ◌∷◌, ◌++◌, length, take, drop, replicate, Option, Some, None, Result, Ok, Err, if◌then◌else◌}
 use Rattle.std.specs.Option.{option_map_or}
 use Rattle.vol_tree.specs.declared.errno.Errno.{Errno}
 use Rattle.vol_tree.specs.declared.errno.Errno.TheVariants as errno
-use Rattle.vol_tree.specs.Tree.{Tree, Node, Directory, File, Entry, Name, entry, changed, lookup, least_from, is_unused, is_in, is_empty}
+use Rattle.vol_tree.specs.Tree.{Tree, Node, Directory, File, Name, entry, changed, lookup, least_from, is_unused, is_in, is_empty}
 use Rattle.vol_inode.specs.Space.{size_limit}
 use Rattle.vol_tree.specs.Space.{Geometry, space}
 
@@ -35,7 +35,7 @@ abbrev pub created : Tree → ℕ → Name → Node → Result (Tree × ℕ) Err
 created T parent name node = option_map_or (λ found. Err errno.Exist)
     (lookup T parent name)
     (option_map_or (λ serial. Ok (changed T serial (Some (record { parent = parent; name = name; node = node })), serial))
-        (least_from 1 is_unused T) (Err errno.NoSpace))
+    (least_from 1 is_unused T) (Err errno.NoSpace))
 
 abbrev pub unlinked : Tree → ℕ → Tree
 unlinked T file = changed T file None
@@ -57,8 +57,8 @@ moved T serial parent name = option_map_or (λ e. changed T serial (Some (record
 abbrev pub moved_onto : Tree → ℕ → ℕ → Name → ℕ → Result Tree Errno
 moved_onto T serial parent name target = if target == serial then Ok T else unless
     ((directory_at T serial && not (directory_at T target), errno.NotDirectory)
-        ∷ (not (directory_at T serial) && directory_at T target, errno.IsDirectory)
-        ∷ (directory_at T target && not (is_empty T target), errno.NotEmpty) ∷ [])
+    ∷ (not (directory_at T serial) && directory_at T target, errno.IsDirectory)
+    ∷ (directory_at T target && not (is_empty T target), errno.NotEmpty) ∷ [])
     (Ok (moved (changed T target None) serial parent name))
 
 abbrev pub renamed : Tree → ℕ → ℕ → Name → Result Tree Errno
@@ -77,7 +77,7 @@ overwritten old offset new = take offset (extended offset old) ++ new ++ drop (o
 abbrev pub if_it_fits : Geometry → Tree → ℕ → List ℕ → Result Tree Errno
 if_it_fits volume T file bytes = unless
     ((nat_lt (size_limit volume.version) (length bytes), errno.TooBig)
-        ∷ (nat_lt volume.data_sectors (space (with_bytes T file bytes)), errno.NoSpace) ∷ [])
+    ∷ (nat_lt volume.data_sectors (space (with_bytes T file bytes)), errno.NoSpace) ∷ [])
     (Ok (with_bytes T file bytes))
 
 abbrev pub written : Geometry → Tree → ℕ → ℕ → List ℕ → Result Tree Errno

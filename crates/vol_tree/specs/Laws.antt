@@ -1,10 +1,10 @@
 -- Laws over the definitions of a tree alone.
-use Rattle.std.specs.Prelude.{◌≡◌, ◌≢◌, ◌<◌, ℕ, suc, List, [], ◌∷◌, Option, Some, None, Ok, IsSome}
+use Rattle.std.specs.Prelude.{◌≡◌, ◌≢◌, ◌<◌, ℕ, suc, ◌∷◌, Some, None, Ok, IsSome}
 use Rattle.std.specs.Option.{option_map}
 use Rattle.vol_tree.specs.Tree.{Tree, Path, Name, Node, Entry, entry, Leads, IsAt, IsTree, IsDirectory}
 use Rattle.vol_inode.specs.Name.{IsName}
 use Rattle.vol_tree.specs.Calls.{created, moved, is_within}
-use Rattle.std.specs.Prelude.{Bool, length, IsTrue}
+use Rattle.std.specs.Prelude.{length, IsTrue}
 
 -- After the move of an entry to a name in a directory: what was below it is below it still, by the same names; it
 -- stands at the new name; every other entry stands where it stood; and each node is as it was.

@@ -87,4 +87,3 @@ is_in directory (Some e) = e.parent == directory
 
 abbrev pub is_empty : Tree → ℕ → Bool
 is_empty T directory = not (list_any (is_in directory) T)
-

@@ -1,6 +1,10 @@
-//! Laws over the definitions of a tree alone: what its calls do to the finite map from paths to
-//! entries.
+//! Laws over the definitions of a tree: what its calls do to the finite map from paths to entries,
+//! and that an image stands for one tree.
 
+ghost use Rattle.std.specs.Prelude.{◌≡◌};
+ghost use Rattle.vol_sector.specs.Disk.{Image};
+ghost use Rattle.vol_tree.specs.Tree.{Tree};
+ghost use Rattle.vol_tree.specs.Stands.{Stands};
 ghost use Rattle.vol_tree.specs.Laws.{RenameMovesTheSubtree, CreatedHasTheLeastSerial};
 ghost use Rattle.vol_tree.specs.Laws.{PathsDetermineTheTree, CreatedIsTree, WithinIsBelow};
 
@@ -27,4 +31,9 @@ pub fn created_is_a_tree()
 /// A law: the test of a move into itself finds each entry above.
 pub fn within_is_below()
     ensures { WithinIsBelow }
+{}
+
+/// A law: an image stands for at most one tree.
+pub fn one_tree()
+    ensures { (image : Image) (T U : Tree) → Stands image T → Stands image U → T ≡ U }
 {}

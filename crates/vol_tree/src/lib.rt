@@ -7,6 +7,6 @@ mod superblock;
 
 pub use errno::Errno;
 pub use laws::{
-    created_has_the_least_serial, created_is_a_tree, paths_determine_the_tree,
+    created_has_the_least_serial, created_is_a_tree, one_tree, paths_determine_the_tree,
     rename_moves_the_subtree, within_is_below,
 };
