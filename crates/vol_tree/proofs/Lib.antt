@@ -6,3 +6,5 @@ pub mod Determines
 pub mod Grows
 pub mod Within
 pub mod OneTree
+pub mod Steps
+pub mod Empty

@@ -5,3 +5,4 @@ pub mod Laws
 pub mod Numbers
 pub mod Superblock
 pub mod Stands
+pub mod Fresh

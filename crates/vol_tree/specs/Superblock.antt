@@ -1,5 +1,5 @@
 -- The first sector of a volume.
-use Rattle.std.specs.Prelude.{◌+◌, ◌≤◌, ◌<◌, ℕ, List, [], ◌∷◌, ◌++◌, replicate}
+use Rattle.std.specs.Prelude.{◌≢◌, ◌+◌, ◌≤◌, ◌<◌, ℕ, List, [], ◌∷◌, ◌++◌, replicate}
 use Rattle.byteorder.specs.Endian.{little_bytes}
 use Rattle.vol_inode.specs.declared.version.Version.{Version}
 use Rattle.vol_inode.specs.declared.version.Version.TheVariants.{One, Two}
@@ -24,3 +24,7 @@ pub record HasRanges (v : Superblock) : Type 0 where
   pub some_slots : 1 ≤ v.slots
   pub few_slots : v.slots ≤ 8192
   pub room : 122 + v.slots < v.sectors
+
+-- the number of no version that is known
+abbrev pub IsNoVersion : ℕ → Type 0
+IsNoVersion n = (n ≢ 1) × (n ≢ 2)
