@@ -1,0 +1,5 @@
+use Rattle.vol_tree.proofs.Creates.{created_least}
+use Rattle.vol_tree.proofs.laws.created_has_the_least_serial.Goals as goal
+
+pub returns : goal.returns
+returns c = created_least

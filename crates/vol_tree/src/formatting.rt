@@ -1,0 +1,174 @@
+//! New volumes.
+
+ghost use Rattle.std.specs.Prelude.{◌≡◌, ◌≤◌, ◌<◌, ◌+◌, ◌↔◌, ℕ, OnOk, IfOk, IfErr, Err, is_err};
+ghost use Rattle.vol_sector.specs.Disk.{After, Wrote, Leaves, Only, put, counted};
+ghost use Rattle.vol_sector.specs.Fault.{is_device};
+ghost use Rattle.vol_tree.specs.Superblock.{superblock, HasRanges};
+ghost use Rattle.vol_tree.specs.Stands.{StandsAs, IsNoVolume, empty_tree};
+ghost use Rattle.vol_tree.specs.Fresh.{fresh, root_entry, fresh_slot, HasFreshSlots, IsFresh};
+ghost use Rattle.vol_tree.specs.Fresh.{BehindTheLog, BehindTheFirst, IsNoneOrEmpty};
+
+use crate::layout::{FIRST_SLOT, LOG_HEADER, SUPERBLOCK};
+use crate::superblock::{Superblock, has_ranges, write_superblock};
+use vol_inode::{Entry, Kind, Version, write_entry};
+use vol_sector::{Device, DeviceFault, Refused, VolumeFault};
+
+/// Makes the first sectors of a device an empty volume, of version 1, with so many sectors and
+/// slots for entries.
+///
+/// It is refused as `Geometry` where a number is out of its range: 137 to 65,536 sectors, 1 to
+/// 8,192 slots, and `122 + slots < sectors`; then as `TooSmall` where the device has fewer sectors.
+/// Both refusals come before any operation. It makes `slots + 3` writes and 3 syncs; where one
+/// fails it stops there, and is refused as `Device`. It takes no memory.
+///
+/// A stop inside leaves what a crash could leave before, or no volume, or the empty one.
+pub fn format_volume<D: Device>(mut device: D, sectors: u32, slots: u32) -> Result<D, Refused<D>>
+    ensures geometry { (HasRanges (fresh sectors slots) → ⊥)
+        ↔ (result ≡ Err (record { device = device; fault = VolumeFault.Geometry })) }
+    ensures too_small { (HasRanges (fresh sectors slots) × (D.size device < sectors))
+        ↔ (result ≡ Err (record { device = device; fault = VolumeFault.TooSmall })) }
+    ensures otherwise { HasRanges (fresh sectors slots) → sectors ≤ D.size device
+        → IfErr result (λ r. r.fault ≡ VolumeFault.Device) }
+    // A crash now leaves what reads give, and that is the empty volume.
+    ensures durable { D.honest device → IfOk result (λ d. Only (D.disk d).seen (D.disk d).may_leave) }
+    ensures empty { D.honest device
+        → IfOk result (λ d. StandsAs (D.disk d).seen (fresh sectors slots) (empty_tree slots)) }
+    // At any moment a crash leaves what it could leave before, or no volume, or the empty one.
+    ensures crash_ok { D.honest device → IfOk result (λ d. Leaves (D.disk device) (D.disk d)
+        (IsNoneOrEmpty (fresh sectors slots))) }
+    ensures crash_err { D.honest device
+        → IfErr result (λ r. Leaves (D.disk device) (D.disk r.device)
+        (IsNoneOrEmpty (fresh sectors slots))) }
+    ensures kept_ok { IfOk result (λ d. (D.honest device ↔ D.honest d)
+        × (D.size d ≡ D.size device) × (D.faults d ≡ D.faults device)) }
+    // It is refused as `Device` only where an operation failed.
+    ensures kept_err { IfErr result (λ r. (D.honest device ↔ D.honest r.device)
+        × (D.size r.device ≡ D.size device)
+        × (D.faults r.device ≡ counted (is_device r.fault) (D.faults device))) }
+{
+    let numbers = Superblock {
+        version: Version::One,
+        sectors,
+        slots,
+    };
+    if !has_ranges(&numbers) {
+        return Err(Refused {
+            device,
+            fault: VolumeFault::Geometry,
+        });
+    }
+    if device.sectors() < sectors {
+        return Err(Refused {
+            device,
+            fault: VolumeFault::TooSmall,
+        });
+    }
+    match lay_out(&mut device, &numbers) {
+        Ok(()) => Ok(device),
+        Err(DeviceFault) => Err(Refused {
+            device,
+            fault: VolumeFault::Device,
+        }),
+    }
+}
+
+/// Writes the empty volume. The superblock goes first and comes back last.
+fn lay_out<D: Device>(device: &mut D, numbers: &Superblock) -> Result<(), DeviceFault>
+    requires ranges { HasRanges numbers.now }
+    requires room { numbers.now.sectors ≤ D.size device.old }
+    ensures durable { D.honest device.old
+        → OnOk result (Only (D.disk device.new).seen (D.disk device.new).may_leave) }
+    ensures empty { D.honest device.old → OnOk result (StandsAs (D.disk device.new).seen
+        numbers.now (empty_tree numbers.now.slots)) }
+    ensures crash { D.honest device.old
+        → Leaves (D.disk device.old) (D.disk device.new) (IsNoneOrEmpty numbers.now) }
+    ensures honest { D.honest device.old ↔ D.honest device.new }
+    ensures size { D.size device.new ≡ D.size device.old }
+    ensures faults { D.faults device.new ≡ counted (is_err result) (D.faults device.old) }
+{
+    write_first(device, &[0; 512])?; // nothing is a volume while the slots are written
+    write_behind(device, numbers.slots)?;
+    write_first(device, &write_superblock(numbers))
+}
+
+/// Writes the first sector, and syncs.
+fn write_first<D: Device>(device: &mut D, image: &[u8; 512]) -> Result<(), DeviceFault>
+    requires { 0 < D.size device.old }
+    ensures durable { D.honest device.old
+        → OnOk result (Only (D.disk device.new).seen (D.disk device.new).may_leave) }
+    ensures written { D.honest device.old
+        → OnOk result ((D.disk device.new).seen ≡ put 0 image.now (D.disk device.old).seen) }
+    ensures crash { D.honest device.old → Leaves (D.disk device.old) (D.disk device.new)
+        (After (Wrote 0 image.now) (D.disk device.old).may_leave) }
+    ensures honest { D.honest device.old ↔ D.honest device.new }
+    ensures size { D.size device.new ≡ D.size device.old }
+    ensures faults { D.faults device.new ≡ counted (is_err result) (D.faults device.old) }
+{
+    device.write(SUPERBLOCK, image)?;
+    device.sync()
+}
+
+/// Writes an empty log and the root alone, and syncs.
+fn write_behind<D: Device>(device: &mut D, slots: u32) -> Result<(), DeviceFault>
+    requires few { slots ≤ 8192 }
+    requires room { 122 + slots ≤ D.size device.old }
+    ensures durable { D.honest device.old
+        → OnOk result (Only (D.disk device.new).seen (D.disk device.new).may_leave) }
+    ensures written { D.honest device.old → OnOk result (IsFresh slots (D.disk device.new).seen) }
+    ensures first { D.honest device.old
+        → BehindTheFirst (D.disk device.old).seen (D.disk device.new).seen }
+    ensures crash { D.honest device.old → Leaves (D.disk device.old) (D.disk device.new)
+        (After BehindTheFirst (D.disk device.old).may_leave) }
+    ensures honest { D.honest device.old ↔ D.honest device.new }
+    ensures size { D.size device.new ≡ D.size device.old }
+    ensures faults { D.faults device.new ≡ counted (is_err result) (D.faults device.old) }
+{
+    device.write(LOG_HEADER, &[0; 512])?;
+    write_slots(device, slots)?;
+    device.sync() // the slots are on the disk before the superblock names them
+}
+
+/// Writes the slots: the root, and behind it slots that aren't used.
+fn write_slots<D: Device>(device: &mut D, slots: u32) -> Result<(), DeviceFault>
+    requires few { slots ≤ 8192 }
+    requires room { 122 + slots ≤ D.size device.old }
+    ensures written { D.honest device.old
+        → OnOk result (HasFreshSlots slots (D.disk device.new).seen) }
+    ensures beside { D.honest device.old
+        → BehindTheLog (D.disk device.old).seen (D.disk device.new).seen }
+    ensures crash { D.honest device.old → Leaves (D.disk device.old) (D.disk device.new)
+        (After BehindTheLog (D.disk device.old).may_leave) }
+    ensures honest { D.honest device.old ↔ D.honest device.new }
+    ensures size { D.size device.new ≡ D.size device.old }
+    ensures faults { D.faults device.new ≡ counted (is_err result) (D.faults device.old) }
+{
+    for s in 0..slots {
+        device.write(FIRST_SLOT + s, &fresh_slot(s))?;
+    }
+    Ok(())
+}
+
+/// The sector of a slot of a new volume.
+fn fresh_slot(s: u32) -> [u8; 512]
+    ensures { result ≡ fresh_slot s }
+{
+    if s == 0 {
+        write_entry(&root())
+    } else {
+        [0; 512]
+    }
+}
+
+/// The root.
+fn root() -> Entry
+    ensures { result ≡ root_entry }
+{
+    Entry {
+        kind: Kind::Directory,
+        name_length: 0,
+        parent: 0,
+        size: 0,
+        name: [0; 255],
+        pointers: [0; 60],
+    }
+}

@@ -1,0 +1,39 @@
+//! Laws over the definitions of a tree: what its calls do to the finite map from paths to entries,
+//! and that an image stands for one tree.
+
+ghost use Rattle.std.specs.Prelude.{◌≡◌};
+ghost use Rattle.vol_sector.specs.Disk.{Image};
+ghost use Rattle.vol_tree.specs.Tree.{Tree};
+ghost use Rattle.vol_tree.specs.Stands.{Stands};
+ghost use Rattle.vol_tree.specs.Laws.{RenameMovesTheSubtree, CreatedHasTheLeastSerial};
+ghost use Rattle.vol_tree.specs.Laws.{PathsDetermineTheTree, CreatedIsTree, WithinIsBelow};
+
+/// A law: renaming an entry moves all that is below it, and nothing else.
+pub fn rename_moves_the_subtree()
+    ensures { RenameMovesTheSubtree }
+{}
+
+/// A law: a created entry has the least serial that was not in use, and nothing else changes.
+pub fn created_has_the_least_serial()
+    ensures { CreatedHasTheLeastSerial }
+{}
+
+/// A law: the map from paths to serials and nodes says all of a tree.
+pub fn paths_determine_the_tree()
+    ensures { PathsDetermineTheTree }
+{}
+
+/// A law: a tree with a created entry is a tree.
+pub fn created_is_a_tree()
+    ensures { CreatedIsTree }
+{}
+
+/// A law: the test of a move into itself finds each entry above.
+pub fn within_is_below()
+    ensures { WithinIsBelow }
+{}
+
+/// A law: an image stands for at most one tree.
+pub fn one_tree()
+    ensures { (image : Image) (T U : Tree) → Stands image T → Stands image U → T ≡ U }
+{}

@@ -1,0 +1,110 @@
+//! The first sector of a volume.
+
+ghost use Rattle.std.specs.Prelude.{◌≡◌, ◌≢◌, ◌⊎◌, ◌≤◌, ◌+◌, ◌↔◌, Ok, IfOk, IfErr, IsErrOf, IsTrue};
+ghost use Rattle.std.specs.Prelude.{length, take, drop};
+ghost use Rattle.byteorder.specs.Endian.{little_bytes, little_number};
+ghost use Rattle.vol_inode.specs.Writes.{overwritten};
+ghost use Rattle.vol_tree.specs.Superblock.{superblock, HasRanges, IsNoVersion, magic};
+ghost use Rattle.vol_tree.specs.Superblock.{version_number};
+ghost use Rattle.vol_tree.specs.declared.superblock.Superblock.{Superblock};
+
+use crate::layout::FIRST_SLOT;
+use byteorder::{ByteOrder, LittleEndian};
+use vol_inode::Version;
+use vol_sector::VolumeFault;
+
+/// The bytes that a volume begins with.
+const MAGIC: [u8; 8] = *b"WASMVOLU";
+
+/// The numbers of a volume.
+#[derive(Clone, Copy, Debug, PartialEq, Eq)]
+pub(crate) struct Superblock {
+    pub version: Version,
+    /// How many sectors the volume has, 137 to 65,536.
+    pub sectors: u32,
+    /// How many slots for entries it has, 1 to 8,192.
+    pub slots: u32,
+}
+
+/// Whether a volume may have these numbers.
+pub(crate) fn has_ranges(numbers: &Superblock) -> bool
+    ensures { IsTrue result ↔ HasRanges numbers.now }
+{
+    137 <= numbers.sectors
+        && numbers.sectors <= 65_536
+        && 1 <= numbers.slots
+        && numbers.slots <= 8_192
+        && FIRST_SLOT + numbers.slots < numbers.sectors
+}
+
+/// Reads the numbers of a volume from its first sector.
+///
+/// It is refused, in this order, as `NotAVolume` where it begins otherwise, as `Version` where the
+/// version is none that is known, and as `Damaged`.
+pub(crate) fn read_superblock(image: &[u8; 512]) -> Result<Superblock, VolumeFault>
+    ensures right { IfOk result (λ v. HasRanges v × (image.now ≡ superblock v)) }
+    ensures every { (v : Superblock) → HasRanges v → image.now ≡ superblock v → result ≡ Ok v }
+    ensures not_a_volume { IsErrOf result VolumeFault.NotAVolume ↔ (take 8 image.now ≢ magic) }
+    ensures version { IsErrOf result VolumeFault.Version ↔ ((take 8 image.now ≡ magic)
+        × IsNoVersion (little_number 4 (drop 8 image.now))) }
+    ensures named { IfErr result (λ fault. (fault ≡ VolumeFault.NotAVolume)
+        ⊎ ((fault ≡ VolumeFault.Version) ⊎ (fault ≡ VolumeFault.Damaged))) }
+{
+    if &image[..8] != MAGIC.as_slice() {
+        return Err(VolumeFault::NotAVolume);
+    }
+    let version = match LittleEndian::read_u32(&image[8..]) {
+        1 => Version::One,
+        2 => Version::Two,
+        _ => return Err(VolumeFault::Version),
+    };
+    let numbers = Superblock {
+        version,
+        sectors: LittleEndian::read_u32(&image[12..]),
+        slots: LittleEndian::read_u32(&image[16..]),
+    };
+    if has_ranges(&numbers) && write_superblock(&numbers) == *image {
+        Ok(numbers)
+    } else {
+        Err(VolumeFault::Damaged)
+    }
+}
+
+/// The first sector of a volume with these numbers.
+pub(crate) fn write_superblock(numbers: &Superblock) -> [u8; 512]
+    ensures { result ≡ superblock numbers.now }
+{
+    let mut image = [0; 512];
+    put(&mut image, 0, &MAGIC);
+    put(&mut image, 8, &number(version_number(numbers.version)));
+    put(&mut image, 12, &number(numbers.sectors));
+    put(&mut image, 16, &number(numbers.slots));
+    image
+}
+
+/// The number of a version.
+fn version_number(version: Version) -> u32
+    ensures { result ≡ version_number version }
+{
+    match version {
+        Version::One => 1,
+        Version::Two => 2,
+    }
+}
+
+/// Copies the bytes into the sector, from a place on.
+fn put(image: &mut [u8; 512], at: usize, bytes: &[u8])
+    requires { at + length bytes.now ≤ 512 }
+    ensures { image.new ≡ overwritten image.old at bytes.now }
+{
+    image[at..at + bytes.len()].copy_from_slice(bytes);
+}
+
+/// The four bytes of a number.
+fn number(n: u32) -> [u8; 4]
+    ensures { result ≡ little_bytes 4 n }
+{
+    let mut bytes = [0u8; 4];
+    LittleEndian::write_u32(&mut bytes, n);
+    bytes
+}
