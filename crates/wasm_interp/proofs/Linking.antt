@@ -1,18 +1,17 @@
 -- Indices of functions: imports with their calls come first, then the module's own with their bodies.
 use Rattle.std.proofs.Common.{◌≡◌, ℕ, zero, suc, ◌+◌, ◌<◌, List, [], ◌∷◌, ◌++◌, length, Some, refl, sym, ap, ◌∙◌, subst, arith}
 use Rattle.std.specs.Prelude.{slice_get}
-use Rattle.std.specs.List.{AllByRecursion, filter_map, cons_option}
+use Rattle.std.specs.List.{AllByRecursion}
 use Rattle.wasm_module.specs.declared.instruction.Instruction.{Instruction}
 use Rattle.wasm_module.specs.declared.instruction.Instruction.TheVariants as op
 use Rattle.wasm_module.specs.declared.module.FuncType.{FuncType}
 use Rattle.wasm_module.specs.declared.module.Import.{Import}
-use Rattle.wasm_module.specs.declared.module.ImportKind.{ImportKind}
 use Rattle.wasm_module.specs.declared.module.ImportKind.TheVariants as imports
 use Rattle.wasm_module.specs.declared.module.Body.{Body}
 use Rattle.wasm_module.specs.declared.module.Module.{Module}
 use Rattle.wasm_module.specs.Instructions.{Instructions, done, plain, block, loop, if_then, if_else, enter, flatten, IsPlain, IsWritten, Nests}
 use Rattle.wasm_valid.specs.Typing.{Context}
-use Rattle.wasm_valid.specs.Validity.{IsValid, functions_of, imported_function, kinds_of, AreTypesAt, FunctionTyped, FunctionsTyped, local_types}
+use Rattle.wasm_valid.specs.Validity.{IsValid, functions_of, AreTypesAt, FunctionTyped, FunctionsTyped, local_types}
 use Rattle.wasm_store.specs.Instantiating.{IsFunction}
 use Rattle.wasm_interp.specs.Part.{IsRunnable, RunsSoFar}
 use Rattle.wasm_store.specs.declared.call.HostCall.{HostCall}

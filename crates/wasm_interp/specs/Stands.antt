@@ -1,5 +1,5 @@
 -- Which configurations the parts of a machine stand for. The code is straight-line: no block, and calls of imports alone.
-use Rattle.std.specs.Prelude.{◌≡◌, ℕ, List, [], ◌∷◌, ◌++◌, length, drop, Some, slice_get}
+use Rattle.std.specs.Prelude.{◌≡◌, ℕ, ◌<◌, ◌^◌, List, [], ◌++◌, length, drop, Some, slice_get}
 use Rattle.std.specs.List.{AllByRecursion}
 use Rattle.wasm_module.specs.declared.instruction.Instruction.{Instruction}
 use Rattle.wasm_module.specs.declared.instruction.Instruction.TheVariants as op
@@ -14,7 +14,8 @@ use Rattle.wasm_valid.specs.Validity.{IsValid, functions_of, AreTypesAt}
 use Rattle.wasm_store.specs.declared.call.HostCall.{HostCall}
 use Rattle.wasm_interp.specs.declared.place.Place.{Place}
 use Rattle.wasm_interp.specs.declared.place.Place.TheVariants.{Entering, Running, Returned, Over}
-use Rattle.wasm_interp.specs.Configuration.{Val, numbers, types, Callee, imported, Instance, Store, Code, code, label, frame, Configuration, at, store_of}
+use Rattle.wasm_interp.specs.Operators.{width}
+use Rattle.wasm_interp.specs.Configuration.{Val, val, numbers, types, Callee, Instance, Store, Code, code, label, frame, Configuration, at, store_of}
 use Rattle.wasm_interp.specs.Steps.{CallsOf}
 use Rattle.wasm_store.specs.Instantiation.{AreOwn}
 pub use Rattle.wasm_store.specs.Instantiating.{IsCallee, AreCallees}
@@ -41,6 +42,10 @@ pub record IsInstanceOf (m : Module) (calls : List HostCall) (i : Instance) : Ty
 abbrev pub in_body : Store → List Val → Code → Configuration
 in_body s f c = at s [] (frame [] 0 f (label [] 0 done c done) done)
 
+-- a value's number is one of its type
+abbrev pub IsInRange : Val → Type 0
+IsInRange (val t n) = n < 2 ^ width t
+
 -- In the one frame, what is left of a body stands in its decoded instructions from pc on, and is typed from the values
 -- that are there to none.
 pub record IsAt (functions : List FuncType) (imported_ones : ℕ) (flat : List Instruction) (pc : ℕ) (values : List ℕ) (c : Configuration) : Type 0 where
@@ -57,6 +62,7 @@ pub record IsAt (functions : List FuncType) (imported_ones : ℕ) (flat : List I
   pub runnable : AllByRecursion (IsRunnable imported_ones) (flatten op.End rest)
   pub functions_are : context.functions ≡ functions
   pub typed : Typed context labels rest (types operands) []
+  pub in_range : AllByRecursion IsInRange operands
 
 -- before a function of type [] -> [] is entered from outside
 pub record IsEntering (m : Module) (values : List ℕ) (x : ℕ) (c : Configuration) : Type 0 where

@@ -3,6 +3,8 @@
 
 mod begin;
 mod machine;
+mod operands;
+mod operators;
 mod part;
 mod pause;
 mod place;

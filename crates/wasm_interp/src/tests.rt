@@ -1,5 +1,8 @@
 //! What no contract says: that calls succeed where memory is ample.
 
+mod guests;
+mod numbers;
+
 ghost use Rattle.std.specs.Prelude.{None};
 
 use crate::part::runs_so_far;
