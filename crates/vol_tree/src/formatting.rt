@@ -3,8 +3,8 @@
 ghost use Rattle.std.specs.Prelude.{◌≡◌, ◌≤◌, ◌<◌, ◌+◌, ◌↔◌, ℕ, OnOk, IfOk, IfErr, Err, is_err};
 ghost use Rattle.vol_sector.specs.Disk.{After, Wrote, Leaves, Only, put, counted};
 ghost use Rattle.vol_sector.specs.Fault.{is_device};
-ghost use Rattle.vol_tree.specs.Superblock.{superblock, HasRanges};
-ghost use Rattle.vol_tree.specs.Stands.{StandsAs, IsNoVolume, empty_tree};
+ghost use Rattle.vol_tree.specs.Superblock.{HasRanges};
+ghost use Rattle.vol_tree.specs.Stands.{StandsAs, empty_tree};
 ghost use Rattle.vol_tree.specs.Fresh.{fresh, root_entry, fresh_slot, HasFreshSlots, IsFresh};
 ghost use Rattle.vol_tree.specs.Fresh.{BehindTheLog, BehindTheFirst, IsNoneOrEmpty};
 
@@ -22,6 +22,8 @@ use vol_sector::{Device, DeviceFault, Refused, VolumeFault};
 /// fails it stops there, and is refused as `Device`. It takes no memory.
 ///
 /// A stop inside leaves what a crash could leave before, or no volume, or the empty one.
+///
+/// It stands by itself as long as there is no type for an open volume.
 pub fn format_volume<D: Device>(mut device: D, sectors: u32, slots: u32) -> Result<D, Refused<D>>
     ensures geometry { (HasRanges (fresh sectors slots) → ⊥)
         ↔ (result ≡ Err (record { device = device; fault = VolumeFault.Geometry })) }
