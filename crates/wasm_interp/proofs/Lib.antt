@@ -1,4 +1,5 @@
 pub mod Anywhere
+pub mod Typings
 pub mod StraightLine
 pub mod Asking
 pub mod Linking

@@ -92,10 +92,11 @@ StandsAt m values (Running index pc) i c = IsRunning m values index pc c
 StandsAt m values Returned i c = (store : Store) × (c ≡ at store [] (code [] done))
 StandsAt m values (Over o) i c = EndsAs (Unit {0}) NoCalls i o tt c
 
-pub record Stands (m : Module) (calls : List HostCall) (values memory : List ℕ) (used : ℕ) (place : Place) (i : Instance) (c : Configuration) : Type 0 where
+pub record Stands (m : Module) (calls : List HostCall) (limit : ℕ) (values memory : List ℕ) (used : ℕ) (place : Place) (i : Instance) (c : Configuration) : Type 0 where
   pub valid : IsValid m
   pub runs : RunsSoFar m
   pub instance : IsInstanceOf m calls i
+  pub limit_is : i.page_limit ≡ limit
   pub memory_is : (store_of c).memory ≡ memory
   pub used_is : (store_of c).used ≡ used
   pub stands : StandsAt m values place i c

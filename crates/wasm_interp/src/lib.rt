@@ -1,6 +1,7 @@
 //! A fuelled WebAssembly machine over a host that answers its calls.
 #![tactic(auto)]
 
+mod accesses;
 mod begin;
 mod machine;
 mod operands;

@@ -35,7 +35,7 @@ impl<'a> Model for Machine<'a> {
 
     ghost view = { λ m. snapshot_of m.valid m.calls.items m.page_limit m.state.place m.state };
 
-    ghost invariant = { λ m. IsLive m.valid m.calls.items m.state.place m.state };
+    ghost invariant = { λ m. IsLive m.valid m.calls.items m.page_limit m.state.place m.state };
 }
 
 impl<'a> Machine<'a> {
@@ -67,8 +67,13 @@ impl<'a> Machine<'a> {
         requires { self.old.used + units < 2 ^ 64 }
         ensures { Resumed H H.calls host.old host.new self.old self.new units result }
     {
-        self.state
-            .resume(self.valid.module(), self.calls.as_slice(), host, units)
+        self.state.resume(
+            self.valid.module(),
+            self.calls.as_slice(),
+            host,
+            self.page_limit,
+            units,
+        )
     }
 
     /// The units used so far.

@@ -1,6 +1,7 @@
 //! What no contract says: that calls succeed where memory is ample.
 
 mod guests;
+mod memories;
 mod numbers;
 
 ghost use Rattle.std.specs.Prelude.{None};

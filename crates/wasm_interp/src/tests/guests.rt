@@ -36,9 +36,10 @@ impl Host for ExitingHost {
     }
 }
 
-/// Imports function 0, of type [i32] -> [], and exports function 1, of type [] -> [].
+/// Imports function 0, of type [i32] -> [], has a memory of one page that may have two, and exports function 1, of type
+/// [] -> [].
 const BEFORE: &[u8] =
-    b"\0asm\x01\0\0\0\x01\x08\x02\x60\x01\x7F\x00\x60\x00\x00\x02\x07\x01\x01w\x01a\x00\x00\x03\x02\x01\x01\x07\x0A\x01\x06_start\x00\x01\x0A";
+    b"\0asm\x01\0\0\0\x01\x08\x02\x60\x01\x7F\x00\x60\x00\x00\x02\x07\x01\x01w\x01a\x00\x00\x03\x02\x01\x01\x05\x04\x01\x01\x01\x02\x07\x0A\x01\x06_start\x00\x01\x0A";
 
 /// The bytes of a module of which this is the body, with its locals, under 120 bytes.
 fn guest(alloc: Global, body: &[u8]) -> Result<Vec<u8>, AllocError> {
