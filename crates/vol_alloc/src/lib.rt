@@ -2,7 +2,5 @@
 #![tactic(auto)]
 
 mod sectors;
-#[cfg(test)]
-mod tests;
 
 pub use sectors::Alloc;

@@ -6,8 +6,6 @@ mod formatting;
 mod laws;
 mod layout;
 mod superblock;
-#[cfg(test)]
-mod tests;
 
 pub use errno::Errno;
 pub use formatting::format_volume;
