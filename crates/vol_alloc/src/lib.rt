@@ -3,8 +3,6 @@
 
 mod laws;
 mod sectors;
-#[cfg(test)]
-mod tests;
 
 pub use laws::listed_sectors_are_taken;
 pub use sectors::Alloc;

@@ -5,8 +5,6 @@ mod dirs;
 mod keys;
 mod laws;
 mod sorted;
-#[cfg(test)]
-mod tests;
 
 pub use dirs::Dirs;
 pub use laws::{

@@ -9,8 +9,6 @@ mod layout;
 mod parts;
 mod stat;
 mod superblock;
-#[cfg(test)]
-mod tests;
 mod volume;
 
 pub use errno::Errno;
