@@ -26,7 +26,7 @@ leads_on T a b c p [] h g = subst (λ (s : ℕ). Leads T a p s) (sym g) h
 leads_on T a b c p (n ∷ q) h g = (g.0, g.1, g.2, leads_on T a b g.0.parent p q h g.3)
 
 -- nothing leads to the number that no entry has
-no_way : (T : Tree) (p : Path) → Leads T 1 p 0 → ⊥
+pub no_way : (T : Tree) (p : Path) → Leads T 1 p 0 → ⊥
 no_way T [] h = absurd (omega arith)
 no_way T (n ∷ p) h = none-some h.0 h.1
 

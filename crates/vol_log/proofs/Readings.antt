@@ -4,7 +4,7 @@ use Rattle.vol_sector.specs.Disk.{Disk, Leaves, counted}
 use Rattle.vol_sector.specs.declared.device.Device.{Ghosts}
 use Rattle.vol_log.specs.Log.{view, staged_of, device_of, sectors_of, has_failed}
 use Rattle.vol_log.specs.declared.log.Log.{Log}
-use Rattle.vol_dirs.specs.Reading.{OnlyReads}
+use Rattle.vol_log.specs.Reading.{OnlyReads}
 
 leaves_same : (d : Disk) → Leaves d d (λ c. ⊥)
 leaves_same d = record { later = omega arith; since = λ t c le left. inl left; now = λ c may. inl may }
@@ -22,6 +22,7 @@ module _ {D : Type 0} {g : Ghosts D} where
   reads_same log = record {
     view = λ h i. view log;
     staged = λ i. staged_of log;
+    seen = λ h i. (g.disk (device_of log)).seen;
     crash = λ h. leaves_same (g.disk (device_of log));
     sectors = λ i. sectors_of log;
     honest = (λ h. h, λ h. h);
@@ -34,6 +35,7 @@ module _ {D : Type 0} {g : Ghosts D} where
   reads_then a b c still first second = record {
     view = λ h. second.view (first.honest.0 h) ∙ first.view h;
     staged = second.staged ∙ first.staged;
+    seen = λ h. second.seen (first.honest.0 h) ∙ first.seen h;
     crash = λ h. leaves_then (g.disk (device_of a)) (g.disk (device_of b)) (g.disk (device_of c)) (first.crash h) (second.crash (first.honest.0 h));
     sectors = second.sectors ∙ first.sectors;
     honest = (λ h. second.honest.0 (first.honest.0 h), λ h. first.honest.1 (second.honest.1 h));

@@ -9,6 +9,7 @@ use Rattle.vol_log.specs.declared.log.Log.{Log}
 pub record OnlyReads {D : Type 0} {g : Ghosts D} (old new : Log D g) : Type 0 where
   pub view : g.honest (device_of old) → view new ≡ view old
   pub staged : staged_of new ≡ staged_of old
+  pub seen : g.honest (device_of old) → (g.disk (device_of new)).seen ≡ (g.disk (device_of old)).seen
   pub crash : g.honest (device_of old) → Leaves (g.disk (device_of old)) (g.disk (device_of new)) (λ c. ⊥)
   pub sectors : sectors_of new ≡ sectors_of old
   pub honest : g.honest (device_of old) ↔ g.honest (device_of new)

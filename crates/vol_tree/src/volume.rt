@@ -1,0 +1,180 @@
+//! An open volume.
+
+ghost use Rattle.std.specs.Prelude.{◌≡◌, ◌≤◌, [], Ok, OnOk, IsSome, IsTrue, length};
+ghost use Rattle.vol_sector.specs.Disk.{Image, Leaves};
+ghost use Rattle.vol_tree.specs.Tree.{File, Directory, IsDirectory, entry, lookup};
+ghost use Rattle.vol_tree.specs.Stat.{TellsStat};
+ghost use Rattle.vol_tree.specs.Calls.{created, written, resized, read_bytes, is_file_at, with_unit};
+ghost use Rattle.vol_tree.specs.Stands.{Stands};
+ghost use Rattle.vol_tree.specs.Opened.{Answers, Tells, TellsBytes, Keeps, ReflectsOr, geometry, is_io};
+ghost use Rattle.vol_inode.specs.Name.{IsName};
+
+use crate::parts::Parts;
+use crate::{Errno, Stat};
+use std::marker::Model;
+use vol_inode::{Kind, Version};
+use vol_sector::Device;
+
+/// A volume of files in directories.
+#[derive(Drop)]
+pub struct Volume<D: Device> {
+    parts: Parts<D>,
+}
+
+impl<D: Device> Model for Volume<D> {
+    ghost use Rattle.vol_tree.specs.Opened.{Opened};
+
+    ghost Value = { Opened D };
+
+    ghost use Rattle.vol_tree.specs.Parts.{opened, IsOpen};
+
+    ghost view = { λ v. opened v.parts };
+
+    ghost invariant = { λ v. IsOpen v.parts };
+}
+
+impl<D: Device> Volume<D> {
+    /// Has a device operation failed since it was opened?
+    pub fn failed(&self) -> bool
+        ensures { result ≡ self.now.failed }
+    {
+        self.parts.log.failed()
+    }
+
+    /// The version of its format.
+    pub fn version(&self) -> Version
+        ensures { result ≡ self.now.numbers.version }
+    {
+        self.parts.numbers.version
+    }
+
+    /// The serial of a name in a directory.
+    pub fn lookup(&mut self, directory: u32, name: &[u8]) -> Result<Option<u32>, Errno>
+        requires name { IsName name.now }
+        ensures answer { D.honest self.old.device
+            → Tells (lookup self.old.tree directory name.now) self.old.tree self.new.tree result }
+        ensures crash { D.honest self.old.device
+            → Leaves (D.disk self.old.device) (D.disk self.new.device) (λ c. ⊥) }
+        ensures kept { Keeps D.honest D.size D.faults self.old self.new (is_io result) }
+    {
+        self.parts.lookup(directory, name)
+    }
+
+    /// What an entry is, and where it stands.
+    pub fn stat(&mut self, serial: u32) -> Result<Stat, Errno>
+        requires first { 1 ≤ serial }
+        requires last { serial ≤ self.old.numbers.slots }
+        requires used { D.honest self.old.device → IsSome (entry self.old.tree serial) }
+        ensures answer { D.honest self.old.device
+            → TellsStat serial self.old.tree self.new.tree result }
+        ensures crash { D.honest self.old.device
+            → Leaves (D.disk self.old.device) (D.disk self.new.device) (λ c. ⊥) }
+        ensures kept { Keeps D.honest D.size D.faults self.old self.new (is_io result) }
+    {
+        self.parts.stat(serial)
+    }
+
+    /// Makes an empty file.
+    pub fn create_file(&mut self, parent: u32, name: &[u8]) -> Result<u32, Errno>
+        requires serial { 1 ≤ parent }
+        requires name { IsName name.now }
+        requires directory { D.honest self.old.device → IsDirectory self.old.tree parent }
+        ensures answer { D.honest self.old.device
+            → Answers (created self.old.tree parent name.now (File [])) self.old.tree
+            self.new.tree result }
+        ensures crash { D.honest self.old.device
+            → Leaves (D.disk self.old.device) (D.disk self.new.device)
+            (ReflectsOr (D.disk self.old.device) self.old.tree) }
+        ensures kept { Keeps D.honest D.size D.faults self.old self.new (is_io result) }
+    {
+        self.parts.create(parent, name, Kind::File)
+    }
+
+    /// Makes an empty directory.
+    pub fn create_dir(&mut self, parent: u32, name: &[u8]) -> Result<u32, Errno>
+        requires serial { 1 ≤ parent }
+        requires name { IsName name.now }
+        requires directory { D.honest self.old.device → IsDirectory self.old.tree parent }
+        ensures answer { D.honest self.old.device
+            → Answers (created self.old.tree parent name.now Directory) self.old.tree
+            self.new.tree result }
+        ensures crash { D.honest self.old.device
+            → Leaves (D.disk self.old.device) (D.disk self.new.device)
+            (ReflectsOr (D.disk self.old.device) self.old.tree) }
+        ensures kept { Keeps D.honest D.size D.faults self.old self.new (is_io result) }
+    {
+        self.parts.create(parent, name, Kind::Directory)
+    }
+
+    /// Writes at most 16,384 bytes into a file. A gap before them reads as zeros; of no bytes
+    /// nothing changes.
+    pub fn write(&mut self, file: u32, offset: u64, bytes: &[u8]) -> Result<(), Errno>
+        requires first { 1 ≤ file }
+        requires last { file ≤ self.old.numbers.slots }
+        requires piece { length bytes.now ≤ 16384 }
+        requires used { D.honest self.old.device → IsTrue (is_file_at self.old.tree file) }
+        ensures answer { D.honest self.old.device
+            → Answers (with_unit (written (geometry self.old.numbers) self.old.tree file offset
+            bytes.now)) self.old.tree self.new.tree result }
+        ensures crash { D.honest self.old.device
+            → Leaves (D.disk self.old.device) (D.disk self.new.device)
+            (ReflectsOr (D.disk self.old.device) self.old.tree) }
+        ensures kept { Keeps D.honest D.size D.faults self.old self.new (is_io result) }
+    {
+        self.parts.write(file, offset, bytes)
+    }
+
+    /// Sets the size of a file in bytes. Bytes that it gains are zeros.
+    pub fn set_size(&mut self, file: u32, size: u64) -> Result<(), Errno>
+        requires first { 1 ≤ file }
+        requires last { file ≤ self.old.numbers.slots }
+        requires used { D.honest self.old.device → IsTrue (is_file_at self.old.tree file) }
+        ensures answer { D.honest self.old.device
+            → Answers (with_unit (resized (geometry self.old.numbers) self.old.tree file size))
+            self.old.tree self.new.tree result }
+        ensures crash { D.honest self.old.device
+            → Leaves (D.disk self.old.device) (D.disk self.new.device)
+            (ReflectsOr (D.disk self.old.device) self.old.tree) }
+        ensures kept { Keeps D.honest D.size D.faults self.old self.new (is_io result) }
+    {
+        self.parts.set_size(file, size)
+    }
+
+    /// Reads the bytes of a file from an offset on into the buffer, as many as there are and fit,
+    /// and says how many. Where it is refused, a beginning of them may stand in the buffer.
+    pub fn read(&mut self, file: u32, offset: u64, buffer: &mut [u8]) -> Result<usize, Errno>
+        requires first { 1 ≤ file }
+        requires last { file ≤ self.old.numbers.slots }
+        requires used { D.honest self.old.device → IsTrue (is_file_at self.old.tree file) }
+        ensures answer { D.honest self.old.device
+            → TellsBytes (read_bytes self.old.tree file offset (length buffer.old)) buffer.old
+            buffer.new self.old.tree self.new.tree result }
+        ensures crash { D.honest self.old.device
+            → Leaves (D.disk self.old.device) (D.disk self.new.device) (λ c. ⊥) }
+        ensures kept { Keeps D.honest D.size D.faults self.old self.new (is_io result) }
+    {
+        self.parts.read(file, offset, buffer)
+    }
+
+    /// Makes all calls so far last.
+    pub fn sync(&mut self) -> Result<(), Errno>
+        ensures answer { D.honest self.old.device
+            → Answers (with_unit (Ok self.old.tree)) self.old.tree self.new.tree result }
+        ensures crash { D.honest self.old.device
+            → Leaves (D.disk self.old.device) (D.disk self.new.device)
+            (ReflectsOr (D.disk self.old.device) self.old.tree) }
+        ensures durable { D.honest self.old.device → OnOk result ((c : Image)
+            → (D.disk self.new.device).may_leave c → Stands c self.new.tree) }
+        ensures kept { Keeps D.honest D.size D.faults self.old self.new (is_io result) }
+    {
+        Ok(self.parts.commit()?)
+    }
+
+    /// The device. What isn't committed is given up.
+    pub fn into_device(self) -> D
+        ensures { result ≡ self.device }
+    {
+        let Volume { parts } = self;
+        parts.log.into_device()
+    }
+}
