@@ -1,5 +1,5 @@
 -- An open volume, as its callers see it and as it keeps itself.
-use Rattle.std.specs.Prelude.{◌≡◌, ◌⊎◌, ◌+◌, ◌-◌, ◌*◌, ◌==◌, ◌≤◌, ◌++◌, ◌↔◌, ℕ, List, length, Bool, true, false, Option, Some, None, Result, Ok, Err, if◌then◌else◌, take, drop, map, slice_index, get_or}
+use Rattle.std.specs.Prelude.{◌≡◌, ◌⊎◌, ◌+◌, ◌-◌, ◌*◌, ◌≤◌, ◌==◌, ◌≤◌, ◌++◌, ◌↔◌, ℕ, List, length, Bool, true, false, Option, Some, None, Result, Ok, Err, if◌then◌else◌, take, drop, map, slice_index, get_or}
 use Rattle.std.specs.List.{range_with_len}
 use Rattle.byteorder.specs.Endian.{little_number}
 use Rattle.vol_sector.specs.Disk.{Image, Disk, counted}
@@ -53,6 +53,11 @@ pub record Opened (D : Type 0) : Type 0 where
   pub numbers : Superblock
   pub tree : Tree
   pub failed : Bool
+
+-- a number that an entry of the volume can have
+pub record IsSerial (numbers : Superblock) (serial : ℕ) : Type 0 where
+  pub first : 1 ≤ serial
+  pub last : serial ≤ numbers.slots
 
 -- some image that a crash could leave stands for the same tree
 pub record Reflects (disk : Disk) (image : Image) : Type 0 where

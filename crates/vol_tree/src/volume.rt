@@ -1,12 +1,13 @@
 //! An open volume.
 
-ghost use Rattle.std.specs.Prelude.{◌≡◌, ◌≤◌, [], Ok, OnOk, IsSome, IsTrue, length};
+ghost use Rattle.std.specs.Prelude.{◌≡◌, ◌≤◌, ⊤, [], Ok, OnOk, IfOk, IsSome, IsTrue, length};
+ghost use Rattle.std.specs.Option.{MatchOption};
 ghost use Rattle.vol_sector.specs.Disk.{Image, Leaves};
-ghost use Rattle.vol_tree.specs.Tree.{File, Directory, IsDirectory, entry, lookup};
+ghost use Rattle.vol_tree.specs.Tree.{File, Directory, IsTree, IsDirectory, entry, lookup};
 ghost use Rattle.vol_tree.specs.Stat.{TellsStat};
 ghost use Rattle.vol_tree.specs.Calls.{created, written, resized, read_bytes, is_file_at, with_unit};
 ghost use Rattle.vol_tree.specs.Stands.{Stands};
-ghost use Rattle.vol_tree.specs.Opened.{Answers, Tells, TellsBytes, Keeps, ReflectsOr, geometry, is_io};
+ghost use Rattle.vol_tree.specs.Opened.{Answers, Tells, TellsBytes, Keeps, ReflectsOr, IsSerial, geometry, is_io};
 ghost use Rattle.vol_inode.specs.Name.{IsName};
 
 use crate::parts::Parts;
@@ -34,6 +35,15 @@ impl<D: Device> Model for Volume<D> {
 }
 
 impl<D: Device> Volume<D> {
+    /// A law: on a device that keeps its model, what an open volume shows is a tree with a place for
+    /// each slot.
+    pub fn is_a_tree(&self)
+        ensures tree { D.honest self.now.device → IsTree self.now.tree }
+        ensures count { length self.now.tree ≡ self.now.numbers.slots }
+    {
+        self.parts.is_a_tree();
+    }
+
     /// Has a device operation failed since it was opened?
     pub fn failed(&self) -> bool
         ensures { result ≡ self.now.failed }
@@ -56,6 +66,7 @@ impl<D: Device> Volume<D> {
         ensures crash { D.honest self.old.device
             → Leaves (D.disk self.old.device) (D.disk self.new.device) (λ c. ⊥) }
         ensures kept { Keeps D.honest D.size D.faults self.old self.new (is_io result) }
+        ensures range { IfOk result (λ found. MatchOption found ⊤ (λ s. IsSerial self.old.numbers s)) }
     {
         self.parts.lookup(directory, name)
     }
@@ -70,6 +81,7 @@ impl<D: Device> Volume<D> {
         ensures crash { D.honest self.old.device
             → Leaves (D.disk self.old.device) (D.disk self.new.device) (λ c. ⊥) }
         ensures kept { Keeps D.honest D.size D.faults self.old self.new (is_io result) }
+        ensures parent { IfOk result (λ s. IsSerial self.old.numbers s.parent) }
     {
         self.parts.stat(serial)
     }
