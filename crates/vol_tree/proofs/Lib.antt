@@ -25,3 +25,7 @@ pub mod Writes
 pub mod WriteCalls
 pub mod Filling
 pub mod ReadCalls
+pub mod Removing
+pub mod Taking
+pub mod Trees
+pub mod Children

@@ -12,3 +12,4 @@ pub mod Commits
 pub mod Changes
 pub mod PathLaws
 pub mod Stat
+pub mod internal

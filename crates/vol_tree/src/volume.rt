@@ -6,6 +6,7 @@ ghost use Rattle.vol_sector.specs.Disk.{Image, Leaves};
 ghost use Rattle.vol_tree.specs.Tree.{File, Directory, IsTree, IsDirectory, entry, lookup};
 ghost use Rattle.vol_tree.specs.Stat.{TellsStat};
 ghost use Rattle.vol_tree.specs.Calls.{created, written, resized, read_bytes, is_file_at, with_unit};
+ghost use Rattle.vol_tree.specs.Calls.{unlinked, directory_removed, next_child};
 ghost use Rattle.vol_tree.specs.Stands.{Stands};
 ghost use Rattle.vol_tree.specs.Opened.{Answers, Tells, TellsBytes, Keeps, ReflectsOr, IsSerial, geometry, is_io};
 ghost use Rattle.vol_inode.specs.Name.{IsName};
@@ -69,6 +70,18 @@ impl<D: Device> Volume<D> {
         ensures range { IfOk result (λ found. MatchOption found ⊤ (λ s. IsSerial self.old.numbers s)) }
     {
         self.parts.lookup(directory, name)
+    }
+
+    /// The least serial over `after` of an entry in a directory.
+    pub fn list_next(&mut self, directory: u32, after: u32) -> Result<Option<u32>, Errno>
+        ensures answer { D.honest self.old.device
+            → Tells (next_child self.old.tree directory after) self.old.tree self.new.tree
+            result }
+        ensures crash { D.honest self.old.device
+            → Leaves (D.disk self.old.device) (D.disk self.new.device) (λ c. ⊥) }
+        ensures kept { Keeps D.honest D.size D.faults self.old self.new (is_io result) }
+    {
+        self.parts.list_next(directory, after)
     }
 
     /// What an entry is, and where it stands.
@@ -166,6 +179,38 @@ impl<D: Device> Volume<D> {
         ensures kept { Keeps D.honest D.size D.faults self.old self.new (is_io result) }
     {
         self.parts.read(file, offset, buffer)
+    }
+
+    /// Takes a file out of its directory, and gives its space back.
+    pub fn unlink(&mut self, file: u32) -> Result<(), Errno>
+        requires first { 1 ≤ file }
+        requires last { file ≤ self.old.numbers.slots }
+        requires used { D.honest self.old.device → IsTrue (is_file_at self.old.tree file) }
+        ensures answer { D.honest self.old.device
+            → Answers (with_unit (Ok (unlinked self.old.tree file))) self.old.tree
+            self.new.tree result }
+        ensures crash { D.honest self.old.device
+            → Leaves (D.disk self.old.device) (D.disk self.new.device)
+            (ReflectsOr (D.disk self.old.device) self.old.tree) }
+        ensures kept { Keeps D.honest D.size D.faults self.old self.new (is_io result) }
+    {
+        self.parts.unlink(file)
+    }
+
+    /// Takes an empty directory out of the one that it is in. The root stays.
+    pub fn rmdir(&mut self, directory: u32) -> Result<(), Errno>
+        requires first { 1 ≤ directory }
+        requires last { directory ≤ self.old.numbers.slots }
+        requires used { D.honest self.old.device → IsDirectory self.old.tree directory }
+        ensures answer { D.honest self.old.device
+            → Answers (with_unit (directory_removed self.old.tree directory)) self.old.tree
+            self.new.tree result }
+        ensures crash { D.honest self.old.device
+            → Leaves (D.disk self.old.device) (D.disk self.new.device)
+            (ReflectsOr (D.disk self.old.device) self.old.tree) }
+        ensures kept { Keeps D.honest D.size D.faults self.old self.new (is_io result) }
+    {
+        self.parts.rmdir(directory)
     }
 
     /// Makes all calls so far last.
