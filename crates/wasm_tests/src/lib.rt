@@ -1,4 +1,4 @@
-//! Tests of the crates that decode, validate and run modules, through their public calls alone.
+//! Tests of the decoder and the validator, through their public calls alone.
 #![tactic(auto)]
 
 mod program;

@@ -1,21 +1,12 @@
-//! What no contract says: which fault bytes are refused with, and where, what is printed, and that calls succeed where
-//! memory is ample; and answers that were known from outside.
+//! What no contract says: which fault bytes are refused with, and where, and answers that were known from outside.
 
-mod branches;
 mod bytes;
 mod decoded;
-mod edges_32;
-mod edges_64;
-mod guests;
-mod instances;
 mod made;
-mod memories;
 mod opcodes;
-mod operators;
 mod refused;
 mod rules;
 mod sizes;
-mod stores;
 mod typed;
 
 use std::alloc::{AllocError, Global};

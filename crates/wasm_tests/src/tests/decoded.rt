@@ -123,6 +123,10 @@ fn numbers(rt: HostRuntime) -> Result<(), Fail> {
     Ok(())
 }
 
+fn assert_memories(rt: &impl Abort, module: &Module<'_>, want: Limits) {
+    assert_eq!(rt; module.memories.as_slice(), [want].as_slice());
+}
+
 #[test]
 fn greatest_number(rt: HostRuntime) {
     let bytes = b"\0asm\x01\0\0\0\x05\x08\x01\x01\x00\xFF\xFF\xFF\xFF\x0F";
@@ -130,9 +134,10 @@ fn greatest_number(rt: HostRuntime) {
         min: 0,
         max: Some(4_294_967_295),
     };
-    let found = decode(rt.alloc(), bytes).is_ok_and(|module| module.memories.as_slice()
-        == [most].as_slice());
-    assert!(rt; found);
+    match decode(rt.alloc(), bytes) {
+        Ok(module) => assert_memories(&rt, &module, most),
+        Err(fault) => panic!(rt; "{fault}"),
+    }
 }
 
 fn assert_branch(rt: &impl Abort, module: &Module<'_>) {

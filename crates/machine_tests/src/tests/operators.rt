@@ -1,12 +1,11 @@
 //! Operators by rows: the operator, its operands, and what it makes of them.
 
 use wasm_num::{
-    Trap, i32_add, i32_and, i32_div_s, i32_div_u, i32_eq, i32_extend8_s, i32_extend16_s, i32_ge_s,
-    i32_ge_u, i32_gt_s, i32_gt_u, i32_le_s, i32_le_u, i32_lt_s, i32_lt_u, i32_mul, i32_ne, i32_or,
-    i32_rem_s, i32_rotl, i32_rotr, i32_shl, i32_sub, i32_wrap_i64, i32_xor, i64_add, i64_and,
-    i64_clz, i64_div_s, i64_div_u, i64_eq, i64_extend_i32_s, i64_extend_i32_u, i64_extend8_s,
-    i64_extend16_s, i64_extend32_s, i64_ge_s, i64_ge_u, i64_gt_s, i64_gt_u, i64_le_s, i64_le_u,
-    i64_lt_s, i64_lt_u, i64_mul, i64_ne, i64_or, i64_rem_s, i64_rem_u, i64_sub, i64_xor,
+    i32_add, i32_and, i32_eq, i32_extend8_s, i32_extend16_s, i32_ge_s, i32_ge_u, i32_gt_s,
+    i32_gt_u, i32_le_s, i32_le_u, i32_lt_s, i32_lt_u, i32_mul, i32_ne, i32_or, i32_rotl, i32_rotr,
+    i32_shl, i32_sub, i32_wrap_i64, i32_xor, i64_add, i64_and, i64_clz, i64_eq, i64_extend_i32_s,
+    i64_extend_i32_u, i64_extend8_s, i64_extend16_s, i64_extend32_s, i64_ge_s, i64_ge_u, i64_gt_s,
+    i64_gt_u, i64_le_s, i64_le_u, i64_lt_s, i64_lt_u, i64_mul, i64_ne, i64_or, i64_sub, i64_xor,
 };
 
 const LEAST_32: u32 = 0x8000_0000;
@@ -17,51 +16,12 @@ const NEG_32: u32 = u32::MAX;
 
 const NEG_64: u64 = u64::MAX;
 
-type Division32 = (
-    fn(u32, u32) -> Result<u32, Trap>,
-    u32,
-    u32,
-    Result<u32, Trap>,
-);
-
-type Division64 = (
-    fn(u64, u64) -> Result<u64, Trap>,
-    u64,
-    u64,
-    Result<u64, Trap>,
-);
-
-#[test]
-fn divisions(rt: HostRuntime) {
-    let rows: [Division32; 6] = [
-        (i32_div_s, LEAST_32, NEG_32, Err(Trap::IntegerOverflow)),
-        (i32_rem_s, LEAST_32, NEG_32, Ok(0)),
-        (i32_div_u, 1, 0, Err(Trap::DivideByZero)),
-        (i32_div_s, 0xffff_fff9, 2, Ok(0xffff_fffd)),
-        (i32_rem_s, 0xffff_fff9, 2, Ok(NEG_32)),
-        (i32_rem_s, 7, 0xffff_fffe, Ok(1)),
-    ];
-    for (i, (operator, x, y, want)) in rows.into_iter().enumerate() {
-        assert_eq!(rt; operator(x, y), want, "row {i}");
-    }
-    let rows: [Division64; 5] = [
-        (i64_div_s, LEAST_64, NEG_64, Err(Trap::IntegerOverflow)),
-        (i64_rem_s, LEAST_64, NEG_64, Ok(0)),
-        (i64_div_u, NEG_64, 2, Ok(0x7fff_ffff_ffff_ffff)),
-        (i64_rem_s, 0xffff_ffff_ffff_fff9, 2, Ok(NEG_64)),
-        (i64_rem_u, NEG_64, 2, Ok(1)),
-    ];
-    for (i, (operator, x, y, want)) in rows.into_iter().enumerate() {
-        assert_eq!(rt; operator(x, y), want, "row {i}");
-    }
-}
-
 type Binary32 = (fn(u32, u32) -> u32, u32, u32, u32);
 
 type Binary64 = (fn(u64, u64) -> u64, u64, u64, u64);
 
 #[test]
-fn sums_and_digits(rt: HostRuntime) {
+fn sums_and_digits_32(rt: HostRuntime) {
     let rows: [Binary32; 10] = [
         (i32_add, NEG_32, 1, 0),
         (i32_sub, 0, 1, NEG_32),
@@ -75,8 +35,12 @@ fn sums_and_digits(rt: HostRuntime) {
         (i32_rotr, 3, 33, 0x8000_0001),
     ];
     for (i, (operator, x, y, want)) in rows.into_iter().enumerate() {
-        assert_eq!(rt; operator(x, y), want, "row {i}");
+        assert!(rt; operator(x, y) == want, "row {i}");
     }
+}
+
+#[test]
+fn sums_and_digits_64(rt: HostRuntime) {
     let rows: [Binary64; 6] = [
         (i64_add, NEG_64, 2, 1),
         (i64_sub, 0, LEAST_64, LEAST_64),
@@ -86,7 +50,7 @@ fn sums_and_digits(rt: HostRuntime) {
         (i64_xor, NEG_64, NEG_64, 0),
     ];
     for (i, (operator, x, y, want)) in rows.into_iter().enumerate() {
-        assert_eq!(rt; operator(x, y), want, "row {i}");
+        assert!(rt; operator(x, y) == want, "row {i}");
     }
 }
 
@@ -108,7 +72,7 @@ fn comparisons_32(rt: HostRuntime) {
         (i32_ne, 7, 7, false),
     ];
     for (i, (operator, x, y, want)) in rows.into_iter().enumerate() {
-        assert_eq!(rt; operator(x, y), want, "row {i}");
+        assert!(rt; operator(x, y) == want, "row {i}");
     }
 }
 
@@ -130,20 +94,24 @@ fn comparisons_64(rt: HostRuntime) {
         (i64_ne, 7, 7, false),
     ];
     for (i, (operator, x, y, want)) in rows.into_iter().enumerate() {
-        assert_eq!(rt; operator(x, y), want, "row {i}");
+        assert!(rt; operator(x, y) == want, "row {i}");
     }
 }
 
 #[test]
-fn widths(rt: HostRuntime) {
+fn widths_32(rt: HostRuntime) {
     let rows: [(fn(u32) -> u32, u32, u32); 3] = [
         (i32_extend8_s, 128, 4_294_967_168),
         (i32_extend8_s, 0x17f, 127),
         (i32_extend16_s, 0x8000, 0xffff_8000),
     ];
     for (i, (operator, x, want)) in rows.into_iter().enumerate() {
-        assert_eq!(rt; operator(x), want, "row {i}");
+        assert!(rt; operator(x) == want, "row {i}");
     }
+}
+
+#[test]
+fn widths_64(rt: HostRuntime) {
     let rows: [(fn(u64) -> u64, u64, u64); 4] = [
         (i64_clz, 0, 64),
         (i64_extend8_s, 0x80, 0xffff_ffff_ffff_ff80),
@@ -151,8 +119,12 @@ fn widths(rt: HostRuntime) {
         (i64_extend32_s, 6_442_450_944, 18_446_744_071_562_067_968),
     ];
     for (i, (operator, x, want)) in rows.into_iter().enumerate() {
-        assert_eq!(rt; operator(x), want, "row {i}");
+        assert!(rt; operator(x) == want, "row {i}");
     }
+}
+
+#[test]
+fn conversions(rt: HostRuntime) {
     assert_eq!(rt; i32_wrap_i64(0x1_0000_0002), 2);
     assert_eq!(rt; i64_extend_i32_s(LEAST_32), 0xffff_ffff_8000_0000);
     assert_eq!(rt; i64_extend_i32_u(LEAST_32), 0x8000_0000);

@@ -3,12 +3,12 @@
 ghost use Rattle.std.specs.Prelude.{Some};
 ghost use Rattle.wasm_store.specs.declared.call.HostCall.TheVariants.{ProcExit};
 
+use super::loaded;
 use std::alloc::{AllocError, Global};
 use std::process::Abort;
 use std::test::Fail;
 use wasm_interp::{Answer, Errno, Host, HostCall, Machine, Memory, Outcome, Pause, Trap};
-use wasm_module::{FuncType, LoadFault, decode};
-use wasm_valid::{Valid, validate};
+use wasm_module::FuncType;
 
 /// Exits at a call of one argument, with that argument. A call of two is remembered, with the units used; it writes a
 /// byte to memory, and answers 8.
@@ -57,10 +57,6 @@ fn guest(alloc: Global, code: &[u8]) -> Result<Vec<u8>, AllocError> {
     bytes.extend_from_slice(&[size + 2, 1, size, 0])?;
     bytes.extend_from_slice(code)?;
     Ok(bytes)
-}
-
-fn loaded(alloc: Global, bytes: &[u8]) -> Result<Valid<'_>, LoadFault> {
-    validate(alloc, decode(alloc, bytes)?)
 }
 
 fn resumed(machine: &mut Machine<'_>, host: &mut Recorder, units: u64) -> Option<Pause> {

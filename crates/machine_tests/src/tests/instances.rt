@@ -2,13 +2,13 @@
 
 ghost use Rattle.std.specs.Prelude.{Some};
 
-use super::rules::{Sections, spelled};
+use super::loaded;
 use std::alloc::{AllocError, Global};
 use std::process::Abort;
 use std::test::Fail;
-use wasm_module::{FuncType, LoadFault, decode};
+use wasm_module::FuncType;
 use wasm_store::{Answer, Errno, Host, HostCall, InstanceFault, Instantiated, Memory, instantiate};
-use wasm_valid::validate;
+use wasm_valid::Valid;
 
 /// Links each import to one call, or none.
 #[derive(Drop)]
@@ -36,6 +36,9 @@ impl Host for Links {
     }
 }
 
+/// Sections by their ids and their contents, each under 128 bytes; an empty one isn't there.
+type Sections<'a> = [(u8, &'a [u8]); 11];
+
 /// Imports function 0 and exports function 1 as `_start`, both of type [] -> []. It has a table of 2 elements, one page
 /// of memory, and the constant globals 2, 3, -1 and, of 64 bits, -2. Function 1 starts.
 const GUEST: Sections<'static> = [
@@ -55,15 +58,27 @@ const GUEST: Sections<'static> = [
     (11, b""),
 ];
 
-/// How these bytes are refused under a page limit, if they are.
-fn refusal(
+/// The module's bytes where one section has another content.
+fn spelled(
     alloc: Global,
-    bytes: &[u8],
-    pages: u32,
-    call: Option<HostCall>,
-) -> Result<Option<InstanceFault>, LoadFault> {
-    let valid = validate(alloc, decode(alloc, bytes)?)?;
-    Ok(instantiate(alloc, &valid, pages, &Links { call }).err())
+    sections: &Sections<'_>,
+    id: u8,
+    other: &[u8],
+) -> Result<Vec<u8>, AllocError> {
+    let mut bytes = Vec::from_slice(alloc, b"\0asm\x01\0\0\0")?;
+    for (at, usual) in sections {
+        let content = if *at == id { other } else { *usual };
+        if !content.is_empty() {
+            bytes.extend_from_slice(&[*at, content.len().min(127) as u8])?;
+            bytes.extend_from_slice(content)?;
+        }
+    }
+    Ok(bytes)
+}
+
+/// How the module is refused under a limit of one page, if it is.
+fn refusal(alloc: Global, valid: &Valid<'_>, call: Option<HostCall>) -> Option<InstanceFault> {
+    instantiate(alloc, valid, 1, &Links { call }).err()
 }
 
 /// A section's id and content, and the fault under a limit of one page.
@@ -78,7 +93,10 @@ fn assert_rows(
 ) -> Result<(), AllocError> {
     for (i, (id, content, want)) in rows.iter().enumerate() {
         let bytes = spelled(alloc, sections, *id, content)?;
-        assert!(rt; refusal(alloc, &bytes, 1, call) == Ok(*want), "row {i}");
+        match loaded(alloc, &bytes) {
+            Ok(valid) => assert!(rt; refusal(alloc, &valid, call) == *want, "row {i}"),
+            Err(_) => panic!(rt; "row {i}"),
+        }
     }
     Ok(())
 }
@@ -142,16 +160,26 @@ fn names_the_first_reason(rt: HostRuntime) -> Result<(), Fail> {
     Ok(())
 }
 
+fn has_first_values(made: &Instantiated) -> bool {
+    made.memory.len() == 65_536
+        && made.memory.slice(65_532, 4) == Some(b"\0abc".as_slice())
+        && made.table.get(0) == Some(None)
+        && made.table.get(1) == Some(Some(1))
+        && made.globals.as_slice() == [2, 3, 4_294_967_295, 18_446_744_073_709_551_614].as_slice()
+}
+
 fn assert_instance(rt: &impl Abort, made: &Instantiated) {
-    assert_eq!(rt; made.calls.as_slice(), [HostCall::FdSync].as_slice());
-    assert_eq!(rt; made.memory.len(), 65_536);
-    assert_eq!(rt; made.memory.slice(65_532, 4), Some(b"\0abc".as_slice()));
-    assert!(rt; made.table.get(0) == Some(None) && made.table.get(1) == Some(Some(1)));
-    assert_eq!(rt;
-        made.globals.as_slice(),
-        [2, 3, 4_294_967_295, 18_446_744_073_709_551_614].as_slice()
-    );
-    assert_eq!(rt; (made.page_limit, made.start, made.main), (7, Some(1), 1));
+    assert!(rt; has_first_values(made));
+    assert!(rt; made.calls.as_slice() == [HostCall::FdSync].as_slice());
+    assert!(rt; (made.page_limit, made.start, made.main) == (7, Some(1), 1));
+}
+
+fn assert_made(rt: &impl Abort, alloc: Global, valid: &Valid<'_>) {
+    let call = Some(HostCall::FdSync);
+    match instantiate(alloc, valid, 7, &Links { call }) {
+        Ok(made) => assert_instance(rt, &made),
+        Err(fault) => panic!(rt; "{fault}"),
+    }
 }
 
 /// One element and three bytes of data stand there, under a limit of 7 pages.
@@ -161,12 +189,8 @@ fn instances(rt: HostRuntime) -> Result<(), Fail> {
     sections[8] = (9, b"\x01\x00\x41\x01\x0B\x01\x01");
     let data = b"\x01\x00\x41\xFD\xFF\x03\x0B\x03abc";
     let bytes = spelled(rt.alloc(), &sections, 11, data)?;
-    let valid = validate(rt.alloc(), decode(rt.alloc(), &bytes)?)?;
-    let host = Links {
-        call: Some(HostCall::FdSync),
-    };
-    match instantiate(rt.alloc(), &valid, 7, &host) {
-        Ok(made) => assert_instance(&rt, &made),
+    match loaded(rt.alloc(), &bytes) {
+        Ok(valid) => assert_made(&rt, rt.alloc(), &valid),
         Err(fault) => panic!(rt; "{fault}"),
     }
     Ok(())

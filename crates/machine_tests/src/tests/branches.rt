@@ -1,11 +1,11 @@
 //! Modules of one function, and where its branches lead.
 
+use super::loaded;
 use std::alloc::{AllocError, Global};
 use std::process::Abort;
 use std::test::Fail;
 use wasm_branch::{Target, Targets, targets};
-use wasm_module::{LoadFault, decode};
-use wasm_valid::validate;
+use wasm_valid::Valid;
 
 /// The preamble, and the types [] -> [] and [] -> [i32].
 const TYPES: &[u8] = b"\0asm\x01\0\0\0\x01\x08\x02\x60\x00\x00\x60\x00\x01\x7F";
@@ -18,12 +18,6 @@ fn module(alloc: Global, type_index: u8, code: &[u8]) -> Result<Vec<u8>, AllocEr
     bytes.extend_from_slice(&[0x0A, size + 2, 0x01, size, 0x00])?;
     bytes.extend_from_slice(code)?;
     Ok(bytes)
-}
-
-/// The targets of a module.
-fn laid(alloc: Global, bytes: &[u8]) -> Result<Targets, LoadFault> {
-    let valid = validate(alloc, decode(alloc, bytes)?)?;
-    targets(alloc, &valid)
 }
 
 /// A position, how many values are kept, and the height.
@@ -48,6 +42,13 @@ fn assert_targets(rt: &impl Abort, targets: &Targets, rows: &[Row<'_>]) {
     }
 }
 
+fn assert_laid(rt: &impl Abort, alloc: Global, valid: &Valid<'_>, rows: &[Row<'_>]) {
+    match targets(alloc, valid) {
+        Ok(targets) => assert_targets(rt, &targets, rows),
+        Err(fault) => panic!(rt; "{fault}"),
+    }
+}
+
 /// Asks where instructions of this code lead, in a function of the type that has this index.
 fn assert_code(
     rt: &impl Abort,
@@ -57,8 +58,8 @@ fn assert_code(
     rows: &[Row<'_>],
 ) -> Result<(), AllocError> {
     let bytes = module(alloc, type_index, code)?;
-    match laid(alloc, &bytes) {
-        Ok(targets) => assert_targets(rt, &targets, rows),
+    match loaded(alloc, &bytes) {
+        Ok(valid) => assert_laid(rt, alloc, &valid, rows),
         Err(fault) => panic!(rt; "{fault}"),
     }
     Ok(())
