@@ -31,3 +31,4 @@ pub mod Children
 pub mod Relocating
 pub mod Climbing
 pub mod Targets
+pub mod Raising

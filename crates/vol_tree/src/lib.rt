@@ -11,6 +11,7 @@ mod naming;
 mod parts;
 mod stat;
 mod superblock;
+mod upgrading;
 mod volume;
 
 pub use errno::Errno;
