@@ -32,3 +32,4 @@ pub mod Relocating
 pub mod Climbing
 pub mod Targets
 pub mod Raising
+pub mod Used

@@ -10,6 +10,7 @@ mod moving;
 mod naming;
 mod parts;
 mod stat;
+mod stats;
 mod superblock;
 mod upgrading;
 mod volume;
@@ -22,4 +23,5 @@ pub use laws::{
     within_is_below,
 };
 pub use stat::Stat;
+pub use stats::Stats;
 pub use volume::Volume;

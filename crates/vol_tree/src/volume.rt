@@ -4,6 +4,7 @@ ghost use Rattle.std.specs.Prelude.{◌≡◌, ◌≤◌, ◌↔◌, [], Ok, Err
 ghost use Rattle.vol_sector.specs.Disk.{Image, Leaves, counted};
 ghost use Rattle.vol_tree.specs.Tree.{File, Directory, IsDirectory, entry, lookup};
 ghost use Rattle.vol_tree.specs.Stat.{TellsStat};
+ghost use Rattle.vol_tree.specs.Stats.{IsStats};
 ghost use Rattle.vol_tree.specs.Calls.{created, written, resized, read_bytes, is_file_at, with_unit};
 ghost use Rattle.vol_tree.specs.Calls.{unlinked, directory_removed, renamed, next_child};
 ghost use Rattle.vol_tree.specs.Stands.{Stands, StandsAs};
@@ -12,7 +13,7 @@ ghost use Rattle.vol_inode.specs.Name.{IsName};
 ghost use Rattle.vol_inode.specs.declared.version.Version.TheVariants.{One, Two};
 
 use crate::parts::Parts;
-use crate::{Errno, Stat};
+use crate::{Errno, Stat, Stats};
 use std::marker::Model;
 use vol_inode::{Kind, Version};
 use vol_sector::{Device, VolumeFault};
@@ -41,6 +42,13 @@ impl<D: Device> Volume<D> {
         ensures { result ≡ self.now.failed }
     {
         self.parts.log.failed()
+    }
+
+    /// How many entries and sectors there are, and how many of them are used.
+    pub fn stats(&self) -> Stats
+        ensures { D.honest self.now.device → IsStats self.now.tree self.now.numbers result }
+    {
+        self.parts.stats()
     }
 
     /// The version of its format.
