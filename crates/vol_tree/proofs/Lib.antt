@@ -32,3 +32,5 @@ pub mod Children
 pub mod Relocating
 pub mod Climbing
 pub mod Targets
+pub mod Raising
+pub mod Used

@@ -2,3 +2,4 @@
 pub mod Removals
 pub mod Moves
 pub mod Replacing
+pub mod Upgrades

@@ -1,21 +1,23 @@
 //! An open volume.
 
-ghost use Rattle.std.specs.Prelude.{◌≡◌, ◌≤◌, ⊤, [], Ok, OnOk, IfOk, IsSome, IsTrue, length};
+ghost use Rattle.std.specs.Prelude.{◌≡◌, ◌≤◌, ◌↔◌, ⊤, [], Ok, Err, OnOk, OnErr, IfOk, IfErr, IsSome, IsTrue, is_err, false, true, length};
 ghost use Rattle.std.specs.Option.{MatchOption};
-ghost use Rattle.vol_sector.specs.Disk.{Image, Leaves};
+ghost use Rattle.vol_sector.specs.Disk.{Image, Leaves, counted};
 ghost use Rattle.vol_tree.specs.Tree.{File, Directory, IsTree, IsDirectory, entry, lookup};
 ghost use Rattle.vol_tree.specs.Stat.{TellsStat};
+ghost use Rattle.vol_tree.specs.Stats.{IsStats};
 ghost use Rattle.vol_tree.specs.Calls.{created, written, resized, read_bytes, is_file_at, with_unit};
 ghost use Rattle.vol_tree.specs.Calls.{unlinked, directory_removed, renamed, next_child};
-ghost use Rattle.vol_tree.specs.Stands.{Stands};
+ghost use Rattle.vol_tree.specs.Stands.{Stands, StandsAs};
 ghost use Rattle.vol_tree.specs.Opened.{Answers, Tells, TellsBytes, Keeps, ReflectsOr, IsSerial, geometry, is_io};
 ghost use Rattle.vol_inode.specs.Name.{IsName};
+ghost use Rattle.vol_inode.specs.declared.version.Version.TheVariants.{One, Two};
 
 use crate::parts::Parts;
-use crate::{Errno, Stat};
+use crate::{Errno, Stat, Stats};
 use std::marker::Model;
 use vol_inode::{Kind, Version};
-use vol_sector::Device;
+use vol_sector::{Device, VolumeFault};
 
 /// A volume of files in directories.
 #[derive(Drop)]
@@ -50,6 +52,13 @@ impl<D: Device> Volume<D> {
         ensures { result ≡ self.now.failed }
     {
         self.parts.log.failed()
+    }
+
+    /// How many entries and sectors there are, and how many of them are used.
+    pub fn stats(&self) -> Stats
+        ensures { D.honest self.now.device → IsStats self.now.tree self.now.numbers result }
+    {
+        self.parts.stats()
     }
 
     /// The version of its format.
@@ -247,6 +256,36 @@ impl<D: Device> Volume<D> {
         ensures kept { Keeps D.honest D.size D.faults self.old self.new (is_io result) }
     {
         Ok(self.parts.commit()?)
+    }
+
+    /// Commits, and makes a volume of version 1 one of version 2, in which files may be greater.
+    ///
+    /// It is refused as `Upgraded` where the volume has version 2, before any device operation, and
+    /// else as `Device`; then it has failed.
+    pub fn upgrade(&mut self) -> Result<(), VolumeFault>
+        ensures newest { self.old.numbers.version ≡ Two
+            → (self.new ≡ self.old) × (result ≡ Err VolumeFault.Upgraded) }
+        ensures refused { self.old.numbers.version ≡ One
+            → IfErr result (λ fault. fault ≡ VolumeFault.Device) }
+        ensures numbers { OnOk result (self.new.numbers ≡ record self.old.numbers { version = Two }) }
+        ensures unchanged { OnErr result (self.new.numbers ≡ self.old.numbers) }
+        ensures tree { D.honest self.old.device → self.new.tree ≡ self.old.tree }
+        ensures crash { D.honest self.old.device
+            → Leaves (D.disk self.old.device) (D.disk self.new.device)
+            (ReflectsOr (D.disk self.old.device) self.old.tree) }
+        // At Ok each crash leaves the tree in a volume of version 2.
+        ensures durable { D.honest self.old.device → OnOk result ((c : Image)
+            → (D.disk self.new.device).may_leave c
+            → StandsAs c self.new.numbers self.new.tree) }
+        ensures failed { self.old.numbers.version ≡ One → self.new.failed ≡ is_err result }
+        ensures faults { self.old.numbers.version ≡ One → self.old.failed ≡ false
+            → D.faults self.new.device ≡ counted (is_err result) (D.faults self.old.device) }
+        ensures idle { self.old.numbers.version ≡ One → self.old.failed ≡ true
+            → (self.new.device ≡ self.old.device) × (is_err result ≡ true) }
+        ensures honest { D.honest self.old.device ↔ D.honest self.new.device }
+        ensures size { D.size self.new.device ≡ D.size self.old.device }
+    {
+        self.parts.upgrade()
     }
 
     /// The device. What isn't committed is given up.
