@@ -1,7 +1,7 @@
 //! The names of a volume, answered from memory.
 
 ghost use Rattle.std.specs.Prelude.{◌≡◌, ◌≤◌, ◌<◌, ◌+◌, ◌-◌, ◌==◌, ◌⊎◌, if◌then◌else◌, ◌↔◌, ◌≢◌, ℕ, List, vec_capacity};
-ghost use Rattle.std.specs.Prelude.{true, false, IfOk, IfErr, IsErr, is_err, MatchOption};
+ghost use Rattle.std.specs.Prelude.{true, false, IsTrue, IfOk, IfErr, IsErr, is_err, MatchOption};
 ghost use Rattle.vol_sector.specs.Disk.{put};
 ghost use Rattle.vol_sector.specs.Fault.{device_failed};
 ghost use Rattle.vol_log.specs.Log.{view, device_of, sectors_of, room_of, is_staged, has_failed};
@@ -114,6 +114,16 @@ impl Dirs {
             return Err(DeviceFault);
         }
         Ok(self.child_over(parent, after))
+    }
+
+    /// Whether a serial is in use.
+    pub fn is_used(&self, serial: u32) -> bool
+        requires first { 1 ≤ serial }
+        requires last { serial ≤ slots_of self.now }
+        ensures used { IsTrue result → IsFree self.now serial → ⊥ }
+        ensures free { result ≡ false → IsFree self.now serial }
+    {
+        self.used[(serial - 1) as usize]
     }
 
     /// The least serial that isn't in use, if there is one.

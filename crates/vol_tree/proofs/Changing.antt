@@ -62,10 +62,10 @@ module _ {D : Type 0} {g : Ghosts D} (mid new : Parts D g) (is : IsOpen mid) (s 
   })
 
 -- a call that is done: a commit or none, and then sectors are staged
-pub done : {D : Type 0} {g : Ghosts D} {X : Type 0} (meant : Result (Tree × X) Errno) (old mid new : Parts D g) (x : X) → Commits old mid false → Stages mid new
-    → (g.honest (device_of old.log) → Fits new mid.numbers) → (g.honest (device_of old.log) → meant ≡ Ok ((opened new).tree, x)) → Changes meant old new (Ok x)
-done {D} {g} meant old mid new x c s fits is = record {
-  is_open = staged_open mid new c.is_open s c.kept.failed (λ h. fits (c.kept.honest.1 h));
+pub done_open : {D : Type 0} {g : Ghosts D} {X : Type 0} (meant : Result (Tree × X) Errno) (old mid new : Parts D g) (x : X) → Commits old mid false → IsOpen new → Stages mid new
+    → (g.honest (device_of old.log) → meant ≡ Ok ((opened new).tree, x)) → Changes meant old new (Ok x)
+done_open {D} {g} meant old mid new x c is_open s is = record {
+  is_open = is_open;
   answer = is;
   crash = λ h. leaves_quiet (g.disk (device_of old.log)) (g.disk (device_of mid.log)) (g.disk (device_of new.log)) _ (c.crash h) (s.crash (c.kept.honest.0 h));
   kept = record {
@@ -76,6 +76,26 @@ done {D} {g} meant old mid new x c s fits is = record {
     honest = (λ h. s.honest.0 (c.kept.honest.0 h), λ h. c.kept.honest.1 (s.honest.1 h));
     size = s.size ∙ c.kept.size;
   };
+}
+
+pub done : {D : Type 0} {g : Ghosts D} {X : Type 0} (meant : Result (Tree × X) Errno) (old mid new : Parts D g) (x : X) → Commits old mid false → Stages mid new
+    → (g.honest (device_of old.log) → Fits new mid.numbers) → (g.honest (device_of old.log) → meant ≡ Ok ((opened new).tree, x)) → Changes meant old new (Ok x)
+done meant old mid new x c s fits is = done_open meant old mid new x c (staged_open mid new c.is_open s c.kept.failed (λ h. fits (c.kept.honest.1 h))) s is
+
+-- one after another
+pub stages_then : {D : Type 0} {g : Ghosts D} (a b c : Parts D g) → Stages a b → Stages b c → Stages a c
+stages_then {D} {g} a b c one other = record {
+  seen = λ h. other.seen (one.honest.0 h) ∙ one.seen h;
+  crash = λ h. leaves_quiet (g.disk (device_of a.log)) (g.disk (device_of b.log)) (g.disk (device_of c.log)) (λ m. ⊥) (one.crash h) (other.crash (one.honest.0 h));
+  failed = other.failed;
+  numbers = other.numbers ∙ one.numbers;
+  log_sectors = other.log_sectors ∙ one.log_sectors;
+  first = other.first ∙ one.first;
+  end = other.end ∙ one.end;
+  slots = other.slots ∙ one.slots;
+  honest = (λ h. other.honest.0 (one.honest.0 h), λ h. one.honest.1 (other.honest.1 h));
+  size = other.size ∙ one.size;
+  faults = other.faults ∙ one.faults;
 }
 
 -- sectors are staged and the names change, over the same device

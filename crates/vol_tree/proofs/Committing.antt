@@ -1,5 +1,5 @@
 -- A volume's parts around a commit.
-use Rattle.std.proofs.Common.{◌≡◌, ◌⊎◌, ◌↔◌, inl, inr, Bool, true, false, [], Result, Ok, Err, OnOk, is_err, refl, sym, ◌∙◌, ap, subst, arith}
+use Rattle.std.proofs.Common.{◌≡◌, ◌≤◌, ℕ, ◌⊎◌, ◌↔◌, inl, inr, Bool, true, false, [], Result, Ok, Err, OnOk, is_err, refl, sym, ◌∙◌, ap, subst, arith}
 use Rattle.std.proofs.lemmas.Bool.{cases_Bool}
 use Rattle.vol_sector.specs.Disk.{Image, Disk, Leaves, counted}
 use Rattle.vol_sector.specs.declared.device.Device.{Ghosts}
@@ -49,8 +49,11 @@ module _ {D : Type 0} {g : Ghosts D} (may_stay : (d : D) → g.honest d → (g.d
   same : g.honest (device_of old.log) → SameContent (view old.log) (view log)
   same h k at = sym (c.keeps h k at)
 
+  behind : g.honest (device_of old.log) → (k : ℕ) → 122 ≤ k → view old.log k ≡ view log k
+  behind h k le = same h k (inr le)
+
   pub tree_stays : g.honest (device_of old.log) → tree_in (view log) old.numbers ≡ tree_in (view old.log) old.numbers
-  tree_stays h = same_tree_in (view old.log) (view log) old.numbers (same h) (is.content h)
+  tree_stays h = same_tree_in (view old.log) (view log) old.numbers (behind h) (is.content h)
 
   committed_open : IsOpen new
   committed_open = record {
@@ -59,9 +62,9 @@ module _ {D : Type 0} {g : Ghosts D} (may_stay : (d : D) → g.honest d → (g.d
     first = is.first;
     end = is.end;
     slots = is.slots;
-    content = λ h. let h0 = c.honest.1 h in same_is_content (view old.log) (view log) old.numbers (same h0) (is.content h0);
+    content = λ h. let h0 = c.honest.1 h in same_is_content (view old.log) (view log) old.numbers (behind h0) (is.content h0);
     reserved = λ h. let h0 = c.honest.1 h in is.reserved h0 ∙ ap space (sym (tree_stays h0));
-    shows = λ h. let h0 = c.honest.1 h in same_shows (view old.log) (view log) old.numbers (same h0) (is.content h0) old.dirs (is.shows h0);
+    shows = λ h. let h0 = c.honest.1 h in same_shows (view old.log) (view log) old.numbers (behind h0) (is.content h0) old.dirs (is.shows h0);
     working = λ h ok.
         let h0 = c.honest.1 h in
         let io_is : io ≡ false = sym c.failed ∙ ok in
@@ -72,8 +75,8 @@ module _ {D : Type 0} {g : Ghosts D} (may_stay : (d : D) → g.honest d → (g.d
           settled = subst (λ s. Settled s (g.disk (device_of log))) is.sectors done.0;
           front = c.keeps h0 0 (inl (omega arith)) ∙ was.front;
           committed_front = done.1 0 (inl (omega arith)) ∙ was.front;
-          committed = same_is_content (view old.log) (g.disk (device_of log)).seen old.numbers (λ k at. sym (done.1 k at)) (is.content h0);
-          taken = same_taken (view old.log) (view log) old.numbers (same h0) (is.content h0) old.sectors was.taken;
+          committed = same_is_content (view old.log) (g.disk (device_of log)).seen old.numbers (λ k le. sym (done.1 k (inr le))) (is.content h0);
+          taken = same_taken (view old.log) (view log) old.numbers (behind h0) (is.content h0) old.sectors was.taken;
         };
   }
 
@@ -92,7 +95,7 @@ module _ {D : Type 0} {g : Ghosts D} (may_stay : (d : D) → g.honest d → (g.d
   commits = record {
     is_open = committed_open;
     tree = tree_stays;
-    slots = λ h. same_slots_in (view old.log) (view log) old.numbers (same h) (is.content h);
+    slots = λ h. same_slots_in (view old.log) (view log) old.numbers (behind h) (is.content h);
     crash = committed_crash;
     kept = record { numbers = refl; failed = c.failed; faults = c.faults; idle = c.idle; honest = c.honest; size = c.size };
     dirs = refl;
@@ -107,11 +110,11 @@ module _ {D : Type 0} {g : Ghosts D} (may_stay : (d : D) → g.honest d → (g.d
       let disk = g.disk (device_of log) in
       let settled = subst (λ s. Settled s disk) is.sectors done.0 in
       let same_seen : SameContent (view old.log) disk.seen = λ k at. sym (done.1 k at) in
-      let content : IsContent disk.seen old.numbers = same_is_content (view old.log) disk.seen old.numbers same_seen (is.content h) in
+      let content : IsContent disk.seen old.numbers = same_is_content (view old.log) disk.seen old.numbers (λ k le. same_seen k (inr le)) (is.content h) in
       let was_ok : has_failed old.log ≡ false = elim (cases_Bool (has_failed old.log)) [ inl yes_failed ↦ absurd (let i = (c.idle yes_failed).1 in cc) | inr fine ↦ fine ] in
       let front : disk.seen 0 ≡ superblock old.numbers = done.1 0 (inl (omega arith)) ∙ (is.working h was_ok).front in
       let stands : Stands disk.seen (tree_in disk.seen old.numbers) = (old.numbers, stands_with disk.seen disk.seen old.numbers is.ranges front content (has_own old.numbers.sectors disk.seen disk.seen settled.empty (λ k at. refl))) in
-      let tree = same_tree_in (view old.log) disk.seen old.numbers same_seen (is.content h) in
+      let tree = same_tree_in (view old.log) disk.seen old.numbers (λ k le. same_seen k (inr le)) (is.content h) in
       subst (λ T. Stands m T) tree (subst (λ x. Stands x (tree_in disk.seen old.numbers)) (sym (settled.durable m may)) stands)
 
 -- nothing is done

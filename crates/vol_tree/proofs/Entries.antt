@@ -1,9 +1,9 @@
 -- Entries of changed trees, and paths that lead through them.
-use Rattle.std.proofs.Common.{is_some, ◌≡◌, ◌≢◌, ℕ, zero, suc, ◌<◌, [], ◌∷◌, ◌++◌, length, Option, Some, None, refl, sym, ◌∙◌, ap, subst, inl, inr, arith}
+use Rattle.std.proofs.Common.{is_some, true, ◌≡◌, ◌≢◌, ℕ, zero, suc, ◌<◌, [], ◌∷◌, ◌++◌, length, Option, Some, None, refl, sym, ◌∙◌, ap, subst, inl, inr, arith}
 use Rattle.std.proofs.lemmas.List.{get_or-set_same, get_or-set_other, get_or_past, length-append}
 use Rattle.std.proofs.lemmas.Option.{same_Some, none-some}
 use Rattle.std.proofs.lemmas.Bool.{cases_lt}
-use Rattle.vol_tree.specs.Tree.{Tree, Path, Name, Entry, entry, changed, Leads, IsAt, IsTree, root}
+use Rattle.vol_tree.specs.Tree.{Tree, Path, Name, Entry, entry, changed, Leads, IsAt, IsTree, IsDirectory, root}
 
 -- a serial with an entry is within the slots
 pub used_within : (T : Tree) (slot : ℕ) (e : Entry) → entry T (suc slot) ≡ Some e → slot < length T
@@ -53,3 +53,7 @@ no_cycle T t n p s h =
     let from_top = t.reached s (ap (λ (o : Option Entry). is_some o) h.1) in
     let same = one_path T t from_top.0 ((n ∷ p) ++ from_top.0) s from_top.1 (leads_on T 1 s s from_top.0 (n ∷ p) from_top.1 h) in
     absurd (omega (arith, ap length same, length-append (n ∷ p) from_top.0))
+
+-- a directory is an entry
+pub directory_used : (T : Tree) (s : ℕ) → IsDirectory T s → is_some (entry T s) ≡ true
+directory_used T s d = ap is_some d.1

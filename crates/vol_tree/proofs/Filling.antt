@@ -30,19 +30,13 @@ use Rattle.vol_tree.specs.Opened.{is_io, slots_in, slot_of, tree_in, data_sector
 use Rattle.vol_tree.specs.Parts.{IsOpen, IsContent, AreTaken, opened}
 use Rattle.vol_tree.specs.Commits.{Commits}
 use Rattle.vol_tree.specs.Changes.{Changes, Stages}
+use Rattle.vol_tree.specs.internal.Removals.{Fails}
 use Rattle.vol_tree.proofs.Changing.{Fits, done, fault_is_io}
 use Rattle.vol_tree.proofs.Rewriting.{Rewrites, filled_tree, rewritten_tree, rewritten_taken, rewritten_content, rewritten_front, rewritten_shows}
 use Rattle.vol_tree.proofs.Finding.{tree_entry, length_tree, slot_within}
 use Rattle.vol_tree.proofs.Writes.{space_changed}
 
 -- ---- a call that fails
-
--- It is a volume still, with the same tree, but of the taken sectors nothing is known.
-pub record Fails {D : Type 0} {g : Ghosts D} (old new : Parts D g) : Type 0 where
-  pub is_open : IsOpen new
-  pub tree : g.honest (device_of old.log) → (opened new).tree ≡ (opened old).tree
-  pub crash : g.honest (device_of old.log) → Leaves (g.disk (device_of old.log)) (g.disk (device_of new.log)) (ReflectsOr (g.disk (device_of old.log)) (opened old).tree)
-  pub kept : Keeps g.honest g.size g.faults (opened old) (opened new) true
 
 module _ {D : Type 0} {g : Ghosts D} where
   pub fails_after : (old mid : Parts D g) (log : Log D g) (sectors : Alloc) → Commits old mid false → OnlyReads mid.log log → has_failed log ≡ true → first_of sectors ≡ first_of mid.sectors → end_of sectors ≡ end_of mid.sectors

@@ -25,3 +25,12 @@ pub mod Writes
 pub mod WriteCalls
 pub mod Filling
 pub mod ReadCalls
+pub mod Removing
+pub mod Taking
+pub mod Trees
+pub mod Children
+pub mod Relocating
+pub mod Climbing
+pub mod Targets
+pub mod Raising
+pub mod Used

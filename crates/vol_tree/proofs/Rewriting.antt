@@ -117,8 +117,8 @@ module _ (a b : Image) (v : Superblock) (s : ℕ) (d e : Entry) (old new : Alloc
   not_own : (t : ℕ) (f : Entry) (p : Place) → get_or slots t None ≡ Some f → t ≢ s → IsPlace p → named a f p ≢ 0 → NamesOthers a d (named a f p)
   not_own t f p is_f differ place some q place2 same = differ (is.volume.sectors.apart t s f d p q is_f at place place2 some (sym same))
 
-  others : OtherSlots a b v slots s
-  others = record {
+  pub rewritten_others : OtherSlots a b v slots s
+  rewritten_others = record {
     bytes = λ t l differ. r.others.outside (122 + t) (λ same. differ (omega (arith, lt))) (inl (omega (arith, lt)));
     files = λ t f is_f differ p place some.
         let behind : 122 + v.slots ≤ named a f p = is.volume.sectors.behind t f p is_f place some in
@@ -169,17 +169,17 @@ module _ (a b : Image) (v : Superblock) (s : ℕ) (d e : Entry) (old new : Alloc
   }
 
   slots_are : slots_in b v.slots ≡ set slots s (Some e)
-  slots_are = set_slots a b v slots s (Some e) is.volume.count is.volume.holds is.volume.sectors others fits
+  slots_are = set_slots a b v slots s (Some e) is.volume.count is.volume.holds is.volume.sectors rewritten_others fits
 
   tree_set : tree_of b (set slots s (Some e)) ≡ changed (tree_in a v) (suc s) (Some (entry_of b e))
-  tree_set = set_tree a b v slots s (Some e) is.volume.count is.volume.holds is.volume.sectors others fits
+  tree_set = set_tree a b v slots s (Some e) is.volume.count is.volume.holds is.volume.sectors rewritten_others fits
 
   pub rewritten_tree : tree_in b v ≡ changed (tree_in a v) (suc s) (Some (entry_of b e))
   rewritten_tree = ap (tree_of b) slots_are ∙ tree_set
 
   pub rewritten_taken : AreTaken b v (slots_in b v.slots) new
   rewritten_taken = subst (λ (x : Slots). AreTaken b v x new) (sym slots_are)
-      (taken_set a b v slots s (omega (arith, slots_count a v.slots, lt)) (Some e) is.volume.holds is.volume.sectors others fits old new follows taken)
+      (taken_set a b v slots s (omega (arith, slots_count a v.slots, lt)) (Some e) is.volume.holds is.volume.sectors rewritten_others fits old new follows taken)
 
   pub rewritten_front : b 0 ≡ a 0
   rewritten_front = r.others.outside 0 (λ same. omega (arith, lt)) (inl (omega (arith, lt)))
@@ -187,7 +187,7 @@ module _ (a b : Image) (v : Superblock) (s : ℕ) (d e : Entry) (old new : Alloc
   pub rewritten_content : IsTree (changed (tree_in a v) (suc s) (Some (entry_of b e))) → space (changed (tree_in a v) (suc s) (Some (entry_of b e))) ≤ data_sectors v → IsContent b v
   rewritten_content is_tree small = record {
     volume = subst (λ (x : Slots). IsVolume b v x) (sym slots_are)
-        (set_volume a b v slots s (Some e) is.volume.count is.volume.holds is.volume.sectors others fits (subst IsTree (sym tree_set) is_tree) (subst (λ (U : Tree). space U ≤ data_sectors v) (sym tree_set) small));
+        (set_volume a b v slots s (Some e) is.volume.count is.volume.holds is.volume.sectors rewritten_others fits (subst IsTree (sym tree_set) is_tree) (subst (λ (U : Tree). space U ≤ data_sectors v) (sym tree_set) small));
   }
 
   pub rewritten_shows : (dirs : Dirs) → Shows v.version a v.slots dirs → Shows v.version b v.slots dirs

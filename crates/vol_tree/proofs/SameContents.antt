@@ -28,18 +28,18 @@ use Rattle.vol_tree.proofs.OneTree.{limit_small}
 
 -- ---- an image with the same content
 
-module _ (a b : Image) (v : Superblock) (same : SameContent a b) (is : IsContent a v) where
+module _ (a b : Image) (v : Superblock) (same : (k : ℕ) → 122 ≤ k → a k ≡ b k) (is : IsContent a v) where
   abbrev slots : Slots
   slots = slots_in a v.slots
 
   same_sectors : (t : ℕ) (e : Entry) → get_or slots t None ≡ Some e → SameSectors a b e
   same_sectors t e at p place some =
       let behind : 122 ≤ named a e p = omega (arith, is.volume.sectors.behind t e p at place some) in
-      sym (same (named a e p) (inr behind))
+      sym (same (named a e p) behind)
 
   others : OtherSlots a b v slots v.slots
   others = record {
-    bytes = λ t lt differ. let behind : 122 ≤ 122 + t = omega arith in sym (same (122 + t) (inr behind));
+    bytes = λ t lt differ. let behind : 122 ≤ 122 + t = omega arith in sym (same (122 + t) behind);
     files = λ t e at differ. same_sectors t e at;
   }
 
@@ -91,7 +91,7 @@ module _ (a b : Image) (v : Superblock) (same : SameContent a b) (is : IsContent
   })
 
   pub same_shows : (dirs : Dirs) → Shows v.version a v.slots dirs → Shows v.version b v.slots dirs
-  same_shows dirs shows = same_shown v.version a b v.slots dirs shows (λ s first last. let behind : 122 ≤ 121 + s = omega arith in sym (same (121 + s) (inr behind)))
+  same_shows dirs shows = same_shown v.version a b v.slots dirs shows (λ s first last. let behind : 122 ≤ 121 + s = omega arith in sym (same (121 + s) behind))
 
 -- ---- what images stand for
 

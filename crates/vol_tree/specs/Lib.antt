@@ -12,3 +12,5 @@ pub mod Commits
 pub mod Changes
 pub mod PathLaws
 pub mod Stat
+pub mod Stats
+pub mod internal

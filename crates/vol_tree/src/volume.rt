@@ -1,20 +1,23 @@
 //! An open volume.
 
-ghost use Rattle.std.specs.Prelude.{◌≡◌, ◌≤◌, ⊤, [], Ok, OnOk, IfOk, IsSome, IsTrue, length};
+ghost use Rattle.std.specs.Prelude.{◌≡◌, ◌≤◌, ◌↔◌, ⊤, [], Ok, Err, OnOk, OnErr, IfOk, IfErr, IsSome, IsTrue, is_err, false, true, length};
 ghost use Rattle.std.specs.Option.{MatchOption};
-ghost use Rattle.vol_sector.specs.Disk.{Image, Leaves};
+ghost use Rattle.vol_sector.specs.Disk.{Image, Leaves, counted};
 ghost use Rattle.vol_tree.specs.Tree.{File, Directory, IsTree, IsDirectory, entry, lookup};
 ghost use Rattle.vol_tree.specs.Stat.{TellsStat};
+ghost use Rattle.vol_tree.specs.Stats.{IsStats};
 ghost use Rattle.vol_tree.specs.Calls.{created, written, resized, read_bytes, is_file_at, with_unit};
-ghost use Rattle.vol_tree.specs.Stands.{Stands};
+ghost use Rattle.vol_tree.specs.Calls.{unlinked, directory_removed, renamed, next_child};
+ghost use Rattle.vol_tree.specs.Stands.{Stands, StandsAs};
 ghost use Rattle.vol_tree.specs.Opened.{Answers, Tells, TellsBytes, Keeps, ReflectsOr, IsSerial, geometry, is_io};
 ghost use Rattle.vol_inode.specs.Name.{IsName};
+ghost use Rattle.vol_inode.specs.declared.version.Version.TheVariants.{One, Two};
 
 use crate::parts::Parts;
-use crate::{Errno, Stat};
+use crate::{Errno, Stat, Stats};
 use std::marker::Model;
 use vol_inode::{Kind, Version};
-use vol_sector::Device;
+use vol_sector::{Device, VolumeFault};
 
 /// A volume of files in directories.
 #[derive(Drop)]
@@ -51,6 +54,13 @@ impl<D: Device> Volume<D> {
         self.parts.log.failed()
     }
 
+    /// How many entries and sectors there are, and how many of them are used.
+    pub fn stats(&self) -> Stats
+        ensures { D.honest self.now.device → IsStats self.now.tree self.now.numbers result }
+    {
+        self.parts.stats()
+    }
+
     /// The version of its format.
     pub fn version(&self) -> Version
         ensures { result ≡ self.now.numbers.version }
@@ -69,6 +79,18 @@ impl<D: Device> Volume<D> {
         ensures range { IfOk result (λ found. MatchOption found ⊤ (λ s. IsSerial self.old.numbers s)) }
     {
         self.parts.lookup(directory, name)
+    }
+
+    /// The least serial over `after` of an entry in a directory.
+    pub fn list_next(&mut self, directory: u32, after: u32) -> Result<Option<u32>, Errno>
+        ensures answer { D.honest self.old.device
+            → Tells (next_child self.old.tree directory after) self.old.tree self.new.tree
+            result }
+        ensures crash { D.honest self.old.device
+            → Leaves (D.disk self.old.device) (D.disk self.new.device) (λ c. ⊥) }
+        ensures kept { Keeps D.honest D.size D.faults self.old self.new (is_io result) }
+    {
+        self.parts.list_next(directory, after)
     }
 
     /// What an entry is, and where it stands.
@@ -168,6 +190,60 @@ impl<D: Device> Volume<D> {
         self.parts.read(file, offset, buffer)
     }
 
+    /// Takes a file out of its directory, and gives its space back.
+    pub fn unlink(&mut self, file: u32) -> Result<(), Errno>
+        requires first { 1 ≤ file }
+        requires last { file ≤ self.old.numbers.slots }
+        requires used { D.honest self.old.device → IsTrue (is_file_at self.old.tree file) }
+        ensures answer { D.honest self.old.device
+            → Answers (with_unit (Ok (unlinked self.old.tree file))) self.old.tree
+            self.new.tree result }
+        ensures crash { D.honest self.old.device
+            → Leaves (D.disk self.old.device) (D.disk self.new.device)
+            (ReflectsOr (D.disk self.old.device) self.old.tree) }
+        ensures kept { Keeps D.honest D.size D.faults self.old self.new (is_io result) }
+    {
+        self.parts.unlink(file)
+    }
+
+    /// Takes an empty directory out of the one that it is in. The root stays.
+    pub fn rmdir(&mut self, directory: u32) -> Result<(), Errno>
+        requires first { 1 ≤ directory }
+        requires last { directory ≤ self.old.numbers.slots }
+        requires used { D.honest self.old.device → IsDirectory self.old.tree directory }
+        ensures answer { D.honest self.old.device
+            → Answers (with_unit (directory_removed self.old.tree directory)) self.old.tree
+            self.new.tree result }
+        ensures crash { D.honest self.old.device
+            → Leaves (D.disk self.old.device) (D.disk self.new.device)
+            (ReflectsOr (D.disk self.old.device) self.old.tree) }
+        ensures kept { Keeps D.honest D.size D.faults self.old self.new (is_io result) }
+    {
+        self.parts.rmdir(directory)
+    }
+
+    /// Gives an entry another place or name. The entry that has it goes: an empty directory where a
+    /// directory comes, a file where a file comes. Neither the root may move, nor an entry into
+    /// itself or below.
+    pub fn rename(&mut self, serial: u32, parent: u32, name: &[u8]) -> Result<(), Errno>
+        requires first { 1 ≤ serial }
+        requires last { serial ≤ self.old.numbers.slots }
+        requires parent_first { 1 ≤ parent }
+        requires parent_last { parent ≤ self.old.numbers.slots }
+        requires name { IsName name.now }
+        requires used { D.honest self.old.device → IsSome (entry self.old.tree serial) }
+        requires directory { D.honest self.old.device → IsDirectory self.old.tree parent }
+        ensures answer { D.honest self.old.device
+            → Answers (with_unit (renamed self.old.tree serial parent name.now)) self.old.tree
+            self.new.tree result }
+        ensures crash { D.honest self.old.device
+            → Leaves (D.disk self.old.device) (D.disk self.new.device)
+            (ReflectsOr (D.disk self.old.device) self.old.tree) }
+        ensures kept { Keeps D.honest D.size D.faults self.old self.new (is_io result) }
+    {
+        self.parts.rename(serial, parent, name)
+    }
+
     /// Makes all calls so far last.
     pub fn sync(&mut self) -> Result<(), Errno>
         ensures answer { D.honest self.old.device
@@ -180,6 +256,36 @@ impl<D: Device> Volume<D> {
         ensures kept { Keeps D.honest D.size D.faults self.old self.new (is_io result) }
     {
         Ok(self.parts.commit()?)
+    }
+
+    /// Commits, and makes a volume of version 1 one of version 2, in which files may be greater.
+    ///
+    /// It is refused as `Upgraded` where the volume has version 2, before any device operation, and
+    /// else as `Device`; then it has failed.
+    pub fn upgrade(&mut self) -> Result<(), VolumeFault>
+        ensures newest { self.old.numbers.version ≡ Two
+            → (self.new ≡ self.old) × (result ≡ Err VolumeFault.Upgraded) }
+        ensures refused { self.old.numbers.version ≡ One
+            → IfErr result (λ fault. fault ≡ VolumeFault.Device) }
+        ensures numbers { OnOk result (self.new.numbers ≡ record self.old.numbers { version = Two }) }
+        ensures unchanged { OnErr result (self.new.numbers ≡ self.old.numbers) }
+        ensures tree { D.honest self.old.device → self.new.tree ≡ self.old.tree }
+        ensures crash { D.honest self.old.device
+            → Leaves (D.disk self.old.device) (D.disk self.new.device)
+            (ReflectsOr (D.disk self.old.device) self.old.tree) }
+        // At Ok each crash leaves the tree in a volume of version 2.
+        ensures durable { D.honest self.old.device → OnOk result ((c : Image)
+            → (D.disk self.new.device).may_leave c
+            → StandsAs c self.new.numbers self.new.tree) }
+        ensures failed { self.old.numbers.version ≡ One → self.new.failed ≡ is_err result }
+        ensures faults { self.old.numbers.version ≡ One → self.old.failed ≡ false
+            → D.faults self.new.device ≡ counted (is_err result) (D.faults self.old.device) }
+        ensures idle { self.old.numbers.version ≡ One → self.old.failed ≡ true
+            → (self.new.device ≡ self.old.device) × (is_err result ≡ true) }
+        ensures honest { D.honest self.old.device ↔ D.honest self.new.device }
+        ensures size { D.size self.new.device ≡ D.size self.old.device }
+    {
+        self.parts.upgrade()
     }
 
     /// The device. What isn't committed is given up.
