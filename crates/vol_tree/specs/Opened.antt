@@ -106,3 +106,8 @@ pub record Keeps {D : Type 0} (is_honest : D → Type 0) (sectors_on failures : 
   pub idle : old.failed ≡ true → (new.device ≡ old.device) × (io ≡ true)
   pub honest : is_honest old.device ↔ is_honest new.device
   pub size : sectors_on new.device ≡ sectors_on old.device
+
+-- the serial of a slot
+pub record IsSerial (v : Superblock) (serial : ℕ) : Type 0 where
+  pub first : 1 ≤ serial
+  pub last : serial ≤ v.slots

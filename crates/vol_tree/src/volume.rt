@@ -1,6 +1,6 @@
 //! An open volume.
 
-ghost use Rattle.std.specs.Prelude.{◌≡◌, ◌≤◌, ◌↔◌, [], Ok, Err, OnOk, OnErr, IfErr, IsSome, IsTrue, is_err, false, true, length};
+ghost use Rattle.std.specs.Prelude.{◌≡◌, ◌≤◌, ◌↔◌, [], Ok, Err, OnOk, OnErr, IfOk, IfErr, IfSome, IsSome, IsTrue, is_err, false, true, length};
 ghost use Rattle.vol_sector.specs.Disk.{Image, Leaves, counted};
 ghost use Rattle.vol_tree.specs.Tree.{File, Directory, IsDirectory, entry, lookup};
 ghost use Rattle.vol_tree.specs.Stat.{TellsStat};
@@ -8,7 +8,7 @@ ghost use Rattle.vol_tree.specs.Stats.{IsStats};
 ghost use Rattle.vol_tree.specs.Calls.{created, written, resized, read_bytes, is_file_at, with_unit};
 ghost use Rattle.vol_tree.specs.Calls.{unlinked, directory_removed, renamed, next_child};
 ghost use Rattle.vol_tree.specs.Stands.{Stands, StandsAs};
-ghost use Rattle.vol_tree.specs.Opened.{Answers, Tells, TellsBytes, Keeps, ReflectsOr, geometry, is_io};
+ghost use Rattle.vol_tree.specs.Opened.{Answers, Tells, TellsBytes, Keeps, ReflectsOr, geometry, is_io, IsSerial};
 ghost use Rattle.vol_inode.specs.Name.{IsName};
 ghost use Rattle.vol_inode.specs.declared.version.Version.TheVariants.{One, Two};
 
@@ -65,6 +65,7 @@ impl<D: Device> Volume<D> {
             → Tells (lookup self.old.tree directory name.now) self.old.tree self.new.tree result }
         ensures crash { D.honest self.old.device
             → Leaves (D.disk self.old.device) (D.disk self.new.device) (λ c. ⊥) }
+        ensures range { IfOk result (λ found. IfSome found (IsSerial self.old.numbers)) }
         ensures kept { Keeps D.honest D.size D.faults self.old self.new (is_io result) }
     {
         self.parts.lookup(directory, name)
@@ -77,6 +78,7 @@ impl<D: Device> Volume<D> {
             result }
         ensures crash { D.honest self.old.device
             → Leaves (D.disk self.old.device) (D.disk self.new.device) (λ c. ⊥) }
+        ensures range { IfOk result (λ found. IfSome found (IsSerial self.old.numbers)) }
         ensures kept { Keeps D.honest D.size D.faults self.old self.new (is_io result) }
     {
         self.parts.list_next(directory, after)
@@ -107,6 +109,7 @@ impl<D: Device> Volume<D> {
         ensures crash { D.honest self.old.device
             → Leaves (D.disk self.old.device) (D.disk self.new.device)
             (ReflectsOr (D.disk self.old.device) self.old.tree) }
+        ensures range { IfOk result (IsSerial self.old.numbers) }
         ensures kept { Keeps D.honest D.size D.faults self.old self.new (is_io result) }
     {
         self.parts.create(parent, name, Kind::File)
@@ -123,6 +126,7 @@ impl<D: Device> Volume<D> {
         ensures crash { D.honest self.old.device
             → Leaves (D.disk self.old.device) (D.disk self.new.device)
             (ReflectsOr (D.disk self.old.device) self.old.tree) }
+        ensures range { IfOk result (IsSerial self.old.numbers) }
         ensures kept { Keeps D.honest D.size D.faults self.old self.new (is_io result) }
     {
         self.parts.create(parent, name, Kind::Directory)
