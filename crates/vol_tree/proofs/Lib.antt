@@ -14,6 +14,7 @@ pub mod Counts
 pub mod SameContents
 pub mod Committing
 pub mod Finding
+pub mod Serials
 pub mod SlotTaken
 pub mod Changing
 pub mod Adding

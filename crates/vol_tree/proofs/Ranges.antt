@@ -12,10 +12,6 @@ held_serial dirs v p n s slots names =
     let numbered = dirs.listing.numbered (key_of p n) s names.held in
     record { first = numbered.0; last = omega (arith, numbered.1, slots) }
 
-pub found_serial : (dirs : Dirs) (v : Superblock) (p : ℕ) (n : List ℕ) (o : Option ℕ) → slots_of dirs ≡ v.slots → MatchOption o ((s : ℕ) → Names dirs p n s → ⊥) (λ s. Names dirs p n s) → IfSome o (IsSerial v)
-found_serial dirs v p n None slots h = tt
-found_serial dirs v p n (Some s) slots h = held_serial dirs v p n s slots h
-
 pub child_serial : (dirs : Dirs) (v : Superblock) (p after : ℕ) (o : Option ℕ) → slots_of dirs ≡ v.slots → MatchOption o (NoChildOver dirs p after) (λ s. IsNextChild dirs p after s) → IfSome o (IsSerial v)
 child_serial dirs v p after None slots h = tt
 child_serial dirs v p after (Some s) slots h = held_serial dirs v p h.child.0 s slots h.child.1

@@ -54,6 +54,11 @@ pub record Opened (D : Type 0) : Type 0 where
   pub tree : Tree
   pub failed : Bool
 
+-- a number that an entry of the volume can have
+pub record IsSerial (numbers : Superblock) (serial : ℕ) : Type 0 where
+  pub first : 1 ≤ serial
+  pub last : serial ≤ numbers.slots
+
 -- some image that a crash could leave stands for the same tree
 pub record Reflects (disk : Disk) (image : Image) : Type 0 where
   pub earlier : Image
@@ -106,8 +111,3 @@ pub record Keeps {D : Type 0} (is_honest : D → Type 0) (sectors_on failures : 
   pub idle : old.failed ≡ true → (new.device ≡ old.device) × (io ≡ true)
   pub honest : is_honest old.device ↔ is_honest new.device
   pub size : sectors_on new.device ≡ sectors_on old.device
-
--- the serial of a slot
-pub record IsSerial (v : Superblock) (serial : ℕ) : Type 0 where
-  pub first : 1 ≤ serial
-  pub last : serial ≤ v.slots

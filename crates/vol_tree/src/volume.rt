@@ -1,14 +1,15 @@
 //! An open volume.
 
-ghost use Rattle.std.specs.Prelude.{◌≡◌, ◌≤◌, ◌↔◌, [], Ok, Err, OnOk, OnErr, IfOk, IfErr, IfSome, IsSome, IsTrue, is_err, false, true, length};
+ghost use Rattle.std.specs.Prelude.{◌≡◌, ◌≤◌, ◌↔◌, ⊤, [], Ok, Err, OnOk, OnErr, IfOk, IfErr, IfSome, IsSome, IsTrue, is_err, false, true, length};
+ghost use Rattle.std.specs.Option.{MatchOption};
 ghost use Rattle.vol_sector.specs.Disk.{Image, Leaves, counted};
-ghost use Rattle.vol_tree.specs.Tree.{File, Directory, IsDirectory, entry, lookup};
+ghost use Rattle.vol_tree.specs.Tree.{File, Directory, IsTree, IsDirectory, entry, lookup};
 ghost use Rattle.vol_tree.specs.Stat.{TellsStat};
 ghost use Rattle.vol_tree.specs.Stats.{IsStats};
 ghost use Rattle.vol_tree.specs.Calls.{created, written, resized, read_bytes, is_file_at, with_unit};
 ghost use Rattle.vol_tree.specs.Calls.{unlinked, directory_removed, renamed, next_child};
 ghost use Rattle.vol_tree.specs.Stands.{Stands, StandsAs};
-ghost use Rattle.vol_tree.specs.Opened.{Answers, Tells, TellsBytes, Keeps, ReflectsOr, geometry, is_io, IsSerial};
+ghost use Rattle.vol_tree.specs.Opened.{Answers, Tells, TellsBytes, Keeps, ReflectsOr, IsSerial, geometry, is_io};
 ghost use Rattle.vol_inode.specs.Name.{IsName};
 ghost use Rattle.vol_inode.specs.declared.version.Version.TheVariants.{One, Two};
 
@@ -37,6 +38,15 @@ impl<D: Device> Model for Volume<D> {
 }
 
 impl<D: Device> Volume<D> {
+    /// A law: on a device that keeps its model, what an open volume shows is a tree with a place for
+    /// each slot.
+    pub fn is_a_tree(&self)
+        ensures tree { D.honest self.now.device → IsTree self.now.tree }
+        ensures count { length self.now.tree ≡ self.now.numbers.slots }
+    {
+        self.parts.is_a_tree();
+    }
+
     /// Has a device operation failed since it was opened?
     pub fn failed(&self) -> bool
         ensures { result ≡ self.now.failed }
@@ -65,8 +75,8 @@ impl<D: Device> Volume<D> {
             → Tells (lookup self.old.tree directory name.now) self.old.tree self.new.tree result }
         ensures crash { D.honest self.old.device
             → Leaves (D.disk self.old.device) (D.disk self.new.device) (λ c. ⊥) }
-        ensures range { IfOk result (λ found. IfSome found (IsSerial self.old.numbers)) }
         ensures kept { Keeps D.honest D.size D.faults self.old self.new (is_io result) }
+        ensures range { IfOk result (λ found. MatchOption found ⊤ (λ s. IsSerial self.old.numbers s)) }
     {
         self.parts.lookup(directory, name)
     }
@@ -94,6 +104,7 @@ impl<D: Device> Volume<D> {
         ensures crash { D.honest self.old.device
             → Leaves (D.disk self.old.device) (D.disk self.new.device) (λ c. ⊥) }
         ensures kept { Keeps D.honest D.size D.faults self.old self.new (is_io result) }
+        ensures parent { IfOk result (λ s. IsSerial self.old.numbers s.parent) }
     {
         self.parts.stat(serial)
     }

@@ -10,8 +10,6 @@ mod part;
 mod pause;
 mod place;
 mod state;
-#[cfg(test)]
-mod tests;
 
 pub use machine::{Machine, RefusedInstance};
 pub use pause::{Outcome, Pause};
