@@ -1,5 +1,5 @@
 -- Runs that begin where others ended.
-use Rattle.std.proofs.Common.{◌≡◌, ℕ, List, [], ◌∷◌, ◌++◌, refl, sym, subst}
+use Rattle.std.proofs.Common.{◌≡◌, ℕ, List, [], ◌∷◌, ◌++◌, refl, sym, ap, ◌∙◌, subst}
 use Rattle.wasm_store.specs.declared.call.HostCall.{HostCall}
 use Rattle.wasm_store.specs.declared.call.Errno.{Errno}
 use Rattle.wasm_interp.specs.declared.pause.Pause.{Pause}
@@ -11,11 +11,6 @@ use Rattle.wasm_interp.specs.declared.pause.Outcome.{Outcome}
 use Rattle.wasm_interp.specs.declared.pause.Outcome.TheVariants.{Exited, Trapped, OutOfFuel, OutOfMemory}
 use Rattle.wasm_interp.specs.Promise.{EndsAs, Paused, Resumed}
 use Rattle.sandbox_core.specs.Runs.{answered, PausesFollow, ResumesFollow, StopsAs, RunsWithin}
-
--- the units of a configuration are those of the machine that stands for it
-pub used_by-stands : (s : Snapshot) (i : Instance) (c : Configuration) → StandsFor s i c → used_by c ≡ s.used
-unfolding StandsFor
-used_by-stands s i (at store f c) stands = cc
 
 module _ (H : Type 0) (Calls : CallsOf H) (i : Instance) where
   -- two runs of which one begins where the other ended are one run
@@ -47,16 +42,17 @@ module _ (H : Type 0) (Calls : CallsOf H) (i : Instance) where
       (reach_on (answered (p ∷ [])) (answered ps) h g h' c d c' (paused_reach p h g c d first) (pauses_compose ps g h' d c' rest))
 
   pub resumes_compose : (ps : List Pause) (h h' : H) (s s' : Snapshot) (c : Configuration) → StandsFor s i c → ResumesFollow H Calls ps h s h' s'
-      → (c' : Configuration) × StandsFor s' i c' × Reach H Calls i h c (answered ps) h' c'
-  resumes_compose [] h h' s s' c stands (same_host, same) =
-      (c, subst (λ (t : Snapshot). StandsFor t i c) (sym same) stands, subst (λ (g : H). Reach H Calls i h c [] g c) (sym same_host) stays)
-  resumes_compose (p ∷ ps) h h' s s' c stands (g, t, units, first, rest) =
+      → used_by c ≡ s.used → (c' : Configuration) × StandsFor s' i c' × Reach H Calls i h c (answered ps) h' c' × (used_by c' ≡ s'.used)
+  resumes_compose [] h h' s s' c stands (same_host, same) used =
+      (c, subst (λ (t : Snapshot). StandsFor t i c) (sym same) stands, subst (λ (g : H). Reach H Calls i h c [] g c) (sym same_host) stays, used ∙ ap (λ (t : Snapshot). t.used) (sym same))
+  resumes_compose (p ∷ ps) h h' s s' c stands (g, t, units, first, rest) used =
       let next = first.run i c stands in
-      let later = resumes_compose ps g h' t s' next.0 next.1 rest in (
+      let later = resumes_compose ps g h' t s' next.0 next.1 rest next.4 in (
         later.0,
         later.1,
         subst (λ (es : List (HostCall × Errno)). Reach H Calls i h c es h' later.0) (sym (answered-first p ps))
             (reach_on (answered (p ∷ [])) (answered ps) h g h' c next.0 later.0 (paused_reach p h g c next.0 next.2) later.2),
+        later.3,
       )
 
 -- a run so far, from whatever configuration the machine stood for at first
@@ -93,7 +89,7 @@ module _ (H : Type 0) (Calls : CallsOf H) where
         last = next.0;
         answers = all.answers i c a;
         reach = all.reach i c a;
-        units = used_by-stands s' i next.0 next.1;
+        units = next.4;
         stops = (used, next.2.2);
       }
 
@@ -114,6 +110,6 @@ module _ (H : Type 0) (Calls : CallsOf H) where
         last = next.0;
         answers = all.answers i c a;
         reach = all.reach i c a;
-        units = used_by-stands s' i next.0 next.1;
+        units = next.4;
         stops = ends_stops i o fuel s'.used h' next.0 next.2.1;
       }

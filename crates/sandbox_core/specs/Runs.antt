@@ -36,11 +36,12 @@ module _ (H : Type 0) (Calls : CallsOf H) where
   ResumesFollow (p ∷ ps) h s h' s' =
       (g : H) × (t : Snapshot) × (units : ℕ) × Resumed H Calls h g s t units p × ResumesFollow ps g t h' s'
 
-  -- resumes that follow one another are one run, from whatever configuration the machine stood for
+  -- resumes that follow one another are one run, from whatever configuration the machine stood for, with exactly the
+  -- units that the machine tells of
   abbrev pub ResumesCompose : Type 0
   ResumesCompose = (i : Instance) (ps : List Pause) (h h' : H) (s s' : Snapshot) (c : Configuration)
-      → StandsFor s i c → ResumesFollow ps h s h' s'
-      → (c' : Configuration) × StandsFor s' i c' × Reach H Calls i h c (answered ps) h' c'
+      → StandsFor s i c → ResumesFollow ps h s h' s' → used_by c ≡ s.used
+      → (c' : Configuration) × StandsFor s' i c' × Reach H Calls i h c (answered ps) h' c' × (used_by c' ≡ s'.used)
 
   -- how a run with fuel stops: out of it exactly where all was used and the next step takes a unit
   abbrev pub StopsAs : Instance → Outcome → ℕ → ℕ → H → Configuration → Type 0

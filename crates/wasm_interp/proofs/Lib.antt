@@ -10,3 +10,4 @@ pub mod FromOutside
 pub mod Beginning
 pub mod Parts
 mod Checks
+pub mod Flat

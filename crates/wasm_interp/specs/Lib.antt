@@ -8,3 +8,4 @@ pub mod Machine
 pub mod Promise
 pub mod Performing
 pub mod Begun
+pub mod internal

@@ -30,8 +30,10 @@ pub record IsImport (m : Module) (x : ℕ) (f : FuncType) : Type 0 where
   pub kind : import.kind ≡ imports.Function index
   pub type_is : slice_get m.types index ≡ Some f
 
--- the functions of the instance are the imports over these calls, and the module's own
+-- the types of the instance are those of the module, and its functions are the imports over these calls and the module's
+-- own
 pub record IsInstanceOf (m : Module) (calls : List HostCall) (i : Instance) : Type 0 where
+  pub func_types : i.func_types ≡ m.types
   pub linked : List Callee
   pub owned : List Callee
   pub callees : i.callees ≡ linked ++ owned

@@ -3,12 +3,13 @@
 ghost use Rattle.std.specs.Prelude.{◌≡◌, ◌+◌, ◌^◌, ◌<◌, IfOk, IfErr, ◌*◌};
 ghost use Rattle.wasm_interp.specs.Promise.{Starts, Refuses, Resumed};
 
-use crate::begin::begin;
+use crate::begin::{Begun, begin};
 use crate::pause::Pause;
 use crate::state::State;
+use crate::tables::Tables;
 use std::alloc::Global;
 use std::marker::Model;
-use wasm_store::{Host, HostCall, InstanceFault};
+use wasm_store::{Host, InstanceFault};
 use wasm_valid::Valid;
 
 /// A refused module, handed back with the reason.
@@ -22,8 +23,7 @@ pub struct RefusedInstance<'a> {
 #[derive(Drop)]
 pub struct Machine<'a> {
     valid: Valid<'a>,
-    calls: Vec<HostCall>,
-    page_limit: u32,
+    tables: Tables,
     state: State,
 }
 
@@ -51,11 +51,10 @@ impl<'a> Machine<'a> {
         ensures refused { IfErr result (λ r. (r.valid ≡ valid.entry) × Refuses (H.links host.now) pages valid.entry r.fault) }
     {
         match begin(alloc, &valid, pages, host) {
-            Ok(begun) => Ok(Machine {
+            Ok(Begun { tables, state }) => Ok(Machine {
                 valid,
-                calls: begun.calls,
-                page_limit: begun.page_limit,
-                state: begun.state,
+                tables,
+                state,
             }),
             Err(fault) => Err(RefusedInstance { valid, fault }),
         }
@@ -67,13 +66,8 @@ impl<'a> Machine<'a> {
         requires { self.old.used + units < 2 ^ 64 }
         ensures { Resumed H H.calls host.old host.new self.old self.new units result }
     {
-        self.state.resume(
-            self.valid.module(),
-            self.calls.as_slice(),
-            host,
-            self.page_limit,
-            units,
-        )
+        self.state
+            .resume(self.valid.module(), &self.tables, host, units)
     }
 
     /// The units used so far.

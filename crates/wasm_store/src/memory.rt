@@ -16,11 +16,13 @@ pub struct Memory {
 }
 
 impl Model for Memory {
-    ghost use Rattle.std.specs.Prelude.{ℕ, List};
+    ghost use Rattle.std.specs.Prelude.{ℕ, List, ◌/◌, ◌<◌, ◌^◌, vec_len};
 
     ghost Value = { List ℕ };
 
     ghost view = { λ m. m.bytes.items };
+
+    ghost invariant = { λ m. vec_len m.bytes / 65536 < 2 ^ 32 };
 }
 
 impl Memory {
@@ -44,6 +46,13 @@ impl Memory {
         ensures { result ≡ length self.now }
     {
         self.bytes.as_slice().len()
+    }
+
+    /// How many pages there are.
+    pub fn pages(&self) -> u32
+        ensures { result ≡ length self.now / 65536 }
+    {
+        (self.bytes.len() / PAGE_SIZE) as u32
     }
 
     /// So many bytes from an address, where they are in memory.
