@@ -22,5 +22,3 @@ pub use pause::{Outcome, Pause};
 pub use phase::Phase;
 pub use wasm_num::Trap;
 pub use wasm_store::{Answer, Errno, Host, HostCall, InstanceFault, Memory};
-#[cfg(test)]
-mod trial;

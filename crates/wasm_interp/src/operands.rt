@@ -5,7 +5,7 @@ ghost use Rattle.wasm_num.specs.Numbers.{signed, wrapped, bool_number};
 ghost use Rattle.wasm_valid.specs.Typing.{IsOperator};
 ghost use Rattle.wasm_interp.specs.Operators.{width, compare_test, unary_number, binary_number};
 ghost use Rattle.wasm_interp.specs.internal.Standing.{unwound};
-ghost use Rattle.wasm_interp.specs.Performing.{Gives, HasOne, HasTwo, chosen};
+ghost use Rattle.wasm_interp.specs.internal.Performing.{Gives, HasOne, HasTwo, chosen};
 
 use crate::halt::Halt;
 use crate::operators::{binary, compare, unary};
