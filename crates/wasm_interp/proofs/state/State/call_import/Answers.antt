@@ -14,7 +14,7 @@ returns-in-Value g c =
       before_is = ap (λ (u : ℕ). record mid { used = u }) one;
       removed = c.remove.ensures.removed;
       room = c.remove.ensures.room;
-      asked = c.in-Value.ensures tt;
+      asked = c.in-Value.ensures;
       leads = (refl, refl);
     }
 
@@ -29,6 +29,6 @@ returns-in-Exit g c =
       before_is = ap (λ (u : ℕ). record mid { used = u }) one;
       removed = c.remove.ensures.removed;
       room = c.remove.ensures.room;
-      asked = c.in-Exit.ensures tt;
+      asked = c.in-Exit.ensures;
       leads = (c.exit.ensures.is, c.exit.ensures.pause);
     }
