@@ -20,7 +20,7 @@ impl Model for Pending {
 }
 
 impl Pending {
-    ghost use Rattle.std.specs.Prelude.{◌≡◌, [], ◌∷◌, ◌++◌};
+    ghost use Rattle.std.specs.Prelude.{◌≡◌, [], ◌∷◌, ◌++◌, IfNone};
     ghost use Rattle.std.specs.Option.{option_to_list};
 
     /// None of the two has been entered.
@@ -35,7 +35,8 @@ impl Pending {
 
     /// The next one, which is entered now.
     pub fn take(&mut self) -> Option<u32>
-        ensures { self.old ≡ option_to_list result ++ self.new }
+        ensures taken { self.old ≡ option_to_list result ++ self.new }
+        ensures none { IfNone result (self.new ≡ []) }
     {
         if let Some(function) = self.start {
             self.start = None;
