@@ -1,0 +1,16 @@
+use Rattle.std.proofs.Common.{◌≡◌, ◌+◌, ◌≤◌, refl, arith, inr}
+use Rattle.wasm_interp.proofs.Flat.Turns.{goes_none}
+use Rattle.wasm_interp.proofs.Flat.Pausing.{runs_on, runs_to}
+use Rattle.wasm_interp.proofs.state.State.resume.Goals as goal
+
+pub running-init : goal.running-init
+running-init g c =
+    record { goes = goes_none c.args.guest.now c.args.self.now; live = c.requires.live; units_left = omega arith; end_is = refl; same_host = refl; runs = inr refl }
+
+pub running-preserved : goal.running-preserved
+running-preserved g c =
+    runs_on _ g.H.Host.calls c.args.guest.now (c.args.self.now.used + c.args.units) c.args.units c.args.host.now c.args.self.now c.running.self c.running.host c.turn.new.host c.turn.new.self c.running.invariant c.in_default.ensures.continues c.turn.ensures.live c.in_default.ensures.runs
+
+pub returns-in-Some-clause-pauses : goal.returns-in-Some-clause-pauses
+returns-in-Some-clause-pauses g c =
+    runs_to _ g.H.Host.calls c.args.guest.now (c.args.self.now.used + c.args.units) c.args.units c.args.host.now c.args.self.now c.running.self c.running.host c.turn.new.host c.turn.new.self c.in-Some.pause c.running.invariant c.in-Some.ensures.continues
