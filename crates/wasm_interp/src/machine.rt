@@ -4,7 +4,7 @@ ghost use Rattle.std.specs.Prelude.{◌≡◌, ◌+◌, ◌^◌, ◌<◌, IfOk, 
 ghost use Rattle.wasm_store.specs.Instantiation.{RefusedFor};
 ghost use Rattle.wasm_interp.specs.Promise.{Starts, Resumed};
 
-use crate::begin::{Begun, begin};
+use crate::begin::begin;
 use crate::pause::Pause;
 use crate::state::State;
 use crate::tables::Prepared;
@@ -51,9 +51,12 @@ impl<'a> Machine<'a> {
         ensures refused { IfErr result (λ r. (r.valid ≡ valid.entry) × RefusedFor (H.links host.now) pages valid.entry r.fault) }
     {
         match begin(alloc, &valid, pages, host) {
-            Ok(Begun { tables, state }) => Ok(Machine {
-                prepared: Prepared { valid, tables },
-                state,
+            Ok(begun) => Ok(Machine {
+                prepared: Prepared {
+                    valid,
+                    tables: begun.tables,
+                },
+                state: begun.state,
             }),
             Err(fault) => Err(RefusedInstance { valid, fault }),
         }
