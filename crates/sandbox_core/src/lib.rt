@@ -10,14 +10,12 @@ mod report;
 mod session;
 mod settings;
 mod streams;
-#[cfg(test)]
-mod tests;
 
 pub use fault::SessionFault;
 pub use loading::load;
 pub use report::{Report, run};
 pub use session::{RefusedSession, Session};
 pub use settings::{Preopen, Settings};
-pub use streams::Finished;
+pub use streams::{Finished, Streams};
 pub use wasm_interp::{Errno, Host, HostCall, InstanceFault, Outcome, Pause, Trap};
 pub use wasm_valid::{LoadFault, Valid};

@@ -88,7 +88,7 @@ impl<'a, 't> Settings<'a, 't> {
     ghost use Rattle.sandbox_core.specs.Settings.{settings_fit};
 
     /// Whether a guest can be given this.
-    pub(crate) fn fits(&self) -> bool
+    pub fn fits(&self) -> bool
         ensures { result ≡ settings_fit self.now }
     {
         texts_fit(self.args)

@@ -48,9 +48,10 @@ run_app =
     with_rule (with_rule (with_rule (with_rule (new_app (codes "run"))
     (number_rule (codes "fuel") fuel_numbers)) (number_rule (codes "pages") page_numbers)) module_rule) words_rule
 
--- the program: one of its subcommands has to be there
+-- the program: one of its subcommands has to be there, and it tells its version
 unfoldable pub program : App
-program = with_subcommand (on_top (λ s. record s { subcommand_required = true }) (new_app (codes "sandbox"))) run_app.top
+program =
+    with_subcommand (on_top (λ s. record s { subcommand_required = true; has_version = true }) (new_app (codes "sandbox"))) run_app.top
 
 -- ---- what is asked for
 

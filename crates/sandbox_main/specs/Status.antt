@@ -1,5 +1,9 @@
 -- The exit statuses of the program.
 use Rattle.std.specs.Prelude.{◌≡◌, ◌⊎◌, ℕ, if◌then◌else◌, nat_le}
+use Rattle.std.specs.declared.io.ErrorKind.{ErrorKind as InputKind}
+use Rattle.std.specs.declared.io.ErrorKind.TheVariants as input
+use Rattle.clap.specs.declared.error.kind.ErrorKind.{ErrorKind as LineKind}
+use Rattle.clap.specs.declared.error.kind.ErrorKind.TheVariants as line
 use Rattle.wasm_module.specs.declared.fault.LoadFault.{LoadFault}
 use Rattle.wasm_module.specs.declared.fault.LoadFault.TheVariants as loading
 use Rattle.wasm_interp.specs.declared.pause.Outcome.{Outcome}
@@ -26,3 +30,13 @@ load_status f = 124
 abbrev pub session_status : SessionFault → ℕ
 session_status opening.Memory = 122
 session_status f = 124
+
+-- where the words of the command line can't be read
+abbrev pub words_status : InputKind → ℕ
+words_status input.OutOfMemory = 122
+words_status k = 125
+
+-- where the command line is refused, or help or the version is asked for
+abbrev pub command_line_status : LineKind → ℕ
+command_line_status line.OutOfMemory = 122
+command_line_status k = 125

@@ -1,7 +1,10 @@
 //! What the program does once the command line is read, and with which status it ends.
 
 ghost use Rattle.std.specs.Prelude.{◌≡◌, ◌≤◌, IfOk};
+ghost use Rattle.std.specs.IoError.{error_kind};
+ghost use Rattle.clap.specs.Values.{kind_of};
 ghost use Rattle.sandbox_main.specs.Status.{status_of, EndsWith, load_status, session_status};
+ghost use Rattle.sandbox_main.specs.Status.{words_status, command_line_status};
 ghost use Rattle.sandbox_main.specs.Request.{texts, run_of, arguments_of};
 ghost use Rattle.sandbox_main.specs.Execution.{AreSettings, Launches, Executes};
 
@@ -10,6 +13,7 @@ use sandbox_core::{
     LoadFault, Outcome, Preopen, RefusedSession, Report, Session, SessionFault, Settings, Valid,
 };
 use std::alloc::{AllocError, Global};
+use std::io;
 use std::io::{Read, Write};
 
 /// The status where a guest's own one is greater than `GREATEST`.
@@ -24,6 +28,9 @@ const OUT_OF_FUEL: u8 = 121;
 const OUT_OF_MEMORY: u8 = 122;
 
 const FAULT: u8 = 124;
+
+/// The status where the command line is refused, or help or the version is asked for.
+const REFUSED: u8 = 125;
 
 /// What is preopened where the command line says nothing of it: the root.
 static PREOPENS: [Preopen<'static>; 1] = [Preopen {
@@ -53,7 +60,31 @@ fn session_refused<W: Write>(err: &mut W, fault: SessionFault) -> u8
     }
 }
 
-fn out_of_memory<W: Write>(err: &mut W) -> u8
+/// Prints the line of words that can't be read, one that isn't UTF-8 among them, and gives the
+/// status.
+pub fn refuse_words<W: Write>(err: &mut W, error: &io::Error) -> u8
+    ensures { result ≡ words_status (error_kind error.now) }
+{
+    if error.kind() == io::ErrorKind::OutOfMemory {
+        return out_of_memory(err);
+    }
+    let _ = writeln!(err, "sandbox: {error}");
+    REFUSED
+}
+
+/// Prints why a command line is refused, or what it asks for of help, and gives the status.
+pub fn refuse_command_line<W: Write>(err: &mut W, refused: &clap::Error) -> u8
+    ensures { result ≡ command_line_status (kind_of refused.now) }
+{
+    if refused.kind() == clap::error::ErrorKind::OutOfMemory {
+        return out_of_memory(err);
+    }
+    let _ = write!(err, "{refused}");
+    REFUSED
+}
+
+/// Prints the line of want of memory, and gives its status.
+pub fn out_of_memory<W: Write>(err: &mut W) -> u8
     ensures { result ≡ 122 }
 {
     let _ = writeln!(err, "sandbox: out of memory");

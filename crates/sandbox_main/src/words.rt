@@ -11,14 +11,43 @@ use clap::builder::ValueParser;
 use clap::{Arg, ArgAction, ArgMatches, Command, Error};
 use std::alloc::{AllocError, Global};
 
+/// What `--version` prints after the program's name.
+const VERSION: &str = "0.1.0";
+
+/// What help ends with.
+const STATUSES: &str = "\
+Statuses:
+  0 to 119  what the guest exited with; 0 where it returned, 119 for anything greater
+  120       the guest trapped
+  121       the fuel is used up
+  122       out of memory
+  124       a fault, which is named by its number
+  125       the command line is refused, or help or the version is asked for
+
+Example:
+  sandbox run --fuel 5000000 --pages 16 hello.wasm first second -- --third";
+
 /// Fuel where the command line says nothing of it, in units.
 const FUEL: u64 = 1_000_000_000;
 
 /// Pages that memory may have where the command line says nothing of them.
 const PAGES: u32 = 1_024;
 
+/// A command with what help says of it.
+fn described<'a>(command: Command<'a>, about: &'a str) -> Command<'a>
+    ensures shape { app_of result ≡ app_of command.entry }
+    ensures globals { (fields_of result).has_globals ≡ (fields_of command.entry).has_globals }
+{
+    command.about(about).after_help(STATUSES)
+}
+
 /// An option with one number, which the parser takes.
-fn number_option<'a>(alloc: Global, name: &'a str, parser: ValueParser<'a>) -> Arg<'a>
+fn number_option<'a>(
+    alloc: Global,
+    name: &'a str,
+    parser: ValueParser<'a>,
+    help: &'a str,
+) -> Arg<'a>
     ensures { (rule_of result ≡ number_rule name.entry.now parser.entry) × (result.global ≡ false) }
 {
     Arg::new(alloc, name)
@@ -26,6 +55,7 @@ fn number_option<'a>(alloc: Global, name: &'a str, parser: ValueParser<'a>) -> A
         .value_name("N")
         .action(ArgAction::Set)
         .value_parser(parser)
+        .help(help)
 }
 
 /// The word that names the module.
@@ -35,24 +65,39 @@ fn module_word<'a>(alloc: Global) -> Arg<'a>
     Arg::new(alloc, "MODULE")
         .required(true)
         .action(ArgAction::Set)
+        .help("The module's file; the guest gets this word as argument 0")
 }
 
-/// The words behind it.
+/// The words after it.
 fn further_words<'a>(alloc: Global) -> Arg<'a>
     ensures { (rule_of result ≡ words_rule) × (result.global ≡ false) }
 {
     Arg::new(alloc, "WORD")
         .num_args(0..)
         .action(ArgAction::Append)
+        .help("Further arguments of the guest; -- comes before one that begins with -")
 }
 
 /// `run`, with its arguments.
 fn run_command<'a>(alloc: Global) -> Result<Command<'a>, AllocError>
     ensures { IfOk result (λ c. (app_of c ≡ run_app) × ((fields_of c).has_globals ≡ false)) }
 {
-    Command::new(alloc, "run")
-        .arg(number_option(alloc, "fuel", clap::value_parser!(u64)))?
-        .arg(number_option(alloc, "pages", clap::value_parser!(u32)))?
+    let fuel = number_option(
+        alloc,
+        "fuel",
+        clap::value_parser!(u64),
+        "Units of fuel, one for each plain instruction [default: 1000000000]",
+    );
+    let pages = number_option(
+        alloc,
+        "pages",
+        clap::value_parser!(u32),
+        "Most pages of memory, each of 65536 bytes [default: 1024]",
+    );
+    let about = "Run the _start of a WebAssembly module, until it ends or its fuel is used up";
+    described(Command::new(alloc, "run"), about)
+        .arg(fuel)?
+        .arg(pages)?
         .arg(module_word(alloc))?
         .arg(further_words(alloc))
 }
@@ -61,9 +106,14 @@ fn run_command<'a>(alloc: Global) -> Result<Command<'a>, AllocError>
 fn command<'a>(alloc: Global) -> Result<Command<'a>, AllocError>
     ensures { IfOk result (λ c. (app_of c ≡ program) × ((fields_of c).has_globals ≡ false)) }
 {
-    Command::new(alloc, "sandbox")
-        .subcommand_required(true)
-        .subcommand(run_command(alloc)?)
+    let program = Command::new(alloc, "sandbox")
+        .version(VERSION)
+        .subcommand_required(true);
+    described(
+        program,
+        "Runs command-line WebAssembly programs with exact fuel",
+    )
+    .subcommand(run_command(alloc)?)
 }
 
 /// The text of an argument, or the empty one.
@@ -101,7 +151,7 @@ fn run_given<'a>(alloc: Global, matches: &ArgMatches<'a>) -> Result<Run<'a>, All
 }
 
 /// Reads the words of a command line, of which the first is the program's name. A refusal, and
-/// the answer to a question for help, is what clap prints.
+/// the answer to a question for help or the version, is what clap prints.
 pub fn invocation<'a>(alloc: Global, words: &'a [String]) -> Result<Invocation<'a>, Error>
     ensures asks { IfOk result (λ i. IsSomeAnd (rows_given (map string_bytes words.entry.now))
         (λ rows. AsksFor rows (run_of i))) }

@@ -1,2 +1,3 @@
 pub mod Free
 pub mod Named
+pub mod Covers

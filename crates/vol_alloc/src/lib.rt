@@ -1,8 +1,8 @@
 //! The data sectors of a volume: which ones are taken, and which are free.
 #![tactic(auto)]
 
+mod laws;
 mod sectors;
-#[cfg(test)]
-mod tests;
 
+pub use laws::listed_sectors_are_taken;
 pub use sectors::Alloc;

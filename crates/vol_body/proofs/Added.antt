@@ -13,7 +13,7 @@ use Rattle.vol_body.specs.Writing.{PointedAt, ListedAt, IsBlank, Mirrors, IsRead
 use Rattle.vol_body.proofs.Changes.{stays_twice, takes_twice, takes_same}
 use Rattle.vol_body.proofs.OneMore.{one_direct, one_list, one_lists, one_listed, one_later_list, one_later, write_named, naming_by, naming_more, names_stay, names_taken_more, takes_one, others_stay_one, others_stay_two, places_stay, places_stay_but, places_stay_by}
 use Rattle.vol_body.proofs.Places.{bytes_there}
-use Rattle.vol_body.proofs.Space.{used_more, used_same}
+use Rattle.vol_body.proofs.Space.{used_more, used_same, used_kept}
 
 -- a sector of the range that was free is taken
 pub record TakesSector (a b : Alloc) (n : ℕ) : Type 0 where
@@ -55,6 +55,7 @@ changes_one a b content after e changed p n Touched more takes ready small none 
       takes = takes_one content after e changed p n more (taken_of a) (taken_of b) takes.taken ready.taken takes.free none there;
       stays = stays;
       size = more.size;
+      count = omega (arith, used, takes.count);
     }
 
 -- by a pointer of the entry
@@ -118,6 +119,7 @@ writes_over a content after e j n ready small lt is some from below stays =
       takes = takes_same (taken_of a) content after e e ready.taken names;
       stays = λ q there not. record { name = names q there; bytes = places_stay_by content after e e (part j) n more ready.naming lt is stays q there not };
       size = refl;
+      count = let kept = used_kept content after e e small refl names in omega arith;
     }
 
 -- a pointer sector that isn't touched stands as it did
@@ -140,4 +142,5 @@ changes_twice a b c c0 c1 c2 e0 e1 e2 One Other Both none still first_is end_is 
       let after = other.stays p there (λ is. not (other_in p is)) in
       record { name = after.name ∙ before.name; bytes = after.bytes ∙ before.bytes };
   size = other.size ∙ one.size;
+  count = omega (arith, one.count, other.count);
 }

@@ -12,7 +12,7 @@ use Rattle.vol_body.specs.Writing.{Mirrors, MirrorsAll, IsReady, SameRange, Chan
 use Rattle.vol_body.proofs.Same.{same_file, same_bytes}
 use Rattle.vol_body.proofs.Changes.{stays_by, takes_same, takes_twice}
 use Rattle.vol_body.proofs.OneMore.{naming_of, naming_by, body_of, names_by_pointers}
-use Rattle.vol_body.proofs.Space.{used_grown}
+use Rattle.vol_body.proofs.Space.{used_grown, used_kept}
 use Rattle.vol_body.proofs.Steps.{put_other, taken_range, none_taken}
 use Rattle.vol_body.proofs.Written.{IsWrite, bytes_written, zeros_behind}
 
@@ -85,6 +85,13 @@ module _ (place offset : ℕ) (bytes first last spelled : List ℕ) (a b : Alloc
       takes_twice (taken_of a) (taken_of a) (taken_of b) content content after e longer changed none still before
       (takes_twice (taken_of a) (taken_of b) (taken_of b) content between after longer changed changed none still changes.takes behind_it)
 
+  pub count_leaves : free_of a + used_of content e ≤ free_of b + used_of after changed
+  unfolding longer
+  count_leaves =
+      let grown = used_grown content e size (omega (arith, size_is)) in
+      let kept = used_kept between after changed changed changes.ready.small refl (λ p there. same.names p there) in
+      omega (arith, grown, kept, changes.count)
+
   module _ (first_long : length first ≡ 512) (last_long : length last ≡ 512)
       (first_is : (offset ≤ 512 * (offset / 512) → 512 * (offset / 512) + 512 ≤ offset + length bytes → ⊥) → first ≡ part_bytes content (named content e (part (offset / 512))))
       (last_is : (offset ≤ 512 * ((offset + length bytes - 1) / 512) → 512 * ((offset + length bytes - 1) / 512) + 512 ≤ offset + length bytes → ⊥) → last ≡ part_bytes content (named content e (part ((offset + length bytes - 1) / 512)))) where
@@ -114,4 +121,5 @@ module _ (place offset : ℕ) (bytes first last spelled : List ℕ) (a b : Alloc
           (zeros_behind content after e changed offset bytes first last write body changed_size);
       others = others_leave;
       taken = taken_leaves;
+      count = count_leaves;
     }

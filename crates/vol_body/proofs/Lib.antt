@@ -1,4 +1,3 @@
-pub mod Readings
 pub mod Places
 pub mod Parts
 pub mod Same
@@ -19,3 +18,4 @@ pub mod Zeros
 pub mod Shorter
 pub mod Shrunk
 pub mod Stagings
+pub mod Rights

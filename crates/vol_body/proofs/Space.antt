@@ -53,7 +53,7 @@ range_below count bound le = All-from_get_or (λ (j : ℕ). j < bound) (range_wi
     let short : i < count = omega (arith, length-range_with_len 0 count) in
     omega (arith, get_or-range_with_len 0 count i 0 short))
 
-are_places : (size : ℕ) → size ≤ 8483840 → All IsPlace (places_of size)
+pub are_places : (size : ℕ) → size ≤ 8483840 → All IsPlace (places_of size)
 are_places size small =
     let count = sectors_of size in
     let n = lists_of (count - 186) in
@@ -170,6 +170,18 @@ used_same content after e changed free small size names reserved =
     let used : used_of after changed ≡ count_by g (places_of e.size) = ap (λ (k : ℕ). count_by g (places_of k)) size in
     let need : need_of changed.size ≡ need_of e.size = ap need_of size in
     omega (arith, fewer, used, need, reserved)
+  where
+    keeps : (q : Place) → IsPlace q → not (named content e q == 0) ≡ true → not (named after changed q == 0) ≡ true
+    keeps q there is = ap (λ (n : ℕ). not (n == 0)) (names q there) ∙ is
+
+-- a file of the same size that names the same sectors uses as many
+pub used_kept : (content after : Image) (e changed : Entry) → e.size ≤ 8483840 → changed.size ≡ e.size → ((p : Place) → IsPlace p → named after changed p ≡ named content e p) → used_of content e ≤ used_of after changed
+used_kept content after e changed small size names =
+    let f = λ (q : Place). not (named content e q == 0) in
+    let g = λ (q : Place). not (named after changed q == 0) in
+    let fewer = count_le f g (places_of e.size) (All-weaker IsPlace (λ q. f q ≡ true → g q ≡ true) keeps (places_of e.size) (are_places e.size small)) in
+    let used : used_of after changed ≡ count_by g (places_of e.size) = ap (λ (k : ℕ). count_by g (places_of k)) size in
+    omega (arith, fewer, used)
   where
     keeps : (q : Place) → IsPlace q → not (named content e q == 0) ≡ true → not (named after changed q == 0) ≡ true
     keeps q there is = ap (λ (n : ℕ). not (n == 0)) (names q there) ∙ is

@@ -138,6 +138,7 @@ changes_wider a b content after e changed One Other inside changes = record {
   takes = changes.takes;
   stays = λ p there not. changes.stays p there (λ touched. not (inside p touched));
   size = changes.size;
+  count = changes.count;
 }
 
 -- a pointer sector that lists parts
@@ -244,6 +245,7 @@ changes_none a content e Touched ready = record {
   takes = takes_same (taken_of a) content content e e ready.taken (λ p there. refl);
   stays = λ p there not. record { name = refl; bytes = refl };
   size = refl;
+  count = omega arith;
 }
 
 pub blank_zeros : (p : Place) → IsBlank p (replicate 512 0)

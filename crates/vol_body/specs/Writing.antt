@@ -63,6 +63,7 @@ pub record Changes (a b : Alloc) (content after : Image) (e changed : Entry) (To
   pub takes : TakesAndGives (taken_of a) (taken_of b) content after e changed
   pub stays : (p : Place) → IsPlace p → (Touched p → ⊥) → SamePlace content after e changed p
   pub size : changed.size ≡ e.size
+  pub count : free_of a + used_of content e ≤ free_of b + used_of after changed
 
 -- The file names no sector at this place, and has the space for one.
 pub record IsMissing (a : Alloc) (content : Image) (e : Entry) (p : Place) : Type 0 where
@@ -139,3 +140,4 @@ pub record WriteLeaves (place : ℕ) (a b : Alloc) (content after : Image) (e ch
   pub rules : IsBody after changed
   pub others : OthersStay place (first_of a) (end_of a) (taken_of a) content after e
   pub taken : TakesAndGives (taken_of a) (taken_of b) content after e changed
+  pub count : free_of a + used_of content e ≤ free_of b + used_of after changed

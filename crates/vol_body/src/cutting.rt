@@ -5,7 +5,7 @@ ghost use Rattle.vol_inode.specs.Space.{sectors_of as parts_of};
 ghost use Rattle.vol_log.specs.Log.{view, sectors_of, room_of, has_failed, device_of};
 ghost use Rattle.vol_alloc.specs.Alloc.{first_of, end_of, taken_of};
 ghost use Rattle.vol_body.specs.Body.{NamesTaken, named};
-ghost use Rattle.vol_body.specs.Reading.{OnlyReads};
+ghost use Rattle.vol_log.specs.Reading.{OnlyReads};
 ghost use Rattle.vol_body.specs.Shorter.{kept_bytes, cut, IsCut, with_cut, last_part, cut_list, last_list};
 ghost use Rattle.vol_body.specs.Shorter.{AreCuts, AreWithin, with_cuts};
 

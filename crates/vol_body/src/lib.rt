@@ -10,8 +10,6 @@ mod locate;
 mod reading;
 mod resizing;
 mod shrinking;
-#[cfg(test)]
-mod tests;
 mod writing;
 mod writing_image;
 mod writing_parts;

@@ -5,7 +5,7 @@ ghost use Rattle.std.specs.Prelude.{length, min, take, drop, slice_index};
 ghost use Rattle.vol_log.specs.Log.{view, sectors_of, has_failed, device_of};
 ghost use Rattle.vol_alloc.specs.Alloc.{end_of, taken_of};
 ghost use Rattle.vol_body.specs.Body.{NamesTaken, byte_at, bytes_of};
-ghost use Rattle.vol_body.specs.Reading.{OnlyReads};
+ghost use Rattle.vol_log.specs.Reading.{OnlyReads};
 
 use crate::locate::read_part;
 use vol_alloc::Alloc;

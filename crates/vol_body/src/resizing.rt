@@ -4,9 +4,14 @@ ghost use Rattle.std.specs.Prelude.{◌≡◌, ◌≤◌, ◌<◌, ◌+◌, true
 ghost use Rattle.vol_log.specs.Log.{view, sectors_of, room_of, has_failed, device_of};
 ghost use Rattle.vol_alloc.specs.Alloc.{first_of, end_of, taken_of};
 ghost use Rattle.vol_inode.specs.Spelling.{spelling};
+ghost use Rattle.vol_inode.specs.Space.{size_limit};
+ghost use Rattle.vol_inode.specs.Entry.{IsEntry};
+ghost use Rattle.vol_inode.specs.declared.entry.Kind.TheVariants.{Directory};
+ghost use Rattle.vol_inode.specs.declared.version.Version.{Version};
 ghost use Rattle.vol_body.specs.Body.{NamesTaken, bytes_of, IsBody};
 ghost use Rattle.vol_body.specs.Change.{resized, OthersStay, TakesAndGives};
-ghost use Rattle.vol_body.specs.Reading.{OnlyReads, OnlyStages};
+ghost use Rattle.vol_log.specs.Reading.{OnlyReads};
+ghost use Rattle.vol_body.specs.Reading.{OnlyStages};
 
 use crate::growing::grow;
 use crate::shrinking::shrink;
@@ -57,6 +62,11 @@ pub fn set_size<D: Device>(
         (view log.old) (view log.new) entry.old entry.new) }
     ensures entry { OnOk result (entry.new
         ≡ record entry.old { size = size; pointers = entry.new.pointers }) }
+    // The entry keeps the rules that its own sector shows.
+    ensures right { (version : Version) → D.honest (device_of log.old)
+        → NamesTaken (taken_of sectors.old) (view log.old) entry.old
+        → IsBody (view log.old) entry.old → IsEntry version entry.old
+        → (entry.old.kind ≡ Directory → size ≡ 0) → size ≤ size_limit version → OnOk result (IsEntry version entry.new) }
     ensures staged { OnOk result (view log.new place ≡ spelling entry.new) }
     ensures range { (first_of sectors.new ≡ first_of sectors.old)
         × (end_of sectors.new ≡ end_of sectors.old) }

@@ -9,7 +9,9 @@ ghost use Rattle.vol_inode.specs.Space.{sectors_of as parts_of};
 ghost use Rattle.vol_body.specs.Body.{NamesTaken, bytes_of, IsBody};
 ghost use Rattle.vol_body.specs.Change.{resized, OthersStay, TakesAndGives};
 ghost use Rattle.vol_body.specs.Shorter.{first_of_pointer};
-ghost use Rattle.vol_body.specs.Reading.{OnlyReads, OnlyStages};
+ghost use Rattle.vol_inode.specs.Entry.{HasWidths};
+ghost use Rattle.vol_log.specs.Reading.{OnlyReads};
+ghost use Rattle.vol_body.specs.Reading.{OnlyStages};
 
 use crate::cutting::{read_cuts, stage_cuts};
 use crate::giving::give_back;
@@ -74,6 +76,7 @@ pub fn shrink<D: Device>(
         (view log.old) (view log.new) entry.old entry.new) }
     ensures entry { OnOk result (entry.new
         ≡ record entry.old { size = size; pointers = entry.new.pointers }) }
+    ensures widths { OnOk result (HasWidths entry.new) }
     ensures staged { OnOk result (view log.new place ≡ spelling entry.new) }
     ensures range { (first_of sectors.new ≡ first_of sectors.old)
         × (end_of sectors.new ≡ end_of sectors.old) }

@@ -3,11 +3,15 @@
 ghost use Rattle.std.specs.Prelude.{◌≡◌, ◌≢◌, ◌≤◌, ◌<◌, ◌+◌, ◌*◌, ℕ, true, false, length, max, OnOk, OnErr, IfOk, IsErr, is_err};
 ghost use Rattle.vol_log.specs.Log.{view, sectors_of, room_of, has_failed, device_of};
 ghost use Rattle.vol_alloc.specs.Alloc.{first_of, end_of, taken_of, free_of};
-ghost use Rattle.vol_inode.specs.Space.{need_of};
+ghost use Rattle.vol_inode.specs.Space.{need_of, size_limit};
+ghost use Rattle.vol_inode.specs.Entry.{IsEntry, HasWidths};
+ghost use Rattle.vol_inode.specs.declared.entry.Kind.TheVariants.{File};
+ghost use Rattle.vol_inode.specs.declared.version.Version.{Version};
 ghost use Rattle.vol_inode.specs.Spelling.{spelling};
 ghost use Rattle.vol_body.specs.Body.{part, named, part_bytes, NamesTaken, IsBody, bytes_of};
 ghost use Rattle.vol_body.specs.Change.{written, used_of, OthersStay, TakesAndGives};
-ghost use Rattle.vol_body.specs.Reading.{OnlyReads, OnlyStages};
+ghost use Rattle.vol_log.specs.Reading.{OnlyReads};
+ghost use Rattle.vol_body.specs.Reading.{OnlyStages};
 ghost use Rattle.vol_body.specs.Writing.{SameRange, WriteLeaves};
 
 use crate::lists::load_lists;
@@ -63,8 +67,19 @@ pub fn write_at<D: Device>(
         → IsBody (view log.old) entry.old
         → OnOk result (TakesAndGives (taken_of sectors.old) (taken_of sectors.new)
         (view log.old) (view log.new) entry.old entry.new) }
+    // No free sector is lost.
+    ensures count { D.honest (device_of log.old)
+        → NamesTaken (taken_of sectors.old) (view log.old) entry.old
+        → IsBody (view log.old) entry.old
+        → OnOk result (free_of sectors.old + used_of (view log.old) entry.old
+        ≤ free_of sectors.new + used_of (view log.new) entry.new) }
     ensures entry { 0 < length bytes.now → OnOk result (entry.new
         ≡ record entry.old { size = max entry.old.size (offset + length bytes.now); pointers = entry.new.pointers }) }
+    // The entry keeps the rules that its own sector shows.
+    ensures right { (version : Version) → D.honest (device_of log.old)
+        → NamesTaken (taken_of sectors.old) (view log.old) entry.old
+        → IsBody (view log.old) entry.old → IsEntry version entry.old → entry.old.kind ≡ File
+        → offset + length bytes.now ≤ size_limit version → OnOk result (IsEntry version entry.new) }
     ensures staged { 0 < length bytes.now → OnOk result (view log.new place ≡ spelling entry.new) }
     ensures nothing { length bytes.now ≡ 0 → (log.new ≡ log.old) × (sectors.new ≡ sectors.old)
         × (entry.new ≡ entry.old) }
@@ -114,6 +129,7 @@ fn write_some<D: Device>(
         entry.old entry.new offset bytes.now) }
     ensures entry { OnOk result (entry.new
         ≡ record entry.old { size = max entry.old.size (offset + length bytes.now); pointers = entry.new.pointers }) }
+    ensures widths { OnOk result (HasWidths entry.new) }
     ensures staged { OnOk result (view log.new place ≡ spelling entry.new) }
     ensures range { SameRange sectors.old sectors.new }
     ensures room { room_of log.old ≤ room_of log.new + 37 }

@@ -5,5 +5,5 @@ pub mod Spelled
 pub mod Room
 pub mod Listings
 pub mod Lookups
-pub mod Readings
 pub mod Shown
+pub mod Marks

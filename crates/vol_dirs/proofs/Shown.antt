@@ -135,3 +135,22 @@ shown_next v image k old new shown names p n t = (
     | inr differ ↦ (names p n t).1 (inl ((shown p n t).1 (same_slot v image image (k + 1) k p n t refl (omega (arith, slot.last)) slot)))
   ],
 )
+
+-- the entry in a slot is another one with the same parent and name
+rewritten_slot : (v : Version) (one other : Image) (slots s : ℕ) (d e : Entry) → IsEntry v d → IsEntry v e → one (121 + s) ≡ spelling d → other (121 + s) ≡ spelling e
+    → d.parent ≡ e.parent → name_of d ≡ name_of e → ((t : ℕ) → 1 ≤ t → t ≤ slots → t ≢ s → other (121 + t) ≡ one (121 + t))
+    → (p : ℕ) (n : List ℕ) (t : ℕ) → IsInSlot v one slots p n t → IsInSlot v other slots p n t
+rewritten_slot v one other slots s d e right too is now parents names same p n t slot = elim (cases_eq t s) [
+  | inl here ↦
+      let that = slot_is_own v one slots s d p n t right is here slot in
+      let now_e : IsNameOf e s p n t = record { parent_is = that.parent_is ∙ parents; name_is = that.name_is ∙ names; serial_is = here } in
+      own_slot v other slots s e p n t too (omega (arith, slot.first)) (omega (arith, slot.last)) now now_e
+  | inr differ ↦ same_slot v one other slots slots p n t (same t slot.first slot.last differ) slot.last slot
+]
+
+pub rewritten_shown : (v : Version) (one other : Image) (slots s : ℕ) (d e : Entry) (dirs : Dirs) → Shows v one slots dirs → IsEntry v d → IsEntry v e → one (121 + s) ≡ spelling d → other (121 + s) ≡ spelling e
+    → d.parent ≡ e.parent → name_of d ≡ name_of e → ((t : ℕ) → 1 ≤ t → t ≤ slots → t ≢ s → other (121 + t) ≡ one (121 + t)) → Shows v other slots dirs
+rewritten_shown v one other slots s d e dirs shown right too is now parents names same p n t = (
+  λ held. rewritten_slot v one other slots s d e right too is now parents names same p n t ((shown p n t).0 held),
+  λ slot. (shown p n t).1 (rewritten_slot v other one slots s e d too right now is (sym parents) (sym names) (λ u first last differ. sym (same u first last differ)) p n t slot),
+)

@@ -1,5 +1,5 @@
 -- The two lists that names are answered from.
-use Rattle.std.specs.Prelude.{◌≡◌, ◌≤◌, ◌<◌, ◌^◌, ℕ, List}
+use Rattle.std.specs.Prelude.{◌≡◌, ◌≤◌, ◌<◌, ◌-◌, ◌^◌, ℕ, List, Bool, true, false, length, slice_index_or}
 use Rattle.std.specs.List.{Contains}
 use Rattle.std.specs.declared.cmp.Ordering.{Ordering}
 use Rattle.std.specs.Ordering.{ordering_then, nat_cmp}
@@ -30,3 +30,9 @@ pub record IsListing (slots : ℕ) (keys : List (List ℕ × ℕ)) (children : L
   pub one_each : (key other : List ℕ) (s : ℕ) → Contains keys (key, s) → Contains keys (other, s) → key ≡ other
   pub no_more : (p s : ℕ) → Contains children (p, s) → ((key : List ℕ) → Contains keys (key, s) → parent_in key ≡ p → ⊥) → ⊥
   pub no_fewer : (key : List ℕ) (s : ℕ) → Contains keys (key, s) → (Contains children (parent_in key, s) → ⊥) → ⊥
+
+-- There is a flag for each slot, which says whether a key is held for its serial.
+pub record AreMarked (slots : ℕ) (keys : List (List ℕ × ℕ)) (flags : List Bool) : Type 0 where
+  pub count : length flags ≡ slots
+  pub held : (key : List ℕ) (s : ℕ) → Contains keys (key, s) → slice_index_or flags (s - 1) false ≡ true
+  pub only : (s : ℕ) → 1 ≤ s → slice_index_or flags (s - 1) false ≡ true → ((key : List ℕ) → Contains keys (key, s) → ⊥) → ⊥

@@ -57,3 +57,14 @@ pub record IsInSlot (version : Version) (image : Image) (slots parent : ℕ) (na
 -- exactly the entries in the slots are held
 abbrev pub Shows : Version → Image → ℕ → Dirs → Type 0
 Shows version image slots dirs = (parent : ℕ) (name : List ℕ) (serial : ℕ) → Names dirs parent name serial ↔ IsInSlot version image slots parent name serial
+
+-- each serial of a slot is held
+abbrev pub NoneIsFree : Dirs → Type 0
+NoneIsFree dirs = (s : ℕ) → 1 ≤ s → s ≤ slots_of dirs → IsFree dirs s → ⊥
+
+-- the least serial of a slot that isn't held
+pub record IsLeastFree (dirs : Dirs) (serial : ℕ) : Type 0 where
+  pub first : 1 ≤ serial
+  pub last : serial ≤ slots_of dirs
+  pub free : IsFree dirs serial
+  pub least : (t : ℕ) → 1 ≤ t → t < serial → IsFree dirs t → ⊥

@@ -1,7 +1,7 @@
 //! The names of a volume, answered from memory.
 
 ghost use Rattle.std.specs.Prelude.{◌≡◌, ◌≤◌, ◌<◌, ◌+◌, ◌-◌, ◌==◌, ◌⊎◌, if◌then◌else◌, ◌↔◌, ◌≢◌, ℕ, List, vec_capacity};
-ghost use Rattle.std.specs.Prelude.{true, false, IfOk, IfErr, IsErr, is_err, MatchOption};
+ghost use Rattle.std.specs.Prelude.{true, false, IsTrue, IfOk, IfErr, IsErr, is_err, MatchOption};
 ghost use Rattle.vol_sector.specs.Disk.{put};
 ghost use Rattle.vol_sector.specs.Fault.{device_failed};
 ghost use Rattle.vol_log.specs.Log.{view, device_of, sectors_of, room_of, is_staged, has_failed};
@@ -10,7 +10,7 @@ ghost use Rattle.vol_inode.specs.Entry.{IsEntry, HasName, name_of};
 ghost use Rattle.vol_inode.specs.Spelling.{spelling, unused};
 ghost use Rattle.vol_inode.specs.declared.version.Version.{Version};
 ghost use Rattle.vol_dirs.specs.Key.{IsPlain};
-ghost use Rattle.vol_dirs.specs.Listing.{IsListing};
+ghost use Rattle.vol_dirs.specs.Listing.{IsListing, AreMarked};
 
 use crate::keys::key_of;
 use crate::sorted::{insert, least_over, remove};
@@ -27,22 +27,24 @@ const MOST_SLOTS: u32 = u32::MAX - 122;
 /// The slot of the entry with serial s, which counts from 1, is sector 121 + s: it holds the entry,
 /// or zeros where it isn't used. What the slots hold is kept in memory too, in two sorted vectors
 /// with room for all slots: the keys of the names with their serials, and the parents with their
-/// serials.
+/// serials. A flag for each slot says whether it is used.
 #[derive(Drop)]
 pub struct Dirs {
     slots: u32,
     keys: Vec<([u8; 259], u32)>,
     children: Vec<(u32, u32)>,
+    used: Vec<bool>,
     ghost few: { slots ≤ 4294967173 },
     ghost listing: { IsListing slots keys.items children.items },
     ghost keys_room: { slots ≤ vec_capacity keys },
     ghost children_room: { slots ≤ vec_capacity children },
+    ghost marked: { AreMarked slots keys.items used.items },
 }
 
 impl Dirs {
     ghost use Rattle.vol_dirs.specs.Names.{slots_of, Names, IsFree, IsNameOf, IsNextChild, NoChildOver};
-    ghost use Rattle.vol_dirs.specs.Names.{IsSpelled, Shows};
-    ghost use Rattle.vol_dirs.specs.Reading.{OnlyReads};
+    ghost use Rattle.vol_dirs.specs.Names.{IsSpelled, Shows, NoneIsFree, IsLeastFree};
+    ghost use Rattle.vol_log.specs.Reading.{OnlyReads};
 
     /// Reads the slots, one after another. A slot that `read_entry` refuses counts as unused.
     ///
@@ -112,6 +114,28 @@ impl Dirs {
             return Err(DeviceFault);
         }
         Ok(self.child_over(parent, after))
+    }
+
+    /// Whether a serial is in use.
+    pub fn is_used(&self, serial: u32) -> bool
+        requires first { 1 ≤ serial }
+        requires last { serial ≤ slots_of self.now }
+        ensures used { IsTrue result → IsFree self.now serial → ⊥ }
+        ensures free { result ≡ false → IsFree self.now serial }
+    {
+        self.used[(serial - 1) as usize]
+    }
+
+    /// The least serial that isn't in use, if there is one.
+    pub fn least_free(&self) -> Option<u32>
+        ensures { MatchOption result (NoneIsFree self.now) (λ s. IsLeastFree self.now s) }
+    {
+        for slot in 0..self.slots {
+            if !self.used[slot as usize] {
+                return Some(slot + 1);
+            }
+        }
+        None
     }
 
     /// Stages an entry in an unused slot.
@@ -226,6 +250,7 @@ impl Dirs {
             slots,
             keys: Vec::with_capacity(alloc, slots as usize)?,
             children: Vec::with_capacity(alloc, slots as usize)?,
+            used: vec![in alloc; false; slots as usize]?,
         })
     }
 
@@ -257,6 +282,7 @@ impl Dirs {
         let key = key_of(entry.parent, &entry.name[..entry.name_length as usize]);
         insert(&mut self.keys, (key, serial));
         insert(&mut self.children, (entry.parent, serial));
+        self.used[(serial - 1) as usize] = true;
     }
 
     /// Gives up the name of an entry that is held.
@@ -269,5 +295,6 @@ impl Dirs {
         let key = key_of(entry.parent, &entry.name[..entry.name_length as usize]);
         remove(&mut self.keys, &(key, serial));
         remove(&mut self.children, &(entry.parent, serial));
+        self.used[(serial - 1) as usize] = false;
     }
 }

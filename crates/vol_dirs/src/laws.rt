@@ -1,9 +1,11 @@
 //! Laws on what is held and what the slots show.
 
-ghost use Rattle.std.specs.Prelude.{◌≡◌, ◌≤◌, ◌+◌, ℕ, List};
+ghost use Rattle.std.specs.Prelude.{◌≡◌, ◌≢◌, ◌≤◌, ◌+◌, ℕ, List};
 ghost use Rattle.vol_sector.specs.Disk.{Image};
 ghost use Rattle.vol_inode.specs.declared.version.Version.{Version};
-ghost use Rattle.vol_inode.specs.Spelling.{unused};
+ghost use Rattle.vol_inode.specs.Spelling.{spelling, unused};
+ghost use Rattle.vol_inode.specs.Entry.{IsEntry, name_of};
+ghost use Rattle.vol_inode.specs.declared.entry.Entry.{Entry};
 ghost use Rattle.vol_dirs.specs.Names.{slots_of, Names, IsFree, Shows};
 
 use crate::Dirs;
@@ -28,5 +30,15 @@ pub fn unused_slots_are_free(dirs: &Dirs)
 pub fn other_sectors_are_not_shown(dirs: &Dirs)
     ensures { (version : Version) (one other : Image) (slots : ℕ) → Shows version one slots dirs.now
         → ((s : ℕ) → 1 ≤ s → s ≤ slots → other (121 + s) ≡ one (121 + s))
+        → Shows version other slots dirs.now }
+{}
+
+/// A law: an entry that is rewritten with the same parent and name is shown as before.
+pub fn rewritten_slots_are_shown(dirs: &Dirs)
+    ensures { (version : Version) (one other : Image) (slots serial : ℕ) (d e : Entry)
+        → Shows version one slots dirs.now → IsEntry version d → IsEntry version e
+        → one (121 + serial) ≡ spelling d → other (121 + serial) ≡ spelling e
+        → d.parent ≡ e.parent → name_of d ≡ name_of e
+        → ((s : ℕ) → 1 ≤ s → s ≤ slots → s ≢ serial → other (121 + s) ≡ one (121 + s))
         → Shows version other slots dirs.now }
 {}

@@ -5,8 +5,9 @@ mod dirs;
 mod keys;
 mod laws;
 mod sorted;
-#[cfg(test)]
-mod tests;
 
 pub use dirs::Dirs;
-pub use laws::{each_serial_has_one_name, other_sectors_are_not_shown, unused_slots_are_free};
+pub use laws::{
+    each_serial_has_one_name, other_sectors_are_not_shown, rewritten_slots_are_shown,
+    unused_slots_are_free,
+};

@@ -40,7 +40,8 @@ pub fn read_entry(version: Version, image: &[u8; 512]) -> Result<Option<Entry>, 
 
 /// The sector of an entry.
 pub fn write_entry(entry: &Entry) -> [u8; 512]
-    ensures { result ≡ spelling entry.now }
+    ensures bytes { result ≡ spelling entry.now }
+    ensures widths { HasWidths entry.now }
 {
     let mut image = headed(entry.kind.byte(), entry.name_length);
     put(&mut image, 4, &number(entry.parent));
@@ -121,6 +122,7 @@ fn number(n: u32) -> [u8; 4]
 fn numbers(ns: &[u32; 60]) -> [u8; 240]
     ensures bytes { result ≡ flat_map (little_bytes 4) ns.now }
     ensures long { length result ≡ 240 }
+    ensures small { (k : ℕ) → slice_index ns.now k < 2 ^ 32 }
 {
     let mut bytes = [0u8; 240];
     LittleEndian::write_u32_into(ns, &mut bytes);

@@ -6,8 +6,6 @@ mod entry;
 mod names;
 mod rules;
 mod space;
-#[cfg(test)]
-mod tests;
 mod version;
 
 pub use codec::{read_entry, write_entry};

@@ -1,5 +1,5 @@
 -- How what a crash may leave goes on from call to call.
-use Rattle.std.proofs.Common.{◌≡◌, ◌⊎◌, inl, inr, ⊎_elim, sym, ◌∙◌, subst, arith, Result, Ok, Err, OnOk}
+use Rattle.std.proofs.Common.{◌≡◌, ◌⊎◌, inl, inr, ⊎_elim, sym, ◌∙◌, subst, arith, Result, Ok, Err, OnOk, OnErr}
 use Rattle.vol_sector.specs.Disk.{Image, Disk, After, Leaves, Only}
 
 -- before the first call
@@ -46,3 +46,8 @@ only_along x y may_leave same only c may = only c may ∙ sym same
 pub on_ok : {T E : Type 0} (r : Result T E) (P Q : Type 0) → (P → Q) → OnOk r P → OnOk r Q
 on_ok (Ok x) P Q f p = f p
 on_ok (Err e) P Q f p = p
+
+-- what holds anyway holds at a refusal
+pub at_err : {T E : Type 0} (r : Result T E) (P : Type 0) → P → OnErr r P
+at_err (Ok x) P p = tt
+at_err (Err e) P p = p

@@ -1,5 +1,8 @@
 //! Where the log stands on the disk. Sectors 2 to 121 hold its images.
 
+/// The sector that stands before the log.
+pub const FRONT: u32 = 0;
+
 /// The sector of the log's header.
 pub const HEADER: u32 = 1;
 

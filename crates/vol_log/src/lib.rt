@@ -9,8 +9,6 @@ mod log;
 mod replay;
 mod staged;
 mod steps;
-#[cfg(test)]
-mod tests;
 
 pub use log::Log;
 pub use staged::Staged;

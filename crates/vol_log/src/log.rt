@@ -15,7 +15,7 @@ use crate::Staged;
 use crate::batch::{replace_staged, reserve, staged_image};
 use crate::layout::IMAGES;
 use crate::replay::replay;
-use crate::steps::commit_batch;
+use crate::steps::{commit_batch, write_front};
 use std::alloc::Global;
 use vol_sector::{Device, DeviceFault, Refused, VolumeFault};
 
@@ -74,6 +74,10 @@ impl<D: Device> Log<D> {
             → HasContent sectors (D.disk device).seen m
             → IfErr result (λ r. Leaves (D.disk device) (D.disk r.device)
             (λ c. HasContent sectors c m)) }
+        // A refusal keeps what the log stands for.
+        ensures kept_content { (m : Image) → D.honest device
+            → HasContent sectors (D.disk device).seen m
+            → IfErr result (λ r. HasContent sectors (D.disk r.device).seen m) }
         ensures faults_named { IfErr result (λ r. (r.fault ≡ VolumeFault.Damaged)
             ⊎ ((r.fault ≡ VolumeFault.Device) ⊎ (r.fault ≡ VolumeFault.Memory))) }
         ensures kept_ok { IfOk result (λ log. (D.honest device ↔ D.honest (device_of log))
@@ -126,6 +130,8 @@ impl<D: Device> Log<D> {
         ensures value { D.honest (device_of self.old)
             → IfOk result (λ bytes. bytes ≡ view self.old n) }
         ensures view { D.honest (device_of self.old) → view self.new ≡ view self.old }
+        ensures seen { D.honest (device_of self.old)
+            → (D.disk (device_of self.new)).seen ≡ (D.disk (device_of self.old)).seen }
         ensures crash { D.honest (device_of self.old)
             → Leaves (D.disk (device_of self.old)) (D.disk (device_of self.new)) (λ c. ⊥) }
         ensures one_operation { D.honest (device_of self.old) → has_failed self.old ≡ false
@@ -226,6 +232,40 @@ impl<D: Device> Log<D> {
                 Err(fault)
             }
         }
+    }
+
+    /// Writes sector 0, which stands before the log, and syncs.
+    ///
+    /// It is refused where one of the two operations failed, and the log has failed then; where it
+    /// had failed before, it answers that and does no device operation.
+    pub fn write_front(&mut self, image: &[u8; 512]) -> Result<(), DeviceFault>
+        requires { staged_of self.old ≡ [] }
+        ensures written { D.honest (device_of self.old)
+            → OnOk result ((D.disk (device_of self.new)).seen
+            ≡ put 0 image.now (D.disk (device_of self.old)).seen) }
+        ensures settled { D.honest (device_of self.old)
+            → OnOk result (Settled (sectors_of self.old) (D.disk (device_of self.new))) }
+        ensures others { D.honest (device_of self.old) → (n : ℕ) → 0 < n
+            → (D.disk (device_of self.new)).seen n ≡ (D.disk (device_of self.old)).seen n }
+        ensures crash { D.honest (device_of self.old)
+            → Leaves (D.disk (device_of self.old)) (D.disk (device_of self.new))
+            (λ c. c ≡ put 0 image.now (D.disk (device_of self.old)).seen) }
+        ensures staged { staged_of self.new ≡ [] }
+        ensures failed { has_failed self.new ≡ is_err result }
+        ensures idle { has_failed self.old ≡ true
+            → (device_of self.new ≡ device_of self.old) × IsErr result }
+        ensures sectors { sectors_of self.new ≡ sectors_of self.old }
+        ensures honest { D.honest (device_of self.old) ↔ D.honest (device_of self.new) }
+        ensures size { D.size (device_of self.new) ≡ D.size (device_of self.old) }
+        ensures faults { has_failed self.old ≡ false → D.faults (device_of self.new)
+            ≡ counted (is_err result) (D.faults (device_of self.old)) }
+    {
+        if self.failed {
+            return Err(DeviceFault);
+        }
+        let written = write_front(&mut self.device, image);
+        self.failed = written.is_err();
+        written
     }
 
     /// The device. What is staged is given up.

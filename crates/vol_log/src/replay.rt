@@ -1,7 +1,7 @@
 //! What opening does with a log that a crash may have left.
 
 ghost use Rattle.std.specs.Prelude.{◌≡◌, ◌⊎◌, ◌≤◌, ◌<◌, ◌↔◌, List, [], ℕ};
-ghost use Rattle.std.specs.Prelude.{OnOk, IfErr, IsErrOf, vec_capacity};
+ghost use Rattle.std.specs.Prelude.{OnOk, OnErr, IfErr, IsErrOf, vec_capacity};
 ghost use Rattle.vol_sector.specs.Disk.{Image, Leaves, counted};
 ghost use Rattle.vol_sector.specs.Fault.{device_failed};
 ghost use Rattle.vol_log.specs.Batch.{SameContent, HasContent, Settled};
@@ -38,6 +38,10 @@ pub fn replay<D: Device>(
     ensures crash { (m : Image) → D.honest device.old
         → HasContent sectors (D.disk device.old).seen m
         → Leaves (D.disk device.old) (D.disk device.new) (λ c. HasContent sectors c m) }
+
+    ensures kept_content { (m : Image) → D.honest device.old
+        → HasContent sectors (D.disk device.old).seen m
+        → OnErr result (HasContent sectors (D.disk device.new).seen m) }
 
     ensures honest { D.honest device.old ↔ D.honest device.new }
     ensures size { D.size device.new ≡ D.size device.old }

@@ -2,13 +2,13 @@
 
 ghost use Rattle.std.specs.Prelude.{◌≡◌, ◌⊎◌, ◌≤◌, ◌<◌, ◌↔◌, List, [], ℕ};
 ghost use Rattle.std.specs.Prelude.{length, OnOk, OnErr, is_err};
-ghost use Rattle.vol_sector.specs.Disk.{After, Leaves, Only, counted};
+ghost use Rattle.vol_sector.specs.Disk.{After, Wrote, Leaves, Only, put, counted};
 ghost use Rattle.vol_log.specs.Header.{Places, IsHeader, header_bytes};
 ghost use Rattle.vol_log.specs.Batch.{numbers, over, logged, SameContent, HasContent, HasEither};
 ghost use Rattle.vol_log.specs.Batch.{Settled, Logged, OutsideImages, OutsideLog, Under};
 
 use crate::Staged;
-use crate::layout::{FIRST_IMAGE, HEADER};
+use crate::layout::{FIRST_IMAGE, FRONT, HEADER};
 use byteorder::{ByteOrder, LittleEndian};
 use vol_sector::{Device, DeviceFault};
 
@@ -150,4 +150,23 @@ pub fn read_images<D: Device>(device: &mut D, batch: &mut [Staged]) -> Result<()
         staged.image = device.read(FIRST_IMAGE + i as u32)?;
     }
     Ok(())
+}
+
+/// Writes the sector that stands before the log, and syncs.
+pub fn write_front<D: Device>(device: &mut D, image: &[u8; 512]) -> Result<(), DeviceFault>
+    requires { 0 < D.size device.old }
+    ensures durable { D.honest device.old
+        → OnOk result (Only (D.disk device.new).seen (D.disk device.new).may_leave) }
+    ensures written { D.honest device.old
+        → OnOk result ((D.disk device.new).seen ≡ put 0 image.now (D.disk device.old).seen) }
+    ensures others { D.honest device.old → (n : ℕ) → 0 < n
+        → (D.disk device.new).seen n ≡ (D.disk device.old).seen n }
+    ensures crash { D.honest device.old → Leaves (D.disk device.old) (D.disk device.new)
+        (After (Wrote 0 image.now) (D.disk device.old).may_leave) }
+    ensures honest { D.honest device.old ↔ D.honest device.new }
+    ensures size { D.size device.new ≡ D.size device.old }
+    ensures faults { D.faults device.new ≡ counted (is_err result) (D.faults device.old) }
+{
+    device.write(FRONT, image)?;
+    device.sync()
 }

@@ -9,8 +9,6 @@ mod fuse;
 mod laws;
 mod memory;
 mod record;
-#[cfg(test)]
-mod tests;
 mod tried;
 
 pub use device::{Device, DeviceFault};

@@ -14,7 +14,7 @@ one_serial T t (n ∷ p) a b h g =
     let above : h.0.parent ≡ g.0.parent = one_serial T t p h.0.parent g.0.parent h.3 g.3 in
     t.apart a b h.0 g.0 h.1 g.1 above (h.2 ∙ sym g.2)
 
-opened : (o : Option Entry) → is_some o ≡ true → (e : Entry) × (o ≡ Some e)
+pub opened : (o : Option Entry) → is_some o ≡ true → (e : Entry) × (o ≡ Some e)
 opened None h = absurd (false≢true h)
 opened (Some e) h = (e, refl)
 

@@ -1,9 +1,9 @@
 -- Entries of changed trees, and paths that lead through them.
-use Rattle.std.proofs.Common.{is_some, ◌≡◌, ◌≢◌, ℕ, zero, suc, ◌<◌, [], ◌∷◌, ◌++◌, length, Option, Some, None, refl, sym, ◌∙◌, ap, subst, inl, inr, arith}
+use Rattle.std.proofs.Common.{is_some, true, ◌≡◌, ◌≢◌, ℕ, zero, suc, ◌<◌, [], ◌∷◌, ◌++◌, length, Option, Some, None, refl, sym, ◌∙◌, ap, subst, inl, inr, arith}
 use Rattle.std.proofs.lemmas.List.{get_or-set_same, get_or-set_other, get_or_past, length-append}
 use Rattle.std.proofs.lemmas.Option.{same_Some, none-some}
 use Rattle.std.proofs.lemmas.Bool.{cases_lt}
-use Rattle.vol_tree.specs.Tree.{Tree, Path, Name, Entry, entry, changed, Leads, IsAt, IsTree, root}
+use Rattle.vol_tree.specs.Tree.{Tree, Path, Name, Entry, entry, changed, Leads, IsAt, IsTree, IsDirectory, root}
 
 -- a serial with an entry is within the slots
 pub used_within : (T : Tree) (slot : ℕ) (e : Entry) → entry T (suc slot) ≡ Some e → slot < length T
@@ -26,7 +26,7 @@ leads_on T a b c p [] h g = subst (λ (s : ℕ). Leads T a p s) (sym g) h
 leads_on T a b c p (n ∷ q) h g = (g.0, g.1, g.2, leads_on T a b g.0.parent p q h g.3)
 
 -- nothing leads to the number that no entry has
-no_way : (T : Tree) (p : Path) → Leads T 1 p 0 → ⊥
+pub no_way : (T : Tree) (p : Path) → Leads T 1 p 0 → ⊥
 no_way T [] h = absurd (omega arith)
 no_way T (n ∷ p) h = none-some h.0 h.1
 
@@ -53,3 +53,7 @@ no_cycle T t n p s h =
     let from_top = t.reached s (ap (λ (o : Option Entry). is_some o) h.1) in
     let same = one_path T t from_top.0 ((n ∷ p) ++ from_top.0) s from_top.1 (leads_on T 1 s s from_top.0 (n ∷ p) from_top.1 h) in
     absurd (omega (arith, ap length same, length-append (n ∷ p) from_top.0))
+
+-- a directory is an entry
+pub directory_used : (T : Tree) (s : ℕ) → IsDirectory T s → is_some (entry T s) ≡ true
+directory_used T s d = ap is_some d.1

@@ -13,7 +13,7 @@ use Rattle.vol_tree.specs.declared.errno.Errno.TheVariants as errno
 use Rattle.vol_tree.proofs.Entries.{used_within}
 use Rattle.vol_tree.proofs.Creates.{created_least}
 
-none_passes : (n : ℕ) (test : Option Entry → Bool) (T : Tree) → least_from n test T ≡ None → (i : ℕ) → i < length T → test (get_or T i None) ≡ false
+pub none_passes : (n : ℕ) (test : Option Entry → Bool) (T : Tree) → least_from n test T ≡ None → (i : ℕ) → i < length T → test (get_or T i None) ≡ false
 none_passes n test [] h i l = absurd (omega arith)
 none_passes n test (e ∷ T) h i l = elim (cases_Bool (test e)) [
   | inl hit ↦ absurd (none-some n (sym h ∙ cond-true _ _ _ hit))
@@ -24,14 +24,14 @@ none_passes n test (e ∷ T) h i l = elim (cases_Bool (test e)) [
 ]
 
 -- where a look-up finds nothing, no entry has that name in that directory
-not_there : (T : Tree) (parent : ℕ) (name : Name) → lookup T parent name ≡ None → (s : ℕ) (e : Entry) → entry T s ≡ Some e → e.parent ≡ parent → e.name ≡ name → ⊥
+pub not_there : (T : Tree) (parent : ℕ) (name : Name) → lookup T parent name ≡ None → (s : ℕ) (e : Entry) → entry T s ≡ Some e → e.parent ≡ parent → e.name ≡ name → ⊥
 not_there T parent name h zero e g p n = none-some e g
 not_there T parent name h (suc i) e g p n =
     let fails = none_passes 1 (is_child parent name) T h i (used_within T i e g) in
     let passes : is_child parent name (Some e) ≡ true = and_from (eqb e.parent parent) (same_name e.name name) (eq-eqb _ _ p) ((slice_eq-Decides Decides-eqb e.name name (same_name e.name name) refl).1 n) in
     false≢true (sym fails ∙ (ap (is_child parent name) g ∙ passes))
 
-was_missing : {A X : Type 0} (o : Option A) (errno : Errno) (rest : Result X Errno) (x : X) → option_map_or (λ a. Err errno) o rest ≡ Ok x → o ≡ None
+pub was_missing : {A X : Type 0} (o : Option A) (errno : Errno) (rest : Result X Errno) (x : X) → option_map_or (λ a. Err errno) o rest ≡ Ok x → o ≡ None
 was_missing None errno rest x h = refl
 was_missing (Some a) errno rest x h = cc
 

@@ -101,7 +101,7 @@ same_slot version None (Some e) one other same = absurd (some_kind e.kind (sym (
 same_slot version (Some d) None one other same = absurd (some_kind d.kind (ap (λ (l : List ℕ). get_or l 0 0) same))
 same_slot version (Some d) (Some e) one other same = ap Some (same_entry d e (one d refl).widths (other e refl).widths same)
 
-same_slots : (version : Version) (a b : Image) (one other : Slots) → length one ≡ length other → SameContent a b → Holds a version one → Holds b version other → one ≡ other
+pub same_slots : (version : Version) (a b : Image) (one other : Slots) → length one ≡ length other → SameContent a b → Holds a version one → Holds b version other → one ≡ other
 same_slots version a b one other long same has too = ext_get_or None one other long (λ s lt.
     let l : s < length other = omega arith in
     let behind : 122 ≤ 122 + s = omega arith in
@@ -117,11 +117,11 @@ map_same f g d (x ∷ xs) same =
     let rest : map f xs ≡ map g xs = map_same f g d xs (λ i lt. same (suc i) (omega arith)) in
     λ j. here j ∷ rest j
 
-limit_small : (version : Version) → size_limit version ≤ 8483840
+pub limit_small : (version : Version) → size_limit version ≤ 8483840
 limit_small One = omega arith
 limit_small Two = omega arith
 
-same_tree_entry : (a b : Image) (version : Version) (e : Entry) → IsEntry version e → SameSectors a b e → entry_of b e ≡ entry_of a e
+pub same_tree_entry : (a b : Image) (version : Version) (e : Entry) → IsEntry version e → SameSectors a b e → entry_of b e ≡ entry_of a e
 same_tree_entry a b version e is same =
     let small : e.size ≤ 8483840 = omega (arith, is.rules.size.small, limit_small version) in
     ap (λ (bytes : List ℕ). (let r : tree.Entry = record { parent = e.parent; name = name_of e; node = node_by e.kind bytes } in r)) (same_list a b e (same_file a b e same) small)
@@ -130,7 +130,7 @@ same_option : (a b : Image) (o : Option Entry) → ((e : Entry) → o ≡ Some e
 same_option a b None same = refl
 same_option a b (Some e) same = ap Some (sym (same e refl))
 
-same_tree : (a b : Image) (v : Superblock) (slots : Slots) → SameContent a b → Holds a v.version slots → KeepApart a v slots → tree_of a slots ≡ tree_of b slots
+pub same_tree : (a b : Image) (v : Superblock) (slots : Slots) → SameContent a b → Holds a v.version slots → KeepApart a v slots → tree_of a slots ≡ tree_of b slots
 same_tree a b v slots same holds apart = map_same (option_map (entry_of a)) (option_map (entry_of b)) None slots (λ s lt.
     same_option a b (get_or slots s None) (λ e is.
     same_tree_entry a b v.version e (holds.entries s e is) (λ p place some.

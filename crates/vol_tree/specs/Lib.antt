@@ -6,3 +6,11 @@ pub mod Numbers
 pub mod Superblock
 pub mod Stands
 pub mod Fresh
+pub mod Opened
+pub mod Parts
+pub mod Commits
+pub mod Changes
+pub mod PathLaws
+pub mod Stat
+pub mod Stats
+pub mod internal

@@ -1,6 +1,10 @@
 //! Why a call on a tree is refused.
 
+ghost use Rattle.std.specs.Prelude.{◌≡◌};
+ghost use Rattle.vol_tree.specs.declared.errno.Errno.TheVariants.{Io};
+
 use thiserror::Error;
+use vol_sector::DeviceFault;
 
 /// Why a call on a tree is refused.
 #[derive(Clone, Copy, Debug, PartialEq, Eq, Error)]
@@ -9,18 +13,26 @@ pub enum Errno {
     Exist,
     #[error("the file would be too large")]
     TooBig,
+    #[error("it is no text")]
+    BadText,
     #[error("invalid argument")]
     Invalid,
     #[error("the device failed")]
     Io,
     #[error("it is a directory")]
     IsDirectory,
+    #[error("a name is too long")]
+    NameTooLong,
+    #[error("there is no entry of that name")]
+    NotFound,
     #[error("no space is left")]
     NoSpace,
     #[error("it is no directory")]
     NotDirectory,
     #[error("the directory is not empty")]
     NotEmpty,
+    #[error("the path leads out of its directory")]
+    NotCapable,
 }
 
 impl Errno {
@@ -34,12 +46,24 @@ impl Errno {
         match self {
             Errno::Exist => 20,
             Errno::TooBig => 22,
+            Errno::BadText => 25,
             Errno::Invalid => 28,
             Errno::Io => 29,
             Errno::IsDirectory => 31,
+            Errno::NameTooLong => 37,
+            Errno::NotFound => 44,
             Errno::NoSpace => 51,
             Errno::NotDirectory => 54,
             Errno::NotEmpty => 55,
+            Errno::NotCapable => 76,
         }
+    }
+}
+
+impl From<DeviceFault> for Errno {
+    ghost from_gives = { λ _ e. e ≡ Io };
+
+    fn from(_: DeviceFault) -> Self {
+        Errno::Io
     }
 }

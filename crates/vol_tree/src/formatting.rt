@@ -8,69 +8,70 @@ ghost use Rattle.vol_tree.specs.Stands.{StandsAs, empty_tree};
 ghost use Rattle.vol_tree.specs.Fresh.{fresh, root_entry, fresh_slot, HasFreshSlots, IsFresh};
 ghost use Rattle.vol_tree.specs.Fresh.{BehindTheLog, BehindTheFirst, IsNoneOrEmpty};
 
+use crate::Volume;
 use crate::layout::{FIRST_SLOT, LOG_HEADER, SUPERBLOCK};
 use crate::superblock::{Superblock, has_ranges, write_superblock};
 use vol_inode::{Entry, Kind, Version, write_entry};
 use vol_sector::{Device, DeviceFault, Refused, VolumeFault};
 
-/// Makes the first sectors of a device an empty volume, of version 1, with so many sectors and
-/// slots for entries.
-///
-/// It is refused as `Geometry` where a number is out of its range: 137 to 65,536 sectors, 1 to
-/// 8,192 slots, and `122 + slots < sectors`; then as `TooSmall` where the device has fewer sectors.
-/// Both refusals come before any operation. It makes `slots + 3` writes and 3 syncs; where one
-/// fails it stops there, and is refused as `Device`. It takes no memory.
-///
-/// A stop inside leaves what a crash could leave before, or no volume, or the empty one.
-///
-/// It stands by itself as long as there is no type for an open volume.
-pub fn format_volume<D: Device>(mut device: D, sectors: u32, slots: u32) -> Result<D, Refused<D>>
-    ensures geometry { (HasRanges (fresh sectors slots) → ⊥)
-        ↔ (result ≡ Err (record { device = device; fault = VolumeFault.Geometry })) }
-    ensures too_small { (HasRanges (fresh sectors slots) × (D.size device < sectors))
-        ↔ (result ≡ Err (record { device = device; fault = VolumeFault.TooSmall })) }
-    ensures otherwise { HasRanges (fresh sectors slots) → sectors ≤ D.size device
-        → IfErr result (λ r. r.fault ≡ VolumeFault.Device) }
-    // A crash now leaves what reads give, and that is the empty volume.
-    ensures durable { D.honest device → IfOk result (λ d. Only (D.disk d).seen (D.disk d).may_leave) }
-    ensures empty { D.honest device
-        → IfOk result (λ d. StandsAs (D.disk d).seen (fresh sectors slots) (empty_tree slots)) }
-    // At any moment a crash leaves what it could leave before, or no volume, or the empty one.
-    ensures crash_ok { D.honest device → IfOk result (λ d. Leaves (D.disk device) (D.disk d)
-        (IsNoneOrEmpty (fresh sectors slots))) }
-    ensures crash_err { D.honest device
-        → IfErr result (λ r. Leaves (D.disk device) (D.disk r.device)
-        (IsNoneOrEmpty (fresh sectors slots))) }
-    ensures kept_ok { IfOk result (λ d. (D.honest device ↔ D.honest d)
-        × (D.size d ≡ D.size device) × (D.faults d ≡ D.faults device)) }
-    // It is refused as `Device` only where an operation failed.
-    ensures kept_err { IfErr result (λ r. (D.honest device ↔ D.honest r.device)
-        × (D.size r.device ≡ D.size device)
-        × (D.faults r.device ≡ counted (is_device r.fault) (D.faults device))) }
-{
-    let numbers = Superblock {
-        version: Version::One,
-        sectors,
-        slots,
-    };
-    if !has_ranges(&numbers) {
-        return Err(Refused {
-            device,
-            fault: VolumeFault::Geometry,
-        });
-    }
-    if device.sectors() < sectors {
-        return Err(Refused {
-            device,
-            fault: VolumeFault::TooSmall,
-        });
-    }
-    match lay_out(&mut device, &numbers) {
-        Ok(()) => Ok(device),
-        Err(DeviceFault) => Err(Refused {
-            device,
-            fault: VolumeFault::Device,
-        }),
+impl<D: Device> Volume<D> {
+    /// Makes the first sectors of a device an empty volume, of version 1, with these numbers of
+    /// sectors and slots for entries.
+    ///
+    /// It is refused as `Geometry` where a number is out of its range: 137 to 65,536 sectors, 1 to
+    /// 8,192 slots, and `122 + slots < sectors`; then as `TooSmall` where the device has fewer sectors.
+    /// Both refusals come before any operation. It makes `slots + 3` writes and 3 syncs; where one
+    /// fails it stops there, and is refused as `Device`. It takes no memory.
+    ///
+    /// A stop inside leaves what a crash could leave before, or no volume, or the empty one.
+    pub fn format(mut device: D, sectors: u32, slots: u32) -> Result<D, Refused<D>>
+        ensures geometry { (HasRanges (fresh sectors slots) → ⊥)
+            ↔ (result ≡ Err (record { device = device; fault = VolumeFault.Geometry })) }
+        ensures too_small { (HasRanges (fresh sectors slots) × (D.size device < sectors))
+            ↔ (result ≡ Err (record { device = device; fault = VolumeFault.TooSmall })) }
+        ensures otherwise { HasRanges (fresh sectors slots) → sectors ≤ D.size device
+            → IfErr result (λ r. r.fault ≡ VolumeFault.Device) }
+        // A crash now leaves what reads give, and that is the empty volume.
+        ensures durable { D.honest device → IfOk result (λ d. Only (D.disk d).seen (D.disk d).may_leave) }
+        ensures empty { D.honest device
+            → IfOk result (λ d. StandsAs (D.disk d).seen (fresh sectors slots) (empty_tree slots)) }
+        // At any moment a crash leaves what it could leave before, or no volume, or the empty one.
+        ensures crash_ok { D.honest device → IfOk result (λ d. Leaves (D.disk device) (D.disk d)
+            (IsNoneOrEmpty (fresh sectors slots))) }
+        ensures crash_err { D.honest device
+            → IfErr result (λ r. Leaves (D.disk device) (D.disk r.device)
+            (IsNoneOrEmpty (fresh sectors slots))) }
+        ensures kept_ok { IfOk result (λ d. (D.honest device ↔ D.honest d)
+            × (D.size d ≡ D.size device) × (D.faults d ≡ D.faults device)) }
+        // It is refused as `Device` only where an operation failed.
+        ensures kept_err { IfErr result (λ r. (D.honest device ↔ D.honest r.device)
+            × (D.size r.device ≡ D.size device)
+            × (D.faults r.device ≡ counted (is_device r.fault) (D.faults device))) }
+    {
+        let numbers = Superblock {
+            version: Version::One,
+            sectors,
+            slots,
+        };
+        if !has_ranges(&numbers) {
+            return Err(Refused {
+                device,
+                fault: VolumeFault::Geometry,
+            });
+        }
+        if device.sectors() < sectors {
+            return Err(Refused {
+                device,
+                fault: VolumeFault::TooSmall,
+            });
+        }
+        match lay_out(&mut device, &numbers) {
+            Ok(()) => Ok(device),
+            Err(DeviceFault) => Err(Refused {
+                device,
+                fault: VolumeFault::Device,
+            }),
+        }
     }
 }
 

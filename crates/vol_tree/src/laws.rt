@@ -7,6 +7,7 @@ ghost use Rattle.vol_tree.specs.Tree.{Tree};
 ghost use Rattle.vol_tree.specs.Stands.{Stands};
 ghost use Rattle.vol_tree.specs.Laws.{RenameMovesTheSubtree, CreatedHasTheLeastSerial};
 ghost use Rattle.vol_tree.specs.Laws.{PathsDetermineTheTree, CreatedIsTree, WithinIsBelow};
+ghost use Rattle.vol_tree.specs.PathLaws.{CreatedMap, MovedMap, RemovedMap};
 
 /// A law: renaming an entry moves all that is below it, and nothing else.
 pub fn rename_moves_the_subtree()
@@ -36,4 +37,21 @@ pub fn within_is_below()
 /// A law: an image stands for at most one tree.
 pub fn one_tree()
     ensures { (image : Image) (T U : Tree) → Stands image T → Stands image U → T ≡ U }
+{}
+
+/// A law: creating an entry adds the path of its name to the map from paths, and nothing else
+/// changes.
+pub fn created_adds_one_path()
+    ensures { CreatedMap }
+{}
+
+/// A law: moving an entry moves the paths that lead to it and below it, and nothing else changes.
+pub fn moved_moves_paths()
+    ensures { MovedMap }
+{}
+
+/// A law: taking away an entry that nothing stands in takes away its path, and nothing else
+/// changes.
+pub fn removed_takes_one_path()
+    ensures { RemovedMap }
 {}

@@ -2,16 +2,25 @@
 #![tactic(auto)]
 
 mod errno;
+mod files;
 mod formatting;
 mod laws;
 mod layout;
+mod moving;
+mod naming;
+mod parts;
+mod stat;
+mod stats;
 mod superblock;
-#[cfg(test)]
-mod tests;
+mod upgrading;
+mod volume;
 
 pub use errno::Errno;
-pub use formatting::format_volume;
 pub use laws::{
-    created_has_the_least_serial, created_is_a_tree, one_tree, paths_determine_the_tree,
-    rename_moves_the_subtree, within_is_below,
+    created_adds_one_path, created_has_the_least_serial, created_is_a_tree, moved_moves_paths,
+    one_tree, paths_determine_the_tree, removed_takes_one_path, rename_moves_the_subtree,
+    within_is_below,
 };
+pub use stat::Stat;
+pub use stats::Stats;
+pub use volume::Volume;

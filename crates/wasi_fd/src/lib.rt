@@ -5,8 +5,6 @@ mod descriptor;
 mod fault;
 mod rights;
 mod table;
-#[cfg(test)]
-mod tests;
 
 pub use descriptor::{Descriptor, EntryKind, Opened, Stream};
 pub use fault::DescriptorFault;

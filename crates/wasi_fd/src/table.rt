@@ -33,6 +33,13 @@ impl<'g> Descriptors<'g> {
         Ok(Descriptors { places })
     }
 
+    /// Whether all 256 numbers are open, so that no other can be opened.
+    pub fn is_full(&self) -> bool
+        ensures { IsTrue result ↔ ((k : ℕ) → k < 256 → table_of self.now k ≢ None) }
+    {
+        self.places.iter().all(|place| place.is_some())
+    }
+
     /// What the number stands for. It is refused as `NotOpen`.
     pub fn get(&self, fd: u32) -> Result<Descriptor<'g>, DescriptorFault>
         ensures open { IfOk result (λ d. table_of self.now fd ≡ Some d) }

@@ -24,6 +24,3 @@ pub use module::{
     Body, DataSegment, ElementSegment, Export, ExportKind, FuncType, GlobalEntry, GlobalType,
     Import, ImportKind, Limits, Locals, Module,
 };
-
-#[cfg(test)]
-mod tests;

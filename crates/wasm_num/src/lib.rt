@@ -20,10 +20,3 @@ pub use i64_operators::{
     i64_rotr, i64_shl, i64_shr_s, i64_shr_u, i64_sub, i64_xor,
 };
 pub use trap::Trap;
-
-#[cfg(test)]
-mod i32_edges;
-#[cfg(test)]
-mod i64_edges;
-#[cfg(test)]
-mod tests;

@@ -18,9 +18,6 @@ use std::alloc::{AllocError, Global};
 use wasm_module::{Export, ExportKind, FuncType, ImportKind, Instruction, Limits, Module};
 use wasm_valid::Valid;
 
-#[cfg(test)]
-mod tests;
-
 /// What an instance begins with.
 #[derive(Debug, Drop)]
 pub struct Instantiated {

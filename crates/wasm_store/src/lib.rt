@@ -8,8 +8,6 @@ mod host;
 mod instantiation;
 mod memory;
 mod table;
-#[cfg(test)]
-mod tests;
 
 pub use call::{Answer, Errno, HostCall};
 pub use fault::InstanceFault;

@@ -21,8 +21,3 @@ pub use laws::typed_by_rules;
 pub use valid::Valid;
 pub use validating::validate;
 pub use wasm_module::LoadFault;
-
-#[cfg(test)]
-mod offset_tests;
-#[cfg(test)]
-mod tests;

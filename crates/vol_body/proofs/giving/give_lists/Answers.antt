@@ -1,7 +1,7 @@
 use Rattle.std.proofs.Common.{◌∙◌, slice_index}
 use Rattle.vol_log.specs.Log.{view}
 use Rattle.vol_alloc.specs.Alloc.{taken_of}
-use Rattle.vol_body.proofs.Readings.{reads_then}
+use Rattle.vol_log.proofs.Readings.{reads_then}
 use Rattle.vol_body.proofs.GivenBack.{gives_at, gives_next_list}
 use Rattle.vol_body.proofs.giving.give_lists.Goals as goal
 

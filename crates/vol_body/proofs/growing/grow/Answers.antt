@@ -9,7 +9,7 @@ use Rattle.vol_body.proofs.Grown.{grown_bytes, grown_rules, put_elsewhere}
 use Rattle.vol_body.proofs.growing.grow.Goals as goal
 
 pub returns-clause-staged : goal.returns-clause-staged
-returns-clause-staged g c = c.stage.ensures.view ∙ ap (λ (bytes : List ℕ). put c.args.place bytes (view c.args.log.now)) c.write_entry.ensures
+returns-clause-staged g c = c.stage.ensures.view ∙ ap (λ (bytes : List ℕ). put c.args.place bytes (view c.args.log.now)) c.write_entry.ensures.bytes
 
 pub returns-clause-bytes : goal.returns-clause-bytes
 returns-clause-bytes g c body others =

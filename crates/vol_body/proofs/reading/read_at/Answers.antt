@@ -4,7 +4,7 @@ use Rattle.vol_sector.specs.Disk.{Image}
 use Rattle.vol_log.specs.Log.{view}
 use Rattle.vol_alloc.specs.Alloc.{taken_of}
 use Rattle.vol_body.specs.Body.{part, named, part_bytes, bytes_of, NamesTaken}
-use Rattle.vol_body.proofs.Readings.{reads_then}
+use Rattle.vol_log.proofs.Readings.{reads_then}
 use Rattle.vol_body.proofs.Parts.{length-bytes_of, part_of_bytes, filled_more}
 use Rattle.vol_body.proofs.reading.read_at.Goals as goal
 

@@ -2,7 +2,7 @@ use Rattle.std.proofs.Common.{◌≡◌, ◌-◌, ◌≤◌, ◌++◌, false, ta
 use Rattle.vol_log.specs.Log.{view, device_of, has_failed}
 use Rattle.vol_alloc.specs.Alloc.{taken_of}
 use Rattle.vol_body.specs.Body.{NamesTaken, bytes_of}
-use Rattle.vol_body.specs.Reading.{OnlyReads}
+use Rattle.vol_log.specs.Reading.{OnlyReads}
 use Rattle.vol_body.proofs.reading.read_at.Given as goal
 
 abbrev pub invariant-loop-done : goal.invariant-loop-done

@@ -11,6 +11,7 @@ use Rattle.vol_body.specs.Change.{OthersStay, TakesAndGives}
 use Rattle.vol_body.proofs.Parts.{length-bytes_of}
 use Rattle.vol_body.proofs.Cuts.{put_there}
 use Rattle.vol_body.proofs.Grown.{grown_others, grown_taken, grown_resized, slot_is_other}
+use Rattle.vol_body.proofs.Rights.{right_file, all_three}
 use Rattle.vol_body.proofs.resizing.set_size.Goals as goal
 
 -- two facts on one success
@@ -47,3 +48,8 @@ returns-clause-taken g c h names body =
     both c.grow.result _ _ _ (λ is longer. subst (λ (m : Image). TakesAndGives taken taken content m e c.grow.new.entry) (sym is)
     (subst (λ (x : Entry). TakesAndGives taken taken content (put c.args.place (spelling c.grow.new.entry) content) e x) (sym longer) (grown_taken content e c.args.size c.args.place (spelling c.grow.new.entry) others taken names)))
     c.grow.ensures.staged c.grow.ensures.entry
+
+pub returns-then-size-entry-clause-right : goal.returns-then-size-entry-clause-right
+returns-then-size-entry-clause-right g c version h names body right none small =
+    all_three c.shrink.result _ _ _ _ (λ is widths rules. right_file version (view c.shrink.new.log) c.args.entry.now c.shrink.new.entry c.args.size right none small is widths rules)
+    c.shrink.ensures.entry c.shrink.ensures.widths (c.shrink.ensures.rules h names body)

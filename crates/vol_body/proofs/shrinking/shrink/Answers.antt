@@ -8,7 +8,7 @@ use Rattle.vol_inode.specs.declared.entry.Entry.{Entry}
 use Rattle.vol_body.specs.Body.{NamesTaken, IsBody, bytes_of}
 use Rattle.vol_body.specs.Change.{OthersStay, TakesAndGives}
 use Rattle.vol_body.specs.Shorter.{first_of_pointer, with_cuts, Gives, Goes}
-use Rattle.vol_body.proofs.Readings.{reads_then}
+use Rattle.vol_log.proofs.Readings.{reads_then}
 use Rattle.vol_body.proofs.Stagings.{stages_then}
 use Rattle.vol_body.proofs.Cuts.{put_there, in_range}
 use Rattle.vol_body.proofs.Shrunk.{Shrinks, shrunk_bytes, shrunk_rules, shrunk_others, shrunk_taken}
@@ -30,7 +30,7 @@ returns-clause-log g c =
 
 pub returns-clause-staged : goal.returns-clause-staged
 returns-clause-staged g c =
-    ap (λ (m : Image). m c.args.place) c.stage.ensures.view ∙ put_there c.args.place c.write_entry.result (view c.stage_cuts.new.log) ∙ c.write_entry.ensures
+    ap (λ (m : Image). m c.args.place) c.stage.ensures.view ∙ put_there c.args.place c.write_entry.result (view c.stage_cuts.new.log) ∙ c.write_entry.ensures.bytes
 
 -- the entry as it is written
 abbrev changed_of : (g : Over) → goal.After-stage g → Entry

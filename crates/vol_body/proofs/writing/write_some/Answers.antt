@@ -7,7 +7,7 @@ use Rattle.vol_inode.specs.declared.entry.Entry.{Entry}
 use Rattle.vol_body.specs.Body.{part, named, part_bytes, NamesTaken}
 use Rattle.vol_body.specs.Change.{used_of}
 use Rattle.vol_body.specs.Writing.{IsReady, MirrorsAll, Changes, IsPartIn, IsPointer}
-use Rattle.vol_body.proofs.Readings.{reads_then}
+use Rattle.vol_log.proofs.Readings.{reads_then}
 use Rattle.vol_body.proofs.Stagings.{stages_then}
 use Rattle.vol_body.proofs.Steps.{put_here, room_left, on_err}
 use Rattle.vol_body.proofs.Finished.{write_leaves, ready_to_write, mirrors_all_by}
@@ -22,7 +22,7 @@ pub returns-in_err-all-clause-log : goal.returns-in_err-all-clause-log
 returns-in_err-all-clause-log g c =
     let edges = reads_then c.args.log.now c.read_edge.new.log c.read_edge-2.new.log c.in_ok-before.ensures.failed c.in_ok-before.ensures.reads c.in_ok-behind.ensures.reads in
     let reads = reads_then c.args.log.now c.read_edge-2.new.log c.load_lists.new.log c.in_ok-behind.ensures.failed edges c.in_err-all.ensures.reads in
-    record { crash = reads.crash; sectors = reads.sectors; honest = reads.honest; size = reads.size; faults = reads.faults }
+    record { seen = reads.seen; crash = reads.crash; sectors = reads.sectors; honest = reads.honest; size = reads.size; faults = reads.faults }
 
 pub returns-in_err-all-clause-refused : goal.returns-in_err-all-clause-refused
 returns-in_err-all-clause-refused g c =
@@ -32,7 +32,7 @@ returns-in_err-all-clause-refused g c =
 
 pub returns-clause-staged : goal.returns-clause-staged
 returns-clause-staged g c =
-    ap (λ (m : Image). m c.args.place) c.stage.ensures.view ∙ put_here c.args.place c.write_entry.result (view c.write_parts.new.log) ∙ c.write_entry.ensures
+    ap (λ (m : Image). m c.args.place) c.stage.ensures.view ∙ put_here c.args.place c.write_entry.result (view c.write_parts.new.log) ∙ c.write_entry.ensures.bytes
 
 pub returns-clause-room : goal.returns-clause-room
 returns-clause-room g c =

@@ -1,5 +1,7 @@
 use Rattle.std.proofs.Common.{◌<◌, ◌^◌, inl, inr, arith}
 use Rattle.vol_inode.specs.Entry.{name_of}
+use Rattle.vol_dirs.specs.Key.{key_of}
+use Rattle.vol_dirs.proofs.Marks.{marks_more}
 use Rattle.vol_dirs.proofs.Orders.{key_ties}
 use Rattle.vol_dirs.proofs.Listings.{listing_more, names_more, key_free}
 use Rattle.vol_dirs.proofs.Room.{room_for_key, room_for_child}
@@ -40,3 +42,11 @@ returns-clause-names c p n s =
       λ h. elim (names.0 h) [ inl kept ↦ inl kept | inr (parent, name, serial) ↦ inr (record { parent_is = parent; name_is = name; serial_is = serial }) ],
       λ either. names.1 (elim either [ inl kept ↦ inl kept | inr that ↦ inr (that.parent_is, that.name_is, that.serial_is) ]),
     )
+
+pub invariant_of-self-clause-marked : goal.invariant_of-self-clause-marked
+invariant_of-self-clause-marked c =
+    let old = c.args.self.now in
+    let e = c.args.entry.now in
+    let more = rw c.key_of-key.ensures at c.insert.ensures.adds in
+    marks_more old.slots old.keys.items old.used.items old.marked c.args.serial c.requires.first c.requires.last (key_of e.parent (name_of e)) c.insert.new.items.items
+    (λ key t has. (old.listing.numbered key t has).0) more

@@ -2,8 +2,8 @@ use Rattle.std.proofs.Common.{◌≡◌, ◌+◌, ◌∙◌, ◌↔◌, ◌⊎�
 use Rattle.vol_sector.specs.Disk.{Image, counted}
 use Rattle.vol_log.specs.Log.{view, device_of, has_failed}
 use Rattle.vol_dirs.specs.Names.{Names, IsSpelled, Shows}
-use Rattle.vol_dirs.specs.Reading.{OnlyReads}
-use Rattle.vol_dirs.proofs.Readings.{reads_same, reads_then}
+use Rattle.vol_log.specs.Reading.{OnlyReads}
+use Rattle.vol_log.proofs.Readings.{reads_same, reads_then}
 use Rattle.vol_dirs.proofs.Shown.{shown_first, shown_next}
 use Rattle.vol_dirs.proofs.dirs.Dirs.open.Goals as goal
 
@@ -28,6 +28,7 @@ loop-slot-preserved g c =
     let one : OnlyReads c.loop-slot.log c.read.new.self = record {
       view = read.view;
       staged = read.staged;
+      seen = read.seen;
       crash = read.crash;
       sectors = read.sectors;
       honest = read.honest;

@@ -1,7 +1,7 @@
 use Rattle.std.proofs.Common.{◌≡◌, ◌≤◌, ℕ, List, false}
 use Rattle.vol_log.specs.Log.{view, device_of, has_failed}
 use Rattle.vol_dirs.specs.Names.{slots_of, Names, Shows}
-use Rattle.vol_dirs.specs.Reading.{OnlyReads}
+use Rattle.vol_log.specs.Reading.{OnlyReads}
 use Rattle.vol_dirs.proofs.dirs.Dirs.open.Given as goal
 
 abbrev pub invariant-loop-slot : goal.invariant-loop-slot

@@ -45,13 +45,13 @@ returns-clause-names g c p n s =
     )
 
 pub returns-clause-view : goal.returns-clause-view
-returns-clause-view g c = c.stage.ensures.view ∙ ap (λ (b : List ℕ). put (121 + c.args.serial) b (view c.args.log.now)) c.write_entry.ensures
+returns-clause-view g c = c.stage.ensures.view ∙ ap (λ (b : List ℕ). put (121 + c.args.serial) b (view c.args.log.now)) c.write_entry.ensures.bytes
 
 pub returns-clause-shows : goal.returns-clause-shows
 returns-clause-shows g c v right shown =
     let old = c.args.self.now in
     let bounds = old.listing.numbered (key_of c.args.from.now.parent (name_of c.args.from.now)) c.args.serial c.requires.held.held in
-    let is : view c.stage.new.self ≡ put (121 + c.args.serial) (spelling c.args.to.now) (view c.args.log.now) = c.stage.ensures.view ∙ ap (λ (b : List ℕ). put (121 + c.args.serial) b (view c.args.log.now)) c.write_entry.ensures in
+    let is : view c.stage.new.self ≡ put (121 + c.args.serial) (spelling c.args.to.now) (view c.args.log.now) = c.stage.ensures.view ∙ ap (λ (b : List ℕ). put (121 + c.args.serial) b (view c.args.log.now)) c.write_entry.ensures.bytes in
     let same : slots_of c.hold.new.self ≡ slots_of old = c.hold.ensures.slots ∙ c.forget.ensures.slots in
     let names : (p : ℕ) (n : List ℕ) (s : ℕ) → Names c.hold.new.self p n s ↔ (Names old p n s × (s ≢ c.args.serial) ⊎ IsNameOf c.args.to.now c.args.serial p n s) = λ p n s. (
       λ h. elim ((c.hold.ensures.names p n s).0 h) [ inl kept ↦ inl ((c.forget.ensures.names p n s).0 kept) | inr that ↦ inr that ],

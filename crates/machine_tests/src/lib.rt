@@ -1,0 +1,5 @@
+//! Tests of the crates that modules are run with, through their public calls alone.
+#![tactic(auto)]
+
+#[cfg(test)]
+mod tests;

@@ -1,0 +1,320 @@
+//! Small guests, by the code of their `_start`, and how they end.
+
+ghost use Rattle.std.specs.Prelude.{Some};
+ghost use Rattle.wasm_store.specs.declared.call.HostCall.TheVariants.{ProcExit};
+
+use super::loaded;
+use std::alloc::{AllocError, Global};
+use std::process::Abort;
+use std::test::Fail;
+use wasm_interp::{Answer, Errno, Host, HostCall, Machine, Memory, Outcome, Pause, Trap};
+use wasm_module::FuncType;
+
+/// Exits at a call of one argument, with that argument. A call of two is remembered, with the units used; it writes a
+/// byte to memory, and answers 8.
+#[derive(Drop)]
+struct Recorder {
+    seen: (u64, u64, u64),
+}
+
+impl Host for Recorder {
+    ghost links = { λ _ _ _ _. Some ProcExit };
+
+    ghost calls = { λ _ _ _ _ _ _ _ _. Unit {0} };
+
+    fn link(&self, _module_name: &str, _name: &str, _func_type: &FuncType) -> Option<HostCall> {
+        Some(HostCall::ProcExit)
+    }
+
+    fn call(
+        &mut self,
+        memory: &mut Memory,
+        used: u64,
+        _call: HostCall,
+        arguments: &[u64],
+    ) -> Answer {
+        match arguments {
+            [status] => Answer::Exit((*status & 0xffff_ffff) as u32),
+            [first, second] => {
+                self.seen = (*first, *second, used);
+                memory.write(0, b"!");
+                Answer::Value(Errno::BADF)
+            }
+            _ => Answer::Exit(0xdead),
+        }
+    }
+}
+
+/// Imports function 0, of type [i32] -> [], and function 1, of type [i32 i64] -> [i32]; has a memory of one page that
+/// may have two, and exports function 2, of type [] -> [].
+const FRONT: &[u8] =
+    b"\0asm\x01\0\0\0\x01\x0E\x03\x60\x01\x7F\x00\x60\x00\x00\x60\x02\x7F\x7E\x01\x7F\x02\x0D\x02\x01w\x01a\x00\x00\x01w\x01b\x00\x02\x03\x02\x01\x01\x05\x04\x01\x01\x01\x02\x07\x0A\x01\x06_start\x00\x02\x0A";
+
+/// The bytes of a module whose function has no locals and this code, under 100 bytes.
+fn guest(alloc: Global, code: &[u8]) -> Result<Vec<u8>, AllocError> {
+    let size = code.len().min(100) as u8 + 1;
+    let mut bytes = Vec::from_slice(alloc, FRONT)?;
+    bytes.extend_from_slice(&[size + 2, 1, size, 0])?;
+    bytes.extend_from_slice(code)?;
+    Ok(bytes)
+}
+
+fn resumed(machine: &mut Machine<'_>, host: &mut Recorder, units: u32) -> Option<Pause> {
+    if machine.used() >= 1_000_000 {
+        return None;
+    }
+    Some(machine.resume(host, u64::from(units)))
+}
+
+/// Resumes for so many units each, until the guest ends or that was done so often.
+fn paused(machine: &mut Machine<'_>, host: &mut Recorder, units: u32, times: u32) -> Option<Pause> {
+    let mut last = None;
+    for _ in 0..times {
+        last = resumed(machine, host, units);
+    }
+    last
+}
+
+/// How a guest of these bytes pauses in the end, the units that it has used, and what its host saw.
+type Ending = (Pause, u64, (u64, u64, u64));
+
+fn run(alloc: Global, bytes: &[u8], units: u32, times: u32) -> Option<Ending> {
+    let valid = loaded(alloc, bytes).ok()?;
+    let mut host = Recorder { seen: (0, 0, 0) };
+    let mut machine = Machine::new(alloc, valid, 4, &host).ok()?;
+    let pause = paused(&mut machine, &mut host, units, times)?;
+    Some((pause, machine.used(), host.seen))
+}
+
+/// Code, how it pauses when it is resumed for 1,000 units at most, and the units that it uses.
+type Row<'a> = (&'a [u8], Pause, u64);
+
+fn assert_rows(rt: &impl Abort, alloc: Global, rows: &[Row<'_>]) -> Result<(), AllocError> {
+    for (i, (code, pause, used)) in rows.iter().enumerate() {
+        let bytes = guest(alloc, code)?;
+        let want = Some((*pause, *used, (0, 0, 0)));
+        assert_eq!(rt; run(alloc, &bytes, 1_000, 1), want, "row {i}");
+    }
+    Ok(())
+}
+
+fn exits(status: u32) -> Pause {
+    Pause::Ended(Outcome::Exited(status))
+}
+
+fn traps(trap: Trap) -> Pause {
+    Pause::Ended(Outcome::Trapped(trap))
+}
+
+#[test]
+fn operators(rt: HostRuntime) -> Result<(), Fail> {
+    assert_rows(
+        &rt,
+        rt.alloc(),
+        &[
+            // 5 - 7, 1 << 33, -7 / 2 and -1 * 2
+            (b"\x41\x05\x41\x07\x6B\x10\x00\x0B", exits(0xffff_fffe), 4),
+            (b"\x41\x01\x41\x21\x74\x10\x00\x0B", exits(2), 4),
+            (b"\x41\x79\x41\x02\x6D\x10\x00\x0B", exits(0xffff_fffd), 4),
+            (
+                b"\x42\x7F\x42\x02\x7E\xA7\x10\x00\x0B",
+                exits(0xffff_fffe),
+                5,
+            ),
+            // -1 < 1 as signed and as unsigned
+            (b"\x41\x7F\x41\x01\x48\x10\x00\x0B", exits(1), 4),
+            (b"\x41\x7F\x41\x01\x49\x10\x00\x0B", exits(0), 4),
+            // clz 1, extend8_s 128, whether 0 is 0
+            (b"\x41\x01\x67\x10\x00\x0B", exits(31), 3),
+            (b"\x41\x80\x01\xC0\x10\x00\x0B", exits(0xffff_ff80), 3),
+            (b"\x42\x00\x50\x10\x00\x0B", exits(1), 3),
+            // the high half of -1 as i64, from signed and from unsigned
+            (
+                b"\x41\x7F\xAC\x42\x20\x88\xA7\x10\x00\x0B",
+                exits(0xffff_ffff),
+                6,
+            ),
+            (b"\x41\x7F\xAD\x42\x20\x88\xA7\x10\x00\x0B", exits(0), 6),
+            // select takes the first where the condition is set
+            (b"\x41\x07\x41\x09\x41\x02\x1B\x10\x00\x0B", exits(7), 5),
+            (b"\x41\x07\x41\x09\x41\x00\x1B\x10\x00\x0B", exits(9), 5),
+        ],
+    )?;
+    Ok(())
+}
+
+#[test]
+fn loads_and_stores(rt: HostRuntime) -> Result<(), Fail> {
+    let outside = traps(Trap::OutOfBoundsMemory);
+    assert_rows(
+        &rt,
+        rt.alloc(),
+        &[
+            // -2 is stored at 65,532, and what stands at 65,535 and at 65,532 is loaded
+            (
+                b"\x41\xFC\xFF\x03\x41\x7E\x36\x02\x00\x41\xFF\xFF\x03\x2D\x00\x00\x10\x00\x0B",
+                exits(0xff),
+                6,
+            ),
+            (
+                b"\x41\xFC\xFF\x03\x41\x7E\x36\x02\x00\x41\xFC\xFF\x03\x2D\x00\x00\x10\x00\x0B",
+                exits(0xfe),
+                6,
+            ),
+            // stored at 65,533, loaded from there, and from 2 ^ 32 - 1 and 4
+            (b"\x41\xFD\xFF\x03\x41\x7E\x36\x02\x00\x0B", outside, 3),
+            (b"\x41\xFD\xFF\x03\x28\x02\x00\x1A\x0B", outside, 2),
+            (b"\x41\x7F\x28\x02\x04\x1A\x0B", outside, 2),
+            // two bytes of -2, as four
+            (
+                b"\x41\x00\x41\x7E\x3B\x01\x00\x41\x00\x28\x02\x00\x10\x00\x0B",
+                exits(0xfffe),
+                6,
+            ),
+            // the high half of four bytes of -2 read as i64, with their sign and without
+            (
+                b"\x41\x00\x41\x7E\x36\x02\x00\x41\x00\x34\x02\x00\x42\x20\x88\xA7\x10\x00\x0B",
+                exits(0xffff_ffff),
+                9,
+            ),
+            (
+                b"\x41\x00\x41\x7E\x36\x02\x00\x41\x00\x35\x02\x00\x42\x20\x88\xA7\x10\x00\x0B",
+                exits(0),
+                9,
+            ),
+            // one byte of -2 with its sign
+            (
+                b"\x41\x00\x42\x7E\x3C\x00\x00\x41\x00\x2C\x00\x00\x10\x00\x0B",
+                exits(0xffff_fffe),
+                6,
+            ),
+        ],
+    )?;
+    Ok(())
+}
+
+#[test]
+fn whole_memory(rt: HostRuntime) -> Result<(), Fail> {
+    let outside = traps(Trap::OutOfBoundsMemory);
+    assert_rows(
+        &rt,
+        rt.alloc(),
+        &[
+            // grown by one page, and by two
+            (b"\x41\x01\x40\x00\x10\x00\x0B", exits(1), 3),
+            (b"\x41\x02\x40\x00\x10\x00\x0B", exits(0xffff_ffff), 3),
+            // 7 is stored in the second page
+            (
+                b"\x41\x01\x40\x00\x1A\x41\x80\x80\x04\x41\x07\x36\x02\x00\x41\x80\x80\x04\x28\x02\x00\x10\x00\x0B",
+                exits(7),
+                9,
+            ),
+            // 511 fills four bytes
+            (
+                b"\x41\x00\x41\xFF\x03\x41\x04\xFC\x0B\x00\x41\x00\x28\x02\x00\x10\x00\x0B",
+                exits(0xffff_ffff),
+                7,
+            ),
+            // the bytes 1, 2 and 3 go one place up
+            (
+                b"\x41\x00\x41\x81\x84\x8C\x20\x36\x02\x00\x41\x01\x41\x00\x41\x03\xFC\x0A\x00\x00\x41\x00\x28\x02\x00\x10\x00\x0B",
+                exits(0x0302_0101),
+                10,
+            ),
+            // past the end
+            (
+                b"\x41\x80\x80\x04\x41\x00\x41\x01\xFC\x0A\x00\x00\x0B",
+                outside,
+                4,
+            ),
+            (
+                b"\x41\x80\x80\x04\x41\x00\x41\x01\xFC\x0B\x00\x0B",
+                outside,
+                4,
+            ),
+        ],
+    )?;
+    Ok(())
+}
+
+#[test]
+fn traps_take_a_unit(rt: HostRuntime) -> Result<(), Fail> {
+    let zero = traps(Trap::DivideByZero);
+    assert_rows(
+        &rt,
+        rt.alloc(),
+        &[
+            (b"\x41\x01\x41\x00\x6D\x1A\x0B", zero, 3),
+            (b"\x41\x01\x41\x00\x70\x1A\x0B", zero, 3),
+            // the least number by -1
+            (
+                b"\x41\x80\x80\x80\x80\x78\x41\x7F\x6D\x1A\x0B",
+                traps(Trap::IntegerOverflow),
+                3,
+            ),
+            (b"\x01\x00\x0B", traps(Trap::Unreachable), 2),
+        ],
+    )?;
+    Ok(())
+}
+
+/// Code, the units of each resume and how often it is resumed, how it pauses in the end and the units used by then.
+type Resumes<'a> = (&'a [u8], u32, u32, Pause, u64);
+
+#[test]
+fn units_one_by_one(rt: HostRuntime) -> Result<(), Fail> {
+    let subtracts = b"\x41\x05\x41\x07\x6B\x01\x10\x00\x0B".as_slice();
+    let stops = b"\x01\x00\x0B".as_slice();
+    let rows: [Resumes<'_>; 6] = [
+        (subtracts, 1, 4, Pause::Spent, 4),
+        (subtracts, 1, 5, exits(0xffff_fffe), 5),
+        (subtracts, 1, 9, exits(0xffff_fffe), 5),
+        (stops, 0, 3, Pause::Spent, 0),
+        (stops, 1, 1, Pause::Spent, 1),
+        (stops, 1, 2, traps(Trap::Unreachable), 2),
+    ];
+    for (code, units, times, pause, used) in rows {
+        let bytes = guest(rt.alloc(), code)?;
+        let want = Some((pause, used, (0, 0, 0)));
+        assert_eq!(rt;
+            run(rt.alloc(), &bytes, units, times),
+            want,
+            "{times} times"
+        );
+    }
+    Ok(())
+}
+
+#[test]
+fn hosts_see_their_arguments(rt: HostRuntime) -> Result<(), Fail> {
+    // i32.const 1, i32.const 2, i64.const 3, call 1, i32.add, i32.const 0, i32.load8_u, i32.add, call 0, end: 1, 8 and
+    // the byte that the host wrote
+    let bytes = guest(
+        rt.alloc(),
+        b"\x41\x01\x41\x02\x42\x03\x10\x01\x6A\x41\x00\x2D\x00\x00\x6A\x10\x00\x0B",
+    )?;
+    let called = Pause::Called(HostCall::ProcExit, Errno::BADF);
+    let seen = (2, 3, 4);
+    for (times, pause, used) in [(1, called, 4), (2, exits(42), 9), (3, exits(42), 9)] {
+        assert_eq!(rt;
+            run(rt.alloc(), &bytes, 1_000, times),
+            Some((pause, used, seen))
+        );
+    }
+    Ok(())
+}
+
+/// Leaves 4,200 numbers on the stack before they are dropped, so that it grows.
+#[test]
+fn the_stack_grows(rt: HostRuntime) -> Result<(), Fail> {
+    let mut bytes = Vec::from_slice(rt.alloc(), FRONT)?;
+    bytes.extend_from_slice(b"\xC1\x62\x01\xBE\x62\x00")?;
+    for _ in 0..4_200 {
+        bytes.extend_from_slice(b"\x41\x01")?;
+    }
+    bytes.extend_from_slice(vec![in rt.alloc(); 0x1Au8; 4_200]?.as_slice())?;
+    bytes.extend_from_slice(b"\x41\x00\x10\x00\x0B")?;
+    let want = Some((exits(0), 8_402, (0, 0, 0)));
+    assert_eq!(rt; run(rt.alloc(), &bytes, 10_000, 1), want);
+    Ok(())
+}

@@ -1,0 +1,6 @@
+pub mod Parts
+pub mod Walks
+pub mod Names
+pub mod Turning
+pub mod Entered
+pub mod Chaining

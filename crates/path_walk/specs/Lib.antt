@@ -1,0 +1,4 @@
+pub mod Paths
+pub mod Walk
+pub mod Laws
+pub mod internal

@@ -1,0 +1,29 @@
+-- What a walk over an open volume gives.
+use Rattle.std.specs.Prelude.{◌≡◌, ◌⊎◌, ℕ, Result, Ok, Err, IsSome}
+use Rattle.vol_inode.specs.Name.{IsName}
+use Rattle.vol_tree.specs.declared.errno.Errno.{Errno}
+use Rattle.vol_tree.specs.declared.errno.Errno.TheVariants as errno
+use Rattle.vol_tree.specs.Tree.{entry}
+use Rattle.vol_tree.specs.Opened.{Opened, IsSerial}
+use Rattle.path_walk.specs.declared.walking.Reached.{Reached as ReachedValue}
+use Rattle.path_walk.specs.declared.walking.Reached.TheVariants as values
+use Rattle.path_walk.specs.Paths.{Reached, Found, Missing}
+
+-- An entry of the volume: its number is in range on any device, and is used where the device keeps its model.
+pub record IsEntryOf {D : Type 0} (honest : D → Type 0) (v : Opened D) (serial : ℕ) : Type 0 where
+  pub number : IsSerial v.numbers serial
+  pub used : honest v.device → IsSome (entry v.tree serial)
+
+abbrev pub reached_as : ReachedValue → Reached
+reached_as (values.Found serial) = Found serial
+reached_as (values.Missing parent name) = Missing parent name.now
+
+-- what was reached is an entry; what is missing is a name, and its directory is an entry
+abbrev pub IsReached : {D : Type 0} → (D → Type 0) → Opened D → ReachedValue → Type 0
+IsReached honest v (values.Found serial) = IsEntryOf honest v serial
+IsReached honest v (values.Missing parent name) = IsEntryOf honest v parent × IsName name.now
+
+-- the definition's answer, or 29
+abbrev pub Gives : Result Reached Errno → Result ReachedValue Errno → Type 0
+Gives meant (Ok r) = meant ≡ Ok (reached_as r)
+Gives meant (Err e) = (meant ≡ Err e) ⊎ (e ≡ errno.Io)

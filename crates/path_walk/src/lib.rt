@@ -1,0 +1,11 @@
+//! Paths of a guest, and what they reach.
+#![tactic(auto)]
+
+mod components;
+mod laws;
+mod path;
+mod walking;
+
+pub use laws::{read_gives_names, steps_by_parents, walks_stay_below};
+pub use path::Path;
+pub use walking::{Reached, walk};

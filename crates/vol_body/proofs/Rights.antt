@@ -1,0 +1,64 @@
+-- A changed file's entry keeps the rules that its own sector shows.
+use Rattle.std.proofs.Common.{◌≡◌, ◌≢◌, inl, inr, ⊎_elim, ℕ, ◌≤◌, ◌<◌, ◌^◌, nat_lt, max, ◌+◌, if◌then◌else◌, length, get_or, refl, sym, ◌∙◌, ap, subst, arith, Result, Ok, Err, OnOk}
+use Rattle.std.proofs.lemmas.Bool.{cases_lt, cases_eq}
+use Rattle.std.proofs.lemmas.Bool.Decides.{nat_tests}
+use Rattle.vol_sector.specs.Disk.{Image}
+use Rattle.vol_sector.specs.declared.device.DeviceFault.{DeviceFault}
+use Rattle.vol_inode.specs.declared.entry.Entry.{Entry}
+use Rattle.vol_inode.specs.declared.entry.Kind.TheVariants.{Directory, File}
+use Rattle.vol_inode.specs.declared.version.Version.{Version}
+use Rattle.vol_inode.specs.declared.version.Version.TheVariants.{One, Two}
+use Rattle.vol_inode.specs.Entry.{IsEntry, HasWidths, first_part}
+use Rattle.vol_inode.specs.Space.{size_limit, sectors_of}
+use Rattle.vol_body.specs.Body.{part, list, lists, named, IsBody}
+use Rattle.vol_body.proofs.Places.{part_direct}
+
+small_limit : (version : Version) → size_limit version ≤ 8483840
+small_limit One = omega arith
+small_limit Two = omega arith
+
+first_direct : (k : ℕ) → k < 59 → first_part k ≡ k
+first_direct k lt = grind (arith, nat_tests)
+
+-- a pointer past the size is zero
+pointer_past : (content : Image) (e : Entry) → IsBody content e → (k : ℕ) → k < 60 → sectors_of e.size ≤ first_part k → get_or e.pointers k 0 ≡ 0
+pointer_past content e body k lt le = elim (cases_lt k 58) [
+  | inl direct ↦ sym (part_direct content e k direct) ∙ body.past (part k) (omega arith) (omega (arith, first_direct k (omega arith)))
+  | inr past ↦ elim (cases_eq k 58) [
+    | inl is ↦ ap (λ (j : ℕ). get_or e.pointers j 0) is ∙ body.past list tt (let one : first_part k ≡ 58 = ap first_part is in omega arith)
+    | inr other ↦ let last : k ≡ 59 = omega arith in
+        ap (λ (j : ℕ). get_or e.pointers j 0) last ∙ body.past lists tt (let one : first_part k ≡ 186 = ap first_part last in omega arith)
+  ]
+]
+
+pub not_both : (e : Entry) → e.kind ≡ File → e.kind ≡ Directory → ⊥
+not_both e file directory = let same : File ≡ Directory = sym file ∙ directory in cc
+
+pub right_file : (version : Version) (content : Image) (e changed : Entry) (size : ℕ) → IsEntry version e → (e.kind ≡ Directory → size ≡ 0) → size ≤ size_limit version
+    → changed ≡ record e { size = size; pointers = changed.pointers } → HasWidths changed → IsBody content changed → IsEntry version changed
+right_file version content e changed size right none small is widths body =
+    let pasts : (k : ℕ) → k < 60 → sectors_of size ≤ first_part k → get_or changed.pointers k 0 ≡ 0 = λ k lt le.
+    pointer_past content changed body k lt (subst (λ (x : Entry). sectors_of x.size ≤ first_part k) (sym is) le) in
+    subst (IsEntry version) (sym is) (record {
+      widths = record {
+        parent = right.widths.parent;
+        size = omega (arith, small, small_limit version);
+        name = right.widths.name;
+        pointers = widths.pointers;
+        each = widths.each;
+      };
+      rules = record {
+        name = record { root_kind = right.rules.name.root_kind; root_name = right.rules.name.root_name; name = right.rules.name.name };
+        padded = right.rules.padded;
+        size = record { directory = none; small = small };
+        pointers = pasts;
+      };
+    })
+
+-- three facts on one success
+pub all_three : (r : Result (Unit {0}) DeviceFault) (P Q R S : Type 0) → (P → Q → R → S) → OnOk r P → OnOk r Q → OnOk r R → OnOk r S
+all_three (Ok x) P Q R S f p q s = f p q s
+all_three (Err x) P Q R S f p q s = tt
+
+pub max_limit : (version : Version) (size end : ℕ) → size ≤ size_limit version → end ≤ size_limit version → max size end ≤ size_limit version
+max_limit version size end one other = omega arith

@@ -1,5 +1,0 @@
-use Rattle.vol_inode.specs.declared.version.Version.TheVariants.{One}
-use Rattle.vol_dirs.proofs.tests.changing.relocate.Goals as goal
-
-pub returns-clause-shows : goal.returns-clause-shows
-returns-clause-shows c = c.relocate.ensures.shows One c.requires.to c.requires.shows

@@ -1,0 +1,44 @@
+-- How what stays of a log goes on from read to read.
+use Rattle.std.proofs.Common.{◌≡◌, inl, inr, ⊎_elim, Bool, false, sym, ◌∙◌, ap, arith}
+use Rattle.vol_sector.specs.Disk.{Disk, Leaves, counted}
+use Rattle.vol_sector.specs.declared.device.Device.{Ghosts}
+use Rattle.vol_log.specs.Log.{view, staged_of, device_of, sectors_of, has_failed}
+use Rattle.vol_log.specs.declared.log.Log.{Log}
+use Rattle.vol_log.specs.Reading.{OnlyReads}
+
+leaves_same : (d : Disk) → Leaves d d (λ c. ⊥)
+leaves_same d = record { later = omega arith; since = λ t c le left. inl left; now = λ c may. inl may }
+
+leaves_then : (a b c : Disk) → Leaves a b (λ c. ⊥) → Leaves b c (λ c. ⊥) → Leaves a c (λ c. ⊥)
+leaves_then a b c first second = record {
+  later = omega (arith, first.later, second.later);
+  since = λ t m le left. ⊎_elim (λ was. first.since t m le was) (λ none. inr none) (second.since t m (omega (arith, le, first.later)) left);
+  now = λ m may. ⊎_elim (λ was. first.now m was) (λ none. inr none) (second.now m may);
+}
+
+module _ {D : Type 0} {g : Ghosts D} where
+  -- before the first read
+  pub reads_same : (log : Log D g) → OnlyReads log log
+  reads_same log = record {
+    view = λ h i. view log;
+    staged = λ i. staged_of log;
+    seen = λ h i. (g.disk (device_of log)).seen;
+    crash = λ h. leaves_same (g.disk (device_of log));
+    sectors = λ i. sectors_of log;
+    honest = (λ h. h, λ h. h);
+    size = λ i. g.size (device_of log);
+    faults = λ working. ap (λ (b : Bool). counted b (g.faults (device_of log))) (sym working);
+  }
+
+  -- one read after another
+  pub reads_then : (a b c : Log D g) → has_failed b ≡ false → OnlyReads a b → OnlyReads b c → OnlyReads a c
+  reads_then a b c still first second = record {
+    view = λ h. second.view (first.honest.0 h) ∙ first.view h;
+    staged = second.staged ∙ first.staged;
+    seen = λ h. second.seen (first.honest.0 h) ∙ first.seen h;
+    crash = λ h. leaves_then (g.disk (device_of a)) (g.disk (device_of b)) (g.disk (device_of c)) (first.crash h) (second.crash (first.honest.0 h));
+    sectors = second.sectors ∙ first.sectors;
+    honest = (λ h. second.honest.0 (first.honest.0 h), λ h. first.honest.1 (second.honest.1 h));
+    size = second.size ∙ first.size;
+    faults = λ working. second.faults still ∙ ap (counted (has_failed c)) (first.faults working ∙ ap (λ (b : Bool). counted b (g.faults (device_of a))) still);
+  }

@@ -1,0 +1,17 @@
+-- What stays of a log that is only read.
+use Rattle.std.specs.Prelude.{◌≡◌, ◌↔◌, false}
+use Rattle.vol_sector.specs.Disk.{Leaves, counted}
+use Rattle.vol_sector.specs.declared.device.Device.{Ghosts}
+use Rattle.vol_log.specs.Log.{view, staged_of, device_of, sectors_of, has_failed}
+use Rattle.vol_log.specs.declared.log.Log.{Log}
+
+-- Its content and what is staged stay, and a crash leaves nothing new. At most one operation fails, and the log then.
+pub record OnlyReads {D : Type 0} {g : Ghosts D} (old new : Log D g) : Type 0 where
+  pub view : g.honest (device_of old) → view new ≡ view old
+  pub staged : staged_of new ≡ staged_of old
+  pub seen : g.honest (device_of old) → (g.disk (device_of new)).seen ≡ (g.disk (device_of old)).seen
+  pub crash : g.honest (device_of old) → Leaves (g.disk (device_of old)) (g.disk (device_of new)) (λ c. ⊥)
+  pub sectors : sectors_of new ≡ sectors_of old
+  pub honest : g.honest (device_of old) ↔ g.honest (device_of new)
+  pub size : g.size (device_of new) ≡ g.size (device_of old)
+  pub faults : has_failed old ≡ false → g.faults (device_of new) ≡ counted (has_failed new) (g.faults (device_of old))

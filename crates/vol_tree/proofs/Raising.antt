@@ -1,0 +1,269 @@
+-- A volume of version 1 is one of version 2, with another first sector.
+use Rattle.std.proofs.Common.{◌≡◌, ◌≢◌, ◌↔◌, ◌⊎◌, inl, inr, ℕ, zero, suc, ◌+◌, ◌-◌, ◌≤◌, ◌<◌, true, false, Bool, List, [], length, get_or, Option, Some, None, Result, Ok, Err, OnOk, is_err, refl, sym, ◌∙◌, ap, subst, arith}
+use Rattle.std.proofs.lemmas.Option.{same_Some}
+use Rattle.vol_sector.specs.Disk.{Image, Disk, Leaves, put, counted}
+use Rattle.vol_sector.specs.declared.device.Device.{Ghosts}
+use Rattle.vol_log.specs.Log.{view, device_of, sectors_of, has_failed, staged_of}
+use Rattle.vol_log.specs.Header.{IsHeader}
+use Rattle.vol_log.specs.Batch.{over, HasContent, Settled}
+use Rattle.vol_log.specs.declared.log.Log.{Log}
+use Rattle.vol_log.specs.declared.staged.Staged.{Staged}
+use Rattle.vol_log.proofs.Commit.{has_own}
+use Rattle.vol_log.proofs.Images.{put_other}
+use Rattle.vol_log.proofs.Moments.{leaves_then, leaves_same}
+use Rattle.vol_inode.specs.declared.entry.Entry.{Entry}
+use Rattle.vol_inode.specs.declared.version.Version.{Version}
+use Rattle.vol_inode.specs.declared.version.Version.TheVariants.{One, Two}
+use Rattle.vol_inode.specs.Entry.{IsEntry, HasWidths}
+use Rattle.vol_inode.specs.Spelling.{spelling}
+use Rattle.vol_dirs.specs.declared.dirs.Dirs.{Dirs}
+use Rattle.vol_dirs.specs.Names.{Names, Shows, IsInSlot}
+use Rattle.vol_alloc.specs.declared.sectors.Alloc.{Alloc}
+use Rattle.vol_tree.specs.declared.parts.Parts.{Parts}
+use Rattle.vol_tree.specs.declared.superblock.Superblock.{Superblock}
+use Rattle.vol_tree.specs.Superblock.{superblock, HasRanges}
+use Rattle.vol_tree.specs.Tree.{Tree}
+use Rattle.vol_tree.specs.Space.{space}
+use Rattle.vol_tree.specs.Stands.{Slots, slot, Stands, StandsAs, IsVolume, KeepApart, Holds}
+use Rattle.vol_tree.specs.Opened.{slot_in, slots_in, tree_in, Reflects, ReflectsOr}
+use Rattle.vol_tree.specs.Parts.{IsContent, AreTaken, IsOpen, opened}
+use Rattle.vol_tree.specs.internal.Upgrades.{Upgrades}
+use Rattle.vol_tree.proofs.Finding.{slot_within}
+use Rattle.vol_tree.specs.Commits.{Commits}
+use Rattle.vol_tree.proofs.Committing.{reflects_then, on_ok}
+use Rattle.vol_sector.specs.declared.fault.VolumeFault.{VolumeFault}
+use Rattle.vol_sector.specs.declared.fault.VolumeFault.TheVariants as faults
+use Rattle.vol_tree.proofs.SlotsRead.{slot_read}
+use Rattle.vol_tree.proofs.SameContents.{same_is_content, same_tree_in, same_shows, same_taken, stands_with}
+
+abbrev pub raised : Superblock → Superblock
+raised v = record v { version = Two }
+
+-- what version 1 allows, version 2 does
+entry_raised : (e : Entry) → IsEntry One e → IsEntry Two e
+entry_raised e is = record {
+  widths = is.widths;
+  rules = record {
+    name = is.rules.name;
+    padded = is.rules.padded;
+    size = record { directory = is.rules.size.directory; small = let small = is.rules.size.small in omega arith };
+    pointers = is.rules.pointers;
+  };
+}
+
+module _ (content : Image) (v : Superblock) (one : v.version ≡ One) (is : IsContent content v) where
+  pub content_raised : IsContent content (raised v)
+  content_raised = record {
+    volume = record {
+      count = is.volume.count;
+      holds = record {
+        bytes = is.volume.holds.bytes;
+        entries = λ s e at. entry_raised e (subst (λ (x : Version). IsEntry x e) one (is.volume.holds.entries s e at));
+      };
+      sectors = record { bodies = is.volume.sectors.bodies; behind = is.volume.sectors.behind; there = is.volume.sectors.there; apart = is.volume.sectors.apart };
+      tree = is.volume.tree;
+      space = is.volume.space;
+    };
+  }
+
+  pub taken_raised : (sectors : Alloc) → AreTaken content v (slots_in content v.slots) sectors → AreTaken content (raised v) (slots_in content v.slots) sectors
+  taken_raised sectors taken = record { named = taken.named; only = taken.only }
+
+  -- an entry that a slot spells is one that version 1 allows
+  entry_lowered : (s : ℕ) (e : Entry) → s < v.slots → IsEntry Two e → content (122 + s) ≡ spelling e → IsEntry v.version e
+  entry_lowered s e lt right spelled =
+      let o = get_or (slots_in content v.slots) s None in
+      let own : slot_in (content (122 + s)) ≡ o = ap slot_in (is.volume.holds.bytes s (omega (arith, is.volume.count))) ∙ slot_read o (λ d at. (is.volume.holds.entries s d at).widths) in
+      let read : slot_in (content (122 + s)) ≡ Some e = ap slot_in spelled ∙ slot_read (Some e) (λ d same. subst HasWidths (same_Some e d same) right.widths) in
+      is.volume.holds.entries s e (sym own ∙ read)
+
+  pub shows_raised : (dirs : Dirs) → Shows v.version content v.slots dirs → Shows Two content v.slots dirs
+  shows_raised dirs shows p n s = (
+    λ names.
+        let at = (shows p n s).0 names in
+        record {
+          first = at.first;
+          last = at.last;
+          spelled = record {
+            entry = at.spelled.entry;
+            right = entry_raised at.spelled.entry (subst (λ (x : Version). IsEntry x at.spelled.entry) one at.spelled.right);
+            spelled = at.spelled.spelled;
+            parent_is = at.spelled.parent_is;
+            name_is = at.spelled.name_is;
+          };
+        },
+    λ at.
+        let here : 122 + (s - 1) ≡ 121 + s = omega (arith, at.first) in
+        (shows p n s).1 (record {
+          first = at.first;
+          last = at.last;
+          spelled = record {
+            entry = at.spelled.entry;
+            right = entry_lowered (s - 1) at.spelled.entry (omega (arith, at.first, at.last)) at.spelled.right (ap content here ∙ at.spelled.spelled);
+            spelled = at.spelled.spelled;
+            parent_is = at.spelled.parent_is;
+            name_is = at.spelled.name_is;
+          };
+        }),
+  )
+
+ranges_raised : (v : Superblock) → HasRanges v → HasRanges (raised v)
+ranges_raised v r = record { least = r.least; most = r.most; some_slots = r.some_slots; few_slots = r.few_slots; room = r.room }
+
+-- ---- the parts
+
+-- what a log promises of the front's write
+pub record LogFronts {D : Type 0} {g : Ghosts D} (old new : Log D g) (image : List ℕ) (io : Bool) : Type 0 where
+  pub written : io ≡ false → g.honest (device_of old) → (g.disk (device_of new)).seen ≡ put 0 image (g.disk (device_of old)).seen
+  pub settled : io ≡ false → g.honest (device_of old) → Settled (sectors_of old) (g.disk (device_of new))
+  pub others : g.honest (device_of old) → (n : ℕ) → 0 < n → (g.disk (device_of new)).seen n ≡ (g.disk (device_of old)).seen n
+  pub crash : g.honest (device_of old) → Leaves (g.disk (device_of old)) (g.disk (device_of new)) (λ c. c ≡ put 0 image (g.disk (device_of old)).seen)
+  pub staged : staged_of new ≡ []
+  pub failed : has_failed new ≡ io
+  pub sectors : sectors_of new ≡ sectors_of old
+  pub honest : g.honest (device_of old) ↔ g.honest (device_of new)
+  pub size : g.size (device_of new) ≡ g.size (device_of old)
+  pub faults : g.faults (device_of new) ≡ counted io (g.faults (device_of old))
+
+module _ {D : Type 0} {g : Ghosts D} (may_stay : (d : D) → g.honest d → (g.disk d).may_leave (g.disk d).seen) (old : Parts D g) (log : Log D g) (is : IsOpen old) (ok : has_failed old.log ≡ false) (empty : staged_of old.log ≡ [])
+    (one : old.numbers.version ≡ One) where
+  abbrev v : Superblock
+  v = old.numbers
+
+  seen_of : (l : Log D g) → staged_of l ≡ [] → view l ≡ (g.disk (device_of l)).seen
+  seen_of l none = ap (λ (b : List Staged). over b (g.disk (device_of l)).seen) none
+
+  module _ (io : Bool) (f : LogFronts old.log log (superblock (raised v)) io) where
+    behind : g.honest (device_of old.log) → (k : ℕ) → 122 ≤ k → view old.log k ≡ view log k
+    behind h k le =
+        ap (λ (m : Image). m k) (seen_of old.log empty) ∙ sym (f.others h k (omega arith)) ∙ sym (ap (λ (m : Image). m k) (seen_of log f.staged))
+
+    tree_same : g.honest (device_of old.log) → tree_in (view log) v ≡ tree_in (view old.log) v
+    tree_same h = same_tree_in (view old.log) (view log) v (behind h) (is.content h)
+
+    content_same : g.honest (device_of old.log) → IsContent (view log) v
+    content_same h = same_is_content (view old.log) (view log) v (behind h) (is.content h)
+
+    -- the image with the new first sector stands for the tree
+    stands_new : g.honest (device_of old.log) → StandsAs (put 0 (superblock (raised v)) (g.disk (device_of old.log)).seen) (raised v) (tree_in (view old.log) v)
+    stands_new h =
+        let disk = g.disk (device_of old.log) in
+        let m : Image = put 0 (superblock (raised v)) disk.seen in
+        let was = is.working h ok in
+        let later : (k : ℕ) → 122 ≤ k → view old.log k ≡ m k = λ k le. ap (λ (x : Image). x k) (seen_of old.log empty) ∙ sym (beyond k disk.seen (omega arith)) in
+        let content = same_is_content (view old.log) m v later (is.content h) in
+        let tree = same_tree_in (view old.log) m v later (is.content h) in
+        subst (λ (T : Tree). StandsAs m (raised v) T) tree
+        (stands_with m m (raised v) (ranges_raised v is.ranges) refl (content_raised m v one content) (has_own v.sectors m m was.settled.empty (λ k at. refl)))
+      where
+        beyond : (k : ℕ) (m : Image) → 0 < k → put 0 (superblock (raised v)) m k ≡ m k
+        beyond k m lt = put_other 0 k (superblock (raised v)) m (λ same. omega arith)
+
+    crash_new : g.honest (device_of old.log) → Leaves (g.disk (device_of old.log)) (g.disk (device_of log)) (ReflectsOr (g.disk (device_of old.log)) (opened old).tree)
+    crash_new h =
+        let disk = g.disk (device_of old.log) in
+        leaves_then disk disk (g.disk (device_of log)) (λ c. ⊥) (λ c. c ≡ put 0 (superblock (raised v)) disk.seen) (ReflectsOr disk (opened old).tree) (leaves_same disk (λ c. ⊥)) (f.crash h)
+        (λ m none. absurd none) (λ m same. inr (raised v, subst (λ (x : Image). StandsAs x (raised v) (opened old).tree) (sym same) (stands_new h)))
+
+    pub not_upgraded : io ≡ true → Upgrades old (record old { log = log }) io
+    not_upgraded bad = record {
+      is_open = record {
+        ranges = is.ranges;
+        sectors = f.sectors ∙ is.sectors;
+        first = is.first;
+        end = is.end;
+        slots = is.slots;
+        content = λ h. content_same (f.honest.1 h);
+        reserved = λ h. let h0 = f.honest.1 h in is.reserved h0 ∙ ap space (sym (tree_same h0));
+        shows = λ h. let h0 = f.honest.1 h in same_shows (view old.log) (view log) v (behind h0) (is.content h0) old.dirs (is.shows h0);
+        working = λ h fine. absurd (let both : true ≡ false = sym bad ∙ sym f.failed ∙ fine in cc);
+      };
+      tree = tree_same;
+      done = λ good. absurd (let both : true ≡ false = sym bad ∙ good in cc);
+      undone = λ b. refl;
+      crash = crash_new;
+      durable = λ good. absurd (let both : true ≡ false = sym bad ∙ good in cc);
+      failed = f.failed;
+      faults = λ fine. f.faults;
+      idle = λ failed. absurd (let both : true ≡ false = sym failed ∙ ok in cc);
+      honest = f.honest;
+      size = f.size;
+    }
+
+    pub is_upgraded : io ≡ false → Upgrades old (record old { log = log; numbers = raised v }) io
+    is_upgraded good = record {
+      is_open = record {
+        ranges = ranges_raised v is.ranges;
+        sectors = f.sectors ∙ is.sectors;
+        first = is.first;
+        end = is.end;
+        slots = is.slots;
+        content = λ h. content_raised (view log) v one (content_same (f.honest.1 h));
+        reserved = λ h. let h0 = f.honest.1 h in is.reserved h0 ∙ ap space (sym (tree_same h0));
+        shows = λ h. let h0 = f.honest.1 h in shows_raised (view log) v one (content_same h0) old.dirs (same_shows (view old.log) (view log) v (behind h0) (is.content h0) old.dirs (is.shows h0));
+        working = λ h fine.
+            let h0 = f.honest.1 h in
+            let was = is.working h0 ok in
+            let new_seen = f.written good h0 in
+            let front_seen : (g.disk (device_of log)).seen 0 ≡ superblock (raised v) = ap (λ (m : Image). m 0) new_seen in
+            record {
+              settled = subst (λ (s : ℕ). Settled s (g.disk (device_of log))) is.sectors (f.settled good h0);
+              front = ap (λ (m : Image). m 0) (seen_of log f.staged) ∙ front_seen;
+              committed_front = front_seen;
+              committed = subst (λ (m : Image). IsContent m (raised v)) (seen_of log f.staged) (content_raised (view log) v one (content_same h0));
+              taken = taken_raised (view log) v one (content_same h0) old.sectors (same_taken (view old.log) (view log) v (behind h0) (is.content h0) old.sectors was.taken);
+            };
+      };
+      tree = tree_same;
+      done = λ b. refl;
+      undone = λ bad. absurd (let both : true ≡ false = sym bad ∙ good in cc);
+      crash = crash_new;
+      durable = λ b h c may.
+          let only = (f.settled good h).durable c may in
+          subst (λ (T : Tree). StandsAs c (raised v) T) (sym (tree_same h)) (subst (λ (x : Image). StandsAs x (raised v) (tree_in (view old.log) v)) (sym (only ∙ f.written good h)) (stands_new h));
+      failed = f.failed;
+      faults = λ fine. f.faults;
+      idle = λ failed. absurd (let both : true ≡ false = sym failed ∙ ok in cc);
+      honest = f.honest;
+      size = f.size;
+    }
+
+-- after a commit
+pub upgrades_after : {D : Type 0} {g : Ghosts D} (a b c : Parts D g) (io : Bool) → Commits a b false → Upgrades b c io → Upgrades a c io
+upgrades_after {D} {g} a b c io first second = record {
+  is_open = second.is_open;
+  tree = λ h. second.tree (first.kept.honest.0 h) ∙ first.tree h;
+  done = λ good. second.done good ∙ ap raised first.kept.numbers;
+  undone = λ bad. second.undone bad ∙ first.kept.numbers;
+  crash = λ h.
+      let da = g.disk (device_of a.log) in
+      let db = g.disk (device_of b.log) in
+      let on = subst (λ (T : Tree). Leaves db (g.disk (device_of c.log)) (ReflectsOr db T)) (first.tree h) (second.crash (first.kept.honest.0 h)) in
+      leaves_then da db (g.disk (device_of c.log)) _ _ _ (first.crash h) on (λ m p. p) (λ m p. reflects_then da db (opened a).tree m (first.crash h).now p);
+  durable = λ good h. second.durable good (first.kept.honest.0 h);
+  failed = second.failed;
+  faults = λ ok. second.faults first.kept.failed ∙ ap (counted io) (first.kept.faults ok);
+  idle = λ failed. absurd (let i = (first.kept.idle failed).1 in cc);
+  honest = (λ h. second.honest.0 (first.kept.honest.0 h), λ h. first.kept.honest.1 (second.honest.1 h));
+  size = second.size ∙ first.kept.size;
+}
+
+version_is : (x : Version) → (x ≡ One) ⊎ (x ≡ Two)
+version_is One = inl refl
+version_is Two = inr refl
+
+-- ---- an upgrade of either version
+
+module _ {D : Type 0} {g : Ghosts D} (old new : Parts D g) (r : Result (Unit {0}) VolumeFault) (newest : old.numbers.version ≡ Two → (new ≡ old) × (r ≡ Err faults.Upgraded))
+    (upgrades : old.numbers.version ≡ One → Upgrades old new (is_err r)) where
+  pub upgrade_crash : g.honest (device_of old.log) → Leaves (g.disk (device_of old.log)) (g.disk (device_of new.log)) (ReflectsOr (g.disk (device_of old.log)) (opened old).tree)
+  upgrade_crash h = elim (version_is old.numbers.version) [
+    | inl one ↦ (upgrades one).crash h
+    | inr two ↦ subst (λ (p : Parts D g). Leaves (g.disk (device_of old.log)) (g.disk (device_of p.log)) (ReflectsOr (g.disk (device_of old.log)) (opened old).tree)) (sym (newest two).0) (leaves_same (g.disk (device_of old.log)) _)
+  ]
+
+  pub upgrade_lasts : g.honest (device_of old.log) → OnOk r ((c : Image) → (g.disk (device_of new.log)).may_leave c → StandsAs c new.numbers (opened new).tree)
+  upgrade_lasts h = elim (version_is old.numbers.version) [
+    | inl one ↦ on_ok r _ (λ good. (upgrades one).durable good h)
+    | inr two ↦ subst (λ (x : Result (Unit {0}) VolumeFault). OnOk x ((c : Image) → (g.disk (device_of new.log)).may_leave c → StandsAs c new.numbers (opened new).tree)) (sym (newest two).1) tt
+  ]

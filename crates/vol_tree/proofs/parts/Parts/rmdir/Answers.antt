@@ -1,0 +1,68 @@
+use Rattle.std.proofs.Common.{◌≡◌, ◌≢◌, ◌∙◌, ◌-◌, ℕ, get_or, Some, None, Ok, true, false, inl, inr, sym, ap, subst, refl, arith}
+use Rattle.vol_log.specs.Log.{view, device_of, has_failed}
+use Rattle.vol_tree.specs.declared.errno.Errno.TheVariants as errno
+use Rattle.vol_tree.specs.Tree.{Tree, IsDirectory, changed, is_empty}
+use Rattle.vol_tree.specs.Calls.{is_file_at, directory_removed, with_unit, is_directory}
+use Rattle.vol_tree.specs.Stands.{Slots, entry_of}
+use Rattle.vol_tree.specs.Opened.{tree_in, slot_of}
+use Rattle.vol_tree.proofs.Committing.{commits_then, no_commit}
+use Rattle.vol_tree.proofs.Changing.{refused, refused_io, done_open}
+use Rattle.vol_tree.proofs.Children.{none_in, some_in, childless_empty, removed_full, removed_is, file_not_top}
+use Rattle.vol_tree.proofs.Filling.{fails_io}
+use Rattle.vol_tree.proofs.Finding.{tree_entry}
+use Rattle.vol_tree.proofs.Taking.{commits_fail}
+use Rattle.vol_tree.proofs.Trees.{Childless, file_childless, is_directory_from}
+use Rattle.vol_tree.proofs.WriteCalls.{file_used, is_file, node_is}
+use Rattle.vol_tree.proofs.Entries.{directory_used}
+use Rattle.vol_tree.proofs.parts.Parts.rmdir.Goals as goal
+
+pub returns-then-is_some : goal.returns-then-is_some
+returns-then-is_some g c =
+    let old = c.args.self.now in
+    let ok : has_failed old.log ≡ false = sym c.in_ok-child.ensures.failed in
+    refused _ old old errno.NotEmpty (no_commit old false c.requires.is_open ok) (λ h.
+    let full = some_in (view old.log) old.numbers old.dirs (c.requires.is_open.content h) (c.requires.is_open.shows h) c.in_ok-child.child c.args.directory c.in_ok-child.ensures.found (sym c.is_some.ensures ∙ c.if-is_some.true) in
+    inl (ap with_unit (removed_full (tree_in (view old.log) old.numbers) c.args.directory c.if-directory-eq-ROOT.false full)))
+
+pub returns-in_err-make_room : goal.returns-in_err-make_room
+returns-in_err-make_room g c =
+    let old = c.args.self.now in
+    let commits = commits_then old c.held_entry.new.self c.make_room.new.self true c.in_ok-entry.ensures.commits c.in_err-make_room.ensures.commits in
+    refused_io _ old c.make_room.new.self c.from_residual-in_err-make_room.result c.from_residual-in_err-make_room.ensures.1 commits
+
+pub take_out-requires-clause-removes : goal.take_out-requires-clause-removes
+take_out-requires-clause-removes g c h1 =
+    let old = c.args.self.now in
+    let mid = c.make_room.new.self in
+    let commits = commits_then old c.held_entry.new.self mid false c.in_ok-entry.ensures.commits c.in_ok-make_room.ensures.commits in
+    let h = commits.kept.honest.1 h1 in
+    let n = c.args.directory in
+    let d = c.in_ok-entry.entry in
+    let T = tree_in (view old.log) old.numbers in
+    let slot : slot_of (view mid.log) mid.numbers n ≡ Some d = ap (λ (s : Slots). get_or s (n - 1) None) (commits.slots h) ∙ c.in_ok-entry.ensures.found h c.if-directory-eq-ROOT.false (directory_used T n (c.requires.used h)) in
+    let bare : Childless T n = none_in (view old.log) old.numbers old.dirs (c.requires.is_open.content h) (c.requires.is_open.shows h) c.in_ok-child.child n c.in_ok-child.ensures.found (sym c.is_some.ensures ∙ c.if-is_some.false) in
+    record {
+      slot = slot;
+      not_top = c.if-directory-eq-ROOT.false;
+      bare = subst (λ (U : Tree). Childless U n) (sym (commits.tree h)) bare;
+    }
+
+pub returns-in_err-take_out : goal.returns-in_err-take_out
+returns-in_err-take_out g c =
+    let old = c.args.self.now in
+    let mid = c.make_room.new.self in
+    let commits = commits_then old c.held_entry.new.self mid false c.in_ok-entry.ensures.commits c.in_ok-make_room.ensures.commits in
+    fails_io _ old c.take_out.new.self c.from_residual-in_err-take_out.result c.from_residual-in_err-take_out.ensures.1 (commits_fail old mid c.take_out.new.self commits (c.in_err-take_out.ensures.fails refl))
+
+pub returns : goal.returns
+returns g c =
+    let old = c.args.self.now in
+    let mid = c.make_room.new.self in
+    let commits = commits_then old c.held_entry.new.self mid false c.in_ok-entry.ensures.commits c.in_ok-make_room.ensures.commits in
+    let gone = c.in_ok-take_out.ensures.gone refl in
+    let n = c.args.directory in
+    done_open _ old mid c.take_out.new.self tt commits gone.is_open gone.stages (λ h.
+    let T = tree_in (view old.log) old.numbers in
+    let bare : Childless T n = none_in (view old.log) old.numbers old.dirs (c.requires.is_open.content h) (c.requires.is_open.shows h) c.in_ok-child.child n c.in_ok-child.ensures.found (sym c.is_some.ensures ∙ c.if-is_some.false) in
+    ap with_unit (removed_is T n c.if-directory-eq-ROOT.false (childless_empty T n bare))
+    ∙ ap (λ (U : Tree). Ok (U, tt)) (ap (λ (V : Tree). changed V n None) (sym (commits.tree h)) ∙ sym (gone.tree (commits.kept.honest.0 h))))

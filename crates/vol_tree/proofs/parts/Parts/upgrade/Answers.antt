@@ -1,0 +1,17 @@
+use Rattle.std.proofs.Common.{◌≡◌, ◌∙◌, ℕ, List, Bool, true, false, refl, sym, ap, subst}
+use Rattle.vol_sector.specs.Disk.{Image, Leaves, put}
+use Rattle.vol_log.specs.Log.{device_of}
+use Rattle.vol_tree.specs.Superblock.{superblock}
+use Rattle.vol_tree.specs.internal.Upgrades.{Upgrades}
+use Rattle.vol_tree.proofs.Raising.{raised, LogFronts, not_upgraded, is_upgraded, upgrades_after}
+use Rattle.vol_tree.proofs.Taking.{err_is}
+use Rattle.vol_tree.proofs.parts.Parts.upgrade.Goals as goal
+
+pub returns-in_err-write_version-clause-upgrades : goal.returns-in_err-write_version-clause-upgrades
+returns-in_err-write_version-clause-upgrades g c one =
+    let io = err_is c.from_residual-in_err-write_version.result c.from_residual-in_err-write_version.ensures.0 in
+    subst (λ (b : Bool). Upgrades c.args.self.now c.write_version.new.self b) (sym io)
+    (upgrades_after c.args.self.now c.commit.new.self c.write_version.new.self true c.in_ok-commit.ensures.commits c.in_err-write_version.ensures)
+
+pub returns-clause-upgrades : goal.returns-clause-upgrades
+returns-clause-upgrades g c one = upgrades_after c.args.self.now c.commit.new.self c.write_version.new.self false c.in_ok-commit.ensures.commits c.in_ok-write_version.ensures

@@ -1,0 +1,132 @@
+//! What the calls on names do to the parts of an open volume.
+
+ghost use Rattle.std.specs.Prelude.{◌≡◌, ◌≢◌, ◌≤◌, ◌+◌, ◌↔◌, ℕ, List, IsSome, IfOk, MatchResult, OnOk, Some, None, true, false, length, is_err};
+ghost use Rattle.vol_sector.specs.Disk.{Leaves};
+ghost use Rattle.vol_inode.specs.Entry.{IsEntry, name_of};
+ghost use Rattle.vol_inode.specs.Name.{IsName};
+ghost use Rattle.vol_inode.specs.declared.entry.Entry.{Entry};
+ghost use Rattle.vol_log.specs.Log.{view, device_of, room_of, has_failed};
+ghost use Rattle.vol_dirs.specs.Names.{Names};
+ghost use Rattle.vol_tree.specs.Tree.{IsDirectory, entry, changed};
+ghost use Rattle.vol_tree.specs.Calls.{unlinked, directory_removed, renamed, next_child, with_unit, is_within, is_file_at};
+ghost use Rattle.vol_tree.specs.Opened.{is_io};
+
+use crate::Errno;
+use crate::parts::Parts;
+use crate::stat::ROOT;
+use vol_body::set_size;
+use vol_inode::{Entry, Kind, is_name, need};
+use vol_sector::{Device, DeviceFault};
+
+impl<D: Device> Parts<D> {
+    ghost use Rattle.vol_tree.specs.Opened.{slot_of};
+    ghost use Rattle.vol_tree.specs.Changes.{Changes, Asks};
+    ghost use Rattle.vol_tree.specs.Parts.{opened, IsOpen};
+    ghost use Rattle.vol_tree.specs.Commits.{Commits};
+    ghost use Rattle.vol_tree.specs.internal.Removals.{Removes, TakesOut};
+
+    /// The least serial over `after` of an entry in a directory.
+    pub fn list_next(&mut self, directory: u32, after: u32) -> Result<Option<u32>, Errno>
+        requires is_open { IsOpen self.old }
+        ensures { Asks (next_child (opened self.old).tree directory after) self.old self.new
+            result }
+    {
+        Ok(self.dirs.next_child(&self.log, directory, after)?)
+    }
+
+    /// Takes a file out of its directory, and its space back.
+    pub fn unlink(&mut self, file: u32) -> Result<(), Errno>
+        requires is_open { IsOpen self.old }
+        requires first { 1 ≤ file }
+        requires last { file ≤ self.old.numbers.slots }
+        requires used { D.honest (device_of self.old.log)
+            → is_file_at (opened self.old).tree file ≡ true }
+        ensures { Changes (with_unit (Ok (unlinked (opened self.old).tree file))) self.old self.new
+            result }
+    {
+        let entry = self.held_entry(file)?;
+        self.make_room()?;
+        self.take_out(file, entry)?;
+        Ok(())
+    }
+
+    /// Takes an empty directory out of the one that it is in.
+    pub fn rmdir(&mut self, directory: u32) -> Result<(), Errno>
+        requires is_open { IsOpen self.old }
+        requires first { 1 ≤ directory }
+        requires last { directory ≤ self.old.numbers.slots }
+        requires used { D.honest (device_of self.old.log)
+            → IsDirectory (opened self.old).tree directory }
+        ensures { Changes (with_unit (directory_removed (opened self.old).tree directory))
+            self.old self.new result }
+    {
+        let child = self.dirs.next_child(&self.log, directory, 0)?;
+        if directory == ROOT {
+            return Err(Errno::Invalid);
+        }
+        if child.is_some() {
+            return Err(Errno::NotEmpty);
+        }
+        let entry = self.held_entry(directory)?;
+        self.make_room()?;
+        self.take_out(directory, entry)?;
+        Ok(())
+    }
+
+    /// The entry of a serial other than the root's, which the names hold too.
+    ///
+    /// Where they don't, which no honest device shows, it is refused as `Invalid`.
+    pub(crate) fn held_entry(&mut self, serial: u32) -> Result<Entry, Errno>
+        requires is_open { IsOpen self.old }
+        requires first { 1 ≤ serial }
+        requires last { serial ≤ self.old.numbers.slots }
+        ensures commits { Commits self.old self.new (is_io result) }
+        ensures quiet { D.honest (device_of self.old.log)
+            → Leaves (D.disk (device_of self.old.log)) (D.disk (device_of self.new.log)) (λ c. ⊥) }
+        ensures view { D.honest (device_of self.old.log)
+            → view self.new.log ≡ view self.old.log }
+        ensures right { IfOk result (λ e. IsEntry self.old.numbers.version e) }
+        ensures held { IfOk result (λ e. Names self.new.dirs e.parent (name_of e) serial) }
+        ensures found { D.honest (device_of self.old.log) → serial ≢ 1
+            → IsSome (entry (opened self.old).tree serial)
+            → MatchResult result
+            (λ e. slot_of (view self.old.log) self.old.numbers serial ≡ Some e)
+            (λ e. e ≡ Errno.Io) }
+    {
+        let entry = self.entry(serial)?;
+        let name = &entry.name[..entry.name_length as usize];
+        if !is_name(name) {
+            return Err(Errno::Invalid);
+        }
+        match self.dirs.lookup(&self.log, entry.parent, name)? {
+            Some(found) if found == serial => Ok(entry),
+            _ => Err(Errno::Invalid),
+        }
+    }
+
+    /// Takes an entry out that nothing stands in, with the sectors that it names.
+    pub(crate) fn take_out(&mut self, serial: u32, mut entry: Entry) -> Result<(), DeviceFault>
+        requires is_open { IsOpen self.old }
+        requires working { has_failed self.old.log ≡ false }
+        requires room { 5 ≤ room_of self.old.log }
+        requires first { 1 ≤ serial }
+        requires last { serial ≤ self.old.numbers.slots }
+        requires right { IsEntry self.old.numbers.version entry }
+        requires held { Names self.old.dirs entry.parent (name_of entry) serial }
+        requires removes { D.honest (device_of self.old.log)
+            → Removes (view self.old.log) self.old.numbers serial entry }
+        ensures { TakesOut serial self.old self.new (is_err result) }
+    {
+        let size = entry.size;
+        set_size(
+            &mut self.log,
+            &mut self.sectors,
+            121 + serial,
+            &mut entry,
+            0, // a directory has no bytes, and gives nothing back
+        )?;
+        self.dirs.remove(&mut self.log, serial, &entry);
+        self.reserved = self.reserved.saturating_sub(need(size));
+        Ok(())
+    }
+}

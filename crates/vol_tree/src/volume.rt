@@ -1,0 +1,298 @@
+//! An open volume.
+
+ghost use Rattle.std.specs.Prelude.{◌≡◌, ◌≤◌, ◌↔◌, ⊤, [], Ok, Err, OnOk, OnErr, IfOk, IfErr, IsSome, IsTrue, is_err, false, true, length};
+ghost use Rattle.std.specs.Option.{MatchOption};
+ghost use Rattle.vol_sector.specs.Disk.{Image, Leaves, counted};
+ghost use Rattle.vol_tree.specs.Tree.{File, Directory, IsTree, IsDirectory, entry, lookup};
+ghost use Rattle.vol_tree.specs.Stat.{TellsStat};
+ghost use Rattle.vol_tree.specs.Stats.{IsStats};
+ghost use Rattle.vol_tree.specs.Calls.{created, written, resized, read_bytes, is_file_at, with_unit};
+ghost use Rattle.vol_tree.specs.Calls.{unlinked, directory_removed, renamed, next_child};
+ghost use Rattle.vol_tree.specs.Stands.{Stands, StandsAs};
+ghost use Rattle.vol_tree.specs.Opened.{Answers, Tells, TellsBytes, Keeps, ReflectsOr, IsSerial, geometry, is_io};
+ghost use Rattle.vol_inode.specs.Name.{IsName};
+ghost use Rattle.vol_inode.specs.declared.version.Version.TheVariants.{One, Two};
+
+use crate::parts::Parts;
+use crate::{Errno, Stat, Stats};
+use std::marker::Model;
+use vol_inode::{Kind, Version};
+use vol_sector::{Device, VolumeFault};
+
+/// A volume of files in directories.
+#[derive(Drop)]
+pub struct Volume<D: Device> {
+    parts: Parts<D>,
+}
+
+impl<D: Device> Model for Volume<D> {
+    ghost use Rattle.vol_tree.specs.Opened.{Opened};
+
+    ghost Value = { Opened D };
+
+    ghost use Rattle.vol_tree.specs.Parts.{opened, IsOpen};
+
+    ghost view = { λ v. opened v.parts };
+
+    ghost invariant = { λ v. IsOpen v.parts };
+}
+
+impl<D: Device> Volume<D> {
+    /// A law: on a device that keeps its model, what an open volume shows is a tree with a place for
+    /// each slot.
+    pub fn is_a_tree(&self)
+        ensures tree { D.honest self.now.device → IsTree self.now.tree }
+        ensures count { length self.now.tree ≡ self.now.numbers.slots }
+    {
+        self.parts.is_a_tree();
+    }
+
+    /// Has a device operation failed since it was opened?
+    pub fn failed(&self) -> bool
+        ensures { result ≡ self.now.failed }
+    {
+        self.parts.log.failed()
+    }
+
+    /// How many entries and sectors there are, and how many of them are used.
+    pub fn stats(&self) -> Stats
+        ensures { D.honest self.now.device → IsStats self.now.tree self.now.numbers result }
+    {
+        self.parts.stats()
+    }
+
+    /// The version of its format.
+    pub fn version(&self) -> Version
+        ensures { result ≡ self.now.numbers.version }
+    {
+        self.parts.numbers.version
+    }
+
+    /// The serial of a name in a directory.
+    pub fn lookup(&mut self, directory: u32, name: &[u8]) -> Result<Option<u32>, Errno>
+        requires name { IsName name.now }
+        ensures answer { D.honest self.old.device
+            → Tells (lookup self.old.tree directory name.now) self.old.tree self.new.tree result }
+        ensures crash { D.honest self.old.device
+            → Leaves (D.disk self.old.device) (D.disk self.new.device) (λ c. ⊥) }
+        ensures kept { Keeps D.honest D.size D.faults self.old self.new (is_io result) }
+        ensures range { IfOk result (λ found. MatchOption found ⊤ (λ s. IsSerial self.old.numbers s)) }
+    {
+        self.parts.lookup(directory, name)
+    }
+
+    /// The least serial over `after` of an entry in a directory.
+    pub fn list_next(&mut self, directory: u32, after: u32) -> Result<Option<u32>, Errno>
+        ensures answer { D.honest self.old.device
+            → Tells (next_child self.old.tree directory after) self.old.tree self.new.tree
+            result }
+        ensures crash { D.honest self.old.device
+            → Leaves (D.disk self.old.device) (D.disk self.new.device) (λ c. ⊥) }
+        ensures kept { Keeps D.honest D.size D.faults self.old self.new (is_io result) }
+    {
+        self.parts.list_next(directory, after)
+    }
+
+    /// What an entry is, and where it stands.
+    pub fn stat(&mut self, serial: u32) -> Result<Stat, Errno>
+        requires first { 1 ≤ serial }
+        requires last { serial ≤ self.old.numbers.slots }
+        requires used { D.honest self.old.device → IsSome (entry self.old.tree serial) }
+        ensures answer { D.honest self.old.device
+            → TellsStat serial self.old.tree self.new.tree result }
+        ensures crash { D.honest self.old.device
+            → Leaves (D.disk self.old.device) (D.disk self.new.device) (λ c. ⊥) }
+        ensures kept { Keeps D.honest D.size D.faults self.old self.new (is_io result) }
+        ensures parent { IfOk result (λ s. IsSerial self.old.numbers s.parent) }
+    {
+        self.parts.stat(serial)
+    }
+
+    /// Makes an empty file.
+    pub fn create_file(&mut self, parent: u32, name: &[u8]) -> Result<u32, Errno>
+        requires serial { 1 ≤ parent }
+        requires name { IsName name.now }
+        requires directory { D.honest self.old.device → IsDirectory self.old.tree parent }
+        ensures answer { D.honest self.old.device
+            → Answers (created self.old.tree parent name.now (File [])) self.old.tree
+            self.new.tree result }
+        ensures crash { D.honest self.old.device
+            → Leaves (D.disk self.old.device) (D.disk self.new.device)
+            (ReflectsOr (D.disk self.old.device) self.old.tree) }
+        ensures kept { Keeps D.honest D.size D.faults self.old self.new (is_io result) }
+    {
+        self.parts.create(parent, name, Kind::File)
+    }
+
+    /// Makes an empty directory.
+    pub fn create_dir(&mut self, parent: u32, name: &[u8]) -> Result<u32, Errno>
+        requires serial { 1 ≤ parent }
+        requires name { IsName name.now }
+        requires directory { D.honest self.old.device → IsDirectory self.old.tree parent }
+        ensures answer { D.honest self.old.device
+            → Answers (created self.old.tree parent name.now Directory) self.old.tree
+            self.new.tree result }
+        ensures crash { D.honest self.old.device
+            → Leaves (D.disk self.old.device) (D.disk self.new.device)
+            (ReflectsOr (D.disk self.old.device) self.old.tree) }
+        ensures kept { Keeps D.honest D.size D.faults self.old self.new (is_io result) }
+    {
+        self.parts.create(parent, name, Kind::Directory)
+    }
+
+    /// Writes at most 16,384 bytes into a file. A gap before them reads as zeros; of no bytes
+    /// nothing changes.
+    pub fn write(&mut self, file: u32, offset: u64, bytes: &[u8]) -> Result<(), Errno>
+        requires first { 1 ≤ file }
+        requires last { file ≤ self.old.numbers.slots }
+        requires piece { length bytes.now ≤ 16384 }
+        requires used { D.honest self.old.device → IsTrue (is_file_at self.old.tree file) }
+        ensures answer { D.honest self.old.device
+            → Answers (with_unit (written (geometry self.old.numbers) self.old.tree file offset
+            bytes.now)) self.old.tree self.new.tree result }
+        ensures crash { D.honest self.old.device
+            → Leaves (D.disk self.old.device) (D.disk self.new.device)
+            (ReflectsOr (D.disk self.old.device) self.old.tree) }
+        ensures kept { Keeps D.honest D.size D.faults self.old self.new (is_io result) }
+    {
+        self.parts.write(file, offset, bytes)
+    }
+
+    /// Sets the size of a file in bytes. Bytes that it gains are zeros.
+    pub fn set_size(&mut self, file: u32, size: u64) -> Result<(), Errno>
+        requires first { 1 ≤ file }
+        requires last { file ≤ self.old.numbers.slots }
+        requires used { D.honest self.old.device → IsTrue (is_file_at self.old.tree file) }
+        ensures answer { D.honest self.old.device
+            → Answers (with_unit (resized (geometry self.old.numbers) self.old.tree file size))
+            self.old.tree self.new.tree result }
+        ensures crash { D.honest self.old.device
+            → Leaves (D.disk self.old.device) (D.disk self.new.device)
+            (ReflectsOr (D.disk self.old.device) self.old.tree) }
+        ensures kept { Keeps D.honest D.size D.faults self.old self.new (is_io result) }
+    {
+        self.parts.set_size(file, size)
+    }
+
+    /// Reads the bytes of a file from an offset on into the buffer, as many as there are and fit,
+    /// and says how many. Where it is refused, a beginning of them may stand in the buffer.
+    pub fn read(&mut self, file: u32, offset: u64, buffer: &mut [u8]) -> Result<usize, Errno>
+        requires first { 1 ≤ file }
+        requires last { file ≤ self.old.numbers.slots }
+        requires used { D.honest self.old.device → IsTrue (is_file_at self.old.tree file) }
+        ensures answer { D.honest self.old.device
+            → TellsBytes (read_bytes self.old.tree file offset (length buffer.old)) buffer.old
+            buffer.new self.old.tree self.new.tree result }
+        ensures crash { D.honest self.old.device
+            → Leaves (D.disk self.old.device) (D.disk self.new.device) (λ c. ⊥) }
+        ensures kept { Keeps D.honest D.size D.faults self.old self.new (is_io result) }
+    {
+        self.parts.read(file, offset, buffer)
+    }
+
+    /// Takes a file out of its directory, and gives its space back.
+    pub fn unlink(&mut self, file: u32) -> Result<(), Errno>
+        requires first { 1 ≤ file }
+        requires last { file ≤ self.old.numbers.slots }
+        requires used { D.honest self.old.device → IsTrue (is_file_at self.old.tree file) }
+        ensures answer { D.honest self.old.device
+            → Answers (with_unit (Ok (unlinked self.old.tree file))) self.old.tree
+            self.new.tree result }
+        ensures crash { D.honest self.old.device
+            → Leaves (D.disk self.old.device) (D.disk self.new.device)
+            (ReflectsOr (D.disk self.old.device) self.old.tree) }
+        ensures kept { Keeps D.honest D.size D.faults self.old self.new (is_io result) }
+    {
+        self.parts.unlink(file)
+    }
+
+    /// Takes an empty directory out of the one that it is in. The root stays.
+    pub fn rmdir(&mut self, directory: u32) -> Result<(), Errno>
+        requires first { 1 ≤ directory }
+        requires last { directory ≤ self.old.numbers.slots }
+        requires used { D.honest self.old.device → IsDirectory self.old.tree directory }
+        ensures answer { D.honest self.old.device
+            → Answers (with_unit (directory_removed self.old.tree directory)) self.old.tree
+            self.new.tree result }
+        ensures crash { D.honest self.old.device
+            → Leaves (D.disk self.old.device) (D.disk self.new.device)
+            (ReflectsOr (D.disk self.old.device) self.old.tree) }
+        ensures kept { Keeps D.honest D.size D.faults self.old self.new (is_io result) }
+    {
+        self.parts.rmdir(directory)
+    }
+
+    /// Gives an entry another place or name. The entry that has it goes: an empty directory where a
+    /// directory comes, a file where a file comes. Neither the root may move, nor an entry into
+    /// itself or below.
+    pub fn rename(&mut self, serial: u32, parent: u32, name: &[u8]) -> Result<(), Errno>
+        requires first { 1 ≤ serial }
+        requires last { serial ≤ self.old.numbers.slots }
+        requires parent_first { 1 ≤ parent }
+        requires parent_last { parent ≤ self.old.numbers.slots }
+        requires name { IsName name.now }
+        requires used { D.honest self.old.device → IsSome (entry self.old.tree serial) }
+        requires directory { D.honest self.old.device → IsDirectory self.old.tree parent }
+        ensures answer { D.honest self.old.device
+            → Answers (with_unit (renamed self.old.tree serial parent name.now)) self.old.tree
+            self.new.tree result }
+        ensures crash { D.honest self.old.device
+            → Leaves (D.disk self.old.device) (D.disk self.new.device)
+            (ReflectsOr (D.disk self.old.device) self.old.tree) }
+        ensures kept { Keeps D.honest D.size D.faults self.old self.new (is_io result) }
+    {
+        self.parts.rename(serial, parent, name)
+    }
+
+    /// Makes all calls so far last.
+    pub fn sync(&mut self) -> Result<(), Errno>
+        ensures answer { D.honest self.old.device
+            → Answers (with_unit (Ok self.old.tree)) self.old.tree self.new.tree result }
+        ensures crash { D.honest self.old.device
+            → Leaves (D.disk self.old.device) (D.disk self.new.device)
+            (ReflectsOr (D.disk self.old.device) self.old.tree) }
+        ensures durable { D.honest self.old.device → OnOk result ((c : Image)
+            → (D.disk self.new.device).may_leave c → Stands c self.new.tree) }
+        ensures kept { Keeps D.honest D.size D.faults self.old self.new (is_io result) }
+    {
+        Ok(self.parts.commit()?)
+    }
+
+    /// Commits, and makes a volume of version 1 one of version 2, in which files may be greater.
+    ///
+    /// It is refused as `Upgraded` where the volume has version 2, before any device operation, and
+    /// else as `Device`; then it has failed.
+    pub fn upgrade(&mut self) -> Result<(), VolumeFault>
+        ensures newest { self.old.numbers.version ≡ Two
+            → (self.new ≡ self.old) × (result ≡ Err VolumeFault.Upgraded) }
+        ensures refused { self.old.numbers.version ≡ One
+            → IfErr result (λ fault. fault ≡ VolumeFault.Device) }
+        ensures numbers { OnOk result (self.new.numbers ≡ record self.old.numbers { version = Two }) }
+        ensures unchanged { OnErr result (self.new.numbers ≡ self.old.numbers) }
+        ensures tree { D.honest self.old.device → self.new.tree ≡ self.old.tree }
+        ensures crash { D.honest self.old.device
+            → Leaves (D.disk self.old.device) (D.disk self.new.device)
+            (ReflectsOr (D.disk self.old.device) self.old.tree) }
+        // At Ok each crash leaves the tree in a volume of version 2.
+        ensures durable { D.honest self.old.device → OnOk result ((c : Image)
+            → (D.disk self.new.device).may_leave c
+            → StandsAs c self.new.numbers self.new.tree) }
+        ensures failed { self.old.numbers.version ≡ One → self.new.failed ≡ is_err result }
+        ensures faults { self.old.numbers.version ≡ One → self.old.failed ≡ false
+            → D.faults self.new.device ≡ counted (is_err result) (D.faults self.old.device) }
+        ensures idle { self.old.numbers.version ≡ One → self.old.failed ≡ true
+            → (self.new.device ≡ self.old.device) × (is_err result ≡ true) }
+        ensures honest { D.honest self.old.device ↔ D.honest self.new.device }
+        ensures size { D.size self.new.device ≡ D.size self.old.device }
+    {
+        self.parts.upgrade()
+    }
+
+    /// The device. What isn't committed is given up.
+    pub fn into_device(self) -> D
+        ensures { result ≡ self.device }
+    {
+        let Volume { parts } = self;
+        parts.log.into_device()
+    }
+}

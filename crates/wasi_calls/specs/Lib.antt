@@ -1,0 +1,9 @@
+pub mod World
+pub mod Checks
+pub mod Supplies
+pub mod Descriptors
+pub mod Files
+pub mod Paths
+pub mod Calls
+pub mod Confined
+pub mod Moments
