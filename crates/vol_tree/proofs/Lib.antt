@@ -29,3 +29,6 @@ pub mod Removing
 pub mod Taking
 pub mod Trees
 pub mod Children
+pub mod Relocating
+pub mod Climbing
+pub mod Targets

@@ -1,5 +1,5 @@
 -- How taking an entry out goes on to a call's answer.
-use Rattle.std.proofs.Common.{◌≡◌, ◌+◌, ◌-◌, ◌≤◌, if◌then◌else◌, ℕ, true, false, Bool, Result, Ok, Err, IsErr, IsErrAnd, is_err, refl, sym, ◌∙◌, ap, subst, arith}
+use Rattle.std.proofs.Common.{◌≡◌, ◌⊎◌, inl, inr, ⊎_elim, ◌+◌, ◌-◌, ◌≤◌, if◌then◌else◌, ℕ, true, false, Bool, Result, Ok, Err, IsErr, IsErrAnd, MatchResult, is_err, refl, sym, ◌∙◌, ap, subst, arith}
 use Rattle.std.proofs.lemmas.Bool.{false≢true}
 use Rattle.vol_sector.specs.Disk.{Image, Leaves, counted}
 use Rattle.vol_sector.specs.declared.device.Device.{Ghosts}
@@ -7,13 +7,16 @@ use Rattle.vol_log.specs.Log.{view, device_of, has_failed}
 use Rattle.vol_log.proofs.Moments.{leaves_then}
 use Rattle.vol_tree.specs.declared.errno.Errno.{Errno}
 use Rattle.vol_tree.specs.declared.errno.Errno.TheVariants as errno
+use Rattle.vol_tree.specs.Opened.{is_io}
 use Rattle.vol_tree.specs.declared.parts.Parts.{Parts}
 use Rattle.vol_tree.specs.Tree.{Tree}
-use Rattle.vol_tree.specs.Opened.{ReflectsOr}
+use Rattle.vol_tree.specs.Opened.{ReflectsOr, Answers}
+use Rattle.vol_tree.specs.Changes.{Changes}
 use Rattle.vol_tree.specs.Parts.{opened}
 use Rattle.vol_tree.specs.Commits.{Commits}
 use Rattle.vol_tree.specs.internal.Removals.{Fails}
 use Rattle.vol_tree.proofs.Committing.{reflects_then}
+use Rattle.vol_tree.proofs.Changing.{refused}
 
 pub err_is : {T E : Type 0} (r : Result T E) → IsErr r → is_err r ≡ true
 err_is (Ok x) h = absurd (false≢true h)
@@ -43,3 +46,66 @@ commits_fail {D} {g} a b c first second = record {
 pub room_left : (b : Bool) (r n : ℕ) → n ≡ (if b then r else r - 1) → r ≤ n + 1
 room_left true r n is = omega arith
 room_left false r n is = omega arith
+
+-- whether a refusal is the device's hangs on its errno alone
+pub same_io : (X Y : Type 0) (e : Errno) → is_io {X = X} (Err e) ≡ is_io {X = Y} (Err e)
+same_io X Y errno.Exist = refl
+same_io X Y errno.TooBig = refl
+same_io X Y errno.BadText = refl
+same_io X Y errno.Invalid = refl
+same_io X Y errno.Io = refl
+same_io X Y errno.IsDirectory = refl
+same_io X Y errno.NameTooLong = refl
+same_io X Y errno.NotFound = refl
+same_io X Y errno.NoSpace = refl
+same_io X Y errno.NotDirectory = refl
+same_io X Y errno.NotEmpty = refl
+same_io X Y errno.NotCapable = refl
+
+pub passed_io : {X : Type 0} (Y : Type 0) (r : Result X Errno) (why : Errno) → IsErrAnd r (λ e. e ≡ why) → is_io {X = Y} (Err why) ≡ is_io r
+passed_io Y (Ok x) why p = absurd p
+passed_io {X} Y (Err e) why p = same_io Y X why ∙ ap (λ (x : Errno). is_io {X = X} (Err x)) (sym p)
+
+pub passed_err : {X : Type 0} (r : Result X Errno) (why : Errno) (P : X → Type 0) → IsErrAnd r (λ e. e ≡ why) → why ≡ errno.Io → MatchResult r P (λ e. e ≡ errno.Io)
+passed_err (Ok x) why P p io = absurd p
+passed_err (Err e) why P p io = p ∙ io
+
+-- a call that passes on why another one was refused
+pub refused_by : {D : Type 0} {g : Ghosts D} {X : Type 0} (Y : Type 0) (meant : Result (Tree × X) Errno) (old new : Parts D g) (r : Result X Errno) (why : Errno) → IsErrAnd r (λ e. e ≡ why) → Commits old new (is_io {X = Y} (Err why))
+    → (g.honest (device_of old.log) → (meant ≡ Err why) ⊎ (why ≡ errno.Io)) → Changes meant old new r
+refused_by Y meant old new (Ok x) why p c because = absurd p
+refused_by {X = X} Y meant old new (Err e) why p c because =
+    refused meant old new e (subst (λ (io : Bool). Commits old new io) (same_io Y X why ∙ ap (λ (x : Errno). is_io {X = X} (Err x)) (sym p)) c)
+    (λ h. ⊎_elim (λ is. inl (is ∙ ap (λ (x : Errno). Err x) (sym p))) (λ io. inr (p ∙ io)) (because h))
+
+-- a call that changes what a commit, or none, left
+pub changes_after : {D : Type 0} {g : Ghosts D} {X : Type 0} (meant other : Result (Tree × X) Errno) (a b c : Parts D g) (r : Result X Errno) → Commits a b false → Changes other b c r
+    → (g.honest (device_of a.log) → other ≡ meant) → Changes meant a c r
+changes_after {D} {g} {X} meant other a b c r first second same = record {
+  is_open = second.is_open;
+  answer = λ h.
+      let told = subst (λ (T : Tree). Answers other T (opened c).tree r) (first.tree h) (second.answer (first.kept.honest.0 h)) in
+      subst (λ (m : Result (Tree × X) Errno). Answers m (opened a).tree (opened c).tree r) (same h) told;
+  crash = λ h.
+      let da = g.disk (device_of a.log) in
+      let db = g.disk (device_of b.log) in
+      let on = subst (λ T. Leaves db (g.disk (device_of c.log)) (ReflectsOr db T)) (first.tree h) (second.crash (first.kept.honest.0 h)) in
+      leaves_then da db (g.disk (device_of c.log)) _ _ _ (first.crash h) on (λ m p. p) (λ m p. reflects_then da db (opened a).tree m (first.crash h).now p);
+  kept = record {
+    numbers = second.kept.numbers ∙ first.kept.numbers;
+    failed = second.kept.failed;
+    faults = λ ok. second.kept.faults first.kept.failed ∙ ap (counted (is_io r)) (first.kept.faults ok);
+    idle = λ failed. absurd (let i = (first.kept.idle failed).1 in cc);
+    honest = (λ h. second.kept.honest.0 (first.kept.honest.0 h), λ h. first.kept.honest.1 (second.kept.honest.1 h));
+    size = second.kept.size ∙ first.kept.size;
+  };
+}
+
+-- a call that leaves the tree as it is
+pub done_nothing : {D : Type 0} {g : Ghosts D} {X : Type 0} (meant : Result (Tree × X) Errno) (a b : Parts D g) (x : X) → Commits a b false → (g.honest (device_of a.log) → meant ≡ Ok ((opened a).tree, x)) → Changes meant a b (Ok x)
+done_nothing meant a b x c why = record {
+  is_open = c.is_open;
+  answer = λ h. why h ∙ ap (λ (U : Tree). Ok (U, x)) (sym (c.tree h));
+  crash = c.crash;
+  kept = c.kept;
+}

@@ -1,2 +1,4 @@
 -- Definitions that only private contracts and proofs cite.
 pub mod Removals
+pub mod Moves
+pub mod Replacing

@@ -6,6 +6,7 @@ mod files;
 mod formatting;
 mod laws;
 mod layout;
+mod moving;
 mod naming;
 mod parts;
 mod stat;

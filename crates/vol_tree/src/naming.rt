@@ -12,7 +12,7 @@ ghost use Rattle.vol_tree.specs.Calls.{unlinked, directory_removed, renamed, nex
 ghost use Rattle.vol_tree.specs.Opened.{is_io};
 
 use crate::Errno;
-use crate::parts::{Parts, padded};
+use crate::parts::Parts;
 use crate::stat::ROOT;
 use vol_body::set_size;
 use vol_inode::{Entry, Kind, is_name, need};
@@ -76,7 +76,7 @@ impl<D: Device> Parts<D> {
     /// The entry of a serial other than the root's, which the names hold too.
     ///
     /// Where they don't, which no honest device shows, it is refused as `Invalid`.
-    fn held_entry(&mut self, serial: u32) -> Result<Entry, Errno>
+    pub(crate) fn held_entry(&mut self, serial: u32) -> Result<Entry, Errno>
         requires is_open { IsOpen self.old }
         requires first { 1 ≤ serial }
         requires last { serial ≤ self.old.numbers.slots }
@@ -105,7 +105,7 @@ impl<D: Device> Parts<D> {
     }
 
     /// Takes an entry out that nothing stands in, with the sectors that it names.
-    fn take_out(&mut self, serial: u32, mut entry: Entry) -> Result<(), DeviceFault>
+    pub(crate) fn take_out(&mut self, serial: u32, mut entry: Entry) -> Result<(), DeviceFault>
         requires is_open { IsOpen self.old }
         requires working { has_failed self.old.log ≡ false }
         requires room { 5 ≤ room_of self.old.log }

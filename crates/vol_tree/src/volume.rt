@@ -6,7 +6,7 @@ ghost use Rattle.vol_sector.specs.Disk.{Image, Leaves};
 ghost use Rattle.vol_tree.specs.Tree.{File, Directory, IsTree, IsDirectory, entry, lookup};
 ghost use Rattle.vol_tree.specs.Stat.{TellsStat};
 ghost use Rattle.vol_tree.specs.Calls.{created, written, resized, read_bytes, is_file_at, with_unit};
-ghost use Rattle.vol_tree.specs.Calls.{unlinked, directory_removed, next_child};
+ghost use Rattle.vol_tree.specs.Calls.{unlinked, directory_removed, renamed, next_child};
 ghost use Rattle.vol_tree.specs.Stands.{Stands};
 ghost use Rattle.vol_tree.specs.Opened.{Answers, Tells, TellsBytes, Keeps, ReflectsOr, IsSerial, geometry, is_io};
 ghost use Rattle.vol_inode.specs.Name.{IsName};
@@ -211,6 +211,28 @@ impl<D: Device> Volume<D> {
         ensures kept { Keeps D.honest D.size D.faults self.old self.new (is_io result) }
     {
         self.parts.rmdir(directory)
+    }
+
+    /// Gives an entry another place or name. The entry that has it goes: an empty directory where a
+    /// directory comes, a file where a file comes. Neither the root may move, nor an entry into
+    /// itself or below.
+    pub fn rename(&mut self, serial: u32, parent: u32, name: &[u8]) -> Result<(), Errno>
+        requires first { 1 ≤ serial }
+        requires last { serial ≤ self.old.numbers.slots }
+        requires parent_first { 1 ≤ parent }
+        requires parent_last { parent ≤ self.old.numbers.slots }
+        requires name { IsName name.now }
+        requires used { D.honest self.old.device → IsSome (entry self.old.tree serial) }
+        requires directory { D.honest self.old.device → IsDirectory self.old.tree parent }
+        ensures answer { D.honest self.old.device
+            → Answers (with_unit (renamed self.old.tree serial parent name.now)) self.old.tree
+            self.new.tree result }
+        ensures crash { D.honest self.old.device
+            → Leaves (D.disk self.old.device) (D.disk self.new.device)
+            (ReflectsOr (D.disk self.old.device) self.old.tree) }
+        ensures kept { Keeps D.honest D.size D.faults self.old self.new (is_io result) }
+    {
+        self.parts.rename(serial, parent, name)
     }
 
     /// Makes all calls so far last.

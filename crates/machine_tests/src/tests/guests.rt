@@ -59,16 +59,15 @@ fn guest(alloc: Global, code: &[u8]) -> Result<Vec<u8>, AllocError> {
     Ok(bytes)
 }
 
-fn resumed(machine: &mut Machine<'_>, host: &mut Recorder, units: u64) -> Option<Pause> {
-    if machine.used() < 1_000_000 && units < 1_000_000 {
-        Some(machine.resume(host, units))
-    } else {
-        None
+fn resumed(machine: &mut Machine<'_>, host: &mut Recorder, units: u32) -> Option<Pause> {
+    if machine.used() >= 1_000_000 {
+        return None;
     }
+    Some(machine.resume(host, u64::from(units)))
 }
 
 /// Resumes for so many units each, until the guest ends or that was done so often.
-fn paused(machine: &mut Machine<'_>, host: &mut Recorder, units: u64, times: u32) -> Option<Pause> {
+fn paused(machine: &mut Machine<'_>, host: &mut Recorder, units: u32, times: u32) -> Option<Pause> {
     let mut last = None;
     for _ in 0..times {
         last = resumed(machine, host, units);
@@ -79,7 +78,7 @@ fn paused(machine: &mut Machine<'_>, host: &mut Recorder, units: u64, times: u32
 /// How a guest of these bytes pauses in the end, the units that it has used, and what its host saw.
 type Ending = (Pause, u64, (u64, u64, u64));
 
-fn run(alloc: Global, bytes: &[u8], units: u64, times: u32) -> Option<Ending> {
+fn run(alloc: Global, bytes: &[u8], units: u32, times: u32) -> Option<Ending> {
     let valid = loaded(alloc, bytes).ok()?;
     let mut host = Recorder { seen: (0, 0, 0) };
     let mut machine = Machine::new(alloc, valid, 4, &host).ok()?;
@@ -260,7 +259,7 @@ fn traps_take_a_unit(rt: HostRuntime) -> Result<(), Fail> {
 }
 
 /// Code, the units of each resume and how often it is resumed, how it pauses in the end and the units used by then.
-type Resumes<'a> = (&'a [u8], u64, u32, Pause, u64);
+type Resumes<'a> = (&'a [u8], u32, u32, Pause, u64);
 
 #[test]
 fn units_one_by_one(rt: HostRuntime) -> Result<(), Fail> {

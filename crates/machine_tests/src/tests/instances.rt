@@ -58,6 +58,11 @@ const GUEST: Sections<'static> = [
     (11, b""),
 ];
 
+fn push_section(bytes: &mut Vec<u8>, id: u8, content: &[u8]) -> Result<(), AllocError> {
+    bytes.extend_from_slice(&[id, content.len().min(127) as u8])?;
+    bytes.extend_from_slice(content)
+}
+
 /// The module's bytes where one section has another content.
 fn spelled(
     alloc: Global,
@@ -69,8 +74,7 @@ fn spelled(
     for (at, usual) in sections {
         let content = if *at == id { other } else { *usual };
         if !content.is_empty() {
-            bytes.extend_from_slice(&[*at, content.len().min(127) as u8])?;
-            bytes.extend_from_slice(content)?;
+            push_section(&mut bytes, *at, content)?;
         }
     }
     Ok(bytes)
@@ -182,16 +186,20 @@ fn assert_made(rt: &impl Abort, alloc: Global, valid: &Valid<'_>) {
     }
 }
 
+fn assert_loaded(rt: &impl Abort, alloc: Global, bytes: &[u8]) {
+    match loaded(alloc, bytes) {
+        Ok(valid) => assert_made(rt, alloc, &valid),
+        Err(fault) => panic!(rt; "{fault}"),
+    }
+}
+
 /// One element and three bytes of data stand there, under a limit of 7 pages.
 #[test]
 fn instances(rt: HostRuntime) -> Result<(), Fail> {
     let mut sections = GUEST;
     sections[8] = (9, b"\x01\x00\x41\x01\x0B\x01\x01");
-    let data = b"\x01\x00\x41\xFD\xFF\x03\x0B\x03abc";
-    let bytes = spelled(rt.alloc(), &sections, 11, data)?;
-    match loaded(rt.alloc(), &bytes) {
-        Ok(valid) => assert_made(&rt, rt.alloc(), &valid),
-        Err(fault) => panic!(rt; "{fault}"),
-    }
+    sections[10] = (11, b"\x01\x00\x41\xFD\xFF\x03\x0B\x03abc");
+    let bytes = spelled(rt.alloc(), &sections, 0, b"")?;
+    assert_loaded(&rt, rt.alloc(), &bytes);
     Ok(())
 }

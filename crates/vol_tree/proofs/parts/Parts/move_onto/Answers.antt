@@ -1,0 +1,250 @@
+use Rattle.std.proofs.Common.{is_some, ◌≡◌, ◌≢◌, ◌∙◌, ◌+◌, ◌-◌, ◌≤◌, ℕ, List, Bool, not, length, get_or, set, Some, None, Option, Ok, Err, true, false, inl, inr, sym, ap, subst, refl, arith}
+use Rattle.std.proofs.lemmas.List.{get_or-set_other}
+use Rattle.vol_log.specs.Log.{view, device_of, has_failed}
+use Rattle.vol_inode.specs.declared.entry.Entry.{Entry}
+use Rattle.vol_inode.specs.Entry.{name_of}
+use Rattle.vol_inode.specs.declared.version.Version.{Version}
+use Rattle.vol_dirs.specs.declared.dirs.Dirs.{Dirs}
+use Rattle.vol_dirs.specs.Names.{Names, slots_of}
+use Rattle.vol_tree.specs.declared.superblock.Superblock.{Superblock}
+use Rattle.vol_tree.specs.declared.errno.Errno.{Errno}
+use Rattle.vol_tree.specs.declared.errno.Errno.TheVariants as errno
+use Rattle.vol_tree.specs.Tree.{Tree, IsDirectory, changed, is_empty, entry, lookup}
+use Rattle.vol_tree.specs.Calls.{moved, moved_onto, renamed, with_unit, directory_at, is_within}
+use Rattle.vol_tree.specs.Stands.{Slots, entry_of}
+use Rattle.vol_tree.specs.Opened.{tree_in, slot_of, slots_in}
+use Rattle.vol_tree.specs.Commits.{Commits}
+use Rattle.vol_tree.specs.internal.Moves.{Moves, MovesIn}
+use Rattle.vol_tree.specs.internal.Replacing.{kind_is_directory, replacing}
+use Rattle.vol_tree.proofs.Committing.{commits_then, no_commit}
+use Rattle.vol_tree.proofs.Changing.{refused, refused_io, done_open, stages_then}
+use Rattle.vol_tree.proofs.Children.{none_in, some_in, childless_empty}
+use Rattle.vol_tree.proofs.Climbing.{kind_at, onto_refused, onto_done, onto_itself, renamed_within, renamed_free, renamed_onto, may_move_in, may_move, target_not_top, moves_after}
+use Rattle.vol_tree.proofs.Filling.{fails_io}
+use Rattle.vol_tree.proofs.Finding.{tree_entry, looks_up}
+use Rattle.vol_tree.proofs.Lookups.{looked_up}
+use Rattle.vol_tree.proofs.Taking.{commits_fail, refused_by, changes_after}
+use Rattle.vol_tree.specs.Opened.{is_io}
+use Rattle.vol_tree.proofs.Trees.{Childless}
+use Rattle.vol_tree.proofs.Targets.{is_full, bare_target, never_io}
+use Rattle.vol_tree.proofs.parts.Parts.move_onto.Goals as goal
+
+pub returns-in_err-gone : goal.returns-in_err-gone
+returns-in_err-gone g c =
+    let old = c.args.self.now in
+    let one = c.held_entry.new.self in
+    let two = c.held_entry-2.new.self in
+    let T = tree_in (view old.log) old.numbers in
+    let first = c.in_ok-entry.ensures.commits in
+    let e = c.in_err-gone.field-0.0 in
+    refused_by Entry _ old two c.from_residual-in_err-gone.result e c.from_residual-in_err-gone.ensures.1 (commits_then old one two _ first c.in_err-gone.ensures.commits) (λ h.
+    let some = c.requires.there h in
+    let is_child = looked_up T c.args.parent c.args.target c.args.name.now some in
+    let target_other = target_not_top T (c.requires.is_open.content h).volume.tree c.args.parent c.args.target c.args.name.now c.requires.name some in
+    let there1 : is_some (entry (tree_in (view one.log) one.numbers) c.args.target) ≡ true = ap (λ (U : Tree). is_some (entry U c.args.target)) (first.tree h) ∙ ap is_some is_child.1 in
+    inr (c.in_err-gone.ensures.found (first.kept.honest.0 h) target_other there1))
+
+pub returns-in_err-may_replace : goal.returns-in_err-may_replace
+returns-in_err-may_replace g c =
+    let old = c.args.self.now in
+    let one = c.held_entry.new.self in
+    let two = c.held_entry-2.new.self in
+    let T = tree_in (view old.log) old.numbers in
+    let first = c.in_ok-entry.ensures.commits in
+    let commits = commits_then old one two false first c.in_ok-gone.ensures.commits in
+    let k = c.in_ok-entry.entry.kind in
+    let t = c.in_ok-gone.gone.kind in
+    let f = is_some c.in_ok-child.child in
+    let e = c.in_err-may_replace.field-0.0 in
+    let why : replacing k t f ≡ Err e = ap (replacing k t) (sym c.is_some.ensures) ∙ sym c.in_err-may_replace.ensures in
+    let io : is_io {X = Unit {0}} (Err e) ≡ false = ap is_io (sym why) ∙ never_io k t f in
+    refused_by (Unit {0}) _ old two c.from_residual-in_err-may_replace.result e c.from_residual-in_err-may_replace.ensures.1 (subst (λ (b : Bool). Commits old two b) (sym io) commits) (λ h.
+    let content = c.requires.is_open.content h in
+    let m = c.requires.moves h in
+    let some = c.requires.there h in
+    let is_child = looked_up T c.args.parent c.args.target c.args.name.now some in
+    let target_used : is_some (entry T c.args.target) ≡ true = ap is_some is_child.1 in
+    let target_other = target_not_top T content.volume.tree c.args.parent c.args.target c.args.name.now c.requires.name some in
+    let slot_one : slot_of (view old.log) old.numbers c.args.serial ≡ Some c.in_ok-entry.entry = c.in_ok-entry.ensures.found h m.not_top m.used in
+    let h1 = first.kept.honest.0 h in
+    let there1 : is_some (entry (tree_in (view one.log) one.numbers) c.args.target) ≡ true = ap (λ (U : Tree). is_some (entry U c.args.target)) (first.tree h) ∙ target_used in
+    let slot_two : slot_of (view old.log) old.numbers c.args.target ≡ Some c.in_ok-gone.gone = sym (ap (λ (s : Slots). get_or s (c.args.target - 1) None) (first.slots h)) ∙ c.in_ok-gone.ensures.found h1 target_other there1 in
+    let kind_one = kind_at (view old.log) old.numbers c.args.serial c.in_ok-entry.entry c.requires.first slot_one in
+    let kind_two = kind_at (view old.log) old.numbers c.args.target c.in_ok-gone.gone c.requires.target_first slot_two in
+    let full = is_full (view old.log) old.numbers old.dirs content (c.requires.is_open.shows h) c.in_ok-child.child c.args.target c.in_ok-child.ensures.found in
+    inl (ap with_unit (onto_refused T c.args.serial c.args.parent c.args.target c.args.name.now k t f c.requires.other kind_one kind_two full e why)))
+
+pub returns-in_err-make_room : goal.returns-in_err-make_room
+returns-in_err-make_room g c =
+    let old = c.args.self.now in
+    let one = c.held_entry.new.self in
+    let two = c.held_entry-2.new.self in
+    let T = tree_in (view old.log) old.numbers in
+    let first = c.in_ok-entry.ensures.commits in
+    let commits = commits_then old one two false first c.in_ok-gone.ensures.commits in
+    refused_io _ old c.make_room.new.self c.from_residual-in_err-make_room.result c.from_residual-in_err-make_room.ensures.1
+    (commits_then old two c.make_room.new.self true commits c.in_err-make_room.ensures.commits)
+
+pub take_out-requires-clause-removes : goal.take_out-requires-clause-removes
+take_out-requires-clause-removes g c h2 =
+    let old = c.args.self.now in
+    let one = c.held_entry.new.self in
+    let two = c.held_entry-2.new.self in
+    let T = tree_in (view old.log) old.numbers in
+    let first = c.in_ok-entry.ensures.commits in
+    let commits = commits_then old one two false first c.in_ok-gone.ensures.commits in
+    let mid = c.make_room.new.self in
+    let all = commits_then old two mid false commits c.in_ok-make_room.ensures.commits in
+    let k = c.in_ok-entry.entry.kind in
+    let t = c.in_ok-gone.gone.kind in
+    let f = is_some c.in_ok-child.child in
+    let okay : replacing k t f ≡ Ok tt = ap (replacing k t) (sym c.is_some.ensures) ∙ sym c.in_ok-may_replace.ensures in
+    let h = all.kept.honest.1 h2 in
+    let content = c.requires.is_open.content h in
+    let m = c.requires.moves h in
+    let some = c.requires.there h in
+    let is_child = looked_up T c.args.parent c.args.target c.args.name.now some in
+    let target_used : is_some (entry T c.args.target) ≡ true = ap is_some is_child.1 in
+    let target_other = target_not_top T content.volume.tree c.args.parent c.args.target c.args.name.now c.requires.name some in
+    let slot_one : slot_of (view old.log) old.numbers c.args.serial ≡ Some c.in_ok-entry.entry = c.in_ok-entry.ensures.found h m.not_top m.used in
+    let h1 = first.kept.honest.0 h in
+    let there1 : is_some (entry (tree_in (view one.log) one.numbers) c.args.target) ≡ true = ap (λ (U : Tree). is_some (entry U c.args.target)) (first.tree h) ∙ target_used in
+    let slot_two : slot_of (view old.log) old.numbers c.args.target ≡ Some c.in_ok-gone.gone = sym (ap (λ (s : Slots). get_or s (c.args.target - 1) None) (first.slots h)) ∙ c.in_ok-gone.ensures.found h1 target_other there1 in
+    let kind_one = kind_at (view old.log) old.numbers c.args.serial c.in_ok-entry.entry c.requires.first slot_one in
+    let kind_two = kind_at (view old.log) old.numbers c.args.target c.in_ok-gone.gone c.requires.target_first slot_two in
+    let full = is_full (view old.log) old.numbers old.dirs content (c.requires.is_open.shows h) c.in_ok-child.child c.args.target c.in_ok-child.ensures.found in
+    let bare : Childless T c.args.target = bare_target (view old.log) old.numbers old.dirs content (c.requires.is_open.shows h) c.in_ok-child.child c.args.target k c.in_ok-gone.gone
+    c.requires.target_first slot_two c.in_ok-child.ensures.found okay in
+    record {
+      slot = ap (λ (s : Slots). get_or s (c.args.target - 1) None) (all.slots h) ∙ slot_two;
+      not_top = target_other;
+      bare = subst (λ (U : Tree). Childless U c.args.target) (sym (all.tree h)) bare;
+    }
+
+pub returns-in_err-take_out : goal.returns-in_err-take_out
+returns-in_err-take_out g c =
+    let old = c.args.self.now in
+    let one = c.held_entry.new.self in
+    let two = c.held_entry-2.new.self in
+    let T = tree_in (view old.log) old.numbers in
+    let first = c.in_ok-entry.ensures.commits in
+    let commits = commits_then old one two false first c.in_ok-gone.ensures.commits in
+    let mid = c.make_room.new.self in
+    let all = commits_then old two mid false commits c.in_ok-make_room.ensures.commits in
+    fails_io _ old c.take_out.new.self c.from_residual-in_err-take_out.result c.from_residual-in_err-take_out.ensures.1 (commits_fail old mid c.take_out.new.self all (c.in_err-take_out.ensures.fails refl))
+
+pub relocate-requires-clause-held : goal.relocate-requires-clause-held
+relocate-requires-clause-held g c =
+    let old = c.args.self.now in
+    let one = c.held_entry.new.self in
+    let two = c.held_entry-2.new.self in
+    let T = tree_in (view old.log) old.numbers in
+    let first = c.in_ok-entry.ensures.commits in
+    let commits = commits_then old one two false first c.in_ok-gone.ensures.commits in
+    let mid = c.make_room.new.self in
+    let all = commits_then old two mid false commits c.in_ok-make_room.ensures.commits in
+    let last = c.take_out.new.self in
+    let gone = c.in_ok-take_out.ensures.gone refl in
+    let e = c.in_ok-entry.entry in
+    let same : mid.dirs ≡ one.dirs = c.in_ok-make_room.ensures.commits.dirs ∙ c.in_ok-gone.ensures.commits.dirs in
+    (gone.names e.parent (name_of e) c.args.serial).1 (subst (λ (d : Dirs). Names d e.parent (name_of e) c.args.serial) (sym same) c.in_ok-entry.ensures.held, λ is. c.requires.other (sym is))
+
+pub relocate-requires-clause-slot : goal.relocate-requires-clause-slot
+relocate-requires-clause-slot g c h3 =
+    let old = c.args.self.now in
+    let one = c.held_entry.new.self in
+    let two = c.held_entry-2.new.self in
+    let T = tree_in (view old.log) old.numbers in
+    let first = c.in_ok-entry.ensures.commits in
+    let commits = commits_then old one two false first c.in_ok-gone.ensures.commits in
+    let mid = c.make_room.new.self in
+    let all = commits_then old two mid false commits c.in_ok-make_room.ensures.commits in
+    let last = c.take_out.new.self in
+    let gone = c.in_ok-take_out.ensures.gone refl in
+    let h2 = gone.stages.honest.1 h3 in
+    let h = all.kept.honest.1 h2 in
+    let content = c.requires.is_open.content h in
+    let m = c.requires.moves h in
+    let some = c.requires.there h in
+    let is_child = looked_up T c.args.parent c.args.target c.args.name.now some in
+    let target_used : is_some (entry T c.args.target) ≡ true = ap is_some is_child.1 in
+    let target_other = target_not_top T content.volume.tree c.args.parent c.args.target c.args.name.now c.requires.name some in
+    let slot_one : slot_of (view old.log) old.numbers c.args.serial ≡ Some c.in_ok-entry.entry = c.in_ok-entry.ensures.found h m.not_top m.used in
+    let apart : c.args.serial - 1 ≢ c.args.target - 1 = λ is. c.requires.other (omega (arith, c.requires.first, c.requires.target_first)) in
+    ap (λ (s : Slots). get_or s (c.args.serial - 1) None) (gone.slots h2)
+    ∙ get_or-set_other (slots_in (view mid.log) mid.numbers.slots) (c.args.target - 1) (c.args.serial - 1) None None apart
+    ∙ ap (λ (s : Slots). get_or s (c.args.serial - 1) None) (all.slots h) ∙ slot_one
+
+pub relocate-requires-clause-moves : goal.relocate-requires-clause-moves
+relocate-requires-clause-moves g c h3 =
+    let old = c.args.self.now in
+    let one = c.held_entry.new.self in
+    let two = c.held_entry-2.new.self in
+    let T = tree_in (view old.log) old.numbers in
+    let first = c.in_ok-entry.ensures.commits in
+    let commits = commits_then old one two false first c.in_ok-gone.ensures.commits in
+    let mid = c.make_room.new.self in
+    let all = commits_then old two mid false commits c.in_ok-make_room.ensures.commits in
+    let last = c.take_out.new.self in
+    let gone = c.in_ok-take_out.ensures.gone refl in
+    let k = c.in_ok-entry.entry.kind in
+    let t = c.in_ok-gone.gone.kind in
+    let f = is_some c.in_ok-child.child in
+    let okay : replacing k t f ≡ Ok tt = ap (replacing k t) (sym c.is_some.ensures) ∙ sym c.in_ok-may_replace.ensures in
+    let h2 = gone.stages.honest.1 h3 in
+    let h = all.kept.honest.1 h2 in
+    let content = c.requires.is_open.content h in
+    let m = c.requires.moves h in
+    let some = c.requires.there h in
+    let is_child = looked_up T c.args.parent c.args.target c.args.name.now some in
+    let target_used : is_some (entry T c.args.target) ≡ true = ap is_some is_child.1 in
+    let target_other = target_not_top T content.volume.tree c.args.parent c.args.target c.args.name.now c.requires.name some in
+    let slot_one : slot_of (view old.log) old.numbers c.args.serial ≡ Some c.in_ok-entry.entry = c.in_ok-entry.ensures.found h m.not_top m.used in
+    let h1 = first.kept.honest.0 h in
+    let there1 : is_some (entry (tree_in (view one.log) one.numbers) c.args.target) ≡ true = ap (λ (U : Tree). is_some (entry U c.args.target)) (first.tree h) ∙ target_used in
+    let slot_two : slot_of (view old.log) old.numbers c.args.target ≡ Some c.in_ok-gone.gone = sym (ap (λ (s : Slots). get_or s (c.args.target - 1) None) (first.slots h)) ∙ c.in_ok-gone.ensures.found h1 target_other there1 in
+    let kind_one = kind_at (view old.log) old.numbers c.args.serial c.in_ok-entry.entry c.requires.first slot_one in
+    let kind_two = kind_at (view old.log) old.numbers c.args.target c.in_ok-gone.gone c.requires.target_first slot_two in
+    let full = is_full (view old.log) old.numbers old.dirs content (c.requires.is_open.shows h) c.in_ok-child.child c.args.target c.in_ok-child.ensures.found in
+    let bare : Childless T c.args.target = bare_target (view old.log) old.numbers old.dirs content (c.requires.is_open.shows h) c.in_ok-child.child c.args.target k c.in_ok-gone.gone
+    c.requires.target_first slot_two c.in_ok-child.ensures.found okay in
+    let tree_is : tree_in (view last.log) last.numbers ≡ changed T c.args.target None = gone.tree h2 ∙ ap (λ (U : Tree). changed U c.args.target None) (all.tree h) in
+    subst (λ (U : Tree). Moves U c.args.serial c.args.parent c.args.name.now) (sym tree_is)
+    (moves_after T content.volume.tree c.args.serial c.args.parent c.args.target c.args.name.now m c.requires.other some bare)
+
+pub returns : goal.returns
+returns g c =
+    let old = c.args.self.now in
+    let one = c.held_entry.new.self in
+    let two = c.held_entry-2.new.self in
+    let T = tree_in (view old.log) old.numbers in
+    let first = c.in_ok-entry.ensures.commits in
+    let commits = commits_then old one two false first c.in_ok-gone.ensures.commits in
+    let mid = c.make_room.new.self in
+    let all = commits_then old two mid false commits c.in_ok-make_room.ensures.commits in
+    let last = c.take_out.new.self in
+    let gone = c.in_ok-take_out.ensures.gone refl in
+    let k = c.in_ok-entry.entry.kind in
+    let t = c.in_ok-gone.gone.kind in
+    let f = is_some c.in_ok-child.child in
+    let okay : replacing k t f ≡ Ok tt = ap (replacing k t) (sym c.is_some.ensures) ∙ sym c.in_ok-may_replace.ensures in
+    let to = c.relocate.ensures in
+    done_open _ old mid c.relocate.new.self tt all to.is_open (stages_then mid last c.relocate.new.self gone.stages to.stages) (λ h.
+    let h2 = all.kept.honest.0 h in
+    let h3 = gone.stages.honest.0 h2 in
+    let content = c.requires.is_open.content h in
+    let m = c.requires.moves h in
+    let some = c.requires.there h in
+    let is_child = looked_up T c.args.parent c.args.target c.args.name.now some in
+    let target_used : is_some (entry T c.args.target) ≡ true = ap is_some is_child.1 in
+    let target_other = target_not_top T content.volume.tree c.args.parent c.args.target c.args.name.now c.requires.name some in
+    let slot_one : slot_of (view old.log) old.numbers c.args.serial ≡ Some c.in_ok-entry.entry = c.in_ok-entry.ensures.found h m.not_top m.used in
+    let h1 = first.kept.honest.0 h in
+    let there1 : is_some (entry (tree_in (view one.log) one.numbers) c.args.target) ≡ true = ap (λ (U : Tree). is_some (entry U c.args.target)) (first.tree h) ∙ target_used in
+    let slot_two : slot_of (view old.log) old.numbers c.args.target ≡ Some c.in_ok-gone.gone = sym (ap (λ (s : Slots). get_or s (c.args.target - 1) None) (first.slots h)) ∙ c.in_ok-gone.ensures.found h1 target_other there1 in
+    let kind_one = kind_at (view old.log) old.numbers c.args.serial c.in_ok-entry.entry c.requires.first slot_one in
+    let kind_two = kind_at (view old.log) old.numbers c.args.target c.in_ok-gone.gone c.requires.target_first slot_two in
+    let full = is_full (view old.log) old.numbers old.dirs content (c.requires.is_open.shows h) c.in_ok-child.child c.args.target c.in_ok-child.ensures.found in
+    let tree_is : tree_in (view last.log) last.numbers ≡ changed T c.args.target None = gone.tree h2 ∙ ap (λ (U : Tree). changed U c.args.target None) (all.tree h) in
+    ap with_unit (onto_done T c.args.serial c.args.parent c.args.target c.args.name.now k t f c.requires.other kind_one kind_two full okay)
+    ∙ ap (λ (U : Tree). Ok (U, tt)) (ap (λ (U : Tree). moved U c.args.serial c.args.parent c.args.name.now) (sym tree_is) ∙ sym (to.tree h3)))
