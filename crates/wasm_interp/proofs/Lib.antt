@@ -3,3 +3,4 @@ pub mod Typings
 pub mod Values
 pub mod Linking
 pub mod Flat
+pub mod Checks

@@ -1,8 +1,9 @@
 //! Whole runs of guests that a compiler made.
 
 use super::kernels::KERNELS;
+use super::sessions::settings;
 use super::writer::Bounded;
-use sandbox_core::{Outcome, Session, Settings, load, run};
+use sandbox_core::{Outcome, Session, load, run};
 use std::alloc::Global;
 
 /// How the guest ends by so much fuel, the units that it used, and whether it printed exactly this.
@@ -15,15 +16,15 @@ pub fn ended(
     let valid = load(alloc, module).ok()?;
     let out = Bounded::new(alloc, 100, 100, None);
     let err = Bounded::new(alloc, 1, 1, None);
-    let settings = Settings {
-        args: &[],
-        env: &[],
-        preopens: &[],
-        moment: 0,
-        random: &[],
-        pages: 64,
-    };
-    let session = Session::new(alloc, valid, settings, b"".as_slice(), out, err).ok()?;
+    let session = Session::new(
+        alloc,
+        valid,
+        settings(&[], &[], &[], 64),
+        b"".as_slice(),
+        out,
+        err,
+    )
+    .ok()?;
     if session.used() > 0 {
         return None;
     }

@@ -11,7 +11,7 @@ use std::process::Abort;
 use std::test::Fail;
 use wasm_tests::HELLO;
 
-fn settings<'a, 't>(
+pub fn settings<'a, 't>(
     args: &'a [&'t [u8]],
     env: &'a [&'t [u8]],
     preopens: &'a [Preopen<'t>],
