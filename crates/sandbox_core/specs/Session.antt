@@ -4,7 +4,8 @@ use Rattle.wasm_module.specs.declared.module.Module.{Module}
 use Rattle.wasm_store.specs.declared.fault.InstanceFault.TheVariants.{Memory as NoMemory}
 use Rattle.wasm_interp.specs.declared.pause.Pause.{Pause}
 use Rattle.wasm_interp.specs.Machine.{Snapshot}
-use Rattle.wasm_interp.specs.Promise.{Starts, Refuses, Resumed}
+use Rattle.wasm_store.specs.Instantiation.{RefusedFor}
+use Rattle.wasm_interp.specs.Promise.{Starts, Resumed}
 use Rattle.sandbox_core.specs.declared.fault.SessionFault.{SessionFault}
 use Rattle.sandbox_core.specs.declared.fault.SessionFault.TheVariants.{Setting, Instance, Memory}
 use Rattle.sandbox_core.specs.declared.settings.Settings.{Settings}
@@ -55,7 +56,7 @@ module _ {R W1 W2 : Type 0} where
 -- The reason of a refusal: the settings exactly where they don't fit, and else one of the machine.
 abbrev pub IsRefused : SessionFault → Module → Settings → Type 0
 IsRefused Setting m settings = settings_fit settings ≡ false
-IsRefused (Instance f) m settings = (settings_fit settings ≡ true) × (f ≢ NoMemory) × Refuses link settings.pages m f
+IsRefused (Instance f) m settings = (settings_fit settings ≡ true) × (f ≢ NoMemory) × RefusedFor link settings.pages m f
 IsRefused Memory m settings = settings_fit settings ≡ true
 
 -- a resume is one of the machine, with the streams as its host

@@ -1,11 +1,8 @@
-pub mod Part
 pub mod Operators
 pub mod Configuration
 pub mod Steps
-pub mod Outcomes
 pub mod Stands
+pub mod Outcomes
+pub mod internal
 pub mod Machine
 pub mod Promise
-pub mod Performing
-pub mod Begun
-pub mod internal

@@ -1,5 +1,10 @@
 -- Definitions that only private contracts and proofs cite.
 pub mod Laying
 pub mod Standing
+pub mod Programs
 pub mod Driving
+pub mod Performing
 pub mod FlatSteps
+pub mod Running
+pub mod Signatures
+pub mod Begun

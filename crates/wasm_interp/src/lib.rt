@@ -2,17 +2,23 @@
 #![tactic(auto)]
 
 mod accesses;
+mod activation;
 mod begin;
+mod halt;
 mod machine;
 mod operands;
 mod operators;
-mod part;
 mod pause;
-mod place;
+mod pending;
+mod phase;
+mod running;
 mod state;
+mod tables;
+mod work;
 
+pub use activation::Activation;
 pub use machine::{Machine, RefusedInstance};
 pub use pause::{Outcome, Pause};
-pub use place::Place;
+pub use phase::Phase;
 pub use wasm_num::Trap;
 pub use wasm_store::{Answer, Errno, Host, HostCall, InstanceFault, Memory};

@@ -1,14 +1,16 @@
 //! The machine.
 
 ghost use Rattle.std.specs.Prelude.{◌≡◌, ◌+◌, ◌^◌, ◌<◌, IfOk, IfErr, ◌*◌};
-ghost use Rattle.wasm_interp.specs.Promise.{Starts, Refuses, Resumed};
+ghost use Rattle.wasm_store.specs.Instantiation.{RefusedFor};
+ghost use Rattle.wasm_interp.specs.Promise.{Starts, Resumed};
 
 use crate::begin::begin;
 use crate::pause::Pause;
 use crate::state::State;
+use crate::tables::Prepared;
 use std::alloc::Global;
 use std::marker::Model;
-use wasm_store::{Host, HostCall, InstanceFault};
+use wasm_store::{Host, InstanceFault};
 use wasm_valid::Valid;
 
 /// A refused module, handed back with the reason.
@@ -21,26 +23,24 @@ pub struct RefusedInstance<'a> {
 /// A machine that runs a valid module.
 #[derive(Drop)]
 pub struct Machine<'a> {
-    valid: Valid<'a>,
-    calls: Vec<HostCall>,
-    page_limit: u32,
+    prepared: Prepared<'a>,
     state: State,
 }
 
 impl<'a> Model for Machine<'a> {
     ghost use Rattle.wasm_interp.specs.Machine.{Snapshot};
-    ghost use Rattle.wasm_interp.specs.Performing.{snapshot_of, IsLive};
+    ghost use Rattle.wasm_interp.specs.internal.Running.{snapshot_of, IsMachine};
 
     ghost Value = { Snapshot };
 
-    ghost view = { λ m. snapshot_of m.valid m.calls.items m.page_limit m.state.place m.state };
+    ghost view = { λ m. snapshot_of m.prepared m.state };
 
-    ghost invariant = { λ m. IsLive m.valid m.calls.items m.page_limit m.state.place m.state };
+    ghost invariant = { λ m. IsMachine m.prepared m.state };
 }
 
 impl<'a> Machine<'a> {
     /// Instantiates the module (section 4.5.4) over the calls that the host links, with at most so many pages of memory.
-    /// A refusal hands the module back. Last of all a module is refused with fault 12 that isn't run so far.
+    /// Room for 4,096 values and 256 functions at work is reserved. A refusal hands the module back.
     pub fn new<H: Host>(
         alloc: Global,
         valid: Valid<'a>,
@@ -48,13 +48,14 @@ impl<'a> Machine<'a> {
         host: &H,
     ) -> Result<Machine<'a>, RefusedInstance<'a>>
         ensures starts { IfOk result (λ m. Starts (H.links host.now) pages valid.entry m) }
-        ensures refused { IfErr result (λ r. (r.valid ≡ valid.entry) × Refuses (H.links host.now) pages valid.entry r.fault) }
+        ensures refused { IfErr result (λ r. (r.valid ≡ valid.entry) × RefusedFor (H.links host.now) pages valid.entry r.fault) }
     {
         match begin(alloc, &valid, pages, host) {
             Ok(begun) => Ok(Machine {
-                valid,
-                calls: begun.calls,
-                page_limit: begun.page_limit,
+                prepared: Prepared {
+                    valid,
+                    tables: begun.tables,
+                },
                 state: begun.state,
             }),
             Err(fault) => Err(RefusedInstance { valid, fault }),
@@ -67,13 +68,7 @@ impl<'a> Machine<'a> {
         requires { self.old.used + units < 2 ^ 64 }
         ensures { Resumed H H.calls host.old host.new self.old self.new units result }
     {
-        self.state.resume(
-            self.valid.module(),
-            self.calls.as_slice(),
-            host,
-            self.page_limit,
-            units,
-        )
+        self.state.resume(&self.prepared, host, units)
     }
 
     /// The units used so far.
@@ -87,6 +82,6 @@ impl<'a> Machine<'a> {
     pub fn into_valid(self) -> Valid<'a>
         ensures { result ≡ self.entry.valid }
     {
-        self.valid
+        self.prepared.valid
     }
 }

@@ -1,11 +1,13 @@
 //! The values on top.
 
-ghost use Rattle.std.specs.Prelude.{◌≡◌, ℕ, ◌∷◌, ◌<◌, ◌≤◌, ◌^◌, ◌%◌, drop, length, reverse, slice_index, vec_capacity, vec_len, nat_eq, OnOk, IfErr, Ok, Err};
+ghost use Rattle.std.specs.Prelude.{◌≡◌, ℕ, ◌∷◌, ◌++◌, ◌-◌, take, replicate, ◌+◌, ◌<◌, ◌≤◌, ◌^◌, ◌%◌, drop, length, reverse, slice_index, vec_capacity, vec_len, nat_eq, OnOk, IfErr, Ok, Err};
 ghost use Rattle.wasm_num.specs.Numbers.{signed, wrapped, bool_number};
 ghost use Rattle.wasm_valid.specs.Typing.{IsOperator};
 ghost use Rattle.wasm_interp.specs.Operators.{width, compare_test, unary_number, binary_number};
-ghost use Rattle.wasm_interp.specs.Performing.{Gives, HasOne, HasTwo, chosen};
+ghost use Rattle.wasm_interp.specs.internal.Standing.{unwound};
+ghost use Rattle.wasm_interp.specs.internal.Performing.{Gives, HasOne, HasTwo, chosen};
 
+use crate::halt::Halt;
 use crate::operators::{binary, compare, unary};
 use wasm_module::{BinaryOperator, Comparison, UnaryOperator, ValueType};
 use wasm_num::{Trap, i32_wrap_i64, i64_extend_i32_s};
@@ -36,6 +38,70 @@ pub fn replace(values: &mut Vec<u64>, taken: usize, value: u64)
 {
     values.truncate(values.len() - taken);
     values.push_reserved(value);
+}
+
+/// Puts a value on top, or changes nothing where memory is refused. There is always room for one more value.
+pub fn push(values: &mut Vec<u64>, value: u64) -> Result<(), Halt>
+    requires { vec_len values.old < vec_capacity values.old }
+    ensures pushed { OnOk result (reverse values.new.items ≡ value ∷ reverse values.old.items) }
+    ensures full { IfErr result (λ h. (h ≡ Halt.Full) × (values.new.items ≡ values.old.items) × (vec_capacity values.new ≤ vec_len values.new + 1)) }
+    ensures spare { vec_len values.new < vec_capacity values.new }
+    ensures room { vec_capacity values.old ≤ vec_capacity values.new }
+{
+    if values.reserve(2).is_err() {
+        return Err(Halt::Full);
+    }
+    values.push_reserved(value);
+    Ok(())
+}
+
+/// Takes the value on top.
+pub fn pop(values: &mut Vec<u64>) -> u64
+    requires { 0 < vec_len values.old }
+    ensures popped { reverse values.old.items ≡ result ∷ reverse values.new.items }
+    ensures len { vec_len values.new + 1 ≡ vec_len values.old }
+    ensures room { vec_capacity values.new ≡ vec_capacity values.old }
+{
+    values.take_last()
+}
+
+/// Moves the topmost values, of which `kept` are kept, down onto the lowest, of which there are `height`.
+fn move_down(values: &mut Vec<u64>, kept: usize, height: usize)
+    requires { kept + height ≤ vec_len values.old }
+    ensures moved { take (height + kept) values.new.items ≡ take height values.old.items ++ drop (length values.old.items - kept) values.old.items }
+    ensures len { vec_len values.new ≡ vec_len values.old }
+    ensures room { vec_capacity values.new ≡ vec_capacity values.old }
+{
+    let len = values.len();
+    match kept {
+        0 => {}
+        1 => values[height] = values[len - 1],
+        _ => values.copy_within(len - kept.., height),
+    }
+}
+
+/// Leaves the lowest values, of which there are `height`, and on them the topmost, of which `kept` are kept.
+pub fn unwind(values: &mut Vec<u64>, kept: usize, height: usize)
+    requires { kept + height ≤ vec_len values.old }
+    ensures unwound { reverse values.new.items ≡ unwound kept height (reverse values.old.items) }
+    ensures len { vec_len values.new ≡ kept + height }
+    ensures room { vec_capacity values.new ≡ vec_capacity values.old }
+{
+    move_down(values, kept, height);
+    values.truncate(height + kept);
+}
+
+/// Puts zeros on top, for which there is room.
+pub fn push_zeros(values: &mut Vec<u64>, count: usize)
+    requires { vec_len values.old + count ≤ vec_capacity values.old }
+    ensures pushed { values.new.items ≡ values.old.items ++ replicate count 0 }
+    ensures len { vec_len values.new ≡ vec_len values.old + count }
+    ensures room { vec_capacity values.old ≤ vec_capacity values.new }
+{
+    let len = values.len();
+    let Ok(()) = values.resize(len + count, 0) else {
+        unreachable!()
+    };
 }
 
 /// 1 where a test holds.

@@ -1,5 +1,5 @@
 -- The values of constant expressions.
-use Rattle.std.proofs.Common.{◌≡◌, ℕ, zero, suc, ◌+◌, ◌≤◌, List, [], ◌∷◌, ◌++◌, length, drop, Option, Some, None, refl, sym, ap, ◌∙◌, subst, inl, inr, append_assoc, append-nil, get_or}
+use Rattle.std.proofs.Common.{◌≡◌, ℕ, zero, suc, ◌+◌, ◌^◌, ◌<◌, ◌≤◌, List, [], ◌∷◌, ◌++◌, length, drop, Option, Some, None, refl, sym, ap, ◌∙◌, subst, inl, inr, append_assoc, append-nil, get_or}
 use Rattle.std.specs.Prelude.{slice_get, ◌⊎◌}
 use Rattle.std.specs.List.{AllByRecursion, filter_map, cons_option}
 use Rattle.wasm_module.specs.declared.instruction.ValueType.{ValueType}
@@ -11,7 +11,7 @@ use Rattle.wasm_module.specs.declared.module.GlobalEntry.{GlobalEntry}
 use Rattle.wasm_module.specs.declared.module.Import.{Import}
 use Rattle.wasm_module.specs.declared.module.Module.{Module}
 use Rattle.wasm_valid.specs.Validity.{IsValid, imported_global, kinds_of, IsConstant}
-use Rattle.wasm_store.specs.Values.{Val, val, number_of, numbers}
+use Rattle.wasm_store.specs.Values.{Val, val, number_of, numbers, IsInType}
 use Rattle.wasm_store.specs.Instantiation.{constant_value, segment_start, AreFirst}
 use Rattle.wasm_store.specs.Instantiating.{IsFunction, ImportsFunctions, HaveFirst}
 use Rattle.wasm_store.proofs.Functions.{left_from, nothing_left, each_at, kind_of_function}
@@ -61,11 +61,25 @@ literal t code gs e (inl c) = (val I32 c.0, ap (constant_value []) c.2)
 literal t code gs e (inr (inl c)) = (val I64 c.0, ap (constant_value []) c.2)
 literal t code gs e (inr (inr c)) = let f : slice_get [] c.0 ≡ Some _ = ap (λ y. slice_get y c.0) (sym e) ∙ c.1 in cc
 
+-- it is one of its type, if its number is the one that the code has
+literal_range : (t : ValueType) (code : List Instruction) (gs : List GlobalType) (e : gs ≡ []) (c : IsConstant gs t code) (n : ℕ) → n ≡ number_of (literal t code gs e c).0 → n < 2 ^ 64 → ((k : ℕ) (rest : List Instruction) → code ≡ op.I32Const k ∷ rest → n < 2 ^ 32) → IsInType (literal t code gs e c).0
+unfolding literal
+literal_range t code gs e (inl c) n same wide small = subst (λ y. y < 2 ^ 32) same (small c.0 (op.End ∷ []) c.2)
+literal_range t code gs e (inr (inl c)) n same wide small = subst (λ y. y < 2 ^ 64) same wide
+literal_range t code gs e (inr (inr c)) n same wide small = let f : slice_get [] c.0 ≡ Some _ = ap (λ y. slice_get y c.0) (sym e) ∙ c.1 in cc
+
 -- each global's first value
 pub first_literal : (m : Module) (k : ℕ) (g : GlobalEntry) → IsValid m → ImportsFunctions m → slice_get m.globals k ≡ Some g → (v : Val) × (constant_value [] g.init ≡ Some v)
 first_literal m k g v a e =
     literal g.global_type.value_type g.init (filter_map imported_global (kinds_of m.imports)) (no_globals m.imports a)
     (each_at (λ (y : GlobalEntry). IsConstant (filter_map imported_global (kinds_of m.imports)) y.global_type.value_type y.init) m.globals k g v.globals e)
+
+-- which is one of its type
+literal_fits : (m : Module) (k : ℕ) (g : GlobalEntry) (v : IsValid m) (a : ImportsFunctions m) (e : slice_get m.globals k ≡ Some g) (n : ℕ) → n ≡ number_of (first_literal m k g v a e).0 → n < 2 ^ 64 → ((j : ℕ) (rest : List Instruction) → g.init ≡ op.I32Const j ∷ rest → n < 2 ^ 32) → IsInType (first_literal m k g v a e).0
+unfolding first_literal
+literal_fits m k g v a e n same wide small =
+    literal_range g.global_type.value_type g.init (filter_map imported_global (kinds_of m.imports)) (no_globals m.imports a)
+    (each_at (λ (y : GlobalEntry). IsConstant (filter_map imported_global (kinds_of m.imports)) y.global_type.value_type y.init) m.globals k g v.globals e) n same wide small
 
 -- its number, where there are no globals
 pub literal_number : (code : List Instruction) (v : Val) → constant_value [] code ≡ Some v → segment_start [] code ≡ number_of v
@@ -74,25 +88,25 @@ literal_number code v e = ap (λ (o : Option Val). elim o as (λ _. ℕ) [ None 
 module _ (m : Module) where
   -- if the globals that are left have first values, all have
   pub record FirstTo (k : ℕ) (globals : List ℕ) : Type 0 where
-    pub goes_on : (more : List Val) → AreFirst (drop k m.globals) more → HaveFirst m (globals ++ numbers more)
+    pub goes_on : (more : List Val) → AreFirst (drop k m.globals) more → AllByRecursion IsInType more → HaveFirst m (globals ++ numbers more)
 
   -- before the first global
   pub first_none : FirstTo 0 []
-  first_none = record { goes_on = λ more a. record { values = more; are_first = a; numbers_are = refl } }
+  first_none = record { goes_on = λ more a r. record { values = more; are_first = a; numbers_are = refl; in_range = r } }
 
   -- a global more
-  pub first_next : (k : ℕ) (globals : List ℕ) (g : GlobalEntry) (n : ℕ) → IsValid m → ImportsFunctions m → slice_get m.globals k ≡ Some g → n ≡ segment_start [] g.init → FirstTo k globals → FirstTo (k + 1) (globals ++ n ∷ [])
-  first_next k globals g n v a e s f =
+  pub first_next : (k : ℕ) (globals : List ℕ) (g : GlobalEntry) (n : ℕ) → IsValid m → ImportsFunctions m → slice_get m.globals k ≡ Some g → n ≡ segment_start [] g.init → n < 2 ^ 64 → ((j : ℕ) (rest : List Instruction) → g.init ≡ op.I32Const j ∷ rest → n < 2 ^ 32) → FirstTo k globals → FirstTo (k + 1) (globals ++ n ∷ [])
+  first_next k globals g n v a e s wide small f =
       let left = left_from m.globals k g e in
       let l = first_literal m k g v a e in
       let number : n ≡ number_of l.0 = s ∙ literal_number g.init l.0 l.1 in
       record {
-        goes_on = λ more r.
+        goes_on = λ more r q.
             subst (HaveFirst m) (ap (λ y. globals ++ y ∷ numbers more) (sym number) ∙ sym (append_assoc globals (n ∷ []) (numbers more)))
-            (f.goes_on (l.0 ∷ more) (subst (λ y. AreFirst y (l.0 ∷ more)) (sym left) (l.1, r)));
+            (f.goes_on (l.0 ∷ more) (subst (λ y. AreFirst y (l.0 ∷ more)) (sym left) (l.1, r)) (literal_fits m k g v a e n number wide small, q));
       }
 
   -- at the end all have
   pub first_all : (k : ℕ) (globals : List ℕ) → length m.globals ≤ k → FirstTo k globals → HaveFirst m globals
   first_all k globals l f =
-      subst (HaveFirst m) (append-nil globals) (f.goes_on [] (subst (λ y. AreFirst y []) (sym (nothing_left m.globals k l)) tt))
+      subst (HaveFirst m) (append-nil globals) (f.goes_on [] (subst (λ y. AreFirst y []) (sym (nothing_left m.globals k l)) tt) tt)

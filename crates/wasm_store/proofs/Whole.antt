@@ -56,6 +56,7 @@ made links pages m r v p =
       limit = refl;
       table = refl;
       globals = are;
+      in_range = p.first.in_range;
       start = p.start;
       main = refl;
     }

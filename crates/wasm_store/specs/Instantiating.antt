@@ -14,7 +14,7 @@ use Rattle.wasm_store.specs.declared.call.HostCall.{HostCall}
 use Rattle.wasm_store.specs.declared.fault.InstanceFault.{InstanceFault}
 use Rattle.wasm_store.specs.declared.fault.InstanceFault.TheVariants as faults
 use Rattle.wasm_store.specs.declared.instantiation.Instantiated.{Instantiated}
-use Rattle.wasm_store.specs.Values.{Val, numbers}
+use Rattle.wasm_store.specs.Values.{Val, IsInType, numbers}
 use Rattle.wasm_store.specs.Instances.{Callee, imported, Instance, Store}
 use Rattle.wasm_store.specs.Instantiation.{LinksOf, AreLinked, SomeUnlinked, IsStart, AreFirst, Instantiates}
 
@@ -75,6 +75,7 @@ pub record HaveFirst (m : Module) (globals : List ℕ) : Type 0 where
   pub values : List Val
   pub are_first : AreFirst m.globals values
   pub numbers_are : numbers values ≡ globals
+  pub in_range : AllByRecursion IsInType values
 
 -- What was made is an instance with its first store, and the functions that are entered first. The calls are those of
 -- the imports.
@@ -87,5 +88,6 @@ pub record IsInstantiated (links : LinksOf) (pages : ℕ) (m : Module) (r : Inst
   pub limit : instance.page_limit ≡ r.page_limit
   pub table : store.table ≡ r.table
   pub globals : numbers store.globals ≡ r.globals
+  pub in_range : AllByRecursion IsInType store.globals
   pub start : r.start ≡ m.start
   pub main : r.main ≡ instantiates.main

@@ -156,7 +156,6 @@ CanStart links m = ((cs : List Callee) × AreLinked links m.types m.imports cs) 
 
 -- why a module is refused; of several reasons the first in this order is named
 abbrev pub RefusedFor : LinksOf → ℕ → Module → InstanceFault → Type 0
-RefusedFor links pages m faults.NotRun = ⊥
 RefusedFor links pages m faults.Import = SomeUnlinked links m.types m.imports
 RefusedFor links pages m faults.NoStart =
     ((cs : List Callee) × AreLinked links m.types m.imports cs) × ((x : ℕ) → IsStart m x → ⊥)

@@ -1,6 +1,7 @@
 -- Values (section 4.2.1).
-use Rattle.std.specs.Prelude.{ℕ, List, [], ◌∷◌}
+use Rattle.std.specs.Prelude.{ℕ, ◌^◌, ◌<◌, List, [], ◌∷◌}
 use Rattle.wasm_module.specs.declared.instruction.ValueType.{ValueType}
+use Rattle.wasm_module.specs.declared.instruction.ValueType.TheVariants.{I32, I64}
 
 -- a value: its type, and a number below 2 ^ the type's width
 pub data Val : Type 0 where
@@ -19,6 +20,11 @@ type_of (val t n) = t
 abbrev pub types : List Val → List ValueType
 types [] = []
 types (v ∷ vs) = type_of v ∷ types vs
+
+-- its number is one of its type
+abbrev pub IsInType : Val → Type 0
+IsInType (val I32 n) = n < 2 ^ 32
+IsInType (val I64 n) = n < 2 ^ 64
 
 -- 0 of each type
 abbrev pub zeros : List ValueType → List Val

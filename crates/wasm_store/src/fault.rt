@@ -9,9 +9,6 @@ use thiserror::Error;
 /// Why a valid module can't be instantiated.
 #[derive(Clone, Copy, Debug, PartialEq, Eq, Error)]
 pub enum InstanceFault {
-    /// The machine doesn't run all of the module yet.
-    #[error("fault 12")]
-    NotRun,
     /// An import is no function, or the host has no such call.
     #[error("fault 13")]
     Import,

@@ -1,14 +1,16 @@
-use Rattle.wasm_interp.proofs.FromOutside.{all_returned, over}
+use Rattle.std.proofs.Common.{◌≡◌, ◌+◌, ◌≤◌, refl, arith, inr}
+use Rattle.wasm_interp.proofs.Flat.Turns.{goes_none}
+use Rattle.wasm_interp.proofs.Flat.Pausing.{runs_on, runs_to}
 use Rattle.wasm_interp.proofs.state.State.resume.Goals as goal
 
-pub returns-in-Entering-clause-resumed : goal.returns-in-Entering-clause-resumed
-returns-in-Entering-clause-resumed g c = rw c.in-Entering.is (c.enter.ensures.resumed)
+pub running-init : goal.running-init
+running-init g c =
+    record { goes = goes_none c.args.guest.now c.args.self.now; live = c.requires.live; units_left = omega arith; end_is = refl; same_host = refl; runs = inr refl }
 
-pub returns-in-Running-clause-resumed : goal.returns-in-Running-clause-resumed
-returns-in-Running-clause-resumed g c = rw c.in-Running.is (c.run.ensures.resumed)
+pub running-preserved : goal.running-preserved
+running-preserved g c =
+    runs_on _ g.H.Host.calls c.args.guest.now (c.args.self.now.used + c.args.units) c.args.units c.args.host.now c.args.self.now c.running.self c.running.host c.turn.new.host c.turn.new.self c.running.invariant c.in_default.ensures.continues c.turn.ensures.live c.in_default.ensures.runs
 
-pub returns-in-Returned-clause-resumed : goal.returns-in-Returned-clause-resumed
-returns-in-Returned-clause-resumed g c = rw (c.in-Returned.is, c.end.ensures.place, c.end.ensures.pause) (all_returned _ g.H.Host.calls c.args.guest.now c.args.calls.now c.args.limit c.args.self.now c.args.host.now c.args.units)
-
-pub returns-in-Over-clause-resumed : goal.returns-in-Over-clause-resumed
-returns-in-Over-clause-resumed g c = rw c.in-Over.is (over _ g.H.Host.calls c.args.guest.now c.args.calls.now c.args.limit c.args.self.now c.args.host.now c.args.units c.in-Over.outcome)
+pub returns-in-Some-clause-pauses : goal.returns-in-Some-clause-pauses
+returns-in-Some-clause-pauses g c =
+    runs_to _ g.H.Host.calls c.args.guest.now (c.args.self.now.used + c.args.units) c.args.units c.args.host.now c.args.self.now c.running.self c.running.host c.turn.new.host c.turn.new.self c.in-Some.pause c.running.invariant c.in-Some.ensures.continues

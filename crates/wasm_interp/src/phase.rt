@@ -1,0 +1,13 @@
+//! Where a machine is.
+
+use crate::pause::Outcome;
+
+/// Where a machine is.
+#[derive(Clone, Copy, Debug, PartialEq, Eq)]
+pub enum Phase {
+    /// Inside one of the module's own functions.
+    Within,
+    /// Outside all functions.
+    Between,
+    Over(Outcome),
+}
