@@ -168,5 +168,5 @@ pub fn write_front<D: Device>(device: &mut D, image: &[u8; 512]) -> Result<(), D
     ensures faults { D.faults device.new ≡ counted (is_err result) (D.faults device.old) }
 {
     device.write(FRONT, image)?;
-    device.sync()
+    device.sync() // it isn't pending when the caller goes on
 }

@@ -1,7 +1,7 @@
 -- An entry that names no sectors is put into an unused slot.
-use Rattle.std.proofs.Common.{◌≡◌, ◌≢◌, ℕ, zero, suc, ◌+◌, ◌/◌, ◌%◌, ◌≤◌, ◌<◌, ◌==◌, nat_lt, not, Bool, true, false, if◌then◌else◌, List, [], length, map, get_or, set, replicate, Option, Some, None, Result, Ok, Err, refl, sym, ◌∙◌, ap, subst, arith}
+use Rattle.std.proofs.Common.{◌≡◌, ◌≢◌, ℕ, zero, suc, ◌+◌, ◌/◌, ◌%◌, ◌≤◌, ◌<◌, ◌==◌, nat_lt, Bool, true, false, if◌then◌else◌, List, [], length, map, get_or, set, replicate, Option, Some, None, Result, Ok, Err, refl, sym, ◌∙◌, ap, subst, arith}
 use Rattle.std.specs.Option.{option_map, option_map_or}
-use Rattle.std.specs.List.{count_by, range_with_len}
+use Rattle.std.specs.List.{range_with_len}
 use Rattle.std.proofs.lemmas.List.Sums.{sum_by-set}
 use Rattle.std.proofs.lemmas.Option.{same_Some, none-some}
 use Rattle.vol_sector.specs.Disk.{Image, put}
@@ -12,8 +12,7 @@ use Rattle.vol_inode.specs.declared.entry.Kind.TheVariants as kinds
 use Rattle.vol_inode.specs.Entry.{IsEntry, name_of}
 use Rattle.vol_inode.specs.Spelling.{spelling}
 use Rattle.vol_inode.specs.Space.{need_of}
-use Rattle.vol_body.specs.Body.{Place, part, list, lists, later_list, named, number_in, part_bytes, byte_at, bytes_of, IsBody, places_of}
-use Rattle.vol_body.specs.Change.{used_of}
+use Rattle.vol_body.specs.Body.{Place, part, list, lists, later_list, named, number_in, part_bytes, byte_at, bytes_of, IsBody}
 use Rattle.vol_alloc.specs.declared.sectors.Alloc.{Alloc}
 use Rattle.vol_tree.specs.declared.superblock.Superblock.{Superblock}
 use Rattle.vol_tree.specs.declared.errno.Errno.{Errno}

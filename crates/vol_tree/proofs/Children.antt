@@ -1,9 +1,9 @@
 -- What the names say of the entries in a directory.
-use Rattle.std.proofs.Common.{is_some, ◌≡◌, ◌≢◌, inl, inr, ℕ, zero, suc, ◌+◌, ◌-◌, ◌≤◌, ◌<◌, ◌==◌, ◌||◌, true, false, not, Bool, List, [], ◌∷◌, length, drop, get_or, Option, Some, None, Result, Ok, Err, MatchOption, refl, sym, ◌∙◌, ap, subst, arith}
+use Rattle.std.proofs.Common.{is_some, ◌≡◌, ◌≢◌, inl, inr, ℕ, zero, suc, ◌+◌, ◌-◌, ◌≤◌, ◌<◌, ◌==◌, ◌||◌, true, false, not, Bool, [], ◌∷◌, length, drop, get_or, Option, Some, None, Ok, Err, MatchOption, refl, sym, ◌∙◌, ap, subst, arith}
 use Rattle.std.specs.List.{list_any}
 use Rattle.std.specs.Option.{option_map_or}
-use Rattle.std.proofs.lemmas.Bool.{cases_eq, cases_lt, cases_Bool, false≢true, eq-eqb, eqb-true}
-use Rattle.std.proofs.lemmas.Option.{same_Some, none-some}
+use Rattle.std.proofs.lemmas.Bool.{cases_lt, cases_Bool, false≢true, eq-eqb, eqb-true}
+use Rattle.std.proofs.lemmas.Option.{none-some}
 use Rattle.std.proofs.lemmas.List.{get_or-drop, length-drop}
 use Rattle.vol_sector.specs.Disk.{Image}
 use Rattle.vol_inode.specs.declared.entry.Entry.{Entry}
@@ -15,12 +15,12 @@ use Rattle.vol_tree.specs.declared.superblock.Superblock.{Superblock}
 use Rattle.vol_tree.specs.declared.errno.Errno.TheVariants as errno
 use Rattle.vol_tree.specs.Tree as tree
 use Rattle.vol_tree.specs.Tree.{Tree, Name, IsTree, IsDirectory, lookup, least_from, is_in, is_empty, changed, root}
-use Rattle.vol_tree.specs.Calls.{next_child, directory_removed, unless, is_file_at, is_directory}
+use Rattle.vol_tree.specs.Calls.{next_child, directory_removed, is_file_at, is_directory}
 use Rattle.vol_tree.specs.Stands.{entry_of}
 use Rattle.vol_tree.specs.Opened.{slot_of, tree_in}
 use Rattle.vol_tree.specs.Parts.{IsContent}
 use Rattle.vol_tree.proofs.Entries.{used_within}
-use Rattle.vol_tree.proofs.Finding.{held, is_held, tree_entry, looks_up}
+use Rattle.vol_tree.proofs.Finding.{held, is_held, tree_entry}
 use Rattle.vol_tree.proofs.Lookups.{found, looked_up}
 use Rattle.vol_tree.proofs.Grows.{none_passes, not_there}
 use Rattle.vol_tree.proofs.Trees.{Childless, empty_childless}

@@ -1,5 +1,5 @@
 -- Going up from a directory.
-use Rattle.std.proofs.Common.{is_some, ◌≡◌, ◌≢◌, inl, inr, ℕ, zero, suc, ◌+◌, ◌-◌, ◌≤◌, ◌<◌, ◌==◌, ◌||◌, ◌&&◌, not, true, false, Bool, [], ◌∷◌, length, Option, Some, None, Result, Ok, Err, refl, sym, ◌∙◌, ap, subst, arith, if◌then◌else◌}
+use Rattle.std.proofs.Common.{is_some, ◌≡◌, ◌≢◌, inl, inr, ℕ, zero, suc, ◌≤◌, ◌==◌, ◌||◌, ◌&&◌, not, true, false, Bool, [], ◌∷◌, length, Option, Some, None, Result, Ok, Err, refl, sym, ◌∙◌, ap, arith}
 use Rattle.std.specs.Option.{option_map_or}
 use Rattle.std.proofs.lemmas.Bool.{cases_Bool, cases_eq, false≢true, eq-eqb, eqb-true, cond-false, cond-true}
 use Rattle.std.proofs.lemmas.Option.{none-some, same_Some}
@@ -160,11 +160,11 @@ module _ (T : Tree) (t : IsTree T) (serial parent target : ℕ) (name : Name) (m
     | inr apart ↦ (apart, sym (stays x apart) ∙ is)
   ]
 
-  leads_left : (above : ℕ) (path : Path) (x : ℕ) → Leads Less above path x → Leads T above path x
+  pub leads_left : (above : ℕ) (path : Path) (x : ℕ) → Leads Less above path x → Leads T above path x
   leads_left above [] x leads = leads
   leads_left above (n ∷ path) x leads = (leads.0, (left x leads.0 leads.1).1, leads.2, leads_left above path leads.0.parent leads.3)
 
-  parent_apart : parent ≢ target
+  pub parent_apart : parent ≢ target
   parent_apart same = bare target there.0 there.1 (there.2 ∙ same)
 
   pub moves_after : Moves Less serial parent name

@@ -1,19 +1,18 @@
 -- As many sectors are free as no file names.
-use Rattle.std.proofs.Common.{◌≡◌, ◌≢◌, ◌⊎◌, inl, inr, ℕ, zero, suc, ◌+◌, ◌-◌, ◌≤◌, ◌<◌, ◌==◌, not, cond, if◌then◌else◌, Bool, true, false, List, [], ◌∷◌, ◌++◌, length, get_or, Option, Some, None, refl, sym, ◌∙◌, ap, subst, arith}
-use Rattle.std.specs.Option.{option_map_or}
+use Rattle.std.proofs.Common.{◌≡◌, ◌≢◌, ◌⊎◌, inl, inr, ℕ, zero, suc, ◌+◌, ◌≤◌, ◌<◌, ◌==◌, not, cond, if◌then◌else◌, Bool, false, List, [], ◌∷◌, ◌++◌, length, get_or, Option, Some, None, refl, sym, ◌∙◌, ap, subst, arith}
 use Rattle.std.specs.List.{sum_by, count_by, Contains}
-use Rattle.std.proofs.lemmas.Bool.{cases_eq, cases_Bool, cond-true, cond-false, eq-eqb, eqb-true, false≢true}
+use Rattle.std.proofs.lemmas.Bool.{cases_eq, cases_Bool, cond-true, cond-false, eqb-true}
 use Rattle.std.proofs.lemmas.List.{length-append}
 use Rattle.std.proofs.lemmas.List.Elements.{Contains-append_left, Contains-append_right}
 use Rattle.std.proofs.lemmas.List.Sums.{sum_by-cons}
 use Rattle.vol_sector.specs.Disk.{Image}
 use Rattle.vol_inode.specs.declared.entry.Entry.{Entry}
-use Rattle.vol_body.specs.Body.{Place, IsPlace, named, places_of, NamesOthers}
+use Rattle.vol_body.specs.Body.{Place, named, places_of}
 use Rattle.vol_body.specs.Change.{used_of}
 use Rattle.vol_body.proofs.Needed.{place_is_there}
 use Rattle.vol_body.proofs.Steps.{taken_range}
 use Rattle.vol_alloc.specs.declared.sectors.Alloc.{Alloc}
-use Rattle.vol_alloc.specs.Alloc.{first_of, end_of, free_of, taken_of}
+use Rattle.vol_alloc.specs.Alloc.{first_of, end_of, free_of}
 use Rattle.vol_alloc.proofs.Covers.{taken_in_list}
 use Rattle.vol_tree.specs.declared.superblock.Superblock.{Superblock}
 use Rattle.vol_tree.specs.Stands.{Slots}

@@ -1,37 +1,35 @@
 -- A call that writes a file anew, and a call that fails on its way.
-use Rattle.std.proofs.Common.{◌≡◌, ◌⊎◌, inl, inr, ℕ, zero, suc, ◌+◌, ◌-◌, ◌≤◌, ◌<◌, true, false, Bool, List, length, get_or, Option, Some, None, Result, Ok, Err, IsErrAnd, refl, sym, ◌∙◌, ap, subst, arith}
+use Rattle.std.proofs.Common.{◌≡◌, inr, ℕ, suc, ◌+◌, ◌-◌, ◌≤◌, ◌<◌, true, false, Bool, List, length, Some, Result, Ok, Err, IsErrAnd, refl, sym, ◌∙◌, ap, subst, arith}
 use Rattle.std.proofs.lemmas.List.FromFn.{length-map-range_with_len}
-use Rattle.vol_sector.specs.Disk.{Image, Disk, Leaves, counted}
+use Rattle.vol_sector.specs.Disk.{Image, counted}
 use Rattle.vol_sector.specs.declared.device.Device.{Ghosts}
-use Rattle.vol_log.specs.Log.{view, device_of, sectors_of, has_failed}
+use Rattle.vol_log.specs.Log.{view, device_of, has_failed}
 use Rattle.vol_log.specs.Reading.{OnlyReads}
 use Rattle.vol_log.specs.declared.log.Log.{Log}
 use Rattle.vol_log.proofs.Moments.{leaves_quiet}
 use Rattle.vol_inode.specs.declared.entry.Entry.{Entry}
 use Rattle.vol_inode.specs.declared.entry.Kind.{Kind}
 use Rattle.vol_inode.specs.declared.entry.Kind.TheVariants as kinds
-use Rattle.vol_inode.specs.Entry.{name_of}
 use Rattle.vol_inode.specs.Space.{need_of}
 use Rattle.vol_body.specs.Body.{bytes_of, byte_at}
 use Rattle.vol_body.specs.Reading.{OnlyStages}
 use Rattle.vol_alloc.specs.declared.sectors.Alloc.{Alloc}
-use Rattle.vol_alloc.specs.Alloc.{first_of, end_of, taken_of}
-use Rattle.vol_dirs.specs.Names.{slots_of, Shows}
+use Rattle.vol_alloc.specs.Alloc.{first_of, end_of}
+use Rattle.vol_dirs.specs.Names.{Shows}
 use Rattle.vol_tree.specs.declared.errno.Errno.{Errno}
 use Rattle.vol_tree.specs.declared.errno.Errno.TheVariants as errno
 use Rattle.vol_tree.specs.declared.parts.Parts.{Parts}
 use Rattle.vol_tree.specs.declared.superblock.Superblock.{Superblock}
-use Rattle.vol_tree.specs.Superblock.{superblock}
 use Rattle.vol_tree.specs.Tree as tree
 use Rattle.vol_tree.specs.Tree.{Tree, Node, Directory, File, IsTree, changed}
 use Rattle.vol_tree.specs.Space.{space, size_of}
-use Rattle.vol_tree.specs.Stands.{Slots, entry_of, node_by}
-use Rattle.vol_tree.specs.Opened.{is_io, slots_in, slot_of, tree_in, data_sectors, ReflectsOr, Keeps}
-use Rattle.vol_tree.specs.Parts.{IsOpen, IsContent, AreTaken, opened}
+use Rattle.vol_tree.specs.Stands.{entry_of, node_by}
+use Rattle.vol_tree.specs.Opened.{slots_in, slot_of, tree_in, data_sectors, Keeps}
+use Rattle.vol_tree.specs.Parts.{IsContent, AreTaken, opened}
 use Rattle.vol_tree.specs.Commits.{Commits}
 use Rattle.vol_tree.specs.Changes.{Changes, Stages}
 use Rattle.vol_tree.specs.internal.Removals.{Fails}
-use Rattle.vol_tree.proofs.Changing.{Fits, done, fault_is_io}
+use Rattle.vol_tree.proofs.Changing.{done, fault_is_io}
 use Rattle.vol_tree.proofs.Rewriting.{Rewrites, filled_tree, rewritten_tree, rewritten_taken, rewritten_content, rewritten_front, rewritten_shows}
 use Rattle.vol_tree.proofs.Finding.{tree_entry, length_tree, slot_within}
 use Rattle.vol_tree.proofs.Writes.{space_changed}

@@ -34,3 +34,6 @@ pub mod Climbing
 pub mod Targets
 pub mod Raising
 pub mod Used
+pub mod FilledMaps
+pub mod RenamedMaps
+pub mod Ranges

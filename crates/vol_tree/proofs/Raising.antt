@@ -1,11 +1,10 @@
 -- A volume of version 1 is one of version 2, with another first sector.
-use Rattle.std.proofs.Common.{◌≡◌, ◌≢◌, ◌↔◌, ◌⊎◌, inl, inr, ℕ, zero, suc, ◌+◌, ◌-◌, ◌≤◌, ◌<◌, true, false, Bool, List, [], length, get_or, Option, Some, None, Result, Ok, Err, OnOk, is_err, refl, sym, ◌∙◌, ap, subst, arith}
+use Rattle.std.proofs.Common.{◌≡◌, ◌↔◌, ◌⊎◌, inl, inr, ℕ, ◌+◌, ◌-◌, ◌≤◌, ◌<◌, true, false, Bool, List, [], get_or, Some, None, Result, Err, OnOk, is_err, refl, sym, ◌∙◌, ap, subst, arith}
 use Rattle.std.proofs.lemmas.Option.{same_Some}
-use Rattle.vol_sector.specs.Disk.{Image, Disk, Leaves, put, counted}
+use Rattle.vol_sector.specs.Disk.{Image, Leaves, put, counted}
 use Rattle.vol_sector.specs.declared.device.Device.{Ghosts}
 use Rattle.vol_log.specs.Log.{view, device_of, sectors_of, has_failed, staged_of}
-use Rattle.vol_log.specs.Header.{IsHeader}
-use Rattle.vol_log.specs.Batch.{over, HasContent, Settled}
+use Rattle.vol_log.specs.Batch.{over, Settled}
 use Rattle.vol_log.specs.declared.log.Log.{Log}
 use Rattle.vol_log.specs.declared.staged.Staged.{Staged}
 use Rattle.vol_log.proofs.Commit.{has_own}
@@ -17,18 +16,17 @@ use Rattle.vol_inode.specs.declared.version.Version.TheVariants.{One, Two}
 use Rattle.vol_inode.specs.Entry.{IsEntry, HasWidths}
 use Rattle.vol_inode.specs.Spelling.{spelling}
 use Rattle.vol_dirs.specs.declared.dirs.Dirs.{Dirs}
-use Rattle.vol_dirs.specs.Names.{Names, Shows, IsInSlot}
+use Rattle.vol_dirs.specs.Names.{Shows}
 use Rattle.vol_alloc.specs.declared.sectors.Alloc.{Alloc}
 use Rattle.vol_tree.specs.declared.parts.Parts.{Parts}
 use Rattle.vol_tree.specs.declared.superblock.Superblock.{Superblock}
 use Rattle.vol_tree.specs.Superblock.{superblock, HasRanges}
 use Rattle.vol_tree.specs.Tree.{Tree}
 use Rattle.vol_tree.specs.Space.{space}
-use Rattle.vol_tree.specs.Stands.{Slots, slot, Stands, StandsAs, IsVolume, KeepApart, Holds}
-use Rattle.vol_tree.specs.Opened.{slot_in, slots_in, tree_in, Reflects, ReflectsOr}
+use Rattle.vol_tree.specs.Stands.{StandsAs}
+use Rattle.vol_tree.specs.Opened.{slot_in, slots_in, tree_in, ReflectsOr}
 use Rattle.vol_tree.specs.Parts.{IsContent, AreTaken, IsOpen, opened}
 use Rattle.vol_tree.specs.internal.Upgrades.{Upgrades}
-use Rattle.vol_tree.proofs.Finding.{slot_within}
 use Rattle.vol_tree.specs.Commits.{Commits}
 use Rattle.vol_tree.proofs.Committing.{reflects_then, on_ok}
 use Rattle.vol_sector.specs.declared.fault.VolumeFault.{VolumeFault}

@@ -1,10 +1,10 @@
 -- Reading the bytes of a file.
-use Rattle.std.proofs.Common.{◌≡◌, ◌==◌, ℕ, zero, suc, ◌+◌, ◌-◌, ◌≤◌, ◌<◌, min, true, false, Bool, List, [], ◌∷◌, ◌++◌, length, take, drop, Some, Result, Ok, Err, IsErrAnd, refl, sym, ◌∙◌, ap, subst, arith}
+use Rattle.std.proofs.Common.{◌≡◌, ℕ, zero, suc, ◌-◌, ◌≤◌, min, true, false, Bool, List, [], ◌∷◌, ◌++◌, length, take, drop, Some, Result, Ok, Err, IsErrAnd, refl, sym, ◌∙◌, ap, arith}
 use Rattle.std.proofs.lemmas.List.{length-take, length-drop, take_min}
 use Rattle.std.proofs.lemmas.List.FromFn.{length-map-range_with_len}
 use Rattle.vol_sector.specs.Disk.{Image, counted}
 use Rattle.vol_sector.specs.declared.device.Device.{Ghosts}
-use Rattle.vol_log.specs.Log.{view, device_of, has_failed}
+use Rattle.vol_log.specs.Log.{device_of, has_failed}
 use Rattle.vol_log.specs.Reading.{OnlyReads}
 use Rattle.vol_log.specs.declared.log.Log.{Log}
 use Rattle.vol_inode.specs.declared.entry.Entry.{Entry}
@@ -13,7 +13,7 @@ use Rattle.vol_tree.specs.declared.errno.Errno.{Errno}
 use Rattle.vol_tree.specs.declared.errno.Errno.TheVariants as errno
 use Rattle.vol_tree.specs.declared.superblock.Superblock.{Superblock}
 use Rattle.vol_tree.specs.Tree.{Tree}
-use Rattle.vol_tree.specs.Calls.{read_bytes, is_file_at, bytes_at}
+use Rattle.vol_tree.specs.Calls.{read_bytes, is_file_at}
 use Rattle.vol_tree.specs.Opened.{slot_of, tree_in, TellsBytes}
 use Rattle.vol_tree.specs.Parts.{IsContent}
 use Rattle.vol_tree.proofs.Committing.{LogReads}

@@ -1,9 +1,8 @@
 -- An entry gets another place and name.
-use Rattle.std.proofs.Common.{is_some, ◌≡◌, ◌≢◌, inl, inr, ℕ, suc, ◌+◌, ◌-◌, ◌/◌, ◌%◌, ◌≤◌, ◌<◌, nat_lt, true, false, List, length, map, get_or, set, Option, Some, None, refl, sym, ◌∙◌, ap, subst, arith}
+use Rattle.std.proofs.Common.{◌≡◌, ◌≢◌, ℕ, suc, ◌+◌, ◌/◌, ◌%◌, ◌≤◌, ◌<◌, List, length, map, get_or, set, Option, Some, None, refl, sym, ◌∙◌, ap, subst, arith}
 use Rattle.std.specs.Option.{option_map, option_map_or}
 use Rattle.std.specs.List.{range_with_len}
-use Rattle.std.proofs.lemmas.Bool.{cases_eq, cases_Bool, false≢true}
-use Rattle.std.proofs.lemmas.Option.{same_Some, none-some}
+use Rattle.std.proofs.lemmas.Option.{same_Some}
 use Rattle.std.proofs.lemmas.List.Sums.{sum_by-set}
 use Rattle.vol_sector.specs.Disk.{Image, put}
 use Rattle.vol_log.proofs.Images.{put_same, put_other, at_once}
@@ -28,7 +27,7 @@ use Rattle.vol_tree.specs.internal.Moves.{Moves}
 use Rattle.vol_tree.proofs.OneTree.{same_tree_entry}
 use Rattle.vol_tree.proofs.SlotsRead.{slots_count}
 use Rattle.vol_tree.proofs.SlotChange.{OtherSlots, FitsIn, set_tree, set_slots, set_volume}
-use Rattle.vol_tree.proofs.SlotTaken.{TakenFollows, taken_set}
+use Rattle.vol_tree.proofs.SlotTaken.{taken_set}
 use Rattle.vol_tree.proofs.Finding.{slot_within, entry_at, length_tree}
 use Rattle.vol_tree.proofs.Trees.{moved_is_tree}
 

@@ -1,5 +1,5 @@
 -- An entry is taken out, with the sectors that its file named.
-use Rattle.std.proofs.Common.{◌≡◌, ◌≢◌, inl, inr, ℕ, suc, ◌+◌, ◌-◌, ◌≤◌, ◌<◌, true, false, List, length, get_or, set, Option, Some, None, refl, sym, ◌∙◌, ap, subst, arith}
+use Rattle.std.proofs.Common.{◌≡◌, ◌≢◌, inl, inr, ℕ, suc, ◌+◌, ◌≤◌, ◌<◌, true, false, length, get_or, set, Some, None, sym, ◌∙◌, ap, subst, arith}
 use Rattle.std.specs.Option.{option_map}
 use Rattle.std.proofs.lemmas.Bool.{cases_eq, cases_Bool, false≢true}
 use Rattle.std.proofs.lemmas.Option.{same_Some}
@@ -15,7 +15,6 @@ use Rattle.vol_body.proofs.Steps.{taken_range}
 use Rattle.vol_alloc.specs.declared.sectors.Alloc.{Alloc}
 use Rattle.vol_alloc.specs.Alloc.{first_of, end_of, taken_of}
 use Rattle.vol_tree.specs.declared.superblock.Superblock.{Superblock}
-use Rattle.vol_tree.specs.Tree as tree
 use Rattle.vol_tree.specs.Tree.{Tree, IsTree, changed}
 use Rattle.vol_tree.specs.Space.{space, need_in, size_of}
 use Rattle.vol_tree.specs.Stands.{Slots, entry_of, node_by, tree_of, IsVolume}
@@ -23,7 +22,7 @@ use Rattle.vol_tree.specs.Opened.{slots_in, tree_in, data_sectors}
 use Rattle.vol_tree.specs.Parts.{IsContent, AreTaken}
 use Rattle.vol_tree.proofs.SlotsRead.{slots_count}
 use Rattle.vol_tree.proofs.SlotChange.{OtherSlots, FitsIn, set_tree, set_slots, set_volume}
-use Rattle.vol_tree.proofs.SlotTaken.{NamesNot, TakenFollows, taken_set}
+use Rattle.vol_tree.proofs.SlotTaken.{TakenFollows, taken_set}
 use Rattle.vol_tree.proofs.Rewriting.{Rewrites, rewritten_others, rewritten_front}
 use Rattle.vol_tree.proofs.Finding.{slot_within, entry_at, length_tree, size_back}
 

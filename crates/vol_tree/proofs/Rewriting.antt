@@ -8,10 +8,10 @@ use Rattle.vol_inode.specs.Entry.{IsEntry, name_of}
 use Rattle.vol_inode.specs.Name.{IsName}
 use Rattle.vol_inode.specs.Spelling.{spelling}
 use Rattle.vol_body.specs.Body.{Place, IsPlace, named, NamesTaken, NamesOthers, IsBody}
-use Rattle.vol_body.specs.Change.{OthersStay, TakesAndGives, used_of}
+use Rattle.vol_body.specs.Change.{OthersStay, TakesAndGives}
 use Rattle.vol_body.proofs.Steps.{taken_range}
 use Rattle.vol_alloc.specs.declared.sectors.Alloc.{Alloc}
-use Rattle.vol_alloc.specs.Alloc.{first_of, end_of, free_of, taken_of}
+use Rattle.vol_alloc.specs.Alloc.{first_of, end_of, taken_of}
 use Rattle.vol_dirs.specs.declared.dirs.Dirs.{Dirs}
 use Rattle.vol_dirs.specs.Names.{Shows}
 use Rattle.vol_dirs.proofs.Shown.{rewritten_shown}

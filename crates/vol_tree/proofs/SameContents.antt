@@ -1,11 +1,10 @@
 -- A volume whose content is the same in another image, and what a crash around a commit leaves.
-use Rattle.std.proofs.Common.{◌≡◌, inl, inr, ℕ, ◌+◌, ◌≤◌, List, [], ◌∷◌, length, get_or, set, Option, Some, None, refl, sym, ◌∙◌, ap, subst, arith}
+use Rattle.std.proofs.Common.{◌≡◌, inl, inr, ℕ, ◌+◌, ◌≤◌, List, [], ◌∷◌, length, get_or, set, Some, None, refl, sym, ◌∙◌, ap, subst, arith}
 use Rattle.std.specs.Option.{option_map}
-use Rattle.std.specs.List.{sum_by}
 use Rattle.std.proofs.lemmas.List.{set_past, length-map}
 use Rattle.vol_sector.specs.Disk.{Image, Disk}
 use Rattle.vol_log.specs.Header.{Places}
-use Rattle.vol_log.specs.Batch.{numbers, logged, SameContent, HasContent, HasEither, Settled}
+use Rattle.vol_log.specs.Batch.{numbers, logged, HasContent, HasEither, Settled}
 use Rattle.vol_log.proofs.Commit.{over_low, has_own}
 use Rattle.vol_inode.specs.declared.entry.Entry.{Entry}
 use Rattle.vol_body.specs.Body.{named, IsSameFile, SameSectors}
@@ -24,7 +23,6 @@ use Rattle.vol_tree.specs.Opened.{slots_in, tree_in, data_sectors, ReflectsOr}
 use Rattle.vol_tree.specs.Parts.{IsContent, AreTaken}
 use Rattle.vol_tree.proofs.SlotsRead.{slots_count}
 use Rattle.vol_tree.proofs.SlotChange.{OtherSlots, FitsIn, set_tree, set_slots, set_volume}
-use Rattle.vol_tree.proofs.OneTree.{limit_small}
 
 -- ---- an image with the same content
 

@@ -1,19 +1,17 @@
 -- The taken sectors where one slot is changed.
-use Rattle.std.proofs.Common.{◌≡◌, ◌≢◌, inl, inr, ℕ, ◌+◌, ◌≤◌, ◌<◌, true, false, length, get_or, set, Option, Some, None, refl, sym, ◌∙◌, ap, arith}
-use Rattle.std.specs.List.{sum_by}
+use Rattle.std.proofs.Common.{◌≡◌, ◌≢◌, inl, inr, ℕ, ◌<◌, true, false, length, get_or, set, Option, Some, None, sym, ◌∙◌, ap}
 use Rattle.std.proofs.lemmas.Bool.{cases_eq, false≢true}
-use Rattle.std.proofs.lemmas.List.{get_or-set_same, get_or-set_other, length-set}
+use Rattle.std.proofs.lemmas.List.{get_or-set_same, get_or-set_other}
 use Rattle.vol_sector.specs.Disk.{Image}
 use Rattle.vol_inode.specs.declared.entry.Entry.{Entry}
 use Rattle.vol_body.specs.Body.{named, IsPlace, NamesTaken, NamesOthers}
 use Rattle.vol_body.proofs.Same.{same_file}
 use Rattle.vol_alloc.specs.declared.sectors.Alloc.{Alloc}
-use Rattle.vol_alloc.specs.Alloc.{free_of, taken_of}
+use Rattle.vol_alloc.specs.Alloc.{taken_of}
 use Rattle.vol_tree.specs.declared.superblock.Superblock.{Superblock}
 use Rattle.vol_tree.specs.Stands.{Slots, Holds, KeepApart}
 use Rattle.vol_tree.specs.Parts.{AreTaken}
 use Rattle.vol_tree.proofs.SlotChange.{OtherSlots, FitsIn, at_set}
-use Rattle.vol_tree.proofs.OneTree.{limit_small}
 
 -- what the slot holds doesn't name the sector
 abbrev pub NamesNot : Image → Option Entry → ℕ → Type 0

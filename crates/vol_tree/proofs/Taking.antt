@@ -1,9 +1,9 @@
 -- How taking an entry out goes on to a call's answer.
 use Rattle.std.proofs.Common.{◌≡◌, ◌⊎◌, inl, inr, ⊎_elim, ◌+◌, ◌-◌, ◌≤◌, if◌then◌else◌, ℕ, true, false, Bool, Result, Ok, Err, IsErr, IsErrAnd, MatchResult, is_err, refl, sym, ◌∙◌, ap, subst, arith}
 use Rattle.std.proofs.lemmas.Bool.{false≢true}
-use Rattle.vol_sector.specs.Disk.{Image, Leaves, counted}
+use Rattle.vol_sector.specs.Disk.{Leaves, counted}
 use Rattle.vol_sector.specs.declared.device.Device.{Ghosts}
-use Rattle.vol_log.specs.Log.{view, device_of, has_failed}
+use Rattle.vol_log.specs.Log.{device_of}
 use Rattle.vol_log.proofs.Moments.{leaves_then}
 use Rattle.vol_tree.specs.declared.errno.Errno.{Errno}
 use Rattle.vol_tree.specs.declared.errno.Errno.TheVariants as errno

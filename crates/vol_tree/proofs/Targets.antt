@@ -1,5 +1,5 @@
 -- What a rename's target may be.
-use Rattle.std.proofs.Common.{is_some, inl, inr, ◌≡◌, ◌≤◌, ℕ, Bool, not, true, false, Option, Some, None, Result, Ok, Err, MatchOption, refl, sym, ◌∙◌, ap, subst}
+use Rattle.std.proofs.Common.{is_some, inl, inr, ◌≡◌, ◌≤◌, ℕ, Bool, not, true, false, Option, Some, Ok, MatchOption, refl, sym, ◌∙◌, ap}
 use Rattle.std.proofs.lemmas.Bool.{cases_Bool}
 use Rattle.vol_sector.specs.Disk.{Image}
 use Rattle.vol_inode.specs.declared.entry.Entry.{Entry}

@@ -1,6 +1,5 @@
 -- Which serials are in use, from the names.
-use Rattle.std.proofs.Common.{is_some, ◌≡◌, ◌≤◌, ◌<◌, ◌+◌, ℕ, suc, true, false, Bool, Option, Some, None, get_or, refl, sym, ◌∙◌, ap, arith}
-use Rattle.std.proofs.lemmas.Bool.{false≢true}
+use Rattle.std.proofs.Common.{is_some, ◌≡◌, ℕ, suc, true, false, Option, Some, None, get_or, refl, ap, arith}
 use Rattle.vol_sector.specs.Disk.{Image}
 use Rattle.vol_dirs.specs.declared.dirs.Dirs.{Dirs}
 use Rattle.vol_dirs.specs.Names.{IsFree, Shows}

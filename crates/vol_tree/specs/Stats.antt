@@ -4,7 +4,7 @@ use Rattle.std.specs.Option.{is_some}
 use Rattle.std.specs.List.{count_by}
 use Rattle.vol_tree.specs.declared.stats.Stats.{Stats}
 use Rattle.vol_tree.specs.declared.superblock.Superblock.{Superblock}
-use Rattle.vol_tree.specs.Tree.{Tree, Entry}
+use Rattle.vol_tree.specs.Tree.{Tree}
 use Rattle.vol_tree.specs.Space.{space}
 use Rattle.vol_tree.specs.Opened.{data_sectors}
 

@@ -8,6 +8,7 @@ ghost use Rattle.vol_tree.specs.Stands.{Stands};
 ghost use Rattle.vol_tree.specs.Laws.{RenameMovesTheSubtree, CreatedHasTheLeastSerial};
 ghost use Rattle.vol_tree.specs.Laws.{PathsDetermineTheTree, CreatedIsTree, WithinIsBelow};
 ghost use Rattle.vol_tree.specs.PathLaws.{CreatedMap, MovedMap, RemovedMap};
+ghost use Rattle.vol_tree.specs.PathLaws.{WrittenMap, ResizedMap, RenamedMap};
 
 /// A law: renaming an entry moves all that is below it, and nothing else.
 pub fn rename_moves_the_subtree()
@@ -54,4 +55,21 @@ pub fn moved_moves_paths()
 /// changes.
 pub fn removed_takes_one_path()
     ensures { RemovedMap }
+{}
+
+/// A law: writing changes the bytes of one file in the map from paths, and nothing else changes.
+pub fn written_changes_one_file()
+    ensures { WrittenMap }
+{}
+
+/// A law: another size cuts the bytes of one file in the map from paths, or puts zeros behind them,
+/// and nothing else changes.
+pub fn resized_changes_one_file()
+    ensures { ResizedMap }
+{}
+
+/// A law: renaming moves the paths that lead to the entry and below it, in place of the one that
+/// had its new name, and nothing else changes.
+pub fn renamed_moves_paths()
+    ensures { RenamedMap }
 {}

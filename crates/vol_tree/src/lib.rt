@@ -19,7 +19,7 @@ pub use errno::Errno;
 pub use laws::{
     created_adds_one_path, created_has_the_least_serial, created_is_a_tree, moved_moves_paths,
     one_tree, paths_determine_the_tree, removed_takes_one_path, rename_moves_the_subtree,
-    within_is_below,
+    renamed_moves_paths, resized_changes_one_file, within_is_below, written_changes_one_file,
 };
 pub use stat::Stat;
 pub use stats::Stats;

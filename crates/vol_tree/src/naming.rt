@@ -1,6 +1,6 @@
 //! What the calls on names do to the parts of an open volume.
 
-ghost use Rattle.std.specs.Prelude.{◌≡◌, ◌≢◌, ◌≤◌, ◌+◌, ◌↔◌, ℕ, List, IsSome, IfOk, MatchResult, OnOk, Some, None, true, false, length, is_err};
+ghost use Rattle.std.specs.Prelude.{◌≡◌, ◌≢◌, ◌≤◌, ◌+◌, ◌↔◌, ℕ, List, IsSome, IfOk, IfSome, MatchResult, OnOk, Some, None, true, false, length, is_err};
 ghost use Rattle.vol_sector.specs.Disk.{Leaves};
 ghost use Rattle.vol_inode.specs.Entry.{IsEntry, name_of};
 ghost use Rattle.vol_inode.specs.Name.{IsName};
@@ -9,7 +9,7 @@ ghost use Rattle.vol_log.specs.Log.{view, device_of, room_of, has_failed};
 ghost use Rattle.vol_dirs.specs.Names.{Names};
 ghost use Rattle.vol_tree.specs.Tree.{IsDirectory, entry, changed};
 ghost use Rattle.vol_tree.specs.Calls.{unlinked, directory_removed, renamed, next_child, with_unit, is_within, is_file_at};
-ghost use Rattle.vol_tree.specs.Opened.{is_io};
+ghost use Rattle.vol_tree.specs.Opened.{is_io, IsSerial};
 
 use crate::Errno;
 use crate::parts::Parts;
@@ -28,8 +28,9 @@ impl<D: Device> Parts<D> {
     /// The least serial over `after` of an entry in a directory.
     pub fn list_next(&mut self, directory: u32, after: u32) -> Result<Option<u32>, Errno>
         requires is_open { IsOpen self.old }
-        ensures { Asks (next_child (opened self.old).tree directory after) self.old self.new
-            result }
+        ensures asks { Asks (next_child (opened self.old).tree directory after) self.old
+            self.new result }
+        ensures range { IfOk result (λ found. IfSome found (IsSerial self.old.numbers)) }
     {
         Ok(self.dirs.next_child(&self.log, directory, after)?)
     }

@@ -1,6 +1,6 @@
 //! An open volume.
 
-ghost use Rattle.std.specs.Prelude.{◌≡◌, ◌≤◌, ◌↔◌, ⊤, [], Ok, Err, OnOk, OnErr, IfOk, IfErr, IsSome, IsTrue, is_err, false, true, length};
+ghost use Rattle.std.specs.Prelude.{◌≡◌, ◌≤◌, ◌↔◌, ⊤, [], Ok, Err, OnOk, OnErr, IfOk, IfErr, IfSome, IsSome, IsTrue, is_err, false, true, length};
 ghost use Rattle.std.specs.Option.{MatchOption};
 ghost use Rattle.vol_sector.specs.Disk.{Image, Leaves, counted};
 ghost use Rattle.vol_tree.specs.Tree.{File, Directory, IsTree, IsDirectory, entry, lookup};
@@ -88,6 +88,7 @@ impl<D: Device> Volume<D> {
             result }
         ensures crash { D.honest self.old.device
             → Leaves (D.disk self.old.device) (D.disk self.new.device) (λ c. ⊥) }
+        ensures range { IfOk result (λ found. IfSome found (IsSerial self.old.numbers)) }
         ensures kept { Keeps D.honest D.size D.faults self.old self.new (is_io result) }
     {
         self.parts.list_next(directory, after)
@@ -119,6 +120,7 @@ impl<D: Device> Volume<D> {
         ensures crash { D.honest self.old.device
             → Leaves (D.disk self.old.device) (D.disk self.new.device)
             (ReflectsOr (D.disk self.old.device) self.old.tree) }
+        ensures range { IfOk result (IsSerial self.old.numbers) }
         ensures kept { Keeps D.honest D.size D.faults self.old self.new (is_io result) }
     {
         self.parts.create(parent, name, Kind::File)
@@ -135,6 +137,7 @@ impl<D: Device> Volume<D> {
         ensures crash { D.honest self.old.device
             → Leaves (D.disk self.old.device) (D.disk self.new.device)
             (ReflectsOr (D.disk self.old.device) self.old.tree) }
+        ensures range { IfOk result (IsSerial self.old.numbers) }
         ensures kept { Keeps D.honest D.size D.faults self.old self.new (is_io result) }
     {
         self.parts.create(parent, name, Kind::Directory)

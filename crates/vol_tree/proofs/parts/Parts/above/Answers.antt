@@ -1,11 +1,10 @@
-use Rattle.std.proofs.Common.{is_some, ◌≡◌, ◌≢◌, ◌∙◌, ◌-◌, ◌≤◌, ◌<◌, ℕ, suc, length, get_or, Some, None, sym, ap, subst, refl, arith}
+use Rattle.std.proofs.Common.{◌≡◌, ◌∙◌, ◌-◌, suc, sym, ap, refl, arith}
 use Rattle.std.proofs.lemmas.Option.{none-some}
-use Rattle.vol_log.specs.Log.{view, device_of}
-use Rattle.vol_tree.specs.declared.errno.Errno.TheVariants as errno
-use Rattle.vol_tree.specs.Tree.{Tree, entry, IsDirectory}
+use Rattle.vol_log.specs.Log.{view}
+use Rattle.vol_tree.specs.Tree.{entry}
 use Rattle.vol_tree.specs.declared.superblock.Superblock.{Superblock}
 use Rattle.vol_tree.specs.Stands.{entry_of}
-use Rattle.vol_tree.specs.Opened.{tree_in, slot_of}
+use Rattle.vol_tree.specs.Opened.{tree_in}
 use Rattle.vol_tree.proofs.Finding.{tree_entry, length_tree}
 use Rattle.vol_tree.proofs.Entries.{used_within}
 use Rattle.vol_tree.proofs.parts.Parts.above.Goals as goal

@@ -15,8 +15,8 @@ use Rattle.vol_tree.proofs.Adding.{created_no_space}
 use Rattle.vol_tree.proofs.Creating.{found_exists, missing_none, creates}
 use Rattle.vol_tree.proofs.parts.Parts.create.Goals as goal
 
-pub returns-then-is_some : goal.returns-then-is_some
-returns-then-is_some g c =
+pub returns-then-is_some-clause-changes : goal.returns-then-is_some-clause-changes
+returns-then-is_some-clause-changes g c =
     let old = c.args.self.now in
     let ok : has_failed old.log ≡ false = sym c.in_ok-lookup.ensures.failed in
     refused _ old old errno.Exist (no_commit old false c.requires.is_open ok) (λ h.
@@ -24,8 +24,8 @@ returns-then-is_some g c =
     let found = looks_up (view old.log) old.numbers old.dirs (c.requires.is_open.content h) (c.requires.is_open.shows h) c.in_ok-lookup.field-0 c.args.parent c.args.name.now c.in_ok-lookup.ensures.found in
     inl (found_exists (tree_in (view old.log) old.numbers) c.args.parent c.args.name.now (node_by c.args.kind []) c.in_ok-lookup.field-0 found (sym c.is_some.ensures ∙ c.if-is_some.true)))
 
-pub returns-in_default : goal.returns-in_default
-returns-in_default g c =
+pub returns-in_default-clause-changes : goal.returns-in_default-clause-changes
+returns-in_default-clause-changes g c =
     let old = c.args.self.now in
     let ok : has_failed old.log ≡ false = sym c.in_ok-lookup.ensures.failed in
     refused _ old old errno.NoSpace (no_commit old false c.requires.is_open ok) (λ h.
@@ -39,8 +39,8 @@ returns-in_default g c =
 pub add-requires-clause-free : goal.add-requires-clause-free
 add-requires-clause-free g c = subst (λ (d : Dirs). IsFree d c.in-Some.serial) (sym c.make_room.ensures.commits.dirs) c.in-Some.ensures.free
 
-pub returns : goal.returns
-returns g c =
+pub returns-clause-changes : goal.returns-clause-changes
+returns-clause-changes g c =
     let old = c.args.self.now in
     let mid = c.make_room.new.self in
     let new = record mid { log = c.add.new.log; dirs = c.add.new.self } in
@@ -81,3 +81,6 @@ returns g c =
       taken = (made h).taken;
     })
     (λ h. ap (λ (U : Tree). created U c.args.parent c.args.name.now (node_by c.args.kind [])) (sym (commits.tree h)) ∙ (made h).tree)
+
+pub returns-clause-range : goal.returns-clause-range
+returns-clause-range g c = record { first = c.in-Some.ensures.first; last = omega (arith, c.in-Some.ensures.last, c.requires.is_open.slots) }

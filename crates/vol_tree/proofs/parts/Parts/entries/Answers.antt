@@ -1,9 +1,9 @@
-use Rattle.std.proofs.Common.{is_some, ◌≡◌, ◌∙◌, ◌+◌, ◌≤◌, ◌<◌, ℕ, suc, true, false, Option, None, length, take, get_or, refl, sym, ap, subst, arith}
+use Rattle.std.proofs.Common.{is_some, ◌≡◌, ◌∙◌, ◌+◌, ◌<◌, ℕ, suc, Option, None, length, take, sym, ap, subst, arith}
 use Rattle.std.proofs.lemmas.List.{take_all}
 use Rattle.std.proofs.lemmas.List.Sums.{count_by_more_yes, count_by_more_no}
-use Rattle.vol_log.specs.Log.{view, device_of}
+use Rattle.vol_log.specs.Log.{view}
 use Rattle.vol_dirs.specs.Names.{IsFree}
-use Rattle.vol_tree.specs.Tree.{Tree, Entry}
+use Rattle.vol_tree.specs.Tree.{Entry}
 use Rattle.vol_tree.specs.Opened.{tree_in}
 use Rattle.vol_tree.specs.Stats.{entries_of}
 use Rattle.vol_tree.proofs.Finding.{length_tree}

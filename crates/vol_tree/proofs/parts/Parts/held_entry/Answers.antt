@@ -1,7 +1,7 @@
-use Rattle.std.proofs.Common.{◌≡◌, ◌≢◌, ◌∙◌, ◌-◌, ℕ, Option, get_or, Some, None, false, sym, ap, subst, refl}
+use Rattle.std.proofs.Common.{◌≡◌, ◌∙◌, ◌-◌, get_or, Some, None, sym, ap}
 use Rattle.std.proofs.lemmas.Bool.{false≢true}
 use Rattle.std.proofs.lemmas.Option.{same_Some, none-some}
-use Rattle.vol_log.specs.Log.{view, device_of}
+use Rattle.vol_log.specs.Log.{view}
 use Rattle.vol_inode.specs.Entry.{name_of}
 use Rattle.vol_tree.specs.Opened.{slot_of}
 use Rattle.vol_tree.specs.Stands.{Slots}

@@ -1,7 +1,7 @@
-use Rattle.std.proofs.Common.{is_some, ◌≡◌, ◌≢◌, ◌∙◌, ◌+◌, ◌-◌, ◌≤◌, ◌<◌, ◌==◌, ℕ, suc, Bool, false, true, length, Some, None, sym, ap, subst, refl, arith}
+use Rattle.std.proofs.Common.{is_some, ◌≡◌, ◌∙◌, ◌+◌, ◌-◌, ℕ, suc, Bool, false, true, length, sym, ap, subst, arith}
 use Rattle.vol_log.specs.Log.{view, device_of}
 use Rattle.vol_tree.specs.declared.superblock.Superblock.{Superblock}
-use Rattle.vol_tree.specs.Tree.{Tree, entry, IsDirectory}
+use Rattle.vol_tree.specs.Tree.{Tree, entry}
 use Rattle.vol_tree.specs.Calls.{is_within}
 use Rattle.vol_tree.specs.Opened.{tree_in}
 use Rattle.vol_tree.specs.internal.Moves.{IsAbove}

@@ -1,31 +1,10 @@
-use Rattle.std.proofs.Common.{is_some, ◌≡◌, ◌≢◌, ◌∙◌, ◌+◌, ◌-◌, ◌≤◌, ℕ, List, Bool, not, length, get_or, set, Some, None, Option, Ok, Err, true, false, inl, inr, sym, ap, subst, refl, arith}
-use Rattle.std.proofs.lemmas.List.{get_or-set_other}
-use Rattle.vol_log.specs.Log.{view, device_of, has_failed}
-use Rattle.vol_inode.specs.declared.entry.Entry.{Entry}
-use Rattle.vol_inode.specs.Entry.{name_of}
-use Rattle.vol_inode.specs.declared.version.Version.{Version}
-use Rattle.vol_dirs.specs.declared.dirs.Dirs.{Dirs}
-use Rattle.vol_dirs.specs.Names.{Names, slots_of}
-use Rattle.vol_tree.specs.declared.superblock.Superblock.{Superblock}
-use Rattle.vol_tree.specs.declared.errno.Errno.{Errno}
-use Rattle.vol_tree.specs.declared.errno.Errno.TheVariants as errno
-use Rattle.vol_tree.specs.Tree.{Tree, IsDirectory, changed, is_empty, entry, lookup}
-use Rattle.vol_tree.specs.Calls.{moved, moved_onto, renamed, with_unit, directory_at, is_within}
-use Rattle.vol_tree.specs.Stands.{Slots, entry_of}
-use Rattle.vol_tree.specs.Opened.{tree_in, slot_of, slots_in}
-use Rattle.vol_tree.specs.Commits.{Commits}
-use Rattle.vol_tree.specs.internal.Moves.{Moves, MovesIn}
-use Rattle.vol_tree.specs.internal.Replacing.{kind_is_directory, replacing}
-use Rattle.vol_tree.proofs.Committing.{commits_then, no_commit}
-use Rattle.vol_tree.proofs.Changing.{refused, refused_io, done_open, stages_then}
-use Rattle.vol_tree.proofs.Children.{none_in, some_in, childless_empty}
-use Rattle.vol_tree.proofs.Climbing.{kind_at, onto_refused, onto_done, onto_itself, renamed_within, renamed_free, renamed_onto, may_move_in, may_move, target_not_top, moves_after}
-use Rattle.vol_tree.proofs.Filling.{fails_io}
-use Rattle.vol_tree.proofs.Finding.{tree_entry, looks_up}
-use Rattle.vol_tree.proofs.Lookups.{looked_up}
-use Rattle.vol_tree.proofs.Taking.{commits_fail, refused_by, changes_after}
-use Rattle.vol_tree.specs.Opened.{is_io}
-use Rattle.vol_tree.proofs.Trees.{Childless}
+use Rattle.std.proofs.Common.{◌∙◌, ◌-◌, get_or, None, Ok, true, false, sym, ap, subst}
+use Rattle.vol_tree.specs.Tree.{Tree}
+use Rattle.vol_tree.specs.Calls.{moved}
+use Rattle.vol_tree.specs.Stands.{Slots}
+use Rattle.vol_tree.specs.internal.Moves.{Moves}
+use Rattle.vol_tree.proofs.Committing.{commits_then}
+use Rattle.vol_tree.proofs.Changing.{refused_io, done_open}
 use Rattle.vol_tree.proofs.parts.Parts.move_to.Goals as goal
 
 pub returns-in_err-make_room : goal.returns-in_err-make_room

@@ -1,7 +1,6 @@
-use Rattle.std.proofs.Common.{◌≡◌, ◌∙◌, ◌-◌, ◌≤◌, ◌++◌, ℕ, List, length, take, drop, get_or, Some, None, false, sym, ap, subst, refl, arith}
-use Rattle.vol_log.specs.Log.{view, device_of, has_failed}
+use Rattle.std.proofs.Common.{◌≡◌, ◌∙◌, ◌-◌, ◌++◌, length, take, drop, get_or, Some, None, ap, refl}
+use Rattle.vol_log.specs.Log.{view}
 use Rattle.vol_body.specs.Body.{bytes_of}
-use Rattle.vol_tree.specs.declared.errno.Errno.TheVariants as errno
 use Rattle.vol_tree.specs.Calls.{read_bytes}
 use Rattle.vol_tree.specs.Opened.{tree_in, slot_of}
 use Rattle.vol_tree.specs.Stands.{Slots}

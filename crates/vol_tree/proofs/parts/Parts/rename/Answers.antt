@@ -1,31 +1,14 @@
-use Rattle.std.proofs.Common.{is_some, MatchOption, ◌≡◌, ◌≢◌, ◌∙◌, ◌+◌, ◌-◌, ◌≤◌, ℕ, List, Bool, not, length, get_or, set, Some, None, Option, Ok, Err, true, false, inl, inr, sym, ap, subst, refl, arith}
-use Rattle.std.proofs.lemmas.List.{get_or-set_other}
-use Rattle.vol_log.specs.Log.{view, device_of, has_failed}
-use Rattle.vol_inode.specs.declared.entry.Entry.{Entry}
-use Rattle.vol_inode.specs.Entry.{name_of}
-use Rattle.vol_inode.specs.declared.version.Version.{Version}
-use Rattle.vol_dirs.specs.declared.dirs.Dirs.{Dirs}
+use Rattle.std.proofs.Common.{MatchOption, ◌≡◌, ◌∙◌, ◌≤◌, ℕ, length, Some, None, Option, Ok, false, sym, ap, subst, arith}
+use Rattle.vol_log.specs.Log.{view}
 use Rattle.vol_dirs.specs.Names.{Names, slots_of}
 use Rattle.vol_tree.specs.declared.superblock.Superblock.{Superblock}
-use Rattle.vol_tree.specs.declared.errno.Errno.{Errno}
-use Rattle.vol_tree.specs.declared.errno.Errno.TheVariants as errno
-use Rattle.vol_tree.specs.Tree.{Tree, IsDirectory, changed, is_empty, entry, lookup}
-use Rattle.vol_tree.specs.Calls.{moved, moved_onto, renamed, with_unit, directory_at, is_within}
-use Rattle.vol_tree.specs.Stands.{Slots, entry_of}
-use Rattle.vol_tree.specs.Opened.{tree_in, slot_of, slots_in}
-use Rattle.vol_tree.specs.Commits.{Commits}
+use Rattle.vol_tree.specs.Tree.{Tree, lookup}
+use Rattle.vol_tree.specs.Calls.{moved, moved_onto, with_unit, is_within}
+use Rattle.vol_tree.specs.Opened.{tree_in}
 use Rattle.vol_tree.specs.internal.Moves.{Moves, MovesIn}
-use Rattle.vol_tree.specs.internal.Replacing.{kind_is_directory, replacing}
-use Rattle.vol_tree.proofs.Committing.{commits_then, no_commit}
-use Rattle.vol_tree.proofs.Changing.{refused, refused_io, done_open, stages_then}
-use Rattle.vol_tree.proofs.Children.{none_in, some_in, childless_empty}
-use Rattle.vol_tree.proofs.Climbing.{kind_at, onto_refused, onto_done, onto_itself, renamed_within, renamed_free, renamed_onto, may_move_in, may_move, target_not_top, moves_after}
-use Rattle.vol_tree.proofs.Filling.{fails_io}
-use Rattle.vol_tree.proofs.Finding.{tree_entry, looks_up}
-use Rattle.vol_tree.proofs.Lookups.{looked_up}
+use Rattle.vol_tree.proofs.Climbing.{onto_itself, renamed_free, renamed_onto, may_move_in, may_move}
+use Rattle.vol_tree.proofs.Finding.{looks_up}
 use Rattle.vol_tree.proofs.Taking.{changes_after, done_nothing}
-use Rattle.vol_tree.specs.Opened.{is_io}
-use Rattle.vol_tree.proofs.Trees.{Childless}
 use Rattle.vol_tree.proofs.parts.Parts.rename.Goals as goal
 
 pub move_to-requires-clause-moves : goal.move_to-requires-clause-moves

@@ -1,18 +1,16 @@
-use Rattle.std.proofs.Common.{◌≡◌, ◌≢◌, ◌∙◌, ◌-◌, ℕ, get_or, Some, None, Ok, true, false, inl, inr, sym, ap, subst, refl, arith}
-use Rattle.vol_log.specs.Log.{view, device_of, has_failed}
+use Rattle.std.proofs.Common.{◌≡◌, ◌∙◌, ◌-◌, get_or, Some, None, Ok, true, false, inl, sym, ap, subst, refl}
+use Rattle.vol_log.specs.Log.{view, has_failed}
 use Rattle.vol_tree.specs.declared.errno.Errno.TheVariants as errno
-use Rattle.vol_tree.specs.Tree.{Tree, IsDirectory, changed, is_empty}
-use Rattle.vol_tree.specs.Calls.{is_file_at, directory_removed, with_unit, is_directory}
-use Rattle.vol_tree.specs.Stands.{Slots, entry_of}
+use Rattle.vol_tree.specs.Tree.{Tree, changed}
+use Rattle.vol_tree.specs.Calls.{with_unit}
+use Rattle.vol_tree.specs.Stands.{Slots}
 use Rattle.vol_tree.specs.Opened.{tree_in, slot_of}
 use Rattle.vol_tree.proofs.Committing.{commits_then, no_commit}
 use Rattle.vol_tree.proofs.Changing.{refused, refused_io, done_open}
-use Rattle.vol_tree.proofs.Children.{none_in, some_in, childless_empty, removed_full, removed_is, file_not_top}
+use Rattle.vol_tree.proofs.Children.{none_in, some_in, childless_empty, removed_full, removed_is}
 use Rattle.vol_tree.proofs.Filling.{fails_io}
-use Rattle.vol_tree.proofs.Finding.{tree_entry}
 use Rattle.vol_tree.proofs.Taking.{commits_fail}
-use Rattle.vol_tree.proofs.Trees.{Childless, file_childless, is_directory_from}
-use Rattle.vol_tree.proofs.WriteCalls.{file_used, is_file, node_is}
+use Rattle.vol_tree.proofs.Trees.{Childless}
 use Rattle.vol_tree.proofs.Entries.{directory_used}
 use Rattle.vol_tree.proofs.parts.Parts.rmdir.Goals as goal
 

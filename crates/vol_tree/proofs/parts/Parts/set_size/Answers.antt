@@ -1,17 +1,15 @@
-use Rattle.std.proofs.Common.{◌≡◌, ◌∙◌, ◌+◌, ◌-◌, ◌≤◌, ◌<◌, ℕ, List, get_or, take, Some, None, true, false, inl, inr, sym, ap, subst, refl, arith}
-use Rattle.vol_sector.specs.Disk.{Image}
-use Rattle.vol_log.specs.Log.{view, device_of, has_failed}
-use Rattle.vol_alloc.specs.Alloc.{first_of, end_of, taken_of, free_of}
+use Rattle.std.proofs.Common.{◌≡◌, ◌∙◌, ◌+◌, ◌-◌, ◌≤◌, ◌<◌, ℕ, List, get_or, take, None, true, false, inl, sym, ap, subst, arith}
+use Rattle.vol_log.specs.Log.{view, device_of}
+use Rattle.vol_alloc.specs.Alloc.{first_of, end_of, taken_of}
 use Rattle.vol_inode.specs.declared.entry.Entry.{Entry}
 use Rattle.vol_inode.specs.Space.{size_limit, need_of}
-use Rattle.vol_body.specs.Body.{bytes_of, NamesTaken, IsBody}
+use Rattle.vol_body.specs.Body.{bytes_of}
 use Rattle.vol_body.specs.Change.{OthersStay, resized as body_resized}
 use Rattle.vol_tree.specs.declared.superblock.Superblock.{Superblock}
 use Rattle.vol_tree.specs.declared.errno.Errno.TheVariants as errno
 use Rattle.vol_tree.specs.Calls.{is_file_at, extended, bytes_at, resized, with_unit}
-use Rattle.vol_tree.specs.Opened.{tree_in, slot_of, slots_in, data_sectors, geometry}
+use Rattle.vol_tree.specs.Opened.{tree_in, data_sectors, geometry}
 use Rattle.vol_tree.specs.Stands.{Slots}
-use Rattle.vol_tree.specs.Commits.{Commits}
 use Rattle.vol_tree.proofs.Committing.{commits_then}
 use Rattle.vol_tree.proofs.Changing.{refused, refused_io}
 use Rattle.vol_tree.proofs.WriteCalls.{file_used, sized_too_big, sized_no_space, need_le, is_sized, is_file, old_bytes, space_sized}

@@ -1,8 +1,8 @@
-use Rattle.std.proofs.Common.{◌≡◌, ◌≢◌, ◌∙◌, ◌+◌, ◌-◌, ◌≤◌, ℕ, suc, List, set, get_or, Some, None, true, false, sym, ap, subst, refl, arith}
-use Rattle.vol_sector.specs.Disk.{Image, put}
-use Rattle.vol_log.specs.Log.{view, device_of, has_failed, room_of}
+use Rattle.std.proofs.Common.{◌≡◌, ◌∙◌, ◌+◌, ◌-◌, ℕ, suc, None, true, false, sym, ap, subst, refl, arith}
+use Rattle.vol_sector.specs.Disk.{put}
+use Rattle.vol_log.specs.Log.{view, device_of, room_of}
 use Rattle.vol_alloc.specs.Alloc.{first_of, end_of, taken_of}
-use Rattle.vol_dirs.specs.Names.{Names, Shows, slots_of}
+use Rattle.vol_dirs.specs.Names.{Shows, slots_of}
 use Rattle.vol_inode.specs.declared.entry.Entry.{Entry}
 use Rattle.vol_inode.specs.Entry.{name_of}
 use Rattle.vol_inode.specs.Spelling.{unused}

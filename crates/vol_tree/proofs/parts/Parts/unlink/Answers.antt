@@ -1,18 +1,17 @@
-use Rattle.std.proofs.Common.{◌≡◌, ◌≢◌, ◌∙◌, ◌-◌, ℕ, get_or, Some, None, Ok, true, false, inl, inr, sym, ap, subst, refl, arith}
-use Rattle.vol_log.specs.Log.{view, device_of, has_failed}
-use Rattle.vol_tree.specs.declared.errno.Errno.TheVariants as errno
-use Rattle.vol_tree.specs.Tree.{Tree, IsDirectory, changed, is_empty}
-use Rattle.vol_tree.specs.Calls.{is_file_at, directory_removed, with_unit, is_directory}
+use Rattle.std.proofs.Common.{◌≡◌, ◌∙◌, ◌-◌, get_or, Some, None, Ok, true, false, sym, ap, refl}
+use Rattle.vol_log.specs.Log.{view}
+use Rattle.vol_tree.specs.Tree.{Tree, changed}
+use Rattle.vol_tree.specs.Calls.{is_file_at, is_directory}
 use Rattle.vol_tree.specs.Stands.{Slots, entry_of}
 use Rattle.vol_tree.specs.Opened.{tree_in, slot_of}
-use Rattle.vol_tree.proofs.Committing.{commits_then, no_commit}
-use Rattle.vol_tree.proofs.Changing.{refused, refused_io, done_open}
-use Rattle.vol_tree.proofs.Children.{none_in, some_in, childless_empty, removed_full, removed_is, file_not_top}
+use Rattle.vol_tree.proofs.Committing.{commits_then}
+use Rattle.vol_tree.proofs.Changing.{refused_io, done_open}
+use Rattle.vol_tree.proofs.Children.{file_not_top}
 use Rattle.vol_tree.proofs.Filling.{fails_io}
 use Rattle.vol_tree.proofs.Finding.{tree_entry}
 use Rattle.vol_tree.proofs.Taking.{commits_fail}
-use Rattle.vol_tree.proofs.Trees.{Childless, file_childless, is_directory_from}
-use Rattle.vol_tree.proofs.WriteCalls.{file_used, is_file, node_is}
+use Rattle.vol_tree.proofs.Trees.{file_childless}
+use Rattle.vol_tree.proofs.WriteCalls.{file_used, node_is}
 use Rattle.vol_tree.proofs.parts.Parts.unlink.Goals as goal
 
 pub returns-in_err-make_room : goal.returns-in_err-make_room

@@ -1,9 +1,6 @@
-use Rattle.std.proofs.Common.{◌≡◌, ◌∙◌, ℕ, List, Bool, true, false, refl, sym, ap, subst}
-use Rattle.vol_sector.specs.Disk.{Image, Leaves, put}
-use Rattle.vol_log.specs.Log.{device_of}
-use Rattle.vol_tree.specs.Superblock.{superblock}
+use Rattle.std.proofs.Common.{Bool, true, false, sym, subst}
 use Rattle.vol_tree.specs.internal.Upgrades.{Upgrades}
-use Rattle.vol_tree.proofs.Raising.{raised, LogFronts, not_upgraded, is_upgraded, upgrades_after}
+use Rattle.vol_tree.proofs.Raising.{upgrades_after}
 use Rattle.vol_tree.proofs.Taking.{err_is}
 use Rattle.vol_tree.proofs.parts.Parts.upgrade.Goals as goal
 
