@@ -1,0 +1,186 @@
+-- The places of a file in the order of a survey, and what its steps say of them.
+use Rattle.std.proofs.Common.{◌≡◌, ◌≢◌, inl, inr, ◌≤◌, ◌<◌, ◌+◌, ◌-◌, ◌*◌, ◌/◌, ◌%◌, ℕ, zero, suc, List, [], ◌∷◌, ◌++◌, length, take, map, get_or, nat_lt, if◌then◌else◌, refl, sym, ◌∙◌, ap, subst, arith}
+use Rattle.std.proofs.lemmas.Bool.{cases_eq, cases_lt}
+use Rattle.std.proofs.lemmas.Bool.Decides.{nat_tests}
+use Rattle.std.proofs.lemmas.List.{ext_get_or, length-map, get_or-map, map-append, length-take-le, get_or-take, get_or-replicate}
+use Rattle.std.proofs.lemmas.List.Elements.{Contains-append_left, Contains-append_right, Contains-append_cases}
+use Rattle.std.proofs.lemmas.List.FromFn.{length-map-range_with_len, get_or-map-range_with_len}
+use Rattle.std.specs.List.{range_with_len, flat_map, Contains}
+use Rattle.vol_sector.specs.Disk.{Image}
+use Rattle.vol_inode.specs.declared.entry.Entry.{Entry}
+use Rattle.vol_inode.specs.Entry.{HasPointers}
+use Rattle.vol_inode.specs.Space.{sectors_of}
+use Rattle.vol_body.specs.Body.{Place, part, list, lists, later_list, IsPlace, named, number_in, part_bytes, byte_at}
+use Rattle.vol_body.specs.Survey.{parts_from, later_places, all_later, every_place, nonzero, sectors_named, AreInside, IsTrimmed}
+use Rattle.vol_body.specs.internal.Surveying.{listed, with_listed, all_listed, ListsNoneFrom, LaterNone, NamesNonePast, NamesBelow, EndsInZeros}
+use Rattle.vol_body.proofs.Places.{part_direct, part_listed, part_later}
+use Rattle.vol_body.proofs.Surveys.{nonzero-append, one_number, number_listed, length-listed}
+
+-- ---- every place stands in the list
+
+in_parts : (first count j : ℕ) → first ≤ j → j < first + count → Contains (parts_from first count) (part j)
+unfolding parts_from
+in_parts first count j le lt = (
+  j - first,
+  omega (arith, le, lt, length-map-range_with_len part first count),
+  get_or-map-range_with_len part first count (j - first) j (part j) (omega (arith, le, lt)) (omega (arith, le)),
+)
+
+in_flat : (f : ℕ → List Place) (a n i : ℕ) (p : Place) → a ≤ i → i < a + n → Contains (f i) p → Contains (flat_map f (range_with_len a n)) p
+in_flat f a zero i p le lt has = absurd (omega (arith, le, lt))
+in_flat f a (suc n) i p le lt has = elim (cases_eq a i) [
+  | inl same ↦ Contains-append_left (f a) (flat_map f (range_with_len (a + 1) n)) p (subst (λ (k : ℕ). Contains (f k) p) (sym same) has)
+  | inr other ↦ Contains-append_right (f a) (flat_map f (range_with_len (a + 1) n)) p (in_flat f (a + 1) n i p (omega (arith, le, other)) (omega (arith, lt)) has)
+]
+
+in_later : (i : ℕ) (p : Place) → i < 128 → Contains (later_places i) p → Contains all_later p
+unfolding all_later
+in_later i p lt has = in_flat later_places 0 128 i p (omega arith) (omega (arith, lt)) has
+
+first_two : List Place
+first_two = parts_from 0 58 ++ (list ∷ parts_from 58 128)
+
+pub in_every : (p : Place) → IsPlace p → Contains every_place p
+unfolding first_two
+in_every (part j) there = elim (cases_lt j 58) [
+  | inl lt ↦ Contains-append_left first_two (lists ∷ all_later) (part j) (Contains-append_left (parts_from 0 58) (list ∷ parts_from 58 128) (part j) (in_parts 0 58 j (omega arith) lt))
+  | inr le ↦ elim (cases_lt j 186) [
+    | inl below ↦ Contains-append_left first_two (lists ∷ all_later) (part j) (Contains-append_right (parts_from 0 58) (list ∷ parts_from 58 128) (part j) (Contains-append_right (list ∷ []) (parts_from 58 128) (part j) (in_parts 58 128 j le (omega (arith, below)))))
+    | inr past ↦
+        let i = (j - 186) / 128 in
+        Contains-append_right first_two (lists ∷ all_later) (part j) (Contains-append_right (lists ∷ []) all_later (part j)
+        (in_later i (part j) (omega (arith, there)) (Contains-append_right (later_list i ∷ []) (parts_from (186 + 128 * i) 128) (part j) (in_parts (186 + 128 * i) 128 j (omega (arith, past)) (omega (arith, past))))))
+  ]
+]
+in_every list there = Contains-append_left first_two (lists ∷ all_later) list (Contains-append_right (parts_from 0 58) (list ∷ parts_from 58 128) list (0, omega arith, refl))
+in_every lists there = Contains-append_right first_two (lists ∷ all_later) lists (0, omega arith, refl)
+in_every (later_list i) there = Contains-append_right first_two (lists ∷ all_later) (later_list i) (Contains-append_right (lists ∷ []) all_later (later_list i) (in_later i (later_list i) there (0, omega arith, refl)))
+
+in_map : (g : Place → ℕ) (xs : List Place) (p : Place) → Contains xs p → Contains (map g xs) (g p)
+in_map g xs p has = (has.0, omega (arith, has.1, length-map xs g), get_or-map g xs has.0 p (g p) has.1 ∙ ap g has.2)
+
+only : (x n k : ℕ) → k < 1 → get_or (x ∷ []) k n ≡ n → x ≡ n
+only x n zero lt is = is
+only x n (suc k) lt is = absurd (omega (arith, lt))
+
+in_nonzero : (xs : List ℕ) (n : ℕ) → n ≢ 0 → Contains xs n → Contains (nonzero xs) n
+in_nonzero [] n some has = absurd (omega (arith, has.1))
+in_nonzero (x ∷ xs) n some has = subst (λ (l : List ℕ). Contains l n) (sym (nonzero-append (x ∷ []) xs)) (elim (Contains-append_cases (x ∷ []) xs n has) [
+  | inl one ↦
+      let same : x ≡ n = only x n one.0 one.1 one.2 in
+      Contains-append_left (nonzero (x ∷ [])) (nonzero xs) n (subst (λ (l : List ℕ). Contains l n) (sym (one_number x (λ none. some (sym same ∙ none)))) (0, omega arith, same))
+  | inr rest ↦ Contains-append_right (nonzero (x ∷ [])) (nonzero xs) n (in_nonzero xs n some rest)
+])
+
+pub named_stands : (content : Image) (e : Entry) (p : Place) → IsPlace p → named content e p ≢ 0 → Contains (sectors_named content e) (named content e p)
+named_stands content e p there some = in_nonzero (map (named content e) every_place) (named content e p) some (in_map (named content e) every_place p (in_every p there))
+
+pub names_below : (content : Image) (e : Entry) (first end : ℕ) (a : List ℕ) → AreInside first end (a ++ sectors_named content e) → NamesBelow content e end
+names_below content e first end a all p there some =
+    let both = all.inside (named content e p) (Contains-append_right a (sectors_named content e) (named content e p) (named_stands content e p there some)) in
+    both.1
+
+-- ---- the numbers at these places are those that the steps push
+
+at_parts : (g : Place → ℕ) (first count : ℕ) (numbers : List ℕ) → length numbers ≡ count → ((i : ℕ) → i < count → get_or numbers i 0 ≡ g (part (first + i))) → map g (parts_from first count) ≡ numbers
+unfolding parts_from
+at_parts g first count numbers long same =
+    let parts = map part (range_with_len first count) in
+    let many : length parts ≡ count = length-map-range_with_len part first count in
+    ext_get_or 0 (map g parts) numbers (length-map parts g ∙ many ∙ sym long) (λ i lt.
+    let within : i < count = omega (arith, lt, length-map parts g, many) in
+    get_or-map g parts i list 0 (omega (arith, within, many)) ∙ ap g (get_or-map-range_with_len part first count i (first + i) list within (omega arith)) ∙ sym (same i within))
+
+at_flat : (g : Place → ℕ) (f : ℕ → List Place) (h : ℕ → List ℕ) (k : ℕ → ℕ) (a n : ℕ) → ((i : ℕ) → a ≤ i → i < a + n → map g (f i) ≡ h (k i)) → map g (flat_map f (range_with_len a n)) ≡ flat_map h (map k (range_with_len a n))
+at_flat g f h k a zero same = refl
+at_flat g f h k a (suc n) same =
+    let one = same a (omega arith) (omega arith) in
+    let rest = at_flat g f h k (a + 1) n (λ i le lt. same i (omega (arith, le)) (omega (arith, lt))) in
+    map-append g (f a) (flat_map f (range_with_len (a + 1) n)) ∙ (λ i. one i ++ rest i)
+
+at_list : (content : Image) (e : Entry) → map (named content e) (parts_from 58 128) ≡ listed content (named content e list)
+at_list content e = at_parts (named content e) 58 128 (listed content (named content e list)) (length-listed content (named content e list)) (λ i lt.
+    let same : 58 + i - 58 ≡ i = omega arith in
+    number_listed content (named content e list) i lt ∙ sym (part_listed content e (58 + i) (omega arith) (omega (arith, lt)) ∙ ap (number_in content (named content e list)) same))
+
+-- the number of a part that a later list has
+pub later_part : (content : Image) (e : Entry) (q i : ℕ) → i < 128 → named content e (part (186 + 128 * q + i)) ≡ number_in content (named content e (later_list q)) i
+later_part content e q i lt =
+    let j = 186 + 128 * q + i in
+    let which : (j - 186) / 128 ≡ q = omega (arith, lt) in
+    let place : (j - 186) % 128 ≡ i = omega (arith, lt) in
+    part_later content e j (omega arith) ∙ ap (λ (k : ℕ). number_in content (named content e (later_list k)) ((j - 186) % 128)) which ∙ ap (number_in content (named content e (later_list q))) place
+
+at_later : (content : Image) (e : Entry) (q : ℕ) → map (named content e) (later_places q) ≡ with_listed content (named content e (later_list q))
+at_later content e q =
+    let n = named content e (later_list q) in
+    ap (λ (l : List ℕ). n ∷ l) (at_parts (named content e) (186 + 128 * q) 128 (listed content n) (length-listed content n) (λ i lt. number_listed content n i lt ∙ sym (later_part content e q i lt)))
+
+at_all_later : (content : Image) (e : Entry) → map (named content e) all_later ≡ all_listed content (listed content (named content e lists))
+unfolding all_later listed
+at_all_later content e = at_flat (named content e) later_places (with_listed content) (number_in content (named content e lists)) 0 128 (λ i le lt. at_later content e i)
+
+at_direct : (content : Image) (e : Entry) → length e.pointers ≡ 60 → map (named content e) (parts_from 0 58) ≡ take 58 e.pointers
+at_direct content e long = at_parts (named content e) 0 58 (take 58 e.pointers) (length-take-le 58 e.pointers (omega (arith, long))) (λ i lt.
+    let same : i ≡ 0 + i = omega arith in
+    get_or-take 58 e.pointers i 0 lt ∙ sym (part_direct content e i lt) ∙ ap (λ (j : ℕ). named content e (part j)) same)
+
+pub at_every : (content : Image) (e : Entry) → length e.pointers ≡ 60
+    → (take 58 e.pointers ++ with_listed content (named content e list)) ++ (named content e lists ∷ all_listed content (listed content (named content e lists))) ≡ map (named content e) every_place
+at_every content e long =
+    let g = named content e in
+    let a = sym (at_direct content e long) in
+    let b = sym (at_list content e) in
+    let c = sym (at_all_later content e) in
+    (λ i. (a i ++ (g list ∷ b i)) ++ (g lists ∷ c i))
+    ∙ sym (map-append g (parts_from 0 58 ++ (list ∷ parts_from 58 128)) (lists ∷ all_later) ∙ ap (λ (l : List ℕ). l ++ map g (lists ∷ all_later)) (map-append g (parts_from 0 58) (list ∷ parts_from 58 128)))
+
+-- ---- no number stands for a part at or past the size
+
+serves_first : (k : ℕ) → k < 59 → (if nat_lt k 59 then k else 186) ≡ k
+serves_first k lt = grind (arith, nat_tests)
+
+pub none_past : (content : Image) (e : Entry) → HasPointers e → ListsNoneFrom content (named content e list) (sectors_of e.size - 58) → LaterNone content (named content e lists) (sectors_of e.size) → NamesNonePast content e
+none_past content e pointers own none (part j) there le = elim (cases_lt j 58) [
+  | inl lt ↦ part_direct content e j lt ∙ pointers j (omega (arith, lt)) (subst (λ (k : ℕ). sectors_of e.size ≤ k) (sym (serves_first j (omega (arith, lt)))) le)
+  | inr past ↦ elim (cases_lt j 186) [
+    | inl lt ↦ part_listed content e j past lt ∙ own (j - 58) (omega (arith, le)) (omega (arith, lt))
+    | inr later ↦
+        let q = (j - 186) / 128 in
+        let i = (j - 186) % 128 in
+        let below : q < 128 = omega (arith, there) in
+        part_later content e j later ∙ ap (λ (n : ℕ). number_in content n i) (sym (number_listed content (named content e lists) q below)) ∙ none.later q below i (omega (arith, le, later)) (omega arith)
+  ]
+]
+none_past content e pointers own none list there le = pointers 58 (omega arith) le
+none_past content e pointers own none lists there le = pointers 59 (omega arith) le
+none_past content e pointers own none (later_list i) there le = none.own i (omega (arith, le)) there
+
+pub past_list : (content : Image) (e : Entry) → NamesNonePast content e → ListsNoneFrom content (named content e list) (sectors_of e.size - 58)
+past_list content e past i le lt =
+    let same : i ≡ 58 + i - 58 = omega arith in
+    ap (number_in content (named content e list)) same ∙ sym (part_listed content e (58 + i) (omega arith) (omega (arith, lt))) ∙ past (part (58 + i)) (omega (arith, lt)) (omega (arith, le))
+
+pub past_later : (content : Image) (e : Entry) → NamesNonePast content e → LaterNone content (named content e lists) (sectors_of e.size)
+past_later content e past = record {
+  own = λ i le lt. past (later_list i) lt (omega (arith, le));
+  later = λ q below i le lt. ap (λ (n : ℕ). number_in content n i) (number_listed content (named content e lists) q below) ∙ sym (later_part content e q i lt) ∙ past (part (186 + 128 * q + i)) (omega (arith, below, lt)) (omega (arith, le));
+}
+
+-- ---- the bytes past the size
+
+pub zeros_past : (content : Image) (e : Entry) → NamesNonePast content e → EndsInZeros content e → (k : ℕ) → e.size ≤ k → k < 8483840 → byte_at content e k ≡ 0
+zeros_past content e past ends k le lt = elim (cases_lt (k / 512) (sectors_of e.size)) [
+  | inl last ↦
+      let same : k / 512 ≡ e.size / 512 = omega (arith, le, last) in
+      ap (λ (j : ℕ). get_or (part_bytes content (named content e (part j))) (k % 512) 0) same ∙ ends (k % 512) (omega (arith, le, last)) (omega (arith, le, last)) (omega arith)
+  | inr behind ↦ ap (λ (n : ℕ). get_or (part_bytes content n) (k % 512) 0) (past (part (k / 512)) (omega (arith, lt)) behind) ∙ get_or-replicate 512 (k % 512) 0 0 (omega arith)
+]
+
+pub ends_trimmed : (content : Image) (e : Entry) → e.size ≤ 8483840 → IsTrimmed content e → EndsInZeros content e
+ends_trimmed content e small trimmed k some le lt =
+    let at = 512 * (e.size / 512) + k in
+    let same : e.size / 512 ≡ at / 512 = omega (arith, lt) in
+    let place : k ≡ at % 512 = omega (arith, lt) in
+    ap (λ (j : ℕ). get_or (part_bytes content (named content e (part j))) k 0) same ∙ ap (λ (i : ℕ). get_or (part_bytes content (named content e (part (at / 512)))) i 0) place
+    ∙ trimmed.zeros at (omega (arith, le)) (omega (arith, small, some, lt))
