@@ -3,7 +3,7 @@ use Rattle.std.proofs.Common.{◌≡◌, ◌≢◌, inl, inr, ◌≤◌, ◌<◌
 use Rattle.std.proofs.lemmas.Bool.{cases_eq, cases_lt}
 use Rattle.std.proofs.lemmas.Bool.Decides.{nat_tests}
 use Rattle.std.proofs.lemmas.List.{ext_get_or, length-map, get_or-map, map-append, length-take-le, get_or-take, get_or-replicate}
-use Rattle.std.proofs.lemmas.List.Elements.{Contains-append_left, Contains-append_right, Contains-append_cases}
+use Rattle.std.proofs.lemmas.List.Elements.{Contains-append_left, Contains-append_right, Contains-append_cases, Contains-get_or}
 use Rattle.std.proofs.lemmas.List.FromFn.{length-map-range_with_len, get_or-map-range_with_len}
 use Rattle.std.specs.List.{range_with_len, flat_map, Contains}
 use Rattle.vol_sector.specs.Disk.{Image}
@@ -11,6 +11,7 @@ use Rattle.vol_inode.specs.declared.entry.Entry.{Entry}
 use Rattle.vol_inode.specs.Entry.{HasPointers}
 use Rattle.vol_inode.specs.Space.{sectors_of}
 use Rattle.vol_body.specs.Body.{Place, part, list, lists, later_list, IsPlace, named, number_in, part_bytes, byte_at}
+use Rattle.vol_body.specs.Change.{Names}
 use Rattle.vol_body.specs.Survey.{parts_from, later_places, all_later, every_place, nonzero, sectors_named, AreInside, IsTrimmed}
 use Rattle.vol_body.specs.internal.Surveying.{listed, with_listed, all_listed, ListsNoneFrom, LaterNone, NamesNonePast, NamesBelow, EndsInZeros}
 use Rattle.vol_body.proofs.Places.{part_direct, part_listed, part_later}
@@ -184,3 +185,75 @@ ends_trimmed content e small trimmed k some le lt =
     let place : k ≡ at % 512 = omega (arith, lt) in
     ap (λ (j : ℕ). get_or (part_bytes content (named content e (part j))) k 0) same ∙ ap (λ (i : ℕ). get_or (part_bytes content (named content e (part (at / 512)))) i 0) place
     ∙ trimmed.zeros at (omega (arith, le)) (omega (arith, small, some, lt))
+
+-- ---- each number of a survey is named at some place
+
+flat_are : (f : ℕ → List Place) (a n m : ℕ) → a + n ≤ m → ((i : ℕ) → i < m → (p : Place) → Contains (f i) p → IsPlace p) → (p : Place) → Contains (flat_map f (range_with_len a n)) p → IsPlace p
+flat_are f a zero m le each p has = absurd (omega (arith, has.1))
+flat_are f a (suc n) m le each p has = elim (Contains-append_cases (f a) (flat_map f (range_with_len (a + 1) n)) p has) [
+  | inl one ↦ each a (omega (arith, le)) p one
+  | inr rest ↦ flat_are f (a + 1) n m (omega (arith, le)) each p rest
+]
+
+parts_are : (first count : ℕ) → first + count ≤ 16570 → (p : Place) → Contains (parts_from first count) p → IsPlace p
+unfolding parts_from
+parts_are first count le p has =
+    let many : has.0 < count = omega (arith, has.1, length-map-range_with_len part first count) in
+    subst IsPlace (sym (get_or-map-range_with_len part first count has.0 (first + has.0) p many (omega arith)) ∙ has.2) (omega (arith, le, many))
+
+head_or : (x p : Place) (xs : List Place) → IsPlace x → ((q : Place) → Contains xs q → IsPlace q) → Contains (x ∷ xs) p → IsPlace p
+head_or x p xs there rest has = elim (Contains-append_cases (x ∷ []) xs p has) [
+  | inl one ↦ subst IsPlace (sole x p one.0 one.1 one.2) there
+  | inr later ↦ rest p later
+]
+  where
+    sole : (x p : Place) (k : ℕ) → k < 1 → get_or (x ∷ []) k p ≡ p → x ≡ p
+    sole x p zero lt is = is
+    sole x p (suc k) lt is = absurd (omega (arith, lt))
+
+later_are : (p : Place) → Contains all_later p → IsPlace p
+unfolding all_later
+later_are p has = flat_are later_places 0 128 128 (omega arith) (λ i lt q stands. head_or (later_list i) q (parts_from (186 + 128 * i) 128) lt (parts_are (186 + 128 * i) 128 (omega (arith, lt))) stands) p has
+
+pub every_is : (p : Place) → Contains every_place p → IsPlace p
+every_is p has = elim (Contains-append_cases (parts_from 0 58 ++ (list ∷ parts_from 58 128)) (lists ∷ all_later) p has) [
+  | inl front ↦ elim (Contains-append_cases (parts_from 0 58) (list ∷ parts_from 58 128) p front) [
+    | inl direct ↦ parts_are 0 58 (omega arith) p direct
+    | inr next ↦ head_or list p (parts_from 58 128) tt (parts_are 58 128 (omega arith)) next
+  ]
+  | inr later ↦ head_or lists p all_later tt later_are later
+]
+
+-- what is left of numbers stood among them, and isn't 0
+was_there : (xs : List ℕ) (n : ℕ) → Contains (nonzero xs) n → Contains xs n × (n ≢ 0)
+was_there [] n has = absurd (omega (arith, has.1))
+was_there (x ∷ xs) n has = elim (Contains-append_cases (nonzero (x ∷ [])) (nonzero xs) n (subst (λ (l : List ℕ). Contains l n) (nonzero-append (x ∷ []) xs) has)) [
+  | inl one ↦ elim (cases_eq x 0) [
+    | inl none ↦ absurd (nothing x none n one)
+    | inr some ↦
+        let this = subst (λ (l : List ℕ). Contains l n) (one_number x some) one in
+        let same : x ≡ n = only x n this.0 this.1 this.2 in
+        ((0, omega arith, same), λ none. some (same ∙ none))
+  ]
+  | inr rest ↦
+      let both = was_there xs n rest in
+      (Contains-append_right (x ∷ []) xs n both.0, both.1)
+]
+  where
+    nothing : (x : ℕ) → x ≡ 0 → (n : ℕ) → Contains (nonzero (x ∷ [])) n → ⊥
+    nothing x none n has =
+        let at_zero : Contains (nonzero (0 ∷ [])) n = subst (λ (y : ℕ). Contains (nonzero (y ∷ [])) n) none has in
+        omega (arith, at_zero.1)
+
+pub stands_named : (content : Image) (e : Entry) (n : ℕ) → Contains (sectors_named content e) n → Names content e n
+stands_named content e n has =
+    let g = named content e in
+    let there = was_there (map g every_place) n has in
+    let at = there.0 in
+    let k = at.0 in
+    let below : k < length every_place = omega (arith, at.1, length-map every_place g) in
+    let p = get_or every_place k list in
+    record {
+      some = there.1;
+      place = (p, every_is p (Contains-get_or every_place k list below), sym (get_or-map g every_place k list n below) ∙ at.2);
+    }
