@@ -1,16 +1,17 @@
 -- The places of a file in the order of a survey, and what its steps say of them.
-use Rattle.std.proofs.Common.{◌≡◌, ◌≢◌, inl, inr, ◌≤◌, ◌<◌, ◌+◌, ◌-◌, ◌*◌, ◌/◌, ◌%◌, ℕ, zero, suc, List, [], ◌∷◌, ◌++◌, length, take, map, get_or, nat_lt, if◌then◌else◌, refl, sym, ◌∙◌, ap, subst, arith}
+use Rattle.std.proofs.Common.{◌≡◌, ◌≢◌, inl, inr, ◌≤◌, ◌<◌, ◌+◌, ◌-◌, ◌*◌, ◌/◌, ◌%◌, ℕ, zero, suc, List, [], ◌∷◌, ◌++◌, length, take, drop, map, get_or, nat_lt, if◌then◌else◌, refl, sym, ◌∙◌, ap, subst, arith}
 use Rattle.std.proofs.lemmas.Bool.{cases_eq, cases_lt}
 use Rattle.std.proofs.lemmas.Bool.Decides.{nat_tests}
-use Rattle.std.proofs.lemmas.List.{ext_get_or, length-map, get_or-map, map-append, length-take-le, get_or-take, get_or-replicate}
+use Rattle.std.proofs.lemmas.List.{length-append, length-drop, take-append-drop, get_or_append_left, get_or-append_right, get_or_default, get_or-drop, ext_get_or, length-map, get_or-map, map-append, length-take-le, get_or-take, get_or-replicate}
 use Rattle.std.proofs.lemmas.List.Elements.{Contains-append_left, Contains-append_right, Contains-append_cases, Contains-get_or}
 use Rattle.std.proofs.lemmas.List.FromFn.{length-map-range_with_len, get_or-map-range_with_len}
 use Rattle.std.specs.List.{range_with_len, flat_map, Contains}
 use Rattle.vol_sector.specs.Disk.{Image}
+use Rattle.vol_alloc.specs.Numbers.{AreDistinct}
 use Rattle.vol_inode.specs.declared.entry.Entry.{Entry}
 use Rattle.vol_inode.specs.Entry.{HasPointers}
 use Rattle.vol_inode.specs.Space.{sectors_of}
-use Rattle.vol_body.specs.Body.{Place, part, list, lists, later_list, IsPlace, named, number_in, part_bytes, byte_at}
+use Rattle.vol_body.specs.Body.{Place, part, list, lists, later_list, IsPlace, named, number_in, part_bytes, byte_at, IsBody}
 use Rattle.vol_body.specs.Change.{Names}
 use Rattle.vol_body.specs.Survey.{parts_from, later_places, all_later, every_place, nonzero, sectors_named, AreInside, IsTrimmed}
 use Rattle.vol_body.specs.internal.Surveying.{listed, with_listed, all_listed, ListsNoneFrom, LaterNone, NamesNonePast, NamesBelow, EndsInZeros}
@@ -257,3 +258,52 @@ stands_named content e n has =
       some = there.1;
       place = (p, every_is p (Contains-get_or every_place k list below), sym (get_or-map g every_place k list n below) ∙ at.2);
     }
+
+-- ---- where no number stands twice, no two places name the same sector
+
+not_in_both : (xs ys : List ℕ) (n : ℕ) → AreDistinct (xs ++ ys) → Contains xs n → Contains ys n → ⊥
+not_in_both xs ys n distinct left right =
+    let j = left.0 in
+    let i = right.0 in
+    let long = length-append xs ys in
+    let k = length xs + i in
+    let place : k - length xs ≡ i = omega arith in
+    let first : get_or (xs ++ ys) j 0 ≡ n = get_or_append_left xs ys 0 j left.1 ∙ get_or_default xs j 0 n left.1 ∙ left.2 in
+    let second : get_or (xs ++ ys) k 0 ≡ n = get_or-append_right xs ys (length xs) k 0 refl (omega arith) ∙ ap (λ (m : ℕ). get_or ys m 0) place ∙ get_or_default ys i 0 n right.1 ∙ right.2 in
+    distinct j k (omega (arith, left.1)) (omega (arith, right.1, long)) (first ∙ sym second)
+
+not_twice : (xs : List ℕ) (n i k : ℕ) → AreDistinct (nonzero xs) → n ≢ 0 → i < k → k < length xs → get_or xs i n ≡ n → get_or xs k n ≡ n → ⊥
+not_twice xs n i k distinct some lt below first second =
+    let front = take (i + 1) xs in
+    let back = drop (i + 1) xs in
+    let short : length front ≡ i + 1 = length-take-le (i + 1) xs (omega (arith, lt, below)) in
+    let place : i + 1 + (k - (i + 1)) ≡ k = omega (arith, lt) in
+    let apart : AreDistinct (nonzero front ++ nonzero back) = subst AreDistinct (ap nonzero (sym (take-append-drop (i + 1) xs)) ∙ nonzero-append front back) distinct in
+    not_in_both (nonzero front) (nonzero back) n apart
+    (in_nonzero front n some (i, omega (arith, short), get_or-take (i + 1) xs i n (omega arith) ∙ first))
+    (in_nonzero back n some (k - (i + 1), omega (arith, lt, below, length-drop (i + 1) xs), get_or-drop (i + 1) xs (k - (i + 1)) n ∙ ap (λ (m : ℕ). get_or xs m n) place ∙ second))
+
+one_place : (content : Image) (e : Entry) → AreDistinct (sectors_named content e) → (p q : Place) → IsPlace p → IsPlace q → named content e p ≢ 0 → named content e p ≡ named content e q → p ≡ q
+one_place content e distinct p q there_p there_q some same =
+    let g = named content e in
+    let n = g p in
+    let at_p = in_every p there_p in
+    let at_q = in_every q there_q in
+    let numbers = map g every_place in
+    let i = at_p.0 in
+    let k = at_q.0 in
+    let long = length-map every_place g in
+    let first : get_or numbers i n ≡ n = get_or-map g every_place i p n at_p.1 ∙ ap g at_p.2 in
+    let second : get_or numbers k n ≡ n = get_or-map g every_place k q n at_q.1 ∙ ap g at_q.2 ∙ sym same in
+    elim (cases_lt i k) [
+      | inl lt ↦ absurd (not_twice numbers n i k distinct some lt (omega (arith, at_q.1, long)) first second)
+      | inr le ↦ elim (cases_lt k i) [
+        | inl lt ↦ absurd (not_twice numbers n k i distinct some lt (omega (arith, at_p.1, long)) second first)
+        | inr ge ↦
+            let one : i ≡ k = omega (arith, le, ge) in
+            sym at_p.2 ∙ get_or_default every_place i p q at_p.1 ∙ ap (λ (m : ℕ). get_or every_place m q) one ∙ at_q.2
+      ]
+    ]
+
+pub keeps_rules : (content : Image) (e : Entry) → AreDistinct (sectors_named content e) → IsTrimmed content e → IsBody content e
+keeps_rules content e distinct trimmed = record { distinct = one_place content e distinct; past = trimmed.past; zeros = trimmed.zeros }

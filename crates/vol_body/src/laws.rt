@@ -8,7 +8,8 @@ ghost use Rattle.vol_inode.specs.declared.entry.Entry.{Entry};
 ghost use Rattle.vol_body.specs.Body.{Place, IsPlace, named, places_of, bytes_of};
 ghost use Rattle.vol_body.specs.Body.{IsBody, SameSectors, IsSameFile};
 ghost use Rattle.vol_body.specs.Change.{Names};
-ghost use Rattle.vol_body.specs.Survey.{sectors_named};
+ghost use Rattle.vol_alloc.specs.Numbers.{AreDistinct};
+ghost use Rattle.vol_body.specs.Survey.{sectors_named, IsTrimmed};
 
 /// A law: where the sectors that a file names stay, it names the same ones, has the same bytes and
 /// keeps its rules, whatever is written to others.
@@ -35,4 +36,11 @@ pub fn survey_has_what_is_named()
         → Contains (sectors_named content e) (named content e p) }
     ensures only { (content : Image) (e : Entry) (n : ℕ) → Contains (sectors_named content e) n
         → Names content e n }
+{}
+
+/// A law: where a survey has no number twice and the file is trimmed, it keeps the rules on its
+/// sectors.
+pub fn survey_shows_the_rules()
+    ensures { (content : Image) (e : Entry) → AreDistinct (sectors_named content e)
+        → IsTrimmed content e → IsBody content e }
 {}
