@@ -9,6 +9,8 @@ pub mod OneMore
 pub mod Space
 pub mod Added
 pub mod Steps
+pub mod Surveys
+pub mod Surveyed
 pub mod Loads
 pub mod Written
 pub mod Finished

@@ -4,3 +4,5 @@ pub mod Change
 pub mod Naming
 pub mod Writing
 pub mod Shorter
+pub mod Survey
+pub mod internal

@@ -7,6 +7,9 @@ ghost use Rattle.vol_inode.specs.Space.{need_of};
 ghost use Rattle.vol_inode.specs.declared.entry.Entry.{Entry};
 ghost use Rattle.vol_body.specs.Body.{Place, IsPlace, named, places_of, bytes_of};
 ghost use Rattle.vol_body.specs.Body.{IsBody, SameSectors, IsSameFile};
+ghost use Rattle.vol_body.specs.Change.{Names};
+ghost use Rattle.vol_alloc.specs.Numbers.{AreDistinct};
+ghost use Rattle.vol_body.specs.Survey.{sectors_named, IsTrimmed};
 
 /// A law: where the sectors that a file names stay, it names the same ones, has the same bytes and
 /// keeps its rules, whatever is written to others.
@@ -25,4 +28,19 @@ pub fn names_at_most_what_it_needs()
     ensures length { (size : ℕ) → length (places_of size) ≡ need_of size }
     ensures places { (content : Image) (e : Entry) (p : Place) → IsBody content e → IsPlace p
         → named content e p ≢ 0 → Contains (places_of e.size) p }
+{}
+
+/// A law: a survey has the number of each sector that the file names, and no others.
+pub fn survey_has_what_is_named()
+    ensures each { (content : Image) (e : Entry) (p : Place) → IsPlace p → named content e p ≢ 0
+        → Contains (sectors_named content e) (named content e p) }
+    ensures only { (content : Image) (e : Entry) (n : ℕ) → Contains (sectors_named content e) n
+        → Names content e n }
+{}
+
+/// A law: where a survey has no number twice and the file is trimmed, it keeps the rules on its
+/// sectors.
+pub fn survey_shows_the_rules()
+    ensures { (content : Image) (e : Entry) → AreDistinct (sectors_named content e)
+        → IsTrimmed content e → IsBody content e }
 {}

@@ -10,12 +10,16 @@ mod locate;
 mod reading;
 mod resizing;
 mod shrinking;
+mod surveying;
 mod writing;
 mod writing_image;
 mod writing_parts;
 mod writing_spans;
 
-pub use laws::{names_at_most_what_it_needs, other_files_stay};
+pub use laws::{
+    names_at_most_what_it_needs, other_files_stay, survey_has_what_is_named, survey_shows_the_rules,
+};
 pub use reading::read_at;
 pub use resizing::set_size;
+pub use surveying::survey;
 pub use writing::write_at;

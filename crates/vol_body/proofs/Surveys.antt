@@ -1,0 +1,122 @@
+-- Steps of a survey.
+use Rattle.std.proofs.Common.{◌≡◌, ◌≢◌, ⊎_elim, ◌≤◌, ◌<◌, ◌+◌, ◌-◌, ◌*◌, ◌==◌, not, ℕ, List, [], ◌∷◌, ◌++◌, length, take, drop, map, get_or, replicate, Result, Ok, Err, IfErr, IsErrAnd, sym, ◌∙◌, ap, subst, arith}
+use Rattle.std.proofs.lemmas.List.{append_assoc, append-nil, length-append, take_more, take-append-drop, ext_get_or, flat_map_more, length-replicate, get_or-replicate}
+use Rattle.std.proofs.lemmas.List.FromFn.{length-map-range_with_len, get_or-map-range_with_len}
+use Rattle.std.proofs.lemmas.Grind.{flat_map-append}
+use Rattle.std.proofs.lemmas.List.Elements.{filter-append, Contains-append_left, Contains-push, Contains-push_cases}
+use Rattle.std.proofs.lemmas.Bool.Decides.{nat_tests}
+use Rattle.std.specs.List.{range_with_len}
+use Rattle.byteorder.specs.Endian.{little_number}
+use Rattle.vol_sector.specs.Disk.{Image}
+use Rattle.vol_sector.specs.declared.fault.VolumeFault.{VolumeFault}
+use Rattle.vol_body.specs.Body.{number_in}
+use Rattle.vol_body.specs.Survey.{nonzero, AreInside}
+use Rattle.vol_body.specs.internal.Surveying.{listed, with_listed, all_listed, Pushes, Overflows}
+use Rattle.vol_body.proofs.Places.{number_there}
+
+-- a beginning of numbers that are inside
+pub inside_left : (first end : ℕ) (xs ys : List ℕ) → AreInside first end (xs ++ ys) → AreInside first end xs
+inside_left first end xs ys all = record {
+  inside = λ n has. all.inside n (Contains-append_left xs ys n has);
+  few = omega (arith, all.few, length-append xs ys);
+}
+
+pub nonzero-append : (xs ys : List ℕ) → nonzero (xs ++ ys) ≡ nonzero xs ++ nonzero ys
+nonzero-append xs ys = filter-append (λ n. not (n == 0)) xs ys
+
+pushed_both : (old xs ys : List ℕ) → old ++ nonzero (xs ++ ys) ≡ (old ++ nonzero xs) ++ nonzero ys
+pushed_both old xs ys = ap (λ (l : List ℕ). old ++ l) (nonzero-append xs ys) ∙ sym (append_assoc old (nonzero xs) (nonzero ys))
+
+-- numbers are pushed behind others
+pub pushes_then : (first end : ℕ) (a b c xs ys : List ℕ) → Pushes first end a b xs → Pushes first end b c ys → Pushes first end a c (xs ++ ys)
+pushes_then first end a b c xs ys one two = record {
+  named = two.named ∙ ap (λ (l : List ℕ). l ++ nonzero ys) one.named ∙ sym (pushed_both a xs ys);
+  inside = two.inside;
+}
+
+pub overflows_before : (first end : ℕ) (a xs ys : List ℕ) → Overflows first end a xs → Overflows first end a (xs ++ ys)
+overflows_before first end a xs ys over all = over (inside_left first end (a ++ nonzero xs) (nonzero ys) (subst (AreInside first end) (pushed_both a xs ys) all))
+
+pub overflows_then : (first end : ℕ) (a b xs ys : List ℕ) → Pushes first end a b xs → Overflows first end b ys → Overflows first end a (xs ++ ys)
+overflows_then first end a b xs ys one over all =
+    over (subst (AreInside first end) (pushed_both a xs ys ∙ sym (ap (λ (l : List ℕ). l ++ nonzero ys) one.named)) all)
+
+pub one_number : (n : ℕ) → n ≢ 0 → nonzero (n ∷ []) ≡ n ∷ []
+one_number n some = grind (arith, nat_tests)
+
+-- a number that is out of the range, or for which there is no space
+pub overflows_outside : (first end : ℕ) (old : List ℕ) (n : ℕ) → n ≢ 0 → ((first ≤ n) × (n < end) → ⊥) → Overflows first end old (n ∷ [])
+overflows_outside first end old n some out all =
+    out ((subst (λ (l : List ℕ). AreInside first end (old ++ l)) (one_number n some) all).inside n (Contains-push old n))
+
+pub overflows_full : (first end : ℕ) (old : List ℕ) (n : ℕ) → n ≢ 0 → end - first ≤ length old → Overflows first end old (n ∷ [])
+overflows_full first end old n some full all =
+    omega (arith, full, (subst (λ (l : List ℕ). AreInside first end (old ++ l)) (one_number n some) all).few, length-append old (n ∷ []))
+
+pub pushes_one : (first end : ℕ) (old new : List ℕ) (n : ℕ) → AreInside first end old → n ≢ 0 → first ≤ n → n < end → length old < end - first → new ≡ old ++ n ∷ [] → Pushes first end old new (n ∷ [])
+pushes_one first end old new n all some from below room is = record {
+  named = is ∙ ap (λ (l : List ℕ). old ++ l) (sym (one_number n some));
+  inside = subst (AreInside first end) (sym is) (record {
+    inside = λ m has. ⊎_elim (λ was. all.inside m was) (λ same. subst (λ (k : ℕ). (first ≤ k) × (k < end)) same (from, below)) (Contains-push_cases old n m has);
+    few = omega (arith, room, length-append old (n ∷ []));
+  });
+}
+
+-- before the first one
+pub pushes_none : (first end : ℕ) (old : List ℕ) → AreInside first end old → Pushes first end old old []
+pushes_none first end old all = record { named = sym (append-nil old); inside = all }
+
+-- the next number is pushed behind those before it
+pub pushes_next : (first end : ℕ) (a b c xs : List ℕ) (i : ℕ) → i < length xs → Pushes first end a b (take i xs) → Pushes first end b c (get_or xs i 0 ∷ []) → Pushes first end a c (take (i + 1) xs)
+pushes_next first end a b c xs i lt one two = subst (Pushes first end a c) (sym (take_more xs i 0 lt)) (pushes_then first end a b c (take i xs) (get_or xs i 0 ∷ []) one two)
+
+pub overflows_next : (first end : ℕ) (a b xs : List ℕ) (i : ℕ) → i < length xs → Pushes first end a b (take i xs) → Overflows first end b (get_or xs i 0 ∷ []) → Overflows first end a xs
+overflows_next first end a b xs i lt one over =
+    subst (Overflows first end a) (ap (λ (l : List ℕ). l ++ drop (i + 1) xs) (sym (take_more xs i 0 lt)) ∙ take-append-drop (i + 1) xs)
+    (overflows_before first end a (take i xs ++ get_or xs i 0 ∷ []) (drop (i + 1) xs) (overflows_then first end a b (take i xs) (get_or xs i 0 ∷ []) one over))
+
+-- what a `?` hands on
+pub handed_on : {T : Type 0} (r : Result T VolumeFault) (P : VolumeFault → Type 0) (x : VolumeFault) → IsErrAnd r (λ y. y ≡ x) → P x → IfErr r P
+handed_on (Ok t) P x is holds = tt
+handed_on (Err e) P x is holds = subst P (sym is) holds
+
+numbers_of : (f : ℕ → ℕ) (m : ℕ) (numbers : List ℕ) → length numbers ≡ m → ((i : ℕ) → i < m → get_or numbers i 0 ≡ f i) → numbers ≡ map f (range_with_len 0 m)
+numbers_of f m numbers long same =
+    ext_get_or 0 numbers (map f (range_with_len 0 m)) (long ∙ sym (length-map-range_with_len f 0 m)) (λ i lt. let within : i < m = omega (arith, lt, long) in same i within ∙ sym (get_or-map-range_with_len f 0 m i i 0 within (omega arith)))
+
+-- the numbers as they are read
+pub listed_read : (content : Image) (n : ℕ) (image numbers : List ℕ) → n ≢ 0 → image ≡ content n → length numbers ≡ 128
+    → ((i : ℕ) → i < 128 → get_or numbers i 0 ≡ little_number 4 (drop (4 * i) image)) → numbers ≡ listed content n
+unfolding listed
+listed_read content n image numbers some is long read =
+    numbers_of (number_in content n) 128 numbers long (λ i lt. read i lt ∙ ap (λ (l : List ℕ). little_number 4 (drop (4 * i) l)) is ∙ sym (number_there content n i some))
+
+pub listed_none : (content : Image) (n : ℕ) → n ≡ 0 → replicate 128 0 ≡ listed content n
+unfolding listed
+listed_none content n none = numbers_of (number_in content n) 128 (replicate 128 0) (length-replicate {A = ℕ} 128 0) (λ i lt. get_or-replicate 128 i 0 0 lt ∙ sym (ap (λ (m : ℕ). number_in content m i) none))
+
+pub number_listed : (content : Image) (n i : ℕ) → i < 128 → get_or (listed content n) i 0 ≡ number_in content n i
+unfolding listed
+number_listed content n i lt = get_or-map-range_with_len (number_in content n) 0 128 i i 0 lt (omega arith)
+
+pub length-listed : (content : Image) (n : ℕ) → length (listed content n) ≡ 128
+unfolding listed
+length-listed content n = length-map-range_with_len (number_in content n) 0 128
+
+-- one more list is pushed
+pub pushes_list : (content : Image) (first end : ℕ) (a b c xs : List ℕ) (i : ℕ) → i < length xs → Pushes first end a b (all_listed content (take i xs)) → Pushes first end b c (with_listed content (get_or xs i 0))
+    → Pushes first end a c (all_listed content (take (i + 1) xs))
+pushes_list content first end a b c xs i lt one two =
+    subst (Pushes first end a c) (flat_map_more (with_listed content) [] (take i xs) (get_or xs i 0) ∙ ap (all_listed content) (sym (take_more xs i 0 lt)))
+    (pushes_then first end a b c (all_listed content (take i xs)) (with_listed content (get_or xs i 0)) one two)
+
+pub overflows_list : (content : Image) (first end : ℕ) (a b xs : List ℕ) (i : ℕ) → i < length xs → Pushes first end a b (all_listed content (take i xs)) → Overflows first end b (with_listed content (get_or xs i 0))
+    → Overflows first end a (all_listed content xs)
+overflows_list content first end a b xs i lt one over =
+    let so_far = all_listed content (take i xs) in
+    let this = with_listed content (get_or xs i 0) in
+    let rest = all_listed content (drop (i + 1) xs) in
+    subst (Overflows first end a)
+    (ap (λ (l : List ℕ). l ++ rest) (flat_map_more (with_listed content) [] (take i xs) (get_or xs i 0) ∙ ap (all_listed content) (sym (take_more xs i 0 lt)))
+    ∙ sym (flat_map-append (with_listed content) (take (i + 1) xs) (drop (i + 1) xs)) ∙ ap (all_listed content) (take-append-drop (i + 1) xs))
+    (overflows_before first end a (so_far ++ this) rest (overflows_then first end a b so_far this one over))

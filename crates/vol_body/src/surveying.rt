@@ -1,0 +1,378 @@
+//! Which sectors a file names, before it is known which ones are taken.
+
+ghost use Rattle.std.specs.Prelude.{◌≡◌, ◌≢◌, ◌≤◌, ◌<◌, ◌+◌, ◌*◌, ◌++◌, ◌∷◌, ◌⊎◌, ℕ, [], true, false};
+ghost use Rattle.std.specs.Prelude.{IfOk, OnOk, IfErr, IsErr, IsTrue, is_err, drop, map, slice_index};
+ghost use Rattle.byteorder.specs.Endian.{little_number};
+ghost use Rattle.vol_sector.specs.Fault.{device_failed};
+ghost use Rattle.vol_log.specs.Log.{view, sectors_of, has_failed, device_of};
+ghost use Rattle.vol_log.specs.Reading.{OnlyReads};
+ghost use Rattle.vol_inode.specs.Entry.{HasPointers};
+ghost use Rattle.vol_body.specs.Body.{part, named as named_at, number_in};
+ghost use Rattle.vol_body.specs.Survey.{every_place, sectors_named, AreInside, IsTrimmed};
+ghost use Rattle.vol_body.specs.internal.Surveying.{listed, with_listed, all_listed, Pushes, Overflows};
+ghost use Rattle.vol_body.specs.internal.Surveying.{ListsNoneFrom, LaterListNone, LaterNone};
+ghost use Rattle.vol_body.specs.internal.Surveying.{NamesNonePast, NamesBelow, EndsInZeros};
+
+use crate::locate::{DIRECT, LISTED, NUMBERS, number_at};
+use vol_inode::Entry;
+use vol_log::Log;
+use vol_sector::{Device, DeviceFault, VolumeFault};
+
+/// Pushes the number, unless it is 0. It is refused as `Damaged` where it is out of the range, or
+/// where there are as many as the range has sectors.
+fn push_number(named: &mut Vec<u32>, n: u32, first: u32, end: u32) -> Result<(), VolumeFault>
+    requires { AreInside first end named.old.items }
+    ensures pushes { OnOk result (Pushes first end named.old.items named.new.items (n ∷ [])) }
+    ensures within { OnOk result (n ≢ 0 → n < end) }
+    ensures damaged { IfErr result (λ fault. fault ≡ VolumeFault.Damaged
+        → Overflows first end named.old.items (n ∷ [])) }
+    ensures refused { IfErr result (λ fault. (fault ≡ VolumeFault.Damaged)
+        ⊎ (fault ≡ VolumeFault.Memory)) }
+{
+    if n == 0 {
+        return Ok(());
+    }
+    if n < first || end <= n || (end - first) as usize <= named.len() {
+        return Err(VolumeFault::Damaged);
+    }
+    match named.push(n) {
+        Ok(()) => Ok(()),
+        Err(_) => Err(VolumeFault::Memory),
+    }
+}
+
+/// Pushes the numbers but for those that are 0.
+fn push_all(named: &mut Vec<u32>, numbers: &[u32], first: u32, end: u32) -> Result<(), VolumeFault>
+    requires { AreInside first end named.old.items }
+    ensures pushes { OnOk result
+        (Pushes first end named.old.items named.new.items numbers.now) }
+    ensures damaged { IfErr result (λ fault. fault ≡ VolumeFault.Damaged
+        → Overflows first end named.old.items numbers.now) }
+    ensures refused { IfErr result (λ fault. (fault ≡ VolumeFault.Damaged)
+        ⊎ (fault ≡ VolumeFault.Memory)) }
+{
+    for n in numbers {
+        push_number(named, *n, first, end)?;
+    }
+    Ok(())
+}
+
+/// The numbers of a pointer sector.
+fn numbers_in(image: &[u8; 512]) -> [u32; 128]
+    ensures { (i : ℕ) → i < 128
+        → slice_index result i ≡ little_number 4 (drop (4 * i) image.now) }
+{
+    let mut numbers = [0; 128];
+    for i in 0..128u32 {
+        numbers[i as usize] = number_at(image, i);
+    }
+    numbers
+}
+
+/// Whether the numbers from one place on are all 0.
+fn none_from(numbers: &[u32; 128], from: u32) -> bool
+    ensures yes { IsTrue result → (i : ℕ) → from ≤ i → i < 128
+        → slice_index numbers.now i ≡ 0 }
+    ensures no { ((i : ℕ) → from ≤ i → i < 128 → slice_index numbers.now i ≡ 0)
+        → IsTrue result }
+{
+    for i in from.min(128)..128 {
+        if numbers[i as usize] != 0 {
+            return false;
+        }
+    }
+    true
+}
+
+/// The numbers that a pointer sector lists, zeros where there is no such sector. It is refused as
+/// `Damaged` where one from the place `from` on isn't 0.
+fn read_numbers<D: Device>(
+    log: &mut Log<D>,
+    list: u32,
+    from: u32,
+) -> Result<[u32; 128], VolumeFault>
+    requires there { list ≢ 0 → list < sectors_of log.old }
+    requires working { has_failed log.old ≡ false }
+    ensures numbers { D.honest (device_of log.old)
+        → IfOk result (λ numbers. numbers ≡ listed (view log.old) list) }
+    ensures past { D.honest (device_of log.old)
+        → OnOk result (ListsNoneFrom (view log.old) list from) }
+    ensures damaged { D.honest (device_of log.old)
+        → IfErr result (λ fault. fault ≡ VolumeFault.Damaged
+        → ListsNoneFrom (view log.old) list from → ⊥) }
+    ensures refused { IfErr result (λ fault. (fault ≡ VolumeFault.Damaged)
+        ⊎ (fault ≡ VolumeFault.Device)) }
+    ensures reads { OnlyReads log.old log.new }
+    ensures failed { has_failed log.new ≡ device_failed result }
+{
+    if list == 0 {
+        return Ok([0; 128]);
+    }
+    let image = log.read(list)?;
+    let numbers = numbers_in(&image);
+    if !none_from(&numbers, from) {
+        return Err(VolumeFault::Damaged);
+    }
+    Ok(numbers)
+}
+
+/// Pushes the number of a pointer sector and those that it lists. None may stand from the place
+/// `from` on.
+fn survey_list<D: Device>(
+    log: &mut Log<D>,
+    list: u32,
+    from: u32,
+    first: u32,
+    end: u32,
+    named: &mut Vec<u32>,
+) -> Result<(), VolumeFault>
+    requires there { end ≤ sectors_of log.old }
+    requires working { has_failed log.old ≡ false }
+    requires inside { AreInside first end named.old.items }
+    ensures pushes { D.honest (device_of log.old) → OnOk result (Pushes first end
+        named.old.items named.new.items (with_listed (view log.old) list)) }
+    ensures past { D.honest (device_of log.old)
+        → OnOk result (ListsNoneFrom (view log.old) list from) }
+    ensures inside { OnOk result (AreInside first end named.new.items) }
+    ensures damaged { D.honest (device_of log.old)
+        → IfErr result (λ fault. fault ≡ VolumeFault.Damaged
+        → ListsNoneFrom (view log.old) list from
+        → Overflows first end named.old.items (with_listed (view log.old) list)) }
+    ensures refused { IfErr result (λ fault. (fault ≡ VolumeFault.Damaged)
+        ⊎ ((fault ≡ VolumeFault.Device) ⊎ (fault ≡ VolumeFault.Memory))) }
+    ensures reads { OnlyReads log.old log.new }
+    ensures failed { has_failed log.new ≡ device_failed result }
+{
+    push_number(named, list, first, end)?;
+    let numbers = read_numbers(log, list, from)?;
+    push_all(named, &numbers, first, end)
+}
+
+/// Pushes the numbers of the later lists and those that they list.
+fn survey_lists<D: Device>(
+    log: &mut Log<D>,
+    lists: &[u32; 128],
+    count: u32,
+    first: u32,
+    end: u32,
+    named: &mut Vec<u32>,
+) -> Result<(), VolumeFault>
+    requires there { end ≤ sectors_of log.old }
+    requires working { has_failed log.old ≡ false }
+    requires inside { AreInside first end named.old.items }
+    ensures pushes { D.honest (device_of log.old) → OnOk result (Pushes first end
+        named.old.items named.new.items (all_listed (view log.old) lists.now)) }
+    ensures past { D.honest (device_of log.old)
+        → OnOk result (LaterListNone (view log.old) lists.now count) }
+    ensures inside { OnOk result (AreInside first end named.new.items) }
+    ensures damaged { D.honest (device_of log.old)
+        → IfErr result (λ fault. fault ≡ VolumeFault.Damaged
+        → LaterListNone (view log.old) lists.now count
+        → Overflows first end named.old.items (all_listed (view log.old) lists.now)) }
+    ensures refused { IfErr result (λ fault. (fault ≡ VolumeFault.Damaged)
+        ⊎ ((fault ≡ VolumeFault.Device) ⊎ (fault ≡ VolumeFault.Memory))) }
+    ensures reads { OnlyReads log.old log.new }
+    ensures failed { has_failed log.new ≡ device_failed result }
+{
+    for i in 0..128u32 {
+        let from = count.saturating_sub(186 + 128 * i);
+        survey_list(log, lists[i as usize], from, first, end, named)?;
+    }
+    Ok(())
+}
+
+/// Pushes the number of the pointer sector that lists the later lists, their numbers, and those
+/// that they list. None may stand for a part from `count` on.
+fn survey_later<D: Device>(
+    log: &mut Log<D>,
+    lists: u32,
+    count: u32,
+    first: u32,
+    end: u32,
+    named: &mut Vec<u32>,
+) -> Result<(), VolumeFault>
+    requires there { end ≤ sectors_of log.old }
+    requires working { has_failed log.old ≡ false }
+    requires inside { AreInside first end named.old.items }
+    ensures pushes { D.honest (device_of log.old) → OnOk result (Pushes first end
+        named.old.items named.new.items
+        (lists ∷ all_listed (view log.old) (listed (view log.old) lists))) }
+    ensures past { D.honest (device_of log.old)
+        → OnOk result (LaterNone (view log.old) lists count) }
+    ensures inside { OnOk result (AreInside first end named.new.items) }
+    ensures damaged { D.honest (device_of log.old)
+        → IfErr result (λ fault. fault ≡ VolumeFault.Damaged
+        → LaterNone (view log.old) lists count → Overflows first end named.old.items
+        (lists ∷ all_listed (view log.old) (listed (view log.old) lists))) }
+    ensures refused { IfErr result (λ fault. (fault ≡ VolumeFault.Damaged)
+        ⊎ ((fault ≡ VolumeFault.Device) ⊎ (fault ≡ VolumeFault.Memory))) }
+    ensures reads { OnlyReads log.old log.new }
+    ensures failed { has_failed log.new ≡ device_failed result }
+{
+    push_number(named, lists, first, end)?;
+    let kept = count.saturating_sub(186).div_ceil(128);
+    let numbers = read_numbers(log, lists, kept)?;
+    survey_lists(log, &numbers, count, first, end, named)
+}
+
+/// Pushes all numbers that the file names. None may stand for a part at or past its size.
+fn survey_sectors<D: Device>(
+    log: &mut Log<D>,
+    entry: &Entry,
+    first: u32,
+    end: u32,
+    named: &mut Vec<u32>,
+) -> Result<(), VolumeFault>
+    requires there { end ≤ sectors_of log.old }
+    requires working { has_failed log.old ≡ false }
+    requires pointers { HasPointers entry.now }
+    requires inside { AreInside first end named.old.items }
+    ensures pushes { D.honest (device_of log.old) → OnOk result (Pushes first end
+        named.old.items named.new.items (map (named_at (view log.old) entry.now) every_place)) }
+    ensures past { D.honest (device_of log.old)
+        → OnOk result (NamesNonePast (view log.old) entry.now) }
+    ensures inside { OnOk result (AreInside first end named.new.items) }
+    ensures damaged { D.honest (device_of log.old)
+        → IfErr result (λ fault. fault ≡ VolumeFault.Damaged
+        → NamesNonePast (view log.old) entry.now → Overflows first end named.old.items
+        (map (named_at (view log.old) entry.now) every_place)) }
+    ensures refused { IfErr result (λ fault. (fault ≡ VolumeFault.Damaged)
+        ⊎ ((fault ≡ VolumeFault.Device) ⊎ (fault ≡ VolumeFault.Memory))) }
+    ensures reads { OnlyReads log.old log.new }
+    ensures failed { has_failed log.new ≡ device_failed result }
+{
+    let count = entry.size.div_ceil(512);
+    push_all(named, &entry.pointers[..58], first, end)?;
+    let from = count.saturating_sub(58);
+    survey_list(log, entry.pointers[58], from, first, end, named)?;
+    survey_later(log, entry.pointers[59], count, first, end, named)
+}
+
+/// Whether the bytes from one place on are all 0.
+fn zeros_from(image: &[u8; 512], from: u32) -> bool
+    ensures yes { IsTrue result → (i : ℕ) → from ≤ i → i < 512
+        → slice_index image.now i ≡ 0 }
+    ensures no { ((i : ℕ) → from ≤ i → i < 512 → slice_index image.now i ≡ 0) → IsTrue result }
+{
+    for i in from.min(512)..512 {
+        if image[i as usize] != 0 {
+            return false;
+        }
+    }
+    true
+}
+
+/// The `i`-th number of a pointer sector. Sector 0 stands for none.
+fn number_of<D: Device>(log: &mut Log<D>, list: u32, i: u32, end: u32) -> Result<u32, DeviceFault>
+    requires place { i < 128 }
+    requires there { end ≤ sectors_of log.old }
+    requires working { has_failed log.old ≡ false }
+    ensures number { D.honest (device_of log.old) → (list ≢ 0 → list < end)
+        → IfOk result (λ n. n ≡ number_in (view log.old) list i) }
+    ensures reads { OnlyReads log.old log.new }
+    ensures failed { has_failed log.new ≡ is_err result }
+{
+    if list == 0 {
+        return Ok(0);
+    }
+    if end <= list {
+        return Ok(0);
+    }
+    let image = log.read(list)?;
+    Ok(number_at(&image, i))
+}
+
+/// The sector of a part of the file, or 0 where it was never written.
+fn part_sector<D: Device>(
+    log: &mut Log<D>,
+    entry: &Entry,
+    j: u32,
+    end: u32,
+) -> Result<u32, DeviceFault>
+    requires place { j < 16570 }
+    requires there { end ≤ sectors_of log.old }
+    requires working { has_failed log.old ≡ false }
+    ensures sector { D.honest (device_of log.old) → NamesBelow (view log.old) entry.now end
+        → IfOk result (λ n. n ≡ named_at (view log.old) entry.now (part j)) }
+    ensures reads { OnlyReads log.old log.new }
+    ensures failed { has_failed log.new ≡ is_err result }
+{
+    if j < DIRECT {
+        return Ok(entry.pointers[j as usize]);
+    }
+    if j < LISTED {
+        return number_of(log, entry.pointers[58], j - DIRECT, end);
+    }
+    let list = number_of(log, entry.pointers[59], (j - LISTED) / NUMBERS, end)?;
+    number_of(log, list, (j - LISTED) % NUMBERS, end)
+}
+
+/// Whether the bytes past the file's size are zeros in the part that the size ends in.
+fn ends_in_zeros<D: Device>(log: &mut Log<D>, entry: &Entry, end: u32) -> Result<bool, DeviceFault>
+    requires there { end ≤ sectors_of log.old }
+    requires working { has_failed log.old ≡ false }
+    requires small { entry.now.size ≤ 8483840 }
+    ensures yes { D.honest (device_of log.old) → NamesBelow (view log.old) entry.now end
+        → IfOk result (λ zeros. IsTrue zeros → EndsInZeros (view log.old) entry.now) }
+    ensures no { D.honest (device_of log.old) → NamesBelow (view log.old) entry.now end
+        → IfOk result (λ zeros. EndsInZeros (view log.old) entry.now → IsTrue zeros) }
+    ensures reads { OnlyReads log.old log.new }
+    ensures failed { has_failed log.new ≡ is_err result }
+{
+    let from = entry.size % 512;
+    if from == 0 {
+        return Ok(true);
+    }
+    let n = part_sector(log, entry, entry.size / 512, end)?;
+    if n == 0 {
+        return Ok(true);
+    }
+    if end <= n {
+        return Ok(true);
+    }
+    let image = log.read(n)?;
+    Ok(zeros_from(&image, from))
+}
+
+/// Pushes the number of each sector that the file names, in the order of its places, behind the
+/// numbers that were pushed before.
+///
+/// It is refused as `Damaged` where a number is out of the data sectors from `first` to the one
+/// before `end`, where there are more numbers than data sectors, where a number stands for a part
+/// at or past the size, or where a byte past the size is not 0; then some numbers may have been
+/// pushed. It is refused as `Device` where the log has failed, before or now, and as `Memory`.
+pub fn survey<D: Device>(
+    log: &mut Log<D>,
+    entry: &Entry,
+    first: u32,
+    end: u32,
+    named: &mut Vec<u32>,
+) -> Result<(), VolumeFault>
+    requires there { end ≤ sectors_of log.old }
+    requires pointers { HasPointers entry.now }
+    requires small { entry.now.size ≤ 8483840 }
+    requires inside { AreInside first end named.old.items }
+    ensures named { D.honest (device_of log.old) → OnOk result (named.new.items
+        ≡ named.old.items ++ sectors_named (view log.old) entry.now) }
+    ensures trimmed { D.honest (device_of log.old)
+        → OnOk result (IsTrimmed (view log.old) entry.now) }
+    ensures inside { OnOk result (AreInside first end named.new.items) }
+    ensures damaged { D.honest (device_of log.old)
+        → IfErr result (λ fault. fault ≡ VolumeFault.Damaged
+        → IsTrimmed (view log.old) entry.now
+        → AreInside first end (named.old.items ++ sectors_named (view log.old) entry.now) → ⊥) }
+    ensures refused { IfErr result (λ fault. (fault ≡ VolumeFault.Damaged)
+        ⊎ ((fault ≡ VolumeFault.Device) ⊎ (fault ≡ VolumeFault.Memory))) }
+    ensures reads { OnlyReads log.old log.new }
+    ensures failed { has_failed log.new ≡ device_failed result }
+    ensures idle { has_failed log.old ≡ true → (log.new ≡ log.old) × IsErr result }
+{
+    if log.failed() {
+        return Err(VolumeFault::Device);
+    }
+    survey_sectors(log, entry, first, end, named)?;
+    if !ends_in_zeros(log, entry, end)? {
+        return Err(VolumeFault::Damaged);
+    }
+    Ok(())
+}
