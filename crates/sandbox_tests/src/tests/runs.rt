@@ -1,9 +1,8 @@
 //! Whole runs of guests that a compiler made.
 
 use super::kernels::KERNELS;
-use super::sessions::settings;
-use super::writer::Bounded;
-use sandbox_core::{Outcome, Session, load, run};
+use super::sessions::opened;
+use sandbox_core::{Outcome, run};
 use std::alloc::Global;
 
 /// How the guest ends by so much fuel, the units that it used, and whether it printed exactly this.
@@ -13,18 +12,7 @@ pub fn ended(
     fuel: u64,
     printed: &[u8],
 ) -> Option<(Outcome, u64, bool)> {
-    let valid = load(alloc, module).ok()?;
-    let out = Bounded::new(alloc, 100, 100, None);
-    let err = Bounded::new(alloc, 1, 1, None);
-    let session = Session::new(
-        alloc,
-        valid,
-        settings(&[], &[], &[], 64),
-        b"".as_slice(),
-        out,
-        err,
-    )
-    .ok()?;
+    let session = opened(alloc, module, 100)?;
     if session.used() > 0 {
         return None;
     }

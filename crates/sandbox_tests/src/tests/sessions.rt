@@ -11,7 +11,7 @@ use std::process::Abort;
 use std::test::Fail;
 use wasm_tests::HELLO;
 
-pub fn settings<'a, 't>(
+fn settings<'a, 't>(
     args: &'a [&'t [u8]],
     env: &'a [&'t [u8]],
     preopens: &'a [Preopen<'t>],
@@ -107,9 +107,9 @@ fn prints_faults(rt: HostRuntime) -> Result<(), Fail> {
     Ok(())
 }
 
-type Small<'a> = Session<'a, &'static [u8], Bounded, Bounded>;
+pub type Small<'a> = Session<'a, &'static [u8], Bounded, Bounded>;
 
-fn opened(alloc: Global, module: &[u8], most: usize) -> Option<Small<'_>> {
+pub fn opened(alloc: Global, module: &[u8], most: usize) -> Option<Small<'_>> {
     let valid = load(alloc, module).ok()?;
     let out = Bounded::new(alloc, 100, most, Some(ErrorKind::BrokenPipe));
     let err = Bounded::new(alloc, 1, 1, None);
