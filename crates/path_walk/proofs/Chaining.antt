@@ -24,7 +24,7 @@ module _ {D : Type 0} (honest : D → Type 0) (disk : D → Disk) (size failures
     kept = record {
       numbers = s.kept.numbers ∙ f.kept.numbers;
       failed = s.kept.failed;
-      faults = λ ok. s.kept.faults f.kept.failed ∙ ap (counted io) (f.kept.faults ok);
+      failures = λ ok. s.kept.failures f.kept.failed ∙ ap (counted io) (f.kept.failures ok);
       idle = λ failed. absurd (let i = (f.kept.idle failed).1 in cc);
       honest = (λ h. s.kept.honest.0 (f.kept.honest.0 h), λ h. f.kept.honest.1 (s.kept.honest.1 h));
       size = s.kept.size ∙ f.kept.size;

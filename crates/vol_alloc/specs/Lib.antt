@@ -1,2 +1,3 @@
+-- What public contracts cite, in reading order.
 pub mod Numbers
 pub mod Alloc

@@ -14,5 +14,5 @@ stages_then {D = D} {g = g} a b c reads still device sectors working = record {
   sectors = sectors ∙ reads.sectors;
   honest = subst (λ (d : D). g.honest (device_of a) ↔ g.honest d) (sym device) reads.honest;
   size = ap g.size device ∙ reads.size;
-  faults = λ was_working. ap g.faults device ∙ reads.faults was_working ∙ ap (λ (b : Bool). counted b (g.faults (device_of a))) (still ∙ sym working);
+  failures = λ was_working. ap g.failures device ∙ reads.failures was_working ∙ ap (λ (b : Bool). counted b (g.failures (device_of a))) (still ∙ sym working);
 }

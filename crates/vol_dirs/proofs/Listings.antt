@@ -1,7 +1,8 @@
 -- What an entry more or less does to the keys and the children.
 use Rattle.std.proofs.Common.{◌≡◌, ◌≢◌, ◌⊎◌, ◌↔◌, inl, inr, ℕ, ◌≤◌, ◌<◌, ◌^◌, List, [], sym, ◌∙◌, ap, subst, arith}
 use Rattle.std.specs.List.{Contains}
-use Rattle.vol_dirs.specs.Rising.{Rises, Adds, Drops}
+use Rattle.vol_dirs.specs.Rising.{Rises}
+use Rattle.vol_dirs.specs.internal.Rising.{Adds, Drops}
 use Rattle.vol_dirs.specs.Key.{key_of, parent_in, name_in, IsPlain, IsKey}
 use Rattle.vol_dirs.specs.Listing.{Holds, IsListing, key_order, child_order}
 use Rattle.vol_dirs.proofs.Spelled.{parent_of_key, key_is, plain_in_key, same_key}

@@ -10,7 +10,7 @@ use Rattle.std.proofs.lemmas.Bool.{cases_lt}
 use Rattle.std.proofs.lemmas.Bool.Decides.{nat_tests}
 use Rattle.std.proofs.lemmas.Cmp.{tied_itself, nat_list_cmp_total}
 use Rattle.std.proofs.lemmas.List.Folds.{Any-from_list_any, list_any_at}
-use Rattle.vol_dirs.specs.Rising.{IsLeastOver, NoneIsOver}
+use Rattle.vol_dirs.specs.internal.Rising.{IsLeastOver, NoneIsOver}
 use Rattle.vol_dirs.specs.Key.{key_of, parent_in, name_in}
 use Rattle.vol_dirs.specs.Listing.{Holds, IsListing, key_order, child_order}
 use Rattle.vol_dirs.specs.Names.{NoChildOver, IsNextChild}

@@ -1,7 +1,7 @@
 -- The writes of an entry's fields give its spelling.
-use Rattle.std.proofs.Common.{◌≡◌, ℕ, ◌+◌, ◌*◌, ◌≤◌, List, [], ◌∷◌, ◌++◌, length, take, drop, replicate, refl, sym, ◌∙◌, ap, arith, append_assoc}
-use Rattle.std.proofs.lemmas.List.{take_at, drop_at, length-append, length-replicate}
-use Rattle.vol_inode.specs.Writes.{overwritten}
+use Rattle.std.proofs.Common.{◌≡◌, ℕ, ◌+◌, List, [], ◌∷◌, ◌++◌, length, take, drop, replicate, refl, sym, ◌∙◌, ap, arith, append_assoc}
+use Rattle.std.proofs.lemmas.List.{take_at, drop_at, length-append}
+use Rattle.vol_inode.specs.internal.Writes.{overwritten}
 
 -- a write that fills the part behind a front
 pub write_behind : (front part rest bytes : List ℕ) (at : ℕ) → length front ≡ at → length part ≡ length bytes

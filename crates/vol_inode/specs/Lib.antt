@@ -1,5 +1,6 @@
+-- What public contracts cite, in reading order; `internal` serves private contracts and proofs.
 pub mod Space
 pub mod Name
-pub mod Spelling
 pub mod Entry
-pub mod Writes
+pub mod Spelling
+pub mod internal

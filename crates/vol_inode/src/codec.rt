@@ -6,7 +6,7 @@ ghost use Rattle.std.specs.List.{flat_map};
 ghost use Rattle.byteorder.specs.Endian.{little_bytes, little_number};
 ghost use Rattle.vol_inode.specs.Spelling.{spelling, kind_byte, unused};
 ghost use Rattle.vol_inode.specs.Entry.{HasWidths, IsEntry};
-ghost use Rattle.vol_inode.specs.Writes.{overwritten};
+ghost use Rattle.vol_inode.specs.internal.Writes.{overwritten};
 ghost use Rattle.vol_inode.specs.declared.entry.Entry.{Entry};
 
 use crate::rules::keeps_rules;

@@ -27,7 +27,7 @@ module _ {D : Type 0} {g : Ghosts D} where
     sectors = λ i. sectors_of log;
     honest = (λ h. h, λ h. h);
     size = λ i. g.size (device_of log);
-    faults = λ working. ap (λ (b : Bool). counted b (g.faults (device_of log))) (sym working);
+    failures = λ working. ap (λ (b : Bool). counted b (g.failures (device_of log))) (sym working);
   }
 
   -- one read after another
@@ -40,5 +40,5 @@ module _ {D : Type 0} {g : Ghosts D} where
     sectors = second.sectors ∙ first.sectors;
     honest = (λ h. second.honest.0 (first.honest.0 h), λ h. first.honest.1 (second.honest.1 h));
     size = second.size ∙ first.size;
-    faults = λ working. second.faults still ∙ ap (counted (has_failed c)) (first.faults working ∙ ap (λ (b : Bool). counted b (g.faults (device_of a))) still);
+    failures = λ working. second.failures still ∙ ap (counted (has_failed c)) (first.failures working ∙ ap (λ (b : Bool). counted b (g.failures (device_of a))) still);
   }

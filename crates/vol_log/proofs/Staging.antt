@@ -7,7 +7,8 @@ use Rattle.vol_sector.specs.Disk.{Image, put}
 use Rattle.vol_log.specs.Header.{Places}
 use Rattle.vol_log.specs.Batch.{numbers, over, holds}
 use Rattle.vol_log.specs.declared.staged.Staged.{Staged}
-use Rattle.vol_log.specs.Index.{Index, place_at, IsIndex, IsAt, IsGapFor}
+use Rattle.vol_log.specs.Index.{Index, place_at, IsIndex}
+use Rattle.vol_log.specs.internal.Index.{IsAt, IsGapFor}
 use Rattle.vol_log.proofs.Images.{blank}
 use Rattle.vol_log.proofs.Parse.{places_more}
 use Rattle.vol_log.proofs.Finding.{place_inside, place_is, only_place, in_no_place}

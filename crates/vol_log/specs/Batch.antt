@@ -40,24 +40,6 @@ pub record Settled (sectors : ℕ) (disk : Disk) : Type 0 where
   pub durable : Only disk.seen disk.may_leave
   pub empty : IsHeader sectors (disk.seen 1) []
 
--- everything is on the disk and the log holds the batch
-pub record Logged (sectors : ℕ) (batch : List Staged) (disk : Disk) : Type 0 where
-  pub durable : Only disk.seen disk.may_leave
-  pub header : IsHeader sectors (disk.seen 1) (numbers batch)
-  pub images : logged (numbers batch) 2 disk.seen ≡ batch
-
--- a step that changes nothing outside the log's images
-abbrev pub OutsideImages : Image → Image → Type 0
-OutsideImages before after = (k : ℕ) → (k < 2) ⊎ (122 ≤ k) → after k ≡ before k
-
--- a step that changes nothing outside the log
-abbrev pub OutsideLog : Image → Image → Type 0
-OutsideLog before after = (k : ℕ) → IsContent k → after k ≡ before k
-
--- a step that the batch hides
-abbrev pub Under : List Staged → Image → Image → Type 0
-Under batch before after = over batch after ≡ over batch before
-
 -- the image has one of these contents
 abbrev pub HasEither : ℕ → Image → Image → Image → Type 0
 HasEither sectors one other image = HasContent sectors image one ⊎ HasContent sectors image other

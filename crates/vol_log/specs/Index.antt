@@ -21,14 +21,3 @@ pub record IsIndex (numbers : List ℕ) (index : Index) : Type 0 where
   pub same_length : length index ≡ length numbers
   pub points : (i : ℕ) → i < length index → (place_at index i < length numbers) × (slice_index numbers (place_at index i) ≡ number_at index i)
   pub whole : (p : ℕ) → p < length numbers → ((i : ℕ) → i < length index → place_at index i ≢ p) → ⊥
-
--- the entry at i is this number's
-pub record IsAt (index : Index) (number i : ℕ) : Type 0 where
-  pub in_range : i < length index
-  pub has_number : number_at index i ≡ number
-
--- this number would go to i: smaller numbers before it, and greater ones from there on
-pub record IsGapFor (index : Index) (number i : ℕ) : Type 0 where
-  pub in_range : i ≤ length index
-  pub smaller_before : (j : ℕ) → j < i → number_at index j < number
-  pub greater_after : (j : ℕ) → i ≤ j → j < length index → number < number_at index j

@@ -14,4 +14,4 @@ pub record OnlyReads {D : Type 0} {g : Ghosts D} (old new : Log D g) : Type 0 wh
   pub sectors : sectors_of new ≡ sectors_of old
   pub honest : g.honest (device_of old) ↔ g.honest (device_of new)
   pub size : g.size (device_of new) ≡ g.size (device_of old)
-  pub faults : has_failed old ≡ false → g.faults (device_of new) ≡ counted (has_failed new) (g.faults (device_of old))
+  pub failures : has_failed old ≡ false → g.failures (device_of new) ≡ counted (has_failed new) (g.failures (device_of old))

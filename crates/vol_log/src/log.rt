@@ -82,11 +82,11 @@ impl<D: Device> Log<D> {
             ⊎ ((r.fault ≡ VolumeFault.Device) ⊎ (r.fault ≡ VolumeFault.Memory))) }
         ensures kept_ok { IfOk result (λ log. (D.honest device ↔ D.honest (device_of log))
             × (D.size (device_of log) ≡ D.size device)
-            × (D.faults (device_of log) ≡ D.faults device)) }
+            × (D.failures (device_of log) ≡ D.failures device)) }
         // It is refused as `Device` only where an operation failed.
         ensures kept_err { IfErr result (λ r. (D.honest device ↔ D.honest r.device)
             × (D.size r.device ≡ D.size device)
-            × (D.faults r.device ≡ counted (is_device r.fault) (D.faults device))) }
+            × (D.failures r.device ≡ counted (is_device r.fault) (D.failures device))) }
     {
         let (mut batch, index) = match reserve(alloc) {
             Ok(reserved) => reserved,
@@ -146,8 +146,8 @@ impl<D: Device> Log<D> {
         ensures sectors { sectors_of self.new ≡ sectors_of self.old }
         ensures honest { D.honest (device_of self.old) ↔ D.honest (device_of self.new) }
         ensures size { D.size (device_of self.new) ≡ D.size (device_of self.old) }
-        ensures faults { has_failed self.old ≡ false → D.faults (device_of self.new)
-            ≡ counted (is_err result) (D.faults (device_of self.old)) }
+        ensures failures { has_failed self.old ≡ false → D.failures (device_of self.new)
+            ≡ counted (is_err result) (D.failures (device_of self.old)) }
     {
         if self.failed {
             return Err(DeviceFault);
@@ -212,8 +212,8 @@ impl<D: Device> Log<D> {
         ensures sectors { sectors_of self.new ≡ sectors_of self.old }
         ensures honest { D.honest (device_of self.old) ↔ D.honest (device_of self.new) }
         ensures size { D.size (device_of self.new) ≡ D.size (device_of self.old) }
-        ensures faults { has_failed self.old ≡ false → D.faults (device_of self.new)
-            ≡ counted (is_err result) (D.faults (device_of self.old)) }
+        ensures failures { has_failed self.old ≡ false → D.failures (device_of self.new)
+            ≡ counted (is_err result) (D.failures (device_of self.old)) }
     {
         if self.failed {
             return Err(DeviceFault);
@@ -257,8 +257,8 @@ impl<D: Device> Log<D> {
         ensures sectors { sectors_of self.new ≡ sectors_of self.old }
         ensures honest { D.honest (device_of self.old) ↔ D.honest (device_of self.new) }
         ensures size { D.size (device_of self.new) ≡ D.size (device_of self.old) }
-        ensures faults { has_failed self.old ≡ false → D.faults (device_of self.new)
-            ≡ counted (is_err result) (D.faults (device_of self.old)) }
+        ensures failures { has_failed self.old ≡ false → D.failures (device_of self.new)
+            ≡ counted (is_err result) (D.failures (device_of self.old)) }
     {
         if self.failed {
             return Err(DeviceFault);

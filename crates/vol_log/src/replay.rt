@@ -47,7 +47,7 @@ pub fn replay<D: Device>(
     ensures size { D.size device.new ≡ D.size device.old }
     ensures named { IfErr result (λ fault. (fault ≡ VolumeFault.Damaged)
         ⊎ (fault ≡ VolumeFault.Device)) }
-    ensures faults { D.faults device.new ≡ counted (device_failed result) (D.faults device.old) }
+    ensures failures { D.failures device.new ≡ counted (device_failed result) (D.failures device.old) }
     ensures emptied { OnOk result (batch.new.items ≡ []) }
     ensures room_kept { OnOk result (120 ≤ vec_capacity batch.new) }
 {

@@ -5,7 +5,8 @@ ghost use Rattle.std.specs.Prelude.{length, OnOk, OnErr, is_err};
 ghost use Rattle.vol_sector.specs.Disk.{After, Wrote, Leaves, Only, put, counted};
 ghost use Rattle.vol_log.specs.Header.{Places, IsHeader, header_bytes};
 ghost use Rattle.vol_log.specs.Batch.{numbers, over, logged, SameContent, HasContent, HasEither};
-ghost use Rattle.vol_log.specs.Batch.{Settled, Logged, OutsideImages, OutsideLog, Under};
+ghost use Rattle.vol_log.specs.Batch.{Settled};
+ghost use Rattle.vol_log.specs.internal.Steps.{Logged, OutsideImages, OutsideLog, Under};
 
 use crate::Staged;
 use crate::layout::{FIRST_IMAGE, FRONT, HEADER};
@@ -24,7 +25,7 @@ pub fn write_images<D: Device>(device: &mut D, batch: &[Staged]) -> Result<(), D
         (After OutsideImages (D.disk device.old).may_leave) }
     ensures honest { D.honest device.old ↔ D.honest device.new }
     ensures size { D.size device.new ≡ D.size device.old }
-    ensures faults { D.faults device.new ≡ counted (is_err result) (D.faults device.old) }
+    ensures failures { D.failures device.new ≡ counted (is_err result) (D.failures device.old) }
 {
     for (i, staged) in batch.iter().enumerate() {
         device.write(FIRST_IMAGE + i as u32, &staged.image)?;
@@ -43,7 +44,7 @@ pub fn install<D: Device>(device: &mut D, batch: &[Staged]) -> Result<(), Device
         (After (Under batch.now) (D.disk device.old).may_leave) }
     ensures honest { D.honest device.old ↔ D.honest device.new }
     ensures size { D.size device.new ≡ D.size device.old }
-    ensures faults { D.faults device.new ≡ counted (is_err result) (D.faults device.old) }
+    ensures failures { D.failures device.new ≡ counted (is_err result) (D.failures device.old) }
 {
     for staged in batch {
         device.write(staged.sector, &staged.image)?;
@@ -79,7 +80,7 @@ pub fn log_batch<D: Device>(device: &mut D, batch: &[Staged]) -> Result<(), Devi
         → OutsideLog (D.disk device.old).seen (D.disk device.new).seen }
     ensures honest { D.honest device.old ↔ D.honest device.new }
     ensures size { D.size device.new ≡ D.size device.old }
-    ensures faults { D.faults device.new ≡ counted (is_err result) (D.faults device.old) }
+    ensures failures { D.failures device.new ≡ counted (is_err result) (D.failures device.old) }
 {
     write_images(device, batch)?;
     device.sync()?; // the images are on the disk before the header names them
@@ -102,7 +103,7 @@ pub fn apply_batch<D: Device>(device: &mut D, batch: &[Staged]) -> Result<(), De
         (over batch.now (D.disk device.old).seen) }
     ensures honest { D.honest device.old ↔ D.honest device.new }
     ensures size { D.size device.new ≡ D.size device.old }
-    ensures faults { D.faults device.new ≡ counted (is_err result) (D.faults device.old) }
+    ensures failures { D.failures device.new ≡ counted (is_err result) (D.failures device.old) }
 {
     install(device, batch)?;
     device.sync()?; // the sectors are on the disk before the log is emptied
@@ -127,7 +128,7 @@ pub fn commit_batch<D: Device>(device: &mut D, batch: &[Staged]) -> Result<(), D
         (over batch.now (D.disk device.old).seen) }
     ensures honest { D.honest device.old ↔ D.honest device.new }
     ensures size { D.size device.new ≡ D.size device.old }
-    ensures faults { D.faults device.new ≡ counted (is_err result) (D.faults device.old) }
+    ensures failures { D.failures device.new ≡ counted (is_err result) (D.failures device.old) }
 {
     log_batch(device, batch)?;
     apply_batch(device, batch)
@@ -143,7 +144,7 @@ pub fn read_images<D: Device>(device: &mut D, batch: &mut [Staged]) -> Result<()
     ensures crash { D.honest device.old → Leaves (D.disk device.old) (D.disk device.new) (λ c. ⊥) }
     ensures honest { D.honest device.old ↔ D.honest device.new }
     ensures size { D.size device.new ≡ D.size device.old }
-    ensures faults { D.faults device.new ≡ counted (is_err result) (D.faults device.old) }
+    ensures failures { D.failures device.new ≡ counted (is_err result) (D.failures device.old) }
     ensures sectors { numbers batch.new ≡ numbers batch.old }
 {
     for (i, staged) in batch.iter_mut().enumerate() {
@@ -165,7 +166,7 @@ pub fn write_front<D: Device>(device: &mut D, image: &[u8; 512]) -> Result<(), D
         (After (Wrote 0 image.now) (D.disk device.old).may_leave) }
     ensures honest { D.honest device.old ↔ D.honest device.new }
     ensures size { D.size device.new ≡ D.size device.old }
-    ensures faults { D.faults device.new ≡ counted (is_err result) (D.faults device.old) }
+    ensures failures { D.failures device.new ≡ counted (is_err result) (D.failures device.old) }
 {
     device.write(FRONT, image)?;
     device.sync() // it isn't pending when the caller goes on

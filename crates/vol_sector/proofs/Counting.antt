@@ -26,25 +26,25 @@ passed_same tried t le =
     ap (λ (k : ℕ). count (take k (false ∷ tried))) longer ∙ none
 
 -- the moment of the disk below where the count was t
-since_passed : (tried : List Bool) (a b : Disk) (t : ℕ) → OneMore a b → t ≤ length tried → b.moment - passed_since (true ∷ tried) t ≡ a.moment - passed_since tried t
+since_passed : (tried : List Bool) (a b : Disk) (t : ℕ) → OneMore a b → t ≤ length tried → b.operation_count - passed_since (true ∷ tried) t ≡ a.operation_count - passed_since tried t
 since_passed tried a b t more le = omega (arith, more, passed_more tried t le)
 
-since_kept : (tried : List Bool) (a : Disk) (t : ℕ) → t ≤ length tried → a.moment - passed_since (false ∷ tried) t ≡ a.moment - passed_since tried t
-since_kept tried a t le = ap (λ (k : ℕ). a.moment - k) (passed_same tried t le)
+since_kept : (tried : List Bool) (a : Disk) (t : ℕ) → t ≤ length tried → a.operation_count - passed_since (false ∷ tried) t ≡ a.operation_count - passed_since tried t
+since_kept tried a t le = ap (λ (k : ℕ). a.operation_count - k) (passed_same tried t le)
 
 -- an operation that passed to the disk below
 pub leaves_passed : (old new : List Bool) (a b : Disk) (P : Image → Type 0) → new ≡ true ∷ old → OneMore a b → Leaves a b P → Leaves (counting old a) (counting new b) P
 leaves_passed old new a b P is more leaves =
     subst (λ (tried : List Bool). Leaves (counting old a) (counting tried b) P) (sym is) (record {
       later = omega arith;
-      since = λ t c le left. leaves.since (a.moment - passed_since old t) c (omega arith) (subst (λ (k : ℕ). b.left_since k c) (since_passed old a b t more le) left);
+      since = λ t c le left. leaves.since (a.operation_count - passed_since old t) c (omega arith) (subst (λ (k : ℕ). b.left_since k c) (since_passed old a b t more le) left);
       now = leaves.now;
     })
 
 pub keeps_passed : (old new : List Bool) (a b : Disk) → new ≡ true ∷ old → OneMore a b → Keeps a b → Keeps (counting old a) (counting new b)
 keeps_passed old new a b is more keeps =
     subst (λ (tried : List Bool). Keeps (counting old a) (counting tried b)) (sym is)
-    (λ t c le left. subst (λ (k : ℕ). b.left_since k c) (sym (since_passed old a b t more le)) (keeps (a.moment - passed_since old t) c (omega arith) left))
+    (λ t c le left. subst (λ (k : ℕ). b.left_since k c) (sym (since_passed old a b t more le)) (keeps (a.operation_count - passed_since old t) c (omega arith) left))
 
 -- an operation that left the disk below as it was
 pub leaves_kept : (old new : List Bool) (a : Disk) (P : Image → Type 0) → new ≡ false ∷ old → Leaves (counting old a) (counting new a) P

@@ -5,7 +5,8 @@ use Rattle.std.proofs.lemmas.Bool.Decides.{nat_tests}
 use Rattle.std.proofs.lemmas.List.{take_all, take-append-le, length_push, get_or-set_same, get_or-set_other, get_or-replicate}
 use Rattle.vol_sector.specs.Disk.{Image, put, Wrote, After, Leaves, Keeps, Only}
 use Rattle.vol_sector.specs.Record.{newest, choices, Among, LeftBy, LeftSince, recorded}
-use Rattle.vol_sector.specs.RecordLaws.{image_of, stays_left}
+use Rattle.vol_sector.specs.Record.{image_of}
+use Rattle.vol_sector.specs.internal.RecordLaws.{stays_left}
 use Rattle.vol_sector.specs.Memory.{IsUnused}
 use Rattle.vol_sector.specs.declared.memory.MemoryDevice.{MemoryDevice}
 use Rattle.vol_sector.specs.declared.record.Operation.{Operation}

@@ -11,6 +11,6 @@ abbrev pub counting : List Bool → Disk → Disk
 counting tried below = record {
   seen = below.seen;
   may_leave = below.may_leave;
-  moment = length tried;
-  left_since = λ t. below.left_since (below.moment - passed_since tried t);
+  operation_count = length tried;
+  left_since = λ t. below.left_since (below.operation_count - passed_since tried t);
 }

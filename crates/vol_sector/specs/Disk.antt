@@ -9,15 +9,15 @@ Image = ℕ → List ℕ
 abbrev pub put : ℕ → List ℕ → Image → Image
 put n bytes image k = if k == n then bytes else image k
 
--- What is known of a disk at one moment. A moment is the count of operations tried, failed ones among them.
+-- What is known of a disk. Moments are told apart by the count of operations tried, failed ones among them.
 pub record Disk : Type 1 where
   -- what reads give
   pub seen : Image
   -- what a crash now may leave
   pub may_leave : Image → Type 0
   -- how many operations were tried
-  pub moment : ℕ
-  -- what a crash at some moment from that one on may have left
+  pub operation_count : ℕ
+  -- what a crash may have left at some moment from that count on
   pub left_since : ℕ → Image → Type 0
 
 -- what may stand after a step from what may stand before it
@@ -36,19 +36,19 @@ Wrote n bytes before after = (after ≡ before) ⊎ (after ≡ put n bytes befor
 abbrev pub Only : Image → (Image → Type 0) → Type 0
 Only image may_leave = (c : Image) → may_leave c → c ≡ image
 
--- Each image that a crash since the old moment may leave could be left before, or has P.
+-- Each image that a crash since the old count may leave could be left before, or has P.
 pub record Leaves (old new : Disk) (P : Image → Type 0) : Type 0 where
-  pub later : old.moment ≤ new.moment
-  pub since : (t : ℕ) (c : Image) → t ≤ old.moment → new.left_since t c → old.left_since t c ⊎ P c
+  pub later : old.operation_count ≤ new.operation_count
+  pub since : (t : ℕ) (c : Image) → t ≤ old.operation_count → new.left_since t c → old.left_since t c ⊎ P c
   pub now : (c : Image) → new.may_leave c → old.may_leave c ⊎ P c
 
 -- what might have been left might still have been
 abbrev pub Keeps : Disk → Disk → Type 0
-Keeps old new = (t : ℕ) (c : Image) → t ≤ old.moment → old.left_since t c → new.left_since t c
+Keeps old new = (t : ℕ) (c : Image) → t ≤ old.operation_count → old.left_since t c → new.left_since t c
 
 -- one operation was tried
 abbrev pub OneMore : Disk → Disk → Type 0
-OneMore old new = new.moment ≡ old.moment + 1
+OneMore old new = new.operation_count ≡ old.operation_count + 1
 
 -- one operation was tried, and a crash may leave what has P, too
 abbrev pub OneOperation : Disk → Disk → (Image → Type 0) → Type 0

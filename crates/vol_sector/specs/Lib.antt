@@ -1,11 +1,11 @@
-pub mod Breakable
-pub mod Counting
-pub mod CountingLaws
-pub mod Crash
+-- What public contracts cite, in reading order; `internal` serves private contracts and proofs.
 pub mod Disk
 pub mod Fault
-pub mod Flaky
-pub mod Fuse
-pub mod Memory
 pub mod Record
-pub mod RecordLaws
+pub mod Crash
+pub mod Counting
+pub mod Breakable
+pub mod Fuse
+pub mod Flaky
+pub mod Memory
+pub mod internal

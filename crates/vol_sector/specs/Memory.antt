@@ -3,7 +3,7 @@ use Rattle.std.specs.Prelude.{◌≡◌, ◌<◌, ℕ, List, [], Bool, vec_len}
 use Rattle.vol_sector.specs.Disk.{Image, Disk}
 use Rattle.vol_sector.specs.Counting.{counting}
 use Rattle.vol_sector.specs.Record.{recorded}
-use Rattle.vol_sector.specs.RecordLaws.{image_of}
+use Rattle.vol_sector.specs.Record.{image_of}
 use Rattle.vol_sector.specs.declared.memory.MemoryDevice.{MemoryDevice}
 use Rattle.vol_sector.specs.declared.record.Operation.{Operation}
 

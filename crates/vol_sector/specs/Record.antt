@@ -1,8 +1,12 @@
 -- What a device that records its writes and syncs may leave.
-use Rattle.std.specs.Prelude.{◌≡◌, ◌⊎◌, ◌≤◌, ◌==◌, ℕ, List, [], ◌∷◌, ◌++◌, length, take, if◌then◌else◌, Bool, true, false}
+use Rattle.std.specs.Prelude.{◌≡◌, ◌⊎◌, ◌≤◌, ◌==◌, ℕ, List, [], ◌∷◌, ◌++◌, length, take, slice_index_or, if◌then◌else◌, Bool, true, false}
 use Rattle.vol_sector.specs.Disk.{Image, Disk}
 use Rattle.vol_sector.specs.declared.record.Operation.{Operation}
 use Rattle.vol_sector.specs.declared.record.Operation.TheVariants.{Write, Sync}
+
+-- the image that a list of sectors gives
+abbrev pub image_of : List (List ℕ) → Image
+image_of sectors n = slice_index_or sectors n []
 
 -- the sector's value after the operations, from this one
 abbrev pub newest : ℕ → List ℕ → List Operation → List ℕ
@@ -33,7 +37,7 @@ abbrev pub recorded : Image → List Operation → Disk
 recorded first operations = record {
   seen = λ n. newest n (first n) operations;
   may_leave = LeftBy first operations;
-  moment = length operations;
+  operation_count = length operations;
   left_since = LeftSince first operations;
 }
 

@@ -3,7 +3,7 @@
 ghost use Rattle.std.specs.Prelude.{◌≡◌, ◌+◌, ◌-◌, ◌^◌, ◌<◌, ◌≤◌, ◌↔◌, ℕ, min, true, []};
 ghost use Rattle.vol_sector.specs.Disk.{Leaves, Keeps, OneMore, counted};
 ghost use Rattle.vol_sector.specs.Counting.{counting};
-ghost use Rattle.vol_sector.specs.CountingLaws.{counting_now, only_counting};
+ghost use Rattle.vol_sector.specs.internal.CountingLaws.{counting_now, only_counting};
 
 use crate::tried::Tried;
 use crate::{Device, DeviceFault};
@@ -50,7 +50,7 @@ impl<D: Device> Breakable<D> {
         ensures failures { failures_of self.new ≡ counted true (failures_of self.old) }
         ensures crash { Leaves (disk_of D.disk self.old) (disk_of D.disk self.new) (λ c. ⊥) }
         ensures keeps { Keeps (disk_of D.disk self.old) (disk_of D.disk self.new) }
-        ensures moment { OneMore (disk_of D.disk self.old) (disk_of D.disk self.new) }
+        ensures operation_count { OneMore (disk_of D.disk self.old) (disk_of D.disk self.new) }
     {
         self.tried = self.tried.kept();
         self.failures = self.failures.saturating_add(1);
@@ -70,7 +70,7 @@ impl<D: Device> Device for Breakable<D> {
 
     ghost size = { λ b. D.size b.device };
 
-    ghost faults = { λ b. both_counts (D.faults b.device) b.failures };
+    ghost failures = { λ b. both_counts (D.failures b.device) b.failures };
 
     ghost counts_now = { λ b t c h le may. counting_now b.tried.operations (D.disk b.device)
         (λ s x past left. D.counts_now b.device s x h past left) t c le may };
@@ -98,16 +98,16 @@ impl<D: Device> Device for Breakable<D> {
             → Leaves (disk_of D.disk self.old) (disk_of D.disk self.new) (λ c. ⊥) }
         ensures keeps { D.honest (device_of self.old)
             → Keeps (disk_of D.disk self.old) (disk_of D.disk self.new) }
-        ensures moment { D.honest (device_of self.old)
+        ensures operation_count { D.honest (device_of self.old)
             → OneMore (disk_of D.disk self.old) (disk_of D.disk self.new) }
         ensures honest { D.honest (device_of self.old) ↔ D.honest (device_of self.new) }
         ensures size { D.size (device_of self.new) ≡ D.size (device_of self.old) }
-        ensures faults { both_counts (D.faults (device_of self.new)) (failures_of self.new)
+        ensures failures { both_counts (D.failures (device_of self.new)) (failures_of self.new)
             ≡ counted (is_err result)
-            (both_counts (D.faults (device_of self.old)) (failures_of self.old)) }
-        ensures passes { D.faults (device_of self.new)
-            ≡ counted (is_err result) (D.faults (device_of self.old)) }
-        ensures failures { failures_of self.new ≡ failures_of self.old }
+            (both_counts (D.failures (device_of self.old)) (failures_of self.old)) }
+        ensures passes { D.failures (device_of self.new)
+            ≡ counted (is_err result) (D.failures (device_of self.old)) }
+        ensures own_failures { failures_of self.new ≡ failures_of self.old }
         ensures passes_on { D.honest (device_of self.old)
             → OneOperation (D.disk (device_of self.old)) (D.disk (device_of self.new)) (λ c. ⊥) }
     {
@@ -128,16 +128,16 @@ impl<D: Device> Device for Breakable<D> {
             (After (Wrote n image.now) (disk_of D.disk self.old).may_leave) }
         ensures keeps { D.honest (device_of self.old)
             → Keeps (disk_of D.disk self.old) (disk_of D.disk self.new) }
-        ensures moment { D.honest (device_of self.old)
+        ensures operation_count { D.honest (device_of self.old)
             → OneMore (disk_of D.disk self.old) (disk_of D.disk self.new) }
         ensures honest { D.honest (device_of self.old) ↔ D.honest (device_of self.new) }
         ensures size { D.size (device_of self.new) ≡ D.size (device_of self.old) }
-        ensures faults { both_counts (D.faults (device_of self.new)) (failures_of self.new)
+        ensures failures { both_counts (D.failures (device_of self.new)) (failures_of self.new)
             ≡ counted (is_err result)
-            (both_counts (D.faults (device_of self.old)) (failures_of self.old)) }
-        ensures passes { D.faults (device_of self.new)
-            ≡ counted (is_err result) (D.faults (device_of self.old)) }
-        ensures failures { failures_of self.new ≡ failures_of self.old }
+            (both_counts (D.failures (device_of self.old)) (failures_of self.old)) }
+        ensures passes { D.failures (device_of self.new)
+            ≡ counted (is_err result) (D.failures (device_of self.old)) }
+        ensures own_failures { failures_of self.new ≡ failures_of self.old }
         ensures passes_on { D.honest (device_of self.old)
             → OneOperation (D.disk (device_of self.old)) (D.disk (device_of self.new))
             (After (Wrote n image.now) (D.disk (device_of self.old)).may_leave) }
@@ -156,16 +156,16 @@ impl<D: Device> Device for Breakable<D> {
             → Leaves (disk_of D.disk self.old) (disk_of D.disk self.new) (λ c. ⊥) }
         ensures keeps { D.honest (device_of self.old)
             → Keeps (disk_of D.disk self.old) (disk_of D.disk self.new) }
-        ensures moment { D.honest (device_of self.old)
+        ensures operation_count { D.honest (device_of self.old)
             → OneMore (disk_of D.disk self.old) (disk_of D.disk self.new) }
         ensures honest { D.honest (device_of self.old) ↔ D.honest (device_of self.new) }
         ensures size { D.size (device_of self.new) ≡ D.size (device_of self.old) }
-        ensures faults { both_counts (D.faults (device_of self.new)) (failures_of self.new)
+        ensures failures { both_counts (D.failures (device_of self.new)) (failures_of self.new)
             ≡ counted (is_err result)
-            (both_counts (D.faults (device_of self.old)) (failures_of self.old)) }
-        ensures passes { D.faults (device_of self.new)
-            ≡ counted (is_err result) (D.faults (device_of self.old)) }
-        ensures failures { failures_of self.new ≡ failures_of self.old }
+            (both_counts (D.failures (device_of self.old)) (failures_of self.old)) }
+        ensures passes { D.failures (device_of self.new)
+            ≡ counted (is_err result) (D.failures (device_of self.old)) }
+        ensures own_failures { failures_of self.new ≡ failures_of self.old }
         ensures passes_on { D.honest (device_of self.old)
             → OneOperation (D.disk (device_of self.old)) (D.disk (device_of self.new)) (λ c. ⊥) }
     {

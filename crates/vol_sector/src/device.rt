@@ -15,9 +15,9 @@ pub struct DeviceFault;
 ///
 /// A crash leaves each sector, apart from the others, at its value of the last successful sync or
 /// at any value whose write was tried since, failed writes among them. A failed sync settles
-/// nothing. What is said of contents and moments holds of an honest device alone. Each read, write
-/// and sync raises the moment by one, failed ones among them. Each failed operation raises the count
-/// of failures by one and nothing else does; at its last value the count stays.
+/// nothing. What is said of contents and of operations holds only of an honest device. Each read, write
+/// and sync raises the count of operations by one, failed ones among them. Each failed operation raises
+/// the count of failures by one and nothing else does; at its last value the count stays.
 pub trait Device {
     /// What is known of the disk.
     ghost disk: { Self → Disk };
@@ -29,7 +29,7 @@ pub trait Device {
     ghost size: { Self → ℕ };
 
     /// How many operations have failed, as far as the count goes.
-    ghost faults: { Self → ℕ };
+    ghost failures: { Self → ℕ };
 
     /// The number of sectors, which never changes.
     fn sectors(&self) -> u32
@@ -37,7 +37,7 @@ pub trait Device {
 
     /// How many operations have failed; at its last value the count stays.
     fn failures(&self) -> u64
-        ensures { result ≡ faults self.now };
+        ensures { result ≡ failures self.now };
 
     /// The sector's bytes: those of its last write.
     fn read(&mut self, n: u32) -> Result<[u8; 512], DeviceFault>
@@ -46,10 +46,10 @@ pub trait Device {
         ensures seen { honest self.old → (disk self.new).seen ≡ (disk self.old).seen }
         ensures crash { honest self.old → Leaves (disk self.old) (disk self.new) (λ c. ⊥) }
         ensures keeps { honest self.old → Keeps (disk self.old) (disk self.new) }
-        ensures moment { honest self.old → OneMore (disk self.old) (disk self.new) }
+        ensures operation_count { honest self.old → OneMore (disk self.old) (disk self.new) }
         ensures honest { honest self.old ↔ honest self.new }
         ensures size { size self.new ≡ size self.old }
-        ensures faults { faults self.new ≡ counted (is_err result) (faults self.old) };
+        ensures failures { failures self.new ≡ counted (is_err result) (failures self.old) };
 
     /// Writes the sector. After a failure reads give the former bytes or these, always the same
     /// until the next write there.
@@ -62,10 +62,10 @@ pub trait Device {
         ensures crash { honest self.old → Leaves (disk self.old) (disk self.new)
             (After (Wrote n image.now) (disk self.old).may_leave) }
         ensures keeps { honest self.old → Keeps (disk self.old) (disk self.new) }
-        ensures moment { honest self.old → OneMore (disk self.old) (disk self.new) }
+        ensures operation_count { honest self.old → OneMore (disk self.old) (disk self.new) }
         ensures honest { honest self.old ↔ honest self.new }
         ensures size { size self.new ≡ size self.old }
-        ensures faults { faults self.new ≡ counted (is_err result) (faults self.old) };
+        ensures failures { failures self.new ≡ counted (is_err result) (failures self.old) };
 
     /// After its success a crash leaves what reads give.
     fn sync(&mut self) -> Result<(), DeviceFault>
@@ -74,18 +74,18 @@ pub trait Device {
         ensures seen { honest self.old → (disk self.new).seen ≡ (disk self.old).seen }
         ensures crash { honest self.old → Leaves (disk self.old) (disk self.new) (λ c. ⊥) }
         ensures keeps { honest self.old → Keeps (disk self.old) (disk self.new) }
-        ensures moment { honest self.old → OneMore (disk self.old) (disk self.new) }
+        ensures operation_count { honest self.old → OneMore (disk self.old) (disk self.new) }
         ensures honest { honest self.old ↔ honest self.new }
         ensures size { size self.new ≡ size self.old }
-        ensures faults { faults self.new ≡ counted (is_err result) (faults self.old) };
+        ensures failures { failures self.new ≡ counted (is_err result) (failures self.old) };
 
-    /// This moment is one of those since an earlier one.
-    ghost counts_now: { (d : Self) (t : ℕ) (c : Image) → honest d → t ≤ (disk d).moment
+    /// What a crash may leave now is among what a crash since an earlier count may have left.
+    ghost counts_now: { (d : Self) (t : ℕ) (c : Image) → honest d → t ≤ (disk d).operation_count
         → (disk d).may_leave c → (disk d).left_since t c };
 
-    /// Since this moment there is no other.
+    /// Since the count of now there is only now.
     ghost only_now: { (d : Self) (c : Image) → honest d
-        → (disk d).left_since (disk d).moment c → (disk d).may_leave c };
+        → (disk d).left_since (disk d).operation_count c → (disk d).may_leave c };
 
     /// A crash may leave what reads give.
     ghost may_stay: { (d : Self) → honest d → (disk d).may_leave (disk d).seen };

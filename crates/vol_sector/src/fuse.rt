@@ -2,7 +2,7 @@
 
 ghost use Rattle.std.specs.Prelude.{◌≡◌, ◌+◌, ◌-◌, ◌^◌, ◌<◌, ◌==◌, ◌↔◌, ℕ, min, IsTrue};
 ghost use Rattle.vol_sector.specs.Counting.{counting};
-ghost use Rattle.vol_sector.specs.CountingLaws.{counting_now, only_counting};
+ghost use Rattle.vol_sector.specs.internal.CountingLaws.{counting_now, only_counting};
 
 use crate::breakable::Breakable;
 use crate::{Device, DeviceFault};
@@ -23,7 +23,7 @@ impl<D: Device> FuseDevice<D> {
         ensures device { device_of result ≡ device }
         ensures left { left_of result ≡ operations }
         ensures failures { failures_of result ≡ 0 }
-        ensures moment { (disk_of D.disk result).moment ≡ 0 }
+        ensures operation_count { (disk_of D.disk result).operation_count ≡ 0 }
     {
         FuseDevice {
             inner: Breakable::new(device),
@@ -64,7 +64,7 @@ impl<D: Device> Device for FuseDevice<D> {
 
     ghost size = { λ f. D.size f.inner.device };
 
-    ghost faults = { λ f. both_counts (D.faults f.inner.device) f.inner.failures };
+    ghost failures = { λ f. both_counts (D.failures f.inner.device) f.inner.failures };
 
     ghost counts_now = { λ f t c h le may. counting_now f.inner.tried.operations
         (D.disk f.inner.device) (λ s x past left. D.counts_now f.inner.device s x h past left)
@@ -93,19 +93,19 @@ impl<D: Device> Device for FuseDevice<D> {
             → Leaves (disk_of D.disk self.old) (disk_of D.disk self.new) (λ c. ⊥) }
         ensures keeps { D.honest (device_of self.old)
             → Keeps (disk_of D.disk self.old) (disk_of D.disk self.new) }
-        ensures moment { D.honest (device_of self.old)
+        ensures operation_count { D.honest (device_of self.old)
             → OneMore (disk_of D.disk self.old) (disk_of D.disk self.new) }
         ensures honest { D.honest (device_of self.old) ↔ D.honest (device_of self.new) }
         ensures size { D.size (device_of self.new) ≡ D.size (device_of self.old) }
-        ensures faults { both_counts (D.faults (device_of self.new)) (failures_of self.new)
+        ensures failures { both_counts (D.failures (device_of self.new)) (failures_of self.new)
             ≡ counted (is_err result)
-            (both_counts (D.faults (device_of self.old)) (failures_of self.old)) }
+            (both_counts (D.failures (device_of self.old)) (failures_of self.old)) }
         ensures count { left_of self.new ≡ left_of self.old - 1 }
         ensures fails { left_of self.old ≡ 0
             → IsErr result × (device_of self.new ≡ device_of self.old) }
         ensures passes { 0 < left_of self.old
-            → D.faults (device_of self.new)
-            ≡ counted (is_err result) (D.faults (device_of self.old)) }
+            → D.failures (device_of self.new)
+            ≡ counted (is_err result) (D.failures (device_of self.old)) }
         ensures passes_on { 0 < left_of self.old → D.honest (device_of self.old)
             → OneOperation (D.disk (device_of self.old)) (D.disk (device_of self.new)) (λ c. ⊥) }
     {
@@ -128,19 +128,19 @@ impl<D: Device> Device for FuseDevice<D> {
             (After (Wrote n image.now) (disk_of D.disk self.old).may_leave) }
         ensures keeps { D.honest (device_of self.old)
             → Keeps (disk_of D.disk self.old) (disk_of D.disk self.new) }
-        ensures moment { D.honest (device_of self.old)
+        ensures operation_count { D.honest (device_of self.old)
             → OneMore (disk_of D.disk self.old) (disk_of D.disk self.new) }
         ensures honest { D.honest (device_of self.old) ↔ D.honest (device_of self.new) }
         ensures size { D.size (device_of self.new) ≡ D.size (device_of self.old) }
-        ensures faults { both_counts (D.faults (device_of self.new)) (failures_of self.new)
+        ensures failures { both_counts (D.failures (device_of self.new)) (failures_of self.new)
             ≡ counted (is_err result)
-            (both_counts (D.faults (device_of self.old)) (failures_of self.old)) }
+            (both_counts (D.failures (device_of self.old)) (failures_of self.old)) }
         ensures count { left_of self.new ≡ left_of self.old - 1 }
         ensures fails { left_of self.old ≡ 0
             → IsErr result × (device_of self.new ≡ device_of self.old) }
         ensures passes { 0 < left_of self.old
-            → D.faults (device_of self.new)
-            ≡ counted (is_err result) (D.faults (device_of self.old)) }
+            → D.failures (device_of self.new)
+            ≡ counted (is_err result) (D.failures (device_of self.old)) }
         ensures passes_on { 0 < left_of self.old → D.honest (device_of self.old)
             → OneOperation (D.disk (device_of self.old)) (D.disk (device_of self.new))
             (After (Wrote n image.now) (D.disk (device_of self.old)).may_leave) }
@@ -161,19 +161,19 @@ impl<D: Device> Device for FuseDevice<D> {
             → Leaves (disk_of D.disk self.old) (disk_of D.disk self.new) (λ c. ⊥) }
         ensures keeps { D.honest (device_of self.old)
             → Keeps (disk_of D.disk self.old) (disk_of D.disk self.new) }
-        ensures moment { D.honest (device_of self.old)
+        ensures operation_count { D.honest (device_of self.old)
             → OneMore (disk_of D.disk self.old) (disk_of D.disk self.new) }
         ensures honest { D.honest (device_of self.old) ↔ D.honest (device_of self.new) }
         ensures size { D.size (device_of self.new) ≡ D.size (device_of self.old) }
-        ensures faults { both_counts (D.faults (device_of self.new)) (failures_of self.new)
+        ensures failures { both_counts (D.failures (device_of self.new)) (failures_of self.new)
             ≡ counted (is_err result)
-            (both_counts (D.faults (device_of self.old)) (failures_of self.old)) }
+            (both_counts (D.failures (device_of self.old)) (failures_of self.old)) }
         ensures count { left_of self.new ≡ left_of self.old - 1 }
         ensures fails { left_of self.old ≡ 0
             → IsErr result × (device_of self.new ≡ device_of self.old) }
         ensures passes { 0 < left_of self.old
-            → D.faults (device_of self.new)
-            ≡ counted (is_err result) (D.faults (device_of self.old)) }
+            → D.failures (device_of self.new)
+            ≡ counted (is_err result) (D.failures (device_of self.old)) }
         ensures passes_on { 0 < left_of self.old → D.honest (device_of self.old)
             → OneOperation (D.disk (device_of self.old)) (D.disk (device_of self.new)) (λ c. ⊥) }
     {

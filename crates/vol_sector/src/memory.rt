@@ -4,9 +4,10 @@ ghost use Rattle.std.specs.Prelude.{◌≡◌, ◌≤◌, ◌<◌, ◌^◌, ◌�
 ghost use Rattle.std.specs.Prelude.{replicate, vec_len, vec_capacity, IfOk};
 ghost use Rattle.std.specs.Prelude.{List, length, count_by, false, min, slice_index_or, ◌+◌};
 ghost use Rattle.vol_sector.specs.Counting.{counting};
-ghost use Rattle.vol_sector.specs.CountingLaws.{counting_now, only_counting};
+ghost use Rattle.vol_sector.specs.internal.CountingLaws.{counting_now, only_counting};
 ghost use Rattle.vol_sector.specs.Record.{newest, recorded, choices, LeftBy};
-ghost use Rattle.vol_sector.specs.RecordLaws.{image_of, stays_left, left_now, only_left};
+ghost use Rattle.vol_sector.specs.Record.{image_of};
+ghost use Rattle.vol_sector.specs.internal.RecordLaws.{stays_left, left_now, only_left};
 ghost use Rattle.vol_sector.specs.Record.{is_write};
 ghost use Rattle.vol_sector.specs.Crash.{written_since, written_below, picked, crashed_image};
 
@@ -216,7 +217,7 @@ impl Device for MemoryDevice {
 
     ghost size = { λ m. vec_len m.current };
 
-    ghost faults = { λ m. m.failures };
+    ghost failures = { λ m. m.failures };
 
     ghost counts_now = { λ m t c h le may. counting_now m.tried.operations
         (recorded (image_of m.first.items) m.operations.items)
@@ -242,10 +243,10 @@ impl Device for MemoryDevice {
         ensures seen { Unit {0} → (disk_of self.new).seen ≡ (disk_of self.old).seen }
         ensures crash { Unit {0} → Leaves (disk_of self.old) (disk_of self.new) (λ c. ⊥) }
         ensures keeps { Unit {0} → Keeps (disk_of self.old) (disk_of self.new) }
-        ensures moment { Unit {0} → OneMore (disk_of self.old) (disk_of self.new) }
+        ensures operation_count { Unit {0} → OneMore (disk_of self.old) (disk_of self.new) }
         ensures honest { Unit {0} ↔ Unit {0} }
         ensures size { sectors_of self.new ≡ sectors_of self.old }
-        ensures faults { failures_of self.new ≡ counted (is_err result) (failures_of self.old) }
+        ensures failures { failures_of self.new ≡ counted (is_err result) (failures_of self.old) }
         ensures never_fails { IsOk result }
         ensures same { IsUnchanged self.old self.new }
     {
@@ -262,10 +263,10 @@ impl Device for MemoryDevice {
         ensures crash { Unit {0} → Leaves (disk_of self.old) (disk_of self.new)
             (After (Wrote n image.now) (disk_of self.old).may_leave) }
         ensures keeps { Unit {0} → Keeps (disk_of self.old) (disk_of self.new) }
-        ensures moment { Unit {0} → OneMore (disk_of self.old) (disk_of self.new) }
+        ensures operation_count { Unit {0} → OneMore (disk_of self.old) (disk_of self.new) }
         ensures honest { Unit {0} ↔ Unit {0} }
         ensures size { sectors_of self.new ≡ sectors_of self.old }
-        ensures faults { failures_of self.new ≡ counted (is_err result) (failures_of self.old) }
+        ensures failures { failures_of self.new ≡ counted (is_err result) (failures_of self.old) }
         ensures full { room_of self.old ≤ length (record_of self.old)
             → IsErr result × (record_of self.new ≡ record_of self.old) }
         ensures fits { length (record_of self.old) < room_of self.old
@@ -293,10 +294,10 @@ impl Device for MemoryDevice {
         ensures seen { Unit {0} → (disk_of self.new).seen ≡ (disk_of self.old).seen }
         ensures crash { Unit {0} → Leaves (disk_of self.old) (disk_of self.new) (λ c. ⊥) }
         ensures keeps { Unit {0} → Keeps (disk_of self.old) (disk_of self.new) }
-        ensures moment { Unit {0} → OneMore (disk_of self.old) (disk_of self.new) }
+        ensures operation_count { Unit {0} → OneMore (disk_of self.old) (disk_of self.new) }
         ensures honest { Unit {0} ↔ Unit {0} }
         ensures size { sectors_of self.new ≡ sectors_of self.old }
-        ensures faults { failures_of self.new ≡ counted (is_err result) (failures_of self.old) }
+        ensures failures { failures_of self.new ≡ counted (is_err result) (failures_of self.old) }
         ensures full { room_of self.old ≤ length (record_of self.old)
             → IsErr result × (record_of self.new ≡ record_of self.old) }
         ensures fits { length (record_of self.old) < room_of self.old

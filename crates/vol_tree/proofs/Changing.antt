@@ -71,7 +71,7 @@ done_open {D} {g} meant old mid new x c is_open s is = record {
   kept = record {
     numbers = s.numbers ∙ c.kept.numbers;
     failed = s.failed;
-    faults = λ ok. s.faults ∙ c.kept.faults ok;
+    failures = λ ok. s.failures ∙ c.kept.failures ok;
     idle = λ failed. absurd (let i = (c.kept.idle failed).1 in cc);
     honest = (λ h. s.honest.0 (c.kept.honest.0 h), λ h. c.kept.honest.1 (s.honest.1 h));
     size = s.size ∙ c.kept.size;
@@ -95,7 +95,7 @@ stages_then {D} {g} a b c one other = record {
   slots = other.slots ∙ one.slots;
   honest = (λ h. other.honest.0 (one.honest.0 h), λ h. one.honest.1 (other.honest.1 h));
   size = other.size ∙ one.size;
-  faults = other.faults ∙ one.faults;
+  failures = other.failures ∙ one.failures;
 }
 
 -- sectors are staged and the names change, over the same device
@@ -112,7 +112,7 @@ stages {D} {g} old new device failed sectors numbers allocated slots = record {
   slots = slots;
   honest = (λ h. subst g.honest (sym device) h, λ h. subst g.honest device h);
   size = ap g.size device;
-  faults = ap g.faults device;
+  failures = ap g.failures device;
 }
 
 -- an answer from memory
@@ -124,7 +124,7 @@ asked {D} {g} meant p x is ok right = record {
   kept = record {
     numbers = refl;
     failed = ok;
-    faults = λ fine. refl;
+    failures = λ fine. refl;
     idle = λ failed. absurd (let e : true ≡ false = sym failed ∙ ok in cc);
     honest = (λ h. h, λ h. h);
     size = refl;

@@ -40,7 +40,7 @@ pub record LogCommits {D : Type 0} {g : Ghosts D} (old new : Log D g) (io : Bool
   pub sectors : sectors_of new ≡ sectors_of old
   pub honest : g.honest (device_of old) ↔ g.honest (device_of new)
   pub size : g.size (device_of new) ≡ g.size (device_of old)
-  pub faults : has_failed old ≡ false → g.faults (device_of new) ≡ counted io (g.faults (device_of old))
+  pub failures : has_failed old ≡ false → g.failures (device_of new) ≡ counted io (g.failures (device_of old))
 
 module _ {D : Type 0} {g : Ghosts D} (may_stay : (d : D) → g.honest d → (g.disk d).may_leave (g.disk d).seen) (old : Parts D g) (log : Log D g) (io : Bool) (is : IsOpen old) (c : LogCommits old.log log io) where
   abbrev new : Parts D g
@@ -97,7 +97,7 @@ module _ {D : Type 0} {g : Ghosts D} (may_stay : (d : D) → g.honest d → (g.d
     tree = tree_stays;
     slots = λ h. same_slots_in (view old.log) (view log) old.numbers (behind h) (is.content h);
     crash = committed_crash;
-    kept = record { numbers = refl; failed = c.failed; faults = c.faults; idle = c.idle; honest = c.honest; size = c.size };
+    kept = record { numbers = refl; failed = c.failed; failures = c.failures; idle = c.idle; honest = c.honest; size = c.size };
     dirs = refl;
     sectors = refl;
     reserved = refl;
@@ -127,7 +127,7 @@ no_commit {D} {g} p io is failed = record {
   kept = record {
     numbers = refl;
     failed = failed;
-    faults = λ ok. let io_is : io ≡ false = sym failed ∙ ok in ap (λ b. counted b (g.faults (device_of p.log))) (sym io_is);
+    failures = λ ok. let io_is : io ≡ false = sym failed ∙ ok in ap (λ b. counted b (g.failures (device_of p.log))) (sym io_is);
     idle = λ yes_failed. (refl, sym failed ∙ yes_failed);
     honest = (λ h. h, λ h. h);
     size = refl;
@@ -147,7 +147,7 @@ pub record LogReads {D : Type 0} {g : Ghosts D} (old new : Log D g) (io : Bool) 
   pub sectors : sectors_of new ≡ sectors_of old
   pub honest : g.honest (device_of old) ↔ g.honest (device_of new)
   pub size : g.size (device_of new) ≡ g.size (device_of old)
-  pub faults : has_failed old ≡ false → g.faults (device_of new) ≡ counted io (g.faults (device_of old))
+  pub failures : has_failed old ≡ false → g.failures (device_of new) ≡ counted io (g.failures (device_of old))
 
 pub still_settled : (sectors : _) (a b : Disk) → Settled sectors a → b.seen ≡ a.seen → Leaves a b (λ c. ⊥) → Settled sectors b
 still_settled sectors a b was seen quiet = record {
@@ -183,7 +183,7 @@ reads_commit {D} {g} old log io is r = record {
   tree = λ h. ap (λ m. tree_in m old.numbers) (r.view h);
   slots = λ h. ap (λ m. slots_in m old.numbers.slots) (r.view h);
   crash = λ h. leaves_quiet (g.disk (device_of old.log)) (g.disk (device_of old.log)) (g.disk (device_of log)) _ (leaves_same (g.disk (device_of old.log)) _) (r.crash h);
-  kept = record { numbers = refl; failed = r.failed; faults = r.faults; idle = r.idle; honest = r.honest; size = r.size };
+  kept = record { numbers = refl; failed = r.failed; failures = r.failures; idle = r.idle; honest = r.honest; size = r.size };
   dirs = refl;
   sectors = refl;
   reserved = refl;
@@ -215,7 +215,7 @@ commits_then {D} {g} a b c io first second = record {
   kept = record {
     numbers = second.kept.numbers ∙ first.kept.numbers;
     failed = second.kept.failed;
-    faults = λ ok. second.kept.faults first.kept.failed ∙ ap (counted io) (first.kept.faults ok);
+    failures = λ ok. second.kept.failures first.kept.failed ∙ ap (counted io) (first.kept.failures ok);
     idle = λ failed. absurd (let i = (first.kept.idle failed).1 in cc);
     honest = (λ h. second.kept.honest.0 (first.kept.honest.0 h), λ h. first.kept.honest.1 (second.kept.honest.1 h));
     size = second.kept.size ∙ first.kept.size;

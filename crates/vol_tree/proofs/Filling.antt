@@ -58,7 +58,7 @@ module _ {D : Type 0} {g : Ghosts D} where
         kept = record {
           numbers = c.kept.numbers;
           failed = failed;
-          faults = λ ok. r.faults c.kept.failed ∙ ap (λ (b : Bool). counted b (g.faults (device_of mid.log))) failed ∙ ap (counted true) (c.kept.faults ok);
+          failures = λ ok. r.failures c.kept.failed ∙ ap (λ (b : Bool). counted b (g.failures (device_of mid.log))) failed ∙ ap (counted true) (c.kept.failures ok);
           idle = λ was. absurd (let i = (c.kept.idle was).1 in cc);
           honest = (λ h. r.honest.0 (c.kept.honest.0 h), λ h. c.kept.honest.1 (r.honest.1 h));
           size = r.size ∙ c.kept.size;
@@ -71,7 +71,7 @@ module _ {D : Type 0} {g : Ghosts D} where
     is_open = f.is_open;
     answer = λ h. (f.tree h, inr p);
     crash = f.crash;
-    kept = subst (λ (io : Bool). Keeps g.honest g.size g.faults (opened old) (opened new) io) (sym (fault_is_io {X = X} (Err e) p)) f.kept;
+    kept = subst (λ (io : Bool). Keeps g.honest g.size g.failures (opened old) (opened new) io) (sym (fault_is_io {X = X} (Err e) p)) f.kept;
   }
 
   -- ---- a file is written
@@ -89,7 +89,7 @@ module _ {D : Type 0} {g : Ghosts D} where
     slots = refl;
     honest = s.honest;
     size = s.size;
-    faults = s.faults ok ∙ ap (λ (b : Bool). counted b (g.faults (device_of old.log))) fine;
+    failures = s.failures ok ∙ ap (λ (b : Bool). counted b (g.failures (device_of old.log))) fine;
   }
 
 -- the file's slot is written anew, for these bytes

@@ -121,7 +121,7 @@ pub record LogFronts {D : Type 0} {g : Ghosts D} (old new : Log D g) (image : Li
   pub sectors : sectors_of new ≡ sectors_of old
   pub honest : g.honest (device_of old) ↔ g.honest (device_of new)
   pub size : g.size (device_of new) ≡ g.size (device_of old)
-  pub faults : g.faults (device_of new) ≡ counted io (g.faults (device_of old))
+  pub failures : g.failures (device_of new) ≡ counted io (g.failures (device_of old))
 
 module _ {D : Type 0} {g : Ghosts D} (may_stay : (d : D) → g.honest d → (g.disk d).may_leave (g.disk d).seen) (old : Parts D g) (log : Log D g) (is : IsOpen old) (ok : has_failed old.log ≡ false) (empty : staged_of old.log ≡ [])
     (one : old.numbers.version ≡ One) where
@@ -182,7 +182,7 @@ module _ {D : Type 0} {g : Ghosts D} (may_stay : (d : D) → g.honest d → (g.d
       crash = crash_new;
       durable = λ good. absurd (let both : true ≡ false = sym bad ∙ good in cc);
       failed = f.failed;
-      faults = λ fine. f.faults;
+      failures = λ fine. f.failures;
       idle = λ failed. absurd (let both : true ≡ false = sym failed ∙ ok in cc);
       honest = f.honest;
       size = f.size;
@@ -220,7 +220,7 @@ module _ {D : Type 0} {g : Ghosts D} (may_stay : (d : D) → g.honest d → (g.d
           let only = (f.settled good h).durable c may in
           subst (λ (T : Tree). StandsAs c (raised v) T) (sym (tree_same h)) (subst (λ (x : Image). StandsAs x (raised v) (tree_in (view old.log) v)) (sym (only ∙ f.written good h)) (stands_new h));
       failed = f.failed;
-      faults = λ fine. f.faults;
+      failures = λ fine. f.failures;
       idle = λ failed. absurd (let both : true ≡ false = sym failed ∙ ok in cc);
       honest = f.honest;
       size = f.size;
@@ -240,7 +240,7 @@ upgrades_after {D} {g} a b c io first second = record {
       leaves_then da db (g.disk (device_of c.log)) _ _ _ (first.crash h) on (λ m p. p) (λ m p. reflects_then da db (opened a).tree m (first.crash h).now p);
   durable = λ good h. second.durable good (first.kept.honest.0 h);
   failed = second.failed;
-  faults = λ ok. second.faults first.kept.failed ∙ ap (counted io) (first.kept.faults ok);
+  failures = λ ok. second.failures first.kept.failed ∙ ap (counted io) (first.kept.failures ok);
   idle = λ failed. absurd (let i = (first.kept.idle failed).1 in cc);
   honest = (λ h. second.honest.0 (first.kept.honest.0 h), λ h. first.kept.honest.1 (second.honest.1 h));
   size = second.size ∙ first.kept.size;

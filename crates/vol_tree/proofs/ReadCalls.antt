@@ -29,7 +29,7 @@ log_reads {D} {g} old new io r ok failed = record {
   sectors = r.sectors;
   honest = r.honest;
   size = r.size;
-  faults = λ fine. r.faults fine ∙ ap (λ (b : Bool). counted b (g.faults (device_of old))) failed;
+  failures = λ fine. r.failures fine ∙ ap (λ (b : Bool). counted b (g.failures (device_of old))) failed;
 }
 
 take_within : (n m : ℕ) (xs : List ℕ) → n ≤ m → take n (take m xs) ≡ take n xs

@@ -56,7 +56,7 @@ zeros_are_none m is begins =
     omega arith
 
 -- a write that leaves what was before, or has P
-pub leaves_first : (a b : Disk) (bytes : List ℕ) (P : Image → Type 0) → ((t : ℕ) (c : Image) → t ≤ a.moment → a.may_leave c → a.left_since t c) → ((c : Image) → P (put 0 bytes c)) → Leaves a b (After (Wrote 0 bytes) a.may_leave) → Leaves a b P
+pub leaves_first : (a b : Disk) (bytes : List ℕ) (P : Image → Type 0) → ((t : ℕ) (c : Image) → t ≤ a.operation_count → a.may_leave c → a.left_since t c) → ((c : Image) → P (put 0 bytes c)) → Leaves a b (After (Wrote 0 bytes) a.may_leave) → Leaves a b P
 leaves_first a b bytes P counts here leaves = record {
   later = leaves.later;
   since = λ t c le left. ⊎_elim (λ was. inl was) (λ after. elim after.2 [

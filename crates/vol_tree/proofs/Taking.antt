@@ -35,7 +35,7 @@ commits_fail {D} {g} a b c first second = record {
   kept = record {
     numbers = second.kept.numbers ∙ first.kept.numbers;
     failed = second.kept.failed;
-    faults = λ ok. second.kept.faults first.kept.failed ∙ ap (counted true) (first.kept.faults ok);
+    failures = λ ok. second.kept.failures first.kept.failed ∙ ap (counted true) (first.kept.failures ok);
     idle = λ failed. absurd (let i = (first.kept.idle failed).1 in cc);
     honest = (λ h. second.kept.honest.0 (first.kept.honest.0 h), λ h. first.kept.honest.1 (second.kept.honest.1 h));
     size = second.kept.size ∙ first.kept.size;
@@ -94,7 +94,7 @@ changes_after {D} {g} {X} meant other a b c r first second same = record {
   kept = record {
     numbers = second.kept.numbers ∙ first.kept.numbers;
     failed = second.kept.failed;
-    faults = λ ok. second.kept.faults first.kept.failed ∙ ap (counted (is_io r)) (first.kept.faults ok);
+    failures = λ ok. second.kept.failures first.kept.failed ∙ ap (counted (is_io r)) (first.kept.failures ok);
     idle = λ failed. absurd (let i = (first.kept.idle failed).1 in cc);
     honest = (λ h. second.kept.honest.0 (first.kept.honest.0 h), λ h. first.kept.honest.1 (second.kept.honest.1 h));
     size = second.kept.size ∙ first.kept.size;

@@ -104,10 +104,10 @@ TellsBytes meant before after old new (Err e) = (e ≡ errno.Io) × (new ≡ old
 
 -- What each call keeps, on any device. It answers 29 exactly where the volume has failed then, by one operation that
 -- failed, or had failed before, and then does no operation.
-pub record Keeps {D : Type 0} (is_honest : D → Type 0) (sectors_on failures : D → ℕ) (old new : Opened D) (io : Bool) : Type 0 where
+pub record Keeps {D : Type 0} (is_honest : D → Type 0) (sectors_on failures_on : D → ℕ) (old new : Opened D) (io : Bool) : Type 0 where
   pub numbers : new.numbers ≡ old.numbers
   pub failed : new.failed ≡ io
-  pub faults : old.failed ≡ false → failures new.device ≡ counted io (failures old.device)
+  pub failures : old.failed ≡ false → failures_on new.device ≡ counted io (failures_on old.device)
   pub idle : old.failed ≡ true → (new.device ≡ old.device) × (io ≡ true)
   pub honest : is_honest old.device ↔ is_honest new.device
   pub size : sectors_on new.device ≡ sectors_on old.device

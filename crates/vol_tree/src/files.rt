@@ -115,7 +115,7 @@ impl<D: Device> Parts<D> {
             buffer.old buffer.new (opened self.old).tree (opened self.new).tree result }
         ensures crash { D.honest (device_of self.old.log)
             → Leaves (D.disk (device_of self.old.log)) (D.disk (device_of self.new.log)) (λ c. ⊥) }
-        ensures kept { Keeps D.honest D.size D.faults (opened self.old) (opened self.new)
+        ensures kept { Keeps D.honest D.size D.failures (opened self.old) (opened self.new)
             (is_io result) }
     {
         let entry = self.entry(file)?;

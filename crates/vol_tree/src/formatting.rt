@@ -42,11 +42,11 @@ impl<D: Device> Volume<D> {
             → IfErr result (λ r. Leaves (D.disk device) (D.disk r.device)
             (IsNoneOrEmpty (fresh sectors slots))) }
         ensures kept_ok { IfOk result (λ d. (D.honest device ↔ D.honest d)
-            × (D.size d ≡ D.size device) × (D.faults d ≡ D.faults device)) }
+            × (D.size d ≡ D.size device) × (D.failures d ≡ D.failures device)) }
         // It is refused as `Device` only where an operation failed.
         ensures kept_err { IfErr result (λ r. (D.honest device ↔ D.honest r.device)
             × (D.size r.device ≡ D.size device)
-            × (D.faults r.device ≡ counted (is_device r.fault) (D.faults device))) }
+            × (D.failures r.device ≡ counted (is_device r.fault) (D.failures device))) }
     {
         let numbers = Superblock {
             version: Version::One,
@@ -87,7 +87,7 @@ fn lay_out<D: Device>(device: &mut D, numbers: &Superblock) -> Result<(), Device
         → Leaves (D.disk device.old) (D.disk device.new) (IsNoneOrEmpty numbers.now) }
     ensures honest { D.honest device.old ↔ D.honest device.new }
     ensures size { D.size device.new ≡ D.size device.old }
-    ensures faults { D.faults device.new ≡ counted (is_err result) (D.faults device.old) }
+    ensures failures { D.failures device.new ≡ counted (is_err result) (D.failures device.old) }
 {
     write_first(device, &[0; 512])?; // nothing is a volume while the slots are written
     write_behind(device, numbers.slots)?;
@@ -105,7 +105,7 @@ fn write_first<D: Device>(device: &mut D, image: &[u8; 512]) -> Result<(), Devic
         (After (Wrote 0 image.now) (D.disk device.old).may_leave) }
     ensures honest { D.honest device.old ↔ D.honest device.new }
     ensures size { D.size device.new ≡ D.size device.old }
-    ensures faults { D.faults device.new ≡ counted (is_err result) (D.faults device.old) }
+    ensures failures { D.failures device.new ≡ counted (is_err result) (D.failures device.old) }
 {
     device.write(SUPERBLOCK, image)?;
     device.sync()
@@ -124,7 +124,7 @@ fn write_behind<D: Device>(device: &mut D, slots: u32) -> Result<(), DeviceFault
         (After BehindTheFirst (D.disk device.old).may_leave) }
     ensures honest { D.honest device.old ↔ D.honest device.new }
     ensures size { D.size device.new ≡ D.size device.old }
-    ensures faults { D.faults device.new ≡ counted (is_err result) (D.faults device.old) }
+    ensures failures { D.failures device.new ≡ counted (is_err result) (D.failures device.old) }
 {
     device.write(LOG_HEADER, &[0; 512])?;
     write_slots(device, slots)?;
@@ -143,7 +143,7 @@ fn write_slots<D: Device>(device: &mut D, slots: u32) -> Result<(), DeviceFault>
         (After BehindTheLog (D.disk device.old).may_leave) }
     ensures honest { D.honest device.old ↔ D.honest device.new }
     ensures size { D.size device.new ≡ D.size device.old }
-    ensures faults { D.faults device.new ≡ counted (is_err result) (D.faults device.old) }
+    ensures failures { D.failures device.new ≡ counted (is_err result) (D.failures device.old) }
 {
     for s in 0..slots {
         device.write(FIRST_SLOT + s, &fresh_slot(s))?;

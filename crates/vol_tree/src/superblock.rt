@@ -3,7 +3,7 @@
 ghost use Rattle.std.specs.Prelude.{◌≡◌, ◌≢◌, ◌⊎◌, ◌≤◌, ◌+◌, ◌↔◌, Ok, IfOk, IfErr, IsErrOf, IsTrue};
 ghost use Rattle.std.specs.Prelude.{length, take, drop};
 ghost use Rattle.byteorder.specs.Endian.{little_bytes, little_number};
-ghost use Rattle.vol_inode.specs.Writes.{overwritten};
+ghost use Rattle.vol_inode.specs.internal.Writes.{overwritten};
 ghost use Rattle.vol_tree.specs.Superblock.{superblock, HasRanges, IsNoVersion, magic};
 ghost use Rattle.vol_tree.specs.Superblock.{version_number};
 ghost use Rattle.vol_tree.specs.declared.superblock.Superblock.{Superblock};

@@ -75,7 +75,7 @@ impl<D: Device> Volume<D> {
             → Tells (lookup self.old.tree directory name.now) self.old.tree self.new.tree result }
         ensures crash { D.honest self.old.device
             → Leaves (D.disk self.old.device) (D.disk self.new.device) (λ c. ⊥) }
-        ensures kept { Keeps D.honest D.size D.faults self.old self.new (is_io result) }
+        ensures kept { Keeps D.honest D.size D.failures self.old self.new (is_io result) }
         ensures range { IfOk result (λ found. MatchOption found ⊤ (λ s. IsSerial self.old.numbers s)) }
     {
         self.parts.lookup(directory, name)
@@ -89,7 +89,7 @@ impl<D: Device> Volume<D> {
         ensures crash { D.honest self.old.device
             → Leaves (D.disk self.old.device) (D.disk self.new.device) (λ c. ⊥) }
         ensures range { IfOk result (λ found. IfSome found (IsSerial self.old.numbers)) }
-        ensures kept { Keeps D.honest D.size D.faults self.old self.new (is_io result) }
+        ensures kept { Keeps D.honest D.size D.failures self.old self.new (is_io result) }
     {
         self.parts.list_next(directory, after)
     }
@@ -103,7 +103,7 @@ impl<D: Device> Volume<D> {
             → TellsStat serial self.old.tree self.new.tree result }
         ensures crash { D.honest self.old.device
             → Leaves (D.disk self.old.device) (D.disk self.new.device) (λ c. ⊥) }
-        ensures kept { Keeps D.honest D.size D.faults self.old self.new (is_io result) }
+        ensures kept { Keeps D.honest D.size D.failures self.old self.new (is_io result) }
         ensures parent { IfOk result (λ s. IsSerial self.old.numbers s.parent) }
     {
         self.parts.stat(serial)
@@ -121,7 +121,7 @@ impl<D: Device> Volume<D> {
             → Leaves (D.disk self.old.device) (D.disk self.new.device)
             (ReflectsOr (D.disk self.old.device) self.old.tree) }
         ensures range { IfOk result (IsSerial self.old.numbers) }
-        ensures kept { Keeps D.honest D.size D.faults self.old self.new (is_io result) }
+        ensures kept { Keeps D.honest D.size D.failures self.old self.new (is_io result) }
     {
         self.parts.create(parent, name, Kind::File)
     }
@@ -138,7 +138,7 @@ impl<D: Device> Volume<D> {
             → Leaves (D.disk self.old.device) (D.disk self.new.device)
             (ReflectsOr (D.disk self.old.device) self.old.tree) }
         ensures range { IfOk result (IsSerial self.old.numbers) }
-        ensures kept { Keeps D.honest D.size D.faults self.old self.new (is_io result) }
+        ensures kept { Keeps D.honest D.size D.failures self.old self.new (is_io result) }
     {
         self.parts.create(parent, name, Kind::Directory)
     }
@@ -156,7 +156,7 @@ impl<D: Device> Volume<D> {
         ensures crash { D.honest self.old.device
             → Leaves (D.disk self.old.device) (D.disk self.new.device)
             (ReflectsOr (D.disk self.old.device) self.old.tree) }
-        ensures kept { Keeps D.honest D.size D.faults self.old self.new (is_io result) }
+        ensures kept { Keeps D.honest D.size D.failures self.old self.new (is_io result) }
     {
         self.parts.write(file, offset, bytes)
     }
@@ -172,7 +172,7 @@ impl<D: Device> Volume<D> {
         ensures crash { D.honest self.old.device
             → Leaves (D.disk self.old.device) (D.disk self.new.device)
             (ReflectsOr (D.disk self.old.device) self.old.tree) }
-        ensures kept { Keeps D.honest D.size D.faults self.old self.new (is_io result) }
+        ensures kept { Keeps D.honest D.size D.failures self.old self.new (is_io result) }
     {
         self.parts.set_size(file, size)
     }
@@ -188,7 +188,7 @@ impl<D: Device> Volume<D> {
             buffer.new self.old.tree self.new.tree result }
         ensures crash { D.honest self.old.device
             → Leaves (D.disk self.old.device) (D.disk self.new.device) (λ c. ⊥) }
-        ensures kept { Keeps D.honest D.size D.faults self.old self.new (is_io result) }
+        ensures kept { Keeps D.honest D.size D.failures self.old self.new (is_io result) }
     {
         self.parts.read(file, offset, buffer)
     }
@@ -204,7 +204,7 @@ impl<D: Device> Volume<D> {
         ensures crash { D.honest self.old.device
             → Leaves (D.disk self.old.device) (D.disk self.new.device)
             (ReflectsOr (D.disk self.old.device) self.old.tree) }
-        ensures kept { Keeps D.honest D.size D.faults self.old self.new (is_io result) }
+        ensures kept { Keeps D.honest D.size D.failures self.old self.new (is_io result) }
     {
         self.parts.unlink(file)
     }
@@ -220,7 +220,7 @@ impl<D: Device> Volume<D> {
         ensures crash { D.honest self.old.device
             → Leaves (D.disk self.old.device) (D.disk self.new.device)
             (ReflectsOr (D.disk self.old.device) self.old.tree) }
-        ensures kept { Keeps D.honest D.size D.faults self.old self.new (is_io result) }
+        ensures kept { Keeps D.honest D.size D.failures self.old self.new (is_io result) }
     {
         self.parts.rmdir(directory)
     }
@@ -242,7 +242,7 @@ impl<D: Device> Volume<D> {
         ensures crash { D.honest self.old.device
             → Leaves (D.disk self.old.device) (D.disk self.new.device)
             (ReflectsOr (D.disk self.old.device) self.old.tree) }
-        ensures kept { Keeps D.honest D.size D.faults self.old self.new (is_io result) }
+        ensures kept { Keeps D.honest D.size D.failures self.old self.new (is_io result) }
     {
         self.parts.rename(serial, parent, name)
     }
@@ -256,7 +256,7 @@ impl<D: Device> Volume<D> {
             (ReflectsOr (D.disk self.old.device) self.old.tree) }
         ensures durable { D.honest self.old.device → OnOk result ((c : Image)
             → (D.disk self.new.device).may_leave c → Stands c self.new.tree) }
-        ensures kept { Keeps D.honest D.size D.faults self.old self.new (is_io result) }
+        ensures kept { Keeps D.honest D.size D.failures self.old self.new (is_io result) }
     {
         Ok(self.parts.commit()?)
     }
@@ -281,8 +281,8 @@ impl<D: Device> Volume<D> {
             → (D.disk self.new.device).may_leave c
             → StandsAs c self.new.numbers self.new.tree) }
         ensures failed { self.old.numbers.version ≡ One → self.new.failed ≡ is_err result }
-        ensures faults { self.old.numbers.version ≡ One → self.old.failed ≡ false
-            → D.faults self.new.device ≡ counted (is_err result) (D.faults self.old.device) }
+        ensures failures { self.old.numbers.version ≡ One → self.old.failed ≡ false
+            → D.failures self.new.device ≡ counted (is_err result) (D.failures self.old.device) }
         ensures idle { self.old.numbers.version ≡ One → self.old.failed ≡ true
             → (self.new.device ≡ self.old.device) × (is_err result ≡ true) }
         ensures honest { D.honest self.old.device ↔ D.honest self.new.device }

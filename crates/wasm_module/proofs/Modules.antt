@@ -17,10 +17,10 @@ use Rattle.wasm_module.specs.declared.module.Module.{Module}
 use Rattle.wasm_module.specs.Grammar.{Then, U32, Vector, Sized}
 use Rattle.wasm_module.specs.Types.{SpellsFuncType, SpellsLimits, SpellsTable}
 use Rattle.wasm_module.specs.Sections.{Customs, Section, SpellsImport, SpellsGlobal, SpellsExport, SpellsElements, BodyContent, SpellsData}
-use Rattle.wasm_module.specs.Module.{Sections, SpellsSections, SpellsParts, Spells, IsWhole, FitsProfile, module_of}
-use Rattle.wasm_module.specs.TypesReading.{func_type_at, limits_at, table_at}
-use Rattle.wasm_module.specs.ModuleReading.{import_at, global_at, export_at, elements_at, body_at, data_at, preamble_at, Held, sections_of, sections_at, is_few, fits_profile, is_counted, is_whole, module_and_count, module_from}
-use Rattle.wasm_module.specs.Reading.{◌>>=◌, Gives, Reader, then_at, byte_at, map_at, u32_at, vector_at, whole, customs_at, section_at}
+use Rattle.wasm_module.specs.Module.{Sections, SpellsSections, SpellsParts, Spells, CountsAgree, FitsProfile, module_of}
+use Rattle.wasm_module.specs.internal.TypesReading.{func_type_at, limits_at, table_at}
+use Rattle.wasm_module.specs.internal.ModuleReading.{import_at, global_at, export_at, elements_at, body_at, data_at, preamble_at, Held, sections_of, sections_at, is_few, fits_profile, is_counted, counts_agree, module_and_count, module_from}
+use Rattle.wasm_module.specs.internal.Reading.{◌>>=◌, Gives, Reader, then_at, byte_at, map_at, u32_at, vector_at, whole, customs_at, section_at}
 use Rattle.wasm_module.proofs.Laws.{bind_some, guard_some, some_is, Front, ReadsWhole}
 use Rattle.wasm_module.proofs.Combine.{then_takes, reads_byte, reads_u32, reads_vector, reads_whole}
 use Rattle.wasm_module.proofs.TypeLaws.{reads_func_type, reads_limits, reads_table}
@@ -418,23 +418,23 @@ counted_again None n h = refl
 counted_again (Some c) n h = eq-eqb c n h
 
 -- what passes is whole
-whole_takes : (s : Sections) → is_whole (module_of s) s.data_count ≡ true → IsWhole s
-unfolding is_whole module_of
+whole_takes : (s : Sections) → counts_agree (module_of s) s.data_count ≡ true → CountsAgree s
+unfolding counts_agree module_of
 whole_takes s e =
     let p = both_true (fits_profile (unwrap_or s.types []) (unwrap_or s.functions []) (unwrap_or s.bodies [])) _ e in
     let q = both_true (eqb (length (unwrap_or s.functions [])) (length (unwrap_or s.bodies []))) _ p.1 in
     record { one_body_each = eqb-true _ _ q.0; data_counted = counted_takes s.data_count (length (unwrap_or s.data_segments [])) q.1; profile = fits_take _ _ _ p.0 }
 
 -- what is whole passes
-whole_again : (s : Sections) → IsWhole s → is_whole (module_of s) s.data_count ≡ true
-unfolding is_whole module_of
+whole_again : (s : Sections) → CountsAgree s → counts_agree (module_of s) s.data_count ≡ true
+unfolding counts_agree module_of
 whole_again s h = rw (fits_again (unwrap_or s.types []) (unwrap_or s.functions []) (unwrap_or s.bodies []) h.profile, eq-eqb _ _ h.one_body_each, counted_again s.data_count (length (unwrap_or s.data_segments [])) h.data_counted) refl
 
 -- ---- the module
 
 -- what is answered once the sections are read
 abbrev checked : (Module × Option ℕ) × List ℕ → Option Module
-checked m = cond (eqb (length m.1) 0) (cond (is_whole m.0.0 m.0.1) (Some m.0.0) None) None
+checked m = cond (eqb (length m.1) 0) (cond (counts_agree m.0.0 m.0.1) (Some m.0.0) None) None
 
 -- where a guarded answer is given, the guard holds
 some_if : {A : Type 0} (b : Bool) (o : Option A) (y : A) → cond b o None ≡ Some y → (b ≡ true) × (o ≡ Some y)
@@ -451,12 +451,12 @@ module_takes bytes m e =
     let q = bind_some (sections_at p.0.1) (λ s. Some (module_and_count s.0, s.1)) r.0 r.1 in
     let s = q.0.0 in
     let is = some_is (module_and_count s, q.0.1) r.0 q.2 in
-    let n = some_if (eqb (length r.0.1) 0) (cond (is_whole r.0.0.0 r.0.0.1) (Some r.0.0.0) None) m r.2 in
-    let k = guard_some (is_whole r.0.0.0 r.0.0.1) r.0.0.0 m n.1 in
+    let n = some_if (eqb (length r.0.1) 0) (cond (counts_agree r.0.0.0 r.0.0.1) (Some r.0.0.0) None) m r.2 in
+    let k = guard_some (counts_agree r.0.0.0 r.0.0.1) r.0.0.0 m n.1 in
     let f = sections_take p.0.1 s q.0.1 q.1 in
     let after : q.0.1 ≡ [] = ap (λ (x : (Module × Option ℕ) × List ℕ). x.1) is ∙ nil_from_length r.0.1 (eqb-true _ _ n.0) in
     let rest-is : p.0.1 ≡ f.text = f.parts ∙ ap (λ (x : List ℕ). f.text ++ x) after ∙ append-nil f.text in
-    let fits : is_whole (module_of s) s.data_count ≡ true = ap (λ (x : (Module × Option ℕ) × List ℕ). is_whole x.0.0 x.0.1) is ∙ k.0 in
+    let fits : counts_agree (module_of s) s.data_count ≡ true = ap (λ (x : (Module × Option ℕ) × List ℕ). counts_agree x.0.0 x.0.1) is ∙ k.0 in
     let spells : SpellsParts bytes s = record { text = f.text; short = leb-true _ _ g.0; preamble = preamble_takes bytes p.0.0 p.0.1 p.1 ∙ ap preamble_then rest-is; sections = f.spells; whole = whole_takes s fits } in
     (s, spells, sym (ap (λ (x : (Module × Option ℕ) × List ℕ). x.0.0) is ∙ k.1))
 

@@ -5,11 +5,11 @@ use Rattle.std.proofs.lemmas.List.{append-nil, length-append, nil_from_length}
 use Rattle.wasm_module.specs.declared.instruction.BlockType.{BlockType}
 use Rattle.wasm_module.specs.declared.instruction.Instruction.{Instruction}
 use Rattle.wasm_module.specs.declared.instruction.Instruction.TheVariants as op
-use Rattle.wasm_module.specs.declared.frames.Frame.{Frame}
-use Rattle.wasm_module.specs.declared.frames.Frame.TheVariants.{Plain, Conditional}
+use Rattle.wasm_module.specs.declared.open_blocks.OpenBlock.{OpenBlock}
+use Rattle.wasm_module.specs.declared.open_blocks.OpenBlock.TheVariants.{Plain, Conditional}
 use Rattle.wasm_module.specs.Instructions.{Instructions, done, plain, block, loop, if_then, if_else, enter, IsPlain, flatten, SpellsInstruction, SpellsUpTo, SpellsExpression}
-use Rattle.wasm_module.specs.CodeReading.{instruction_at, after_instruction, code_from, code_at}
-use Rattle.wasm_module.specs.Reading.{◌>>=◌, Reader}
+use Rattle.wasm_module.specs.internal.CodeReading.{instruction_at, after_instruction, code_from, code_at}
+use Rattle.wasm_module.specs.internal.Reading.{◌>>=◌, Reader}
 use Rattle.wasm_module.proofs.Laws.{bind_some, some_is, chosen, Front, Reads}
 use Rattle.wasm_module.proofs.Loop.{with_front}
 use Rattle.wasm_module.proofs.InstructionLaws.{reads_instruction}
@@ -34,12 +34,12 @@ pub record Both (A B : List ℕ → List Instruction → Type 0) (text : List �
   pub ops-are : ops ≡ first ++ second
 
 -- what closes an open block
-abbrev Part : Frame → List ℕ → List Instruction → Type 0
+abbrev Part : OpenBlock → List ℕ → List Instruction → Type 0
 Part Plain text ops = PartOf 0x0B op.End text ops
 Part Conditional text ops = PartOf 0x0B op.End text ops ⊎ Both (PartOf 0x05 op.Else) (PartOf 0x0B op.End) text ops
 
 -- what closes all open blocks
-abbrev Closes : List Frame → List ℕ → List Instruction → Type 0
+abbrev Closes : List OpenBlock → List ℕ → List Instruction → Type 0
 Closes [] text ops = (text ≡ []) × (ops ≡ [])
 Closes (f ∷ fs) text ops = Both (Part f) (Closes fs) text ops
 
@@ -74,7 +74,7 @@ if_first a b t bs h q =
     ]
 
 -- more at the front of what closes one block
-first_then : (f : Frame) (a : List ℕ) (os : List Instruction) (c : List ℕ) (cs : List Instruction) → Prefix a os → Part f c cs → Part f (a ++ c) (os ++ cs)
+first_then : (f : OpenBlock) (a : List ℕ) (os : List Instruction) (c : List ℕ) (cs : List Instruction) → Prefix a os → Part f c cs → Part f (a ++ c) (os ++ cs)
 first_then Plain a os c cs p q = p.then_part 0x0B op.End c cs q
 first_then Conditional a os c cs p q =
     elim q [
@@ -92,7 +92,7 @@ first_then Conditional a os c cs p q =
     ]
 
 -- more at the front of what closes the blocks
-more_first : (f : Frame) (fs : List Frame) (a : List ℕ) (os : List Instruction) (c : List ℕ) (cs : List Instruction) → Prefix a os → Closes (f ∷ fs) c cs → Closes (f ∷ fs) (a ++ c) (os ++ cs)
+more_first : (f : OpenBlock) (fs : List OpenBlock) (a : List ℕ) (os : List Instruction) (c : List ℕ) (cs : List Instruction) → Prefix a os → Closes (f ∷ fs) c cs → Closes (f ∷ fs) (a ++ c) (os ++ cs)
 more_first f fs a os c cs p q = record {
   front = a ++ q.front;
   back = q.back;
@@ -105,7 +105,7 @@ more_first f fs a os c cs p q = record {
 }
 
 -- a block at the front
-opened : (g f : Frame) (fs : List Frame) (a : List ℕ) (o : Instruction) (b : List ℕ) (os : List Instruction) → ((t : List ℕ) (ts : List Instruction) → Part g t ts → Prefix (a ++ t) (o ∷ ts)) → Closes (g ∷ f ∷ fs) b os → Closes (f ∷ fs) (a ++ b) (o ∷ os)
+opened : (g f : OpenBlock) (fs : List OpenBlock) (a : List ℕ) (o : Instruction) (b : List ℕ) (os : List Instruction) → ((t : List ℕ) (ts : List Instruction) → Part g t ts → Prefix (a ++ t) (o ∷ ts)) → Closes (g ∷ f ∷ fs) b os → Closes (f ∷ fs) (a ++ b) (o ∷ os)
 opened g f fs a o b os make q =
     let made = more_first f fs (a ++ q.front) (o ∷ q.first) q.back q.second (make q.front q.first q.a) q.b in
     let text-is : (a ++ q.front) ++ q.back ≡ a ++ b = rw (q.text-is) (simp append_assoc) in
@@ -117,44 +117,44 @@ bare : (a : List ℕ) (code : ℕ) (immediates : List ℕ) → immediates ≡ []
 bare a code immediates none is = is ∙ ap (λ (r : List ℕ). code ∷ r) none
 
 -- an end closes a block
-closed : (f : Frame) (a : List ℕ) → SpellsInstruction a op.End → Part f a (op.End ∷ [])
+closed : (f : OpenBlock) (a : List ℕ) → SpellsInstruction a op.End → Part f a (op.End ∷ [])
 closed Plain a h = record { code = done; spells = bare a 0x0B h.0 h.1 h.2; flat = refl }
 closed Conditional a h = inl (record { code = done; spells = bare a 0x0B h.0 h.1 h.2; flat = refl })
 
 -- an else begins the second part of an if
-elsed : (fs : List Frame) (a b : List ℕ) (os : List Instruction) → SpellsInstruction a op.Else → Closes (Plain ∷ fs) b os → Closes (Conditional ∷ fs) (a ++ b) (op.Else ∷ os)
+elsed : (fs : List OpenBlock) (a b : List ℕ) (os : List Instruction) → SpellsInstruction a op.Else → Closes (Plain ∷ fs) b os → Closes (Conditional ∷ fs) (a ++ b) (op.Else ∷ os)
 elsed fs a b os h q =
     let part : Part Conditional (a ++ q.front) (op.Else ∷ q.first) = inr (record { front = a; back = q.front; first = op.Else ∷ []; second = q.first; a = record { code = done; spells = bare a 0x05 h.0 h.1 h.2; flat = refl }; b = q.a; text-is = refl; ops-are = refl }) in
     record { front = a ++ q.front; back = q.back; first = op.Else ∷ q.first; second = q.second; a = part; b = q.b; text-is = rw (q.text-is) (simp append_assoc); ops-are = rw (q.ops-are) refl }
 
 -- the blocks that are open
-abbrev left_open : List Frame → Option (List Frame)
+abbrev left_open : List OpenBlock → Option (List OpenBlock)
 left_open fs = Some fs
 
 -- one more instruction at the front
-one_more : (o : Instruction) (fs gs : List Frame) (a b : List ℕ) (os : List Instruction) → after_instruction o fs ≡ left_open gs → SpellsInstruction a o → Closes gs b os → Closes fs (a ++ b) (o ∷ os)
+one_more : (o : Instruction) (fs gs : List OpenBlock) (a b : List ℕ) (os : List Instruction) → after_instruction o fs ≡ left_open gs → SpellsInstruction a o → Closes gs b os → Closes fs (a ++ b) (o ∷ os)
 unfolding after_instruction
 one_more o [] gs a b os e h q = absurd cc
-one_more (op.Block t) (f ∷ fs) gs a b os e h q = opened Plain f fs a (op.Block t) b os (λ x xs p. block_first a x t xs h p) (let e' : gs ≡ Plain ∷ f ∷ fs = cc in subst (λ (k : List Frame). Closes k b os) e' q)
-one_more (op.Loop t) (f ∷ fs) gs a b os e h q = opened Plain f fs a (op.Loop t) b os (λ x xs p. loop_first a x t xs h p) (let e' : gs ≡ Plain ∷ f ∷ fs = cc in subst (λ (k : List Frame). Closes k b os) e' q)
-one_more (op.If t) (f ∷ fs) gs a b os e h q = opened Conditional f fs a (op.If t) b os (λ x xs p. if_first a x t xs h p) (let e' : gs ≡ Conditional ∷ f ∷ fs = cc in subst (λ (k : List Frame). Closes k b os) e' q)
+one_more (op.Block t) (f ∷ fs) gs a b os e h q = opened Plain f fs a (op.Block t) b os (λ x xs p. block_first a x t xs h p) (let e' : gs ≡ Plain ∷ f ∷ fs = cc in subst (λ (k : List OpenBlock). Closes k b os) e' q)
+one_more (op.Loop t) (f ∷ fs) gs a b os e h q = opened Plain f fs a (op.Loop t) b os (λ x xs p. loop_first a x t xs h p) (let e' : gs ≡ Plain ∷ f ∷ fs = cc in subst (λ (k : List OpenBlock). Closes k b os) e' q)
+one_more (op.If t) (f ∷ fs) gs a b os e h q = opened Conditional f fs a (op.If t) b os (λ x xs p. if_first a x t xs h p) (let e' : gs ≡ Conditional ∷ f ∷ fs = cc in subst (λ (k : List OpenBlock). Closes k b os) e' q)
 one_more op.Else (Plain ∷ fs) gs a b os e h q = absurd cc
 one_more op.Else (Conditional ∷ fs) gs a b os e h q =
     let e' : gs ≡ Plain ∷ fs = cc in
-    elsed fs a b os h (subst (λ (k : List Frame). Closes k b os) e' q)
+    elsed fs a b os h (subst (λ (k : List OpenBlock). Closes k b os) e' q)
 one_more op.End (f ∷ fs) gs a b os e h q =
     let e' : gs ≡ fs = cc in
-    record { front = a; back = b; first = op.End ∷ []; second = os; a = closed f a h; b = subst (λ (k : List Frame). Closes k b os) e' q; text-is = refl; ops-are = refl }
+    record { front = a; back = b; first = op.End ∷ []; second = os; a = closed f a h; b = subst (λ (k : List OpenBlock). Closes k b os) e' q; text-is = refl; ops-are = refl }
 one_more o (f ∷ fs) gs a b os e h q =
     let e' : gs ≡ f ∷ fs = cc in
-    more_first f fs a (o ∷ []) b os (plain_first a o tt h) (subst (λ (k : List Frame). Closes k b os) e' q)
+    more_first f fs a (o ∷ []) b os (plain_first a o tt h) (subst (λ (k : List OpenBlock). Closes k b os) e' q)
 
 -- the rest of the code
-abbrev go_on : ℕ → Instruction → List Frame → List ℕ → Option (List Instruction × List ℕ)
+abbrev go_on : ℕ → Instruction → List OpenBlock → List ℕ → Option (List Instruction × List ℕ)
 go_on n o gs rest = cond (eqb (length gs) 0) (Some (o ∷ [], rest)) (code_from n gs rest >>= λ os. Some (o ∷ os.0, os.1))
 
 -- what is read closes all open blocks
-code_takes : (n : ℕ) (fs : List Frame) (bytes : List ℕ) (ops : List Instruction) (rest : List ℕ) → code_from n fs bytes ≡ Some (ops, rest) → Front (List Instruction) (Closes fs) bytes ops rest
+code_takes : (n : ℕ) (fs : List OpenBlock) (bytes : List ℕ) (ops : List Instruction) (rest : List ℕ) → code_from n fs bytes ≡ Some (ops, rest) → Front (List Instruction) (Closes fs) bytes ops rest
 unfolding code_from
 code_takes zero fs bytes ops rest e = absurd cc
 code_takes (suc n) fs bytes ops rest e =
@@ -167,7 +167,7 @@ code_takes (suc n) fs bytes ops rest e =
     elim (chosen (eqb (length gs) 0) (Some (o ∷ [], after)) (code_from n gs after >>= λ os. Some (o ∷ os.0, os.1)) (Some (ops, rest)) t.2) [
       | inl h ↦
           let none : gs ≡ [] = nil_from_length gs (eqb-true _ _ h.0) in
-          let made : Closes fs (fo.text ++ []) (o ∷ []) = one_more o fs gs fo.text [] [] t.1 fo.spells (subst (λ (k : List Frame). Closes k [] []) (sym none) (refl, refl)) in
+          let made : Closes fs (fo.text ++ []) (o ∷ []) = one_more o fs gs fo.text [] [] t.1 fo.spells (subst (λ (k : List OpenBlock). Closes k [] []) (sym none) (refl, refl)) in
           let here : Front (List Instruction) (Closes fs) bytes (o ∷ []) after = record { text = fo.text ++ []; spells = made; parts = fo.parts ∙ ap (λ (x : List ℕ). x ++ after) (sym (append-nil fo.text)) } in
           subst (λ (q : List Instruction × List ℕ). Front (List Instruction) (Closes fs) bytes q.0 q.1) (some_is (o ∷ [], after) (ops, rest) h.1) here
       | inr h ↦
@@ -181,7 +181,7 @@ code_takes (suc n) fs bytes ops rest e =
 -- ---- what nests is read
 
 -- the code from here on, nothing where no block is open
-abbrev code_on : ℕ → List Frame → Reader (List Instruction)
+abbrev code_on : ℕ → List OpenBlock → Reader (List Instruction)
 code_on n [] bytes = Some ([], bytes)
 code_on n (f ∷ fs) bytes = code_from n (f ∷ fs) bytes
 
@@ -191,7 +191,7 @@ joined a b (Some x) = ap (λ (os : List Instruction). Some (os, x.1)) (sym (appe
 joined a b None = refl
 
 -- the rest of the code, by the open blocks
-go_on_is : (n : ℕ) (o : Instruction) (gs : List Frame) (rest : List ℕ) → go_on n o gs rest ≡ with_front (o ∷ []) (code_on n gs rest)
+go_on_is : (n : ℕ) (o : Instruction) (gs : List OpenBlock) (rest : List ℕ) → go_on n o gs rest ≡ with_front (o ∷ []) (code_on n gs rest)
 go_on_is n o [] rest = refl
 go_on_is n o (g ∷ gs) rest = by_test (eqb (length (g ∷ gs)) 0) refl where
   by_test : (t : Bool) → eqb (length (g ∷ gs)) 0 ≡ t → cond t (Some (o ∷ [], rest)) (code_from n (g ∷ gs) rest >>= λ os. Some (o ∷ os.0, os.1)) ≡ with_front (o ∷ []) (code_from n (g ∷ gs) rest)
@@ -199,12 +199,12 @@ go_on_is n o (g ∷ gs) rest = by_test (eqb (length (g ∷ gs)) 0) refl where
   by_test false is = refl
 
 -- one instruction is read
-turn : (n : ℕ) (f : Frame) (fs gs : List Frame) (a : List ℕ) (o : Instruction) (rest : List ℕ) → SpellsInstruction a o → after_instruction o (f ∷ fs) ≡ left_open gs → code_on (suc n) (f ∷ fs) (a ++ rest) ≡ with_front (o ∷ []) (code_on n gs rest)
+turn : (n : ℕ) (f : OpenBlock) (fs gs : List OpenBlock) (a : List ℕ) (o : Instruction) (rest : List ℕ) → SpellsInstruction a o → after_instruction o (f ∷ fs) ≡ left_open gs → code_on (suc n) (f ∷ fs) (a ++ rest) ≡ with_front (o ∷ []) (code_on n gs rest)
 unfolding code_from
 turn n f fs gs a o rest h e = rw (reads_instruction.again a o rest h, e) (go_on_is n o gs rest)
 
 -- a plain instruction leaves the open blocks
-plain_keeps : (o : Instruction) (f : Frame) (fs : List Frame) → IsPlain o → after_instruction o (f ∷ fs) ≡ left_open (f ∷ fs)
+plain_keeps : (o : Instruction) (f : OpenBlock) (fs : List OpenBlock) → IsPlain o → after_instruction o (f ∷ fs) ≡ left_open (f ∷ fs)
 unfolding after_instruction
 plain_keeps (op.Block t) f fs h = absurd h
 plain_keeps (op.Loop t) f fs h = absurd h
@@ -214,32 +214,32 @@ plain_keeps op.End f fs h = absurd h
 plain_keeps o f fs h = refl
 
 -- a block is opened
-opens_block : (t : BlockType) (f : Frame) (fs : List Frame) → after_instruction (op.Block t) (f ∷ fs) ≡ left_open (Plain ∷ f ∷ fs)
+opens_block : (t : BlockType) (f : OpenBlock) (fs : List OpenBlock) → after_instruction (op.Block t) (f ∷ fs) ≡ left_open (Plain ∷ f ∷ fs)
 unfolding after_instruction
 opens_block t f fs = refl
 
 -- a loop is opened
-opens_loop : (t : BlockType) (f : Frame) (fs : List Frame) → after_instruction (op.Loop t) (f ∷ fs) ≡ left_open (Plain ∷ f ∷ fs)
+opens_loop : (t : BlockType) (f : OpenBlock) (fs : List OpenBlock) → after_instruction (op.Loop t) (f ∷ fs) ≡ left_open (Plain ∷ f ∷ fs)
 unfolding after_instruction
 opens_loop t f fs = refl
 
 -- an if is opened
-opens_if : (t : BlockType) (f : Frame) (fs : List Frame) → after_instruction (op.If t) (f ∷ fs) ≡ left_open (Conditional ∷ f ∷ fs)
+opens_if : (t : BlockType) (f : OpenBlock) (fs : List OpenBlock) → after_instruction (op.If t) (f ∷ fs) ≡ left_open (Conditional ∷ f ∷ fs)
 unfolding after_instruction
 opens_if t f fs = refl
 
 -- an end closes the innermost block
-ends_block : (f : Frame) (fs : List Frame) → after_instruction op.End (f ∷ fs) ≡ left_open fs
+ends_block : (f : OpenBlock) (fs : List OpenBlock) → after_instruction op.End (f ∷ fs) ≡ left_open fs
 unfolding after_instruction
 ends_block f fs = refl
 
 -- an else turns the open if into a block
-turns_else : (fs : List Frame) → after_instruction op.Else (Conditional ∷ fs) ≡ left_open (Plain ∷ fs)
+turns_else : (fs : List OpenBlock) → after_instruction op.Else (Conditional ∷ fs) ≡ left_open (Plain ∷ fs)
 unfolding after_instruction
 turns_else fs = refl
 
 -- a block's beginning, what closes it, and the code after it
-nested : (o : Instruction) (bs cs : List Instruction) (g f : Frame) (fs gs : List Frame) (a b c text rest : List ℕ) (k : ℕ) → SpellsInstruction a o → after_instruction o (f ∷ fs) ≡ left_open (g ∷ f ∷ fs)
+nested : (o : Instruction) (bs cs : List Instruction) (g f : OpenBlock) (fs gs : List OpenBlock) (a b c text rest : List ℕ) (k : ℕ) → SpellsInstruction a o → after_instruction o (f ∷ fs) ≡ left_open (g ∷ f ∷ fs)
     → ((r : List ℕ) (j : ℕ) → code_on (length bs + j) (g ∷ f ∷ fs) (b ++ r) ≡ with_front bs (code_on j (f ∷ fs) r))
     → code_on (length cs + k) (f ∷ fs) (c ++ rest) ≡ with_front cs (code_on k gs rest) → text ≡ a ++ b ++ c
     → code_on (length (o ∷ bs ++ cs) + k) (f ∷ fs) (text ++ rest) ≡ with_front (o ∷ bs ++ cs) (code_on k gs rest)
@@ -250,7 +250,7 @@ nested o bs cs g f fs gs a b c text rest k h e inner more text-is =
     ap (λ (m : ℕ). code_on m (f ∷ fs) (text ++ rest)) n ∙ ap (code_on (suc (length bs + (length cs + k))) (f ∷ fs)) whole ∙ turn (length bs + (length cs + k)) f fs (g ∷ f ∷ fs) a o (b ++ (c ++ rest)) h e ∙ ap (with_front (o ∷ [])) after ∙ joined (o ∷ []) (bs ++ cs) (code_on k gs rest)
 
 -- the two parts of an if
-two : (bs cs : List Instruction) (g f : Frame) (fs gs : List Frame) (b c rest : List ℕ) (k : ℕ)
+two : (bs cs : List Instruction) (g f : OpenBlock) (fs gs : List OpenBlock) (b c rest : List ℕ) (k : ℕ)
     → ((r : List ℕ) (j : ℕ) → code_on (length bs + j) (g ∷ fs) (b ++ r) ≡ with_front bs (code_on j (f ∷ fs) r))
     → code_on (length cs + k) (f ∷ fs) (c ++ rest) ≡ with_front cs (code_on k gs rest)
     → code_on (length (bs ++ cs) + k) (g ∷ fs) ((b ++ c) ++ rest) ≡ with_front (bs ++ cs) (code_on k gs rest)
@@ -259,7 +259,7 @@ two bs cs g f fs gs b c rest k inner more =
     ap (λ (m : ℕ). code_on m (g ∷ fs) ((b ++ c) ++ rest)) n ∙ ap (code_on (length bs + (length cs + k)) (g ∷ fs)) (append_assoc b c rest) ∙ inner (c ++ rest) (length cs + k) ∙ ap (with_front bs) more ∙ joined bs cs (code_on k gs rest)
 
 -- code that is spelled up to its end is read
-part_again : (code : Instructions) (last : ℕ) (lo : Instruction) (f : Frame) (fs gs : List Frame) (text rest : List ℕ) (k : ℕ) → SpellsInstruction (last ∷ []) lo → after_instruction lo (f ∷ fs) ≡ left_open gs → SpellsUpTo last text code → code_on (length (flatten lo code) + k) (f ∷ fs) (text ++ rest) ≡ with_front (flatten lo code) (code_on k gs rest)
+part_again : (code : Instructions) (last : ℕ) (lo : Instruction) (f : OpenBlock) (fs gs : List OpenBlock) (text rest : List ℕ) (k : ℕ) → SpellsInstruction (last ∷ []) lo → after_instruction lo (f ∷ fs) ≡ left_open gs → SpellsUpTo last text code → code_on (length (flatten lo code) + k) (f ∷ fs) (text ++ rest) ≡ with_front (flatten lo code) (code_on k gs rest)
 part_again done last lo f fs gs text rest k h e p =
     let n : 1 + k ≡ suc k = omega arith in
     rw (n, p) (turn k f fs gs (last ∷ []) lo rest h e)

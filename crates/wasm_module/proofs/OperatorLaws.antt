@@ -12,8 +12,8 @@ use Rattle.wasm_module.specs.declared.instruction.BinaryOperator.TheVariants as 
 use Rattle.wasm_module.specs.declared.instruction.Instruction.{Instruction}
 use Rattle.wasm_module.specs.declared.instruction.Instruction.TheVariants as op
 use Rattle.wasm_module.specs.Instructions.{comparison_number, binary_operator_number, unary_opcode, SpellsImmediates, SpellsInstruction}
-use Rattle.wasm_module.specs.CodeReading.{comparison_of, binary_operator_of, unary_of, is_between, compared, operated, numeric_of, numeric_after, instruction_after, instruction_at}
-use Rattle.wasm_module.specs.Reading.{◌>>=◌}
+use Rattle.wasm_module.specs.internal.CodeReading.{comparison_of, binary_operator_of, unary_of, is_between, compared, operated, numeric_of, numeric_after, instruction_after, instruction_at}
+use Rattle.wasm_module.specs.internal.Reading.{◌>>=◌}
 use Rattle.wasm_module.proofs.Laws.{bind_some, some_is}
 
 -- ---- tables

@@ -2,9 +2,9 @@
 use Rattle.std.proofs.Common.{Bool, true, false, ◌≡◌, ℕ, suc, ◌-◌, ◌+◌, ◌≤◌, ◌<◌, cond, eqb, List, [], ◌∷◌, ◌++◌, length, Option, Some, None, refl, sym, ap, ◌∙◌, append_assoc, arith}
 use Rattle.std.proofs.lemmas.List.{append-nil}
 use Rattle.wasm_module.specs.declared.instruction.Instruction.{Instruction}
-use Rattle.wasm_module.specs.declared.frames.Frame.{Frame}
-use Rattle.wasm_module.specs.Reading.{◌>>=◌, Reader, begins, next_at, sized_at, custom_of, customs_from, many_at}
-use Rattle.wasm_module.specs.CodeReading.{instruction_at, after_instruction, code_from}
+use Rattle.wasm_module.specs.declared.open_blocks.OpenBlock.{OpenBlock}
+use Rattle.wasm_module.specs.internal.Reading.{◌>>=◌, Reader, begins, next_at, sized_at, custom_of, customs_from, many_at}
+use Rattle.wasm_module.specs.internal.CodeReading.{instruction_at, after_instruction, code_from}
 use Rattle.wasm_module.proofs.Loop.{with_front}
 
 -- one turn of the loop over custom sections
@@ -28,13 +28,13 @@ by_test front true o rest read = refl
 by_test front false o rest read = regroup front o read
 
 -- what is read before, an instruction, and what is still to be read
-pub code_more : (front : List Instruction) (count i : ℕ) (fs : List Frame) (bytes : List ℕ) → i < count
+pub code_more : (front : List Instruction) (count i : ℕ) (fs : List OpenBlock) (bytes : List ℕ) → i < count
     → with_front front (code_from (count - i) fs bytes) ≡ (instruction_at bytes >>= λ o. after_instruction o.0 fs >>= λ gs. cond (eqb (length gs) 0) (Some (front ++ o.0 ∷ [], o.1)) (with_front (front ++ o.0 ∷ []) (code_from (count - (i + 1)) gs o.1)))
 unfolding code_from
 code_more front count i fs bytes lt =
     let k : count - i ≡ suc (count - (i + 1)) = omega arith in
     rw k (by_op (instruction_at bytes)) where
-      by_frames : (o : Instruction) (rest : List ℕ) (gs : Option (List Frame)) → with_front front (gs >>= λ gs. cond (eqb (length gs) 0) (Some (o ∷ [], rest)) (code_from (count - (i + 1)) gs rest >>= λ os. Some (o ∷ os.0, os.1))) ≡ (gs >>= λ gs. cond (eqb (length gs) 0) (Some (front ++ o ∷ [], rest)) (with_front (front ++ o ∷ []) (code_from (count - (i + 1)) gs rest)))
+      by_frames : (o : Instruction) (rest : List ℕ) (gs : Option (List OpenBlock)) → with_front front (gs >>= λ gs. cond (eqb (length gs) 0) (Some (o ∷ [], rest)) (code_from (count - (i + 1)) gs rest >>= λ os. Some (o ∷ os.0, os.1))) ≡ (gs >>= λ gs. cond (eqb (length gs) 0) (Some (front ++ o ∷ [], rest)) (with_front (front ++ o ∷ []) (code_from (count - (i + 1)) gs rest)))
       by_frames o rest None = refl
       by_frames o rest (Some gs) = by_test front (eqb (length gs) 0) o rest (code_from (count - (i + 1)) gs rest)
 
@@ -43,7 +43,7 @@ code_more front count i fs bytes lt =
       by_op (Some o) = by_frames o.0 o.1 (after_instruction o.0 fs)
 
 -- no more instructions are looked for
-pub code_done : (front : List Instruction) (count i : ℕ) (fs : List Frame) (bytes : List ℕ) → count ≤ i → with_front front (code_from (count - i) fs bytes) ≡ None
+pub code_done : (front : List Instruction) (count i : ℕ) (fs : List OpenBlock) (bytes : List ℕ) → count ≤ i → with_front front (code_from (count - i) fs bytes) ≡ None
 unfolding code_from
 code_done front count i fs bytes le = let k : count - i ≡ 0 = omega arith in rw k refl
 
@@ -65,9 +65,9 @@ unfolding many_at
 many_done {X} a front count i bytes le = let k : count - i ≡ 0 = omega arith in rw k (ap (λ (ns : List X). Some (ns, bytes)) (append-nil front))
 
 -- where no instruction can be read, no code can
-pub code_no_op : (front : List Instruction) (count i : ℕ) (fs : List Frame) (bytes : List ℕ) (total : Option (List Instruction × List ℕ)) → i < count → instruction_at bytes ≡ None → with_front front (code_from (count - i) fs bytes) ≡ total → total ≡ None
+pub code_no_op : (front : List Instruction) (count i : ℕ) (fs : List OpenBlock) (bytes : List ℕ) (total : Option (List Instruction × List ℕ)) → i < count → instruction_at bytes ≡ None → with_front front (code_from (count - i) fs bytes) ≡ total → total ≡ None
 code_no_op front count i fs bytes total lt none so_far = sym so_far ∙ code_more front count i fs bytes lt ∙ rw none refl
 
 -- where an instruction closes what is not open, no code can be read
-pub code_no_step : (front : List Instruction) (count i : ℕ) (fs : List Frame) (bytes : List ℕ) (o : Instruction) (rest : List ℕ) (total : Option (List Instruction × List ℕ)) → i < count → instruction_at bytes ≡ Some (o, rest) → after_instruction o fs ≡ None → with_front front (code_from (count - i) fs bytes) ≡ total → total ≡ None
+pub code_no_step : (front : List Instruction) (count i : ℕ) (fs : List OpenBlock) (bytes : List ℕ) (o : Instruction) (rest : List ℕ) (total : Option (List Instruction × List ℕ)) → i < count → instruction_at bytes ≡ Some (o, rest) → after_instruction o fs ≡ None → with_front front (code_from (count - i) fs bytes) ≡ total → total ≡ None
 code_no_step front count i fs bytes o rest total lt is none so_far = sym so_far ∙ code_more front count i fs bytes lt ∙ rw (is, none) refl

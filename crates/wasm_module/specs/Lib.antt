@@ -1,10 +1,8 @@
+-- What public contracts cite, in reading order; `internal` serves private contracts and proofs.
 pub mod Number
 pub mod Grammar
 pub mod Types
 pub mod Instructions
 pub mod Sections
 pub mod Module
-pub mod Reading
-pub mod TypesReading
-pub mod CodeReading
-pub mod ModuleReading
+pub mod internal

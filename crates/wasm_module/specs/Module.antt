@@ -90,7 +90,7 @@ FitsProfile types (f ∷ fs) [] = Unit {0}
 FitsProfile types (f ∷ fs) (b ∷ bs) = (param_count (slice_get types f) + local_count b.locals ≤ 50000) × FitsProfile types fs bs
 
 -- what holds beside the grammar: the counts agree, and the limits hold
-pub record IsWhole (s : Sections) : Type 0 where
+pub record CountsAgree (s : Sections) : Type 0 where
   pub one_body_each : length (unwrap_or s.functions []) ≡ length (unwrap_or s.bodies [])
   pub data_counted : IfSome s.data_count (λ n. n ≡ length (unwrap_or s.data_segments []))
   pub profile : FitsProfile (unwrap_or s.types []) (unwrap_or s.functions []) (unwrap_or s.bodies [])
@@ -101,7 +101,7 @@ pub record SpellsParts (bytes : List ℕ) (s : Sections) : Type 0 where
   pub short : length bytes ≤ 67108864
   pub preamble : bytes ≡ 0x00 ∷ 0x61 ∷ 0x73 ∷ 0x6D ∷ 0x01 ∷ 0x00 ∷ 0x00 ∷ 0x00 ∷ text
   pub sections : SpellsSections text s
-  pub whole : IsWhole s
+  pub whole : CountsAgree s
 
 -- the bytes spell the module
 abbrev pub Spells : List ℕ → Module → Type 0

@@ -1,8 +1,8 @@
 //! What instructions are read from (section 5.4).
 
 ghost use Rattle.std.specs.Prelude.{◌≡◌};
-ghost use Rattle.wasm_module.specs.CodeReading.{bulk_after, bulk_at, comparison_of, control_after, binary_operator_of, load_after, numeric_of, store_after, unary_of, variable_after};
-ghost use Rattle.wasm_module.specs.Reading.{Gives};
+ghost use Rattle.wasm_module.specs.internal.CodeReading.{bulk_after, bulk_at, comparison_of, control_after, binary_operator_of, load_after, numeric_of, store_after, unary_of, variable_after};
+ghost use Rattle.wasm_module.specs.internal.Reading.{Gives};
 
 use crate::cursor::{Cursor, Decode};
 use crate::fault::LoadFault;
@@ -22,7 +22,7 @@ fn unknown(byte: u8, offset: u32) -> LoadFault {
 }
 
 /// The comparisons in the order of their opcodes.
-#[tactic(auto, unfolding(crate::specs::CodeReading::comparison_of))]
+#[tactic(auto, unfolding(crate::specs::internal::CodeReading::comparison_of))]
 fn comparison(number: u8) -> Option<Comparison>
     ensures { result ≡ comparison_of number }
 {
@@ -42,7 +42,7 @@ fn comparison(number: u8) -> Option<Comparison>
 }
 
 /// The operators on two integers in the order of their opcodes.
-#[tactic(auto, unfolding(crate::specs::CodeReading::binary_operator_of))]
+#[tactic(auto, unfolding(crate::specs::internal::CodeReading::binary_operator_of))]
 fn binary_operator(number: u8) -> Option<BinaryOperator>
     ensures { result ≡ binary_operator_of number }
 {
@@ -67,7 +67,7 @@ fn binary_operator(number: u8) -> Option<BinaryOperator>
 }
 
 /// The operator on one integer of this opcode.
-#[tactic(auto, unfolding(crate::specs::CodeReading::unary_of))]
+#[tactic(auto, unfolding(crate::specs::internal::CodeReading::unary_of))]
 fn unary_operator(byte: u8) -> Option<(ValueType, UnaryOperator)>
     ensures { result ≡ unary_of byte }
 {
@@ -88,7 +88,7 @@ fn unary_operator(byte: u8) -> Option<(ValueType, UnaryOperator)>
 }
 
 /// The instruction of this opcode on numbers, which has nothing behind it.
-#[tactic(auto, unfolding(crate::specs::CodeReading::numeric_of))]
+#[tactic(auto, unfolding(crate::specs::internal::CodeReading::numeric_of))]
 fn numeric(byte: u8) -> Option<Instruction>
     ensures { result ≡ numeric_of byte }
 {
@@ -110,7 +110,7 @@ fn numeric(byte: u8) -> Option<Instruction>
 }
 
 /// What follows an opcode of the control instructions (section 5.4.1).
-#[tactic(auto, unfolding(crate::specs::CodeReading::control_after))]
+#[tactic(auto, unfolding(crate::specs::internal::CodeReading::control_after))]
 fn control(
     alloc: Global,
     cursor: &mut Cursor<'_>,
@@ -147,7 +147,7 @@ fn control(
 
 /// What follows an opcode of the parametric and variable instructions (sections 5.4.2 and
 /// 5.4.3).
-#[tactic(auto, unfolding(crate::specs::CodeReading::variable_after))]
+#[tactic(auto, unfolding(crate::specs::internal::CodeReading::variable_after))]
 fn variable(cursor: &mut Cursor<'_>, byte: u8, offset: u32) -> Result<Instruction, LoadFault>
     ensures { Gives (λ x. (x, cursor.new)) result (variable_after byte cursor.old) }
 {
@@ -164,7 +164,7 @@ fn variable(cursor: &mut Cursor<'_>, byte: u8, offset: u32) -> Result<Instructio
 }
 
 /// What follows an opcode of the loads (section 5.4.4).
-#[tactic(auto, unfolding(crate::specs::CodeReading::load_after))]
+#[tactic(auto, unfolding(crate::specs::internal::CodeReading::load_after))]
 fn load(
     alloc: Global,
     cursor: &mut Cursor<'_>,
@@ -191,7 +191,7 @@ fn load(
 }
 
 /// What follows an opcode of the stores, or of the size of memory (section 5.4.4).
-#[tactic(auto, unfolding(crate::specs::CodeReading::store_after))]
+#[tactic(auto, unfolding(crate::specs::internal::CodeReading::store_after))]
 fn store(
     alloc: Global,
     cursor: &mut Cursor<'_>,
@@ -221,7 +221,7 @@ fn store(
 }
 
 /// The instruction of this number, which stands behind the opcode FC.
-#[tactic(auto, unfolding(crate::specs::CodeReading::bulk_after))]
+#[tactic(auto, unfolding(crate::specs::internal::CodeReading::bulk_after))]
 fn bulk_instruction(
     cursor: &mut Cursor<'_>,
     number: u32,
@@ -244,7 +244,7 @@ fn bulk_instruction(
     }
 }
 
-#[tactic(auto, unfolding(crate::specs::CodeReading::bulk_at))]
+#[tactic(auto, unfolding(crate::specs::internal::CodeReading::bulk_at))]
 fn bulk(cursor: &mut Cursor<'_>) -> Result<Instruction, LoadFault>
     ensures { Gives (λ x. (x, cursor.new)) result (bulk_at cursor.old) }
 {
@@ -254,11 +254,11 @@ fn bulk(cursor: &mut Cursor<'_>) -> Result<Instruction, LoadFault>
 }
 
 impl<'a> Decode<'a> for MemArg {
-    ghost use Rattle.wasm_module.specs.CodeReading.{mem_arg_at};
+    ghost use Rattle.wasm_module.specs.internal.CodeReading.{mem_arg_at};
 
     ghost at = { mem_arg_at };
 
-    #[tactic(auto, unfolding(crate::specs::CodeReading::mem_arg_at))]
+    #[tactic(auto, unfolding(crate::specs::internal::CodeReading::mem_arg_at))]
     fn decode(_alloc: Global, cursor: &mut Cursor<'a>) -> Result<MemArg, LoadFault> {
         let align = cursor.u32()?;
         let offset = cursor.u32()?;
@@ -267,11 +267,11 @@ impl<'a> Decode<'a> for MemArg {
 }
 
 impl<'a> Decode<'a> for Instruction {
-    ghost use Rattle.wasm_module.specs.CodeReading.{instruction_at, instruction_after, numeric_after};
+    ghost use Rattle.wasm_module.specs.internal.CodeReading.{instruction_at, instruction_after, numeric_after};
 
     ghost at = { instruction_at };
 
-    #[tactic(auto, unfolding(crate::specs::CodeReading::instruction_at, crate::specs::CodeReading::instruction_after, crate::specs::CodeReading::numeric_after))]
+    #[tactic(auto, unfolding(crate::specs::internal::CodeReading::instruction_at, crate::specs::internal::CodeReading::instruction_after, crate::specs::internal::CodeReading::numeric_after))]
     fn decode(alloc: Global, cursor: &mut Cursor<'a>) -> Result<Instruction, LoadFault> {
         let offset = cursor.offset();
         let byte = cursor.byte()?;

@@ -1,14 +1,14 @@
 //! A place in the bytes of a module.
 
 ghost use Rattle.std.specs.Prelude.{◌≡◌, ◌==◌, ◌^◌, ◌<◌, ◌≤◌, [], length, IfOk, MatchResult};
-ghost use Rattle.wasm_module.specs.CodeReading.{s32_at, s64_at, code_at};
-ghost use Rattle.wasm_module.specs.Reading.{Gives, Reader, byte_at, u32_at, next_at, begins, many_at, vector_at, piece_at, whole, sized_at, raw_of, text_of, name_at, custom_of, customs_at, section_at};
+ghost use Rattle.wasm_module.specs.internal.CodeReading.{s32_at, s64_at, code_at};
+ghost use Rattle.wasm_module.specs.internal.Reading.{Gives, Reader, byte_at, u32_at, next_at, begins, many_at, vector_at, piece_at, whole, sized_at, raw_of, text_of, name_at, custom_of, customs_at, section_at};
 
 use crate::fault::LoadFault;
-use crate::frames::{Frame, Frames};
 use crate::instruction::Instruction;
 use crate::items::{Bytes, Items, Name};
 use crate::number::{Sign, Span, number};
+use crate::open_blocks::{OpenBlock, OpenBlocks};
 use std::alloc::Global;
 use std::marker::Model;
 
@@ -137,7 +137,7 @@ impl<'a> Cursor<'a> {
         }
     }
 
-    #[tactic(auto, unfolding(crate::specs::Reading::u32_at))]
+    #[tactic(auto, unfolding(crate::specs::internal::Reading::u32_at))]
     pub fn u32(&mut self) -> Result<u32, LoadFault>
         ensures { Gives (λ x. (x, self.new)) result (u32_at self.old) }
     {
@@ -147,7 +147,7 @@ impl<'a> Cursor<'a> {
     }
 
     /// A signed number, modulo 2 ^ 32.
-    #[tactic(auto, unfolding(crate::specs::CodeReading::s32_at))]
+    #[tactic(auto, unfolding(crate::specs::internal::CodeReading::s32_at))]
     pub fn s32(&mut self) -> Result<u32, LoadFault>
         ensures { Gives (λ x. (x, self.new)) result (s32_at self.old) }
     {
@@ -157,7 +157,7 @@ impl<'a> Cursor<'a> {
     }
 
     /// A signed number, modulo 2 ^ 64.
-    #[tactic(auto, unfolding(crate::specs::CodeReading::s64_at))]
+    #[tactic(auto, unfolding(crate::specs::internal::CodeReading::s64_at))]
     pub fn s64(&mut self) -> Result<u64, LoadFault>
         ensures { Gives (λ x. (x, self.new)) result (s64_at self.old) }
     {
@@ -180,7 +180,7 @@ impl<'a> Cursor<'a> {
         Ok(Cursor { rest: front, end })
     }
 
-    #[tactic(auto, unfolding(crate::specs::Reading::vector_at))]
+    #[tactic(auto, unfolding(crate::specs::internal::Reading::vector_at))]
     pub fn vector<T: Decode<'a>>(&mut self, alloc: Global) -> Result<Items<T>, LoadFault>
         ensures { Gives (λ x. (x, self.new)) result (vector_at T.at self.old) }
     {
@@ -231,7 +231,7 @@ impl<'a> Cursor<'a> {
     }
 
     /// A value behind its size, in the part that begins at this offset.
-    #[tactic(auto, unfolding(crate::specs::Reading::sized_at))]
+    #[tactic(auto, unfolding(crate::specs::internal::Reading::sized_at))]
     pub fn sized<T: Decode<'a>>(&mut self, alloc: Global, part: u32) -> Result<T, LoadFault>
         ensures { Gives (λ x. (x, self.new)) result (sized_at (whole T.at) self.old) }
     {
@@ -243,7 +243,7 @@ impl<'a> Cursor<'a> {
     }
 
     /// Bytes behind their count.
-    #[tactic(auto, unfolding(crate::specs::Reading::sized_at, crate::specs::Reading::raw_of))]
+    #[tactic(auto, unfolding(crate::specs::internal::Reading::sized_at, crate::specs::internal::Reading::raw_of))]
     pub fn sized_bytes(&mut self) -> Result<Bytes<'a>, LoadFault>
         ensures { Gives (λ x. (x, self.new)) result (sized_at raw_of self.old) }
     {
@@ -264,7 +264,7 @@ impl<'a> Cursor<'a> {
         }
     }
 
-    #[tactic(auto, unfolding(crate::specs::Reading::sized_at, crate::specs::Reading::name_at))]
+    #[tactic(auto, unfolding(crate::specs::internal::Reading::sized_at, crate::specs::internal::Reading::name_at))]
     pub fn name(&mut self) -> Result<Name<'a>, LoadFault>
         ensures { Gives (λ x. (x, self.new)) result (name_at self.old) }
     {
@@ -274,7 +274,7 @@ impl<'a> Cursor<'a> {
 
     /// The content of the custom section that begins at this offset: its name is read, and
     /// nothing else.
-    #[tactic(auto, unfolding(crate::specs::Reading::custom_of))]
+    #[tactic(auto, unfolding(crate::specs::internal::Reading::custom_of))]
     fn custom_content(mut self, section: u32) -> Result<(), LoadFault>
         ensures { Gives (λ x. x) result (custom_of self.entry) }
     {
@@ -284,7 +284,7 @@ impl<'a> Cursor<'a> {
         }
     }
 
-    #[tactic(auto, unfolding(crate::specs::Reading::sized_at))]
+    #[tactic(auto, unfolding(crate::specs::internal::Reading::sized_at))]
     fn custom(&mut self, section: u32) -> Result<(), LoadFault>
         ensures { Gives (λ x. (x, self.new)) result (sized_at custom_of self.old) }
     {
@@ -293,7 +293,7 @@ impl<'a> Cursor<'a> {
     }
 
     /// Goes past the custom sections at the front.
-    #[tactic(auto, using(crate::proofs::Steps::customs_more, crate::proofs::Steps::customs_done), unfolding(crate::specs::Reading::customs_at))]
+    #[tactic(auto, using(crate::proofs::Steps::customs_more, crate::proofs::Steps::customs_done), unfolding(crate::specs::internal::Reading::customs_at))]
     pub fn customs(&mut self) -> Result<(), LoadFault>
         ensures { Gives (λ x. (x, self.new)) result (customs_at self.old) }
     {
@@ -309,7 +309,7 @@ impl<'a> Cursor<'a> {
     }
 
     /// A section that may be absent, and the custom sections after it.
-    #[tactic(auto, unfolding(crate::specs::Reading::section_at))]
+    #[tactic(auto, unfolding(crate::specs::internal::Reading::section_at))]
     pub fn section<T: Decode<'a>>(&mut self, alloc: Global, id: u8) -> Result<Option<T>, LoadFault>
         ensures { Gives (λ x. (x, self.new)) result (section_at id (whole T.at) self.old) }
     {
@@ -324,14 +324,14 @@ impl<'a> Cursor<'a> {
     }
 
     /// Instructions up to the one that closes the expression (section 5.4.6).
-    #[tactic(auto, using(crate::proofs::Steps::code_more, crate::proofs::Steps::code_done), unfolding(crate::specs::CodeReading::code_at))]
+    #[tactic(auto, using(crate::proofs::Steps::code_more, crate::proofs::Steps::code_done), unfolding(crate::specs::internal::CodeReading::code_at))]
     pub fn code(&mut self, alloc: Global) -> Result<Items<Instruction>, LoadFault>
         ensures { Gives (λ x. (x, self.new)) result (code_at self.old) }
     {
         let begin = self.offset();
         let mut code = Vec::new(alloc);
-        let mut open = Frames::new(alloc);
-        open.push(Frame::Plain)?;
+        let mut open = OpenBlocks::new(alloc);
+        open.push(OpenBlock::Plain)?;
         for _ in 0..self.len() {
             let offset = self.offset();
             let instruction = Instruction::decode(alloc, self)?;

@@ -2,8 +2,8 @@
 
 ghost use Rattle.std.specs.Prelude.{◌≡◌, ◌≢◌, ℕ, List, [], unwrap_or, IfOk, IfErr};
 ghost use Rattle.wasm_module.specs.Module.{Spells};
-ghost use Rattle.wasm_module.specs.ModuleReading.{preamble_at, sections_at, is_counted, is_whole, module_and_count, module_from};
-ghost use Rattle.wasm_module.specs.Reading.{Gives, Allows, map_at};
+ghost use Rattle.wasm_module.specs.internal.ModuleReading.{preamble_at, sections_at, is_counted, counts_agree, module_and_count, module_from};
+ghost use Rattle.wasm_module.specs.internal.Reading.{Gives, Allows, map_at};
 ghost use Rattle.wasm_module.specs.declared.module.Module.{Module as ModuleValue};
 
 use crate::cursor::Cursor;
@@ -20,7 +20,7 @@ const MOST_BYTES: u32 = 67_108_864;
 /// The greatest id of a section.
 const LAST_SECTION: u8 = 12;
 
-#[tactic(auto, unfolding(crate::specs::ModuleReading::preamble_at))]
+#[tactic(auto, unfolding(crate::specs::internal::ModuleReading::preamble_at))]
 fn preamble(cursor: &mut Cursor<'_>) -> Result<(), LoadFault>
     ensures { Gives (λ x. (x, cursor.new)) result (preamble_at cursor.old) }
 {
@@ -66,7 +66,7 @@ fn table_limits(alloc: Global, tables: Option<Tables>) -> Items<Limits>
 }
 
 /// The sections in their order: the module, and how many data segments it says that it has.
-#[tactic(auto, unfolding(crate::specs::ModuleReading::sections_at, crate::specs::Module::module_of))]
+#[tactic(auto, unfolding(crate::specs::internal::ModuleReading::sections_at, crate::specs::Module::module_of))]
 fn sections<'a>(
     alloc: Global,
     cursor: &mut Cursor<'a>,
@@ -122,9 +122,9 @@ fn is_counted(data_count: Option<u32>, segments: usize) -> bool
 }
 
 /// What holds beside the grammar.
-#[tactic(auto, unfolding(crate::specs::ModuleReading::is_whole))]
+#[tactic(auto, unfolding(crate::specs::internal::ModuleReading::counts_agree))]
 fn check(bytes: &[u8], decoded: &Module<'_>, data_count: Option<u32>) -> Result<(), LoadFault>
-    ensures { Allows result (is_whole decoded.now data_count) }
+    ensures { Allows result (counts_agree decoded.now data_count) }
 {
     let types = decoded.types.as_slice();
     let functions = decoded.functions.as_slice();
@@ -143,7 +143,7 @@ fn check(bytes: &[u8], decoded: &Module<'_>, data_count: Option<u32>) -> Result<
     Ok(())
 }
 
-#[tactic(auto, unfolding(crate::specs::ModuleReading::module_from))]
+#[tactic(auto, unfolding(crate::specs::internal::ModuleReading::module_from))]
 fn module<'a>(alloc: Global, bytes: &'a [u8]) -> Result<Module<'a>, LoadFault>
     ensures { Gives (λ m. m) result (module_from bytes.now) }
 {

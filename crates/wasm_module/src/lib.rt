@@ -5,12 +5,12 @@ mod code;
 mod cursor;
 mod decoding;
 mod fault;
-mod frames;
 mod instruction;
 mod items;
 mod limits;
 mod module;
 mod number;
+mod open_blocks;
 mod parts;
 
 pub use decoding::{decode, one_module};

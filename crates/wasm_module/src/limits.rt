@@ -3,7 +3,7 @@
 ghost use Rattle.std.specs.List.{list_all, zip};
 ghost use Rattle.std.specs.Prelude.{◌≡◌, ◌+◌, length, nat_le, slice_get};
 ghost use Rattle.wasm_module.specs.Module.{param_count, local_count};
-ghost use Rattle.wasm_module.specs.ModuleReading.{is_few, fits_profile};
+ghost use Rattle.wasm_module.specs.internal.ModuleReading.{is_few, fits_profile};
 
 use crate::cursor::Cursor;
 use crate::fault::LoadFault;
@@ -43,7 +43,7 @@ fn is_within(types: &[FuncType], index: u32, body: &Body<'_>) -> bool
 }
 
 /// Whether each function has few enough parameters and locals.
-#[tactic(auto, unfolding(crate::specs::ModuleReading::fits_profile))]
+#[tactic(auto, unfolding(crate::specs::internal::ModuleReading::fits_profile))]
 pub fn fits_profile(types: &[FuncType], functions: &[u32], bodies: &[Body<'_>]) -> bool
     ensures { result ≡ fits_profile types.now functions.now bodies.now }
 {

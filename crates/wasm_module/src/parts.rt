@@ -1,8 +1,8 @@
 //! What the parts of a module are read from (sections 5.3 to 5.5).
 
-ghost use Rattle.wasm_module.specs.ModuleReading.{body_of};
-ghost use Rattle.wasm_module.specs.Reading.{Gives, many_at};
-ghost use Rattle.wasm_module.specs.TypesReading.{value_type_of, table_at, mutability_at};
+ghost use Rattle.wasm_module.specs.internal.ModuleReading.{body_of};
+ghost use Rattle.wasm_module.specs.internal.Reading.{Gives, many_at};
+ghost use Rattle.wasm_module.specs.internal.TypesReading.{value_type_of, table_at, mutability_at};
 
 use crate::cursor::{Cursor, Decode};
 use crate::fault::LoadFault;
@@ -30,11 +30,11 @@ fn value_type(byte: u8, offset: u32) -> Result<ValueType, LoadFault>
 }
 
 impl<'a> Decode<'a> for ValueType {
-    ghost use Rattle.wasm_module.specs.TypesReading.{value_type_at};
+    ghost use Rattle.wasm_module.specs.internal.TypesReading.{value_type_at};
 
     ghost at = { value_type_at };
 
-    #[tactic(auto, unfolding(crate::specs::TypesReading::value_type_at))]
+    #[tactic(auto, unfolding(crate::specs::internal::TypesReading::value_type_at))]
     fn decode(_alloc: Global, cursor: &mut Cursor<'a>) -> Result<ValueType, LoadFault> {
         let offset = cursor.offset();
         value_type(cursor.byte()?, offset)
@@ -42,11 +42,11 @@ impl<'a> Decode<'a> for ValueType {
 }
 
 impl<'a> Decode<'a> for BlockType {
-    ghost use Rattle.wasm_module.specs.TypesReading.{block_type_at};
+    ghost use Rattle.wasm_module.specs.internal.TypesReading.{block_type_at};
 
     ghost at = { block_type_at };
 
-    #[tactic(auto, unfolding(crate::specs::TypesReading::block_type_at))]
+    #[tactic(auto, unfolding(crate::specs::internal::TypesReading::block_type_at))]
     fn decode(_alloc: Global, cursor: &mut Cursor<'a>) -> Result<BlockType, LoadFault> {
         let offset = cursor.offset();
         match cursor.byte()? {
@@ -57,11 +57,11 @@ impl<'a> Decode<'a> for BlockType {
 }
 
 impl<'a> Decode<'a> for FuncType {
-    ghost use Rattle.wasm_module.specs.TypesReading.{func_type_at};
+    ghost use Rattle.wasm_module.specs.internal.TypesReading.{func_type_at};
 
     ghost at = { func_type_at };
 
-    #[tactic(auto, unfolding(crate::specs::TypesReading::func_type_at))]
+    #[tactic(auto, unfolding(crate::specs::internal::TypesReading::func_type_at))]
     fn decode(alloc: Global, cursor: &mut Cursor<'a>) -> Result<FuncType, LoadFault> {
         let offset = cursor.offset();
         cursor.expect(0x60, LoadFault::BadByte { offset })?;
@@ -72,11 +72,11 @@ impl<'a> Decode<'a> for FuncType {
 }
 
 impl<'a> Decode<'a> for Limits {
-    ghost use Rattle.wasm_module.specs.TypesReading.{limits_at, bounds_after};
+    ghost use Rattle.wasm_module.specs.internal.TypesReading.{limits_at, bounds_after};
 
     ghost at = { limits_at };
 
-    #[tactic(auto, unfolding(crate::specs::TypesReading::limits_at, crate::specs::TypesReading::bounds_after))]
+    #[tactic(auto, unfolding(crate::specs::internal::TypesReading::limits_at, crate::specs::internal::TypesReading::bounds_after))]
     fn decode(_alloc: Global, cursor: &mut Cursor<'a>) -> Result<Limits, LoadFault> {
         let offset = cursor.offset();
         match cursor.byte()? {
@@ -98,7 +98,7 @@ impl<'a> Decode<'a> for Limits {
 }
 
 /// A table's type (section 5.3.6).
-#[tactic(auto, unfolding(crate::specs::TypesReading::table_at))]
+#[tactic(auto, unfolding(crate::specs::internal::TypesReading::table_at))]
 fn table_type(alloc: Global, cursor: &mut Cursor<'_>) -> Result<Limits, LoadFault>
     ensures { Gives (λ x. (x, cursor.new)) result (table_at cursor.old) }
 {
@@ -140,11 +140,11 @@ fn table_types(alloc: Global, cursor: &mut Cursor<'_>, count: u32) -> Result<Vec
 }
 
 impl<'a> Decode<'a> for Tables {
-    ghost use Rattle.wasm_module.specs.Reading.{vector_at};
+    ghost use Rattle.wasm_module.specs.internal.Reading.{vector_at};
 
     ghost at = { vector_at table_at };
 
-    #[tactic(auto, unfolding(crate::specs::Reading::vector_at))]
+    #[tactic(auto, unfolding(crate::specs::internal::Reading::vector_at))]
     fn decode(alloc: Global, cursor: &mut Cursor<'a>) -> Result<Tables, LoadFault> {
         let offset = cursor.offset();
         let count = cursor.u32()?;
@@ -153,7 +153,7 @@ impl<'a> Decode<'a> for Tables {
     }
 }
 
-#[tactic(auto, unfolding(crate::specs::TypesReading::mutability_at))]
+#[tactic(auto, unfolding(crate::specs::internal::TypesReading::mutability_at))]
 fn mutability(cursor: &mut Cursor<'_>) -> Result<bool, LoadFault>
     ensures { Gives (λ x. (x, cursor.new)) result (mutability_at cursor.old) }
 {
@@ -166,11 +166,11 @@ fn mutability(cursor: &mut Cursor<'_>) -> Result<bool, LoadFault>
 }
 
 impl<'a> Decode<'a> for GlobalType {
-    ghost use Rattle.wasm_module.specs.TypesReading.{global_type_at};
+    ghost use Rattle.wasm_module.specs.internal.TypesReading.{global_type_at};
 
     ghost at = { global_type_at };
 
-    #[tactic(auto, unfolding(crate::specs::TypesReading::global_type_at))]
+    #[tactic(auto, unfolding(crate::specs::internal::TypesReading::global_type_at))]
     fn decode(alloc: Global, cursor: &mut Cursor<'a>) -> Result<GlobalType, LoadFault> {
         let value_type = ValueType::decode(alloc, cursor)?;
         let mutable = mutability(cursor)?;
@@ -182,7 +182,7 @@ impl<'a> Decode<'a> for GlobalType {
 }
 
 impl<'a> Decode<'a> for u32 {
-    ghost use Rattle.wasm_module.specs.Reading.{u32_at};
+    ghost use Rattle.wasm_module.specs.internal.Reading.{u32_at};
 
     ghost at = { u32_at };
 
@@ -192,7 +192,7 @@ impl<'a> Decode<'a> for u32 {
 }
 
 impl<'a, T: Decode<'a>> Decode<'a> for Items<T> {
-    ghost use Rattle.wasm_module.specs.Reading.{vector_at};
+    ghost use Rattle.wasm_module.specs.internal.Reading.{vector_at};
 
     ghost at = { vector_at T.at };
 
@@ -202,11 +202,11 @@ impl<'a, T: Decode<'a>> Decode<'a> for Items<T> {
 }
 
 impl<'a> Decode<'a> for ImportKind {
-    ghost use Rattle.wasm_module.specs.ModuleReading.{import_kind_at, import_after};
+    ghost use Rattle.wasm_module.specs.internal.ModuleReading.{import_kind_at, import_after};
 
     ghost at = { import_kind_at };
 
-    #[tactic(auto, unfolding(crate::specs::ModuleReading::import_kind_at, crate::specs::ModuleReading::import_after))]
+    #[tactic(auto, unfolding(crate::specs::internal::ModuleReading::import_kind_at, crate::specs::internal::ModuleReading::import_after))]
     fn decode(alloc: Global, cursor: &mut Cursor<'a>) -> Result<ImportKind, LoadFault> {
         let offset = cursor.offset();
         match cursor.byte()? {
@@ -220,11 +220,11 @@ impl<'a> Decode<'a> for ImportKind {
 }
 
 impl<'a> Decode<'a> for Import<'a> {
-    ghost use Rattle.wasm_module.specs.ModuleReading.{import_at};
+    ghost use Rattle.wasm_module.specs.internal.ModuleReading.{import_at};
 
     ghost at = { import_at };
 
-    #[tactic(auto, unfolding(crate::specs::ModuleReading::import_at))]
+    #[tactic(auto, unfolding(crate::specs::internal::ModuleReading::import_at))]
     fn decode(alloc: Global, cursor: &mut Cursor<'a>) -> Result<Import<'a>, LoadFault> {
         let module_name = cursor.name()?;
         let name = cursor.name()?;
@@ -238,11 +238,11 @@ impl<'a> Decode<'a> for Import<'a> {
 }
 
 impl<'a> Decode<'a> for GlobalEntry {
-    ghost use Rattle.wasm_module.specs.ModuleReading.{global_at};
+    ghost use Rattle.wasm_module.specs.internal.ModuleReading.{global_at};
 
     ghost at = { global_at };
 
-    #[tactic(auto, unfolding(crate::specs::ModuleReading::global_at))]
+    #[tactic(auto, unfolding(crate::specs::internal::ModuleReading::global_at))]
     fn decode(alloc: Global, cursor: &mut Cursor<'a>) -> Result<GlobalEntry, LoadFault> {
         let global_type = GlobalType::decode(alloc, cursor)?;
         let init = cursor.code(alloc)?;
@@ -251,11 +251,11 @@ impl<'a> Decode<'a> for GlobalEntry {
 }
 
 impl<'a> Decode<'a> for ExportKind {
-    ghost use Rattle.wasm_module.specs.ModuleReading.{export_kind_at, export_after};
+    ghost use Rattle.wasm_module.specs.internal.ModuleReading.{export_kind_at, export_after};
 
     ghost at = { export_kind_at };
 
-    #[tactic(auto, unfolding(crate::specs::ModuleReading::export_kind_at, crate::specs::ModuleReading::export_after))]
+    #[tactic(auto, unfolding(crate::specs::internal::ModuleReading::export_kind_at, crate::specs::internal::ModuleReading::export_after))]
     fn decode(_alloc: Global, cursor: &mut Cursor<'a>) -> Result<ExportKind, LoadFault> {
         let offset = cursor.offset();
         match cursor.byte()? {
@@ -269,11 +269,11 @@ impl<'a> Decode<'a> for ExportKind {
 }
 
 impl<'a> Decode<'a> for Export<'a> {
-    ghost use Rattle.wasm_module.specs.ModuleReading.{export_at};
+    ghost use Rattle.wasm_module.specs.internal.ModuleReading.{export_at};
 
     ghost at = { export_at };
 
-    #[tactic(auto, unfolding(crate::specs::ModuleReading::export_at))]
+    #[tactic(auto, unfolding(crate::specs::internal::ModuleReading::export_at))]
     fn decode(alloc: Global, cursor: &mut Cursor<'a>) -> Result<Export<'a>, LoadFault> {
         let name = cursor.name()?;
         let kind = ExportKind::decode(alloc, cursor)?;
@@ -282,11 +282,11 @@ impl<'a> Decode<'a> for Export<'a> {
 }
 
 impl<'a> Decode<'a> for ElementSegment {
-    ghost use Rattle.wasm_module.specs.ModuleReading.{elements_at};
+    ghost use Rattle.wasm_module.specs.internal.ModuleReading.{elements_at};
 
     ghost at = { elements_at };
 
-    #[tactic(auto, unfolding(crate::specs::ModuleReading::elements_at))]
+    #[tactic(auto, unfolding(crate::specs::internal::ModuleReading::elements_at))]
     fn decode(alloc: Global, cursor: &mut Cursor<'a>) -> Result<ElementSegment, LoadFault> {
         let table = cursor.u32()?;
         let offset = cursor.code(alloc)?;
@@ -300,11 +300,11 @@ impl<'a> Decode<'a> for ElementSegment {
 }
 
 impl<'a> Decode<'a> for Locals {
-    ghost use Rattle.wasm_module.specs.ModuleReading.{locals_at};
+    ghost use Rattle.wasm_module.specs.internal.ModuleReading.{locals_at};
 
     ghost at = { locals_at };
 
-    #[tactic(auto, unfolding(crate::specs::ModuleReading::locals_at))]
+    #[tactic(auto, unfolding(crate::specs::internal::ModuleReading::locals_at))]
     fn decode(alloc: Global, cursor: &mut Cursor<'a>) -> Result<Locals, LoadFault> {
         let count = cursor.u32()?;
         let value_type = ValueType::decode(alloc, cursor)?;
@@ -313,7 +313,7 @@ impl<'a> Decode<'a> for Locals {
 }
 
 /// A function's body, which fills the bytes; its size stands at this offset.
-#[tactic(auto, unfolding(crate::specs::ModuleReading::body_of))]
+#[tactic(auto, unfolding(crate::specs::internal::ModuleReading::body_of))]
 fn body<'a>(alloc: Global, mut cursor: Cursor<'a>, size: u32) -> Result<Body<'a>, LoadFault>
     ensures { Gives (λ b. b) result (body_of cursor.entry) }
 {
@@ -331,11 +331,11 @@ fn body<'a>(alloc: Global, mut cursor: Cursor<'a>, size: u32) -> Result<Body<'a>
 }
 
 impl<'a> Decode<'a> for Body<'a> {
-    ghost use Rattle.wasm_module.specs.ModuleReading.{body_at};
+    ghost use Rattle.wasm_module.specs.internal.ModuleReading.{body_at};
 
     ghost at = { body_at };
 
-    #[tactic(auto, unfolding(crate::specs::ModuleReading::body_at, crate::specs::Reading::sized_at))]
+    #[tactic(auto, unfolding(crate::specs::internal::ModuleReading::body_at, crate::specs::internal::Reading::sized_at))]
     fn decode(alloc: Global, cursor: &mut Cursor<'a>) -> Result<Body<'a>, LoadFault> {
         let offset = cursor.offset();
         let size = cursor.u32()?;
@@ -347,11 +347,11 @@ impl<'a> Decode<'a> for Body<'a> {
 }
 
 impl<'a> Decode<'a> for DataSegment<'a> {
-    ghost use Rattle.wasm_module.specs.ModuleReading.{data_at};
+    ghost use Rattle.wasm_module.specs.internal.ModuleReading.{data_at};
 
     ghost at = { data_at };
 
-    #[tactic(auto, unfolding(crate::specs::ModuleReading::data_at))]
+    #[tactic(auto, unfolding(crate::specs::internal::ModuleReading::data_at))]
     fn decode(alloc: Global, cursor: &mut Cursor<'a>) -> Result<DataSegment<'a>, LoadFault> {
         let memory = cursor.u32()?;
         let offset = cursor.code(alloc)?;

@@ -1,6 +1,6 @@
 -- The values of constant expressions.
 use Rattle.std.proofs.Common.{◌≡◌, ℕ, zero, suc, ◌+◌, ◌^◌, ◌<◌, ◌≤◌, List, [], ◌∷◌, ◌++◌, length, drop, Option, Some, None, refl, sym, ap, ◌∙◌, subst, inl, inr, append_assoc, append-nil, get_or}
-use Rattle.std.specs.Prelude.{slice_get, ◌⊎◌}
+use Rattle.std.specs.Prelude.{slice_get}
 use Rattle.std.specs.List.{AllByRecursion, filter_map, cons_option}
 use Rattle.wasm_module.specs.declared.instruction.ValueType.{ValueType}
 use Rattle.wasm_module.specs.declared.instruction.ValueType.TheVariants.{I32, I64}
@@ -13,7 +13,7 @@ use Rattle.wasm_module.specs.declared.module.Module.{Module}
 use Rattle.wasm_valid.specs.Validity.{IsValid, imported_global, kinds_of, IsConstant}
 use Rattle.wasm_store.specs.Values.{Val, val, number_of, numbers, IsInType}
 use Rattle.wasm_store.specs.Instantiation.{constant_value, segment_start, AreFirst}
-use Rattle.wasm_store.specs.Instantiating.{IsFunction, ImportsFunctions, HaveFirst}
+use Rattle.wasm_store.specs.internal.Finding.{IsFunction, ImportsFunctions, HaveFirst}
 use Rattle.wasm_store.proofs.Functions.{left_from, nothing_left, each_at, kind_of_function}
 
 -- ---- one expression

@@ -3,13 +3,13 @@ use Rattle.std.proofs.Common.{◌≡◌, ℕ, ◌+◌, ◌≤◌, List, [], ◌�
 use Rattle.std.specs.Prelude.{slice_get}
 use Rattle.wasm_module.specs.declared.module.FuncType.{FuncType}
 use Rattle.wasm_module.specs.declared.module.Import.{Import}
-use Rattle.wasm_module.specs.declared.module.ImportKind.{ImportKind}
 use Rattle.wasm_module.specs.declared.module.ImportKind.TheVariants as imports
 use Rattle.wasm_module.specs.declared.module.Module.{Module}
 use Rattle.wasm_store.specs.declared.call.HostCall.{HostCall}
 use Rattle.wasm_store.specs.Instances.{Callee, imported}
 use Rattle.wasm_store.specs.Instantiation.{LinksOf, IsLinked, AreLinked, SomeUnlinked}
-use Rattle.wasm_store.specs.Instantiating.{AreCallees, AreFound}
+use Rattle.wasm_store.specs.Instantiating.{AreCallees}
+use Rattle.wasm_store.specs.internal.Finding.{AreFound}
 use Rattle.wasm_store.proofs.Functions.{left_from, nothing_left}
 
 module _ (links : LinksOf) (m : Module) where

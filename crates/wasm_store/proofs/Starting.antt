@@ -10,7 +10,7 @@ use Rattle.wasm_module.specs.declared.module.Export.{Export}
 use Rattle.wasm_module.specs.declared.module.ExportKind.TheVariants as exports
 use Rattle.wasm_module.specs.declared.module.Module.{Module}
 use Rattle.wasm_store.specs.Instantiation.{IsStart}
-use Rattle.wasm_store.specs.Instantiating.{HasType, StartsAt, start_export}
+use Rattle.wasm_store.specs.internal.Finding.{HasType, StartsAt, start_export}
 
 -- no export before this one is `_start`
 pub record NoneBefore (m : Module) (k : ℕ) : Type 0 where

@@ -5,9 +5,9 @@ use Rattle.wasm_module.specs.declared.module.Module.{Module}
 use Rattle.wasm_valid.specs.Validity.{IsValid}
 use Rattle.wasm_store.specs.declared.instantiation.Instantiated.{Instantiated}
 use Rattle.wasm_store.specs.Values.{Val, numbers}
-use Rattle.wasm_store.specs.Instances.{Instance, Store}
 use Rattle.wasm_store.specs.Instantiation.{LinksOf, IsStart, minimum, page_limit, ElementsInside, DataInside, with_elements, with_data}
-use Rattle.wasm_store.specs.Instantiating.{AreFound, HaveFirst, IsInstantiated}
+use Rattle.wasm_store.specs.internal.Finding.{AreFound, HaveFirst}
+use Rattle.wasm_store.specs.Instantiating.{IsInstantiated}
 use Rattle.wasm_store.proofs.Functions.{own_callees}
 
 -- what the parts of an instantiation give

@@ -1,49 +1,18 @@
 -- What the functions that instantiate a module promise.
-use Rattle.std.specs.Prelude.{◌≡◌, ℕ, ◌⊎◌, List, [], ◌∷◌, ◌++◌, Some, slice_get, codes}
+use Rattle.std.specs.Prelude.{◌≡◌, ℕ, List, [], ◌∷◌, ◌++◌, Some, slice_get}
 use Rattle.std.specs.List.{AllByRecursion}
 use Rattle.std.specs.Option.{option_to_list}
 use Rattle.wasm_module.specs.declared.module.FuncType.{FuncType}
 use Rattle.wasm_module.specs.declared.module.Import.{Import}
-use Rattle.wasm_module.specs.declared.module.ImportKind.{ImportKind}
 use Rattle.wasm_module.specs.declared.module.ImportKind.TheVariants as imports
-use Rattle.wasm_module.specs.declared.module.Export.{Export}
-use Rattle.wasm_module.specs.declared.module.ExportKind.TheVariants as exports
 use Rattle.wasm_module.specs.declared.module.Module.{Module}
-use Rattle.wasm_valid.specs.Validity.{functions_of}
 use Rattle.wasm_store.specs.declared.call.HostCall.{HostCall}
-use Rattle.wasm_store.specs.declared.fault.InstanceFault.{InstanceFault}
-use Rattle.wasm_store.specs.declared.fault.InstanceFault.TheVariants as faults
 use Rattle.wasm_store.specs.declared.instantiation.Instantiated.{Instantiated}
-use Rattle.wasm_store.specs.Values.{Val, IsInType, numbers}
+use Rattle.wasm_store.specs.Values.{IsInType, numbers}
 use Rattle.wasm_store.specs.Instances.{Callee, imported, Instance, Store}
-use Rattle.wasm_store.specs.Instantiation.{LinksOf, AreLinked, SomeUnlinked, IsStart, AreFirst, Instantiates}
+use Rattle.wasm_store.specs.Instantiation.{LinksOf, Instantiates}
 
 -- ---- functions
-
--- functions alone are imported
-abbrev pub IsFunction : ImportKind → Type 0
-IsFunction (imports.Function x) = Unit {0}
-IsFunction k = ⊥
-
-abbrev pub ImportsFunctions : Module → Type 0
-ImportsFunctions m = AllByRecursion (λ i. IsFunction i.kind) m.imports
-
--- function x has this type
-pub record HasType (m : Module) (x : ℕ) (f : FuncType) : Type 0 where
-  pub type_index : ℕ
-  pub function : slice_get (functions_of m) x ≡ Some type_index
-  pub type_is : slice_get m.types type_index ≡ Some f
-
--- an export of function x by the name `_start`
-abbrev pub start_export : ℕ → Export
-start_export x = record { name = codes "_start"; kind = exports.Function x }
-
--- the export is that of a function of type [] -> [] by this name
-pub record StartsAt (m : Module) (e : Export) (x : ℕ) : Type 0 where
-  pub is : e ≡ start_export x
-  pub has_type : HasType m x (record { params = []; results = [] })
-
--- ---- imports
 
 -- an import, the host's call for it, and the function instance
 pub record IsCallee (types : List FuncType) (import : Import) (call : HostCall) (c : Callee) : Type 0 where
@@ -57,25 +26,6 @@ abbrev pub AreCallees : List FuncType → List Import → List HostCall → List
 AreCallees types [] [] [] = Unit {0}
 AreCallees types (i ∷ is) (h ∷ hs) (c ∷ cs) = IsCallee types i h c × AreCallees types is hs cs
 AreCallees types is hs cs = ⊥
-
--- every import has its call
-pub record AreFound (links : LinksOf) (m : Module) (calls : List HostCall) : Type 0 where
-  pub linked : List Callee
-  pub are_linked : AreLinked links m.types m.imports linked
-  pub are_callees : AreCallees m.types m.imports calls linked
-
--- an import was not linked, or memory was refused
-abbrev pub NotFound : LinksOf → Module → InstanceFault → Type 0
-NotFound links m e = (e ≡ faults.Memory) ⊎ ((e ≡ faults.Import) × SomeUnlinked links m.types m.imports)
-
--- ---- the whole
-
--- these are the numbers of the globals' first values
-pub record HaveFirst (m : Module) (globals : List ℕ) : Type 0 where
-  pub values : List Val
-  pub are_first : AreFirst m.globals values
-  pub numbers_are : numbers values ≡ globals
-  pub in_range : AllByRecursion IsInType values
 
 -- What was made is an instance with its first store, and the functions that are entered first. The calls are those of
 -- the imports.

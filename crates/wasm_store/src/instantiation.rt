@@ -6,7 +6,8 @@ ghost use Rattle.wasm_module.specs.declared.instruction.Instruction.{Instruction
 ghost use Rattle.wasm_valid.specs.Validity.{IsValid, functions_of, ExportFits};
 ghost use Rattle.wasm_store.specs.Values.{Val, numbers};
 ghost use Rattle.wasm_store.specs.Instantiation.{IsStart, AreFirst, minimum, page_limit as limit_of, segment_start, ElementsInside, ElementsOutside, DataInside, DataOutside, with_elements, with_data, RefusedFor};
-ghost use Rattle.wasm_store.specs.Instantiating.{ImportsFunctions, HasType, StartsAt, AreFound, NotFound, HaveFirst, IsInstantiated};
+ghost use Rattle.wasm_store.specs.internal.Finding.{ImportsFunctions, HasType, StartsAt, AreFound, NotFound, HaveFirst};
+ghost use Rattle.wasm_store.specs.Instantiating.{IsInstantiated};
 
 use crate::call::HostCall;
 use crate::fault::InstanceFault;

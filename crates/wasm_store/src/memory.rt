@@ -30,7 +30,8 @@ impl Memory {
     ghost use Rattle.std.specs.Bool.{OnTrue, OnFalse};
     ghost use Rattle.std.specs.Borrow.{sem};
     ghost use Rattle.wasm_store.specs.Bytes.{from_bytes, to_bytes, bytes_at, written};
-    ghost use Rattle.wasm_store.specs.Lending.{LendsPart, LendsPartIf};
+    ghost use Rattle.wasm_store.specs.internal.LendingParts.{LendsPart};
+    ghost use Rattle.wasm_store.specs.Lending.{LendsPartIf};
 
     /// Memory of so many pages of 65,536 bytes, all zeros.
     pub fn new(alloc: Global, pages: u32) -> Result<Memory, AllocError>

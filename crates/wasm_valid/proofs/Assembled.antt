@@ -14,12 +14,12 @@ use Rattle.wasm_module.specs.declared.module.ExportKind.TheVariants as exported
 use Rattle.wasm_module.specs.declared.module.ElementSegment.{ElementSegment}
 use Rattle.wasm_module.specs.declared.module.DataSegment.{DataSegment}
 use Rattle.wasm_module.specs.declared.module.Module.{Module}
-use Rattle.wasm_valid.specs.declared.space.Space.{Space}
+use Rattle.wasm_valid.specs.declared.module_context.ModuleContext.{ModuleContext}
 use Rattle.wasm_valid.specs.Typing.{Context}
 use Rattle.wasm_valid.specs.Validity.{imported_global, kinds_of, functions_of, tables_of, memories_of, globals_of, has_any, AreTypesAt, IsContext, IsConstant, FunctionsTyped, ExportFits, DataFits, LimitsFit, ElementsFit, IsValid}
-use Rattle.wasm_valid.specs.Refusal.{Settles}
-use Rattle.wasm_valid.specs.Rules.{IsConstantInstruction, TypesFit, LimitsHold, GlobalsHold, ListsFit, StartFits, IsWithin, ElementsHold, DataHolds, counts_of}
-use Rattle.wasm_valid.specs.Scopes.{IsSpace, IsSpaceOf}
+use Rattle.wasm_valid.specs.internal.Answers.{Decides}
+use Rattle.wasm_valid.specs.internal.Rules.{IsConstantInstruction, TypesFit, LimitsHold, GlobalsHold, ListsFit, StartFits, IsWithin, ElementsHold, DataHolds, counts_of}
+use Rattle.wasm_valid.specs.internal.Contexts.{IsModuleContext, IsModuleContextOf}
 use Rattle.wasm_valid.proofs.Refusals.{Refutes-some}
 
 -- ---- constant expressions
@@ -98,10 +98,10 @@ context_of m h =
     )
 
 -- the code keeps the context
-space_of : (space : Space) (m : Module) (c : Context) → IsSpaceOf space m → IsContext m c → IsSpace space c
-space_of space m c is context = record {
+space_of : (module_context : ModuleContext) (m : Module) (c : Context) → IsModuleContextOf module_context m → IsContext m c → IsModuleContext module_context c
+space_of module_context m c is context = record {
   types = context.types ∙ sym is.types;
-  functions = subst (λ (ts : List FuncType). AreTypesAt ts space.type_indices.items c.functions) (sym is.types) (subst (λ (xs : List ℕ). AreTypesAt m.types xs c.functions) (sym is.type_indices) context.functions);
+  functions = subst (λ (ts : List FuncType). AreTypesAt ts module_context.type_indices.items c.functions) (sym is.types) (subst (λ (xs : List ℕ). AreTypesAt m.types xs c.functions) (sym is.type_indices) context.functions);
   table = context.table ∙ sym is.table;
   memory = context.memory ∙ sym is.memory;
   globals = context.globals ∙ sym is.globals;
@@ -162,25 +162,25 @@ lists_of m v = record {
 -- ---- what is left to be settled
 
 -- a context with the module's parts
-abbrev Given : Space → Type 0
-Given space = (c : Context) × IsSpace space c
+abbrev Given : ModuleContext → Type 0
+Given module_context = (c : Context) × IsModuleContext module_context c
 
 -- a valid module has its start and its bodies in its context
-abbrev in_valid : (m : Module) (space : Space) → IsSpaceOf space m → (P : Context → Type 0) → ((v : IsValid m) → P v.context) → IsValid m → (g : Given space) × P g.0
-in_valid m space is P f v = ((v.context, space_of space m v.context is v.is_context), f v)
+abbrev in_valid : (m : Module) (module_context : ModuleContext) → IsModuleContextOf module_context m → (P : Context → Type 0) → ((v : IsValid m) → P v.context) → IsValid m → (g : Given module_context) × P g.0
+in_valid m module_context is P f v = ((v.context, space_of module_context m v.context is v.is_context), f v)
 
 -- the start function is refused
-pub start_settled : (m : Module) (space : Space) (e : LoadFault) → TypesFit m → IsSpaceOf space m → ((c : Context) → IsSpace space c → Settles {T = Unit {0}} (Err e) (StartFits c m)) → Settles {T = Unit {0}} (Err e) (IsValid m)
-start_settled m space e types is start =
+pub start_settled : (m : Module) (module_context : ModuleContext) (e : LoadFault) → TypesFit m → IsModuleContextOf module_context m → ((c : Context) → IsModuleContext module_context c → Decides {T = Unit {0}} (Err e) (StartFits c m)) → Decides {T = Unit {0}} (Err e) (IsValid m)
+start_settled m module_context e types is start =
     let c = context_of m types in
-    Refutes-some e {A = Given space} (λ g. StartFits g.0 m) (IsValid m) (c.0, space_of space m c.0 is c.1) (λ g. start g.0 g.1) (in_valid m space is (λ k. StartFits k m) (λ v. v.start))
+    Refutes-some e {A = Given module_context} (λ g. StartFits g.0 m) (IsValid m) (c.0, space_of module_context m c.0 is c.1) (λ g. start g.0 g.1) (in_valid m module_context is (λ k. StartFits k m) (λ v. v.start))
 
 -- what is left are the bodies
-pub settled : (m : Module) (space : Space) (r : Result (Unit {0}) LoadFault) → LimitsHold m → GlobalsHold m → TypesFit m → ListsFit m → IsSpaceOf space m → ((c : Context) → IsSpace space c → StartFits c m) → ((c : Context) → IsSpace space c → Settles r (FunctionsTyped c m.types m.functions m.bodies)) → Settles r (IsValid m)
-settled m space (Ok u) limits globals types lists is start bodies =
+pub settled : (m : Module) (module_context : ModuleContext) (r : Result (Unit {0}) LoadFault) → LimitsHold m → GlobalsHold m → TypesFit m → ListsFit m → IsModuleContextOf module_context m → ((c : Context) → IsModuleContext module_context c → StartFits c m) → ((c : Context) → IsModuleContext module_context c → Decides r (FunctionsTyped c m.types m.functions m.bodies)) → Decides r (IsValid m)
+settled m module_context (Ok u) limits globals types lists is start bodies =
     let c = context_of m types in
-    let at = space_of space m c.0 is c.1 in
+    let at = space_of module_context m c.0 is c.1 in
     valid m limits globals types lists c.0 c.1 (record { start = start c.0 at; bodies = bodies c.0 at })
-settled m space (Err e) limits globals types lists is start bodies =
+settled m module_context (Err e) limits globals types lists is start bodies =
     let c = context_of m types in
-    Refutes-some e {A = Given space} (λ g. FunctionsTyped g.0 m.types m.functions m.bodies) (IsValid m) (c.0, space_of space m c.0 is c.1) (λ g. bodies g.0 g.1) (in_valid m space is (λ k. FunctionsTyped k m.types m.functions m.bodies) (λ v. v.functions))
+    Refutes-some e {A = Given module_context} (λ g. FunctionsTyped g.0 m.types m.functions m.bodies) (IsValid m) (c.0, space_of module_context m c.0 is c.1) (λ g. bodies g.0 g.1) (in_valid m module_context is (λ k. FunctionsTyped k m.types m.functions m.bodies) (λ v. v.functions))

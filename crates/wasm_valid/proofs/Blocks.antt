@@ -9,14 +9,14 @@ use Rattle.wasm_module.specs.declared.instruction.BlockType.TheVariants.{Empty, 
 use Rattle.wasm_module.specs.declared.instruction.Instruction.{Instruction}
 use Rattle.wasm_module.specs.declared.instruction.Instruction.TheVariants as op
 use Rattle.wasm_module.specs.Instructions.{Instructions, done, plain, block, loop, if_then, if_else, enter, IsPlain, IsWritten, flatten}
-use Rattle.wasm_valid.specs.declared.frames.FrameKind.{FrameKind}
-use Rattle.wasm_valid.specs.declared.frames.FrameKind.TheVariants.{Block, Loop, If}
+use Rattle.wasm_valid.specs.declared.control_frames.BlockKind.{BlockKind}
+use Rattle.wasm_valid.specs.declared.control_frames.BlockKind.TheVariants.{Block, Loop, If}
 use Rattle.wasm_valid.specs.Typing.{Context, Labels, OpTyped, Typed, results_of}
-use Rattle.wasm_valid.specs.Stack.{Stack, nothing, if_true, pop, push, can_be}
-use Rattle.wasm_valid.specs.Effects.{after}
-use Rattle.wasm_valid.specs.Blocks.{OpenBlock, label_of, labels_of, opened, with_stack, may_end, ends, is_if, ended, elsed, on_stack, opened_in, stepped, is_finished}
-use Rattle.wasm_valid.specs.Fits.{Fits}
-use Rattle.wasm_valid.specs.Bodies.{Split, IsNone, Run, Part, Ending, Going}
+use Rattle.wasm_valid.specs.internal.Stack.{Stack, nothing, if_true, pop, push, can_be}
+use Rattle.wasm_valid.specs.internal.Effects.{after}
+use Rattle.wasm_valid.specs.internal.Blocks.{OpenBlock, label_of, labels_of, opened, with_stack, may_end, ends, is_if, ended, elsed, on_stack, opened_in, stepped, is_finished}
+use Rattle.wasm_valid.specs.internal.Fits.{Fits}
+use Rattle.wasm_valid.specs.internal.Bodies.{Split, IsNone, Run, Part, Ending, Going}
 use Rattle.wasm_valid.proofs.Fitting.{pop_complete, pop_sound, push_complete, push_sound, can_be_fits, fits_can_be}
 use Rattle.wasm_valid.proofs.Instructed.{op_walks, and_true}
 
@@ -334,7 +334,7 @@ no_front : (c : Context) (ls : Labels) (s : Stack) (rs : List ValueType) (front 
 no_front c ls s rs [] back e k = run_some c ls s op.Else rs k
 no_front c ls s rs (i ∷ x) back e k = cc
 
-part_some : (c : Context) (ls : Labels) (k : FrameKind) (t : BlockType) (s : Stack) → Part c ls k t s [] → ⊥
+part_some : (c : Context) (ls : Labels) (k : BlockKind) (t : BlockType) (s : Stack) → Part c ls k t s [] → ⊥
 part_some c ls Block t s q = run_some c ls s op.End (results_of t) q
 part_some c ls Loop t s q = run_some c ls s op.End (results_of t) q
 part_some c ls If t s q =
@@ -343,7 +343,7 @@ part_some c ls If t s q =
       | inr p ↦ no_front c ls s (results_of t) p.front p.back p.is p.first
     ]
 
-part_goes : (c : Context) (ls : Labels) (i : Instruction) (s r : Stack) (A : List Instruction → Type 0) → Turns c ls i s A r → (k : FrameKind) (t : BlockType) (flat : List Instruction) → Part c ls k t s (i ∷ flat) → Split A (Part c ls k t r) flat
+part_goes : (c : Context) (ls : Labels) (i : Instruction) (s r : Stack) (A : List Instruction → Type 0) → Turns c ls i s A r → (k : BlockKind) (t : BlockType) (flat : List Instruction) → Part c ls k t s (i ∷ flat) → Split A (Part c ls k t r) flat
 part_goes c ls i s r A turn Block t flat q = turn.goes op.End (results_of t) flat tt q
 part_goes c ls i s r A turn Loop t flat q = turn.goes op.End (results_of t) flat tt q
 part_goes c ls i s r A turn If t flat q =
@@ -354,7 +354,7 @@ part_goes c ls i s r A turn If t flat q =
           (split_goes A (Run op.Else c ls s (results_of t)) (Run op.Else c ls r (results_of t)) (Run op.End c ls nothing (results_of t)) i flat (run_some c ls s op.Else (results_of t)) (λ x y. turn.goes op.Else (results_of t) x tt y) p)
     ]
 
-part_comes : (c : Context) (ls : Labels) (i : Instruction) (s r : Stack) (A : List Instruction → Type 0) → Turns c ls i s A r → (k : FrameKind) (t : BlockType) (flat : List Instruction) → Split A (Part c ls k t r) flat → Part c ls k t s (i ∷ flat)
+part_comes : (c : Context) (ls : Labels) (i : Instruction) (s r : Stack) (A : List Instruction → Type 0) → Turns c ls i s A r → (k : BlockKind) (t : BlockType) (flat : List Instruction) → Split A (Part c ls k t r) flat → Part c ls k t s (i ∷ flat)
 part_comes c ls i s r A turn Block t flat q = turn.comes op.End (results_of t) flat q
 part_comes c ls i s r A turn Loop t flat q = turn.comes op.End (results_of t) flat q
 part_comes c ls i s r A turn If t flat q =
@@ -375,7 +375,7 @@ before_else c ls t s i flat (j ∷ x) back l e k =
     let r = run_last c ls i s op.Else (results_of t) x tt l (subst (λ (o : Instruction). Run op.Else c ls s (results_of t) (o ∷ x)) same k) in
     (r.0, more ∙ ap (λ (y : List Instruction). y ++ back) r.1, r.2)
 
-part_ends : (c : Context) (ls : Labels) (k : FrameKind) (t : BlockType) (s : Stack) (flat : List Instruction) → Part c ls k t s (op.End ∷ flat) → IsNone flat × (may_end k t && can_be (results_of t) s ≡ true)
+part_ends : (c : Context) (ls : Labels) (k : BlockKind) (t : BlockType) (s : Stack) (flat : List Instruction) → Part c ls k t s (op.End ∷ flat) → IsNone flat × (may_end k t && can_be (results_of t) s ≡ true)
 part_ends c ls Block t s flat q = let r = run_last c ls op.End s op.End (results_of t) flat tt tt q in (r.1, fits_can_be (results_of t) s r.2)
 part_ends c ls Loop t s flat q = let r = run_last c ls op.End s op.End (results_of t) flat tt tt q in (r.1, fits_can_be (results_of t) s r.2)
 part_ends c ls If Empty s flat q =
@@ -389,13 +389,13 @@ part_ends c ls If (Value v) s flat q =
       | inr p ↦ let r = before_else c ls (Value v) s op.End flat p.front p.back tt p.is p.first in let e = r.0 in cc
     ]
 
-ends_part : (c : Context) (ls : Labels) (k : FrameKind) (t : BlockType) (s : Stack) → may_end k t && can_be (results_of t) s ≡ true → Part c ls k t s (op.End ∷ [])
+ends_part : (c : Context) (ls : Labels) (k : BlockKind) (t : BlockType) (s : Stack) → may_end k t && can_be (results_of t) s ≡ true → Part c ls k t s (op.End ∷ [])
 ends_part c ls Block t s e = last_run c ls s op.End (results_of t) (can_be_fits (results_of t) s e)
 ends_part c ls Loop t s e = last_run c ls s op.End (results_of t) (can_be_fits (results_of t) s e)
 ends_part c ls If Empty s e = inl (refl, last_run c ls s op.End [] (can_be_fits [] s e))
 ends_part c ls If (Value v) s e = cc
 
-part_elses : (c : Context) (ls : Labels) (k : FrameKind) (t : BlockType) (s : Stack) (flat : List Instruction) → Part c ls k t s (op.Else ∷ flat) → (is_if k && can_be (results_of t) s ≡ true) × Run op.End c ls nothing (results_of t) flat
+part_elses : (c : Context) (ls : Labels) (k : BlockKind) (t : BlockType) (s : Stack) (flat : List Instruction) → Part c ls k t s (op.Else ∷ flat) → (is_if k && can_be (results_of t) s ≡ true) × Run op.End c ls nothing (results_of t) flat
 part_elses c ls Block t s flat q = let r = run_last c ls op.Else s op.End (results_of t) flat tt tt q in let e = r.0 in cc
 part_elses c ls Loop t s flat q = let r = run_last c ls op.Else s op.End (results_of t) flat tt tt q in let e = r.0 in cc
 part_elses c ls If t s flat q =
@@ -406,7 +406,7 @@ part_elses c ls If t s flat q =
           (fits_can_be (results_of t) s r.2, subst (λ (y : List Instruction). Run op.End c ls nothing (results_of t) y) (sym r.1) p.second)
     ]
 
-elses_part : (c : Context) (ls : Labels) (k : FrameKind) (t : BlockType) (s : Stack) (flat : List Instruction) → is_if k && can_be (results_of t) s ≡ true → Run op.End c ls nothing (results_of t) flat → Part c ls k t s (op.Else ∷ flat)
+elses_part : (c : Context) (ls : Labels) (k : BlockKind) (t : BlockType) (s : Stack) (flat : List Instruction) → is_if k && can_be (results_of t) s ≡ true → Run op.End c ls nothing (results_of t) flat → Part c ls k t s (op.Else ∷ flat)
 elses_part c ls Block t s flat e k = cc
 elses_part c ls Loop t s flat e k = cc
 elses_part c ls If t s flat e k =
@@ -431,7 +431,7 @@ comes_from c i b bs r A flat turn q =
     (λ x y. part_comes c ls i b.stack r A turn b.kind b.block_type x y) q
 
 -- what can stand nowhere
-part_never : (c : Context) (ls : Labels) (i : Instruction) (s : Stack) (k : FrameKind) (t : BlockType) (flat : List Instruction) → Never c ls i s → Part c ls k t s (i ∷ flat) → ⊥
+part_never : (c : Context) (ls : Labels) (i : Instruction) (s : Stack) (k : BlockKind) (t : BlockType) (flat : List Instruction) → Never c ls i s → Part c ls k t s (i ∷ flat) → ⊥
 part_never c ls i s Block t flat never q = never op.End (results_of t) flat tt q
 part_never c ls i s Loop t flat never q = never op.End (results_of t) flat tt q
 part_never c ls i s If t flat never q =
@@ -521,7 +521,7 @@ else_comes_from c b bs flat e q = record {
 }
 
 -- the labels stay
-same_label : (k : FrameKind) (t : BlockType) → is_if k ≡ true → label_of k t ≡ results_of t
+same_label : (k : BlockKind) (t : BlockType) → is_if k ≡ true → label_of k t ≡ results_of t
 same_label If t e = refl
 same_label Block t e = cc
 same_label Loop t e = cc

@@ -4,16 +4,16 @@ use Rattle.std.proofs.lemmas.List.{drop_more, drop_all}
 use Rattle.wasm_module.specs.declared.module.FuncType.{FuncType}
 use Rattle.wasm_module.specs.declared.module.Body.{Body}
 use Rattle.wasm_module.specs.declared.module.Module.{Module}
-use Rattle.wasm_valid.specs.declared.space.Space.{Space}
+use Rattle.wasm_valid.specs.declared.module_context.ModuleContext.{ModuleContext}
 use Rattle.wasm_valid.specs.Typing.{Context}
 use Rattle.wasm_valid.specs.Validity.{FunctionsTyped}
-use Rattle.wasm_valid.specs.Bodies.{BodyTyped}
-use Rattle.wasm_valid.specs.Scopes.{IsSpace}
+use Rattle.wasm_valid.specs.internal.Bodies.{BodyTyped}
+use Rattle.wasm_valid.specs.internal.Contexts.{IsModuleContext}
 
 -- the bodies from i on say what all of them say
-abbrev pub Remaining : Space → List FuncType → List ℕ → List Body → ℕ → Type 0
-Remaining space types xs bs i =
-    (c : Context) → IsSpace space c → (FunctionsTyped c types (drop i xs) (drop i bs) ↔ FunctionsTyped c types xs bs)
+abbrev pub Remaining : ModuleContext → List FuncType → List ℕ → List Body → ℕ → Type 0
+Remaining module_context types xs bs i =
+    (c : Context) → IsModuleContext module_context c → (FunctionsTyped c types (drop i xs) (drop i bs) ↔ FunctionsTyped c types xs bs)
 
 pub same_length : (c : Context) (types : List FuncType) (xs : List ℕ) (bs : List Body) → FunctionsTyped c types xs bs → length xs ≡ length bs
 same_length c types [] [] h = refl
@@ -37,31 +37,31 @@ split types xs bs i x b in_xs in_bs is_x is_b c =
           subst (λ ys. FunctionsTyped c types ys (drop i bs)) (sym first) g),
     )
 
-pub Remaining-more : (space : Space) (types : List FuncType) (xs : List ℕ) (bs : List Body) (i x : ℕ) (b : Body) → i < length xs → i < length bs → x ≡ get_or xs i x → b ≡ get_or bs i b
-    → Remaining space types xs bs i → ((c : Context) → IsSpace space c → BodyTyped c types x b) → Remaining space types xs bs (i + 1)
-Remaining-more space types xs bs i x b in_xs in_bs is_x is_b before typed = λ c at.
+pub Remaining-more : (module_context : ModuleContext) (types : List FuncType) (xs : List ℕ) (bs : List Body) (i x : ℕ) (b : Body) → i < length xs → i < length bs → x ≡ get_or xs i x → b ≡ get_or bs i b
+    → Remaining module_context types xs bs i → ((c : Context) → IsModuleContext module_context c → BodyTyped c types x b) → Remaining module_context types xs bs (i + 1)
+Remaining-more module_context types xs bs i x b in_xs in_bs is_x is_b before typed = λ c at.
     let s = split types xs bs i x b in_xs in_bs is_x is_b c in
     ((λ h. (before c at).0 (s.1 (typed c at, h))), (λ h. (s.0 ((before c at).1 h)).1))
 
 -- a body that isn't typed
-pub Remaining-stops : (space : Space) (types : List FuncType) (xs : List ℕ) (bs : List Body) (i x : ℕ) (b : Body) → i < length xs → i < length bs → x ≡ get_or xs i x → b ≡ get_or bs i b
-    → Remaining space types xs bs i → ((c : Context) → IsSpace space c → BodyTyped c types x b → ⊥) → (c : Context) → IsSpace space c → FunctionsTyped c types xs bs → ⊥
-Remaining-stops space types xs bs i x b in_xs in_bs is_x is_b before typed c at h =
+pub Remaining-stops : (module_context : ModuleContext) (types : List FuncType) (xs : List ℕ) (bs : List Body) (i x : ℕ) (b : Body) → i < length xs → i < length bs → x ≡ get_or xs i x → b ≡ get_or bs i b
+    → Remaining module_context types xs bs i → ((c : Context) → IsModuleContext module_context c → BodyTyped c types x b → ⊥) → (c : Context) → IsModuleContext module_context c → FunctionsTyped c types xs bs → ⊥
+Remaining-stops module_context types xs bs i x b in_xs in_bs is_x is_b before typed c at h =
     let s = split types xs bs i x b in_xs in_bs is_x is_b c in
     typed c at (s.0 ((before c at).1 h)).0
 
 -- all bodies are typed
-pub Remaining-none : (space : Space) (types : List FuncType) (xs : List ℕ) (bs : List Body) (i : ℕ) → length xs ≤ i → length bs ≤ i
-    → Remaining space types xs bs i → (c : Context) → IsSpace space c → FunctionsTyped c types xs bs
-Remaining-none space types xs bs i past_xs past_bs before c at =
+pub Remaining-none : (module_context : ModuleContext) (types : List FuncType) (xs : List ℕ) (bs : List Body) (i : ℕ) → length xs ≤ i → length bs ≤ i
+    → Remaining module_context types xs bs i → (c : Context) → IsModuleContext module_context c → FunctionsTyped c types xs bs
+Remaining-none module_context types xs bs i past_xs past_bs before c at =
     let none : FunctionsTyped c types [] [] = tt in
     let k = subst (λ ds. FunctionsTyped c types [] ds) (sym (drop_all i bs past_bs)) none in
     (before c at).0 (subst (λ ys. FunctionsTyped c types ys (drop i bs)) (sym (drop_all i xs past_xs)) k)
 
 -- said of the lists of a module
-pub in_module : (F : Type 0 → Type 0) (space : Space) (types : List FuncType) (xs : List ℕ) (bs : List Body) (m : Module) → types ≡ m.types → xs ≡ m.functions → bs ≡ m.bodies
-    → ((c : Context) → IsSpace space c → F (FunctionsTyped c types xs bs)) → (c : Context) → IsSpace space c → F (FunctionsTyped c m.types m.functions m.bodies)
-in_module F space types xs bs m of_types of_xs of_bs h =
-    let b = subst (λ ts. (c : Context) → IsSpace space c → F (FunctionsTyped c ts xs bs)) of_types h in
-    let e = subst (λ ys. (c : Context) → IsSpace space c → F (FunctionsTyped c m.types ys bs)) of_xs b in
-    subst (λ ds. (c : Context) → IsSpace space c → F (FunctionsTyped c m.types m.functions ds)) of_bs e
+pub in_module : (F : Type 0 → Type 0) (module_context : ModuleContext) (types : List FuncType) (xs : List ℕ) (bs : List Body) (m : Module) → types ≡ m.types → xs ≡ m.functions → bs ≡ m.bodies
+    → ((c : Context) → IsModuleContext module_context c → F (FunctionsTyped c types xs bs)) → (c : Context) → IsModuleContext module_context c → F (FunctionsTyped c m.types m.functions m.bodies)
+in_module F module_context types xs bs m of_types of_xs of_bs h =
+    let b = subst (λ ts. (c : Context) → IsModuleContext module_context c → F (FunctionsTyped c ts xs bs)) of_types h in
+    let e = subst (λ ys. (c : Context) → IsModuleContext module_context c → F (FunctionsTyped c m.types ys bs)) of_xs b in
+    subst (λ ds. (c : Context) → IsModuleContext module_context c → F (FunctionsTyped c m.types m.functions ds)) of_bs e

@@ -5,8 +5,8 @@ use Rattle.std.specs.Option.{option_map, option_and_then}
 use Rattle.wasm_module.specs.declared.instruction.ValueType.{ValueType}
 use Rattle.wasm_module.specs.declared.instruction.ValueType.TheVariants.{I32, I64}
 use Rattle.wasm_valid.specs.Typing.{Moves, Leaves}
-use Rattle.wasm_valid.specs.Fits.{Agrees, FitsList, Fits}
-use Rattle.wasm_valid.specs.Stack.{Stack, anything, if_true, when, is_same, agrees, pop_any_of, pop_any, pop, pops, push_any, push, moved, left, dropped, meet, select_from, selected, is_emptied, can_be}
+use Rattle.wasm_valid.specs.internal.Fits.{Agrees, FitsList, Fits}
+use Rattle.wasm_valid.specs.internal.Stack.{Stack, anything, if_true, when, is_same, agrees, pop_any_of, pop_any, pop, pops, push_any, push, moved, left, dropped, meet, select_from, selected, is_emptied, can_be}
 
 -- ---- answers that may be none
 
@@ -140,48 +140,48 @@ fits_can_be ts s f =
 -- ---- what goes from one stack to another
 
 -- what this makes of a stack is what the relation leaves of what fits it
-pub record Walks (R : List ValueType → List ValueType → Type 0) (s : Stack) (o : Option Stack) : Type 0 where
+pub record ComputesTyping (R : List ValueType → List ValueType → Type 0) (s : Stack) (o : Option Stack) : Type 0 where
   pub complete : (a b : List ValueType) → Fits s a → R a b → (r : Stack) × (o ≡ Some r) × Fits r b
   pub sound : (r : Stack) (b : List ValueType) → o ≡ Some r → Fits r b → (a : List ValueType) × Fits s a × R a b
 
-pub Walks-same : (R Q : List ValueType → List ValueType → Type 0) (s : Stack) (o : Option Stack) → ((a b : List ValueType) → R a b → Q a b) → ((a b : List ValueType) → Q a b → R a b) → Walks R s o → Walks Q s o
-Walks-same R Q s o to from w = record {
+pub ComputesTyping-same : (R Q : List ValueType → List ValueType → Type 0) (s : Stack) (o : Option Stack) → ((a b : List ValueType) → R a b → Q a b) → ((a b : List ValueType) → Q a b → R a b) → ComputesTyping R s o → ComputesTyping Q s o
+ComputesTyping-same R Q s o to from w = record {
   complete = λ a b f q. w.complete a b f (from a b q);
   sound = λ r b e f. let x = w.sound r b e f in (x.0, x.1, to x.0 b x.2);
 }
 
-pub Walks-is : (R : List ValueType → List ValueType → Type 0) (s : Stack) (o p : Option Stack) → o ≡ p → Walks R s o → Walks R s p
-Walks-is R s o p e w = subst (Walks R s) e w
+pub ComputesTyping-is : (R : List ValueType → List ValueType → Type 0) (s : Stack) (o p : Option Stack) → o ≡ p → ComputesTyping R s o → ComputesTyping R s p
+ComputesTyping-is R s o p e w = subst (ComputesTyping R s) e w
 
 -- what there is only with some value
-pub Walks-with : {A : Type 0} (R : A → List ValueType → List ValueType → Type 0) (s : Stack) (g : A → Option Stack) (o : Option A) → ((x : A) → Walks (R x) s (g x)) → Walks (λ a b. (x : A) × (o ≡ Some x) × R x a b) s (option_and_then g o)
-Walks-with {A} R s g None w = record {
+pub ComputesTyping-with : {A : Type 0} (R : A → List ValueType → List ValueType → Type 0) (s : Stack) (g : A → Option Stack) (o : Option A) → ((x : A) → ComputesTyping (R x) s (g x)) → ComputesTyping (λ a b. (x : A) × (o ≡ Some x) × R x a b) s (option_and_then g o)
+ComputesTyping-with {A} R s g None w = record {
   complete = λ a b f q. let e = q.1 in cc;
   sound = λ r b e f. cc;
 }
-Walks-with {A} R s g (Some y) w = record {
+ComputesTyping-with {A} R s g (Some y) w = record {
   complete = λ a b f q. let h = q.1 in let e : q.0 ≡ y = cc in (w y).complete a b f (subst (λ (x : A). R x a b) e q.2);
   sound = λ r b e f. let x = (w y).sound r b e f in (x.0, x.1, (y, refl, x.2));
 }
 
 -- what there is only where a test holds
-pub Walks-when : (R : List ValueType → List ValueType → Type 0) (s : Stack) (g : Option Stack) (t : Bool) → Walks R s g → Walks (λ a b. (t ≡ true) × R a b) s (when t g)
-Walks-when R s g true w = record {
+pub ComputesTyping-when : (R : List ValueType → List ValueType → Type 0) (s : Stack) (g : Option Stack) (t : Bool) → ComputesTyping R s g → ComputesTyping (λ a b. (t ≡ true) × R a b) s (when t g)
+ComputesTyping-when R s g true w = record {
   complete = λ a b f q. w.complete a b f q.1;
   sound = λ r b e f. let x = w.sound r b e f in (x.0, x.1, (refl, x.2));
 }
-Walks-when R s g false w = record {
+ComputesTyping-when R s g false w = record {
   complete = λ a b f q. let h = q.0 in cc;
   sound = λ r b e f. cc;
 }
 
-pub Walks-never : (R : List ValueType → List ValueType → Type 0) (s : Stack) → ((a b : List ValueType) → R a b → ⊥) → Walks R s None
-Walks-never R s never = record {
+pub ComputesTyping-never : (R : List ValueType → List ValueType → Type 0) (s : Stack) → ((a b : List ValueType) → R a b → ⊥) → ComputesTyping R s None
+ComputesTyping-never R s never = record {
   complete = λ a b f q. absurd (never a b q);
   sound = λ r b e f. cc;
 }
 
-pub moved_walks : (takes gives : List ValueType) (s : Stack) → Walks (λ a b. Moves takes gives a b) s (moved takes gives s)
+pub moved_walks : (takes gives : List ValueType) (s : Stack) → ComputesTyping (λ a b. Moves takes gives a b) s (moved takes gives s)
 moved_walks takes gives s = record {
   complete = λ a b f m.
       let p = pops_complete takes s m.0 (subst (λ (y : List ValueType). Fits s y) m.1 f) in
@@ -192,7 +192,7 @@ moved_walks takes gives s = record {
       (takes ++ q.0, pops_sound takes s m.0 q.0 m.1 q.2, (q.0, refl, q.1));
 }
 
-pub left_walks : (takes : List ValueType) (s : Stack) → Walks (λ a b. Leaves takes a) s (left takes s)
+pub left_walks : (takes : List ValueType) (s : Stack) → ComputesTyping (λ a b. Leaves takes a) s (left takes s)
 left_walks takes s = record {
   complete = λ a b f m.
       let p = pops_complete takes s m.0 (subst (λ (y : List ValueType). Fits s y) m.1 f) in
@@ -203,13 +203,13 @@ left_walks takes s = record {
       (takes ++ x.0, pops_sound takes s m.0 x.0 m.1 x.1, (x.0, refl));
 }
 
-pub unreachable_walks : (s : Stack) → Walks (λ a b. Unit {0}) s (Some anything)
+pub unreachable_walks : (s : Stack) → ComputesTyping (λ a b. Unit {0}) s (Some anything)
 unreachable_walks s = record {
   complete = λ a b f m. (anything, refl, tt);
   sound = λ r b e f. let x = some_fit s in (x.0, x.1, tt);
 }
 
-pub dropped_walks : (s : Stack) → Walks (λ a b. (t : ValueType) × Moves (t ∷ []) [] a b) s (dropped s)
+pub dropped_walks : (s : Stack) → ComputesTyping (λ a b. (t : ValueType) × Moves (t ∷ []) [] a b) s (dropped s)
 dropped_walks s = record {
   complete = λ a b f m.
       let p = any_complete s.known s.unreachable m.0 m.1.0 (subst (λ (y : List ValueType). Fits s y) m.1.1 f) in
@@ -270,5 +270,5 @@ select_sound s r b e f =
     let z = map_some (λ (w : Option ValueType). push_any w y.0.1) (meet x.0.0 y.0.0) r y.2 in
     select_below s p.0 x.0 y.0 z.0 b p.1 x.1 y.1 z.1 (subst (λ (q : Stack). Fits q b) (sym z.2) f)
 
-pub selected_walks : (s : Stack) → Walks (λ a b. Selects a b) s (selected s)
+pub selected_walks : (s : Stack) → ComputesTyping (λ a b. Selects a b) s (selected s)
 selected_walks s = record { complete = select_complete s; sound = select_sound s }

@@ -10,14 +10,14 @@ use Rattle.wasm_module.specs.declared.instruction.Instruction.TheVariants as op
 use Rattle.wasm_module.specs.declared.module.FuncType.{FuncType}
 use Rattle.wasm_module.specs.declared.module.Body.{Body}
 use Rattle.wasm_module.specs.Instructions.{Instructions, done, plain, block, loop, if_then, if_else, enter, flatten}
-use Rattle.wasm_valid.specs.declared.frames.FrameKind.TheVariants.{Block}
-use Rattle.wasm_valid.specs.declared.scope.Scope.{Scope}
+use Rattle.wasm_valid.specs.declared.control_frames.BlockKind.TheVariants.{Block}
+use Rattle.wasm_valid.specs.declared.function_context.FunctionContext.{FunctionContext}
 use Rattle.wasm_valid.specs.Typing.{Context, Typed, results_of}
 use Rattle.wasm_valid.specs.Validity.{FunctionTyped, local_types}
-use Rattle.wasm_valid.specs.Blocks.{OpenBlock, opened, stepped, is_finished}
-use Rattle.wasm_valid.specs.Bodies.{Going, BodyTyped}
-use Rattle.wasm_valid.specs.Operands.{Answers}
-use Rattle.wasm_valid.specs.Scopes.{IsSpace, IsScope}
+use Rattle.wasm_valid.specs.internal.Blocks.{OpenBlock, opened, stepped, is_finished}
+use Rattle.wasm_valid.specs.internal.Bodies.{Going, BodyTyped}
+use Rattle.wasm_valid.specs.internal.Operands.{Answers}
+use Rattle.wasm_valid.specs.internal.Contexts.{IsModuleContext, IsFunctionContext}
 use Rattle.wasm_valid.proofs.Blocks.{Answered, step_answer, finish_answer, body_from, from_body}
 
 -- all code ends
@@ -45,9 +45,9 @@ abbrev pub whole_of : List Instruction → List Instruction
 whole_of inner = inner ++ op.End ∷ []
 
 -- what is typed from here on is typed from the beginning
-abbrev pub GoesOn : Scope → List OpenBlock → List Instruction → ℕ → List OpenBlock → Type 0
-GoesOn scope start inner i bs =
-    (c : Context) → IsScope scope c → (Going c bs (whole_of (drop i inner)) ↔ Going c start (whole_of inner))
+abbrev pub GoesOn : FunctionContext → List OpenBlock → List Instruction → ℕ → List OpenBlock → Type 0
+GoesOn function_context start inner i bs =
+    (c : Context) → IsFunctionContext function_context c → (Going c bs (whole_of (drop i inner)) ↔ Going c start (whole_of inner))
 
 not_nil : (l : List Instruction) → whole_of l ≡ [] → ⊥
 not_nil [] e = cc
@@ -58,9 +58,9 @@ split : (inner : List Instruction) (i : ℕ) (item : Instruction) → i < length
 split inner i item below is =
     ap whole_of (drop_more inner i item below ∙ ap (λ (x : Instruction). x ∷ drop (i + 1) inner) (sym is))
 
-pub GoesOn-more : (scope : Scope) (start : List OpenBlock) (inner : List Instruction) (i : ℕ) (item : Instruction) (bs ds : List OpenBlock) → i < length inner → item ≡ get_or inner i item
-    → GoesOn scope start inner i bs → ((c : Context) → IsScope scope c → Answers true (stepped c item bs) ds) → GoesOn scope start inner (i + 1) ds
-GoesOn-more scope start inner i item bs ds below is before step = λ c at.
+pub GoesOn-more : (function_context : FunctionContext) (start : List OpenBlock) (inner : List Instruction) (i : ℕ) (item : Instruction) (bs ds : List OpenBlock) → i < length inner → item ≡ get_or inner i item
+    → GoesOn function_context start inner i bs → ((c : Context) → IsFunctionContext function_context c → Answers true (stepped c item bs) ds) → GoesOn function_context start inner (i + 1) ds
+GoesOn-more function_context start inner i item bs ds below is before step = λ c at.
     let flat = whole_of (drop (i + 1) inner) in
     let one : Answered c item flat bs (Some ds) = subst (Answered c item flat bs) (step c at) (step_answer c item flat bs (not_nil (drop (i + 1) inner))) in
     let e = split inner i item below is in
@@ -69,16 +69,16 @@ GoesOn-more scope start inner i item bs ds below is before step = λ c at.
       (λ q. one.0 (subst (Going c bs) e (b.1 q))),
     )
 
-pub GoesOn-stops : (scope : Scope) (start : List OpenBlock) (inner : List Instruction) (i : ℕ) (item : Instruction) (bs ds : List OpenBlock) → i < length inner → item ≡ get_or inner i item
-    → GoesOn scope start inner i bs → ((c : Context) → IsScope scope c → Answers false (stepped c item bs) ds) → (c : Context) → IsScope scope c → Going c start (whole_of inner) → ⊥
-GoesOn-stops scope start inner i item bs ds below is before step c at q =
+pub GoesOn-stops : (function_context : FunctionContext) (start : List OpenBlock) (inner : List Instruction) (i : ℕ) (item : Instruction) (bs ds : List OpenBlock) → i < length inner → item ≡ get_or inner i item
+    → GoesOn function_context start inner i bs → ((c : Context) → IsFunctionContext function_context c → Answers false (stepped c item bs) ds) → (c : Context) → IsFunctionContext function_context c → Going c start (whole_of inner) → ⊥
+GoesOn-stops function_context start inner i item bs ds below is before step c at q =
     let flat = whole_of (drop (i + 1) inner) in
     let none : Answered c item flat bs None = subst (Answered c item flat bs) (step c at) (step_answer c item flat bs (not_nil (drop (i + 1) inner))) in
     none (subst (Going c bs) (split inner i item below is) ((before c at).1 q))
 
-pub GoesOn-ends : (scope : Scope) (start : List OpenBlock) (inner : List Instruction) (i : ℕ) (bs : List OpenBlock) (t : Bool) → length inner ≤ i → GoesOn scope start inner i bs → t ≡ is_finished bs
-    → (c : Context) → IsScope scope c → ((t ≡ true → Going c start (whole_of inner)) × (Going c start (whole_of inner) → t ≡ true))
-GoesOn-ends scope start inner i bs t past before is c at =
+pub GoesOn-ends : (function_context : FunctionContext) (start : List OpenBlock) (inner : List Instruction) (i : ℕ) (bs : List OpenBlock) (t : Bool) → length inner ≤ i → GoesOn function_context start inner i bs → t ≡ is_finished bs
+    → (c : Context) → IsFunctionContext function_context c → ((t ≡ true → Going c start (whole_of inner)) × (Going c start (whole_of inner) → t ≡ true))
+GoesOn-ends function_context start inner i bs t past before is c at =
     let e : whole_of (drop i inner) ≡ op.End ∷ [] = ap whole_of (drop_all i inner past) in
     let f = finish_answer c bs t is in
     let b = before c at in (
@@ -99,9 +99,9 @@ no_end c t code never q =
 abbrev pub inside : Context → FuncType → Body → Context
 inside c f b = record c { locals = f.params ++ local_types b.locals; returns = f.results }
 
-pub scope_inside : (scope : Scope) (c : Context) (f : FuncType) (b : Body) → IsSpace scope.space.now c → scope.locals ≡ f.params ++ local_types b.locals → results_of scope.returns ≡ f.results → IsScope scope (inside c f b)
-scope_inside scope c f b is locals returns = record {
-  space = record { types = is.types; functions = is.functions; table = is.table; memory = is.memory; globals = is.globals };
+pub scope_inside : (function_context : FunctionContext) (c : Context) (f : FuncType) (b : Body) → IsModuleContext function_context.module_context.now c → function_context.locals ≡ f.params ++ local_types b.locals → results_of function_context.returns ≡ f.results → IsFunctionContext function_context (inside c f b)
+scope_inside function_context c f b is locals returns = record {
+  module_context = record { types = is.types; functions = is.functions; table = is.table; memory = is.memory; globals = is.globals };
   locals = sym locals;
   returns = sym returns;
 }
@@ -118,12 +118,12 @@ from_function c f b t flat same is h =
 abbrev pub Verdict : {A : Type 0} → Option A → Type 0 → Type 0
 Verdict r P = MatchOption r P (λ x. P → ⊥)
 
-pub function_answer : (scope : Scope) (f : FuncType) (b : Body) (flat : List Instruction) (r : Option ℕ) → scope.locals ≡ f.params ++ local_types b.locals → results_of scope.returns ≡ f.results → flat ≡ b.code
-    → ((c : Context) → IsScope scope c → Verdict r (Going c (opened Block scope.returns ∷ []) flat)) → (c : Context) → IsSpace scope.space.now c → Verdict r (FunctionTyped c f b)
-function_answer scope f b flat None locals returns is h c at =
-    function_from c f b scope.returns flat returns is (h (inside c f b) (scope_inside scope c f b at locals returns))
-function_answer scope f b flat (Some x) locals returns is h c at =
-    λ k. h (inside c f b) (scope_inside scope c f b at locals returns) (from_function c f b scope.returns flat returns is k)
+pub function_answer : (function_context : FunctionContext) (f : FuncType) (b : Body) (flat : List Instruction) (r : Option ℕ) → function_context.locals ≡ f.params ++ local_types b.locals → results_of function_context.returns ≡ f.results → flat ≡ b.code
+    → ((c : Context) → IsFunctionContext function_context c → Verdict r (Going c (opened Block function_context.returns ∷ []) flat)) → (c : Context) → IsModuleContext function_context.module_context.now c → Verdict r (FunctionTyped c f b)
+function_answer function_context f b flat None locals returns is h c at =
+    function_from c f b function_context.returns flat returns is (h (inside c f b) (scope_inside function_context c f b at locals returns))
+function_answer function_context f b flat (Some x) locals returns is h c at =
+    λ k. h (inside c f b) (scope_inside function_context c f b at locals returns) (from_function c f b function_context.returns flat returns is k)
 
 -- the type of this index
 pub body_answer : (c : Context) (types : List FuncType) (x : ℕ) (f : FuncType) (b : Body) (r : Option ℕ) → Some f ≡ slice_get types x → Verdict r (FunctionTyped c f b) → Verdict r (BodyTyped c types x b)

@@ -20,9 +20,9 @@ use Rattle.wasm_valid.specs.declared.effects.Takes.{Takes}
 use Rattle.wasm_valid.specs.declared.effects.Takes.TheVariants.{Nothing, One, Two, Three}
 use Rattle.wasm_valid.specs.declared.effects.Access.{Access}
 use Rattle.wasm_valid.specs.Typing.{Context, Labels, Moves, Leaves, Loads, Stores, IsOperator, OpTyped, results_of}
-use Rattle.wasm_valid.specs.Stack.{Stack, if_true, when, is_same, pop, pops, push, moved, left}
-use Rattle.wasm_valid.specs.Effects.{taken, effect, access, load, store, access_of, is_operator, numeric_effect, accessed, variable_effect, applied, are_same, keeps, all_keep, table_label, called, called_indirect, after}
-use Rattle.wasm_valid.proofs.Fitting.{Walks, Walks-same, Walks-is, Walks-with, Walks-when, Walks-never, moved_walks, left_walks, unreachable_walks, dropped_walks, selected_walks, is_same_true, is_same_same, and_then_some, if_true_some}
+use Rattle.wasm_valid.specs.internal.Stack.{Stack, if_true, when, is_same, pop, pops, push, moved, left}
+use Rattle.wasm_valid.specs.internal.Effects.{taken, effect, access, load, store, access_of, is_operator, numeric_effect, accessed, variable_effect, applied, are_same, keeps, all_keep, table_label, called, called_indirect, after}
+use Rattle.wasm_valid.proofs.Fitting.{ComputesTyping, ComputesTyping-same, ComputesTyping-is, ComputesTyping-with, ComputesTyping-when, ComputesTyping-never, moved_walks, left_walks, unreachable_walks, dropped_walks, selected_walks, is_same_true, is_same_same, and_then_some, if_true_some}
 
 -- ---- tests
 
@@ -43,50 +43,50 @@ width_le a k h = by_test (nat_le a k) refl where
 
 -- ---- instructions of fixed type
 
-effect_walks : (t : Bool) (takes : Takes) (gives : BlockType) (s : Stack) → Walks (λ a b. (t ≡ true) × Moves (taken takes) (results_of gives) a b) s (applied (if_true t (effect takes gives)) s)
-effect_walks true takes gives s = Walks-when (λ a b. Moves (taken takes) (results_of gives) a b) s (moved (taken takes) (results_of gives) s) true (moved_walks (taken takes) (results_of gives) s)
-effect_walks false takes gives s = Walks-when (λ a b. Moves (taken takes) (results_of gives) a b) s (moved (taken takes) (results_of gives) s) false (moved_walks (taken takes) (results_of gives) s)
+effect_walks : (t : Bool) (takes : Takes) (gives : BlockType) (s : Stack) → ComputesTyping (λ a b. (t ≡ true) × Moves (taken takes) (results_of gives) a b) s (applied (if_true t (effect takes gives)) s)
+effect_walks true takes gives s = ComputesTyping-when (λ a b. Moves (taken takes) (results_of gives) a b) s (moved (taken takes) (results_of gives) s) true (moved_walks (taken takes) (results_of gives) s)
+effect_walks false takes gives s = ComputesTyping-when (λ a b. Moves (taken takes) (results_of gives) a b) s (moved (taken takes) (results_of gives) s) false (moved_walks (taken takes) (results_of gives) s)
 
 -- an effect by what was looked up
 lookup_walks : {A : Type 0} (takes : A → Takes) (gives : A → BlockType) (s : Stack) (o : Option A)
-    → Walks (λ a b. (x : A) × (o ≡ Some x) × Moves (taken (takes x)) (results_of (gives x)) a b) s (applied (option_map (λ x. effect (takes x) (gives x)) o) s)
-lookup_walks {A} takes gives s None = Walks-with (λ (x : A) a b. Moves (taken (takes x)) (results_of (gives x)) a b) s (λ x. moved (taken (takes x)) (results_of (gives x)) s) None (λ x. moved_walks (taken (takes x)) (results_of (gives x)) s)
-lookup_walks {A} takes gives s (Some y) = Walks-with (λ (x : A) a b. Moves (taken (takes x)) (results_of (gives x)) a b) s (λ x. moved (taken (takes x)) (results_of (gives x)) s) (Some y) (λ x. moved_walks (taken (takes x)) (results_of (gives x)) s)
+    → ComputesTyping (λ a b. (x : A) × (o ≡ Some x) × Moves (taken (takes x)) (results_of (gives x)) a b) s (applied (option_map (λ x. effect (takes x) (gives x)) o) s)
+lookup_walks {A} takes gives s None = ComputesTyping-with (λ (x : A) a b. Moves (taken (takes x)) (results_of (gives x)) a b) s (λ x. moved (taken (takes x)) (results_of (gives x)) s) None (λ x. moved_walks (taken (takes x)) (results_of (gives x)) s)
+lookup_walks {A} takes gives s (Some y) = ComputesTyping-with (λ (x : A) a b. Moves (taken (takes x)) (results_of (gives x)) a b) s (λ x. moved (taken (takes x)) (results_of (gives x)) s) (Some y) (λ x. moved_walks (taken (takes x)) (results_of (gives x)) s)
 
 set_walks : (s : Stack) (o : Option GlobalType)
-    → Walks (λ a b. (g : GlobalType) × (o ≡ Some g) × (g.mutable ≡ true) × Moves (g.value_type ∷ []) [] a b) s (applied (option_and_then (λ g. if_true g.mutable (effect (One g.value_type) Empty)) o) s)
+    → ComputesTyping (λ a b. (g : GlobalType) × (o ≡ Some g) × (g.mutable ≡ true) × Moves (g.value_type ∷ []) [] a b) s (applied (option_and_then (λ g. if_true g.mutable (effect (One g.value_type) Empty)) o) s)
 set_walks s o =
-    Walks-same (λ a b. (g : GlobalType) × (o ≡ Some g) × ((g.mutable ≡ true) × Moves (g.value_type ∷ []) [] a b)) (λ a b. (g : GlobalType) × (o ≡ Some g) × (g.mutable ≡ true) × Moves (g.value_type ∷ []) [] a b) s (applied (option_and_then (λ g. if_true g.mutable (effect (One g.value_type) Empty)) o) s)
+    ComputesTyping-same (λ a b. (g : GlobalType) × (o ≡ Some g) × ((g.mutable ≡ true) × Moves (g.value_type ∷ []) [] a b)) (λ a b. (g : GlobalType) × (o ≡ Some g) × (g.mutable ≡ true) × Moves (g.value_type ∷ []) [] a b) s (applied (option_and_then (λ g. if_true g.mutable (effect (One g.value_type) Empty)) o) s)
     (λ a b q. (q.0, q.1, q.2.0, q.2.1)) (λ a b q. (q.0, q.1, (q.2, q.3))) (by_entry o) where
-      by_entry : (o : Option GlobalType) → Walks (λ a b. (g : GlobalType) × (o ≡ Some g) × ((g.mutable ≡ true) × Moves (g.value_type ∷ []) [] a b)) s (applied (option_and_then (λ g. if_true g.mutable (effect (One g.value_type) Empty)) o) s)
-      by_entry None = Walks-with (λ (g : GlobalType) a b. (g.mutable ≡ true) × Moves (g.value_type ∷ []) [] a b) s (λ g. applied (if_true g.mutable (effect (One g.value_type) Empty)) s) None (λ g. effect_walks g.mutable (One g.value_type) Empty s)
-      by_entry (Some h) = Walks-with (λ (g : GlobalType) a b. (g.mutable ≡ true) × Moves (g.value_type ∷ []) [] a b) s (λ g. applied (if_true g.mutable (effect (One g.value_type) Empty)) s) (Some h) (λ g. effect_walks g.mutable (One g.value_type) Empty s)
+      by_entry : (o : Option GlobalType) → ComputesTyping (λ a b. (g : GlobalType) × (o ≡ Some g) × ((g.mutable ≡ true) × Moves (g.value_type ∷ []) [] a b)) s (applied (option_and_then (λ g. if_true g.mutable (effect (One g.value_type) Empty)) o) s)
+      by_entry None = ComputesTyping-with (λ (g : GlobalType) a b. (g.mutable ≡ true) × Moves (g.value_type ∷ []) [] a b) s (λ g. applied (if_true g.mutable (effect (One g.value_type) Empty)) s) None (λ g. effect_walks g.mutable (One g.value_type) Empty s)
+      by_entry (Some h) = ComputesTyping-with (λ (g : GlobalType) a b. (g.mutable ≡ true) × Moves (g.value_type ∷ []) [] a b) s (λ g. applied (if_true g.mutable (effect (One g.value_type) Empty)) s) (Some h) (λ g. effect_walks g.mutable (One g.value_type) Empty s)
 
 -- an instruction on memory
 access_walks : (has_memory : Bool) (align most : ℕ) (takes : Takes) (gives : BlockType) (s : Stack)
-    → Walks (λ a b. (has_memory ≡ true) × (2 ^ align ≤ 2 ^ most) × Moves (taken takes) (results_of gives) a b) s (applied (accessed has_memory (Some (access align most takes gives)) None) s)
+    → ComputesTyping (λ a b. (has_memory ≡ true) × (2 ^ align ≤ 2 ^ most) × Moves (taken takes) (results_of gives) a b) s (applied (accessed has_memory (Some (access align most takes gives)) None) s)
 access_walks has_memory align most takes gives s =
-    Walks-same (λ a b. ((has_memory && nat_le align most) ≡ true) × Moves (taken takes) (results_of gives) a b) (λ a b. (has_memory ≡ true) × (2 ^ align ≤ 2 ^ most) × Moves (taken takes) (results_of gives) a b) s (applied (if_true (has_memory && nat_le align most) (effect takes gives)) s)
+    ComputesTyping-same (λ a b. ((has_memory && nat_le align most) ≡ true) × Moves (taken takes) (results_of gives) a b) (λ a b. (has_memory ≡ true) × (2 ^ align ≤ 2 ^ most) × Moves (taken takes) (results_of gives) a b) s (applied (if_true (has_memory && nat_le align most) (effect takes gives)) s)
     (λ a b q. let t = and_true has_memory (nat_le align most) q.0 in (t.0, pow-le-pow_right (omega arith) (leb-true align most t.1), q.1))
     (λ a b q. (true_and has_memory (nat_le align most) q.0 (le-leb align most (width_le align most q.1)), q.2))
     (effect_walks (has_memory && nat_le align most) takes gives s)
 
-load_walks : (c : Context) (t : ValueType) (most : ℕ) (m : MemArg) (s : Stack) → Walks (λ a b. Loads c t (2 ^ most) m a b) s (applied (accessed c.has_memory (Some (load m most t)) None) s)
+load_walks : (c : Context) (t : ValueType) (most : ℕ) (m : MemArg) (s : Stack) → ComputesTyping (λ a b. Loads c t (2 ^ most) m a b) s (applied (accessed c.has_memory (Some (load m most t)) None) s)
 load_walks c t most m s = access_walks c.has_memory m.align most (One I32) (Value t) s
 
-store_walks : (c : Context) (t : ValueType) (most : ℕ) (m : MemArg) (s : Stack) → Walks (λ a b. Stores c t (2 ^ most) m a b) s (applied (accessed c.has_memory (Some (store m most t)) None) s)
+store_walks : (c : Context) (t : ValueType) (most : ℕ) (m : MemArg) (s : Stack) → ComputesTyping (λ a b. Stores c t (2 ^ most) m a b) s (applied (accessed c.has_memory (Some (store m most t)) None) s)
 store_walks c t most m s = access_walks c.has_memory m.align most (Two t I32) Empty s
 
-memory_walks : (c : Context) (takes : Takes) (gives : BlockType) (s : Stack) → Walks (λ a b. (c.has_memory ≡ true) × Moves (taken takes) (results_of gives) a b) s (applied (accessed c.has_memory (Some (access 0 0 takes gives)) None) s)
+memory_walks : (c : Context) (takes : Takes) (gives : BlockType) (s : Stack) → ComputesTyping (λ a b. (c.has_memory ≡ true) × Moves (taken takes) (results_of gives) a b) s (applied (accessed c.has_memory (Some (access 0 0 takes gives)) None) s)
 memory_walks c takes gives s =
-    Walks-same (λ a b. (c.has_memory ≡ true) × (2 ^ 0 ≤ 2 ^ 0) × Moves (taken takes) (results_of gives) a b) (λ a b. (c.has_memory ≡ true) × Moves (taken takes) (results_of gives) a b) s (applied (accessed c.has_memory (Some (access 0 0 takes gives)) None) s)
+    ComputesTyping-same (λ a b. (c.has_memory ≡ true) × (2 ^ 0 ≤ 2 ^ 0) × Moves (taken takes) (results_of gives) a b) (λ a b. (c.has_memory ≡ true) × Moves (taken takes) (results_of gives) a b) s (applied (accessed c.has_memory (Some (access 0 0 takes gives)) None) s)
     (λ a b q. (q.0, q.2)) (λ a b q. (q.0, omega arith, q.1)) (access_walks c.has_memory 0 0 takes gives s)
 
 -- ---- operators
 
-unary_walks : (t : ValueType) (o : UnaryOperator) (s : Stack) → Walks (λ a b. IsOperator t o × Moves (t ∷ []) (t ∷ []) a b) s (applied (if_true (is_operator t o) (effect (One t) (Value t))) s)
+unary_walks : (t : ValueType) (o : UnaryOperator) (s : Stack) → ComputesTyping (λ a b. IsOperator t o × Moves (t ∷ []) (t ∷ []) a b) s (applied (if_true (is_operator t o) (effect (One t) (Value t))) s)
 unary_walks t o s =
-    Walks-same (λ a b. (is_operator t o ≡ true) × Moves (t ∷ []) (t ∷ []) a b) (λ a b. IsOperator t o × Moves (t ∷ []) (t ∷ []) a b) s (applied (if_true (is_operator t o) (effect (One t) (Value t))) s)
+    ComputesTyping-same (λ a b. (is_operator t o ≡ true) × Moves (t ∷ []) (t ∷ []) a b) (λ a b. IsOperator t o × Moves (t ∷ []) (t ∷ []) a b) s (applied (if_true (is_operator t o) (effect (One t) (Value t))) s)
     (λ a b q. (holds t o q.0, q.1)) (λ a b q. (tests t o q.0, q.1)) (effect_walks (is_operator t o) (One t) (Value t) s) where
       holds : (t : ValueType) (o : UnaryOperator) → is_operator t o ≡ true → IsOperator t o
       holds I32 Extend32S e = cc
@@ -143,11 +143,11 @@ some_label ls table default kept all e =
     ap (option_and_then (λ (k : List ValueType). if_true (all_keep ls k table) k)) e ∙ ap (λ (t : Bool). if_true t kept) (all_keep_all ls kept table all)
 
 table_walks : (ls : Labels) (table : List ℕ) (default : ℕ) (s : Stack)
-    → Walks (λ a b. (kept : List ValueType) × AllByRecursion (λ l. slice_get ls l ≡ Some kept) table × (slice_get ls default ≡ Some kept) × Leaves (I32 ∷ kept) a) s (option_and_then (λ kept. left (I32 ∷ kept) s) (table_label ls table default))
+    → ComputesTyping (λ a b. (kept : List ValueType) × AllByRecursion (λ l. slice_get ls l ≡ Some kept) table × (slice_get ls default ≡ Some kept) × Leaves (I32 ∷ kept) a) s (option_and_then (λ kept. left (I32 ∷ kept) s) (table_label ls table default))
 table_walks ls table default s =
-    Walks-same (λ a b. (kept : List ValueType) × (table_label ls table default ≡ Some kept) × Leaves (I32 ∷ kept) a) (λ a b. (kept : List ValueType) × AllByRecursion (λ l. slice_get ls l ≡ Some kept) table × (slice_get ls default ≡ Some kept) × Leaves (I32 ∷ kept) a) s (option_and_then (λ kept. left (I32 ∷ kept) s) (table_label ls table default))
+    ComputesTyping-same (λ a b. (kept : List ValueType) × (table_label ls table default ≡ Some kept) × Leaves (I32 ∷ kept) a) (λ a b. (kept : List ValueType) × AllByRecursion (λ l. slice_get ls l ≡ Some kept) table × (slice_get ls default ≡ Some kept) × Leaves (I32 ∷ kept) a) s (option_and_then (λ kept. left (I32 ∷ kept) s) (table_label ls table default))
     (λ a b q. let l = label_some ls table default q.0 q.1 in (q.0, l.0, l.1, q.2)) (λ a b q. (q.0, some_label ls table default q.0 q.1 q.2, q.3))
-    (Walks-with (λ (kept : List ValueType) a b. Leaves (I32 ∷ kept) a) s (λ kept. left (I32 ∷ kept) s) (table_label ls table default) (λ kept. left_walks (I32 ∷ kept) s))
+    (ComputesTyping-with (λ (kept : List ValueType) a b. Leaves (I32 ∷ kept) a) s (λ kept. left (I32 ∷ kept) s) (table_label ls table default) (λ kept. left_walks (I32 ∷ kept) s))
 
 -- ---- calls
 
@@ -156,12 +156,12 @@ indirect_is f None = refl
 indirect_is f (Some s) = refl
 
 indirect_walks : (c : Context) (x : ℕ) (s : Stack)
-    → Walks (λ a b. (f : FuncType) × (c.has_table ≡ true) × (slice_get c.types x ≡ Some f) × Moves (I32 ∷ reverse f.params) f.results a b) s (option_and_then (λ f. called_indirect f s) (when c.has_table (slice_get c.types x)))
+    → ComputesTyping (λ a b. (f : FuncType) × (c.has_table ≡ true) × (slice_get c.types x ≡ Some f) × Moves (I32 ∷ reverse f.params) f.results a b) s (option_and_then (λ f. called_indirect f s) (when c.has_table (slice_get c.types x)))
 indirect_walks c x s =
-    Walks-same (λ a b. (f : FuncType) × (when c.has_table (slice_get c.types x) ≡ Some f) × Moves (I32 ∷ reverse f.params) f.results a b) (λ a b. (f : FuncType) × (c.has_table ≡ true) × (slice_get c.types x ≡ Some f) × Moves (I32 ∷ reverse f.params) f.results a b) s (option_and_then (λ f. called_indirect f s) (when c.has_table (slice_get c.types x)))
+    ComputesTyping-same (λ a b. (f : FuncType) × (when c.has_table (slice_get c.types x) ≡ Some f) × Moves (I32 ∷ reverse f.params) f.results a b) (λ a b. (f : FuncType) × (c.has_table ≡ true) × (slice_get c.types x ≡ Some f) × Moves (I32 ∷ reverse f.params) f.results a b) s (option_and_then (λ f. called_indirect f s) (when c.has_table (slice_get c.types x)))
     (λ a b q. let w = when_some c.has_table (slice_get c.types x) q.0 q.1 in (q.0, w.0, w.1, q.2)) (λ a b q. (q.0, some_when c.has_table (slice_get c.types x) q.0 q.1 q.2, q.3))
-    (Walks-with (λ (f : FuncType) a b. Moves (I32 ∷ reverse f.params) f.results a b) s (λ f. called_indirect f s) (when c.has_table (slice_get c.types x))
-    (λ f. Walks-is (λ a b. Moves (I32 ∷ reverse f.params) f.results a b) s (moved (I32 ∷ reverse f.params) f.results s) (called_indirect f s) (indirect_is f (pop I32 s)) (moved_walks (I32 ∷ reverse f.params) f.results s))) where
+    (ComputesTyping-with (λ (f : FuncType) a b. Moves (I32 ∷ reverse f.params) f.results a b) s (λ f. called_indirect f s) (when c.has_table (slice_get c.types x))
+    (λ f. ComputesTyping-is (λ a b. Moves (I32 ∷ reverse f.params) f.results a b) s (moved (I32 ∷ reverse f.params) f.results s) (called_indirect f s) (indirect_is f (pop I32 s)) (moved_walks (I32 ∷ reverse f.params) f.results s))) where
       when_some : (t : Bool) (o : Option FuncType) (f : FuncType) → when t o ≡ Some f → (t ≡ true) × (o ≡ Some f)
       when_some true o f e = (refl, e)
       when_some false o f e = cc
@@ -173,22 +173,22 @@ indirect_walks c x s =
 -- ---- every instruction
 
 abbrev pub OpWalks : Context → Labels → Instruction → Stack → Type 0
-OpWalks c ls i s = Walks (λ a b. OpTyped c ls i a b) s (after c ls i s)
+OpWalks c ls i s = ComputesTyping (λ a b. OpTyped c ls i a b) s (after c ls i s)
 
 pub op_walks : (c : Context) (ls : Labels) (i : Instruction) (s : Stack) → OpWalks c ls i s
 unfolding after
 op_walks c ls op.Unreachable s = unreachable_walks s
 op_walks c ls op.Nop s = moved_walks [] [] s
-op_walks c ls (op.Block t) s = Walks-never (λ a b. ⊥) s (λ a b h. h)
-op_walks c ls (op.Loop t) s = Walks-never (λ a b. ⊥) s (λ a b h. h)
-op_walks c ls (op.If t) s = Walks-never (λ a b. ⊥) s (λ a b h. h)
-op_walks c ls op.Else s = Walks-never (λ a b. ⊥) s (λ a b h. h)
-op_walks c ls op.End s = Walks-never (λ a b. ⊥) s (λ a b h. h)
-op_walks c ls (op.Br l) s = Walks-with (λ (kept : List ValueType) a b. Leaves kept a) s (λ kept. left kept s) (slice_get ls l) (λ kept. left_walks kept s)
-op_walks c ls (op.BrIf l) s = Walks-with (λ (kept : List ValueType) a b. Moves (I32 ∷ kept) kept a b) s (λ kept. moved (I32 ∷ kept) kept s) (slice_get ls l) (λ kept. moved_walks (I32 ∷ kept) kept s)
+op_walks c ls (op.Block t) s = ComputesTyping-never (λ a b. ⊥) s (λ a b h. h)
+op_walks c ls (op.Loop t) s = ComputesTyping-never (λ a b. ⊥) s (λ a b h. h)
+op_walks c ls (op.If t) s = ComputesTyping-never (λ a b. ⊥) s (λ a b h. h)
+op_walks c ls op.Else s = ComputesTyping-never (λ a b. ⊥) s (λ a b h. h)
+op_walks c ls op.End s = ComputesTyping-never (λ a b. ⊥) s (λ a b h. h)
+op_walks c ls (op.Br l) s = ComputesTyping-with (λ (kept : List ValueType) a b. Leaves kept a) s (λ kept. left kept s) (slice_get ls l) (λ kept. left_walks kept s)
+op_walks c ls (op.BrIf l) s = ComputesTyping-with (λ (kept : List ValueType) a b. Moves (I32 ∷ kept) kept a b) s (λ kept. moved (I32 ∷ kept) kept s) (slice_get ls l) (λ kept. moved_walks (I32 ∷ kept) kept s)
 op_walks c ls (op.BrTable table) s = table_walks ls table.0 table.1 s
 op_walks c ls op.Return s = left_walks c.returns s
-op_walks c ls (op.Call x) s = Walks-with (λ (f : FuncType) a b. Moves (reverse f.params) f.results a b) s (λ f. called f s) (slice_get c.functions x) (λ f. moved_walks (reverse f.params) f.results s)
+op_walks c ls (op.Call x) s = ComputesTyping-with (λ (f : FuncType) a b. Moves (reverse f.params) f.results a b) s (λ f. called f s) (slice_get c.functions x) (λ f. moved_walks (reverse f.params) f.results s)
 op_walks c ls (op.CallIndirect x) s = indirect_walks c x s
 op_walks c ls op.Drop s = dropped_walks s
 op_walks c ls op.Select s = selected_walks s

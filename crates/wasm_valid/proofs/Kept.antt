@@ -9,10 +9,10 @@ use Rattle.std.proofs.lemmas.Option.{slice_get-map, slice_get_read}
 use Rattle.std.proofs.lemmas.Bool.{false≢true}
 use Rattle.wasm_module.specs.declared.instruction.ValueType.{ValueType}
 use Rattle.wasm_module.specs.declared.instruction.BlockType.{BlockType}
-use Rattle.wasm_valid.specs.declared.frames.Frame.{Frame}
+use Rattle.wasm_valid.specs.declared.control_frames.ControlFrame.{ControlFrame}
 use Rattle.wasm_valid.specs.Typing.{results_of}
-use Rattle.wasm_valid.specs.Stack.{is_nil}
-use Rattle.wasm_valid.specs.Blocks.{label_of}
+use Rattle.wasm_valid.specs.internal.Stack.{is_nil}
+use Rattle.wasm_valid.specs.internal.Blocks.{label_of}
 
 nil_none : (xs : List (Option ValueType)) → length xs ≡ 0 → is_nil xs ≡ true
 nil_none [] e = refl
@@ -39,8 +39,8 @@ bare_is types height h = by_test (eqb (length types) height) refl where
           omega (arith, other, length-reverse (drop height types), length-drop height types)
 
 -- the label of the block at a place, counted from the innermost
-pub label_at : (items : List Frame) (index place : ℕ) (f : Frame) (t : BlockType) → index < length items → place ≡ length items - 1 - index → f ≡ get_or items place f → results_of t ≡ label_of f.kind f.block_type → Some (results_of t) ≡ slice_get (map (λ g. label_of g.kind g.block_type) (reverse items)) index
+pub label_at : (items : List ControlFrame) (index place : ℕ) (f : ControlFrame) (t : BlockType) → index < length items → place ≡ length items - 1 - index → f ≡ get_or items place f → results_of t ≡ label_of f.kind f.block_type → Some (results_of t) ≡ slice_get (map (λ g. label_of g.kind g.block_type) (reverse items)) index
 label_at items index place f t below is here same =
     let there : f ≡ get_or (reverse items) index f = here ∙ ap (λ n. get_or items n f) is ∙ sym (get_or-reverse items index f below) in
     let found : slice_get (reverse items) index ≡ Some f = slice_get_read (reverse items) (length (reverse items)) index f refl (omega (arith, length-reverse items)) there in
-    ap Some same ∙ ap (option_map (λ (g : Frame). label_of g.kind g.block_type)) (sym found) ∙ sym (slice_get-map (λ (g : Frame). label_of g.kind g.block_type) (reverse items) index)
+    ap Some same ∙ ap (option_map (λ (g : ControlFrame). label_of g.kind g.block_type)) (sym found) ∙ sym (slice_get-map (λ (g : ControlFrame). label_of g.kind g.block_type) (reverse items) index)

@@ -1,5 +1,5 @@
 pub mod Apart
-pub mod Spaces
+pub mod Contexts
 pub mod Refusals
 pub mod Parts
 pub mod EachBody

@@ -1,13 +1,6 @@
+-- What public contracts cite, in reading order; `internal` serves private contracts and proofs.
 pub mod Typing
 pub mod Validity
-pub mod Refusal
-pub mod Rules
-pub mod Stack
-pub mod Effects
-pub mod Blocks
-pub mod Operands
-pub mod Ends
-pub mod Fits
-pub mod Bodies
-pub mod Scopes
 pub mod Standard
+pub mod Refusal
+pub mod internal

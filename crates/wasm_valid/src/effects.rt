@@ -1,7 +1,7 @@
 //! What an instruction of fixed type takes from the stack and leaves there (section 3.3).
 
 ghost use Rattle.std.specs.Prelude.{◌≡◌};
-ghost use Rattle.wasm_valid.specs.Effects.{effect, access, load, store, access_of, is_operator, numeric_effect};
+ghost use Rattle.wasm_valid.specs.internal.Effects.{effect, access, load, store, access_of, is_operator, numeric_effect};
 
 use wasm_module::{BlockType, Instruction, MemArg, UnaryOperator, ValueType};
 

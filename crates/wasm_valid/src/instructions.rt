@@ -4,15 +4,15 @@ ghost use Rattle.std.specs.Prelude.{◌≡◌, slice_get, IfOk, ◌∷◌, []};
 ghost use Rattle.std.specs.Option.{option_map, option_and_then};
 ghost use Rattle.wasm_module.specs.declared.instruction.ValueType.TheVariants.{I32};
 ghost use Rattle.wasm_valid.specs.Typing.{Context, results_of};
-ghost use Rattle.wasm_valid.specs.Stack.{when, left, moved};
-ghost use Rattle.wasm_valid.specs.Effects.{taken, keeps, table_label, called, called_indirect, variable_effect, applied, after};
-ghost use Rattle.wasm_valid.specs.Operands.{frame_labels, Answers};
-ghost use Rattle.wasm_valid.specs.Scopes.{IsScope};
+ghost use Rattle.wasm_valid.specs.internal.Stack.{when, left, moved};
+ghost use Rattle.wasm_valid.specs.internal.Effects.{taken, keeps, table_label, called, called_indirect, variable_effect, applied, after};
+ghost use Rattle.wasm_valid.specs.internal.Operands.{control_frame_labels, Answers};
+ghost use Rattle.wasm_valid.specs.internal.Contexts.{IsFunctionContext};
 
+use crate::control_frames::ControlFrames;
 use crate::effects::{Effect, Takes};
-use crate::frames::Frames;
+use crate::function_context::{FunctionContext, result_type};
 use crate::operands::OperandStack;
-use crate::scope::{Scope, result_type};
 use std::alloc::AllocError;
 use wasm_module::{BlockType, BranchTable, Instruction, ValueType};
 
@@ -48,65 +48,73 @@ fn does_keep(label: Option<BlockType>, kept: BlockType) -> bool
 }
 
 /// What all labels of a table keep, if it is the same.
-fn kept_by_all(frames: &Frames, table: &BranchTable) -> Option<BlockType>
-    ensures { option_map results_of result ≡ table_label (frame_labels frames.now) table.now.0 table.now.1 }
+fn kept_by_all(control_frames: &ControlFrames, table: &BranchTable) -> Option<BlockType>
+    ensures { option_map results_of result ≡ table_label (control_frame_labels control_frames.now) table.now.0 table.now.1 }
 {
-    let kept = frames.label(table.default_label())?;
+    let kept = control_frames.label(table.default_label())?;
     table
         .labels()
         .iter()
-        .all(|label| does_keep(frames.label(*label), kept))
+        .all(|label| does_keep(control_frames.label(*label), kept))
         .then_some(kept)
 }
 
 /// Changes the operands as `br` does; whether it may stand here.
-fn branch(frames: &Frames, operands: &mut OperandStack, label: u32) -> bool
+fn branch(control_frames: &ControlFrames, operands: &mut OperandStack, label: u32) -> bool
     ensures below { operands.new.below ≡ operands.old.below }
     ensures stack { Answers result
-        (option_and_then (λ kept. left kept operands.old.stack) (slice_get (frame_labels frames.now) label))
+        (option_and_then (λ kept. left kept operands.old.stack) (slice_get (control_frame_labels control_frames.now) label))
         operands.new.stack }
 {
-    match frames.label(label) {
+    match control_frames.label(label) {
         Some(label) => operands.leave(kept(label)),
         None => false,
     }
 }
 
 /// Changes the operands as `br_if` does; whether it may stand here.
-fn branch_if(frames: &Frames, operands: &mut OperandStack, label: u32) -> Result<bool, AllocError>
+fn branch_if(
+    control_frames: &ControlFrames,
+    operands: &mut OperandStack,
+    label: u32,
+) -> Result<bool, AllocError>
     ensures below { operands.new.below ≡ operands.old.below }
     ensures stack { IfOk result (λ typed. Answers typed
-        (option_and_then (λ kept. moved (I32 ∷ kept) kept operands.old.stack) (slice_get (frame_labels frames.now) label))
+        (option_and_then (λ kept. moved (I32 ∷ kept) kept operands.old.stack) (slice_get (control_frame_labels control_frames.now) label))
         operands.new.stack) }
 {
-    match frames.label(label) {
+    match control_frames.label(label) {
         Some(label) => operands.apply(Effect::new(asked(label), label)),
         None => Ok(false),
     }
 }
 
 /// Changes the operands as `br_table` does; whether it may stand here.
-fn branch_table(frames: &Frames, operands: &mut OperandStack, table: &BranchTable) -> bool
+fn branch_table(
+    control_frames: &ControlFrames,
+    operands: &mut OperandStack,
+    table: &BranchTable,
+) -> bool
     ensures below { operands.new.below ≡ operands.old.below }
     ensures stack { Answers result
-        (option_and_then (λ kept. left (I32 ∷ kept) operands.old.stack) (table_label (frame_labels frames.now) table.now.0 table.now.1))
+        (option_and_then (λ kept. left (I32 ∷ kept) operands.old.stack) (table_label (control_frame_labels control_frames.now) table.now.0 table.now.1))
         operands.new.stack }
 {
-    match kept_by_all(frames, table) {
+    match kept_by_all(control_frames, table) {
         Some(label) => operands.leave(asked(label)),
         None => false,
     }
 }
 
-impl<'s, 'm> Scope<'s, 'm> {
+impl<'s, 'm> FunctionContext<'s, 'm> {
     /// Changes the operands as `call` does; whether it may stand here.
     fn call(&self, operands: &mut OperandStack, index: u32) -> Result<bool, AllocError>
         ensures below { operands.new.below ≡ operands.old.below }
-        ensures stack { IfOk result (λ typed. (c : Context) → IsScope self.now c → Answers typed
+        ensures stack { IfOk result (λ typed. (c : Context) → IsFunctionContext self.now c → Answers typed
             (option_and_then (λ f. called f operands.old.stack) (slice_get c.functions index))
             operands.new.stack) }
     {
-        match self.space.function(index) {
+        match self.module_context.function(index) {
             Some(callee) => operands.call(callee.params.as_slice(), result_type(callee)),
             None => Ok(false),
         }
@@ -115,11 +123,11 @@ impl<'s, 'm> Scope<'s, 'm> {
     /// Changes the operands as `call_indirect` does; whether it may stand here.
     fn call_indirect(&self, operands: &mut OperandStack, index: u32) -> Result<bool, AllocError>
         ensures below { operands.new.below ≡ operands.old.below }
-        ensures stack { IfOk result (λ typed. (c : Context) → IsScope self.now c → Answers typed
+        ensures stack { IfOk result (λ typed. (c : Context) → IsFunctionContext self.now c → Answers typed
             (option_and_then (λ f. called_indirect f operands.old.stack) (when c.has_table (slice_get c.types index)))
             operands.new.stack) }
     {
-        if !self.space.has_table {
+        if !self.module_context.has_table {
             return Ok(false);
         }
         let Some(callee) = self.type_at(index) else {
@@ -138,7 +146,7 @@ impl<'s, 'm> Scope<'s, 'm> {
         instruction: &Instruction,
     ) -> Result<bool, AllocError>
         ensures below { operands.new.below ≡ operands.old.below }
-        ensures stack { IfOk result (λ typed. (c : Context) → IsScope self.now c → Answers typed
+        ensures stack { IfOk result (λ typed. (c : Context) → IsFunctionContext self.now c → Answers typed
             (applied (variable_effect c instruction.now) operands.old.stack)
             operands.new.stack) }
     {
@@ -149,23 +157,23 @@ impl<'s, 'm> Scope<'s, 'm> {
     }
 
     /// Changes the operands as a plain instruction does; whether it may stand here.
-    #[tactic(auto, unfolding(crate::specs::Effects::after))]
+    #[tactic(auto, unfolding(crate::specs::internal::Effects::after))]
     pub fn plain(
         &self,
-        frames: &Frames,
+        control_frames: &ControlFrames,
         operands: &mut OperandStack,
         instruction: &Instruction,
     ) -> Result<bool, AllocError>
         ensures below { operands.new.below ≡ operands.old.below }
-        ensures stack { IfOk result (λ typed. (c : Context) → IsScope self.now c → Answers typed
-            (after c (frame_labels frames.now) instruction.now operands.old.stack)
+        ensures stack { IfOk result (λ typed. (c : Context) → IsFunctionContext self.now c → Answers typed
+            (after c (control_frame_labels control_frames.now) instruction.now operands.old.stack)
             operands.new.stack) }
     {
         match instruction {
             Instruction::Unreachable => Ok(operands.leave(Takes::Nothing)),
-            Instruction::Br(label) => Ok(branch(frames, operands, *label)),
-            Instruction::BrIf(label) => branch_if(frames, operands, *label),
-            Instruction::BrTable(table) => Ok(branch_table(frames, operands, table)),
+            Instruction::Br(label) => Ok(branch(control_frames, operands, *label)),
+            Instruction::BrIf(label) => branch_if(control_frames, operands, *label),
+            Instruction::BrTable(table) => Ok(branch_table(control_frames, operands, table)),
             Instruction::Return => Ok(operands.leave(kept(self.returns))),
             Instruction::Call(index) => self.call(operands, *index),
             Instruction::CallIndirect(index) => self.call_indirect(operands, *index),

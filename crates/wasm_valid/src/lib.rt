@@ -2,20 +2,20 @@
 #![tactic(auto)]
 
 mod bodies;
+mod body_validator;
+mod control_frames;
 mod effects;
-mod frames;
+mod function_context;
 mod instructions;
 mod laws;
 mod locals;
+mod module_context;
 mod module_rules;
 mod names;
 mod operands;
 mod places;
-mod scope;
-mod space;
 mod valid;
 mod validating;
-mod walk;
 
 pub use laws::typed_by_rules;
 pub use valid::Valid;

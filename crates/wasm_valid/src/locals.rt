@@ -20,7 +20,7 @@ impl<'m> Model for LocalTypes<'m> {
     ghost use Rattle.std.specs.Prelude.{◌≡◌, List, ◌++◌, length};
     ghost use Rattle.wasm_module.specs.declared.instruction.ValueType.{ValueType as ValueTypeValue};
     ghost use Rattle.wasm_valid.specs.Validity.{local_types};
-    ghost use Rattle.wasm_valid.specs.Ends.{ends_from};
+    ghost use Rattle.wasm_valid.specs.internal.Ends.{ends_from};
 
     ghost Value = { List ValueTypeValue };
 

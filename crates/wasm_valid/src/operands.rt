@@ -1,10 +1,10 @@
 //! The types of the operands of a body while it is walked.
 
 ghost use Rattle.std.specs.Prelude.{◌≡◌};
-ghost use Rattle.wasm_valid.specs.Stack.{meet};
+ghost use Rattle.wasm_valid.specs.internal.Stack.{meet};
 
+use crate::control_frames::Mark;
 use crate::effects::{Effect, Takes};
-use crate::frames::Mark;
 use std::alloc::{AllocError, Global};
 use std::marker::Model;
 use wasm_module::{BlockType, ValueType};
@@ -21,7 +21,7 @@ pub struct OperandStack {
 
 impl Model for OperandStack {
     ghost use Rattle.std.specs.Prelude.{◌≤◌, vec_len};
-    ghost use Rattle.wasm_valid.specs.Operands.{Operands, split_at};
+    ghost use Rattle.wasm_valid.specs.internal.Operands.{Operands, split_at};
 
     ghost Value = { Operands };
 
@@ -44,9 +44,9 @@ fn meet(first: Option<ValueType>, second: Option<ValueType>) -> Option<Option<Va
 impl OperandStack {
     ghost use Rattle.std.specs.Prelude.{◌≡◌, ◌≤◌, List, [], ◌∷◌, ◌++◌, length, reverse, take, MatchOption, IfOk, Some, None};
     ghost use Rattle.wasm_valid.specs.Typing.{results_of};
-    ghost use Rattle.wasm_valid.specs.Stack.{nothing, anything, pop_any, pop, pops, push_any, push, moved, left, selected, dropped, is_nil, can_be};
-    ghost use Rattle.wasm_valid.specs.Effects.{taken};
-    ghost use Rattle.wasm_valid.specs.Operands.{operands, split_at, Answers};
+    ghost use Rattle.wasm_valid.specs.internal.Stack.{nothing, anything, pop_any, pop, pops, push_any, push, moved, left, selected, dropped, is_nil, can_be};
+    ghost use Rattle.wasm_valid.specs.internal.Effects.{taken};
+    ghost use Rattle.wasm_valid.specs.internal.Operands.{operands, split_at, Answers};
 
     pub fn new(alloc: Global) -> OperandStack
         ensures { result ≡ operands [] nothing }

@@ -3,17 +3,18 @@
 ghost use Rattle.std.specs.Prelude.{◌≡◌, ◌≢◌, IfOk, IfErr, IsTrue, length};
 ghost use Rattle.wasm_valid.specs.Typing.{Context};
 ghost use Rattle.wasm_valid.specs.Validity.{IsValid, FunctionsTyped, has_any, tables_of, memories_of};
-ghost use Rattle.wasm_valid.specs.Refusal.{IsRefusal, Settles};
-ghost use Rattle.wasm_valid.specs.Rules.{TypesFit, LimitsHold, GlobalsHold, ListsFit, StartFits, counts_of};
-ghost use Rattle.wasm_valid.specs.Scopes.{IsSpace, IsSpaceOf};
+ghost use Rattle.wasm_valid.specs.Refusal.{IsRefusal};
+ghost use Rattle.wasm_valid.specs.internal.Answers.{Decides};
+ghost use Rattle.wasm_valid.specs.internal.Rules.{TypesFit, LimitsHold, GlobalsHold, ListsFit, StartFits, counts_of};
+ghost use Rattle.wasm_valid.specs.internal.Contexts.{IsModuleContext, IsModuleContextOf};
 
+use crate::module_context::ModuleContext;
 use crate::module_rules::{
     Counts, all_limits_fit, are_below, data_fits, elements_fit, exports_fit, globals, globals_fit,
     have_one_result, imported_functions, imported_globals, memories, tables,
 };
 use crate::names::names_differ;
 use crate::places::instruction_offset;
-use crate::space::Space;
 use crate::valid::Valid;
 use std::alloc::Global;
 use wasm_module::{Limits, LoadFault, Module};
@@ -31,27 +32,27 @@ pub fn validate<'a>(alloc: Global, module: Module<'a>) -> Result<Valid<'a>, Load
 }
 
 fn check(alloc: Global, module: &Module<'_>) -> Result<(), LoadFault>
-    ensures { Settles result (IsValid «module».now) }
+    ensures { Decides result (IsValid «module».now) }
 {
     let tables = tables(alloc, module)?;
     let memories = memories(alloc, module)?;
     check_limits(module, tables.as_slice(), memories.as_slice())?;
     check_globals(alloc, module)?;
-    let space = space(alloc, module, !tables.is_empty(), !memories.is_empty())?;
+    let module_context = module_context(alloc, module, !tables.is_empty(), !memories.is_empty())?;
     let counts = Counts {
-        functions: space.type_indices.len(),
+        functions: module_context.type_indices.len(),
         tables: tables.len(),
         memories: memories.len(),
-        globals: space.globals.len(),
+        globals: module_context.globals.len(),
     };
-    check_lists(alloc, module, &space, counts)?;
-    check_start(module, &space)?;
-    check_bodies(alloc, module, &space)
+    check_lists(alloc, module, &module_context, counts)?;
+    check_start(module, &module_context)?;
+    check_bodies(alloc, module, &module_context)
 }
 
 /// Refuses a module one of whose rules doesn't hold. The offset is that of the list concerned.
 fn rule(holds: bool, offset: u32) -> Result<(), LoadFault>
-    ensures { Settles result (IsTrue holds) }
+    ensures { Decides result (IsTrue holds) }
 {
     if holds {
         Ok(())
@@ -70,7 +71,7 @@ fn check_limits(
 ) -> Result<(), LoadFault>
     requires tables { tables.now ≡ tables_of «module».now }
     requires memories { memories.now ≡ memories_of «module».now }
-    ensures { Settles result (LimitsHold «module».now) }
+    ensures { Decides result (LimitsHold «module».now) }
 {
     rule(tables.len() <= 1, module.tables.offset())?;
     rule(memories.len() <= 1, module.memories.offset())?;
@@ -80,7 +81,7 @@ fn check_limits(
 }
 
 fn check_globals(alloc: Global, module: &Module<'_>) -> Result<(), LoadFault>
-    ensures { Settles result (GlobalsHold «module».now) }
+    ensures { Decides result (GlobalsHold «module».now) }
 {
     let imported = imported_globals(alloc, module.imports.as_slice())?;
     rule(
@@ -89,16 +90,16 @@ fn check_globals(alloc: Global, module: &Module<'_>) -> Result<(), LoadFault>
     )
 }
 
-fn space<'m>(
+fn module_context<'m>(
     alloc: Global,
     module: &'m Module<'_>,
     has_table: bool,
     has_memory: bool,
-) -> Result<Space<'m>, LoadFault>
+) -> Result<ModuleContext<'m>, LoadFault>
     requires table { has_table ≡ has_any (tables_of «module».now) }
     requires memory { has_memory ≡ has_any (memories_of «module».now) }
-    ensures space { IfOk result (λ space. IsSpaceOf space «module».now) }
-    ensures types { Settles result (TypesFit «module».now) }
+    ensures module_context { IfOk result (λ module_context. IsModuleContextOf module_context «module».now) }
+    ensures types { Decides result (TypesFit «module».now) }
 {
     let types = module.types.as_slice();
     rule(have_one_result(types), module.types.offset())?;
@@ -110,7 +111,7 @@ fn space<'m>(
     let functions = module.functions.as_slice();
     rule(are_below(functions, types.len()), module.functions.offset())?;
     type_indices.extend_from_slice(functions)?;
-    Ok(Space {
+    Ok(ModuleContext {
         types,
         type_indices,
         globals: globals(alloc, module)?,
@@ -122,14 +123,14 @@ fn space<'m>(
 fn check_lists(
     alloc: Global,
     module: &Module<'_>,
-    space: &Space<'_>,
+    module_context: &ModuleContext<'_>,
     counts: Counts,
 ) -> Result<(), LoadFault>
-    requires space { IsSpaceOf space.now «module».now }
+    requires module_context { IsModuleContextOf module_context.now «module».now }
     requires counts { counts ≡ counts_of «module».now }
-    ensures { Settles result (ListsFit «module».now) }
+    ensures { Decides result (ListsFit «module».now) }
 {
-    let globals = space.globals.as_slice();
+    let globals = module_context.globals.as_slice();
     let exports = module.exports.as_slice();
     rule(exports_fit(exports, counts), module.exports.offset())?;
     rule(names_differ(alloc, exports)?, module.exports.offset())?;
@@ -145,26 +146,30 @@ fn check_lists(
 }
 
 /// The start function has no parameters and no results (section 3.4.7).
-fn check_start(module: &Module<'_>, space: &Space<'_>) -> Result<(), LoadFault>
-    requires { IsSpaceOf space.now «module».now }
-    ensures { (c : Context) → IsSpace space.now c → Settles result (StartFits c «module».now) }
+fn check_start(module: &Module<'_>, module_context: &ModuleContext<'_>) -> Result<(), LoadFault>
+    requires { IsModuleContextOf module_context.now «module».now }
+    ensures { (c : Context) → IsModuleContext module_context.now c → Decides result (StartFits c «module».now) }
 {
     match module.start {
-        Some(index) => rule(space.can_start(index), 0),
+        Some(index) => rule(module_context.can_start(index), 0),
         None => Ok(()),
     }
 }
 
-fn check_bodies(alloc: Global, module: &Module<'_>, space: &Space<'_>) -> Result<(), LoadFault>
-    requires { IsSpaceOf space.now «module».now }
-    ensures { (c : Context) → IsSpace space.now c
-        → Settles result (FunctionsTyped c «module».now.types «module».now.functions «module».now.bodies) }
+fn check_bodies(
+    alloc: Global,
+    module: &Module<'_>,
+    module_context: &ModuleContext<'_>,
+) -> Result<(), LoadFault>
+    requires { IsModuleContextOf module_context.now «module».now }
+    ensures { (c : Context) → IsModuleContext module_context.now c
+        → Decides result (FunctionsTyped c «module».now.types «module».now.functions «module».now.bodies) }
 {
     let functions = module.functions.as_slice();
     let bodies = module.bodies.as_slice();
     rule(functions.len() == bodies.len(), module.bodies.offset())?;
     for (i, body) in bodies.iter().enumerate() {
-        if let Some(index) = space.untyped_body(alloc, functions[i], body)? {
+        if let Some(index) = module_context.untyped_body(alloc, functions[i], body)? {
             return Err(LoadFault::Invalid {
                 function: u32::try_from(i).ok(),
                 offset: instruction_offset(body, index),

@@ -17,7 +17,7 @@ pub record Upgrades {D : Type 0} {g : Ghosts D} (old new : Parts D g) (io : Bool
   pub crash : g.honest (device_of old.log) → Leaves (g.disk (device_of old.log)) (g.disk (device_of new.log)) (ReflectsOr (g.disk (device_of old.log)) (opened old).tree)
   pub durable : io ≡ false → g.honest (device_of old.log) → (c : _) → (g.disk (device_of new.log)).may_leave c → StandsAs c new.numbers (opened new).tree
   pub failed : has_failed new.log ≡ io
-  pub faults : has_failed old.log ≡ false → g.faults (device_of new.log) ≡ counted io (g.faults (device_of old.log))
+  pub failures : has_failed old.log ≡ false → g.failures (device_of new.log) ≡ counted io (g.failures (device_of old.log))
   pub idle : has_failed old.log ≡ true → (device_of new.log ≡ device_of old.log) × (io ≡ true)
   pub honest : g.honest (device_of old.log) ↔ g.honest (device_of new.log)
   pub size : g.size (device_of new.log) ≡ g.size (device_of old.log)

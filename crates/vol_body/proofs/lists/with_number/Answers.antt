@@ -2,7 +2,7 @@ use Rattle.std.proofs.Common.{◌≡◌, ◌≤◌, ◌+◌, ◌*◌, ◌-◌, �
 use Rattle.std.proofs.lemmas.List.{take_all, drop_all, drop-drop, length-drop, append-nil, append_assoc}
 use borrow.Rule.Slice.PartMut.{put_mid}
 use Rattle.byteorder.specs.Endian.{little_number, little_bytes}
-use Rattle.vol_inode.specs.Writes.{overwritten}
+use Rattle.vol_inode.specs.internal.Writes.{overwritten}
 use Rattle.vol_body.proofs.Listed.{number_not_written}
 use Rattle.vol_body.proofs.lists.with_number.Goals as goal
 

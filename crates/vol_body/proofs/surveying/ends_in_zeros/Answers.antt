@@ -31,5 +31,5 @@ returns-clause-reads g c =
       sectors = read.sectors;
       honest = read.honest;
       size = read.size;
-      faults = λ working. read.faults working ∙ sym (ap (λ (b : Bool). counted b (g.D.Device.faults (device_of c.part_sector.new.log))) read.failed);
+      failures = λ working. read.failures working ∙ sym (ap (λ (b : Bool). counted b (g.D.Device.failures (device_of c.part_sector.new.log))) read.failed);
     })

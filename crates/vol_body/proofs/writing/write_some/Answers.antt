@@ -22,7 +22,7 @@ pub returns-in_err-all-clause-log : goal.returns-in_err-all-clause-log
 returns-in_err-all-clause-log g c =
     let edges = reads_then c.args.log.now c.read_edge.new.log c.read_edge-2.new.log c.in_ok-before.ensures.failed c.in_ok-before.ensures.reads c.in_ok-behind.ensures.reads in
     let reads = reads_then c.args.log.now c.read_edge-2.new.log c.load_lists.new.log c.in_ok-behind.ensures.failed edges c.in_err-all.ensures.reads in
-    record { seen = reads.seen; crash = reads.crash; sectors = reads.sectors; honest = reads.honest; size = reads.size; faults = reads.faults }
+    record { seen = reads.seen; crash = reads.crash; sectors = reads.sectors; honest = reads.honest; size = reads.size; failures = reads.failures }
 
 pub returns-in_err-all-clause-refused : goal.returns-in_err-all-clause-refused
 returns-in_err-all-clause-refused g c =

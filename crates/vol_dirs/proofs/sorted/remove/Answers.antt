@@ -1,6 +1,6 @@
 use Rattle.std.proofs.Common.{◌≡◌, sym, subst}
 use Rattle.std.specs.List.{remove}
-use Rattle.vol_dirs.specs.Rising.{Drops}
+use Rattle.vol_dirs.specs.internal.Rising.{Drops}
 use Rattle.vol_dirs.proofs.Search.{comparisons_rise}
 use Rattle.vol_dirs.proofs.Edits.{remove_drops, drops_nothing}
 use Rattle.vol_dirs.proofs.sorted.remove.Goals as goal

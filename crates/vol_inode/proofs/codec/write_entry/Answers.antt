@@ -1,8 +1,8 @@
-use Rattle.std.proofs.Common.{rules, arith, ◌≡◌, ℕ, length, List, [], ◌∷◌, ◌++◌, ◌∙◌, ap, refl, replicate, sym}
+use Rattle.std.proofs.Common.{rules, ◌≡◌, ℕ, length, List, ◌∷◌, ◌∙◌, ap, refl, replicate, sym}
 use Rattle.std.specs.List.{flat_map}
 use Rattle.byteorder.specs.Endian.{little_bytes}
-use Rattle.vol_inode.specs.Spelling.{spelling, kind_byte}
-use Rattle.vol_inode.specs.Writes.{overwritten}
+use Rattle.vol_inode.specs.Spelling.{kind_byte}
+use Rattle.vol_inode.specs.internal.Writes.{overwritten}
 use Rattle.vol_inode.proofs.Spells.{fields}
 use Rattle.vol_inode.proofs.codec.write_entry.Goals as goal
 

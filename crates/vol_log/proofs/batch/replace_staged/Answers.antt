@@ -3,7 +3,8 @@ use Rattle.std.specs.List.{insert}
 use Rattle.std.proofs.lemmas.List.{get_or_read, map_push, length-map}
 use Rattle.vol_log.specs.Header.{Places}
 use Rattle.vol_log.specs.Batch.{numbers, over, holds}
-use Rattle.vol_log.specs.Index.{Index, IsIndex, IsAt, IsGapFor}
+use Rattle.vol_log.specs.Index.{Index, IsIndex}
+use Rattle.vol_log.specs.internal.Index.{IsAt, IsGapFor}
 use Rattle.vol_log.specs.declared.staged.Staged.{Staged}
 use Rattle.vol_log.proofs.Finding.{index_more}
 use Rattle.vol_log.proofs.Staging.{found_place, none_at_all, over_set, over_push, numbers_replaced, places_push, holds_at, holds_none, holds_set, holds_push}

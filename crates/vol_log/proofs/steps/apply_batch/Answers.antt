@@ -1,7 +1,8 @@
 use Rattle.std.proofs.Common.{◌≡◌, ◌∙◌, ap, subst, sym, []}
 use Rattle.vol_sector.specs.Disk.{Image, Wrote, Only, Leaves}
 use Rattle.vol_log.specs.Header.{IsHeader}
-use Rattle.vol_log.specs.Batch.{over, SameContent, HasContent, Settled, Under}
+use Rattle.vol_log.specs.Batch.{over, SameContent, HasContent, Settled}
+use Rattle.vol_log.specs.internal.Steps.{Under}
 use Rattle.vol_log.proofs.Moments.{leaves_from, leaves_quiet, leaves_on, only_along, on_ok}
 use Rattle.vol_log.proofs.Commit.{install_keeps, emptied, emptied_done, under_same, under_header}
 use Rattle.vol_log.proofs.steps.apply_batch.Goals as goal

@@ -1,5 +1,6 @@
 use Rattle.std.proofs.Common.{◌∙◌, inr}
-use Rattle.vol_log.specs.Batch.{over, SameContent, HasEither, HasContent, Settled, Logged}
+use Rattle.vol_log.specs.Batch.{over, SameContent, HasEither, HasContent, Settled}
+use Rattle.vol_log.specs.internal.Steps.{Logged}
 use Rattle.vol_log.proofs.Moments.{leaves_then, on_ok}
 use Rattle.vol_log.proofs.Commit.{has_same, over_outside}
 use Rattle.vol_log.proofs.steps.commit_batch.Goals as goal

@@ -1,6 +1,7 @@
 use Rattle.std.proofs.Common.{◌≡◌, ◌<◌, ◌≤◌, ◌∙◌, sym, length, get_or, arith, rules}
 use Rattle.std.proofs.lemmas.List.{get_or-map, length-map}
-use Rattle.vol_log.specs.Batch.{Under, numbers}
+use Rattle.vol_log.specs.internal.Steps.{Under}
+use Rattle.vol_log.specs.Batch.{numbers}
 use Rattle.vol_log.specs.declared.staged.Staged.{Staged}
 use Rattle.vol_log.proofs.Moments.{leaves_step}
 use Rattle.vol_log.proofs.Images.{blank, Placed, wrote_under, under_joins, placed_more, over_placed}
@@ -43,7 +44,7 @@ loop-staged-preserved g c =
       crash = λ h. leaves_step _ _ _ (Under batch) _ (wrote_under batch i lt) (under_joins batch) (so_far.crash h) (e.crash (so_far.honest.0 h));
       honest = search rules;
       size = search rules;
-      faults = search rules;
+      failures = search rules;
     }
 
 pub returns-clause-installed : goal.returns-clause-installed

@@ -20,7 +20,7 @@ loop-i-preserved g c =
       crash = λ h. leaves_quiet a b d _ (so_far.crash h) (e.crash (so_far.honest.0 h));
       honest = search rules;
       size = search rules;
-      faults = search rules;
+      failures = search rules;
     }
 
 pub returns-clause-read : goal.returns-clause-read

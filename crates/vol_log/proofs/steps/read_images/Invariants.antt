@@ -12,5 +12,5 @@ invariant-loop-i g l = record {
   crash : g.D.Device.honest l.fn.device → Leaves (g.D.Device.disk l.fn.device) (g.D.Device.disk l.device) (λ c. ⊥);
   honest : g.D.Device.honest l.fn.device ↔ g.D.Device.honest l.device;
   size : g.D.Device.size l.device ≡ g.D.Device.size l.fn.device;
-  faults : g.D.Device.faults l.device ≡ g.D.Device.faults l.fn.device;
+  failures : g.D.Device.failures l.device ≡ g.D.Device.failures l.fn.device;
 }

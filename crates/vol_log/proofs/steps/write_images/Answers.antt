@@ -1,5 +1,6 @@
 use Rattle.std.proofs.Common.{◌+◌, ◌≤◌, ◌<◌, ◌∙◌, ap, length, take, arith, rules}
-use Rattle.vol_log.specs.Batch.{numbers, logged, OutsideImages}
+use Rattle.vol_log.specs.Batch.{numbers, logged}
+use Rattle.vol_log.specs.internal.Steps.{OutsideImages}
 use Rattle.vol_log.proofs.Moments.{leaves_step}
 use Rattle.vol_log.proofs.Images.{wrote_image, outside_joins, logged_more}
 use Rattle.vol_log.proofs.steps.write_images.Goals as goal
@@ -20,5 +21,5 @@ loop-i-preserved g c =
       crash = λ h. leaves_step _ _ _ OutsideImages _ (wrote_image _ _ low high) outside_joins (so_far.crash h) (e.crash (so_far.honest.0 h));
       honest = search rules;
       size = search rules;
-      faults = search rules;
+      failures = search rules;
     }

@@ -1,6 +1,7 @@
 use Rattle.std.proofs.Common.{◌≡◌, ◌↔◌, take}
 use Rattle.vol_sector.specs.Disk.{After, Leaves}
-use Rattle.vol_log.specs.Batch.{numbers, logged, OutsideImages}
+use Rattle.vol_log.specs.Batch.{numbers, logged}
+use Rattle.vol_log.specs.internal.Steps.{OutsideImages}
 use Rattle.vol_log.proofs.steps.write_images.Given as goal
 
 abbrev pub invariant-loop-i : goal.invariant-loop-i
@@ -10,5 +11,5 @@ invariant-loop-i g l = record {
   crash : g.D.Device.honest l.fn.device → Leaves (g.D.Device.disk l.fn.device) (g.D.Device.disk l.device) (After OutsideImages (g.D.Device.disk l.fn.device).may_leave);
   honest : g.D.Device.honest l.fn.device ↔ g.D.Device.honest l.device;
   size : g.D.Device.size l.device ≡ g.D.Device.size l.fn.device;
-  faults : g.D.Device.faults l.device ≡ g.D.Device.faults l.fn.device;
+  failures : g.D.Device.failures l.device ≡ g.D.Device.failures l.fn.device;
 }

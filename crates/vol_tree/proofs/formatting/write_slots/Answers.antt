@@ -16,7 +16,7 @@ loop-s-preserved g c =
       crash = λ h. leaves_step _ _ _ BehindTheLog _ (wrote_behind _ _ behind) behind_joins (so_far.crash h) (e.crash (so_far.honest.0 h));
       honest = search rules;
       size = search rules;
-      faults = search rules;
+      failures = search rules;
     }
 
 pub returns-in_err-write-clause-crash : goal.returns-in_err-write-clause-crash

@@ -1,6 +1,4 @@
 use Rattle.std.proofs.Common.{◌≡◌, get_or, Some, sym, ap, ◌∙◌, rules}
-use Rattle.std.specs.Prelude.{slice_get}
-use Rattle.wasm_module.specs.declared.instruction.Instruction.TheVariants as op
 use Rattle.wasm_store.proofs.Constants.{start_global}
 use Rattle.wasm_store.proofs.instantiation.constant.Goals as goal
 

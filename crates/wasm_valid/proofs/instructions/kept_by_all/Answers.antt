@@ -7,9 +7,9 @@ use Rattle.std.proofs.lemmas.Iterator.Search.{all_from_yields_List}
 use Rattle.wasm_module.specs.declared.instruction.ValueType.{ValueType}
 use Rattle.wasm_module.specs.declared.instruction.BlockType.{BlockType}
 use Rattle.wasm_valid.specs.Typing.{Labels, results_of}
-use Rattle.wasm_valid.specs.Stack.{if_true}
-use Rattle.wasm_valid.specs.Effects.{keeps, all_keep, table_label}
-use Rattle.wasm_valid.specs.Operands.{frame_labels}
+use Rattle.wasm_valid.specs.internal.Stack.{if_true}
+use Rattle.wasm_valid.specs.internal.Effects.{keeps, all_keep, table_label}
+use Rattle.wasm_valid.specs.internal.Operands.{control_frame_labels}
 use Rattle.wasm_valid.proofs.instructions.kept_by_all.Goals as goal
 
 then_kept : (t : Bool) (k : BlockType) → option_map results_of (then_some t k) ≡ if_true t (results_of k)
@@ -23,7 +23,7 @@ chosen ls table default kept t r found all is =
 
 pub returns : goal.returns
 returns c =
-    let ls = frame_labels c.args.frames.now in
+    let ls = control_frame_labels c.args.control_frames.now in
     let table = c.args.table.now in
     let kept = c.in_ok-kept.kept in
     let all = all_from_yields_List (λ (l : ℕ). keeps (results_of kept) (slice_get ls l)) _ _ c.all.result c.all.ensures.ran (YieldsList-from_slice table.0 cc) (λ x b q k. search (rules, tests)) in

@@ -1,7 +1,7 @@
 -- Each call answers for one segment.
 use Rattle.std.proofs.Common.{rules}
 use Rattle.std.proofs.lemmas.Iterator.{cases_from_all, YieldsList-from_slice}
-use Rattle.wasm_valid.specs.Rules.{DataHolds}
+use Rattle.wasm_valid.specs.internal.Rules.{DataHolds}
 use Rattle.wasm_valid.proofs.EachOne.{answered}
 use Rattle.wasm_valid.proofs.module_rules.data_fits.Goals as goal
 

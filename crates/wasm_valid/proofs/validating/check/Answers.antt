@@ -1,5 +1,5 @@
 use Rattle.wasm_valid.specs.Validity.{IsValid}
-use Rattle.wasm_valid.specs.Rules.{TypesFit, GlobalsHold, ListsFit}
+use Rattle.wasm_valid.specs.internal.Rules.{TypesFit, GlobalsHold, ListsFit}
 use Rattle.wasm_valid.proofs.Refusals.{refused}
 use Rattle.wasm_valid.proofs.Assembled.{types_of, globals_hold, lists_of, start_settled, settled}
 use Rattle.wasm_valid.proofs.validating.check.Goals as goal
@@ -9,10 +9,10 @@ returns-in_err-check_globals c =
     let m = c.args.module.now in
     refused c.from_residual-in_err-check_globals.result c.in_err-check_globals.field-0.0 (GlobalsHold m) (IsValid m) c.from_residual-in_err-check_globals.ensures.1 c.in_err-check_globals.ensures (globals_hold m)
 
-pub returns-in_err-space : goal.returns-in_err-space
-returns-in_err-space c =
+pub returns-in_err-module_context : goal.returns-in_err-module_context
+returns-in_err-module_context c =
     let m = c.args.module.now in
-    refused c.from_residual-in_err-space.result c.in_err-space.field-0.0 (TypesFit m) (IsValid m) c.from_residual-in_err-space.ensures.1 c.in_err-space.ensures.types (types_of m)
+    refused c.from_residual-in_err-module_context.result c.in_err-module_context.field-0.0 (TypesFit m) (IsValid m) c.from_residual-in_err-module_context.ensures.1 c.in_err-module_context.ensures.types (types_of m)
 
 pub returns-in_err-check_lists : goal.returns-in_err-check_lists
 returns-in_err-check_lists c =
@@ -22,9 +22,9 @@ returns-in_err-check_lists c =
 pub returns-in_err-check_start : goal.returns-in_err-check_start
 returns-in_err-check_start c =
     let m = c.args.module.now in
-    let never = start_settled m c.in_ok-space.space c.in_err-check_start.field-0.0 c.in_ok-space.ensures.types c.in_ok-space.ensures.space c.in_err-check_start.ensures in
+    let never = start_settled m c.in_ok-module_context.module_context c.in_err-check_start.field-0.0 c.in_ok-module_context.ensures.types c.in_ok-module_context.ensures.module_context c.in_err-check_start.ensures in
     refused c.from_residual-in_err-check_start.result c.in_err-check_start.field-0.0 (IsValid m) (IsValid m) c.from_residual-in_err-check_start.ensures.1 never (λ v. v)
 
 pub returns : goal.returns
 returns c =
-    settled c.args.module.now c.in_ok-space.space c.check_bodies.result c.in_ok-check_limits.ensures c.in_ok-check_globals.ensures c.in_ok-space.ensures.types c.in_ok-check_lists.ensures c.in_ok-space.ensures.space c.in_ok-check_start.ensures c.check_bodies.ensures
+    settled c.args.module.now c.in_ok-module_context.module_context c.check_bodies.result c.in_ok-check_limits.ensures c.in_ok-check_globals.ensures c.in_ok-module_context.ensures.types c.in_ok-check_lists.ensures c.in_ok-module_context.ensures.module_context c.in_ok-check_start.ensures c.check_bodies.ensures

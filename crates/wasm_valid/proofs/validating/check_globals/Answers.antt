@@ -4,7 +4,7 @@ use Rattle.wasm_module.specs.declared.module.Import.{Import}
 use Rattle.wasm_module.specs.declared.module.GlobalType.{GlobalType}
 use Rattle.wasm_module.specs.declared.module.GlobalEntry.{GlobalEntry}
 use Rattle.wasm_valid.specs.Validity.{imported_global, kinds_of, IsConstant}
-use Rattle.wasm_valid.specs.Rules.{GlobalsHold}
+use Rattle.wasm_valid.specs.internal.Rules.{GlobalsHold}
 use Rattle.wasm_valid.proofs.Refusals.{settles_same}
 use Rattle.wasm_valid.proofs.validating.check_globals.Goals as goal
 

@@ -3,7 +3,7 @@ use Rattle.wasm_module.specs.declared.module.GlobalType.{GlobalType}
 use Rattle.wasm_module.specs.declared.module.Export.{Export}
 use Rattle.wasm_valid.specs.declared.module_rules.Counts.{Counts}
 use Rattle.wasm_valid.specs.Validity.{AreApart, globals_of}
-use Rattle.wasm_valid.specs.Rules.{ListsFit, IsWithin, ElementsHold, DataHolds, counts_of}
+use Rattle.wasm_valid.specs.internal.Rules.{ListsFit, IsWithin, ElementsHold, DataHolds, counts_of}
 use Rattle.wasm_valid.proofs.Refusals.{refused}
 use Rattle.wasm_valid.proofs.validating.check_lists.Goals as goal
 
@@ -17,14 +17,14 @@ tested {X} P t gs hs n k xs ys is_g is_n is_x h =
 pub returns-in_err-rule-4 : goal.returns-in_err-rule-4
 returns-in_err-rule-4 c =
     let m = c.args.module.now in
-    let globals = c.as_slice-globals.ensures.value ∙ c.requires.space.globals in
+    let globals = c.as_slice-globals.ensures.value ∙ c.requires.module_context.globals in
     let answer = tested (λ gs n d. DataHolds gs n d) c.data_fits.result c.as_slice-globals.result.now (globals_of m) c.args.counts (counts_of m) c.as_slice-2.result.now m.data_segments globals c.requires.counts c.as_slice-2.ensures c.data_fits.ensures in
     refused c.from_residual-in_err-rule-4.result c.in_err-rule-4.field-0.0 (IsTrue c.data_fits.result) (ListsFit m) c.from_residual-in_err-rule-4.ensures.1 c.in_err-rule-4.ensures (λ fit. answer.1 fit.data_segments)
 
 pub returns : goal.returns
 returns c =
     let m = c.args.module.now in
-    let globals = c.as_slice-globals.ensures.value ∙ c.requires.space.globals in
+    let globals = c.as_slice-globals.ensures.value ∙ c.requires.module_context.globals in
     let exports = tested (λ gs n (e : Export). IsWithin n e.kind) c.exports_fit.result c.as_slice-globals.result.now (globals_of m) c.args.counts (counts_of m) c.as_slice-exports.result.now m.exports globals c.requires.counts c.as_slice-exports.ensures c.exports_fit.ensures in
     let names = subst (λ (es : List Export). IsTrue c.in_ok-names_differ.field-0 ↔ AreApart (map (λ e. e.name) es)) c.as_slice-exports.ensures c.in_ok-names_differ.ensures in
     let elements = tested (λ gs n e. ElementsHold gs n e) c.elements_fit.result c.as_slice-globals.result.now (globals_of m) c.args.counts (counts_of m) c.as_slice.result.now m.element_segments globals c.requires.counts c.as_slice.ensures c.elements_fit.ensures in

@@ -33,7 +33,7 @@ loop-slot-preserved g c =
       sectors = read.sectors;
       honest = read.honest;
       size = read.size;
-      faults = λ working. read.faults working ∙ ap (λ (b : Bool). counted b (g.D.Device.faults (device_of c.loop-slot.log))) (sym read.failed);
+      failures = λ working. read.failures working ∙ ap (λ (b : Bool). counted b (g.D.Device.failures (device_of c.loop-slot.log))) (sym read.failed);
     } in
     record {
       kept = c.hold_image.ensures.slots ∙ so_far.kept;

@@ -1,6 +1,6 @@
 use Rattle.std.proofs.Common.{◌≡◌, ◌∙◌, ◌+◌, ◌<◌, sym, ap, arith, length, List, ℕ, [], ◌∷◌, false}
 use Rattle.std.proofs.lemmas.List.{get_or_read, length_push}
-use Rattle.vol_sector.specs.RecordLaws.{image_of}
+use Rattle.vol_sector.specs.Record.{image_of}
 use Rattle.vol_sector.specs.Crash.{written_since, picked, crashed_image}
 use Rattle.vol_sector.specs.Record.{choices}
 use Rattle.vol_sector.specs.declared.record.Operation.{Operation}

@@ -1,5 +1,5 @@
 use Rattle.std.proofs.Common.{◌≡◌, ◌<◌, [], ℕ, length, get_or, min}
-use Rattle.vol_sector.specs.RecordLaws.{image_of}
+use Rattle.vol_sector.specs.Record.{image_of}
 use Rattle.vol_sector.specs.Crash.{written_below, crashed_image}
 use Rattle.vol_sector.proofs.memory.MemoryDevice.crashed.Given as goal
 

@@ -4,7 +4,7 @@ use Rattle.vol_sector.specs.Disk.{Leaves, Keeps, Only}
 use Rattle.vol_sector.specs.Counting.{counting}
 use Rattle.vol_sector.specs.Memory.{first_of, record_of, tried_of, disk_of}
 use Rattle.vol_sector.specs.Record.{newest, recorded, LeftBy}
-use Rattle.vol_sector.specs.RecordLaws.{image_of}
+use Rattle.vol_sector.specs.Record.{image_of}
 use Rattle.vol_sector.specs.declared.record.Operation.{Operation}
 use Rattle.vol_sector.specs.declared.record.Operation.TheVariants.{Sync}
 use Rattle.vol_sector.proofs.Counting.{leaves_passed, keeps_passed}

@@ -22,7 +22,7 @@ returns-in_err-write_front g c =
       sectors = c.write_front.ensures.sectors;
       honest = c.write_front.ensures.honest;
       size = c.write_front.ensures.size;
-      faults = c.in_err-write_front.ensures.faults c.requires.working;
+      failures = c.in_err-write_front.ensures.failures c.requires.working;
     } in
     let io = err_is c.from_residual.result c.from_residual.ensures.0 in
     subst (λ (b : Bool). Upgrades old (record old { log = c.write_front.new.self }) b) (sym io)
@@ -43,6 +43,6 @@ returns g c =
       sectors = c.write_front.ensures.sectors;
       honest = c.write_front.ensures.honest;
       size = c.write_front.ensures.size;
-      faults = c.in_ok-write_front.ensures.faults c.requires.working;
+      failures = c.in_ok-write_front.ensures.failures c.requires.working;
     } in
     is_upgraded g.met.D.Device.may_stay old c.write_front.new.self c.requires.is_open c.requires.working c.requires.empty c.requires.version false fronts refl

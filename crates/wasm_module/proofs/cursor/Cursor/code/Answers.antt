@@ -1,5 +1,5 @@
 use Rattle.std.proofs.lemmas.Result.{err_from_is_err_and}
-use Rattle.wasm_module.specs.CodeReading.{code_at}
+use Rattle.wasm_module.specs.internal.CodeReading.{code_at}
 use Rattle.wasm_module.proofs.Steps.{code_no_op, code_no_step}
 use Rattle.wasm_module.proofs.cursor.Cursor.code.Goals as goal
 

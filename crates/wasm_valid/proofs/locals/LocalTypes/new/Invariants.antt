@@ -1,5 +1,5 @@
 use Rattle.std.proofs.Common.{◌≡◌, ◌++◌, length, drop}
-use Rattle.wasm_valid.specs.Ends.{ends_from}
+use Rattle.wasm_valid.specs.internal.Ends.{ends_from}
 use Rattle.wasm_valid.proofs.locals.LocalTypes.new.Given as goal
 
 abbrev pub invariant-loop-group : goal.invariant-loop-group

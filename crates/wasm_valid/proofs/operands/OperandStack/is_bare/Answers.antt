@@ -1,5 +1,5 @@
 use Rattle.std.proofs.Common.{◌≡◌, ◌≤◌, length, ap, eqb, ◌∙◌, arith}
-use Rattle.wasm_valid.specs.Stack.{is_nil}
+use Rattle.wasm_valid.specs.internal.Stack.{is_nil}
 use Rattle.wasm_valid.proofs.Kept.{bare_is}
 use Rattle.wasm_valid.proofs.operands.OperandStack.is_bare.Goals as goal
 

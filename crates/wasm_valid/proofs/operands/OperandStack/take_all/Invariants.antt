@@ -1,5 +1,5 @@
 use Rattle.std.proofs.Common.{◌≡◌, length, reverse}
-use Rattle.wasm_valid.specs.Stack.{pops}
+use Rattle.wasm_valid.specs.internal.Stack.{pops}
 use Rattle.wasm_valid.proofs.operands.OperandStack.take_all.Given as goal
 
 abbrev pub invariant-loop-last : goal.invariant-loop-last

@@ -1,0 +1,3 @@
+-- Definitions that only private contracts and proofs cite.
+pub mod Steps
+pub mod Index

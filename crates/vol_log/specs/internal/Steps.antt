@@ -1,0 +1,24 @@
+-- What the steps of a commit leave.
+use Rattle.std.specs.Prelude.{◌≡◌, ◌⊎◌, ◌+◌, ◌≤◌, ◌<◌, ◌==◌, ℕ, List, [], ◌∷◌, map, Bool, true, false, if◌then◌else◌}
+use Rattle.vol_sector.specs.Disk.{Image, Disk, Only}
+use Rattle.vol_log.specs.Header.{IsHeader}
+use Rattle.vol_log.specs.declared.staged.Staged.{Staged}
+use Rattle.vol_log.specs.Batch.{numbers, over, holds, logged, IsContent}
+
+-- everything is on the disk and the log holds the batch
+pub record Logged (sectors : ℕ) (batch : List Staged) (disk : Disk) : Type 0 where
+  pub durable : Only disk.seen disk.may_leave
+  pub header : IsHeader sectors (disk.seen 1) (numbers batch)
+  pub images : logged (numbers batch) 2 disk.seen ≡ batch
+
+-- a step that changes nothing outside the log's images
+abbrev pub OutsideImages : Image → Image → Type 0
+OutsideImages before after = (k : ℕ) → (k < 2) ⊎ (122 ≤ k) → after k ≡ before k
+
+-- a step that changes nothing outside the log
+abbrev pub OutsideLog : Image → Image → Type 0
+OutsideLog before after = (k : ℕ) → IsContent k → after k ≡ before k
+
+-- a step that the batch hides
+abbrev pub Under : List Staged → Image → Image → Type 0
+Under batch before after = over batch after ≡ over batch before

@@ -1,0 +1,207 @@
+-- How instructions are read.
+use Rattle.std.specs.Prelude.{ℕ, zero, suc, ◌-◌, List, [], ◌∷◌, length, Option, Some, None, Bool, ◌&&◌, nat_lt, nat_le, ◌==◌, if◌then◌else◌}
+use Rattle.wasm_module.specs.declared.number.Sign.TheVariants.{Signed}
+use Rattle.wasm_module.specs.declared.instruction.ValueType.{ValueType}
+use Rattle.wasm_module.specs.declared.instruction.ValueType.TheVariants.{I32, I64}
+use Rattle.wasm_module.specs.declared.instruction.MemArg.{MemArg}
+use Rattle.wasm_module.specs.declared.instruction.Comparison.{Comparison}
+use Rattle.wasm_module.specs.declared.instruction.Comparison.TheVariants as comparison
+use Rattle.wasm_module.specs.declared.instruction.UnaryOperator.{UnaryOperator}
+use Rattle.wasm_module.specs.declared.instruction.UnaryOperator.TheVariants as unary
+use Rattle.wasm_module.specs.declared.instruction.BinaryOperator.{BinaryOperator}
+use Rattle.wasm_module.specs.declared.instruction.BinaryOperator.TheVariants as binary
+use Rattle.wasm_module.specs.declared.instruction.Instruction.{Instruction}
+use Rattle.wasm_module.specs.declared.instruction.Instruction.TheVariants as op
+use Rattle.wasm_module.specs.declared.open_blocks.OpenBlock.{OpenBlock}
+use Rattle.wasm_module.specs.declared.open_blocks.OpenBlock.TheVariants.{Plain, Conditional}
+use Rattle.wasm_module.specs.internal.TypesReading.{block_type_at}
+use Rattle.wasm_module.specs.internal.Reading.{◌>>=◌, Reader, byte_at, number_at, u32_at, next_at, then_at, map_at, vector_at}
+
+unfoldable pub s32_at : Reader ℕ
+s32_at = number_at Signed 32
+
+unfoldable pub s64_at : Reader ℕ
+s64_at = number_at Signed 64
+
+unfoldable pub mem_arg_at : Reader MemArg
+mem_arg_at = map_at (λ p. record { align = p.0; offset = p.1 }) (then_at u32_at u32_at)
+
+-- ---- operators
+
+abbrev pub is_between : ℕ → ℕ → ℕ → Bool
+is_between low high b = nat_le low b && nat_le b high
+
+unfoldable pub comparison_of : ℕ → Option Comparison
+comparison_of n =
+    if n == 0 then Some comparison.Eq else (
+    if n == 1 then Some comparison.Ne else (
+    if n == 2 then Some comparison.LtS else (
+    if n == 3 then Some comparison.LtU else (
+    if n == 4 then Some comparison.GtS else (
+    if n == 5 then Some comparison.GtU else (
+    if n == 6 then Some comparison.LeS else (
+    if n == 7 then Some comparison.LeU else (
+    if n == 8 then Some comparison.GeS else (
+    if n == 9 then Some comparison.GeU else (
+    None))))))))))
+
+unfoldable pub binary_operator_of : ℕ → Option BinaryOperator
+binary_operator_of n =
+    if n == 0 then Some binary.Add else (
+    if n == 1 then Some binary.Sub else (
+    if n == 2 then Some binary.Mul else (
+    if n == 3 then Some binary.DivS else (
+    if n == 4 then Some binary.DivU else (
+    if n == 5 then Some binary.RemS else (
+    if n == 6 then Some binary.RemU else (
+    if n == 7 then Some binary.And else (
+    if n == 8 then Some binary.Or else (
+    if n == 9 then Some binary.Xor else (
+    if n == 10 then Some binary.Shl else (
+    if n == 11 then Some binary.ShrS else (
+    if n == 12 then Some binary.ShrU else (
+    if n == 13 then Some binary.Rotl else (
+    if n == 14 then Some binary.Rotr else (
+    None)))))))))))))))
+
+unfoldable pub unary_of : ℕ → Option (ValueType × UnaryOperator)
+unary_of b =
+    if b == 0x67 then Some (I32, unary.Clz) else (
+    if b == 0x68 then Some (I32, unary.Ctz) else (
+    if b == 0x69 then Some (I32, unary.Popcnt) else (
+    if b == 0x79 then Some (I64, unary.Clz) else (
+    if b == 0x7A then Some (I64, unary.Ctz) else (
+    if b == 0x7B then Some (I64, unary.Popcnt) else (
+    if b == 0xC0 then Some (I32, unary.Extend8S) else (
+    if b == 0xC1 then Some (I32, unary.Extend16S) else (
+    if b == 0xC2 then Some (I64, unary.Extend8S) else (
+    if b == 0xC3 then Some (I64, unary.Extend16S) else (
+    if b == 0xC4 then Some (I64, unary.Extend32S) else (
+    None)))))))))))
+
+abbrev pub compared : ValueType → ℕ → Option Instruction
+compared t n = comparison_of n >>= λ o. Some (op.Compare t o)
+
+abbrev pub operated : ValueType → ℕ → Option Instruction
+operated t n = binary_operator_of n >>= λ o. Some (op.Binary t o)
+
+-- the instruction of this opcode that has nothing behind it, of those on numbers
+unfoldable pub numeric_of : ℕ → Option Instruction
+numeric_of b =
+    if b == 0x45 then Some (op.Eqz I32) else (
+    if b == 0x50 then Some (op.Eqz I64) else (
+    if b == 0xA7 then Some op.I32WrapI64 else (
+    if b == 0xAC then Some op.I64ExtendI32S else (
+    if b == 0xAD then Some op.I64ExtendI32U else (
+    if is_between 0x46 0x4F b then compared I32 (b - 0x46) else (
+    if is_between 0x51 0x5A b then compared I64 (b - 0x51) else (
+    if is_between 0x6A 0x78 b then operated I32 (b - 0x6A) else (
+    if is_between 0x7C 0x8A b then operated I64 (b - 0x7C) else (
+    unary_of b >>= λ p. Some (op.Unary p.0 p.1))))))))))
+
+unfoldable pub numeric_after : ℕ → Reader Instruction
+numeric_after b rest = numeric_of b >>= λ i. Some (i, rest)
+
+-- ---- the others, by their opcodes
+
+unfoldable pub control_after : ℕ → Reader Instruction
+control_after b =
+    if b == 0x00 then (λ rest. Some (op.Unreachable, rest)) else (
+    if b == 0x01 then (λ rest. Some (op.Nop, rest)) else (
+    if b == 0x02 then map_at op.Block block_type_at else (
+    if b == 0x03 then map_at op.Loop block_type_at else (
+    if b == 0x04 then map_at op.If block_type_at else (
+    if b == 0x05 then (λ rest. Some (op.Else, rest)) else (
+    if b == 0x0B then (λ rest. Some (op.End, rest)) else (
+    if b == 0x0C then map_at op.Br u32_at else (
+    if b == 0x0D then map_at op.BrIf u32_at else (
+    if b == 0x0E then map_at op.BrTable (then_at (vector_at u32_at) u32_at) else (
+    if b == 0x0F then (λ rest. Some (op.Return, rest)) else (
+    if b == 0x10 then map_at op.Call u32_at else (
+    if b == 0x11 then map_at (λ p. op.CallIndirect p.0) (then_at u32_at (byte_at 0x00)) else (
+    (λ rest. None))))))))))))))
+
+unfoldable pub variable_after : ℕ → Reader Instruction
+variable_after b =
+    if b == 0x1A then (λ rest. Some (op.Drop, rest)) else (
+    if b == 0x1B then (λ rest. Some (op.Select, rest)) else (
+    if b == 0x20 then map_at op.LocalGet u32_at else (
+    if b == 0x21 then map_at op.LocalSet u32_at else (
+    if b == 0x22 then map_at op.LocalTee u32_at else (
+    if b == 0x23 then map_at op.GlobalGet u32_at else (
+    if b == 0x24 then map_at op.GlobalSet u32_at else (
+    (λ rest. None))))))))
+
+unfoldable pub load_after : ℕ → Reader Instruction
+load_after b =
+    if b == 0x28 then map_at op.I32Load mem_arg_at else (
+    if b == 0x29 then map_at op.I64Load mem_arg_at else (
+    if b == 0x2C then map_at op.I32Load8S mem_arg_at else (
+    if b == 0x2D then map_at op.I32Load8U mem_arg_at else (
+    if b == 0x2E then map_at op.I32Load16S mem_arg_at else (
+    if b == 0x2F then map_at op.I32Load16U mem_arg_at else (
+    if b == 0x30 then map_at op.I64Load8S mem_arg_at else (
+    if b == 0x31 then map_at op.I64Load8U mem_arg_at else (
+    if b == 0x32 then map_at op.I64Load16S mem_arg_at else (
+    if b == 0x33 then map_at op.I64Load16U mem_arg_at else (
+    if b == 0x34 then map_at op.I64Load32S mem_arg_at else (
+    if b == 0x35 then map_at op.I64Load32U mem_arg_at else (
+    (λ rest. None)))))))))))))
+
+unfoldable pub store_after : ℕ → Reader Instruction
+store_after b =
+    if b == 0x36 then map_at op.I32Store mem_arg_at else (
+    if b == 0x37 then map_at op.I64Store mem_arg_at else (
+    if b == 0x3A then map_at op.I32Store8 mem_arg_at else (
+    if b == 0x3B then map_at op.I32Store16 mem_arg_at else (
+    if b == 0x3C then map_at op.I64Store8 mem_arg_at else (
+    if b == 0x3D then map_at op.I64Store16 mem_arg_at else (
+    if b == 0x3E then map_at op.I64Store32 mem_arg_at else (
+    if b == 0x3F then map_at (λ x. op.MemorySize) (byte_at 0x00) else (
+    if b == 0x40 then map_at (λ x. op.MemoryGrow) (byte_at 0x00) else (
+    (λ rest. None))))))))))
+
+-- the instruction of this number behind FC
+unfoldable pub bulk_after : ℕ → Reader Instruction
+bulk_after n =
+    if n == 10 then map_at (λ x. op.MemoryCopy) (then_at (byte_at 0x00) (byte_at 0x00)) else (
+    if n == 11 then map_at (λ x. op.MemoryFill) (byte_at 0x00) else (
+    (λ rest. None)))
+
+unfoldable pub bulk_at : Reader Instruction
+bulk_at bytes = u32_at bytes >>= λ n. bulk_after n.0 n.1
+
+-- the instruction of this opcode
+unfoldable pub instruction_after : ℕ → Reader Instruction
+instruction_after b =
+    if b == 0x41 then map_at op.I32Const s32_at else (
+    if b == 0x42 then map_at op.I64Const s64_at else (
+    if b == 0xFC then bulk_at else (
+    if nat_lt b 0x12 then control_after b else (
+    if nat_lt b 0x28 then variable_after b else (
+    if nat_lt b 0x36 then load_after b else (
+    if nat_lt b 0x41 then store_after b else (
+    numeric_after b)))))))
+
+unfoldable pub instruction_at : Reader Instruction
+instruction_at bytes = next_at bytes >>= λ b. instruction_after b.0 b.1
+
+-- the blocks that are open, after one more instruction
+unfoldable pub after_instruction : Instruction → List OpenBlock → Option (List OpenBlock)
+after_instruction i [] = None
+after_instruction (op.Block t) (f ∷ fs) = Some (Plain ∷ f ∷ fs)
+after_instruction (op.Loop t) (f ∷ fs) = Some (Plain ∷ f ∷ fs)
+after_instruction (op.If t) (f ∷ fs) = Some (Conditional ∷ f ∷ fs)
+after_instruction op.Else (Conditional ∷ fs) = Some (Plain ∷ fs)
+after_instruction op.Else (Plain ∷ fs) = None
+after_instruction op.End (f ∷ fs) = Some fs
+after_instruction i (f ∷ fs) = Some (f ∷ fs)
+
+-- instructions up to the one that closes the last open block, at most n
+unfoldable pub code_from : ℕ → List OpenBlock → Reader (List Instruction)
+code_from zero fs bytes = None
+code_from (suc n) fs bytes = instruction_at bytes >>= λ i. after_instruction i.0 fs >>= λ gs.
+    if length gs == 0 then Some (i.0 ∷ [], i.1) else (code_from n gs i.1 >>= λ is. Some (i.0 ∷ is.0, is.1))
+
+unfoldable pub code_at : Reader (List Instruction)
+code_at bytes = code_from (length bytes) (Plain ∷ []) bytes

@@ -1,0 +1,61 @@
+-- What the steps of instantiation find (section 4.5.4).
+use Rattle.std.specs.Prelude.{◌≡◌, ℕ, ◌⊎◌, List, [], Some, slice_get, codes}
+use Rattle.std.specs.List.{AllByRecursion}
+use Rattle.wasm_module.specs.declared.module.FuncType.{FuncType}
+use Rattle.wasm_module.specs.declared.module.ImportKind.{ImportKind}
+use Rattle.wasm_module.specs.declared.module.ImportKind.TheVariants as imports
+use Rattle.wasm_module.specs.declared.module.Export.{Export}
+use Rattle.wasm_module.specs.declared.module.ExportKind.TheVariants as exports
+use Rattle.wasm_module.specs.declared.module.Module.{Module}
+use Rattle.wasm_valid.specs.Validity.{functions_of}
+use Rattle.wasm_store.specs.declared.call.HostCall.{HostCall}
+use Rattle.wasm_store.specs.declared.fault.InstanceFault.{InstanceFault}
+use Rattle.wasm_store.specs.declared.fault.InstanceFault.TheVariants as faults
+use Rattle.wasm_store.specs.Values.{Val, IsInType, numbers}
+use Rattle.wasm_store.specs.Instances.{Callee}
+use Rattle.wasm_store.specs.Instantiation.{LinksOf, AreLinked, SomeUnlinked, AreFirst}
+use Rattle.wasm_store.specs.Instantiating.{AreCallees}
+
+-- functions alone are imported
+abbrev pub IsFunction : ImportKind → Type 0
+IsFunction (imports.Function x) = Unit {0}
+IsFunction k = ⊥
+
+abbrev pub ImportsFunctions : Module → Type 0
+ImportsFunctions m = AllByRecursion (λ i. IsFunction i.kind) m.imports
+
+-- function x has this type
+pub record HasType (m : Module) (x : ℕ) (f : FuncType) : Type 0 where
+  pub type_index : ℕ
+  pub function : slice_get (functions_of m) x ≡ Some type_index
+  pub type_is : slice_get m.types type_index ≡ Some f
+
+-- an export of function x by the name `_start`
+abbrev pub start_export : ℕ → Export
+start_export x = record { name = codes "_start"; kind = exports.Function x }
+
+-- the export is that of a function of type [] -> [] by this name
+pub record StartsAt (m : Module) (e : Export) (x : ℕ) : Type 0 where
+  pub is : e ≡ start_export x
+  pub has_type : HasType m x (record { params = []; results = [] })
+
+-- ---- imports
+
+-- every import has its call
+pub record AreFound (links : LinksOf) (m : Module) (calls : List HostCall) : Type 0 where
+  pub linked : List Callee
+  pub are_linked : AreLinked links m.types m.imports linked
+  pub are_callees : AreCallees m.types m.imports calls linked
+
+-- an import was not linked, or memory was refused
+abbrev pub NotFound : LinksOf → Module → InstanceFault → Type 0
+NotFound links m e = (e ≡ faults.Memory) ⊎ ((e ≡ faults.Import) × SomeUnlinked links m.types m.imports)
+
+-- ---- the whole
+
+-- these are the numbers of the globals' first values
+pub record HaveFirst (m : Module) (globals : List ℕ) : Type 0 where
+  pub values : List Val
+  pub are_first : AreFirst m.globals values
+  pub numbers_are : numbers values ≡ globals
+  pub in_range : AllByRecursion IsInType values

@@ -1,0 +1,14 @@
+use Rattle.std.proofs.Common.{◌≡◌, ◌∷◌, List, Some, ap, ◌∙◌, subst}
+use Rattle.wasm_valid.specs.declared.control_frames.Mark.{Mark}
+use Rattle.wasm_valid.specs.internal.Blocks.{OpenBlock, opened_in}
+use Rattle.wasm_valid.specs.internal.Operands.{blocks_of}
+use Rattle.wasm_valid.proofs.Nested.{entering, open_answers}
+use Rattle.wasm_valid.proofs.body_validator.BodyValidator.open.Goals as goal
+
+pub returns : goal.returns
+returns c =
+    let w = c.self.inside in
+    let are : c.push.new.self ≡ entering c.args.kind c.args.block_type w.operands ∷ w.control_frames =
+    c.in_ok-push.ensures.pushed ∙ ap (λ (m : Mark). record { kind = c.args.kind; block_type = c.args.block_type; around = m } ∷ w.control_frames) c.mark-around.ensures in
+    subst (λ (l : List OpenBlock). opened_in c.args.kind c.args.block_type l ≡ Some (blocks_of c.enter.new.self c.push.new.self)) c.self.view_is
+    (open_answers c.args.kind c.args.block_type w.operands c.enter.new.self w.control_frames c.push.new.self c.self.invariant.0 are c.enter.ensures)

@@ -1,0 +1,14 @@
+-- What an answer to a question of validation says.
+use Rattle.std.specs.Prelude.{Result, MatchResult}
+use Rattle.wasm_module.specs.declared.fault.LoadFault.{LoadFault}
+use Rattle.wasm_module.specs.declared.fault.LoadFault.TheVariants.{Memory, Invalid}
+
+-- a refusal of what was to hold: want of memory says nothing of it, and fault 12 that it doesn't hold
+abbrev pub Refutes : LoadFault → Type 0 → Type 0
+Refutes Memory P = Unit {0}
+Refutes (Invalid function offset) P = P → ⊥
+Refutes e P = ⊥
+
+-- the answer to the question whether this holds
+abbrev pub Decides : {T : Type 0} → Result T LoadFault → Type 0 → Type 0
+Decides r P = MatchResult r (λ _. P) (λ e. Refutes e P)

@@ -1,0 +1,27 @@
+-- What the code keeps of the context of a module and of a body (section 3.1.1).
+use Rattle.std.specs.Prelude.{◌≡◌}
+use Rattle.wasm_module.specs.declared.module.Module.{Module}
+use Rattle.wasm_valid.specs.declared.module_context.ModuleContext.{ModuleContext}
+use Rattle.wasm_valid.specs.declared.function_context.FunctionContext.{FunctionContext}
+use Rattle.wasm_valid.specs.Typing.{Context, results_of}
+use Rattle.wasm_valid.specs.Validity.{AreTypesAt, functions_of, tables_of, memories_of, globals_of, has_any}
+
+pub record IsModuleContext (module_context : ModuleContext) (c : Context) : Type 0 where
+  pub types : c.types ≡ module_context.types.now
+  pub functions : AreTypesAt module_context.types.now module_context.type_indices.items c.functions
+  pub table : c.has_table ≡ module_context.has_table
+  pub memory : c.has_memory ≡ module_context.has_memory
+  pub globals : c.globals ≡ module_context.globals.items
+
+pub record IsFunctionContext (function_context : FunctionContext) (c : Context) : Type 0 where
+  pub module_context : IsModuleContext function_context.module_context.now c
+  pub locals : c.locals ≡ function_context.locals
+  pub returns : c.returns ≡ results_of function_context.returns
+
+-- the space of a module
+pub record IsModuleContextOf (module_context : ModuleContext) (m : Module) : Type 0 where
+  pub types : module_context.types.now ≡ m.types
+  pub type_indices : module_context.type_indices.items ≡ functions_of m
+  pub globals : module_context.globals.items ≡ globals_of m
+  pub table : module_context.has_table ≡ has_any (tables_of m)
+  pub memory : module_context.has_memory ≡ has_any (memories_of m)

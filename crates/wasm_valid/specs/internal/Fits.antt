@@ -1,0 +1,17 @@
+-- The stacks that a stack stands for, of which a walk knows a part.
+use Rattle.std.specs.Prelude.{◌≡◌, List, [], ◌∷◌, Option, Some, None, Bool, true, false}
+use Rattle.wasm_module.specs.declared.instruction.ValueType.{ValueType}
+use Rattle.wasm_valid.specs.internal.Stack.{Stack}
+
+abbrev pub Agrees : Option ValueType → ValueType → Type 0
+Agrees None t = Unit {0}
+Agrees (Some u) t = u ≡ t
+
+abbrev pub FitsList : List (Option ValueType) → Bool → List ValueType → Type 0
+FitsList [] false ts = ts ≡ []
+FitsList [] true ts = Unit {0}
+FitsList (o ∷ os) u [] = ⊥
+FitsList (o ∷ os) u (t ∷ ts) = Agrees o t × FitsList os u ts
+
+abbrev pub Fits : Stack → List ValueType → Type 0
+Fits s ts = FitsList s.known s.unreachable ts
