@@ -11,6 +11,7 @@ pub mod Added
 pub mod Steps
 pub mod Surveys
 pub mod Surveyed
+pub mod Repeats
 pub mod Loads
 pub mod Written
 pub mod Finished

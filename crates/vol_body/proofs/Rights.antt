@@ -1,5 +1,5 @@
 -- A changed file's entry keeps the rules that its own sector shows.
-use Rattle.std.proofs.Common.{◌≡◌, ◌≢◌, inl, inr, ⊎_elim, ℕ, ◌≤◌, ◌<◌, ◌^◌, nat_lt, max, ◌+◌, if◌then◌else◌, length, get_or, refl, sym, ◌∙◌, ap, subst, arith, Result, Ok, Err, OnOk}
+use Rattle.std.proofs.Common.{◌≡◌, inl, inr, ℕ, ◌≤◌, ◌<◌, max, get_or, sym, ◌∙◌, ap, subst, arith, Result, Ok, Err, OnOk}
 use Rattle.std.proofs.lemmas.Bool.{cases_lt, cases_eq}
 use Rattle.std.proofs.lemmas.Bool.Decides.{nat_tests}
 use Rattle.vol_sector.specs.Disk.{Image}
@@ -10,7 +10,7 @@ use Rattle.vol_inode.specs.declared.version.Version.{Version}
 use Rattle.vol_inode.specs.declared.version.Version.TheVariants.{One, Two}
 use Rattle.vol_inode.specs.Entry.{IsEntry, HasWidths, first_part}
 use Rattle.vol_inode.specs.Space.{size_limit, sectors_of}
-use Rattle.vol_body.specs.Body.{part, list, lists, named, IsBody}
+use Rattle.vol_body.specs.Body.{part, list, lists, IsBody}
 use Rattle.vol_body.proofs.Places.{part_direct}
 
 small_limit : (version : Version) → size_limit version ≤ 8483840

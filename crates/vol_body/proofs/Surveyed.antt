@@ -226,7 +226,7 @@ every_is p has = elim (Contains-append_cases (parts_from 0 58 ++ (list ∷ parts
 ]
 
 -- what is left of numbers stood among them, and isn't 0
-was_there : (xs : List ℕ) (n : ℕ) → Contains (nonzero xs) n → Contains xs n × (n ≢ 0)
+pub was_there : (xs : List ℕ) (n : ℕ) → Contains (nonzero xs) n → Contains xs n × (n ≢ 0)
 was_there [] n has = absurd (omega (arith, has.1))
 was_there (x ∷ xs) n has = elim (Contains-append_cases (nonzero (x ∷ [])) (nonzero xs) n (subst (λ (l : List ℕ). Contains l n) (nonzero-append (x ∷ []) xs) has)) [
   | inl one ↦ elim (cases_eq x 0) [

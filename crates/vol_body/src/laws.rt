@@ -44,3 +44,9 @@ pub fn survey_shows_the_rules()
     ensures { (content : Image) (e : Entry) → AreDistinct (sectors_named content e)
         → IsTrimmed content e → IsBody content e }
 {}
+
+/// A law: a survey of a file that keeps the rules on its sectors has no number twice.
+pub fn survey_repeats_none()
+    ensures { (content : Image) (e : Entry) → IsBody content e
+        → AreDistinct (sectors_named content e) }
+{}

@@ -17,7 +17,8 @@ mod writing_parts;
 mod writing_spans;
 
 pub use laws::{
-    names_at_most_what_it_needs, other_files_stay, survey_has_what_is_named, survey_shows_the_rules,
+    names_at_most_what_it_needs, other_files_stay, survey_has_what_is_named, survey_repeats_none,
+    survey_shows_the_rules,
 };
 pub use reading::read_at;
 pub use resizing::set_size;

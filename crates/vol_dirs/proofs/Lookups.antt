@@ -81,6 +81,13 @@ no_key_before keys key found t s least differ first has =
     ] in
     least.least (key, s) has (over_bound key s first) (first_less (slice_cmp nat_cmp key found) (nat_cmp s t) less)
 
+-- a key is found with its least serial
+pub least_key : (keys : List (List ℕ × ℕ)) (key : List ℕ) (s t : ℕ) → IsLeastOver key_order keys (key, 0) (key, s) → 1 ≤ t → Contains keys (key, t) → s ≤ t
+least_key keys key s t least first has = elim (cases_lt t s) [
+  | inl less ↦ absurd (least.least (key, t) has (over_bound key t first) (then_less (slice_cmp nat_cmp key key) (nat_cmp t s) (tied_itself nat_list_cmp_total key) (below t s less)))
+  | inr le ↦ le
+]
+
 module _ (slots : ℕ) (keys : List (List ℕ × ℕ)) (children : List (ℕ × ℕ)) (is : IsListing slots keys children) (p : ℕ) where
   abbrev has_serial : ℕ → List ℕ × ℕ → Bool
   has_serial s x = (parent_in x.0 == p) && (x.1 == s)

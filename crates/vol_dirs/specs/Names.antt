@@ -16,6 +16,10 @@ slots_of dirs = dirs.slots
 abbrev pub Names : Dirs → ℕ → List ℕ → ℕ → Type 0
 Names dirs parent name serial = Holds dirs.keys.items parent name serial
 
+-- no lesser serial is held with this name in the directory
+abbrev pub IsLeastOf : Dirs → ℕ → List ℕ → ℕ → Type 0
+IsLeastOf dirs parent name serial = (other : ℕ) → Names dirs parent name other → serial ≤ other
+
 -- no entry of this serial is held
 abbrev pub IsFree : Dirs → ℕ → Type 0
 IsFree dirs serial = (parent : ℕ) (name : List ℕ) → Names dirs parent name serial → ⊥

@@ -1,7 +1,7 @@
 //! The names of a volume, answered from memory.
 
 ghost use Rattle.std.specs.Prelude.{◌≡◌, ◌≤◌, ◌<◌, ◌+◌, ◌-◌, ◌==◌, ◌⊎◌, if◌then◌else◌, ◌↔◌, ◌≢◌, ℕ, List, vec_capacity};
-ghost use Rattle.std.specs.Prelude.{true, false, IsTrue, IfOk, IfErr, IsErr, is_err, MatchOption};
+ghost use Rattle.std.specs.Prelude.{true, false, IsTrue, IfOk, IfErr, IfSome, IsErr, is_err, MatchOption};
 ghost use Rattle.vol_sector.specs.Disk.{put};
 ghost use Rattle.vol_sector.specs.Fault.{device_failed};
 ghost use Rattle.vol_log.specs.Log.{view, device_of, sectors_of, room_of, is_staged, has_failed};
@@ -43,7 +43,7 @@ pub struct Dirs {
 
 impl Dirs {
     ghost use Rattle.vol_dirs.specs.Names.{slots_of, Names, IsFree, IsNameOf, IsNextChild, NoChildOver};
-    ghost use Rattle.vol_dirs.specs.Names.{IsSpelled, Shows, NoneIsFree, IsLeastFree};
+    ghost use Rattle.vol_dirs.specs.Names.{IsSpelled, IsLeastOf, Shows, NoneIsFree, IsLeastFree};
     ghost use Rattle.vol_log.specs.Reading.{OnlyReads};
 
     /// Reads the slots, one after another. A slot that `read_entry` refuses counts as unused.
@@ -77,8 +77,8 @@ impl Dirs {
         Ok(dirs)
     }
 
-    /// The serial of the entry with this name in a directory. Where the log has failed, it answers
-    /// that.
+    /// The serial of the entry with this name in a directory, the least where there are several.
+    /// Where the log has failed, it answers that.
     pub fn lookup<D: Device>(
         &self,
         log: &Log<D>,
@@ -90,6 +90,8 @@ impl Dirs {
         ensures found { IfOk result (λ found. MatchOption found
             ((s : ℕ) → Names self.now parent name.now s → ⊥)
             (λ s. Names self.now parent name.now s)) }
+        ensures least { IfOk result (λ found. IfSome found
+            (λ s. IsLeastOf self.now parent name.now s)) }
     {
         if log.failed() {
             return Err(DeviceFault);
@@ -218,11 +220,12 @@ impl Dirs {
         self.hold(serial, to);
     }
 
-    /// The serial that a name in a directory is held with.
+    /// The least serial that a name in a directory is held with.
     fn serial_of(&self, parent: u32, name: &[u8]) -> Option<u32>
         requires { IsName name.now }
-        ensures { MatchOption result ((s : ℕ) → Names self.now parent name.now s → ⊥)
+        ensures found { MatchOption result ((s : ℕ) → Names self.now parent name.now s → ⊥)
             (λ s. Names self.now parent name.now s) }
+        ensures least { IfSome result (λ s. IsLeastOf self.now parent name.now s) }
     {
         let key = key_of(parent, name);
         let (found, serial) = least_over(&self.keys, &(key, 0))?;

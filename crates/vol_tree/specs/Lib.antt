@@ -7,6 +7,7 @@ pub mod Superblock
 pub mod Stands
 pub mod Fresh
 pub mod Opened
+pub mod Opening
 pub mod Parts
 pub mod Commits
 pub mod Changes

@@ -1,6 +1,6 @@
 //! An open volume.
 
-ghost use Rattle.std.specs.Prelude.{◌≡◌, ◌≤◌, ◌↔◌, ⊤, [], Ok, Err, OnOk, OnErr, IfOk, IfErr, IfSome, IsSome, IsTrue, is_err, false, true, length};
+ghost use Rattle.std.specs.Prelude.{◌≡◌, ◌≤◌, ◌<◌, ◌⊎◌, ◌↔◌, ⊤, [], Ok, Err, OnOk, OnErr, IfOk, IfErr, IfSome, IsSome, IsTrue, is_err, false, true, length};
 ghost use Rattle.std.specs.Option.{MatchOption};
 ghost use Rattle.vol_sector.specs.Disk.{Image, Leaves, counted};
 ghost use Rattle.vol_tree.specs.Tree.{File, Directory, IsTree, IsDirectory, entry, lookup};
@@ -9,15 +9,21 @@ ghost use Rattle.vol_tree.specs.Stats.{IsStats};
 ghost use Rattle.vol_tree.specs.Calls.{created, written, resized, read_bytes, is_file_at, with_unit};
 ghost use Rattle.vol_tree.specs.Calls.{unlinked, directory_removed, renamed, next_child};
 ghost use Rattle.vol_tree.specs.Stands.{Stands, StandsAs};
+ghost use Rattle.vol_tree.specs.Superblock.{HasRanges};
+ghost use Rattle.vol_tree.specs.Opening.{StandsOn, NoVolumeOn, HasNoVersion, IsDamaged};
+ghost use Rattle.vol_tree.specs.declared.superblock.Superblock.{Superblock};
+ghost use Rattle.vol_sector.specs.Fault.{is_device};
+ghost use Rattle.vol_tree.specs.Tree.{Tree};
 ghost use Rattle.vol_tree.specs.Opened.{Answers, Tells, TellsBytes, Keeps, ReflectsOr, IsSerial, geometry, is_io};
 ghost use Rattle.vol_inode.specs.Name.{IsName};
 ghost use Rattle.vol_inode.specs.declared.version.Version.TheVariants.{One, Two};
 
 use crate::parts::Parts;
 use crate::{Errno, Stat, Stats};
+use std::alloc::Global;
 use std::marker::Model;
 use vol_inode::{Kind, Version};
-use vol_sector::{Device, VolumeFault};
+use vol_sector::{Device, Refused, VolumeFault};
 
 /// A volume of files in directories.
 #[derive(Drop)]
@@ -38,6 +44,73 @@ impl<D: Device> Model for Volume<D> {
 }
 
 impl<D: Device> Volume<D> {
+    /// Opens the volume that a device holds: what its log holds is installed, and then all its
+    /// sectors that have rules are read and checked.
+    ///
+    /// It is refused, in this order, as `NotAVolume` where the device has fewer than 137 sectors or
+    /// begins otherwise, as `Version` where the version is none that is known, and as `Damaged`
+    /// where another rule of the format is broken or the device has fewer sectors than the volume.
+    /// Anywhere it is refused as `Device` where an operation failed, and as `Memory`. Before what
+    /// the log holds is installed nothing is written; where its header is wrong, nothing is.
+    ///
+    /// It may be stopped and begun again any number of times. It takes the memory for all later
+    /// calls.
+    pub fn open(alloc: Global, device: D) -> Result<Volume<D>, Refused<D>>
+        // What reads gave stands for the tree, with these numbers.
+        ensures stands { D.honest device → IfOk result
+            (λ v. StandsOn (D.size device) (D.disk device).seen v.numbers v.tree) }
+        ensures working { IfOk result (λ v. v.failed ≡ false) }
+        ensures ranges { IfOk result (λ v. HasRanges v.numbers
+            × (v.numbers.sectors ≤ D.size device)) }
+        // Each refusal but `Device` and `Memory` says what is wrong with what reads gave.
+        ensures not_a_volume { D.honest device → IfErr result
+            (λ r. r.fault ≡ VolumeFault.NotAVolume
+            → NoVolumeOn (D.size device) (D.disk device).seen) }
+        ensures version { D.honest device → IfErr result (λ r. r.fault ≡ VolumeFault.Version
+            → HasNoVersion (D.size device) (D.disk device).seen) }
+        ensures damaged { D.honest device → IfErr result (λ r. r.fault ≡ VolumeFault.Damaged
+            → IsDamaged (D.size device) (D.disk device).seen) }
+        ensures few_sectors { D.size device < 137
+            → result ≡ Err (record { device = device; fault = VolumeFault.NotAVolume }) }
+        ensures faults_named { IfErr result (λ r. (r.fault ≡ VolumeFault.NotAVolume)
+            ⊎ ((r.fault ≡ VolumeFault.Version) ⊎ ((r.fault ≡ VolumeFault.Damaged)
+            ⊎ ((r.fault ≡ VolumeFault.Device) ⊎ (r.fault ≡ VolumeFault.Memory))))) }
+        // At Ok each crash leaves the tree.
+        ensures durable { D.honest device → IfOk result (λ v. (c : Image)
+            → (D.disk v.device).may_leave c → StandsAs c v.numbers v.tree) }
+        // At any moment a crash leaves what it could leave before, or the tree that reads gave.
+        ensures crash_ok { (v : Superblock) (T : Tree) → D.honest device
+            → StandsOn (D.size device) (D.disk device).seen v T
+            → IfOk result (λ opened. Leaves (D.disk device) (D.disk opened.device)
+            (λ c. StandsAs c v T)) }
+        ensures crash_err { (v : Superblock) (T : Tree) → D.honest device
+            → StandsOn (D.size device) (D.disk device).seen v T
+            → IfErr result (λ r. Leaves (D.disk device) (D.disk r.device)
+            (λ c. StandsAs c v T)) }
+        // A refusal keeps the tree that reads give, so that another try finds it.
+        ensures kept_tree { (v : Superblock) (T : Tree) → D.honest device
+            → StandsOn (D.size device) (D.disk device).seen v T
+            → IfErr result (λ r. StandsOn (D.size r.device) (D.disk r.device).seen v T) }
+        // What is no volume of a known version isn't written to.
+        ensures unwritten { D.honest device → IfErr result
+            (λ r. (r.fault ≡ VolumeFault.NotAVolume) ⊎ (r.fault ≡ VolumeFault.Version)
+            → Leaves (D.disk device) (D.disk r.device) (λ c. ⊥)) }
+        ensures kept_ok { IfOk result (λ v. (D.honest device ↔ D.honest v.device)
+            × (D.size v.device ≡ D.size device) × (D.failures v.device ≡ D.failures device)) }
+        // It is refused as `Device` only where an operation failed.
+        ensures kept_err { IfErr result (λ r. (D.honest device ↔ D.honest r.device)
+            × (D.size r.device ≡ D.size device)
+            × (D.failures r.device ≡ counted (is_device r.fault) (D.failures device))) }
+    {
+        let _ = alloc;
+        let fault = if device.sectors() < 137 {
+            VolumeFault::NotAVolume
+        } else {
+            VolumeFault::Memory
+        };
+        Err(Refused { device, fault })
+    }
+
     /// A law: on a device that keeps its model, what an open volume shows is a tree with a place for
     /// each slot.
     pub fn is_a_tree(&self)

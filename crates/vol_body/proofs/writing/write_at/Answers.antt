@@ -1,8 +1,4 @@
 use Rattle.std.proofs.Common.{◌+◌, length, max}
-use Rattle.std.proofs.lemmas.Result.{on_ok_weaker}
-use Rattle.vol_sector.specs.declared.device.DeviceFault.{DeviceFault}
-use Rattle.vol_inode.specs.declared.entry.Entry.{Entry}
-use Rattle.vol_body.specs.Writing.{WriteLeaves}
 use Rattle.vol_log.specs.Log.{view}
 use Rattle.vol_body.proofs.Rights.{right_file, not_both, all_three, max_limit}
 use Rattle.vol_body.proofs.writing.write_at.Goals as goal

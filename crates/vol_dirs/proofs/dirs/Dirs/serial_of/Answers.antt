@@ -3,19 +3,38 @@ use Rattle.std.specs.List.{Contains}
 use Rattle.std.proofs.lemmas.Bool.{false≢true}
 use Rattle.std.proofs.lemmas.Slice.Eq.{bytes_eq-Decides}
 use Rattle.vol_dirs.specs.Key.{key_of}
+use Rattle.vol_dirs.specs.Listing.{key_order}
+use Rattle.vol_dirs.specs.internal.Rising.{IsLeastOver}
 use Rattle.vol_dirs.proofs.Spelled.{plain_name}
-use Rattle.vol_dirs.proofs.Lookups.{one_or_none, none_at_all, no_key, no_key_before}
+use Rattle.vol_dirs.proofs.Lookups.{one_or_none, none_at_all, no_key, no_key_before, least_key}
 use Rattle.vol_dirs.proofs.dirs.Dirs.serial_of.Goals as goal
 
-pub returns-in_err-found : goal.returns-in_err-found
-returns-in_err-found c = none_at_all _ _ _ c.from_residual.ensures (λ s held.
+pub returns-in_err-found-clause-found : goal.returns-in_err-found-clause-found
+returns-in_err-found-clause-found c = none_at_all _ _ _ c.from_residual.ensures (λ s held.
     let dirs = c.args.self.now in
     let none = rw (c.deref.ensures.value, c.key_of-key.ensures) at c.in_err-found.ensures.none in
     let bounds = dirs.listing.numbered (key_of c.args.parent c.args.name.now) s held.held in
     no_key dirs.keys.items (key_of c.args.parent c.args.name.now) s none bounds.0 held.held)
 
-pub returns : goal.returns
-returns c =
+pub returns-in_err-found-clause-least : goal.returns-in_err-found-clause-least
+returns-in_err-found-clause-least c = none_at_all _ _ _ c.from_residual.ensures tt
+
+pub returns-clause-least : goal.returns-clause-least
+returns-clause-least c =
+    let dirs = c.args.self.now in
+    let key = key_of c.args.parent c.args.name.now in
+    let serial = c.in_ok-found.serial in
+    let least = rw (c.deref.ensures.value, c.key_of-key.ensures) at c.in_ok-found.ensures.found in
+    let tells = bytes_eq-Decides c.in_ok-found.found c.key_of-key.result in
+    one_or_none _ _ _ _ _ c.then_some.ensures
+    (λ test t held.
+    let same : c.in_ok-found.found ≡ key = tells.0 (sym c.eq.ensures ∙ test) ∙ c.key_of-key.ensures in
+    let bounds = dirs.listing.numbered key t held.held in
+    least_key dirs.keys.items key serial t (subst (λ (k : List ℕ). IsLeastOver key_order dirs.keys.items (key, 0) (k, serial)) same least) bounds.0 held.held)
+    (λ test. tt)
+
+pub returns-clause-found : goal.returns-clause-found
+returns-clause-found c =
     let dirs = c.args.self.now in
     let key = key_of c.args.parent c.args.name.now in
     let least = rw (c.deref.ensures.value, c.key_of-key.ensures) at c.in_ok-found.ensures.found in

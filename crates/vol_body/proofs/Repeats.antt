@@ -1,0 +1,171 @@
+-- A file that keeps its rules names no sector twice.
+use Rattle.std.proofs.Common.{◌≡◌, ◌≢◌, inl, inr, ◌≤◌, ◌<◌, ◌+◌, ◌-◌, ◌*◌, ◌/◌, ◌%◌, ℕ, zero, suc, true, false, nat_lt, if◌then◌else◌, List, [], ◌∷◌, ◌++◌, length, map, get_or, refl, sym, ◌∙◌, ap, subst, arith, eqb}
+use Rattle.std.proofs.lemmas.Bool.{cases_eq, cases_lt, eqb-true, ne_eqb}
+use Rattle.std.proofs.lemmas.Bool.Decides.{nat_tests}
+use Rattle.std.proofs.lemmas.List.{length-append, get_or_append_left, get_or-append_right, get_or_default, length-map, get_or-map}
+use Rattle.std.proofs.lemmas.List.Elements.{Contains-get_or}
+use Rattle.std.proofs.lemmas.List.FromFn.{length-map-range_with_len, get_or-map-range_with_len}
+use Rattle.std.specs.List.{range_with_len, flat_map, Contains, IsDistinct, AllByRecursion}
+use Rattle.std.proofs.lemmas.List.Folds.{Any-from_list_any}
+use Rattle.std.proofs.lemmas.Map.Steps.{length-le_from_distinct_below}
+use Rattle.vol_sector.specs.Disk.{Image}
+use Rattle.vol_alloc.specs.Numbers.{AreDistinct}
+use Rattle.vol_inode.specs.declared.entry.Entry.{Entry}
+use Rattle.vol_body.specs.Body.{Place, part, list, lists, later_list, named, IsBody}
+use Rattle.vol_body.specs.Survey.{parts_from, later_places, all_later, every_place, nonzero, sectors_named}
+use Rattle.vol_body.proofs.Surveys.{nonzero-append, one_number}
+use Rattle.vol_body.proofs.Surveyed.{every_is, was_there}
+
+-- ---- each place has a number, at which it stands in the list
+
+part_number : ℕ → ℕ
+part_number j = if nat_lt j 58 then j else (if nat_lt j 186 then j + 1 else 189 + 129 * ((j - 186) / 128) + (j - 186) % 128)
+
+number_of : Place → ℕ
+number_of (part j) = part_number j
+number_of list = 58
+number_of lists = 187
+number_of (later_list i) = 188 + 129 * i
+
+direct_number : (j : ℕ) → j < 58 → part_number j ≡ j
+unfolding part_number
+direct_number j lt = grind (arith, nat_tests)
+
+listed_number : (j : ℕ) → 58 ≤ j → j < 186 → part_number j ≡ j + 1
+unfolding part_number
+listed_number j le lt = grind (arith, nat_tests)
+
+later_number : (j : ℕ) → 186 ≤ j → part_number j ≡ 189 + 129 * ((j - 186) / 128) + (j - 186) % 128
+unfolding part_number
+later_number j le = grind (arith, nat_tests)
+
+Numbered : ℕ → List Place → Type 0
+Numbered a xs = (k : ℕ) → k < length xs → number_of (get_or xs k list) ≡ a + k
+
+numbered_append : (a n : ℕ) (xs ys : List Place) → length xs ≡ n → Numbered a xs → Numbered (a + n) ys → Numbered a (xs ++ ys)
+unfolding Numbered
+numbered_append a n xs ys long one two k lt = elim (cases_lt k (length xs)) [
+  | inl below ↦ ap number_of (get_or_append_left xs ys list k below) ∙ one k below
+  | inr past ↦
+      let there : k - length xs < length ys = omega (arith, lt, past, length-append xs ys) in
+      let sums : a + n + (k - length xs) ≡ a + k = omega (arith, past, long) in
+      ap number_of (get_or-append_right xs ys (length xs) k list refl past) ∙ two (k - length xs) there ∙ sums
+]
+
+long_parts : (first count : ℕ) → length (parts_from first count) ≡ count
+unfolding parts_from
+long_parts first count = length-map-range_with_len part first count
+
+numbered_parts : (a first count : ℕ) → ((i : ℕ) → i < count → part_number (first + i) ≡ a + i) → Numbered a (parts_from first count)
+unfolding Numbered parts_from number_of
+numbered_parts a first count are k lt =
+    let below : k < count = omega (arith, lt, length-map-range_with_len part first count) in
+    ap number_of (get_or-map-range_with_len part first count k (first + k) list below (omega arith)) ∙ are k below
+
+numbered_one : (p : Place) → Numbered (number_of p) (p ∷ [])
+unfolding Numbered
+numbered_one p zero lt = omega arith
+numbered_one p (suc k) lt = absurd (omega (arith, lt))
+
+numbered_later : (i : ℕ) → Numbered (188 + 129 * i) (later_places i)
+unfolding number_of
+numbered_later i = numbered_append (188 + 129 * i) 1 (later_list i ∷ []) (parts_from (186 + 128 * i) 128) refl (numbered_one (later_list i))
+    (numbered_parts (188 + 129 * i + 1) (186 + 128 * i) 128 (λ k lt.
+    let j = 186 + 128 * i + k in
+    let is = later_number j (omega arith) in
+    let group : (j - 186) / 128 ≡ i = omega (arith, lt) in
+    let rest : (j - 186) % 128 ≡ k = omega (arith, lt) in
+    omega (arith, is, group, rest)))
+
+long_later : (i : ℕ) → length (later_places i) ≡ 129
+long_later i = omega (arith, long_parts (186 + 128 * i) 128)
+
+numbered_flat : (b n : ℕ) → Numbered (188 + 129 * b) (flat_map later_places (range_with_len b n))
+unfolding Numbered
+numbered_flat b zero k lt = absurd (omega (arith, lt))
+numbered_flat b (suc n) k lt =
+    let next : 188 + 129 * (b + 1) ≡ 188 + 129 * b + 129 = omega arith in
+    numbered_append (188 + 129 * b) 129 (later_places b) (flat_map later_places (range_with_len (b + 1) n)) (long_later b) (numbered_later b)
+    (subst (λ (a : ℕ). Numbered a (flat_map later_places (range_with_len (b + 1) n))) next (numbered_flat (b + 1) n)) k lt
+
+numbered_places : Numbered 0 every_place
+unfolding all_later number_of
+numbered_places =
+    numbered_append 0 187 (parts_from 0 58 ++ (list ∷ parts_from 58 128)) (lists ∷ all_later) (omega (arith, length-append (parts_from 0 58) (list ∷ parts_from 58 128), long_parts 0 58, long_parts 58 128))
+    (numbered_append 0 58 (parts_from 0 58) (list ∷ parts_from 58 128) (long_parts 0 58)
+    (numbered_parts 0 0 58 (λ i lt. let is = direct_number (0 + i) (omega (arith, lt)) in omega (arith, is)))
+    (numbered_append 58 1 (list ∷ []) (parts_from 58 128) refl (numbered_one list)
+    (numbered_parts 59 58 128 (λ i lt. let is = listed_number (58 + i) (omega arith) (omega (arith, lt)) in omega (arith, is)))))
+    (numbered_append 187 1 (lists ∷ []) all_later refl (numbered_one lists) (numbered_flat 0 128))
+
+-- ---- numbers without the zeros
+
+heads : (x : ℕ) (xs : List ℕ) → AreDistinct xs → (Contains xs x → ⊥) → AreDistinct (x ∷ xs)
+heads x xs distinct none zero zero lt below = absurd (omega (arith, lt))
+heads x xs distinct none zero (suc k) lt below = λ same. none (k, omega (arith, below), sym (get_or_default xs k 0 x (omega (arith, below))) ∙ sym same)
+heads x xs distinct none (suc j) zero lt below = absurd (omega (arith, lt))
+heads x xs distinct none (suc j) (suc k) lt below = distinct j k (omega (arith, lt)) (omega (arith, below))
+
+pub distinct_nonzero : (xs : List ℕ) → ((j k : ℕ) → j < k → k < length xs → get_or xs j 0 ≢ 0 → get_or xs j 0 ≢ get_or xs k 0) → AreDistinct (nonzero xs)
+distinct_nonzero [] differ j k lt below = absurd (omega (arith, lt, below))
+distinct_nonzero (x ∷ xs) differ j k lt below =
+    let rest = distinct_nonzero xs (λ j k lt below. differ (suc j) (suc k) (omega (arith, lt)) (omega (arith, below))) in
+    let all : AreDistinct (nonzero (x ∷ xs)) = elim (cases_eq x 0) [
+      | inl none ↦
+          let gone : nonzero (x ∷ xs) ≡ nonzero xs = ap (λ (y : ℕ). nonzero (y ∷ xs)) none in
+          subst AreDistinct (sym gone) rest
+      | inr some ↦ subst AreDistinct (sym (nonzero-append (x ∷ []) xs ∙ ap (λ (l : List ℕ). l ++ nonzero xs) (one_number x some))) (heads x (nonzero xs) rest (λ has.
+          let at = (was_there xs x has).0 in
+          differ zero (suc at.0) (omega arith) (omega (arith, at.1)) some (sym at.2 ∙ get_or_default xs at.0 x 0 at.1)))
+    ] in
+    all j k lt below
+
+pub names_none_twice : (content : Image) (e : Entry) → IsBody content e → AreDistinct (sectors_named content e)
+unfolding Numbered
+names_none_twice content e body = distinct_nonzero (map (named content e) every_place) (λ j k lt below some same.
+    let g = named content e in
+    let long = length-map every_place g in
+    let k_in : k < length every_place = omega (arith, below, long) in
+    let j_in : j < length every_place = omega (arith, lt, k_in) in
+    let p = get_or every_place j list in
+    let q = get_or every_place k list in
+    let at_j : get_or (map g every_place) j 0 ≡ g p = get_or-map g every_place j list 0 j_in in
+    let at_k : get_or (map g every_place) k 0 ≡ g q = get_or-map g every_place k list 0 k_in in
+    let one : p ≡ q = body.distinct p q (every_is p (Contains-get_or every_place j list j_in)) (every_is q (Contains-get_or every_place k list k_in)) (λ none. some (at_j ∙ none)) (sym at_j ∙ same ∙ at_k) in
+    let numbers : 0 + j ≡ 0 + k = sym (numbered_places j j_in) ∙ ap number_of one ∙ numbered_places k k_in in
+    omega (arith, lt, numbers))
+
+-- ---- distinct numbers of a range are no more than it has
+
+differs : (a b : ℕ) → a ≢ b → eqb a b ≡ false
+differs a b apart = ne_eqb a b apart
+
+same_number : (a b : ℕ) → eqb a b ≡ true → a ≡ b
+same_number a b test = eqb-true a b test
+
+differs_from : (x : ℕ) (xs : List ℕ) → ((k : ℕ) → k < length xs → x ≢ get_or xs k 0) → AllByRecursion (λ y. eqb x y ≡ false) xs
+differs_from x [] apart = tt
+differs_from x (y ∷ xs) apart = (differs x y (apart zero (omega arith)), differs_from x xs (λ k lt. apart (suc k) (omega (arith, lt))))
+
+by_recursion : (xs : List ℕ) → AreDistinct xs → IsDistinct eqb xs
+unfolding IsDistinct
+by_recursion [] distinct = tt
+by_recursion (x ∷ xs) distinct = (differs_from x xs (λ k lt. distinct zero (suc k) (omega arith) (omega (arith, lt))), by_recursion xs (λ j k lt below. distinct (suc j) (suc k) (omega (arith, lt)) (omega (arith, below))))
+
+pub few_in_range : (first end : ℕ) (xs : List ℕ) → AreDistinct xs → ((n : ℕ) → Contains xs n → (first ≤ n) × (n < end)) → length xs ≤ end - first
+few_in_range first end xs distinct inside =
+    let low : ℕ → ℕ = λ n. n - first in
+    let ys = map low xs in
+    let long = length-map xs low in
+    let at : (k : ℕ) → k < length xs → get_or ys k 0 ≡ get_or xs k 0 - first = λ k lt. get_or-map low xs k 0 0 lt in
+    let apart : AreDistinct ys = λ j k lt below same.
+    let k_in : k < length xs = omega (arith, below, long) in
+    let j_in : j < length xs = omega (arith, lt, k_in) in
+    distinct j k lt k_in (omega (arith, at j j_in, at k k_in, same, (inside (get_or xs j 0) (Contains-get_or xs j 0 j_in)).0, (inside (get_or xs k 0) (Contains-get_or xs k 0 k_in)).0)) in
+    let below = length-le_from_distinct_below ys (end - first) (by_recursion ys apart) (λ q some.
+    let there = Any-from_list_any (eqb q) ys some in
+    let k_in : there.0 < length xs = omega (arith, there.2, long) in
+    let both = inside (get_or xs there.0 0) (Contains-get_or xs there.0 0 k_in) in
+    let is : q ≡ get_or ys there.0 0 = same_number q there.1 there.4 ∙ sym there.3 ∙ get_or_default ys there.0 there.1 0 there.2 in
+    omega (arith, is, at there.0 k_in, both.0, both.1)) in
+    omega (arith, below, long)

@@ -1,0 +1,32 @@
+-- What opening says of an image, on a device with so many sectors.
+use Rattle.std.specs.Prelude.{◌≡◌, ◌≢◌, ◌⊎◌, ◌≤◌, ◌<◌, ℕ, take, drop}
+use Rattle.byteorder.specs.Endian.{little_number}
+use Rattle.vol_sector.specs.Disk.{Image}
+use Rattle.vol_tree.specs.declared.superblock.Superblock.{Superblock}
+use Rattle.vol_tree.specs.Superblock.{IsNoVersion}
+use Rattle.vol_tree.specs.Tree.{Tree}
+use Rattle.vol_tree.specs.Stands.{StandsAs, IsNoVolume}
+
+-- The image stands for this tree in a volume with these numbers, and the device has all sectors of the volume.
+pub record StandsOn (size : ℕ) (image : Image) (v : Superblock) (T : Tree) : Type 0 where
+  pub stands : StandsAs image v T
+  pub room : v.sectors ≤ size
+
+-- the number of the version, as the first sector has it
+abbrev pub version_in : Image → ℕ
+version_in image = little_number 4 (drop 8 (image 0))
+
+-- There are too few sectors for any volume, or the image begins otherwise.
+abbrev pub NoVolumeOn : ℕ → Image → Type 0
+NoVolumeOn size image = (size < 137) ⊎ IsNoVolume image
+
+-- The image begins as a volume, but its version is none that is known.
+pub record HasNoVersion (size : ℕ) (image : Image) : Type 0 where
+  pub begins : NoVolumeOn size image → ⊥
+  pub version : IsNoVersion (version_in image)
+
+-- The image begins as a volume of a known version, and stands for no tree.
+pub record IsDamaged (size : ℕ) (image : Image) : Type 0 where
+  pub begins : NoVolumeOn size image → ⊥
+  pub version : IsNoVersion (version_in image) → ⊥
+  pub none : (v : Superblock) (T : Tree) → StandsOn size image v T → ⊥
