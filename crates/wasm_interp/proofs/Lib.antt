@@ -4,3 +4,4 @@ pub mod Values
 pub mod Linking
 pub mod Flat
 pub mod Checks
+pub mod Alike

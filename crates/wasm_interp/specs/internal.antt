@@ -8,3 +8,4 @@ pub mod FlatSteps
 pub mod Running
 pub mod Signatures
 pub mod Begun
+pub mod Keys

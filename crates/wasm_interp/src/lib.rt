@@ -5,6 +5,7 @@ mod accesses;
 mod activation;
 mod begin;
 mod halt;
+mod least;
 mod machine;
 mod operands;
 mod operators;
