@@ -4,5 +4,8 @@ pub mod Parts
 pub mod Reaching
 pub mod Rows
 pub mod Confinement
+pub mod Serving
+pub mod Served
+pub mod Texts
 pub mod Examples
 pub mod Moments

@@ -7,3 +7,8 @@ pub mod Paths
 pub mod Calls
 pub mod Confined
 pub mod Moments
+pub mod Texts
+pub mod Settings
+pub mod Links
+pub mod Host
+pub mod internal

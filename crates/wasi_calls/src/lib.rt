@@ -2,8 +2,22 @@
 //! may leave of its volume.
 #![tactic(auto)]
 
+mod arguments;
+mod checks;
+mod clocks;
+mod descriptors;
+mod errno;
 mod host;
+mod inner;
 mod laws;
+mod linking;
+mod numbers;
+mod plain;
+mod settings;
+mod streams;
+mod supplies;
 
 pub use host::VolumeHost;
 pub use laws::{confined, confined_host, kept, resumes};
+pub use settings::{Preopen, Settings};
+pub use streams::{Input, Output};

@@ -1,0 +1,113 @@
+-- Calls that reach neither the volume nor a stream.
+use Rattle.std.proofs.Common.{◌≡◌, ℕ, Bool, true, false, List, [], Option, Some, None, refl, sym, ◌∙◌, ap, subst, inl, inr, arith, if◌then◌else◌}
+use Rattle.std.proofs.lemmas.Bool.{cases_eq, cond-true, cond-false, eq-eqb, ne_eqb}
+use Rattle.std.proofs.lemmas.Option.{none-some}
+use Rattle.std.specs.Io.KnownBytes.{IsAtEnd}
+use Rattle.vol_sector.specs.Disk.{Disk, counted}
+use Rattle.vol_tree.specs.Opened.{Opened, IsSerial}
+use Rattle.wasi_fd.specs.declared.descriptor.Descriptor.TheVariants.{Entry}
+use Rattle.wasi_fd.specs.declared.descriptor.Opened.{Opened as OpenedEntry}
+use Rattle.wasi_fd.specs.declared.table.Descriptors.{Descriptors}
+use Rattle.wasi_fd.specs.Table.{Table, table_of, with_at}
+use Rattle.wasi_calls.specs.declared.settings.Settings.{Settings}
+use Rattle.wasi_calls.specs.declared.inner.Inner.{Inner}
+use Rattle.wasi_calls.specs.Settings.{settings_fit}
+use Rattle.wasi_calls.specs.World.{World}
+use Rattle.wasi_calls.specs.Checks.{Checked, Done}
+use Rattle.wasi_calls.specs.Calls.{Answers, Answered, by_row}
+use Rattle.wasi_calls.specs.Host.{StreamBytes, Tells, Has, world_of, VolumeStep}
+use Rattle.wasi_calls.specs.internal.Serving.{NoMoreEntries, state_of, IsSetUp, Serves}
+
+-- ---- tables
+
+pub no_more : (t : Table) → NoMoreEntries t t
+no_more t fd o is = (o, is, refl, refl)
+
+pub no_more_closed : (fd : ℕ) (old new : Table) → ((k : ℕ) → new k ≡ with_at fd None old k) → NoMoreEntries old new
+no_more_closed fd old new h k o is = elim (cases_eq k fd) [
+  | inl here ↦ absurd (none-some (Entry o) (sym (h k ∙ cond-true _ None (old k) (eq-eqb k fd here)) ∙ is))
+  | inr apart ↦ (o, sym (h k ∙ cond-false _ None (old k) (ne_eqb k fd apart)) ∙ is, refl, refl)
+]
+
+-- ---- streams
+
+told : Option (List ℕ) → List ℕ
+told None = []
+told (Some xs) = xs
+
+tells_told : (o : Option (List ℕ)) → Tells o (told o)
+unfolding told
+tells_told None = tt
+tells_told (Some xs) = refl
+
+told_end : (o : Option (List ℕ)) → IsAtEnd o → told o ≡ []
+unfolding told
+told_end None h = refl
+told_end (Some xs) h = h
+
+-- ---- the volume
+
+counted_not : (failed : Bool) (n : ℕ) → failed ≡ false → n ≡ counted failed n
+counted_not true n h = cc
+counted_not false n h = refl
+
+module _ {D : Type 0} (honest : D → Type 0) (disk : D → Disk) (sectors_on failures : D → ℕ) where
+  pub volume_rests : (v : Opened D) → VolumeStep honest disk sectors_on failures v v
+  volume_rests v = record {
+    kept = record {
+      numbers = refl;
+      failed = refl;
+      faults = λ working. counted_not v.failed (failures v.device) working;
+      idle = λ failed. (refl, failed);
+      honest = ((λ h. h), (λ h. h));
+      size = refl;
+    };
+    crash = λ h. record { later = omega arith; since = λ t c _ left. inl left; now = λ c left. inl left };
+  }
+
+module _ {D R W1 W2 : Type 0} (honest : D → Type 0) (disk : D → Disk) (sectors_on failures : D → ℕ)
+    (remaining : R → Option (List ℕ)) (out_contents : W1 → Option (List ℕ)) (err_contents : W2 → Option (List ℕ)) where
+  -- the bytes that the streams tell
+  pub bytes_told : Inner D R W1 W2 → StreamBytes
+  bytes_told p = record { input = told (remaining p.input.reader); output = told (out_contents p.out.writer); errors = told (err_contents p.err.writer) }
+
+  pub has_told : (p : Inner D R W1 W2) → IsSetUp remaining p → Has remaining out_contents err_contents (state_of p) (bytes_told p)
+  unfolding bytes_told
+  has_told p h = record {
+    input = tells_told (remaining p.input.reader);
+    ended = λ is. told_end (remaining p.input.reader) (h.ended is);
+    output = tells_told (out_contents p.out.writer);
+    errors = tells_told (err_contents p.err.writer);
+  }
+
+  pub still_set_up : (old : Inner D R W1 W2) (d : Descriptors) (s : Settings) → IsSetUp remaining old → settings_fit s ≡ true
+      → NoMoreEntries (table_of old.descriptors) (table_of d) → IsSetUp remaining (record old { descriptors = d; settings = s })
+  still_set_up old d s h fits entries = record {
+    settings = fits;
+    buffers = h.buffers;
+    piece = h.piece;
+    ended = h.ended;
+    serials = λ fd o is. let before = entries fd o is in subst (λ (n : ℕ). IsSerial old.volume.numbers n) (sym before.2) (h.serials fd before.0 before.1);
+  }
+
+  -- The call's row, `r` by the values that the code has.
+  pub serves_plain : (run : World → Checked Done) (r : StreamBytes → Checked Done) (old : Inner D R W1 W2) (d : Descriptors) (s : Settings) (m m' : List ℕ) (e : ℕ)
+      → IsSetUp remaining old → settings_fit s ≡ true → NoMoreEntries (table_of old.descriptors) (table_of d)
+      → ((b : StreamBytes) → run (world_of (state_of old) b) ≡ r b)
+      → ((b : StreamBytes) → Answers (r b) (world_of (state_of old) b) m (world_of (state_of (record old { descriptors = d; settings = s })) b) m' e)
+      → Serves honest disk sectors_on failures remaining out_contents err_contents run old m (record old { descriptors = d; settings = s }) m' e
+  unfolding bytes_told
+  serves_plain run r old d s m m' e h fits entries same answers =
+      let new : Inner D R W1 W2 = record old { descriptors = d; settings = s } in
+      let b : StreamBytes = bytes_told old in
+      record {
+        set_up = still_set_up old d s h fits entries;
+        row = λ _. (
+          b,
+          b,
+          has_told old h,
+          has_told new (still_set_up old d s h fits entries),
+          by_row (subst (λ (x : Checked Done). Answers x (world_of (state_of old) b) m (world_of (state_of new) b) m' e) (sym (same b)) (answers b)),
+        );
+        volume = volume_rests honest disk sectors_on failures old.volume;
+      }

@@ -1,0 +1,15 @@
+use Rattle.std.proofs.Common.{◌≡◌, Ok, refl, ap, ◌∙◌}
+use Rattle.wasm_store.specs.Bytes.{written}
+use Rattle.wasi_calls.specs.Checks.{with_result}
+use Rattle.wasi_calls.specs.Descriptors.{fdstat}
+use Rattle.wasi_calls.proofs.Yields.{goes_on}
+use Rattle.wasi_calls.proofs.Serving.{answers_done}
+use Rattle.wasi_calls.proofs.descriptors.fd_fdstat_get.Goals as goal
+
+pub returns : goal.returns
+returns c = λ w is.
+    let m = c.args.memory.now in
+    let d = c.in_ok-descriptor.descriptor in
+    answers_done _ w m w _ (with_result w c.args.result_at (fdstat d))
+    (goes_on _ _ d (c.in_ok-descriptor.ensures w is) ∙ goes_on _ _ tt c.in_ok-check_range.ensures.range)
+    refl (c.write_bytes.ensures.bytes ∙ ap (written m c.args.result_at) c.fdstat.ensures)

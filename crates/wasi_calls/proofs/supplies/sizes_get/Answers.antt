@@ -1,0 +1,25 @@
+use Rattle.std.proofs.Common.{◌≡◌, ℕ, List, [], ◌∷◌, length, Ok, refl, ap, ◌∙◌, sym, arith}
+use Rattle.std.proofs.lemmas.List.{length-map}
+use Rattle.byteorder.specs.Endian.{little_bytes}
+use Rattle.wasm_store.specs.Bytes.{written}
+use Rattle.wasi_calls.specs.Texts.{texts_of}
+use Rattle.wasi_calls.specs.Supplies.{ended_bytes}
+use Rattle.wasi_calls.proofs.Yields.{goes_on}
+use Rattle.wasi_calls.proofs.Serving.{answers_done}
+use Rattle.wasi_calls.proofs.Texts.{same_ended, fits_ended}
+use Rattle.wasi_calls.proofs.supplies.sizes_get.Goals as goal
+
+pub returns : goal.returns
+returns c = λ w.
+    let m = c.args.memory.now in
+    let ts = c.args.texts.now in
+    let few = fits_ended ts c.requires in
+    let count : List ℕ = little_bytes 4 (length (texts_of ts)) in
+    let size : List ℕ = little_bytes 4 (ended_bytes (texts_of ts)) in
+    let len : c.ended_len.result ≡ ended_bytes (texts_of ts) = omega (arith, same_ended ts, few, c.ended_len.ensures) in
+    let first : c.write_bytes.new.memory ≡ written m c.args.count_at count =
+    c.write_bytes.ensures.bytes ∙ ap (written m c.args.count_at) (c.le32.ensures ∙ ap (little_bytes 4) (sym (length-map ts _))) in
+    let second : c.le32-2.result ≡ size = c.le32-2.ensures ∙ ap (little_bytes 4) len in
+    answers_done _ w m w _ (record { world = w; fills = []; results = (c.args.count_at, count) ∷ (c.args.size_at, size) ∷ [] })
+    (goes_on _ _ tt c.in_ok-check_range.ensures.range ∙ goes_on _ _ tt c.in_ok-check_range-2.ensures.range)
+    refl (c.write_bytes-2.ensures.bytes ∙ λ i. written (first i) c.args.size_at (second i))

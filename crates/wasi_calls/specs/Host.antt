@@ -1,0 +1,87 @@
+-- A host over a volume and streams: what callers see of it, the worlds that it shows, and what its calls say.
+use Rattle.std.specs.Prelude.{◌≡◌, ℕ, Bool, true, List, [], map, Option, Some, None}
+use Rattle.vol_sector.specs.Disk.{Disk, Leaves}
+use Rattle.vol_tree.specs.Opened.{Opened, Keeps, ReflectsOr, geometry}
+use Rattle.wasi_fd.specs.declared.table.Descriptors.{Descriptors}
+use Rattle.wasi_fd.specs.Table.{table_of}
+use Rattle.wasm_store.specs.declared.call.HostCall.{HostCall}
+use Rattle.wasm_store.specs.declared.call.Errno.{Errno}
+use Rattle.wasm_store.specs.declared.call.Answer.{Answer}
+use Rattle.wasm_store.specs.declared.call.Answer.TheVariants.{Value as value, Exit as exit}
+use Rattle.wasi_calls.specs.declared.streams.Input.{Input}
+use Rattle.wasi_calls.specs.declared.streams.Output.{Output}
+use Rattle.wasi_calls.specs.declared.settings.Settings.{Settings}
+use Rattle.wasi_calls.specs.Texts.{texts_of}
+use Rattle.wasi_calls.specs.World.{Given, World}
+use Rattle.wasi_calls.specs.Calls.{Calls}
+use Rattle.wasi_calls.specs.Moments.{IsSynced}
+
+-- what callers see of a host: the random bytes of its settings are those that are left
+pub record HostState (D R W1 W2 : Type 0) : Type 0 where
+  pub volume : Opened D
+  pub descriptors : Descriptors
+  pub input : Input R
+  pub out : Output W1
+  pub err : Output W2
+  pub settings : Settings
+
+-- the bytes of the streams: those that are not read yet, and those that were written
+pub record StreamBytes : Type 0 where
+  pub input : List ℕ
+  pub output : List ℕ
+  pub errors : List ℕ
+
+abbrev pub given_of : Settings → Given
+given_of s = record { args = texts_of s.args.now; env = texts_of s.env.now; moment = s.operation_count }
+
+-- the world of a host whose streams have these bytes
+abbrev pub world_of : {D R W1 W2 : Type 0} → HostState D R W1 W2 → StreamBytes → World
+world_of h b = record {
+  volume = geometry h.volume.numbers;
+  tree = h.volume.tree;
+  table = table_of h.descriptors;
+  input = b.input;
+  output = b.output;
+  errors = b.errors;
+  random = h.settings.random.now;
+  given = given_of h.settings;
+  volume_failed = h.volume.failed;
+  input_failed = h.input.failed;
+  output_failed = h.out.failed;
+  errors_failed = h.err.failed;
+}
+
+-- a stream that tells its bytes has these; of one that doesn't nothing is known
+abbrev pub Tells : Option (List ℕ) → List ℕ → Type 0
+Tells None bytes = Unit {0}
+Tells (Some known) bytes = bytes ≡ known
+
+module _ {D R W1 W2 : Type 0} (remaining : R → Option (List ℕ)) (out_contents : W1 → Option (List ℕ)) (err_contents : W2 → Option (List ℕ)) where
+  -- the streams may have these bytes; after its end the input has none
+  pub record Has (h : HostState D R W1 W2) (b : StreamBytes) : Type 0 where
+    pub input : Tells (remaining h.input.reader) b.input
+    pub ended : h.input.ended ≡ true → b.input ≡ []
+    pub output : Tells (out_contents h.out.writer) b.output
+    pub errors : Tells (err_contents h.err.writer) b.errors
+
+  -- a world that the host shows
+  abbrev pub Shows : HostState D R W1 W2 → World → Type 0
+  Shows h w = (b : StreamBytes) × Has h b × (w ≡ world_of h b)
+
+module _ {D : Type 0} (honest : D → Type 0) (disk : D → Disk) (sectors_on failures : D → ℕ) where
+  -- What a call leaves of the volume, on any device: it fails by one operation that failed, and after that nothing is
+  -- done. Each image that a crash may leave since stands for a tree that one could leave before, or for the tree then.
+  pub record VolumeStep (old new : Opened D) : Type 0 where
+    pub kept : Keeps honest sectors_on failures old new new.failed
+    pub crash : honest old.device → Leaves (disk old.device) (disk new.device) (ReflectsOr (disk old.device) old.tree)
+
+module _ {D R W1 W2 : Type 0} (honest : D → Type 0) (disk : D → Disk) (sectors_on failures : D → ℕ)
+    (remaining : R → Option (List ℕ)) (out_contents : W1 → Option (List ℕ)) (err_contents : W2 → Option (List ℕ)) where
+  -- What a call of the host means: where the device keeps its model, that call of a world that the host shows.
+  pub record HostCalls (old : HostState D R W1 W2) (memory : List ℕ) (used : ℕ) (call : HostCall) (args : List ℕ)
+      (new : HostState D R W1 W2) (memory' : List ℕ) (answer : Answer) : Type 0 where
+    pub row : honest old.volume.device → (before after : StreamBytes) × Has remaining out_contents err_contents old before × Has remaining out_contents err_contents new after
+        × Calls (world_of old before) memory used call args (world_of new after) memory' answer
+    pub volume : VolumeStep honest disk sectors_on failures old.volume new.volume
+    pub synced : honest old.volume.device → (e : Errno) → answer ≡ value e → IsSynced call e.0 (disk new.volume.device) new.volume.tree
+    pub exits : (status : ℕ) → answer ≡ exit status → new ≡ old

@@ -1,0 +1,78 @@
+-- What the bodies of calls say.
+use Rattle.std.specs.Prelude.{◌≡◌, ℕ, Bool, true, false, List, Option, Result, Ok, Err, None, Some, vec_len}
+use Rattle.std.specs.Io.KnownBytes.{IsAtEnd}
+use Rattle.vol_sector.specs.Disk.{Disk}
+use Rattle.vol_tree.specs.Tree.{Tree, Entry as TreeEntry, entry}
+use Rattle.vol_tree.specs.Calls.{is_directory}
+use Rattle.vol_tree.specs.Opened.{IsSerial}
+use Rattle.wasi_fd.specs.declared.descriptor.Descriptor.TheVariants.{Entry}
+use Rattle.wasi_fd.specs.declared.descriptor.EntryKind.{EntryKind}
+use Rattle.wasi_fd.specs.declared.descriptor.EntryKind.TheVariants as kinds
+use Rattle.wasi_fd.specs.declared.descriptor.Opened.{Opened}
+use Rattle.wasi_fd.specs.Table.{Table, table_of}
+use Rattle.wasm_store.specs.declared.call.Errno.{Errno}
+use Rattle.wasi_calls.specs.Checks.{Checked, Done, Refusals, any_kind, only_directories, no_directories, only_files, sized, no_streams}
+use Rattle.wasi_calls.specs.declared.checks.Takes.{Takes}
+use Rattle.wasi_calls.specs.declared.checks.Takes.TheVariants as takes
+use Rattle.wasi_calls.specs.declared.inner.Inner.{Inner}
+use Rattle.wasi_calls.specs.Settings.{settings_fit}
+use Rattle.wasi_calls.specs.World.{World}
+use Rattle.wasi_calls.specs.Calls.{Answered}
+use Rattle.wasi_calls.specs.Host.{HostState, StreamBytes, world_of, Has, VolumeStep}
+
+-- the number that a call answers
+abbrev pub errno_of : {X : Type 0} → Result X Errno → ℕ
+errno_of (Ok x) = 0
+errno_of (Err e) = e.0
+
+-- what a call refuses, by the kinds that it takes
+abbrev pub refusals_of : Takes → Refusals
+refusals_of takes.Any = any_kind
+refusals_of takes.Directories = only_directories
+refusals_of takes.NoDirectories = no_directories
+refusals_of takes.Files = only_files
+refusals_of takes.Sized = sized
+refusals_of takes.NoStreams = no_streams
+
+-- each entry that is open was open before, at whatever position
+abbrev pub NoMoreEntries : Table → Table → Type 0
+NoMoreEntries old new = (fd : ℕ) (o : Opened) → new fd ≡ Some (Entry o) → (p : Opened) × (old fd ≡ Some (Entry p)) × (o.serial ≡ p.serial) × (o.kind ≡ p.kind)
+
+module _ {D R W1 W2 : Type 0} where
+  -- what callers see
+  abbrev pub state_of : Inner D R W1 W2 → HostState D R W1 W2
+  state_of p = record { volume = p.volume; descriptors = p.descriptors; input = p.input; out = p.out; err = p.err; settings = p.settings }
+
+  -- What holds on any device: the settings fit, there is room, after the input's end the reader has no bytes that it
+  -- tells, and each open entry has a number of the volume.
+  pub record IsSetUp (remaining : R → Option (List ℕ)) (p : Inner D R W1 W2) : Type 0 where
+    pub settings : settings_fit p.settings ≡ true
+    pub buffers : vec_len p.buffers ≡ 1024
+    pub piece : vec_len p.piece ≡ 16384
+    pub ended : p.input.ended ≡ true → IsAtEnd (remaining p.input.reader)
+    pub serials : (fd : ℕ) (o : Opened) → table_of p.descriptors fd ≡ Some (Entry o) → IsSerial p.volume.numbers o.serial
+
+abbrev pub is_directory_kind : EntryKind → Bool
+is_directory_kind kinds.Directory = true
+is_directory_kind kinds.File = false
+
+-- the entry is there, and is what its descriptor says
+pub record IsThere (T : Tree) (o : Opened) : Type 0 where
+  pub e : TreeEntry
+  pub used : entry T o.serial ≡ Some e
+  pub kind : is_directory e.node ≡ is_directory_kind o.kind
+
+-- so is each that is open
+abbrev pub AreThere : Tree → Table → Type 0
+AreThere T table = (fd : ℕ) (o : Opened) → table fd ≡ Some (Entry o) → IsThere T o
+
+module _ {D R W1 W2 : Type 0} (honest : D → Type 0) (disk : D → Disk) (sectors_on failures : D → ℕ)
+    (remaining : R → Option (List ℕ)) (out_contents : W1 → Option (List ℕ)) (err_contents : W2 → Option (List ℕ)) where
+  -- What the body of a call says: where the device keeps its model, the call answers and leaves what its row says in a
+  -- world that the host shows, or what its failing case allows.
+  pub record Serves (run : World → Checked Done) (old : Inner D R W1 W2) (memory : List ℕ) (new : Inner D R W1 W2) (memory' : List ℕ) (errno : ℕ) : Type 0 where
+    pub set_up : IsSetUp remaining new
+    pub row : honest old.volume.device → (before after : StreamBytes) × Has remaining out_contents err_contents (state_of old) before
+        × Has remaining out_contents err_contents (state_of new) after
+        × Answered run (world_of (state_of old) before) memory (world_of (state_of new) after) memory' errno
+    pub volume : VolumeStep honest disk sectors_on failures old.volume new.volume

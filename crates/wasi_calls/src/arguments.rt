@@ -1,0 +1,18 @@
+//! The arguments of a call.
+
+ghost use Rattle.std.specs.Prelude.{◌≡◌};
+ghost use Rattle.wasi_calls.specs.Calls.{word, long};
+
+/// An i32 argument; a missing one is 0.
+pub(crate) fn word(arguments: &[u64], index: usize) -> u32
+    ensures { result ≡ word arguments.now index }
+{
+    (long(arguments, index) % (1 << 32)) as u32
+}
+
+/// An i64 argument; a missing one is 0.
+pub(crate) fn long(arguments: &[u64], index: usize) -> u64
+    ensures { result ≡ long arguments.now index }
+{
+    arguments.get(index).copied().unwrap_or(0)
+}

@@ -1,0 +1,174 @@
+//! Descriptors: closing them, what they are and where they stand.
+
+ghost use Rattle.std.specs.Prelude.{◌≡◌, ℕ, ◌++◌, ◌∷◌, ◌||◌, ◌^◌, Ok, Err, MatchResult, replicate};
+ghost use Rattle.std.specs.Option.{ok_or};
+ghost use Rattle.byteorder.specs.Endian.{little_bytes};
+ghost use Rattle.wasi_fd.specs.Table.{table_of};
+ghost use Rattle.wasi_calls.specs.World.{World};
+ghost use Rattle.wasi_calls.specs.Checks.{guard, has};
+ghost use Rattle.wasi_calls.specs.Descriptors.{fd_close as close, fd_fdstat_get as stat, fdstat, type_of, flags_of, fd_tell as tell, fd_prestat_get as prestat, fd_prestat_dir_name as dir_name, guest_name};
+ghost use Rattle.wasi_calls.specs.Calls.{Answers};
+ghost use Rattle.wasi_calls.specs.internal.Serving.{NoMoreEntries, errno_of};
+
+use crate::checks::{Takes, check_range, check_that, described, opened_of, write_bytes};
+use crate::errno::{NAMETOOLONG, NOTCAPABLE};
+use crate::numbers::{le64, low32};
+use bitflags::Flags;
+use wasi_fd::{Descriptor, Descriptors, EntryKind, Rights};
+use wasm_store::{Errno, Memory};
+
+/// `fd_close(fd)`: any descriptor. Nothing is committed.
+#[tactic(auto, using(crate::proofs::Yields::goes_on, crate::proofs::Yields::stops, crate::proofs::Served::no_more, crate::proofs::Served::no_more_closed))]
+pub(crate) fn fd_close(descriptors: &mut Descriptors<'_>, fd: u32) -> Result<(), Errno>
+    ensures entries { NoMoreEntries (table_of descriptors.old) (table_of descriptors.new) }
+    ensures answers { (w : World) (m : _) → w.table ≡ table_of descriptors.old → Answers (close w fd) w m (record w { table = table_of descriptors.new }) m (errno_of result) }
+{
+    described(descriptors, fd)?;
+    match descriptors.close(fd) {
+        Ok(()) => Ok(()),
+        Err(_) => Err(Errno::BADF),
+    }
+}
+
+/// `filetype`: 2 is a character device, 3 a directory, 4 a file.
+fn type_of(descriptor: &Descriptor<'_>) -> u8
+    ensures { result ≡ type_of descriptor.now }
+{
+    match descriptor {
+        Descriptor::Stream(_) => 2,
+        Descriptor::Entry(opened) => match opened.kind {
+            EntryKind::Directory => 3,
+            EntryKind::File => 4,
+        },
+    }
+}
+
+/// `fdflags`: 1 is append, and no other is kept.
+fn flags_of(descriptor: &Descriptor<'_>) -> u8
+    ensures { result ≡ flags_of descriptor.now }
+{
+    match descriptor {
+        Descriptor::Stream(_) => 0,
+        Descriptor::Entry(opened) => u8::from(opened.append),
+    }
+}
+
+/// `fdstat`: the type at 0, the flags at 2, the rights at 8 and those that it hands on at 16.
+fn fdstat(descriptor: &Descriptor<'_>) -> [u8; 24]
+    ensures { result ≡ fdstat descriptor.now }
+{
+    let mut bytes = [0; 24];
+    bytes[0] = type_of(descriptor);
+    bytes[2] = flags_of(descriptor);
+    bytes[8..16].copy_from_slice(&le64(descriptor.base().bits()));
+    bytes[16..24].copy_from_slice(&le64(descriptor.inheriting().bits()));
+    bytes
+}
+
+/// `fd_fdstat_get(fd, result)`.
+#[tactic(auto, using(crate::proofs::Yields::goes_on, crate::proofs::Yields::stops))]
+pub(crate) fn fd_fdstat_get(
+    descriptors: &Descriptors<'_>,
+    memory: &mut Memory,
+    fd: u32,
+    result_at: u32,
+) -> Result<(), Errno>
+    ensures { (w : World) → w.table ≡ table_of descriptors.now → Answers (stat w memory.old fd result_at) w memory.old w memory.new (errno_of result) }
+{
+    let descriptor = described(descriptors, fd)?;
+    check_range(memory, result_at, 24)?;
+    write_bytes(memory, result_at, &fdstat(&descriptor));
+    Ok(())
+}
+
+/// The name that the guest knows a preopened directory by.
+fn guest_name<'t>(descriptor: &Descriptor<'t>) -> Result<&'t [u8], Errno>
+    ensures { MatchResult result (λ n. ok_or {E = ℕ} (guest_name descriptor.now) 8 ≡ Ok n.now)
+        (λ e. ok_or {E = ℕ} (guest_name descriptor.now) 8 ≡ Err e.0) }
+{
+    match descriptor {
+        Descriptor::Stream(_) => Err(Errno::BADF),
+        Descriptor::Entry(opened) => match opened.guest_name {
+            Some(name) => Ok(name),
+            None => Err(Errno::BADF),
+        },
+    }
+}
+
+/// `prestat`: four zeros, and the length of the name.
+fn prestat(len: usize) -> [u8; 8]
+    ensures { result ≡ replicate 4 0 ++ little_bytes 4 len }
+{
+    let mut bytes = [0; 8];
+    bytes[4..8].copy_from_slice(&low32(len as u64));
+    bytes
+}
+
+/// `fd_prestat_get(fd, result)`.
+#[tactic(auto, using(crate::proofs::Yields::goes_on, crate::proofs::Yields::stops))]
+pub(crate) fn fd_prestat_get(
+    descriptors: &Descriptors<'_>,
+    memory: &mut Memory,
+    fd: u32,
+    result_at: u32,
+) -> Result<(), Errno>
+    ensures { (w : World) → w.table ≡ table_of descriptors.now → Answers (prestat w memory.old fd result_at) w memory.old w memory.new (errno_of result) }
+{
+    let descriptor = described(descriptors, fd)?;
+    let name = guest_name(&descriptor)?;
+    check_range(memory, result_at, 8)?;
+    write_bytes(memory, result_at, &prestat(name.len()));
+    Ok(())
+}
+
+/// `fd_prestat_dir_name(fd, path, length)`: the name, where it fits in the length.
+#[tactic(auto, using(crate::proofs::Yields::goes_on, crate::proofs::Yields::stops))]
+pub(crate) fn fd_prestat_dir_name(
+    descriptors: &Descriptors<'_>,
+    memory: &mut Memory,
+    fd: u32,
+    path: u32,
+    len: u32,
+) -> Result<(), Errno>
+    ensures { (w : World) → w.table ≡ table_of descriptors.now → Answers (dir_name w memory.old fd path len) w memory.old w memory.new (errno_of result) }
+{
+    let descriptor = described(descriptors, fd)?;
+    let name = guest_name(&descriptor)?;
+    check_range(memory, path, len)?;
+    check_that(name.len() <= len as usize, NAMETOOLONG)?;
+    write_bytes(memory, path, name);
+    Ok(())
+}
+
+/// Whether the descriptor may be asked where it stands.
+#[tactic(auto, using(crate::proofs::Yields::guard_passes, crate::proofs::Yields::guard_fails))]
+fn check_tell(descriptor: &Descriptor<'_>) -> Result<(), Errno>
+    ensures { MatchResult result (λ u. guard (has descriptor.now (2 ^ 2) || has descriptor.now (2 ^ 5)) 76 ≡ Ok u)
+        (λ e. guard (has descriptor.now (2 ^ 2) || has descriptor.now (2 ^ 5)) 76 ≡ Err e.0) }
+{
+    let base = descriptor.base();
+    if base.contains(Rights::FD_SEEK) || base.contains(Rights::FD_TELL) {
+        Ok(())
+    } else {
+        Err(NOTCAPABLE)
+    }
+}
+
+/// `fd_tell(fd, result)`.
+#[tactic(auto, using(crate::proofs::Yields::goes_on, crate::proofs::Yields::stops))]
+pub(crate) fn fd_tell(
+    descriptors: &Descriptors<'_>,
+    memory: &mut Memory,
+    fd: u32,
+    result_at: u32,
+) -> Result<(), Errno>
+    ensures { (w : World) → w.table ≡ table_of descriptors.now → Answers (tell w memory.old fd result_at) w memory.old w memory.new (errno_of result) }
+{
+    let descriptor = described(descriptors, fd)?;
+    Takes::Files.check(&descriptor)?;
+    check_tell(&descriptor)?;
+    check_range(memory, result_at, 8)?;
+    let opened = opened_of(descriptor)?;
+    write_bytes(memory, result_at, &le64(opened.position));
+    Ok(())
+}

@@ -1,0 +1,39 @@
+//! Error numbers of WASI preview 1 that calls answer.
+
+use wasm_store::Errno;
+
+/// Fewer random bytes are left than were asked for.
+pub(crate) const AGAIN: Errno = Errno(6);
+
+/// An entry is held open.
+pub(crate) const BUSY: Errno = Errno(10);
+
+/// There is an entry of that name.
+pub(crate) const EXIST: Errno = Errno(20);
+
+/// It is a directory.
+pub(crate) const ISDIR: Errno = Errno(31);
+
+/// All descriptors are open.
+pub(crate) const MFILE: Errno = Errno(33);
+
+/// A name is too long.
+pub(crate) const NAMETOOLONG: Errno = Errno(37);
+
+/// There is no such call.
+pub(crate) const NOSYS: Errno = Errno(52);
+
+/// It is no directory.
+pub(crate) const NOTDIR: Errno = Errno(54);
+
+/// A flag is not supported.
+pub(crate) const NOTSUP: Errno = Errno(58);
+
+/// A position is past the last one.
+pub(crate) const OVERFLOW: Errno = Errno(61);
+
+/// A stream has no positions.
+pub(crate) const SPIPE: Errno = Errno(70);
+
+/// A right is missing.
+pub(crate) const NOTCAPABLE: Errno = Errno(76);

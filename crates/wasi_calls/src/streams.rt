@@ -1,0 +1,19 @@
+//! The streams of a guest.
+
+/// A reader.
+#[derive(Debug, Drop)]
+pub struct Input<R> {
+    pub reader: R,
+    /// Whether a read has failed. No other is made then.
+    pub failed: bool,
+    /// Whether the reader has given its end. It isn't asked again then.
+    pub ended: bool,
+}
+
+/// A writer.
+#[derive(Debug, Drop)]
+pub struct Output<W> {
+    pub writer: W,
+    /// Whether a write has failed. No other is made then.
+    pub failed: bool,
+}
