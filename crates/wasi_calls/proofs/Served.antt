@@ -57,7 +57,7 @@ module _ {D : Type 0} (honest : D → Type 0) (disk : D → Disk) (sectors_on fa
     kept = record {
       numbers = refl;
       failed = refl;
-      faults = λ working. counted_not v.failed (failures v.device) working;
+      failures = λ working. counted_not v.failed (failures v.device) working;
       idle = λ failed. (refl, failed);
       honest = ((λ h. h), (λ h. h));
       size = refl;

@@ -32,7 +32,7 @@ pub record StreamBytes : Type 0 where
   pub errors : List ℕ
 
 abbrev pub given_of : Settings → Given
-given_of s = record { args = texts_of s.args.now; env = texts_of s.env.now; moment = s.operation_count }
+given_of s = record { args = texts_of s.args.now; env = texts_of s.env.now; moment = s.moment }
 
 -- the world of a host whose streams have these bytes
 abbrev pub world_of : {D R W1 W2 : Type 0} → HostState D R W1 W2 → StreamBytes → World

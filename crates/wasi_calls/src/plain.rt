@@ -22,16 +22,16 @@ impl<'s, 't, D: Device, R: Read, W1: Write, W2: Write> Inner<'s, 't, D, R, W1, W
         arguments: &[u64],
     ) -> Result<(), Errno>
         requires { IsSetUp R.remaining self.now }
-        ensures { Serves D.honest D.disk D.size D.faults R.remaining W1.contents W2.contents (λ w. row call.ClockTimeGet w memory.old used arguments.now) self.now memory.old self.now memory.new (errno_of result) }
+        ensures { Serves D.honest D.disk D.size D.failures R.remaining W1.contents W2.contents (λ w. row call.ClockTimeGet w memory.old used arguments.now) self.now memory.old self.now memory.new (errno_of result) }
     {
         let (id, result_at) = (word(arguments, 0), word(arguments, 2));
-        clocks::clock_time_get(self.settings.operation_count, memory, used, id, result_at)
+        clocks::clock_time_get(self.settings.moment, memory, used, id, result_at)
     }
 
     /// `random_get(buffer, length)`.
     pub fn random_get(&mut self, memory: &mut Memory, arguments: &[u64]) -> Result<(), Errno>
         requires { IsSetUp R.remaining self.old }
-        ensures { (used : _) → Serves D.honest D.disk D.size D.faults R.remaining W1.contents W2.contents (λ w. row call.RandomGet w memory.old used arguments.now) self.old memory.old self.new memory.new (errno_of result) }
+        ensures { (used : _) → Serves D.honest D.disk D.size D.failures R.remaining W1.contents W2.contents (λ w. row call.RandomGet w memory.old used arguments.now) self.old memory.old self.new memory.new (errno_of result) }
     {
         let (buffer, len) = (word(arguments, 0), word(arguments, 1));
         supplies::random_get(&mut self.settings.random, memory, buffer, len)
@@ -40,7 +40,7 @@ impl<'s, 't, D: Device, R: Read, W1: Write, W2: Write> Inner<'s, 't, D, R, W1, W
     /// `fd_close(fd)`.
     pub fn fd_close(&mut self, arguments: &[u64]) -> Result<(), Errno>
         requires { IsSetUp R.remaining self.old }
-        ensures { (m : _) (used : _) → Serves D.honest D.disk D.size D.faults R.remaining W1.contents W2.contents (λ w. row call.FdClose w m used arguments.now) self.old m self.new m (errno_of result) }
+        ensures { (m : _) (used : _) → Serves D.honest D.disk D.size D.failures R.remaining W1.contents W2.contents (λ w. row call.FdClose w m used arguments.now) self.old m self.new m (errno_of result) }
     {
         descriptors::fd_close(&mut self.descriptors, word(arguments, 0))
     }

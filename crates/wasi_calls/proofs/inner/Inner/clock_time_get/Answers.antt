@@ -10,7 +10,7 @@ pub returns : goal.returns
 returns g c =
     let s = c.args.self.now in
     let m = c.args.memory.now in
-    serves_plain g.D.Device.honest g.D.Device.disk g.D.Device.size g.D.Device.faults g.R.Read.remaining g.W1.Write.contents g.W2.Write.contents
+    serves_plain g.D.Device.honest g.D.Device.disk g.D.Device.size g.D.Device.failures g.R.Read.remaining g.W1.Write.contents g.W2.Write.contents
     _ _ s s.descriptors s.settings m _ _ c.requires c.requires.settings (no_more (table_of s.descriptors))
     (λ b i. clock_time_get (world_of (state_of s) b) m c.args.used (sym c.word-id.ensures i) (sym c.word-result_at.ensures i))
     (λ b. c.clock_time_get.ensures (world_of (state_of s) b) refl)

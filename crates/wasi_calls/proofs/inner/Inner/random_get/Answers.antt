@@ -10,7 +10,7 @@ pub returns : goal.returns
 returns g c = λ used.
     let s = c.args.self.now in
     let m = c.args.memory.now in
-    serves_plain g.D.Device.honest g.D.Device.disk g.D.Device.size g.D.Device.faults g.R.Read.remaining g.W1.Write.contents g.W2.Write.contents
+    serves_plain g.D.Device.honest g.D.Device.disk g.D.Device.size g.D.Device.failures g.R.Read.remaining g.W1.Write.contents g.W2.Write.contents
     _ _ s s.descriptors (record s.settings { random = c.random_get.new.left }) m _ _ c.requires c.requires.settings (no_more (table_of s.descriptors))
     (λ b i. random_get (world_of (state_of s) b) m (sym c.word-buffer.ensures i) (sym c.word-len.ensures i))
     (λ b. c.random_get.ensures (world_of (state_of s) b) refl)
