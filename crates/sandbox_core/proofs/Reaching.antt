@@ -6,7 +6,7 @@ use Rattle.wasm_interp.specs.declared.pause.Pause.{Pause}
 use Rattle.wasm_interp.specs.declared.pause.Pause.TheVariants.{Called, Spent, Ended}
 use Rattle.wasm_interp.specs.Configuration.{Instance, Configuration, at, used_by}
 use Rattle.wasm_interp.specs.Steps.{CallsOf, silent, answers, Reach, stays, goes}
-use Rattle.wasm_interp.specs.Machine.{Snapshot, StandsFor}
+use Rattle.wasm_interp.specs.Machine.{Snapshot, Represents}
 use Rattle.wasm_interp.specs.declared.pause.Outcome.{Outcome}
 use Rattle.wasm_interp.specs.declared.pause.Outcome.TheVariants.{Exited, Trapped, OutOfFuel, OutOfMemory}
 use Rattle.wasm_interp.specs.Promise.{EndsAs, Paused, Resumed}
@@ -41,10 +41,10 @@ module _ (H : Type 0) (Calls : CallsOf H) (i : Instance) where
       subst (λ (es : List (HostCall × Errno)). Reach H Calls i h c es h' c') (sym (answered-first p ps))
       (reach_on (answered (p ∷ [])) (answered ps) h g h' c d c' (paused_reach p h g c d first) (pauses_compose ps g h' d c' rest))
 
-  pub resumes_compose : (ps : List Pause) (h h' : H) (s s' : Snapshot) (c : Configuration) → StandsFor s i c → ResumesFollow H Calls ps h s h' s'
-      → used_by c ≡ s.used → (c' : Configuration) × StandsFor s' i c' × Reach H Calls i h c (answered ps) h' c' × (used_by c' ≡ s'.used)
+  pub resumes_compose : (ps : List Pause) (h h' : H) (s s' : Snapshot) (c : Configuration) → Represents s i c → ResumesFollow H Calls ps h s h' s'
+      → used_by c ≡ s.used → (c' : Configuration) × Represents s' i c' × Reach H Calls i h c (answered ps) h' c' × (used_by c' ≡ s'.used)
   resumes_compose [] h h' s s' c stands (same_host, same) used =
-      (c, subst (λ (t : Snapshot). StandsFor t i c) (sym same) stands, subst (λ (g : H). Reach H Calls i h c [] g c) (sym same_host) stays, used ∙ ap (λ (t : Snapshot). t.used) (sym same))
+      (c, subst (λ (t : Snapshot). Represents t i c) (sym same) stands, subst (λ (g : H). Reach H Calls i h c [] g c) (sym same_host) stays, used ∙ ap (λ (t : Snapshot). t.used) (sym same))
   resumes_compose (p ∷ ps) h h' s s' c stands (g, t, units, first, rest) used =
       let next = first.run i c stands in
       let later = resumes_compose ps g h' t s' next.0 next.1 rest next.4 in (
@@ -57,10 +57,10 @@ module _ (H : Type 0) (Calls : CallsOf H) (i : Instance) where
 
 -- a run so far, from whatever configuration the machine stood for at first
 pub record SoFar (H : Type 0) (Calls : CallsOf H) (h : H) (s : Snapshot) (h' : H) (s' : Snapshot) : Type 0 where
-  pub last : (i : Instance) (c : Configuration) → StandsFor s i c → Configuration
-  pub answers : (i : Instance) (c : Configuration) → StandsFor s i c → List (HostCall × Errno)
-  pub stands : (i : Instance) (c : Configuration) (at_first : StandsFor s i c) → StandsFor s' i (last i c at_first)
-  pub reach : (i : Instance) (c : Configuration) (at_first : StandsFor s i c) → Reach H Calls i h c (answers i c at_first) h' (last i c at_first)
+  pub last : (i : Instance) (c : Configuration) → Represents s i c → Configuration
+  pub answers : (i : Instance) (c : Configuration) → Represents s i c → List (HostCall × Errno)
+  pub stands : (i : Instance) (c : Configuration) (at_first : Represents s i c) → Represents s' i (last i c at_first)
+  pub reach : (i : Instance) (c : Configuration) (at_first : Represents s i c) → Reach H Calls i h c (answers i c at_first) h' (last i c at_first)
 
 module _ (H : Type 0) (Calls : CallsOf H) where
   -- nothing has run
@@ -80,7 +80,7 @@ module _ (H : Type 0) (Calls : CallsOf H) where
 
   -- the last resume found the fuel used
   pub runs_out : (h g h' : H) (s t s' : Snapshot) (units fuel : ℕ) → SoFar H Calls h s g t → Resumed H Calls g h' t s' units Spent → s'.used ≡ fuel
-      → (i : Instance) (c : Configuration) → StandsFor s i c → RunsWithin H Calls i h c fuel h' OutOfFuel s'.used
+      → (i : Instance) (c : Configuration) → Represents s i c → RunsWithin H Calls i h c fuel h' OutOfFuel s'.used
   unfolding so_far_on
   runs_out h g h' s t s' units fuel run more used i c a =
       let all = so_far_on h g h' s t s' units Spent run more in
@@ -101,7 +101,7 @@ module _ (H : Type 0) (Calls : CallsOf H) where
 
   -- the last resume found the end
   pub runs_to_end : (h g h' : H) (s t s' : Snapshot) (units fuel : ℕ) (o : Outcome) → SoFar H Calls h s g t → Resumed H Calls g h' t s' units (Ended o)
-      → (i : Instance) (c : Configuration) → StandsFor s i c → RunsWithin H Calls i h c fuel h' o s'.used
+      → (i : Instance) (c : Configuration) → Represents s i c → RunsWithin H Calls i h c fuel h' o s'.used
   unfolding so_far_on
   runs_to_end h g h' s t s' units fuel o run more i c a =
       let all = so_far_on h g h' s t s' units (Ended o) run more in

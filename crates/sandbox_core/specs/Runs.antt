@@ -8,7 +8,7 @@ use Rattle.wasm_interp.specs.declared.pause.Outcome.{Outcome}
 use Rattle.wasm_interp.specs.declared.pause.Outcome.TheVariants.{Exited, Trapped, OutOfFuel, OutOfMemory}
 use Rattle.wasm_interp.specs.Configuration.{Instance, Configuration, code_of, used_by, NextIsPlain}
 use Rattle.wasm_interp.specs.Steps.{CallsOf, Reach}
-use Rattle.wasm_interp.specs.Machine.{Snapshot, StandsFor}
+use Rattle.wasm_interp.specs.Machine.{Snapshot, Represents}
 use Rattle.wasm_interp.specs.Promise.{EndsAs, Paused, Resumed}
 
 -- the calls that pauses tell of, with what each answered
@@ -40,8 +40,8 @@ module _ (H : Type 0) (Calls : CallsOf H) where
   -- units that the machine tells of
   abbrev pub ResumesCompose : Type 0
   ResumesCompose = (i : Instance) (ps : List Pause) (h h' : H) (s s' : Snapshot) (c : Configuration)
-      → StandsFor s i c → ResumesFollow ps h s h' s' → used_by c ≡ s.used
-      → (c' : Configuration) × StandsFor s' i c' × Reach H Calls i h c (answered ps) h' c' × (used_by c' ≡ s'.used)
+      → Represents s i c → ResumesFollow ps h s h' s' → used_by c ≡ s.used
+      → (c' : Configuration) × Represents s' i c' × Reach H Calls i h c (answered ps) h' c' × (used_by c' ≡ s'.used)
 
   -- how a run with fuel stops: out of it exactly where all was used and the next step takes a unit
   abbrev pub StopsAs : Instance → Outcome → ℕ → ℕ → H → Configuration → Type 0

@@ -7,7 +7,7 @@ use Rattle.wasm_module.specs.declared.instruction.Instruction.{Instruction}
 use Rattle.wasm_module.specs.declared.instruction.Instruction.TheVariants as op
 use Rattle.wasm_module.specs.declared.open_blocks.OpenBlock.{OpenBlock}
 use Rattle.wasm_module.specs.declared.open_blocks.OpenBlock.TheVariants.{Plain, Conditional}
-use Rattle.wasm_module.specs.Instructions.{Instructions, done, plain, block, loop, if_then, if_else, enter, IsPlain, flatten, SpellsInstruction, SpellsUpTo, SpellsExpression}
+use Rattle.wasm_module.specs.Instructions.{Instructions, done, plain, block, loop, if_then, if_else, invoke, IsPlain, flatten, SpellsInstruction, SpellsUpTo, SpellsExpression}
 use Rattle.wasm_module.specs.internal.CodeReading.{instruction_at, after_instruction, code_from, code_at}
 use Rattle.wasm_module.specs.internal.Reading.{◌>>=◌, Reader}
 use Rattle.wasm_module.proofs.Laws.{bind_some, some_is, chosen, Front, Reads}
@@ -278,7 +278,7 @@ part_again (if_else t body other more) last lo f fs gs text rest k h e p =
     let both = λ (r : List ℕ) (j : ℕ). two (flatten op.Else body) (flatten op.End other) Conditional Plain (f ∷ fs) (f ∷ fs) p.1 p.2 r j (λ r j. part_again body 0x05 op.Else Conditional (f ∷ fs) (Plain ∷ f ∷ fs) p.1 r j ([], refl, refl) (turns_else (f ∷ fs)) p.5) (part_again other 0x0B op.End Plain (f ∷ fs) (f ∷ fs) p.2 r j ([], refl, refl) (ends_block Plain (f ∷ fs)) p.6) in
     let text-is : text ≡ p.0 ++ (p.1 ++ p.2) ++ p.3 = rw p.8 (simp append_assoc) in
     nested (op.If t) (flatten op.Else body ++ flatten op.End other) (flatten lo more) Conditional f fs gs p.0 (p.1 ++ p.2) p.3 text rest k p.4 (opens_if t f fs) both (part_again more last lo f fs gs p.3 rest k h e p.7) text-is
-part_again (enter x more) last lo f fs gs text rest k h e p = absurd p
+part_again (invoke x more) last lo f fs gs text rest k h e p = absurd p
 
 -- ---- an expression
 
@@ -294,7 +294,7 @@ not_longer (block t body more) last lo text p = rw p.6 (omega (arith, length-app
 not_longer (loop t body more) last lo text p = rw p.6 (omega (arith, length-append (p.0 ++ p.1) p.2, length-append p.0 p.1, length-append (flatten op.End body) (flatten lo more), not_empty p.0 (op.Loop t) p.3, not_longer body 0x0B op.End p.1 p.4, not_longer more last lo p.2 p.5))
 not_longer (if_then t body more) last lo text p = rw p.6 (omega (arith, length-append (p.0 ++ p.1) p.2, length-append p.0 p.1, length-append (flatten op.End body) (flatten lo more), not_empty p.0 (op.If t) p.3, not_longer body 0x0B op.End p.1 p.4, not_longer more last lo p.2 p.5))
 not_longer (if_else t body other more) last lo text p = rw p.8 (omega (arith, length-append (p.0 ++ p.1 ++ p.2) p.3, length-append (p.0 ++ p.1) p.2, length-append p.0 p.1, length-append (flatten op.Else body ++ flatten op.End other) (flatten lo more), length-append (flatten op.Else body) (flatten op.End other), not_empty p.0 (op.If t) p.4, not_longer body 0x05 op.Else p.1 p.5, not_longer other 0x0B op.End p.2 p.6, not_longer more last lo p.3 p.7))
-not_longer (enter x more) last lo text p = absurd p
+not_longer (invoke x more) last lo text p = absurd p
 
 -- what closes the block of an expression is an expression
 alone_is : (text : List ℕ) (ops : List Instruction) → Closes (Plain ∷ []) text ops → SpellsExpression text ops

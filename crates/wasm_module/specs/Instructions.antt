@@ -28,7 +28,7 @@ pub data Instructions : Type 0 where
   if_then : BlockType → Instructions → Instructions → Instructions
   if_else : BlockType → Instructions → Instructions → Instructions → Instructions
   -- a function that is to be entered: no bytes spell it, a call is rewritten to it
-  enter : ℕ → Instructions → Instructions
+  invoke : ℕ → Instructions → Instructions
 
 -- an instruction that is no part of a block
 abbrev pub IsPlain : Instruction → Type 0
@@ -47,7 +47,7 @@ flatten last (block t body rest) = op.Block t ∷ flatten op.End body ++ flatten
 flatten last (loop t body rest) = op.Loop t ∷ flatten op.End body ++ flatten last rest
 flatten last (if_then t body rest) = op.If t ∷ flatten op.End body ++ flatten last rest
 flatten last (if_else t body other rest) = op.If t ∷ flatten op.Else body ++ flatten op.End other ++ flatten last rest
-flatten last (enter x rest) = flatten last rest
+flatten last (invoke x rest) = flatten last rest
 
 -- what bytes can spell: plain instructions are plain, and no function is to be entered
 abbrev pub IsWritten : Instructions → Type 0
@@ -57,7 +57,7 @@ IsWritten (block t body rest) = IsWritten body × IsWritten rest
 IsWritten (loop t body rest) = IsWritten body × IsWritten rest
 IsWritten (if_then t body rest) = IsWritten body × IsWritten rest
 IsWritten (if_else t body other rest) = IsWritten body × IsWritten other × IsWritten rest
-IsWritten (enter x rest) = ⊥
+IsWritten (invoke x rest) = ⊥
 
 -- decoded instructions, as they nest
 abbrev pub Nests : List Instruction → Instructions → Type 0
@@ -229,7 +229,7 @@ SpellsUpTo last text (if_then t body rest) =
     (a : List ℕ) × (b : List ℕ) × (c : List ℕ) × SpellsInstruction a (op.If t) × SpellsUpTo 0x0B b body × SpellsUpTo last c rest × (text ≡ a ++ b ++ c)
 SpellsUpTo last text (if_else t body other rest) =
     (a : List ℕ) × (b : List ℕ) × (c : List ℕ) × (d : List ℕ) × SpellsInstruction a (op.If t) × SpellsUpTo 0x05 b body × SpellsUpTo 0x0B c other × SpellsUpTo last d rest × (text ≡ a ++ b ++ c ++ d)
-SpellsUpTo last text (enter x rest) = ⊥
+SpellsUpTo last text (invoke x rest) = ⊥
 
 -- an expression (section 5.4.6), of which the decoded instructions are kept
 abbrev pub SpellsExpression : List ℕ → List Instruction → Type 0

@@ -8,7 +8,7 @@ use Rattle.wasm_module.specs.declared.instruction.BlockType.{BlockType}
 use Rattle.wasm_module.specs.declared.instruction.BlockType.TheVariants.{Empty, Value}
 use Rattle.wasm_module.specs.declared.instruction.Instruction.{Instruction}
 use Rattle.wasm_module.specs.declared.instruction.Instruction.TheVariants as op
-use Rattle.wasm_module.specs.Instructions.{Instructions, done, plain, block, loop, if_then, if_else, enter, IsPlain, IsWritten, flatten}
+use Rattle.wasm_module.specs.Instructions.{Instructions, done, plain, block, loop, if_then, if_else, invoke, IsPlain, IsWritten, flatten}
 use Rattle.wasm_valid.specs.declared.control_frames.BlockKind.{BlockKind}
 use Rattle.wasm_valid.specs.declared.control_frames.BlockKind.TheVariants.{Block, Loop, If}
 use Rattle.wasm_valid.specs.Typing.{Context, Labels, OpTyped, Typed, results_of}
@@ -40,7 +40,7 @@ not_empty last (block t body rest) w e = cc
 not_empty last (loop t body rest) w e = cc
 not_empty last (if_then t body rest) w e = cc
 not_empty last (if_else t body other rest) w e = cc
-not_empty last (enter x rest) w e = absurd w
+not_empty last (invoke x rest) w e = absurd w
 
 -- What an instruction makes of what may stand before it: the code after it has a first part A, and goes on from another stack.
 pub record Turns (c : Context) (ls : Labels) (i : Instruction) (s : Stack) (A : List Instruction → Type 0) (r : Stack) : Type 0 where
@@ -64,7 +64,7 @@ plain_goes c ls i s p last rs flat l (block t body rest) a w e f h = absurd (sub
 plain_goes c ls i s p last rs flat l (loop t body rest) a w e f h = absurd (subst IsPlain (let g : i ≡ op.Loop t = cc in g) p)
 plain_goes c ls i s p last rs flat l (if_then t body rest) a w e f h = absurd (subst IsPlain (let g : i ≡ op.If t = cc in g) p)
 plain_goes c ls i s p last rs flat l (if_else t body other rest) a w e f h = absurd (subst IsPlain (let g : i ≡ op.If t = cc in g) p)
-plain_goes c ls i s p last rs flat l (enter x rest) a w e f h = absurd w
+plain_goes c ls i s p last rs flat l (invoke x rest) a w e f h = absurd w
 
 plain_turns : (c : Context) (ls : Labels) (i : Instruction) (s r : Stack) → IsPlain i → after c ls i s ≡ Some r → Turns c ls i s IsNone r
 plain_turns c ls i s r p e = record {
@@ -110,7 +110,7 @@ block_goes c ls t s last rs flat l (block u body rest) a w e f h =
 block_goes c ls t s last rs flat l (loop u body rest) a w e f h = cc
 block_goes c ls t s last rs flat l (if_then u body rest) a w e f h = cc
 block_goes c ls t s last rs flat l (if_else u body other rest) a w e f h = cc
-block_goes c ls t s last rs flat l (enter x rest) a w e f h = absurd w
+block_goes c ls t s last rs flat l (invoke x rest) a w e f h = absurd w
 
 -- a beginning, what it begins, and what follows
 joined : (i : Instruction) (x y front back flat : List Instruction) → x ≡ front → y ≡ back → flat ≡ front ++ back → i ∷ (x ++ y) ≡ i ∷ flat
@@ -156,7 +156,7 @@ loop_goes c ls t s last rs flat l (loop u body rest) a w e f h =
 loop_goes c ls t s last rs flat l (block u body rest) a w e f h = cc
 loop_goes c ls t s last rs flat l (if_then u body rest) a w e f h = cc
 loop_goes c ls t s last rs flat l (if_else u body other rest) a w e f h = cc
-loop_goes c ls t s last rs flat l (enter x rest) a w e f h = absurd w
+loop_goes c ls t s last rs flat l (invoke x rest) a w e f h = absurd w
 
 loop_comes : (c : Context) (ls : Labels) (t : BlockType) (s : Stack) (last : Instruction) (rs : List ValueType) (flat : List Instruction) → LoopTurn c ls t s last rs flat → Run last c ls s rs (op.Loop t ∷ flat)
 loop_comes c ls t s last rs flat q =
@@ -221,7 +221,7 @@ if_goes c ls t s last rs flat l (if_else u body other rest) a w e f h =
     (x.0, x.1, subst (λ (v : BlockType). IfTurn c ls v x.0 last rs flat) same made)
 if_goes c ls t s last rs flat l (block u body rest) a w e f h = cc
 if_goes c ls t s last rs flat l (loop u body rest) a w e f h = cc
-if_goes c ls t s last rs flat l (enter x rest) a w e f h = absurd w
+if_goes c ls t s last rs flat l (invoke x rest) a w e f h = absurd w
 
 then_comes : (c : Context) (ls : Labels) (s r : Stack) (last : Instruction) (rs : List ValueType) (flat front back : List Instruction) → pop I32 s ≡ Some r → flat ≡ front ++ back → Run op.End c ([] ∷ ls) nothing [] front → Run last c ls r rs back → Run last c ls s rs (op.If Empty ∷ flat)
 then_comes c ls s r last rs flat front back e is k m = record {
@@ -287,7 +287,7 @@ last_goes c ls i s last rs flat l m (block u body rest) a w e f h = absurd (subs
 last_goes c ls i s last rs flat l m (loop u body rest) a w e f h = absurd (subst IsLast (let g : i ≡ op.Loop u = cc in g) m)
 last_goes c ls i s last rs flat l m (if_then u body rest) a w e f h = absurd (subst IsLast (let g : i ≡ op.If u = cc in g) m)
 last_goes c ls i s last rs flat l m (if_else u body other rest) a w e f h = absurd (subst IsLast (let g : i ≡ op.If u = cc in g) m)
-last_goes c ls i s last rs flat l m (enter x rest) a w e f h = absurd w
+last_goes c ls i s last rs flat l m (invoke x rest) a w e f h = absurd w
 
 run_last : (c : Context) (ls : Labels) (i : Instruction) (s : Stack) (last : Instruction) (rs : List ValueType) (flat : List Instruction) → IsLast last → IsLast i → Run last c ls s rs (i ∷ flat) → (last ≡ i) × IsNone flat × Fits s rs
 run_last c ls i s last rs flat l m q = last_goes c ls i s last rs flat l m q.code q.from q.written q.is q.fits q.typed

@@ -9,7 +9,7 @@ use Rattle.wasm_module.specs.declared.instruction.Instruction.{Instruction}
 use Rattle.wasm_module.specs.declared.instruction.Instruction.TheVariants as op
 use Rattle.wasm_module.specs.declared.module.FuncType.{FuncType}
 use Rattle.wasm_module.specs.declared.module.Body.{Body}
-use Rattle.wasm_module.specs.Instructions.{Instructions, done, plain, block, loop, if_then, if_else, enter, flatten}
+use Rattle.wasm_module.specs.Instructions.{Instructions, done, plain, block, loop, if_then, if_else, invoke, flatten}
 use Rattle.wasm_valid.specs.declared.control_frames.BlockKind.TheVariants.{Block}
 use Rattle.wasm_valid.specs.declared.function_context.FunctionContext.{FunctionContext}
 use Rattle.wasm_valid.specs.Typing.{Context, Typed, results_of}
@@ -37,7 +37,7 @@ ends_with last (if_else t body other rest) =
     let r = ends_with last rest in
     let first : List Instruction = (op.If t ∷ flatten op.Else body) ++ flatten op.End other in
     (first ++ r.0, ap (λ k. first ++ k) r.1 ∙ sym (append_assoc first r.0 (last ∷ [])))
-ends_with last (enter x rest) = ends_with last rest
+ends_with last (invoke x rest) = ends_with last rest
 
 -- ---- the loop
 

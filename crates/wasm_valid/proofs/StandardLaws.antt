@@ -5,7 +5,7 @@ use Rattle.wasm_module.specs.declared.instruction.ValueType.TheVariants.{I32, I6
 use Rattle.wasm_module.specs.declared.instruction.BlockType.{BlockType}
 use Rattle.wasm_module.specs.declared.instruction.Instruction.{Instruction}
 use Rattle.wasm_module.specs.declared.instruction.Instruction.TheVariants as op
-use Rattle.wasm_module.specs.Instructions.{Instructions, done, plain, block, loop, if_then, if_else, enter}
+use Rattle.wasm_module.specs.Instructions.{Instructions, done, plain, block, loop, if_then, if_else, invoke}
 use Rattle.wasm_valid.specs.Typing.{Context, Labels, Moves, Leaves, OpTyped, Typed, results_of}
 use Rattle.wasm_valid.specs.Standard.{followed, HasType, none, one, a_block, a_loop, an_if, an_if_else, a_call, sequence, widened}
 
@@ -79,7 +79,7 @@ typed_wide c (block t body rest) ls a b w h = (h.0, subst (λ (l : List ValueTyp
 typed_wide c (loop t body rest) ls a b w h = (h.0, subst (λ (l : List ValueType). Typed c ls rest l (b ++ w)) (append_assoc (results_of t) a w) (typed_wide c rest ls (results_of t ++ a) b w h.1))
 typed_wide c (if_then t body rest) ls a b w h = (h.0 ++ w, ap (λ (l : List ValueType). l ++ w) h.1, h.2, h.3, typed_wide c rest ls h.0 b w h.4)
 typed_wide c (if_else t body other rest) ls a b w h = (h.0 ++ w, ap (λ (l : List ValueType). l ++ w) h.1, h.2, h.3, subst (λ (l : List ValueType). Typed c ls rest l (b ++ w)) (append_assoc (results_of t) h.0 w) (typed_wide c rest ls (results_of t ++ h.0) b w h.4))
-typed_wide c (enter x rest) ls a b w h = (h.0, h.1, h.2 ++ w, moves_wide (reverse h.0.params) h.0.results a h.2 w h.3, typed_wide c rest ls h.2 b w h.4)
+typed_wide c (invoke x rest) ls a b w h = (h.0, h.1, h.2 ++ w, moves_wide (reverse h.0.params) h.0.results a h.2 w h.3, typed_wide c rest ls h.2 b w h.4)
 
 -- ---- one part after another
 
@@ -90,7 +90,7 @@ typed_more c (block t body rest) more ls a m b h k = (h.0, typed_more c rest mor
 typed_more c (loop t body rest) more ls a m b h k = (h.0, typed_more c rest more ls (results_of t ++ a) m b h.1 k)
 typed_more c (if_then t body rest) more ls a m b h k = (h.0, h.1, h.2, h.3, typed_more c rest more ls h.0 m b h.4 k)
 typed_more c (if_else t body other rest) more ls a m b h k = (h.0, h.1, h.2, h.3, typed_more c rest more ls (results_of t ++ h.0) m b h.4 k)
-typed_more c (enter x rest) more ls a m b h k = (h.0, h.1, h.2, h.3, typed_more c rest more ls h.2 m b h.4 k)
+typed_more c (invoke x rest) more ls a m b h k = (h.0, h.1, h.2, h.3, typed_more c rest more ls h.2 m b h.4 k)
 
 no_more : (l : List ValueType) → l ++ [] ≡ l
 no_more [] = refl
@@ -136,6 +136,6 @@ rules_by_typed c (if_else t body other rest) ls a b h =
     let second = rules_by_typed c other (results_of t ∷ ls) [] (results_of t) h.3 in
     sequence ls (if_else t body other done) rest (if_else t body other rest) a (results_of t ++ h.0) b refl
     (widened ls (if_else t body other done) (I32 ∷ []) (results_of t) h.0 a (results_of t ++ h.0) h.1 refl (an_if_else ls t body other first second)) (rules_by_typed c rest ls (results_of t ++ h.0) b h.4)
-rules_by_typed c (enter x rest) ls a b h =
-    sequence ls (enter x done) rest (enter x rest) a h.2 b refl
-    (widened ls (enter x done) (reverse h.0.params) h.0.results h.3.0 a h.2 h.3.1 h.3.2 (a_call ls x h.0 h.1)) (rules_by_typed c rest ls h.2 b h.4)
+rules_by_typed c (invoke x rest) ls a b h =
+    sequence ls (invoke x done) rest (invoke x rest) a h.2 b refl
+    (widened ls (invoke x done) (reverse h.0.params) h.0.results h.3.0 a h.2 h.3.1 h.3.2 (a_call ls x h.0 h.1)) (rules_by_typed c rest ls h.2 b h.4)

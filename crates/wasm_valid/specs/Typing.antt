@@ -12,7 +12,7 @@ use Rattle.wasm_module.specs.declared.instruction.Instruction.{Instruction}
 use Rattle.wasm_module.specs.declared.instruction.Instruction.TheVariants as op
 use Rattle.wasm_module.specs.declared.module.FuncType.{FuncType}
 use Rattle.wasm_module.specs.declared.module.GlobalType.{GlobalType}
-use Rattle.wasm_module.specs.Instructions.{Instructions, done, plain, block, loop, if_then, if_else, enter}
+use Rattle.wasm_module.specs.Instructions.{Instructions, done, plain, block, loop, if_then, if_else, invoke}
 
 -- what instructions are typed in (section 3.1.1): functions and globals with the imported ones first
 pub record Context : Type 0 where
@@ -126,5 +126,5 @@ Typed c ls (if_then t body rest) a b =
 Typed c ls (if_else t body other rest) a b =
     (m : List ValueType) × (a ≡ I32 ∷ m) × Typed c (results_of t ∷ ls) body [] (results_of t)
     × Typed c (results_of t ∷ ls) other [] (results_of t) × Typed c ls rest (results_of t ++ m) b
-Typed c ls (enter x rest) a b =
+Typed c ls (invoke x rest) a b =
     (f : FuncType) × (slice_get c.functions x ≡ Some f) × (m : List ValueType) × Moves (reverse f.params) f.results a m × Typed c ls rest m b
