@@ -8,8 +8,8 @@ use Rattle.vol_inode.specs.declared.entry.Entry.{Entry}
 use Rattle.vol_inode.specs.Space.{sectors_of, need_of}
 use Rattle.vol_body.specs.Body.{Place, part, list, lists, later_list, IsPlace, first_served, named, part_bytes, NamesTaken, NamesOthers}
 use Rattle.vol_body.specs.Change.{OthersStay}
-use Rattle.vol_body.specs.Naming.{IsNaming, NamesOneMore, SetsPointer, ListsOneMore}
-use Rattle.vol_body.specs.Writing.{PointedAt, ListedAt, IsBlank, Mirrors, IsReady, SamePlace, Changes}
+use Rattle.vol_body.specs.internal.Naming.{IsNaming, NamesOneMore, SetsPointer, ListsOneMore}
+use Rattle.vol_body.specs.internal.Writing.{PointedAt, ListedAt, IsBlank, Mirrors, IsReady, SamePlace, Changes}
 use Rattle.vol_body.proofs.Changes.{stays_twice, takes_twice, takes_same}
 use Rattle.vol_body.proofs.OneMore.{one_direct, one_list, one_lists, one_listed, one_later_list, one_later, write_named, naming_by, naming_more, names_stay, names_taken_more, takes_one, others_stay_one, others_stay_two, places_stay, places_stay_but, places_stay_by}
 use Rattle.vol_body.proofs.Places.{bytes_there}

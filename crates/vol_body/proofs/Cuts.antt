@@ -10,7 +10,7 @@ use Rattle.vol_alloc.specs.Alloc.{first_of, end_of, taken_of}
 use Rattle.vol_inode.specs.declared.entry.Entry.{Entry}
 use Rattle.vol_body.specs.declared.cutting.Cut.{Cut}
 use Rattle.vol_body.specs.Body.{Place, named, NamesTaken}
-use Rattle.vol_body.specs.Shorter.{IsCut, cut, with_cut}
+use Rattle.vol_body.specs.internal.Shorter.{IsCut, cut, with_cut}
 
 -- the same cut in other words
 pub cut_is : (r : Result Cut DeviceFault) (one other : Image) (n m k l : ℕ) → one ≡ other → n ≡ m → k ≡ l → IfOk r (IsCut one n k) → IfOk r (IsCut other m l)

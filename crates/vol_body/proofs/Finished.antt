@@ -8,7 +8,7 @@ use Rattle.vol_inode.specs.Space.{need_of}
 use Rattle.vol_body.specs.declared.lists.Lists.{Lists}
 use Rattle.vol_body.specs.Body.{Place, part, lists, named, part_bytes, NamesTaken, IsBody, SameSectors, IsSameFile}
 use Rattle.vol_body.specs.Change.{used_of, OthersStay, TakesAndGives}
-use Rattle.vol_body.specs.Writing.{Mirrors, MirrorsAll, IsReady, SameRange, Changes, HasParts, IsPartIn, IsPointer, WriteLeaves, segment, segment_of, image_of}
+use Rattle.vol_body.specs.internal.Writing.{Mirrors, MirrorsAll, IsReady, SameRange, Changes, HasParts, IsPartIn, IsPointer, WriteLeaves, segment, segment_of, image_of}
 use Rattle.vol_body.proofs.Same.{same_file, same_bytes}
 use Rattle.vol_body.proofs.Changes.{stays_by, takes_same, takes_twice}
 use Rattle.vol_body.proofs.OneMore.{naming_of, naming_by, body_of, names_by_pointers}

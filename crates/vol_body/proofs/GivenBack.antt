@@ -9,7 +9,7 @@ use Rattle.vol_alloc.specs.declared.sectors.Alloc.{Alloc}
 use Rattle.vol_alloc.specs.Alloc.{end_of, taken_of}
 use Rattle.vol_inode.specs.declared.entry.Entry.{Entry}
 use Rattle.vol_body.specs.Body.{Place, part, list, lists, later_list, IsPlace, first_served, named, number_in}
-use Rattle.vol_body.specs.Shorter.{Gives, StandsFrom, GoesWithList, GoesWithLater, Goes}
+use Rattle.vol_body.specs.internal.Shorter.{Gives, StandsFrom, GoesWithList, GoesWithLater, Goes}
 use Rattle.vol_body.proofs.Places.{number_there, part_direct, part_listed, part_later}
 
 -- where nothing goes

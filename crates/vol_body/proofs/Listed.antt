@@ -8,7 +8,7 @@ use Rattle.vol_sector.specs.Disk.{Image}
 use Rattle.vol_inode.specs.declared.entry.Entry.{Entry}
 use Rattle.vol_inode.specs.internal.Writes.{overwritten}
 use Rattle.vol_body.specs.Body.{number_in, part_bytes}
-use Rattle.vol_body.specs.Naming.{SetsPointer, ListsOneMore}
+use Rattle.vol_body.specs.internal.Naming.{SetsPointer, ListsOneMore}
 use Rattle.vol_body.proofs.Places.{number_there, bytes_there}
 
 -- a number goes by its four bytes

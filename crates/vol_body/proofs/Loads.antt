@@ -5,7 +5,7 @@ use Rattle.vol_sector.specs.Disk.{Image}
 use Rattle.vol_inode.specs.declared.entry.Entry.{Entry}
 use Rattle.vol_body.specs.declared.lists.PointerSector.{PointerSector}
 use Rattle.vol_body.specs.Body.{Place, lists, later_list, named, part_bytes}
-use Rattle.vol_body.specs.Writing.{Mirrors, segment}
+use Rattle.vol_body.specs.internal.Writing.{Mirrors, segment}
 use Rattle.vol_body.proofs.Listed.{number_of_bytes}
 
 pub loaded : {E : Type 0} (content : Image) (e : Entry) (p : Place) (n : ℕ) (r : Result PointerSector E) → n ≡ named content e p → IfOk r (λ s. s.number ≡ n) → IfOk r (λ s. s.image ≡ part_bytes content n)

@@ -7,7 +7,7 @@ use Rattle.vol_inode.specs.declared.entry.Entry.{Entry}
 use Rattle.vol_inode.specs.Space.{sectors_of}
 use Rattle.vol_body.specs.Body.{Place, part, list, lists, later_list, IsPlace, first_served, named, number_in, part_bytes, byte_at, IsBody, NamesTaken, NamesOthers}
 use Rattle.vol_body.specs.Change.{Names, OthersStay, TakesAndGives}
-use Rattle.vol_body.specs.Naming.{IsNaming, NamesOneMore, SetsPointer, ListsOneMore}
+use Rattle.vol_body.specs.internal.Naming.{IsNaming, NamesOneMore, SetsPointer, ListsOneMore}
 use Rattle.vol_body.proofs.Places.{number_there, bytes_there, part_direct, part_listed, part_later}
 use Rattle.vol_body.proofs.Same.{same_number, same_bytes}
 use Rattle.vol_body.proofs.Listed.{none_in_zeros}

@@ -7,7 +7,7 @@ use Rattle.vol_sector.specs.Disk.{Image}
 use Rattle.vol_inode.specs.declared.entry.Entry.{Entry}
 use Rattle.vol_inode.specs.Space.{sectors_of, lists_of}
 use Rattle.vol_body.specs.Body.{Place, part, list, lists, later_list, IsPlace, first_served, named, number_in, part_bytes, byte_at}
-use Rattle.vol_body.specs.Shorter.{kept_bytes, first_of_pointer, cut}
+use Rattle.vol_body.specs.internal.Shorter.{kept_bytes, first_of_pointer, cut}
 use Rattle.vol_body.proofs.Places.{number_there, bytes_there, part_direct, part_listed, part_later}
 use Rattle.vol_body.proofs.Zeros.{get_or-zeros, get_or-cut, get_or-cut_past, number-cut, number-cut_past}
 

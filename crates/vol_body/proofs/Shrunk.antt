@@ -10,7 +10,7 @@ use Rattle.vol_body.specs.declared.cutting.Cut.{Cut}
 use Rattle.vol_body.specs.declared.cutting.Cuts.{Cuts}
 use Rattle.vol_body.specs.Body.{Place, part, list, lists, later_list, IsPlace, first_served, named, bytes_of, IsBody, NamesTaken}
 use Rattle.vol_body.specs.Change.{resized, OthersStay, TakesAndGives}
-use Rattle.vol_body.specs.Shorter.{kept_bytes, first_of_pointer, last_part, cut_list, last_list, cut, IsCut, AreCuts, AreWithin, with_cut, with_cuts, Gives, Goes}
+use Rattle.vol_body.specs.internal.Shorter.{kept_bytes, first_of_pointer, last_part, cut_list, last_list, cut, IsCut, AreCuts, AreWithin, with_cut, with_cuts, Gives, Goes}
 use Rattle.vol_body.proofs.Parts.{length-bytes_of, get_or-bytes_of}
 use Rattle.vol_body.proofs.Cuts.{put_past, cut_elsewhere, cut_there}
 use Rattle.vol_body.proofs.Shorter.{IsShorter, keeps, loses, kept_byte_at, lost_byte_at}

@@ -12,7 +12,7 @@ use Rattle.vol_inode.specs.declared.entry.Entry.{Entry}
 use Rattle.vol_inode.specs.Space.{sectors_of, lists_of, need_of}
 use Rattle.vol_body.specs.Body.{Place, part, list, lists, later_list, IsPlace, first_served, named, places_of}
 use Rattle.vol_body.specs.Change.{used_of}
-use Rattle.vol_body.specs.Naming.{NamesOneMore}
+use Rattle.vol_body.specs.internal.Naming.{NamesOneMore}
 use Rattle.vol_body.proofs.Needed.{place_there, length-places_of}
 use Rattle.vol_body.proofs.OneMore.{named_now, names_by_pointers}
 

@@ -12,7 +12,7 @@ use Rattle.vol_alloc.specs.Alloc.{first_of, end_of, taken_of}
 use Rattle.vol_alloc.specs.declared.sectors.Alloc.{Alloc}
 use Rattle.vol_inode.specs.declared.entry.Entry.{Entry}
 use Rattle.vol_body.specs.Body.{Place, part, list, lists, later_list, IsPlace, named, number_in, part_bytes}
-use Rattle.vol_body.specs.Writing.{ListedAt, IsBlank, Mirrors, IsReady, SamePlace, Changes, IsPartIn, IsPointer, HasParts, OnlyPuts, SameRange, segment, placed}
+use Rattle.vol_body.specs.internal.Writing.{ListedAt, IsBlank, Mirrors, IsReady, SamePlace, Changes, IsPartIn, IsPointer, HasParts, OnlyPuts, SameRange, segment, placed}
 use Rattle.vol_body.proofs.Listed.{number_of_bytes}
 use Rattle.vol_body.proofs.Changes.{takes_same, stays_same}
 use Rattle.vol_body.proofs.Places.{part_listed, part_later, bytes_there}

@@ -7,7 +7,7 @@ use Rattle.vol_sector.specs.Disk.{Image}
 use Rattle.vol_inode.specs.declared.entry.Entry.{Entry}
 use Rattle.vol_body.specs.Body.{part, named, part_bytes, byte_at, bytes_of, IsBody}
 use Rattle.vol_body.specs.Change.{extended, written}
-use Rattle.vol_body.specs.Writing.{image_of}
+use Rattle.vol_body.specs.internal.Writing.{image_of}
 use Rattle.vol_body.proofs.Parts.{length-bytes_of, get_or-bytes_of}
 
 -- a list with a part of another put into it

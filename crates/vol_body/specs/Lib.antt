@@ -1,8 +1,6 @@
+-- What public contracts cite, in reading order; `internal` serves private contracts and proofs.
 pub mod Body
+pub mod Survey
 pub mod Reading
 pub mod Change
-pub mod Naming
-pub mod Writing
-pub mod Shorter
-pub mod Survey
 pub mod internal

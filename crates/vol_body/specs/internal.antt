@@ -1,2 +1,5 @@
 -- Definitions that only private contracts and proofs cite.
 pub mod Surveying
+pub mod Naming
+pub mod Shorter
+pub mod Writing

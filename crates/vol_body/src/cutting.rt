@@ -6,8 +6,8 @@ ghost use Rattle.vol_log.specs.Log.{view, sectors_of, room_of, has_failed, devic
 ghost use Rattle.vol_alloc.specs.Alloc.{first_of, end_of, taken_of};
 ghost use Rattle.vol_body.specs.Body.{NamesTaken, named};
 ghost use Rattle.vol_log.specs.Reading.{OnlyReads};
-ghost use Rattle.vol_body.specs.Shorter.{kept_bytes, cut, IsCut, with_cut, last_part, cut_list, last_list};
-ghost use Rattle.vol_body.specs.Shorter.{AreCuts, AreWithin, with_cuts};
+ghost use Rattle.vol_body.specs.internal.Shorter.{kept_bytes, cut, IsCut, with_cut, last_part, cut_list, last_list};
+ghost use Rattle.vol_body.specs.internal.Shorter.{AreCuts, AreWithin, with_cuts};
 
 use crate::locate::{known, read_number, sector_of_part};
 use vol_alloc::Alloc;

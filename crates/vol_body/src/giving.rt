@@ -7,7 +7,7 @@ ghost use Rattle.vol_log.specs.Log.{view, sectors_of, has_failed, device_of};
 ghost use Rattle.vol_alloc.specs.Alloc.{first_of, end_of, taken_of};
 ghost use Rattle.vol_body.specs.Body.{NamesTaken, number_in};
 ghost use Rattle.vol_log.specs.Reading.{OnlyReads};
-ghost use Rattle.vol_body.specs.Shorter.{Gives, StandsFrom, GoesWithList, GoesWithLater, Goes};
+ghost use Rattle.vol_body.specs.internal.Shorter.{Gives, StandsFrom, GoesWithList, GoesWithLater, Goes};
 
 use crate::locate::{known, number_at};
 use vol_alloc::Alloc;

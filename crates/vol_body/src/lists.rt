@@ -7,7 +7,7 @@ ghost use Rattle.vol_log.specs.Log.{view, sectors_of, has_failed, device_of};
 ghost use Rattle.vol_alloc.specs.Alloc.{end_of, taken_of};
 ghost use Rattle.vol_body.specs.Body.{NamesTaken, lists, part_bytes};
 ghost use Rattle.vol_log.specs.Reading.{OnlyReads};
-ghost use Rattle.vol_body.specs.Writing.{Mirrors, MirrorsAll, KnowsAll, segment};
+ghost use Rattle.vol_body.specs.internal.Writing.{Mirrors, MirrorsAll, KnowsAll, segment};
 
 use crate::locate::{DIRECT, LISTED, NUMBERS, known, number_at};
 use byteorder::{ByteOrder, LittleEndian};

@@ -8,7 +8,7 @@ ghost use Rattle.vol_inode.specs.Spelling.{spelling};
 ghost use Rattle.vol_inode.specs.Space.{sectors_of as parts_of};
 ghost use Rattle.vol_body.specs.Body.{NamesTaken, bytes_of, IsBody};
 ghost use Rattle.vol_body.specs.Change.{resized, OthersStay, TakesAndGives};
-ghost use Rattle.vol_body.specs.Shorter.{first_of_pointer};
+ghost use Rattle.vol_body.specs.internal.Shorter.{first_of_pointer};
 ghost use Rattle.vol_inode.specs.Entry.{HasWidths};
 ghost use Rattle.vol_log.specs.Reading.{OnlyReads};
 ghost use Rattle.vol_body.specs.Reading.{OnlyStages};

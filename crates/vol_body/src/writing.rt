@@ -12,7 +12,7 @@ ghost use Rattle.vol_body.specs.Body.{part, named, part_bytes, NamesTaken, IsBod
 ghost use Rattle.vol_body.specs.Change.{written, used_of, OthersStay, TakesAndGives};
 ghost use Rattle.vol_log.specs.Reading.{OnlyReads};
 ghost use Rattle.vol_body.specs.Reading.{OnlyStages};
-ghost use Rattle.vol_body.specs.Writing.{SameRange, WriteLeaves};
+ghost use Rattle.vol_body.specs.internal.Writing.{SameRange, WriteLeaves};
 
 use crate::lists::load_lists;
 use crate::locate::read_part;

@@ -1,7 +1,7 @@
 //! The new bytes of the parts that a write touches.
 
 ghost use Rattle.std.specs.Prelude.{◌≡◌, ◌≤◌, ◌<◌, ◌+◌, ◌*◌, ℕ, length};
-ghost use Rattle.vol_body.specs.Writing.{image_of};
+ghost use Rattle.vol_body.specs.internal.Writing.{image_of};
 
 /// Bytes that are to be written, and what stands around them.
 #[derive(Drop)]

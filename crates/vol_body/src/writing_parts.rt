@@ -7,8 +7,8 @@ ghost use Rattle.vol_alloc.specs.Alloc.{first_of, end_of, taken_of};
 ghost use Rattle.vol_inode.specs.Space.{sectors_of as count_of};
 ghost use Rattle.vol_inode.specs.declared.entry.Entry.{Entry};
 ghost use Rattle.vol_body.specs.Body.{Place, part, IsPlace, named, part_bytes};
-ghost use Rattle.vol_body.specs.Writing.{Mirrors, IsReady, IsMissing, Changes, Adds, OnlyPuts};
-ghost use Rattle.vol_body.specs.Writing.{SameRange, PointedAt, ListedAt, IsBlank, placed};
+ghost use Rattle.vol_body.specs.internal.Writing.{Mirrors, IsReady, IsMissing, Changes, Adds, OnlyPuts};
+ghost use Rattle.vol_body.specs.internal.Writing.{SameRange, PointedAt, ListedAt, IsBlank, placed};
 
 use crate::lists::{PointerSector, with_number};
 use crate::locate::{known, number_at};

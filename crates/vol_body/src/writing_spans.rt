@@ -7,9 +7,9 @@ ghost use Rattle.vol_alloc.specs.Alloc.{first_of, end_of, taken_of};
 ghost use Rattle.vol_inode.specs.Space.{sectors_of as count_of};
 ghost use Rattle.vol_inode.specs.declared.entry.Entry.{Entry};
 ghost use Rattle.vol_body.specs.Body.{Place, list, lists, later_list, IsPlace, first_served};
-ghost use Rattle.vol_body.specs.Writing.{Mirrors, IsReady, Changes, Adds, IsPartIn, HasParts};
-ghost use Rattle.vol_body.specs.Writing.{OnlyPuts, SameRange, segment, placed, image_of};
-ghost use Rattle.vol_body.specs.Writing.{MirrorsAll, KnowsAll, IsPointer, PointedAt};
+ghost use Rattle.vol_body.specs.internal.Writing.{Mirrors, IsReady, Changes, Adds, IsPartIn, HasParts};
+ghost use Rattle.vol_body.specs.internal.Writing.{OnlyPuts, SameRange, segment, placed, image_of};
+ghost use Rattle.vol_body.specs.internal.Writing.{MirrorsAll, KnowsAll, IsPointer, PointedAt};
 
 use crate::lists::{Lists, PointerSector};
 use crate::locate::{DIRECT, LISTED, NUMBERS};

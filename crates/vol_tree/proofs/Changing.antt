@@ -16,8 +16,8 @@ use Rattle.vol_tree.specs.Space.{space}
 use Rattle.vol_tree.specs.Tree.{Tree}
 use Rattle.vol_tree.specs.Opened.{is_io, tree_in, slots_in}
 use Rattle.vol_tree.specs.Parts.{IsOpen, IsContent, AreTaken, opened}
-use Rattle.vol_tree.specs.Commits.{Commits}
-use Rattle.vol_tree.specs.Changes.{Changes, Asks, Stages}
+use Rattle.vol_tree.specs.internal.Commits.{Commits}
+use Rattle.vol_tree.specs.internal.Changes.{Changes, Asks, Stages}
 
 -- a call that is refused, after a commit or none
 pub refused : {D : Type 0} {g : Ghosts D} {X : Type 0} (meant : Result (Tree × X) Errno) (old new : Parts D g) (e : Errno) → Commits old new (is_io {X = X} (Err e))

@@ -19,7 +19,7 @@ use Rattle.vol_tree.specs.Space.{space}
 use Rattle.vol_tree.specs.Stands.{Stands}
 use Rattle.vol_tree.specs.Opened.{ReflectsOr, tree_in, slots_in}
 use Rattle.vol_tree.specs.Parts.{IsOpen, IsContent, AreTaken, opened}
-use Rattle.vol_tree.specs.Commits.{Commits}
+use Rattle.vol_tree.specs.internal.Commits.{Commits}
 use Rattle.vol_tree.proofs.SameContents.{same_slots_in, same_is_content, same_tree_in, same_taken, same_shows, stands_with, reflects_or}
 
 pub at_ok : {T E : Type 0} (r : Result T E) (P : Type 0) → OnOk r P → is_err r ≡ false → P

@@ -26,8 +26,8 @@ use Rattle.vol_tree.specs.Space.{space, size_of}
 use Rattle.vol_tree.specs.Stands.{entry_of, node_by}
 use Rattle.vol_tree.specs.Opened.{slots_in, slot_of, tree_in, data_sectors, Keeps}
 use Rattle.vol_tree.specs.Parts.{IsContent, AreTaken, opened}
-use Rattle.vol_tree.specs.Commits.{Commits}
-use Rattle.vol_tree.specs.Changes.{Changes, Stages}
+use Rattle.vol_tree.specs.internal.Commits.{Commits}
+use Rattle.vol_tree.specs.internal.Changes.{Changes, Stages}
 use Rattle.vol_tree.specs.internal.Removals.{Fails}
 use Rattle.vol_tree.proofs.Changing.{done, fault_is_io}
 use Rattle.vol_tree.proofs.Rewriting.{Rewrites, filled_tree, rewritten_tree, rewritten_taken, rewritten_content, rewritten_front, rewritten_shows}

@@ -27,7 +27,7 @@ use Rattle.vol_tree.specs.Stands.{StandsAs}
 use Rattle.vol_tree.specs.Opened.{slot_in, slots_in, tree_in, ReflectsOr}
 use Rattle.vol_tree.specs.Parts.{IsContent, AreTaken, IsOpen, opened}
 use Rattle.vol_tree.specs.internal.Upgrades.{Upgrades}
-use Rattle.vol_tree.specs.Commits.{Commits}
+use Rattle.vol_tree.specs.internal.Commits.{Commits}
 use Rattle.vol_tree.proofs.Committing.{reflects_then, on_ok}
 use Rattle.vol_sector.specs.declared.fault.VolumeFault.{VolumeFault}
 use Rattle.vol_sector.specs.declared.fault.VolumeFault.TheVariants as faults

@@ -11,9 +11,9 @@ use Rattle.vol_tree.specs.Opened.{is_io}
 use Rattle.vol_tree.specs.declared.parts.Parts.{Parts}
 use Rattle.vol_tree.specs.Tree.{Tree}
 use Rattle.vol_tree.specs.Opened.{ReflectsOr, Answers}
-use Rattle.vol_tree.specs.Changes.{Changes}
+use Rattle.vol_tree.specs.internal.Changes.{Changes}
 use Rattle.vol_tree.specs.Parts.{opened}
-use Rattle.vol_tree.specs.Commits.{Commits}
+use Rattle.vol_tree.specs.internal.Commits.{Commits}
 use Rattle.vol_tree.specs.internal.Removals.{Fails}
 use Rattle.vol_tree.proofs.Committing.{reflects_then}
 use Rattle.vol_tree.proofs.Changing.{refused}

@@ -1,7 +1,11 @@
+-- What public contracts cite, in reading order; `internal` serves private contracts and proofs.
 pub mod Tree
 pub mod Space
 pub mod Calls
 pub mod Laws
+pub mod PathLaws
+pub mod Stat
+pub mod Stats
 pub mod Numbers
 pub mod Superblock
 pub mod Stands
@@ -9,9 +13,4 @@ pub mod Fresh
 pub mod Opened
 pub mod Opening
 pub mod Parts
-pub mod Commits
-pub mod Changes
-pub mod PathLaws
-pub mod Stat
-pub mod Stats
 pub mod internal

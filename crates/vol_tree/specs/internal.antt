@@ -3,3 +3,5 @@ pub mod Removals
 pub mod Moves
 pub mod Replacing
 pub mod Upgrades
+pub mod Changes
+pub mod Commits

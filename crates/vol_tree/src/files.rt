@@ -16,7 +16,7 @@ use vol_sector::Device;
 
 impl<D: Device> Parts<D> {
     ghost use Rattle.vol_tree.specs.Opened.{Keeps};
-    ghost use Rattle.vol_tree.specs.Changes.{Changes};
+    ghost use Rattle.vol_tree.specs.internal.Changes.{Changes};
     ghost use Rattle.vol_tree.specs.Parts.{opened, IsOpen};
 
     /// Writes bytes into a file. Of no bytes nothing changes.

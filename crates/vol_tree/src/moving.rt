@@ -19,9 +19,9 @@ use vol_sector::Device;
 
 impl<D: Device> Parts<D> {
     ghost use Rattle.vol_tree.specs.Opened.{slot_of};
-    ghost use Rattle.vol_tree.specs.Changes.{Changes};
+    ghost use Rattle.vol_tree.specs.internal.Changes.{Changes};
     ghost use Rattle.vol_tree.specs.Parts.{opened, IsOpen};
-    ghost use Rattle.vol_tree.specs.Commits.{Commits};
+    ghost use Rattle.vol_tree.specs.internal.Commits.{Commits};
     ghost use Rattle.vol_tree.specs.internal.Moves.{Moves, MovesIn, IsAbove, MovesTo};
 
     /// Gives an entry another place or name, in place of the one that has it.

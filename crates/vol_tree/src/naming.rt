@@ -20,9 +20,9 @@ use vol_sector::{Device, DeviceFault};
 
 impl<D: Device> Parts<D> {
     ghost use Rattle.vol_tree.specs.Opened.{slot_of};
-    ghost use Rattle.vol_tree.specs.Changes.{Changes, Asks};
+    ghost use Rattle.vol_tree.specs.internal.Changes.{Changes, Asks};
     ghost use Rattle.vol_tree.specs.Parts.{opened, IsOpen};
-    ghost use Rattle.vol_tree.specs.Commits.{Commits};
+    ghost use Rattle.vol_tree.specs.internal.Commits.{Commits};
     ghost use Rattle.vol_tree.specs.internal.Removals.{Removes, TakesOut};
 
     /// The least serial over `after` of an entry in a directory.

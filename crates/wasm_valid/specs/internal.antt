@@ -9,3 +9,4 @@ pub mod Fits
 pub mod Bodies
 pub mod Contexts
 pub mod Answers
+pub mod Scopes

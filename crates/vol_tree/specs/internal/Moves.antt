@@ -5,9 +5,9 @@ use Rattle.vol_log.specs.Log.{device_of}
 use Rattle.vol_tree.specs.declared.parts.Parts.{Parts}
 use Rattle.vol_tree.specs.Tree.{Tree, Path, Name, Entry, entry, Leads, IsDirectory}
 use Rattle.vol_tree.specs.Calls.{moved, is_within}
-use Rattle.vol_tree.specs.Commits.{Commits}
+use Rattle.vol_tree.specs.internal.Commits.{Commits}
 use Rattle.vol_tree.specs.Parts.{opened, IsOpen}
-use Rattle.vol_tree.specs.Changes.{Stages}
+use Rattle.vol_tree.specs.internal.Changes.{Stages}
 
 -- the entry may move into the directory
 pub record MovesIn (T : Tree) (serial parent : ℕ) : Type 0 where

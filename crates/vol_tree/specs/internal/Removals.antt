@@ -11,7 +11,7 @@ use Rattle.vol_tree.specs.Tree as tree
 use Rattle.vol_tree.specs.Tree.{changed}
 use Rattle.vol_tree.specs.Opened.{slots_in, slot_of, tree_in, ReflectsOr, Keeps}
 use Rattle.vol_tree.specs.Parts.{opened, IsOpen}
-use Rattle.vol_tree.specs.Changes.{Stages}
+use Rattle.vol_tree.specs.internal.Changes.{Stages}
 
 -- The entry is the serial's, and not the root's, and nothing stands in it.
 pub record Removes (content : Image) (v : Superblock) (serial : ℕ) (e : Entry) : Type 0 where

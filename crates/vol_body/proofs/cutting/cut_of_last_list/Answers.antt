@@ -3,7 +3,7 @@ use Rattle.vol_log.specs.Log.{view}
 use Rattle.vol_alloc.specs.Alloc.{taken_of}
 use Rattle.vol_inode.specs.Space.{sectors_of}
 use Rattle.vol_body.specs.Body.{lists, later_list, named, number_in}
-use Rattle.vol_body.specs.Shorter.{last_list, kept_bytes}
+use Rattle.vol_body.specs.internal.Shorter.{last_list, kept_bytes}
 use Rattle.vol_body.proofs.Places.{known_at}
 use Rattle.vol_body.proofs.Cuts.{cut_is}
 use Rattle.vol_body.proofs.cutting.cut_of_last_list.Goals as goal

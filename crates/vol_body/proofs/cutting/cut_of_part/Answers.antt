@@ -2,7 +2,7 @@ use Rattle.std.proofs.Common.{◌≡◌, ◌∙◌, ◌-◌, ℕ, ap, arith}
 use Rattle.vol_log.specs.Log.{view}
 use Rattle.vol_inode.specs.Space.{sectors_of}
 use Rattle.vol_body.specs.Body.{part, named}
-use Rattle.vol_body.specs.Shorter.{last_part, kept_bytes}
+use Rattle.vol_body.specs.internal.Shorter.{last_part, kept_bytes}
 use Rattle.vol_log.proofs.Readings.{reads_then}
 use Rattle.vol_body.proofs.Cuts.{cut_is}
 use Rattle.vol_body.proofs.cutting.cut_of_part.Goals as goal

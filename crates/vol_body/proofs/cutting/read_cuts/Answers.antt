@@ -1,6 +1,6 @@
 use Rattle.vol_log.specs.Log.{view}
 use Rattle.vol_alloc.specs.Alloc.{taken_of}
-use Rattle.vol_body.specs.Shorter.{cut_list, last_list, kept_bytes}
+use Rattle.vol_body.specs.internal.Shorter.{cut_list, last_list, kept_bytes}
 use Rattle.vol_log.proofs.Readings.{reads_then}
 use Rattle.vol_body.proofs.Cuts.{cut_after, in_range}
 use Rattle.vol_body.proofs.cutting.read_cuts.Goals as goal

@@ -1,5 +1,5 @@
 use Rattle.std.proofs.Common.{◌∙◌, ap}
-use Rattle.vol_body.specs.Shorter.{with_cut}
+use Rattle.vol_body.specs.internal.Shorter.{with_cut}
 use Rattle.vol_body.proofs.cutting.stage_cuts.Goals as goal
 
 pub returns-clause-view : goal.returns-clause-view

@@ -2,7 +2,7 @@ use Rattle.std.proofs.Common.{◌≡◌, ◌≢◌, ◌∙◌, ◌-◌, ◌≤�
 use Rattle.vol_log.specs.Log.{view, sectors_of}
 use Rattle.vol_alloc.specs.Alloc.{taken_of}
 use Rattle.vol_body.specs.Body.{list, lists, later_list, named, number_in}
-use Rattle.vol_body.specs.Shorter.{Gives, StandsFrom, GoesWithList, GoesWithLater}
+use Rattle.vol_body.specs.internal.Shorter.{Gives, StandsFrom, GoesWithList, GoesWithLater}
 use Rattle.vol_body.proofs.Places.{known_at}
 use Rattle.vol_log.proofs.Readings.{reads_then}
 use Rattle.vol_body.proofs.GivenBack.{gives_then, gives_at, gives_all, known_there, GoesLater}

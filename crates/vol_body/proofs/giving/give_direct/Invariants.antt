@@ -1,6 +1,6 @@
 use Rattle.std.proofs.Common.{◌≡◌, slice_index}
 use Rattle.vol_alloc.specs.Alloc.{first_of, end_of, taken_of}
-use Rattle.vol_body.specs.Shorter.{Gives, StandsFrom}
+use Rattle.vol_body.specs.internal.Shorter.{Gives, StandsFrom}
 use Rattle.vol_body.proofs.giving.give_direct.Given as goal
 
 abbrev pub invariant-loop-j : goal.invariant-loop-j

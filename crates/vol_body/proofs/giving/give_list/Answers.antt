@@ -2,7 +2,7 @@ use Rattle.std.proofs.Common.{◌≡◌, ◌⊎◌, inl, inr, ⊎_elim, sym}
 use Rattle.vol_log.specs.Log.{view}
 use Rattle.vol_alloc.specs.Alloc.{taken_of}
 use Rattle.vol_body.specs.Body.{number_in}
-use Rattle.vol_body.specs.Shorter.{StandsFrom, GoesWithList}
+use Rattle.vol_body.specs.internal.Shorter.{StandsFrom, GoesWithList}
 use Rattle.vol_body.proofs.GivenBack.{gives_then, gives_these, gives_read}
 use Rattle.vol_body.proofs.giving.give_list.Goals as goal
 

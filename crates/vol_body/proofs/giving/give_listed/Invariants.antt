@@ -1,7 +1,7 @@
 use Rattle.std.proofs.Common.{◌≡◌, ◌*◌, drop}
 use Rattle.byteorder.specs.Endian.{little_number}
 use Rattle.vol_alloc.specs.Alloc.{first_of, end_of, taken_of}
-use Rattle.vol_body.specs.Shorter.{Gives, StandsFrom}
+use Rattle.vol_body.specs.internal.Shorter.{Gives, StandsFrom}
 use Rattle.vol_body.proofs.giving.give_listed.Given as goal
 
 abbrev pub invariant-loop-i : goal.invariant-loop-i

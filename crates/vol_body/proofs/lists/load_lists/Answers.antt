@@ -3,7 +3,7 @@ use Rattle.vol_sector.specs.Disk.{Image}
 use Rattle.vol_log.specs.Log.{view}
 use Rattle.vol_alloc.specs.Alloc.{taken_of}
 use Rattle.vol_body.specs.Body.{lists, NamesTaken}
-use Rattle.vol_body.specs.Writing.{Mirrors, segment, segment_of}
+use Rattle.vol_body.specs.internal.Writing.{Mirrors, segment, segment_of}
 use Rattle.vol_body.proofs.Loads.{mirrors_in}
 use Rattle.vol_body.proofs.lists.load_lists.Goals as goal
 

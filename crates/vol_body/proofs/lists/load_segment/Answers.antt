@@ -2,7 +2,7 @@ use Rattle.std.proofs.Common.{◌≡◌, ◌<◌, ◌-◌, ◌∙◌, IfOk, sym,
 use Rattle.vol_log.specs.Log.{view}
 use Rattle.vol_alloc.specs.Alloc.{taken_of}
 use Rattle.vol_body.specs.Body.{Place, later_list, named}
-use Rattle.vol_body.specs.Writing.{Mirrors}
+use Rattle.vol_body.specs.internal.Writing.{Mirrors}
 use Rattle.vol_body.proofs.Places.{known_at}
 use Rattle.vol_body.proofs.Loads.{loaded, segment_later, number_mirrored}
 use Rattle.vol_body.proofs.lists.load_segment.Goals as goal

@@ -1,5 +1,5 @@
 use Rattle.std.proofs.Common.{◌≡◌, ◌<◌, ◌≤◌, ℕ, length, nat_lt, slice_index, if◌then◌else◌}
-use Rattle.vol_body.specs.Shorter.{first_of_pointer}
+use Rattle.vol_body.specs.internal.Shorter.{first_of_pointer}
 use Rattle.vol_body.proofs.shrinking.kept_pointers.Given as goal
 
 abbrev pub invariant-loop-j : goal.invariant-loop-j

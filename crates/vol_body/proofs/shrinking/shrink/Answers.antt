@@ -7,7 +7,7 @@ use Rattle.vol_inode.specs.Space.{sectors_of}
 use Rattle.vol_inode.specs.declared.entry.Entry.{Entry}
 use Rattle.vol_body.specs.Body.{NamesTaken, IsBody, bytes_of}
 use Rattle.vol_body.specs.Change.{OthersStay, TakesAndGives}
-use Rattle.vol_body.specs.Shorter.{first_of_pointer, with_cuts, Gives, Goes}
+use Rattle.vol_body.specs.internal.Shorter.{first_of_pointer, with_cuts, Gives, Goes}
 use Rattle.vol_log.proofs.Readings.{reads_then}
 use Rattle.vol_body.proofs.Stagings.{stages_then}
 use Rattle.vol_body.proofs.Cuts.{put_there, in_range}

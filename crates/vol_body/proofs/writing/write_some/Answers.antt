@@ -6,7 +6,7 @@ use Rattle.vol_inode.specs.Space.{need_of}
 use Rattle.vol_inode.specs.declared.entry.Entry.{Entry}
 use Rattle.vol_body.specs.Body.{part, named, part_bytes, NamesTaken}
 use Rattle.vol_body.specs.Change.{used_of}
-use Rattle.vol_body.specs.Writing.{IsReady, MirrorsAll, Changes, IsPartIn, IsPointer}
+use Rattle.vol_body.specs.internal.Writing.{IsReady, MirrorsAll, Changes, IsPartIn, IsPointer}
 use Rattle.vol_log.proofs.Readings.{reads_then}
 use Rattle.vol_body.proofs.Stagings.{stages_then}
 use Rattle.vol_body.proofs.Steps.{put_here, room_left, on_err}

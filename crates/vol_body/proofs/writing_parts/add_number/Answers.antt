@@ -4,7 +4,7 @@ use Rattle.byteorder.specs.Endian.{little_number}
 use Rattle.vol_sector.specs.Disk.{Image, put}
 use Rattle.vol_log.specs.Log.{view, room_of, is_staged}
 use Rattle.vol_alloc.specs.Alloc.{taken_of, free_of}
-use Rattle.vol_body.specs.Naming.{ListsOneMore}
+use Rattle.vol_body.specs.internal.Naming.{ListsOneMore}
 use Rattle.vol_body.proofs.Places.{bytes_there}
 use Rattle.vol_body.proofs.Space.{some_free}
 use Rattle.vol_body.proofs.Added.{TakesSector, adds_number}

@@ -2,7 +2,7 @@ use Rattle.std.proofs.Common.{◌≡◌, ◌≢◌, ◌<◌, true, get_or, refl,
 use Rattle.vol_log.specs.Log.{view}
 use Rattle.vol_alloc.specs.Alloc.{taken_of}
 use Rattle.vol_body.specs.Body.{part, named}
-use Rattle.vol_body.specs.Writing.{IsMissing}
+use Rattle.vol_body.specs.internal.Writing.{IsMissing}
 use Rattle.vol_body.proofs.Places.{part_direct, known_at}
 use Rattle.vol_body.proofs.Steps.{bytes_mirrored, part_over}
 use Rattle.vol_body.proofs.writing_parts.write_direct_part.Goals as goal

@@ -2,7 +2,7 @@ use Rattle.std.proofs.Common.{◌≡◌, ◌≢◌, ◌⊎◌, inl, true, sym, �
 use Rattle.vol_log.specs.Log.{view}
 use Rattle.vol_alloc.specs.Alloc.{taken_of}
 use Rattle.vol_body.specs.Body.{part, named}
-use Rattle.vol_body.specs.Writing.{IsMissing}
+use Rattle.vol_body.specs.internal.Writing.{IsMissing}
 use Rattle.vol_body.proofs.Places.{known_at}
 use Rattle.vol_body.proofs.Added.{mirror_stays}
 use Rattle.vol_body.proofs.Steps.{bytes_mirrored, changes_wider, not_a_part, part_mirrored, part_over}

@@ -1,6 +1,6 @@
 use Rattle.std.proofs.Common.{◌≡◌, ℕ, List, replicate, ◌∙◌, sym, subst}
 use Rattle.vol_log.specs.Log.{view}
-use Rattle.vol_body.specs.Writing.{Adds, IsMissing}
+use Rattle.vol_body.specs.internal.Writing.{Adds, IsMissing}
 use Rattle.vol_body.proofs.Steps.{blank_zeros, held_zeros}
 use Rattle.vol_body.proofs.writing_spans.open_pointer.Goals as goal
 

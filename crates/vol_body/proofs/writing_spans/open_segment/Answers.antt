@@ -2,7 +2,7 @@ use Rattle.std.proofs.Common.{◌≡◌, ◌≢◌, ◌⊎◌, inl, inr, ◌<◌
 use Rattle.vol_log.specs.Log.{view}
 use Rattle.vol_inode.specs.Space.{sectors_of}
 use Rattle.vol_body.specs.Body.{Place, list, lists, later_list}
-use Rattle.vol_body.specs.Writing.{Adds, IsMissing, Mirrors, segment}
+use Rattle.vol_body.specs.internal.Writing.{Adds, IsMissing, Mirrors, segment}
 use Rattle.vol_body.proofs.Added.{mirror_stays}
 use Rattle.vol_body.proofs.Loads.{segment_later}
 use Rattle.vol_body.proofs.Steps.{blank_zeros, held_zeros, changes_wider, changes_then, placed_most}

@@ -3,7 +3,7 @@ use Rattle.vol_log.specs.Log.{view}
 use Rattle.vol_inode.specs.Space.{sectors_of}
 use Rattle.vol_inode.specs.declared.entry.Entry.{Entry}
 use Rattle.vol_body.specs.Body.{part}
-use Rattle.vol_body.specs.Writing.{IsPartIn, image_of}
+use Rattle.vol_body.specs.internal.Writing.{IsPartIn, image_of}
 use Rattle.vol_body.proofs.Steps.{puts_then, range_then, changes_then, changes_wider, part_in_more, part_in_here, part_in_all, parts_more, parts_shorter}
 use Rattle.vol_body.proofs.writing_spans.write_direct.Goals as goal
 

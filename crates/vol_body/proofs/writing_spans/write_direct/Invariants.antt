@@ -2,7 +2,7 @@ use Rattle.std.proofs.Common.{◌≡◌, ◌≤◌, ◌+◌, ◌-◌, ℕ, true,
 use Rattle.vol_log.specs.Log.{view, room_of, has_failed}
 use Rattle.vol_alloc.specs.Alloc.{taken_of}
 use Rattle.vol_inode.specs.Space.{sectors_of}
-use Rattle.vol_body.specs.Writing.{IsReady, Changes, IsPartIn, HasParts, OnlyPuts, SameRange, image_of}
+use Rattle.vol_body.specs.internal.Writing.{IsReady, Changes, IsPartIn, HasParts, OnlyPuts, SameRange, image_of}
 use Rattle.vol_body.proofs.writing_spans.write_direct.Given as goal
 
 abbrev pub invariant-loop-j : goal.invariant-loop-j

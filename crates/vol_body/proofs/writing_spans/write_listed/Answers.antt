@@ -1,7 +1,7 @@
 use Rattle.std.proofs.Common.{◌≡◌, ◌⊎◌, inl, inr, ◌≤◌, ◌<◌, ◌+◌, ◌-◌, ◌∙◌, sym, subst, arith, ℕ}
 use Rattle.vol_log.specs.Log.{view, room_of}
 use Rattle.vol_body.specs.Body.{Place, part}
-use Rattle.vol_body.specs.Writing.{IsPartIn, segment, placed, image_of}
+use Rattle.vol_body.specs.internal.Writing.{IsPartIn, segment, placed, image_of}
 use Rattle.vol_body.proofs.Steps.{puts_then, range_then, changes_then, changes_wider, part_in_more, part_in_here, part_in_all, parts_more, parts_shorter, segment_lists, segment_place, segment_other}
 use Rattle.vol_body.proofs.writing_spans.write_listed.Goals as goal
 

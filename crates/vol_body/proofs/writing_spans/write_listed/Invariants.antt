@@ -3,7 +3,7 @@ use Rattle.vol_log.specs.Log.{view, room_of, has_failed}
 use Rattle.vol_alloc.specs.Alloc.{taken_of}
 use Rattle.vol_inode.specs.Space.{sectors_of}
 use Rattle.vol_inode.specs.declared.entry.Entry.{Entry}
-use Rattle.vol_body.specs.Writing.{IsReady, Mirrors, Changes, IsPartIn, HasParts, OnlyPuts, SameRange, segment, placed, image_of}
+use Rattle.vol_body.specs.internal.Writing.{IsReady, Mirrors, Changes, IsPartIn, HasParts, OnlyPuts, SameRange, segment, placed, image_of}
 use Rattle.vol_body.proofs.writing_spans.write_listed.Given as goal
 
 abbrev pub invariant-loop-j : goal.invariant-loop-j

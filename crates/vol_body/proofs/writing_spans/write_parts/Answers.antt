@@ -3,7 +3,7 @@ use Rattle.std.proofs.lemmas.Bool.{cases_lt}
 use Rattle.vol_log.specs.Log.{view}
 use Rattle.vol_inode.specs.Space.{sectors_of}
 use Rattle.vol_body.specs.Body.{Place, part, lists}
-use Rattle.vol_body.specs.Writing.{Mirrors, HasParts, IsPartIn, IsPointer, segment, segment_of, image_of}
+use Rattle.vol_body.specs.internal.Writing.{Mirrors, HasParts, IsPartIn, IsPointer, segment, segment_of, image_of}
 use Rattle.vol_body.proofs.Added.{mirror_stays}
 use Rattle.vol_body.proofs.Steps.{puts_then, range_then, changes_then, segment_no_part, segment_not_lists, segments_differ, segment_is_place, segment_is_pointer, lists_is_pointer, segment_other, part_in_span}
 use Rattle.vol_body.proofs.writing_spans.write_parts.Goals as goal

@@ -2,7 +2,7 @@ use Rattle.std.proofs.Common.{◌≡◌, ◌⊎◌, inl, inr, ◌<◌, ℕ, refl
 use Rattle.vol_log.specs.Log.{view}
 use Rattle.vol_inode.specs.Space.{sectors_of}
 use Rattle.vol_body.specs.Body.{Place, lists}
-use Rattle.vol_body.specs.Writing.{IsPartIn, segment}
+use Rattle.vol_body.specs.internal.Writing.{IsPartIn, segment}
 use Rattle.vol_body.proofs.Added.{mirror_stays}
 use Rattle.vol_body.proofs.Steps.{changes_then, segment_not_lists}
 use Rattle.vol_body.proofs.writing_spans.write_segment.Goals as goal

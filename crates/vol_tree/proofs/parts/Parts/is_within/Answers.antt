@@ -8,7 +8,7 @@ use Rattle.vol_tree.specs.internal.Moves.{IsAbove}
 use Rattle.vol_tree.proofs.Climbing.{within_here, within_root, within_step, above_used}
 use Rattle.vol_tree.proofs.Committing.{no_commit, commits_then}
 use Rattle.vol_tree.proofs.Taking.{passed_io, passed_err}
-use Rattle.vol_tree.specs.Commits.{Commits}
+use Rattle.vol_tree.specs.internal.Commits.{Commits}
 use Rattle.vol_tree.proofs.Entries.{directory_used}
 use Rattle.vol_tree.proofs.Finding.{length_tree}
 use Rattle.vol_tree.proofs.parts.Parts.is_within.Goals as goal

@@ -11,7 +11,7 @@ use Rattle.vol_inode.specs.Space.{sectors_of, need_of}
 use Rattle.vol_body.specs.declared.lists.Lists.{Lists}
 use Rattle.vol_body.specs.Body.{Place, part, list, lists, later_list, IsPlace, first_served, named, part_bytes, bytes_of, NamesTaken, IsBody}
 use Rattle.vol_body.specs.Change.{written, used_of, OthersStay, TakesAndGives}
-use Rattle.vol_body.specs.Naming.{IsNaming}
+use Rattle.vol_body.specs.internal.Naming.{IsNaming}
 
 -- the place of the pointer sector that lists the 128 parts from 58 + 128 * g on
 abbrev pub segment : ℕ → Place
