@@ -261,7 +261,7 @@ stands_named content e n has =
 
 -- ---- where no number stands twice, no two places name the same sector
 
-not_in_both : (xs ys : List ℕ) (n : ℕ) → AreDistinct (xs ++ ys) → Contains xs n → Contains ys n → ⊥
+pub not_in_both : (xs ys : List ℕ) (n : ℕ) → AreDistinct (xs ++ ys) → Contains xs n → Contains ys n → ⊥
 not_in_both xs ys n distinct left right =
     let j = left.0 in
     let i = right.0 in

@@ -37,3 +37,9 @@ pub mod Used
 pub mod FilledMaps
 pub mod RenamedMaps
 pub mod Ranges
+pub mod WaysUp
+pub mod Checked
+pub mod AllNamed
+pub mod Passes
+pub mod Passed
+pub mod Openings

@@ -1,5 +1,5 @@
 -- What opening says of an image, on a device with so many sectors.
-use Rattle.std.specs.Prelude.{◌≡◌, ◌≢◌, ◌⊎◌, ◌≤◌, ◌<◌, ℕ, take, drop}
+use Rattle.std.specs.Prelude.{◌⊎◌, ◌≤◌, ◌<◌, ℕ, drop}
 use Rattle.byteorder.specs.Endian.{little_number}
 use Rattle.vol_sector.specs.Disk.{Image}
 use Rattle.vol_tree.specs.declared.superblock.Superblock.{Superblock}
@@ -25,8 +25,12 @@ pub record HasNoVersion (size : ℕ) (image : Image) : Type 0 where
   pub begins : NoVolumeOn size image → ⊥
   pub version : IsNoVersion (version_in image)
 
--- The image begins as a volume of a known version, and stands for no tree.
-pub record IsDamaged (size : ℕ) (image : Image) : Type 0 where
-  pub begins : NoVolumeOn size image → ⊥
+-- The image begins as a volume of a known version.
+pub record BeginsRight (size : ℕ) (image : Image) : Type 0 where
+  pub volume : NoVolumeOn size image → ⊥
   pub version : IsNoVersion (version_in image) → ⊥
+
+-- It begins so, and stands for no tree.
+pub record IsDamaged (size : ℕ) (image : Image) : Type 0 where
+  pub begins : BeginsRight size image
   pub none : (v : Superblock) (T : Tree) → StandsOn size image v T → ⊥

@@ -3,5 +3,7 @@ pub mod Removals
 pub mod Moves
 pub mod Replacing
 pub mod Upgrades
+pub mod Climbs
+pub mod Reads
 pub mod Changes
 pub mod Commits

@@ -1,6 +1,7 @@
 //! A volume of files in directories, kept through a crash.
 #![tactic(auto)]
 
+mod checking;
 mod errno;
 mod files;
 mod formatting;
@@ -8,7 +9,10 @@ mod laws;
 mod layout;
 mod moving;
 mod naming;
+mod opening;
 mod parts;
+mod reaching;
+mod reading;
 mod stat;
 mod stats;
 mod superblock;

@@ -18,11 +18,14 @@ ghost use Rattle.vol_tree.specs.Opened.{Answers, Tells, TellsBytes, Keeps, Refle
 ghost use Rattle.vol_inode.specs.Name.{IsName};
 ghost use Rattle.vol_inode.specs.declared.version.Version.TheVariants.{One, Two};
 
+use crate::checking::read_parts;
+use crate::opening::read_front;
 use crate::parts::Parts;
 use crate::{Errno, Stat, Stats};
 use std::alloc::Global;
 use std::marker::Model;
 use vol_inode::{Kind, Version};
+use vol_log::Log;
 use vol_sector::{Device, Refused, VolumeFault};
 
 /// A volume of files in directories.
@@ -55,7 +58,7 @@ impl<D: Device> Volume<D> {
     ///
     /// It may be stopped and begun again any number of times. It takes the memory for all later
     /// calls.
-    pub fn open(alloc: Global, device: D) -> Result<Volume<D>, Refused<D>>
+    pub fn open(alloc: Global, mut device: D) -> Result<Volume<D>, Refused<D>>
         // What reads gave stands for the tree, with these numbers.
         ensures stands { D.honest device → IfOk result
             (λ v. StandsOn (D.size device) (D.disk device).seen v.numbers v.tree) }
@@ -102,13 +105,29 @@ impl<D: Device> Volume<D> {
             × (D.size r.device ≡ D.size device)
             × (D.failures r.device ≡ counted (is_device r.fault) (D.failures device))) }
     {
-        let _ = alloc;
-        let fault = if device.sectors() < 137 {
-            VolumeFault::NotAVolume
-        } else {
-            VolumeFault::Memory
+        let numbers = match read_front(&mut device) {
+            Ok(numbers) => numbers,
+            Err(fault) => return Err(Refused { device, fault }),
         };
-        Err(Refused { device, fault })
+        let mut log = match Log::open(alloc, device, numbers.sectors) {
+            Ok(log) => log,
+            Err(refused) => return Err(refused),
+        };
+        match read_parts(alloc, &mut log, &numbers) {
+            Ok((dirs, sectors, reserved)) => Ok(Volume {
+                parts: Parts {
+                    log,
+                    dirs,
+                    sectors,
+                    numbers,
+                    reserved,
+                },
+            }),
+            Err(fault) => Err(Refused {
+                device: log.into_device(),
+                fault,
+            }),
+        }
     }
 
     /// A law: on a device that keeps its model, what an open volume shows is a tree with a place for

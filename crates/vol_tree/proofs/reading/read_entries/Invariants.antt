@@ -1,0 +1,14 @@
+use Rattle.std.proofs.Common.{◌≡◌, false, length}
+use Rattle.vol_log.specs.Log.{view, device_of, has_failed}
+use Rattle.vol_log.specs.Reading.{OnlyReads}
+use Rattle.vol_tree.specs.internal.Reads.{AreWithin, HaveRead}
+use Rattle.vol_tree.proofs.reading.read_entries.Given as goal
+
+abbrev pub invariant-loop-slot : goal.invariant-loop-slot
+invariant-loop-slot g l = record {
+  working : has_failed l.log ≡ false;
+  reads : OnlyReads l.fn.log l.log;
+  count : length l.found.parents.items ≡ l.slot;
+  within : AreWithin l.numbers l.found;
+  read : g.D.Device.honest (device_of l.fn.log) → HaveRead (view l.fn.log) l.numbers l.dirs l.slot l.found;
+}

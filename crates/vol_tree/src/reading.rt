@@ -1,0 +1,237 @@
+//! Reading all entries of a volume, with the checks that each one asks.
+
+ghost use Rattle.std.specs.Prelude.{◌≡◌, ◌≢◌, ◌⊎◌, ◌≤◌, ◌<◌, ◌+◌, ◌∷◌, ◌++◌, [], IsTrue, IfOk, OnOk, IfErr, false, Some, None, length};
+ghost use Rattle.vol_sector.specs.Disk.{Image};
+ghost use Rattle.vol_sector.specs.Fault.{device_failed};
+ghost use Rattle.vol_log.specs.Log.{view, sectors_of, has_failed, device_of};
+ghost use Rattle.vol_log.specs.Reading.{OnlyReads};
+ghost use Rattle.vol_inode.specs.Entry.{IsEntry, HasName, name_of};
+ghost use Rattle.vol_inode.specs.Space.{need_of};
+ghost use Rattle.vol_body.specs.Survey.{IsTrimmed};
+ghost use Rattle.vol_dirs.specs.Names.{Names, Shows};
+ghost use Rattle.vol_tree.specs.Superblock.{HasRanges};
+ghost use Rattle.vol_tree.specs.Parts.{IsContent};
+ghost use Rattle.vol_tree.specs.internal.Replacing.{kind_is_directory};
+ghost use Rattle.vol_tree.specs.internal.Reads.{held_at, IsPlaced, IsRight, Adds, AreWithin, FitIn, HaveRead};
+
+use crate::layout::FIRST_SLOT;
+use crate::stat::ROOT;
+use crate::superblock::Superblock;
+use std::alloc::{AllocError, Global};
+use vol_body::survey;
+use vol_dirs::Dirs;
+use vol_inode::{Entry, Kind, need, read_entry};
+use vol_log::Log;
+use vol_sector::{Device, VolumeFault};
+
+/// What the slots hold.
+#[derive(Drop)]
+pub(crate) struct Entries {
+    /// The numbers of all sectors that files name.
+    pub named: Vec<u32>,
+    /// The serial of the directory that each slot's entry is in; 0 for the root, and for slots that
+    /// aren't used.
+    pub parents: Vec<u32>,
+    /// Whether each slot's entry is a directory.
+    pub directories: Vec<bool>,
+    /// The sectors that all files need by their sizes.
+    pub reserved: u32,
+}
+
+impl Entries {
+    /// Takes up a slot that isn't used.
+    fn pass(&mut self) -> Result<(), VolumeFault>
+        ensures adds { OnOk result ((content : Image) → Adds content None self.old self.new) }
+        ensures named { self.new.named.items ≡ self.old.named.items }
+        ensures reserved { self.new.reserved ≡ self.old.reserved }
+        ensures count { OnOk result
+            (length self.new.parents.items ≡ length self.old.parents.items + 1) }
+        ensures refused { IfErr result (λ fault. fault ≡ VolumeFault.Memory) }
+    {
+        self.hold(0, false)?;
+        Ok(())
+    }
+
+    /// Takes up an entry, but for the sectors that it names. It is refused as `Damaged` where it
+    /// needs more than the data sectors that are left, and as `Memory`.
+    fn add(&mut self, entry: &Entry, data_sectors: u32) -> Result<(), VolumeFault>
+        requires { self.old.reserved ≤ data_sectors }
+        ensures named { self.new.named.items ≡ self.old.named.items }
+        ensures parents { OnOk result (self.new.parents.items
+            ≡ self.old.parents.items ++ entry.now.parent ∷ []) }
+        ensures directories { OnOk result (self.new.directories.items
+            ≡ self.old.directories.items ++ kind_is_directory entry.now.kind ∷ []) }
+        ensures reserved { OnOk result
+            (self.new.reserved ≡ self.old.reserved + need_of entry.now.size) }
+        ensures room { OnOk result (self.new.reserved ≤ data_sectors) }
+        ensures damaged { IfErr result (λ fault. fault ≡ VolumeFault.Damaged
+            → data_sectors < self.old.reserved + need_of entry.now.size) }
+        ensures refused { IfErr result (λ fault. (fault ≡ VolumeFault.Damaged)
+            ⊎ (fault ≡ VolumeFault.Memory)) }
+    {
+        let need = need(entry.size);
+        if data_sectors - self.reserved < need {
+            return Err(VolumeFault::Damaged);
+        }
+        self.reserved += need;
+        self.hold(entry.parent, is_directory(entry))?;
+        Ok(())
+    }
+
+    /// Pushes the parent of a slot, and whether it holds a directory.
+    fn hold(&mut self, parent: u32, directory: bool) -> Result<(), AllocError>
+        ensures named { self.new.named.items ≡ self.old.named.items }
+        ensures parents { OnOk result
+            (self.new.parents.items ≡ self.old.parents.items ++ parent ∷ []) }
+        ensures directories { OnOk result
+            (self.new.directories.items ≡ self.old.directories.items ++ directory ∷ []) }
+        ensures reserved { self.new.reserved ≡ self.old.reserved }
+    {
+        self.parents.push(parent)?;
+        self.directories.push(directory)?;
+        Ok(())
+    }
+}
+
+/// Whether the entry is a directory.
+fn is_directory(entry: &Entry) -> bool
+    ensures { result ≡ kind_is_directory entry.now.kind }
+{
+    entry.kind == Kind::Directory
+}
+
+/// Whether the entry has a parent, unless it is the root's, and a name that no entry of a lesser
+/// serial has there.
+fn is_placed<D: Device>(log: &Log<D>, dirs: &Dirs, serial: u32, entry: &Entry) -> bool
+    requires working { has_failed log.now ≡ false }
+    requires named { HasName entry.now }
+    ensures yes { IsTrue result → IsPlaced dirs.now serial entry.now }
+    ensures no { (entry.now.parent ≢ 0
+        → Names dirs.now entry.now.parent (name_of entry.now) serial)
+        → IsPlaced dirs.now serial entry.now → IsTrue result }
+{
+    if serial == ROOT || entry.parent == 0 {
+        return serial == ROOT && entry.parent == 0;
+    }
+    let name = &entry.name[..entry.name_length as usize];
+    match dirs.lookup(log, entry.parent, name) {
+        Ok(Some(first)) => first == serial,
+        Ok(None) => false,
+        Err(_) => false,
+    }
+}
+
+/// Takes up the entry of a slot, with the sectors that it names.
+fn take_up<D: Device>(
+    log: &mut Log<D>,
+    numbers: &Superblock,
+    dirs: &Dirs,
+    serial: u32,
+    entry: &Entry,
+    found: &mut Entries,
+) -> Result<(), VolumeFault>
+    requires there { numbers.now.sectors ≤ sectors_of log.old }
+    requires ranges { HasRanges numbers.now }
+    requires working { has_failed log.old ≡ false }
+    requires right { IsEntry numbers.now.version entry.now }
+    requires within { AreWithin numbers.now found.old }
+    ensures adds { D.honest (device_of log.old)
+        → OnOk result (Adds (view log.old) (Some entry.now) found.old found.new) }
+    ensures within { OnOk result (AreWithin numbers.now found.new) }
+    ensures count { OnOk result
+        (length found.new.parents.items ≡ length found.old.parents.items + 1) }
+    ensures placed { OnOk result (IsPlaced dirs.now serial entry.now) }
+    ensures trimmed { D.honest (device_of log.old)
+        → OnOk result (IsTrimmed (view log.old) entry.now) }
+    ensures damaged { D.honest (device_of log.old)
+        → IfErr result (λ fault. fault ≡ VolumeFault.Damaged
+        → (entry.now.parent ≢ 0 → Names dirs.now entry.now.parent (name_of entry.now) serial)
+        → IsPlaced dirs.now serial entry.now → IsTrimmed (view log.old) entry.now
+        → FitIn (view log.old) numbers.now (Some entry.now) found.old → ⊥) }
+    ensures refused { IfErr result (λ fault. (fault ≡ VolumeFault.Damaged)
+        ⊎ ((fault ≡ VolumeFault.Device) ⊎ (fault ≡ VolumeFault.Memory))) }
+    ensures reads { OnlyReads log.old log.new }
+    ensures failed { has_failed log.new ≡ device_failed result }
+{
+    if !is_placed(log, dirs, serial, entry) {
+        return Err(VolumeFault::Damaged);
+    }
+    let first = FIRST_SLOT + numbers.slots;
+    survey(log, entry, first, numbers.sectors, &mut found.named)?;
+    found.add(entry, numbers.sectors - first)
+}
+
+/// Reads a slot, and takes up what it holds.
+fn read_slot<D: Device>(
+    log: &mut Log<D>,
+    numbers: &Superblock,
+    dirs: &Dirs,
+    slot: u32,
+    found: &mut Entries,
+) -> Result<(), VolumeFault>
+    requires there { numbers.now.sectors ≤ sectors_of log.old }
+    requires ranges { HasRanges numbers.now }
+    requires working { has_failed log.old ≡ false }
+    requires slot { slot < numbers.now.slots }
+    requires within { AreWithin numbers.now found.old }
+    ensures adds { D.honest (device_of log.old) → OnOk result (Adds (view log.old)
+        (held_at (view log.old) numbers.now slot) found.old found.new) }
+    ensures within { OnOk result (AreWithin numbers.now found.new) }
+    ensures count { OnOk result
+        (length found.new.parents.items ≡ length found.old.parents.items + 1) }
+    ensures right { D.honest (device_of log.old) → OnOk result (IsRight (view log.old)
+        numbers.now dirs.now slot (held_at (view log.old) numbers.now slot)) }
+    ensures damaged { D.honest (device_of log.old)
+        → Shows numbers.now.version (view log.old) numbers.now.slots dirs.now
+        → IfErr result (λ fault. fault ≡ VolumeFault.Damaged
+        → IsRight (view log.old) numbers.now dirs.now slot
+        (held_at (view log.old) numbers.now slot)
+        → FitIn (view log.old) numbers.now (held_at (view log.old) numbers.now slot) found.old
+        → ⊥) }
+    ensures refused { IfErr result (λ fault. (fault ≡ VolumeFault.Damaged)
+        ⊎ ((fault ≡ VolumeFault.Device) ⊎ (fault ≡ VolumeFault.Memory))) }
+    ensures reads { OnlyReads log.old log.new }
+    ensures failed { has_failed log.new ≡ device_failed result }
+{
+    let image = log.read(FIRST_SLOT + slot)?;
+    match read_entry(numbers.version, &image) {
+        Ok(Some(entry)) => take_up(log, numbers, dirs, slot + 1, &entry, found),
+        Ok(None) => found.pass(),
+        Err(_) => Err(VolumeFault::Damaged),
+    }
+}
+
+/// Reads all slots, one after another.
+pub(crate) fn read_entries<D: Device>(
+    alloc: Global,
+    log: &mut Log<D>,
+    numbers: &Superblock,
+    dirs: &Dirs,
+) -> Result<Entries, VolumeFault>
+    requires there { numbers.now.sectors ≤ sectors_of log.old }
+    requires ranges { HasRanges numbers.now }
+    requires working { has_failed log.old ≡ false }
+    ensures read { D.honest (device_of log.old) → IfOk result
+        (λ found. HaveRead (view log.old) numbers.now dirs.now numbers.now.slots found) }
+    ensures within { IfOk result (λ found. AreWithin numbers.now found) }
+    ensures count { IfOk result (λ found. length found.parents.items ≡ numbers.now.slots) }
+    ensures damaged { D.honest (device_of log.old)
+        → Shows numbers.now.version (view log.old) numbers.now.slots dirs.now
+        → IfErr result (λ fault. fault ≡ VolumeFault.Damaged
+        → IsContent (view log.old) numbers.now → ⊥) }
+    ensures refused { IfErr result (λ fault. (fault ≡ VolumeFault.Damaged)
+        ⊎ ((fault ≡ VolumeFault.Device) ⊎ (fault ≡ VolumeFault.Memory))) }
+    ensures reads { OnlyReads log.old log.new }
+    ensures failed { has_failed log.new ≡ device_failed result }
+{
+    let mut found = Entries {
+        named: Vec::new(alloc),
+        parents: Vec::new(alloc),
+        directories: Vec::new(alloc),
+        reserved: 0,
+    };
+    for slot in 0..numbers.slots {
+        read_slot(log, numbers, dirs, slot, &mut found)?;
+    }
+    Ok(found)
+}
