@@ -17,10 +17,7 @@ use Rattle.wasi_fd.specs.Table.{Table, with_at}
 use Rattle.wasi_calls.specs.World.{places}
 use Rattle.wasi_calls.specs.Confined.{Tops, IsOutside}
 use Rattle.vol_tree.proofs.Trees.{Childless, without_is_tree, rewritten_is_tree, moved_is_tree}
-
-abbrev pub is_directory_kind : EntryKind → Bool
-is_directory_kind kinds.Directory = true
-is_directory_kind kinds.File = false
+pub use Rattle.wasi_calls.specs.internal.Serving.{is_directory_kind}
 
 -- A descriptor's entry is there, is what the descriptor says, and is not outside.
 pub record IsGood (T0 : Tree) (tops : Tops) (T : Tree) (fd : ℕ) (o : Opened) : Type 0 where

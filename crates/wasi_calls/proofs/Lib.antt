@@ -6,6 +6,8 @@ pub mod Rows
 pub mod Confinement
 pub mod Serving
 pub mod Served
+pub mod Volumes
+pub mod Entries
 pub mod Texts
 pub mod Examples
 pub mod Moments

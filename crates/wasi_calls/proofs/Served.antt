@@ -4,6 +4,7 @@ use Rattle.std.proofs.lemmas.Bool.{cases_eq, cond-true, cond-false, eq-eqb, ne_e
 use Rattle.std.proofs.lemmas.Option.{none-some}
 use Rattle.std.specs.Io.KnownBytes.{IsAtEnd}
 use Rattle.vol_sector.specs.Disk.{Disk, counted}
+use Rattle.vol_tree.specs.declared.superblock.Superblock.{Superblock}
 use Rattle.vol_tree.specs.Opened.{Opened, IsSerial}
 use Rattle.wasi_fd.specs.declared.descriptor.Descriptor.TheVariants.{Entry}
 use Rattle.wasi_fd.specs.declared.descriptor.Opened.{Opened as OpenedEntry}
@@ -15,8 +16,8 @@ use Rattle.wasi_calls.specs.Settings.{settings_fit}
 use Rattle.wasi_calls.specs.World.{World}
 use Rattle.wasi_calls.specs.Checks.{Checked, Done}
 use Rattle.wasi_calls.specs.Calls.{Answers, Answered, by_row}
-use Rattle.wasi_calls.specs.Host.{StreamBytes, Tells, Has, world_of, VolumeStep}
-use Rattle.wasi_calls.specs.internal.Serving.{NoMoreEntries, state_of, IsSetUp, Serves}
+use Rattle.wasi_calls.specs.Host.{StreamBytes, Tells, StreamsTell, world_of, VolumeStep}
+use Rattle.wasi_calls.specs.internal.Serving.{NoMoreEntries, state_of, with_volume, IsSetUp, Serves}
 
 -- ---- tables
 
@@ -31,14 +32,14 @@ no_more_closed fd old new h k o is = elim (cases_eq k fd) [
 
 -- ---- streams
 
-told : Option (List ℕ) → List ℕ
+pub told : Option (List ℕ) → List ℕ
 told None = []
 told (Some xs) = xs
 
-tells_told : (o : Option (List ℕ)) → Tells o (told o)
+pub rests : (o : Option (List ℕ)) → Tells o o (told o) (told o)
 unfolding told
-tells_told None = tt
-tells_told (Some xs) = refl
+rests None = tt
+rests (Some xs) = (refl, refl)
 
 told_end : (o : Option (List ℕ)) → IsAtEnd o → told o ≡ []
 unfolding told
@@ -71,13 +72,15 @@ module _ {D R W1 W2 : Type 0} (honest : D → Type 0) (disk : D → Disk) (secto
   pub bytes_told : Inner D R W1 W2 → StreamBytes
   bytes_told p = record { input = told (remaining p.input.reader); output = told (out_contents p.out.writer); errors = told (err_contents p.err.writer) }
 
-  pub has_told : (p : Inner D R W1 W2) → IsSetUp remaining p → Has remaining out_contents err_contents (state_of p) (bytes_told p)
+  -- the streams are not touched
+  pub streams_rest : (old : Inner D R W1 W2) (v : Opened D) (d : Descriptors) (s : Settings) → IsSetUp remaining old
+      → StreamsTell remaining out_contents err_contents (state_of old) (state_of (record old { volume = v; descriptors = d; settings = s })) (bytes_told old) (bytes_told old)
   unfolding bytes_told
-  has_told p h = record {
-    input = tells_told (remaining p.input.reader);
-    ended = λ is. told_end (remaining p.input.reader) (h.ended is);
-    output = tells_told (out_contents p.out.writer);
-    errors = tells_told (err_contents p.err.writer);
+  streams_rest old v d s h = record {
+    input = rests (remaining old.input.reader);
+    ended = λ is. told_end (remaining old.input.reader) (h.ended is);
+    output = rests (out_contents old.out.writer);
+    errors = rests (err_contents old.err.writer);
   }
 
   pub still_set_up : (old : Inner D R W1 W2) (d : Descriptors) (s : Settings) → IsSetUp remaining old → settings_fit s ≡ true
@@ -96,7 +99,6 @@ module _ {D R W1 W2 : Type 0} (honest : D → Type 0) (disk : D → Disk) (secto
       → ((b : StreamBytes) → run (world_of (state_of old) b) ≡ r b)
       → ((b : StreamBytes) → Answers (r b) (world_of (state_of old) b) m (world_of (state_of (record old { descriptors = d; settings = s })) b) m' e)
       → Serves honest disk sectors_on failures remaining out_contents err_contents run old m (record old { descriptors = d; settings = s }) m' e
-  unfolding bytes_told
   serves_plain run r old d s m m' e h fits entries same answers =
       let new : Inner D R W1 W2 = record old { descriptors = d; settings = s } in
       let b : StreamBytes = bytes_told old in
@@ -105,9 +107,36 @@ module _ {D R W1 W2 : Type 0} (honest : D → Type 0) (disk : D → Disk) (secto
         row = λ _. (
           b,
           b,
-          has_told old h,
-          has_told new (still_set_up old d s h fits entries),
+          streams_rest old old.volume d s h,
           by_row (subst (λ (x : Checked Done). Answers x (world_of (state_of old) b) m (world_of (state_of new) b) m' e) (sym (same b)) (answers b)),
         );
         volume = volume_rests honest disk sectors_on failures old.volume;
+      }
+
+  -- A call that changes the volume alone.
+  pub serves_volume : (run r : World → Checked Done) (old : Inner D R W1 W2) (v : Opened D) (m m' : List ℕ) (e : ℕ)
+      → IsSetUp remaining old → VolumeStep honest disk sectors_on failures old.volume v
+      → ((w : World) → run w ≡ r w)
+      → (honest old.volume.device → (b : StreamBytes) → Answered r (world_of (state_of old) b) m (with_volume v (world_of (state_of old) b)) m' e)
+      → Serves honest disk sectors_on failures remaining out_contents err_contents run old m (record old { volume = v }) m' e
+  serves_volume run r old v m m' e h step same answers =
+      let new : Inner D R W1 W2 = record old { volume = v } in
+      let b : StreamBytes = bytes_told old in
+      let same_run : run ≡ r = λ i w. same w i in
+      let set_up : IsSetUp remaining new = record {
+        settings = h.settings;
+        buffers = h.buffers;
+        piece = h.piece;
+        ended = h.ended;
+        serials = λ fd o is. subst (λ (n : Superblock). IsSerial n o.serial) (sym step.kept.numbers) (h.serials fd o is);
+      } in
+      record {
+        set_up = set_up;
+        row = λ is_honest. (
+          b,
+          b,
+          streams_rest old v old.descriptors old.settings h,
+          subst (λ (x : World → Checked Done). Answered x (world_of (state_of old) b) m (world_of (state_of new) b) m' e) (sym same_run) (answers is_honest b),
+        );
+        volume = step;
       }

@@ -1,11 +1,13 @@
 -- Texts behind references.
-use Rattle.std.proofs.Common.{◌≡◌, ◌≤◌, true, ℕ, ◌+◌, List, [], ◌∷◌, length, map, refl, ap, ◌∙◌, sym}
-use Rattle.std.proofs.lemmas.List.Sums.{sum_by-cons}
+use Rattle.std.proofs.Common.{◌≡◌, ◌≤◌, true, ℕ, ◌+◌, ◌<◌, List, [], ◌∷◌, ◌++◌, length, take, get_or, map, arith, add-one, add-zero, append-nil, append_assoc, refl, ap, ◌∙◌, sym}
+use Rattle.std.proofs.lemmas.List.Sums.{sum_by-cons, sum_by-append}
+use Rattle.std.proofs.Math.Seq.{take-suc}
+use Rattle.byteorder.specs.Endian.{little_bytes}
 use Rattle.std.proofs.lemmas.Bool.{and_parts, leb-true}
 use denote.Ref.{Bor}
 use Rattle.wasi_calls.specs.Texts as behind
 use Rattle.wasi_calls.specs.Texts.{Texts, texts_of}
-use Rattle.wasi_calls.specs.Supplies.{ended_bytes}
+use Rattle.wasi_calls.specs.Supplies.{ended_bytes, pointers, ended}
 
 pub same_ended : (ts : Texts) → ended_bytes (texts_of ts) ≡ behind.ended_bytes ts
 same_ended [] = refl
@@ -17,3 +19,33 @@ same_ended (t ∷ ts) =
 -- texts that fit are short
 pub fits_ended : (ts : Texts) → behind.texts_fit ts ≡ true → behind.ended_bytes ts ≤ 65536
 fits_ended ts h = leb-true _ _ (and_parts _ _ (and_parts _ _ h).0).1
+
+-- ---- one text more
+
+taken_more : (ts : Texts) (i : ℕ) (d : Bor (List ℕ)) → i < length ts → take (i + 1) ts ≡ take i ts ++ (get_or ts i d ∷ [])
+taken_more ts i d h = rw add-one (take-suc ts i d h)
+
+pub sum_more : (ts : Texts) (i : ℕ) (d : Bor (List ℕ)) → i < length ts → behind.ended_bytes (take (i + 1) ts) ≡ behind.ended_bytes (take i ts) + (length (get_or ts i d).now + 1)
+sum_more ts i d h =
+    let f : Bor (List ℕ) → ℕ = λ t. length t.now + 1 in
+    ap behind.ended_bytes (taken_more ts i d h) ∙ (sum_by-append f (take i ts) (get_or ts i d ∷ []) ∙ ap (λ (n : ℕ). behind.ended_bytes (take i ts) + n) (sum_by-cons f (get_or ts i d) [] ∙ add-zero _))
+
+pointers_push : (first : ℕ) (ts : Texts) (t : Bor (List ℕ)) → pointers first (texts_of (ts ++ t ∷ [])) ≡ pointers first (texts_of ts) ++ little_bytes 4 (first + behind.ended_bytes ts)
+pointers_push first [] t = append-nil _ ∙ ap (little_bytes 4) (sym (add-zero first))
+pointers_push first (x ∷ ts) t =
+    ap (λ (l : List ℕ). little_bytes 4 first ++ l) (pointers_push (first + length x.now + 1) ts t)
+    ∙ (sym (append_assoc (little_bytes 4 first) (pointers (first + length x.now + 1) (texts_of ts)) _)
+    ∙ ap (λ (n : ℕ). (little_bytes 4 first ++ pointers (first + length x.now + 1) (texts_of ts)) ++ little_bytes 4 n)
+    (let parts = sum_by-cons (λ (t : Bor (List ℕ)). length t.now + 1) x ts in omega (arith, parts)))
+
+ended_push : (ts : Texts) (t : Bor (List ℕ)) → ended (texts_of (ts ++ t ∷ [])) ≡ ended (texts_of ts) ++ (t.now ++ 0 ∷ [])
+ended_push [] t = refl
+ended_push (x ∷ ts) t =
+    ap (λ (l : List ℕ). x.now ++ 0 ∷ l) (ended_push ts t) ∙ sym (append_assoc x.now (0 ∷ ended (texts_of ts)) _)
+
+pub pointers_more : (first : ℕ) (ts : Texts) (i : ℕ) (d : Bor (List ℕ)) → i < length ts
+    → pointers first (texts_of (take (i + 1) ts)) ≡ pointers first (texts_of (take i ts)) ++ little_bytes 4 (first + behind.ended_bytes (take i ts))
+pointers_more first ts i d h = ap (λ (l : Texts). pointers first (texts_of l)) (taken_more ts i d h) ∙ pointers_push first (take i ts) (get_or ts i d)
+
+pub ended_more : (ts : Texts) (i : ℕ) (d : Bor (List ℕ)) → i < length ts → ended (texts_of (take (i + 1) ts)) ≡ ended (texts_of (take i ts)) ++ ((get_or ts i d).now ++ 0 ∷ [])
+ended_more ts i d h = ap (λ (l : Texts). ended (texts_of l)) (taken_more ts i d h) ∙ ended_push (take i ts) (get_or ts i d)

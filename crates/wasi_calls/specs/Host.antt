@@ -51,22 +51,22 @@ world_of h b = record {
   errors_failed = h.err.failed;
 }
 
--- a stream that tells its bytes has these; of one that doesn't nothing is known
-abbrev pub Tells : Option (List ℕ) → List ℕ → Type 0
-Tells None bytes = Unit {0}
-Tells (Some known) bytes = bytes ≡ known
+-- a world that the host shows; what it says of the streams' bytes is said of each call
+abbrev pub Shows : {D R W1 W2 : Type 0} → HostState D R W1 W2 → World → Type 0
+Shows h w = (b : StreamBytes) × (w ≡ world_of h b)
+
+-- A stream that told its bytes had these before, and tells these after. Of one that didn't nothing is known.
+abbrev pub Tells : Option (List ℕ) → Option (List ℕ) → List ℕ → List ℕ → Type 0
+Tells None known before after = Unit {0}
+Tells (Some bytes) known before after = (before ≡ bytes) × (known ≡ Some after)
 
 module _ {D R W1 W2 : Type 0} (remaining : R → Option (List ℕ)) (out_contents : W1 → Option (List ℕ)) (err_contents : W2 → Option (List ℕ)) where
-  -- the streams may have these bytes; after its end the input has none
-  pub record Has (h : HostState D R W1 W2) (b : StreamBytes) : Type 0 where
-    pub input : Tells (remaining h.input.reader) b.input
-    pub ended : h.input.ended ≡ true → b.input ≡ []
-    pub output : Tells (out_contents h.out.writer) b.output
-    pub errors : Tells (err_contents h.err.writer) b.errors
-
-  -- a world that the host shows
-  abbrev pub Shows : HostState D R W1 W2 → World → Type 0
-  Shows h w = (b : StreamBytes) × Has h b × (w ≡ world_of h b)
+  -- The streams have these bytes before a call and after it. After its end the input has none.
+  pub record StreamsTell (old new : HostState D R W1 W2) (before after : StreamBytes) : Type 0 where
+    pub input : Tells (remaining old.input.reader) (remaining new.input.reader) before.input after.input
+    pub ended : old.input.ended ≡ true → before.input ≡ []
+    pub output : Tells (out_contents old.out.writer) (out_contents new.out.writer) before.output after.output
+    pub errors : Tells (err_contents old.err.writer) (err_contents new.err.writer) before.errors after.errors
 
 module _ {D : Type 0} (honest : D → Type 0) (disk : D → Disk) (sectors_on failures : D → ℕ) where
   -- What a call leaves of the volume, on any device: it fails by one operation that failed, and after that nothing is
@@ -80,7 +80,7 @@ module _ {D R W1 W2 : Type 0} (honest : D → Type 0) (disk : D → Disk) (secto
   -- What a call of the host means: where the device keeps its model, that call of a world that the host shows.
   pub record HostCalls (old : HostState D R W1 W2) (memory : List ℕ) (used : ℕ) (call : HostCall) (args : List ℕ)
       (new : HostState D R W1 W2) (memory' : List ℕ) (answer : Answer) : Type 0 where
-    pub row : honest old.volume.device → (before after : StreamBytes) × Has remaining out_contents err_contents old before × Has remaining out_contents err_contents new after
+    pub row : honest old.volume.device → (before after : StreamBytes) × StreamsTell remaining out_contents err_contents old new before after
         × Calls (world_of old before) memory used call args (world_of new after) memory' answer
     pub volume : VolumeStep honest disk sectors_on failures old.volume new.volume
     pub synced : honest old.volume.device → (e : Errno) → answer ≡ value e → IsSynced call e.0 (disk new.volume.device) new.volume.tree

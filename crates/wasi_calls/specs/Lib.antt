@@ -11,4 +11,5 @@ pub mod Texts
 pub mod Settings
 pub mod Links
 pub mod Host
+pub mod Making
 pub mod internal

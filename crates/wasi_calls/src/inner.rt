@@ -1,7 +1,10 @@
 //! What a host keeps, of which nothing is known.
 
+ghost use Rattle.std.specs.Prelude.{◌≡◌};
+
 use crate::settings::Settings;
 use crate::streams::{Input, Output};
+use crate::wasi_host::HostParts;
 use vol_sector::Device;
 use vol_tree::Volume;
 use wasi_fd::Descriptors;
@@ -27,4 +30,45 @@ pub(crate) struct Inner<'s, 't, D: Device, R, W1, W2> {
     pub buffers: Vec<Buffer>,
     /// Room for the bytes of a call.
     pub piece: Vec<u8>,
+}
+
+impl<'s, 't, D: Device, R: Drop, W1: Drop, W2: Drop> Inner<'s, 't, D, R, W1, W2> {
+    ghost use Rattle.wasi_calls.specs.Making.{parts_of};
+    ghost use Rattle.wasi_calls.specs.internal.Serving.{state_of};
+
+    /// What it was made of, as it is now.
+    pub fn into_parts(self) -> HostParts<'s, 't, D, R, W1, W2>
+        ensures { result ≡ parts_of (state_of self.entry) }
+    {
+        let Inner {
+            volume,
+            descriptors: _,
+            input,
+            out,
+            err,
+            settings,
+            buffers: _,
+            piece: _,
+        } = self;
+        let Input {
+            reader: input,
+            failed: _,
+            ended: _,
+        } = input;
+        let Output {
+            writer: out,
+            failed: _,
+        } = out;
+        let Output {
+            writer: err,
+            failed: _,
+        } = err;
+        HostParts {
+            settings,
+            volume,
+            input,
+            out,
+            err,
+        }
+    }
 }

@@ -44,4 +44,69 @@ impl<'s, 't, D: Device, R: Read, W1: Write, W2: Write> Inner<'s, 't, D, R, W1, W
     {
         descriptors::fd_close(&mut self.descriptors, word(arguments, 0))
     }
+
+    /// `args_sizes_get(count, size)`.
+    pub fn args_sizes_get(&self, memory: &mut Memory, arguments: &[u64]) -> Result<(), Errno>
+        requires { IsSetUp R.remaining self.now }
+        ensures { (used : _) → Serves D.honest D.disk D.size D.failures R.remaining W1.contents W2.contents (λ w. row call.ArgsSizesGet w memory.old used arguments.now) self.now memory.old self.now memory.new (errno_of result) }
+    {
+        let (count_at, size_at) = (word(arguments, 0), word(arguments, 1));
+        supplies::sizes_get(self.settings.args, memory, count_at, size_at)
+    }
+
+    /// `environ_sizes_get(count, size)`.
+    pub fn environ_sizes_get(&self, memory: &mut Memory, arguments: &[u64]) -> Result<(), Errno>
+        requires { IsSetUp R.remaining self.now }
+        ensures { (used : _) → Serves D.honest D.disk D.size D.failures R.remaining W1.contents W2.contents (λ w. row call.EnvironSizesGet w memory.old used arguments.now) self.now memory.old self.now memory.new (errno_of result) }
+    {
+        let (count_at, size_at) = (word(arguments, 0), word(arguments, 1));
+        supplies::sizes_get(self.settings.env, memory, count_at, size_at)
+    }
+
+    /// `clock_res_get(id, result)`.
+    pub fn clock_res_get(&self, memory: &mut Memory, arguments: &[u64]) -> Result<(), Errno>
+        requires { IsSetUp R.remaining self.now }
+        ensures { (used : _) → Serves D.honest D.disk D.size D.failures R.remaining W1.contents W2.contents (λ w. row call.ClockResGet w memory.old used arguments.now) self.now memory.old self.now memory.new (errno_of result) }
+    {
+        let (id, result_at) = (word(arguments, 0), word(arguments, 1));
+        clocks::clock_res_get(memory, id, result_at)
+    }
+
+    /// `fd_fdstat_get(fd, result)`.
+    pub fn fd_fdstat_get(&self, memory: &mut Memory, arguments: &[u64]) -> Result<(), Errno>
+        requires { IsSetUp R.remaining self.now }
+        ensures { (used : _) → Serves D.honest D.disk D.size D.failures R.remaining W1.contents W2.contents (λ w. row call.FdFdstatGet w memory.old used arguments.now) self.now memory.old self.now memory.new (errno_of result) }
+    {
+        let (fd, result_at) = (word(arguments, 0), word(arguments, 1));
+        descriptors::fd_fdstat_get(&self.descriptors, memory, fd, result_at)
+    }
+
+    /// `fd_prestat_get(fd, result)`.
+    pub fn fd_prestat_get(&self, memory: &mut Memory, arguments: &[u64]) -> Result<(), Errno>
+        requires { IsSetUp R.remaining self.now }
+        ensures { (used : _) → Serves D.honest D.disk D.size D.failures R.remaining W1.contents W2.contents (λ w. row call.FdPrestatGet w memory.old used arguments.now) self.now memory.old self.now memory.new (errno_of result) }
+    {
+        let (fd, result_at) = (word(arguments, 0), word(arguments, 1));
+        descriptors::fd_prestat_get(&self.descriptors, memory, fd, result_at)
+    }
+
+    /// `fd_prestat_dir_name(fd, path, length)`.
+    pub fn fd_prestat_dir_name(&self, memory: &mut Memory, arguments: &[u64]) -> Result<(), Errno>
+        requires { IsSetUp R.remaining self.now }
+        ensures { (used : _) → Serves D.honest D.disk D.size D.failures R.remaining W1.contents W2.contents (λ w. row call.FdPrestatDirName w memory.old used arguments.now) self.now memory.old self.now memory.new (errno_of result) }
+    {
+        let fd = word(arguments, 0);
+        let path = word(arguments, 1);
+        let len = word(arguments, 2);
+        descriptors::fd_prestat_dir_name(&self.descriptors, memory, fd, path, len)
+    }
+
+    /// `fd_tell(fd, result)`.
+    pub fn fd_tell(&self, memory: &mut Memory, arguments: &[u64]) -> Result<(), Errno>
+        requires { IsSetUp R.remaining self.now }
+        ensures { (used : _) → Serves D.honest D.disk D.size D.failures R.remaining W1.contents W2.contents (λ w. row call.FdTell w memory.old used arguments.now) self.now memory.old self.now memory.new (errno_of result) }
+    {
+        let (fd, result_at) = (word(arguments, 0), word(arguments, 1));
+        descriptors::fd_tell(&self.descriptors, memory, fd, result_at)
+    }
 }

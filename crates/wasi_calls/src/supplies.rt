@@ -1,15 +1,15 @@
 //! Texts and random bytes.
 
-ghost use Rattle.std.specs.Prelude.{◌≡◌, ◌≤◌, true};
-ghost use Rattle.wasi_calls.specs.Texts.{texts_of, texts_fit};
+ghost use Rattle.std.specs.Prelude.{◌≡◌, ◌≤◌, ◌<◌, ◌+◌, ◌*◌, ◌^◌, ◌++◌, true, length, take};
+ghost use Rattle.wasi_calls.specs.Texts.{texts_of, texts_fit, ended_bytes};
 ghost use Rattle.wasi_calls.specs.World.{World};
-ghost use Rattle.wasi_calls.specs.Supplies.{sizes_get as sizes, random_get as random};
+ghost use Rattle.wasi_calls.specs.Supplies.{sizes_get as sizes, random_get as random, pointers, ended};
 ghost use Rattle.wasi_calls.specs.Calls.{Answers};
 ghost use Rattle.wasi_calls.specs.internal.Serving.{errno_of};
 
 use crate::checks::{check_range, check_that, write_bytes};
 use crate::errno::AGAIN;
-use crate::numbers::le32;
+use crate::numbers::{le32, low32};
 use crate::settings::ended_len;
 use wasm_store::{Errno, Memory};
 
@@ -48,4 +48,40 @@ pub(crate) fn random_get(
     write_bytes(memory, buffer, taken);
     *left = rest;
     Ok(())
+}
+
+/// Writes the bytes into the part, from a place on.
+fn append_at(part: &mut [u8], place: usize, bytes: &[u8])
+    requires { place + length bytes.now ≤ length part.old }
+    ensures { take (place + length bytes.now) part.new ≡ take place part.old ++ bytes.now }
+{
+    part[place..place + bytes.len()].copy_from_slice(bytes);
+}
+
+/// Fills in a pointer to each text, the first of which stands at this place.
+fn fill_pointers(part: &mut [u8], texts: &[&[u8]], first: u64)
+    requires room { length part.old ≡ 4 * length texts.now }
+    requires fits { first + ended_bytes texts.now < 2 ^ 64 }
+    ensures { part.new ≡ pointers first (texts_of texts.now) }
+{
+    let mut place: usize = 0;
+    let mut pointer = first;
+    for text in texts {
+        append_at(part, place, &low32(pointer));
+        place += 4;
+        pointer += text.len() as u64 + 1;
+    }
+}
+
+/// Fills in the texts with a NUL after each.
+fn fill_texts(part: &mut [u8], texts: &[&[u8]])
+    requires { length part.old ≡ ended_bytes texts.now }
+    ensures { part.new ≡ ended (texts_of texts.now) }
+{
+    let mut place: usize = 0;
+    for text in texts {
+        append_at(part, place, text);
+        append_at(part, place + text.len(), &[0]);
+        place += text.len() + 1;
+    }
 }

@@ -1,14 +1,14 @@
 -- What the bodies of calls say.
-use Rattle.std.specs.Prelude.{◌≡◌, ℕ, Bool, true, false, List, Option, Result, Ok, Err, None, Some, vec_len}
+use Rattle.std.specs.Prelude.{◌≡◌, ◌≤◌, IsTrue, ℕ, Bool, true, false, List, Option, Result, Ok, Err, None, Some, vec_len}
 use Rattle.std.specs.Io.KnownBytes.{IsAtEnd}
 use Rattle.vol_sector.specs.Disk.{Disk}
 use Rattle.vol_tree.specs.Tree.{Tree, Entry as TreeEntry, entry}
-use Rattle.vol_tree.specs.Calls.{is_directory}
-use Rattle.vol_tree.specs.Opened.{IsSerial}
+use Rattle.vol_tree.specs.Calls.{is_directory, is_file_at}
+use Rattle.vol_tree.specs.Opened.{Opened, IsSerial, geometry}
 use Rattle.wasi_fd.specs.declared.descriptor.Descriptor.TheVariants.{Entry}
 use Rattle.wasi_fd.specs.declared.descriptor.EntryKind.{EntryKind}
 use Rattle.wasi_fd.specs.declared.descriptor.EntryKind.TheVariants as kinds
-use Rattle.wasi_fd.specs.declared.descriptor.Opened.{Opened}
+use Rattle.wasi_fd.specs.declared.descriptor.Opened.{Opened as OpenedEntry}
 use Rattle.wasi_fd.specs.Table.{Table, table_of}
 use Rattle.wasm_store.specs.declared.call.Errno.{Errno}
 use Rattle.wasi_calls.specs.Checks.{Checked, Done, Refusals, any_kind, only_directories, no_directories, only_files, sized, no_streams}
@@ -18,7 +18,7 @@ use Rattle.wasi_calls.specs.declared.inner.Inner.{Inner}
 use Rattle.wasi_calls.specs.Settings.{settings_fit}
 use Rattle.wasi_calls.specs.World.{World}
 use Rattle.wasi_calls.specs.Calls.{Answered}
-use Rattle.wasi_calls.specs.Host.{HostState, StreamBytes, world_of, Has, VolumeStep}
+use Rattle.wasi_calls.specs.Host.{HostState, StreamBytes, world_of, StreamsTell, VolumeStep}
 
 -- the number that a call answers
 abbrev pub errno_of : {X : Type 0} → Result X Errno → ℕ
@@ -36,7 +36,11 @@ refusals_of takes.NoStreams = no_streams
 
 -- each entry that is open was open before, at whatever position
 abbrev pub NoMoreEntries : Table → Table → Type 0
-NoMoreEntries old new = (fd : ℕ) (o : Opened) → new fd ≡ Some (Entry o) → (p : Opened) × (old fd ≡ Some (Entry p)) × (o.serial ≡ p.serial) × (o.kind ≡ p.kind)
+NoMoreEntries old new = (fd : ℕ) (o : OpenedEntry) → new fd ≡ Some (Entry o) → (p : OpenedEntry) × (old fd ≡ Some (Entry p)) × (o.serial ≡ p.serial) × (o.kind ≡ p.kind)
+
+-- the world with this volume
+abbrev pub with_volume : {D : Type 0} → Opened D → World → World
+with_volume v w = record w { volume = geometry v.numbers; tree = v.tree; volume_failed = v.failed }
 
 module _ {D R W1 W2 : Type 0} where
   -- what callers see
@@ -50,21 +54,37 @@ module _ {D R W1 W2 : Type 0} where
     pub buffers : vec_len p.buffers ≡ 1024
     pub piece : vec_len p.piece ≡ 16384
     pub ended : p.input.ended ≡ true → IsAtEnd (remaining p.input.reader)
-    pub serials : (fd : ℕ) (o : Opened) → table_of p.descriptors fd ≡ Some (Entry o) → IsSerial p.volume.numbers o.serial
+    pub serials : (fd : ℕ) (o : OpenedEntry) → table_of p.descriptors fd ≡ Some (Entry o) → IsSerial p.volume.numbers o.serial
 
 abbrev pub is_directory_kind : EntryKind → Bool
 is_directory_kind kinds.Directory = true
 is_directory_kind kinds.File = false
 
 -- the entry is there, and is what its descriptor says
-pub record IsThere (T : Tree) (o : Opened) : Type 0 where
+pub record IsThere (T : Tree) (o : OpenedEntry) : Type 0 where
   pub e : TreeEntry
   pub used : entry T o.serial ≡ Some e
   pub kind : is_directory e.node ≡ is_directory_kind o.kind
 
 -- so is each that is open
 abbrev pub AreThere : Tree → Table → Type 0
-AreThere T table = (fd : ℕ) (o : Opened) → table fd ≡ Some (Entry o) → IsThere T o
+AreThere T table = (fd : ℕ) (o : OpenedEntry) → table fd ≡ Some (Entry o) → IsThere T o
+
+-- what is known of the entries that are open: their numbers on any device, and the entries where it keeps its model
+pub record KnowsEntries {D : Type 0} (honest : D → Type 0) (v : Opened D) (table : Table) : Type 0 where
+  pub numbers : (fd : ℕ) (o : OpenedEntry) → table fd ≡ Some (Entry o) → IsSerial v.numbers o.serial
+  pub there : honest v.device → AreThere v.tree table
+
+-- what a host keeps between its calls
+pub record IsReady {D R W1 W2 : Type 0} (honest : D → Type 0) (remaining : R → Option (List ℕ)) (p : Inner D R W1 W2) : Type 0 where
+  pub set_up : IsSetUp remaining p
+  pub known : KnowsEntries honest p.volume (table_of p.descriptors)
+
+-- a number of the volume that is that of a file
+pub record IsFileOf {D : Type 0} (honest : D → Type 0) (v : Opened D) (serial : ℕ) : Type 0 where
+  pub first : 1 ≤ serial
+  pub last : serial ≤ v.numbers.slots
+  pub used : honest v.device → IsTrue (is_file_at v.tree serial)
 
 module _ {D R W1 W2 : Type 0} (honest : D → Type 0) (disk : D → Disk) (sectors_on failures : D → ℕ)
     (remaining : R → Option (List ℕ)) (out_contents : W1 → Option (List ℕ)) (err_contents : W2 → Option (List ℕ)) where
@@ -72,7 +92,6 @@ module _ {D R W1 W2 : Type 0} (honest : D → Type 0) (disk : D → Disk) (secto
   -- world that the host shows, or what its failing case allows.
   pub record Serves (run : World → Checked Done) (old : Inner D R W1 W2) (memory : List ℕ) (new : Inner D R W1 W2) (memory' : List ℕ) (errno : ℕ) : Type 0 where
     pub set_up : IsSetUp remaining new
-    pub row : honest old.volume.device → (before after : StreamBytes) × Has remaining out_contents err_contents (state_of old) before
-        × Has remaining out_contents err_contents (state_of new) after
+    pub row : honest old.volume.device → (before after : StreamBytes) × StreamsTell remaining out_contents err_contents (state_of old) (state_of new) before after
         × Answered run (world_of (state_of old) before) memory (world_of (state_of new) after) memory' errno
     pub volume : VolumeStep honest disk sectors_on failures old.volume new.volume

@@ -1,0 +1,64 @@
+-- Entries that are open.
+use Rattle.std.proofs.Common.{◌≡◌, ℕ, Bool, true, false, cond, not, ◌==◌, List, [], Option, Some, None, Ok, refl, sym, ◌∙◌, ap, subst}
+use Rattle.std.specs.Option.{option_map_or}
+use Rattle.vol_inode.specs.declared.version.Version.TheVariants.{One}
+use Rattle.vol_tree.specs.Tree.{Tree, Entry as TreeEntry, entry}
+use Rattle.vol_tree.specs.Calls.{is_directory, is_file_at}
+use Rattle.vol_tree.specs.Opened.{Opened}
+use Rattle.std.proofs.lemmas.Option.{none-some}
+use Rattle.wasi_fd.specs.declared.descriptor.Stream.{Stream as StreamValue}
+use Rattle.wasi_fd.specs.declared.descriptor.Stream.TheVariants.{Input, Output, Error}
+use Rattle.wasi_fd.specs.declared.descriptor.Descriptor.{Descriptor}
+use Rattle.wasi_fd.specs.declared.descriptor.Descriptor.TheVariants.{Stream, Entry}
+use Rattle.wasi_fd.specs.declared.descriptor.Opened.{Opened as OpenedEntry}
+use Rattle.wasi_fd.specs.Table.{Table, streams}
+use Rattle.wasi_calls.specs.World.{World}
+use Rattle.wasi_calls.specs.Checks.{Refusals, entry_at}
+use Rattle.wasi_calls.specs.internal.Serving.{KnowsEntries, IsFileOf}
+use Rattle.wasi_calls.proofs.Parts.{entered, is_file_kind}
+use Rattle.wasi_calls.proofs.Holds.{is_directory_kind}
+
+-- a world with this table
+some_world : Table → World
+some_world table = record {
+  volume = record { version = One; data_sectors = 0 };
+  tree = [];
+  table = table;
+  input = [];
+  output = [];
+  errors = [];
+  random = [];
+  given = record { args = []; env = []; moment = 0 };
+  volume_failed = false;
+  input_failed = false;
+  output_failed = false;
+  errors_failed = false;
+}
+
+file_there : (T : Tree) (serial : ℕ) (e : TreeEntry) → entry T serial ≡ Some e → is_directory e.node ≡ false → is_file_at T serial ≡ true
+file_there T serial e used file = ap (λ (o : Option TreeEntry). option_map_or (λ (e : TreeEntry). not (is_directory e.node)) o false) used ∙ ap not file
+
+-- a call that refuses directories has a file
+pub file_of : {D : Type 0} (honest : D → Type 0) (v : Opened D) (table : Table) → KnowsEntries honest v table → (fd : ℕ) (r : Refusals) (n rights : ℕ) (o : OpenedEntry) → r.directory ≡ Some n
+    → ((w : World) → w.table ≡ table → entry_at w fd r rights ≡ Ok o) → IsFileOf honest v o.serial
+unfolding some_world
+file_of honest v table known fd r n rights o refuses at =
+    let of = entered (some_world table) fd r rights o (at (some_world table) refl) in
+    let number = known.numbers fd o of.0 in
+    record {
+      first = number.first;
+      last = number.last;
+      used = λ h.
+          let there = known.there h fd o of.0 in
+          file_there v.tree o.serial there.e there.used (there.kind ∙ is_file_kind r n refuses o.kind of.1);
+    }
+
+-- ---- a new table
+
+no_entry_if : (b : Bool) (s : StreamValue) (d : Option Descriptor) (o : OpenedEntry) → (d ≡ Some (Entry o) → ⊥) → cond b (Some (Stream s)) d ≡ Some (Entry o) → ⊥
+no_entry_if true s d o none h = cc
+no_entry_if false s d o none h = none h
+
+pub no_entries : (table : Table) → ((n : ℕ) → table n ≡ streams n) → (fd : ℕ) (o : OpenedEntry) → table fd ≡ Some (Entry o) → ⊥
+no_entries table new fd o is =
+    no_entry_if (fd == 0) Input _ o (no_entry_if (fd == 1) Output _ o (no_entry_if (fd == 2) Error _ o (none-some (Entry o)))) (sym (new fd) ∙ is)

@@ -1,0 +1,43 @@
+use Rattle.std.proofs.Common.{◌≡◌, ◌≢◌, ◌^◌, ℕ, Bool, true, false, Result, Ok, Err, refl, sym, ap, ◌∙◌, subst}
+use Rattle.vol_tree.specs.declared.errno.Errno.{Errno}
+use Rattle.vol_tree.specs.declared.errno.Errno.TheVariants as errno
+use Rattle.vol_tree.specs.Tree.{Tree}
+use Rattle.vol_tree.specs.Calls.{resized}
+use Rattle.wasi_fd.specs.Table.{table_of}
+use Rattle.wasi_calls.specs.World.{World, volume_gone}
+use Rattle.wasi_calls.specs.Files.{fd_filestat_set_size}
+use Rattle.wasi_calls.specs.Calls.{Answered}
+use Rattle.wasi_calls.specs.Checks.{sized}
+use Rattle.wasi_calls.specs.internal.Serving.{with_volume}
+use Rattle.wasi_calls.proofs.Yields.{goes_on, stops}
+use Rattle.wasi_calls.proofs.Entries.{file_of}
+use Rattle.wasi_calls.proofs.Volumes.{refused_first, changed_ok, changed_err, resized_never}
+use Rattle.wasi_calls.proofs.files.set_size.Goals as goal
+
+pub set_size-requires : goal.set_size-requires
+set_size-requires g c =
+    let f = file_of g.D.Device.honest c.args.volume.now (table_of c.args.descriptors.now) c.requires c.args.fd sized 31 (2 ^ 22) c.in-Ok.opened refl c.in-Ok.ensures in
+    record { first = f.first; last = f.last; used = f.used }
+
+pub returns-in-Err-clause-answered : goal.returns-in-Err-clause-answered
+returns-in-Err-clause-answered g c = λ h w m table shown.
+    refused_first w m (λ v. fd_filestat_set_size v c.args.fd c.args.size) c.args.volume.now _ shown (stops _ _ _ (c.in-Err.ensures w table))
+
+pub returns-in-Ok-set_size-clause-answered : goal.returns-in-Ok-set_size-clause-answered
+returns-in-Ok-set_size-clause-answered g c = λ h w m table shown.
+    let o = c.in-Ok.opened in
+    let size = c.args.size in
+    changed_ok g.D.Device.honest g.D.Device.size g.D.Device.failures w m (λ v. fd_filestat_set_size v c.args.fd size) (λ v. resized v.volume v.tree o.serial size)
+    c.args.volume.now c.set_size.new.self shown (goes_on _ _ o (c.in-Ok.ensures w table))
+    c.in-Ok-set_size.ensures.kept (c.in-Ok-set_size.ensures.answer h)
+
+pub returns-in-Err-set_size-clause-answered : goal.returns-in-Err-set_size-clause-answered
+returns-in-Err-set_size-clause-answered g c = λ h w m table shown.
+    let o = c.in-Ok.opened in
+    let size = c.args.size in
+    let e = c.in-Err-set_size.errno in
+    let (tree, meant) = c.in-Err-set_size.ensures.answer h in
+    subst (λ (n : ℕ). Answered (λ v. fd_filestat_set_size v c.args.fd size) w m (with_volume c.set_size.new.self w) m n) (sym c.refused.ensures)
+    (changed_err g.D.Device.honest g.D.Device.size g.D.Device.failures w m (λ v. fd_filestat_set_size v c.args.fd size) (λ v. resized v.volume v.tree o.serial size)
+    c.args.volume.now c.set_size.new.self shown (goes_on _ _ o (c.in-Ok.ensures w table))
+    (goes_on _ _ o (c.in-Ok.ensures (volume_gone w) table)) (resized_never w.volume w.tree o.serial size) e c.in-Err-set_size.ensures.kept tree meant)

@@ -1,0 +1,55 @@
+use Rattle.std.proofs.Common.{◌≡◌, ◌≢◌, ℕ, false, not, Result, Ok, Err, inl, inr, refl, sym, ap, ◌∙◌, subst}
+use Rattle.vol_tree.specs.declared.errno.Errno.TheVariants as errno
+use Rattle.vol_tree.specs.Tree.{Tree}
+use Rattle.wasi_fd.specs.Rights.{bits_of}
+use Rattle.wasi_calls.specs.World.{World, volume_gone}
+use Rattle.wasi_calls.specs.Checks.{Checked, Done, only_world, entry_at, no_streams}
+use Rattle.wasi_fd.specs.declared.descriptor.Opened.{Opened}
+use Rattle.vol_tree.specs.declared.errno.Errno.{Errno}
+use Rattle.wasi_calls.specs.Files.{fd_sync}
+use Rattle.wasi_calls.specs.Calls.{Answered}
+use Rattle.wasi_calls.specs.internal.Serving.{with_volume}
+use Rattle.wasi_calls.proofs.Yields.{guard_passes, guard_fails, goes_on, stops}
+use Rattle.wasi_calls.proofs.Volumes.{is_no_err, same_tree, was_working, same_volume, refused_first, done_by, tree_refuses}
+use Rattle.wasi_calls.proofs.files.sync.Goals as goal
+
+pub returns-in-Err-clause-answered : goal.returns-in-Err-clause-answered
+returns-in-Err-clause-answered g c = λ h w m table shown.
+    refused_first w m (λ v. fd_sync v c.args.fd (bits_of c.args.right)) c.args.volume.now _ shown (stops _ _ _ (c.in-Err.ensures w table))
+
+-- where the volume works the row is done
+done : (w : World) (fd right : ℕ) (o : Opened) → entry_at w fd no_streams right ≡ Ok o → w.volume_failed ≡ false → fd_sync w fd right ≡ Ok (only_world w)
+done w fd right o at working = goes_on _ _ o at ∙ goes_on _ _ tt (goes_on _ _ tt (guard_passes _ 29 (ap not working)))
+
+-- and where it has failed it answers 29
+failed : (w : World) (fd right : ℕ) (o : Opened) → entry_at (volume_gone w) fd no_streams right ≡ Ok o → fd_sync (volume_gone w) fd right ≡ Err 29
+failed w fd right o at = goes_on _ _ o at ∙ stops _ _ 29 (stops _ _ 29 (guard_fails _ 29 refl))
+
+pub returns-in-Ok-clause-answered : goal.returns-in-Ok-clause-answered
+returns-in-Ok-clause-answered g c = λ h w m table shown.
+    let old = c.args.volume.now in
+    let new = c.sync.new.self in
+    let right = bits_of c.args.right in
+    let k = c.in-Ok.ensures.kept in
+    let working : old.failed ≡ false = was_working g.D.Device.honest g.D.Device.size g.D.Device.failures old new false k refl in
+    let alive : w.volume_failed ≡ false = ap (λ (w : World). w.volume_failed) shown ∙ working in
+    let tree : new.tree ≡ old.tree = same_tree old.tree new.tree (c.in-Ok.ensures.answer h) in
+    done_by w m (λ v. fd_sync v c.args.fd right) new m (only_world w)
+    (done w c.args.fd right c.in_default.field-0 (c.in_default.ensures w table) alive)
+    (same_volume w m old new shown k.numbers tree (k.failed ∙ sym working)) refl
+
+pub returns-in-Err-sync-clause-answered : goal.returns-in-Err-sync-clause-answered
+returns-in-Err-sync-clause-answered g c = λ h w m table shown.
+    let old = c.args.volume.now in
+    let new = c.sync.new.self in
+    let right = bits_of c.args.right in
+    let o = c.in_default.field-0 in
+    let e = c.in-Err-sync.errno in
+    let ok = λ (alive : w.volume_failed ≡ false). done w c.args.fd right o (c.in_default.ensures w table) alive in
+    let (tree, meant) = c.in-Err-sync.ensures.answer h in
+    let is_io : e ≡ errno.Io = elim meant [ inl never ↦ cc | inr io ↦ io ] in
+    subst (λ (n : ℕ). Answered (λ v. fd_sync v c.args.fd right) w m (with_volume new w) m n) (sym c.refused.ensures)
+    (tree_refuses w m g.D.Device.honest g.D.Device.size g.D.Device.failures (Unit {0}) (λ v. fd_sync v c.args.fd right) old new e c.in-Err-sync.ensures.kept shown tree
+    (λ alive other. absurd (other is_io))
+    (failed w c.args.fd right o (c.in_default.ensures (volume_gone w) table))
+    (λ alive. is_no_err _ (only_world w) 29 (ok alive)))

@@ -1,0 +1,71 @@
+//! Bytes of files, and the whole volume.
+
+ghost use Rattle.std.specs.Prelude.{◌≡◌, OnOk};
+ghost use Rattle.vol_sector.specs.Disk.{Image};
+ghost use Rattle.vol_tree.specs.Stands.{Stands};
+ghost use Rattle.vol_tree.specs.Numbers.{number_of};
+ghost use Rattle.wasi_fd.specs.Table.{table_of};
+ghost use Rattle.wasi_fd.specs.Rights.{bits_of};
+ghost use Rattle.wasi_calls.specs.World.{World};
+ghost use Rattle.wasi_calls.specs.Files.{fd_sync as sync_row, fd_filestat_set_size as set_size_row};
+ghost use Rattle.wasi_calls.specs.Calls.{Answered};
+ghost use Rattle.wasi_calls.specs.Host.{VolumeStep};
+ghost use Rattle.wasi_calls.specs.internal.Serving.{KnowsEntries, errno_of, with_volume};
+
+use crate::checks::{Takes, entry_at};
+use vol_sector::Device;
+use vol_tree::Volume;
+use wasi_fd::{Descriptors, Rights};
+use wasm_store::Errno;
+
+/// The number of a refusal.
+pub(crate) fn refused(errno: vol_tree::Errno) -> Errno
+    ensures { result.0 ≡ number_of errno }
+{
+    Errno(errno.number())
+}
+
+/// `fd_sync(fd)` and `fd_datasync(fd)`: a sync of the whole volume.
+pub(crate) fn sync<D: Device>(
+    volume: &mut Volume<D>,
+    descriptors: &Descriptors<'_>,
+    fd: u32,
+    right: Rights,
+) -> Result<(), Errno>
+    ensures step { VolumeStep D.honest D.disk D.size D.failures volume.old volume.new }
+    ensures answered { D.honest volume.old.device → (w : World) (m : _) → w.table ≡ table_of descriptors.now
+        → w ≡ with_volume volume.old w
+        → Answered (λ v. sync_row v fd (bits_of right)) w m (with_volume volume.new w) m (errno_of result) }
+    ensures durable { D.honest volume.old.device → OnOk result ((c : Image)
+        → (D.disk volume.new.device).may_leave c → Stands c volume.new.tree) }
+{
+    if let Err(errno) = entry_at(descriptors, fd, Takes::NoStreams, right) {
+        return Err(errno);
+    }
+    match volume.sync() {
+        Ok(()) => Ok(()),
+        Err(errno) => Err(refused(errno)),
+    }
+}
+
+/// `fd_filestat_set_size(fd, size)`.
+pub(crate) fn set_size<D: Device>(
+    volume: &mut Volume<D>,
+    descriptors: &Descriptors<'_>,
+    fd: u32,
+    size: u64,
+) -> Result<(), Errno>
+    requires { KnowsEntries D.honest volume.old (table_of descriptors.now) }
+    ensures step { VolumeStep D.honest D.disk D.size D.failures volume.old volume.new }
+    ensures answered { D.honest volume.old.device → (w : World) (m : _) → w.table ≡ table_of descriptors.now
+        → w ≡ with_volume volume.old w
+        → Answered (λ v. set_size_row v fd size) w m (with_volume volume.new w) m (errno_of result) }
+{
+    match entry_at(descriptors, fd, Takes::Sized, Rights::FD_FILESTAT_SET_SIZE) {
+        Ok(opened) => match volume.set_size(opened.serial, size) {
+            Ok(()) => Ok(()),
+            Err(errno) => Err(refused(errno)),
+        },
+        Err(errno) => Err(errno),
+    }
+}

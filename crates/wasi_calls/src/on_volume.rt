@@ -1,0 +1,53 @@
+//! The calls that change the volume alone.
+
+ghost use Rattle.std.specs.Prelude.{◌≡◌, OnOk};
+ghost use Rattle.vol_sector.specs.Disk.{Image};
+ghost use Rattle.vol_tree.specs.Stands.{Stands};
+ghost use Rattle.wasi_fd.specs.Table.{table_of};
+ghost use Rattle.wasm_store.specs.declared.call.HostCall.TheVariants as call;
+ghost use Rattle.wasi_calls.specs.Calls.{row};
+
+use crate::arguments::{long, word};
+use crate::files;
+use crate::inner::Inner;
+use std::io::{Read, Write};
+use vol_sector::Device;
+use wasi_fd::Rights;
+use wasm_store::Errno;
+
+impl<'s, 't, D: Device, R: Read, W1: Write, W2: Write> Inner<'s, 't, D, R, W1, W2> {
+    ghost use Rattle.wasi_calls.specs.internal.Serving.{IsSetUp, KnowsEntries, Serves, errno_of};
+
+    /// `fd_sync(fd)`.
+    pub fn fd_sync(&mut self, arguments: &[u64]) -> Result<(), Errno>
+        requires { IsSetUp R.remaining self.old }
+        ensures serves { (m : _) (used : _) → Serves D.honest D.disk D.size D.failures R.remaining W1.contents W2.contents (λ w. row call.FdSync w m used arguments.now) self.old m self.new m (errno_of result) }
+        ensures durable { D.honest self.old.volume.device → OnOk result ((c : Image)
+            → (D.disk self.new.volume.device).may_leave c → Stands c self.new.volume.tree) }
+    {
+        let fd = word(arguments, 0);
+        files::sync(&mut self.volume, &self.descriptors, fd, Rights::FD_SYNC)
+    }
+
+    /// `fd_datasync(fd)`.
+    pub fn fd_datasync(&mut self, arguments: &[u64]) -> Result<(), Errno>
+        requires { IsSetUp R.remaining self.old }
+        ensures serves { (m : _) (used : _) → Serves D.honest D.disk D.size D.failures R.remaining W1.contents W2.contents (λ w. row call.FdDatasync w m used arguments.now) self.old m self.new m (errno_of result) }
+        ensures durable { D.honest self.old.volume.device → OnOk result ((c : Image)
+            → (D.disk self.new.volume.device).may_leave c → Stands c self.new.volume.tree) }
+    {
+        let fd = word(arguments, 0);
+        files::sync(&mut self.volume, &self.descriptors, fd, Rights::FD_DATASYNC)
+    }
+
+    /// `fd_filestat_set_size(fd, size)`.
+    pub fn fd_filestat_set_size(&mut self, arguments: &[u64]) -> Result<(), Errno>
+        requires set_up { IsSetUp R.remaining self.old }
+        requires known { KnowsEntries D.honest self.old.volume (table_of self.old.descriptors) }
+        ensures { (m : _) (used : _) → Serves D.honest D.disk D.size D.failures R.remaining W1.contents W2.contents (λ w. row call.FdFilestatSetSize w m used arguments.now) self.old m self.new m (errno_of result) }
+    {
+        let fd = word(arguments, 0);
+        let size = long(arguments, 1);
+        files::set_size(&mut self.volume, &self.descriptors, fd, size)
+    }
+}
