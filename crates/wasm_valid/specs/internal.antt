@@ -9,4 +9,3 @@ pub mod Fits
 pub mod Bodies
 pub mod Contexts
 pub mod Answers
-pub mod Scopes
