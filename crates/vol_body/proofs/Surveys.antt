@@ -1,5 +1,5 @@
 -- Steps of a survey.
-use Rattle.std.proofs.Common.{◌≡◌, ◌≢◌, ⊎_elim, ◌≤◌, ◌<◌, ◌+◌, ◌-◌, ◌*◌, ◌==◌, not, ℕ, List, [], ◌∷◌, ◌++◌, length, take, drop, map, get_or, replicate, Result, Ok, Err, IfErr, IsErrAnd, sym, ◌∙◌, ap, subst, arith}
+use Rattle.std.proofs.Common.{◌≡◌, ◌≢◌, ⊎_elim, ◌≤◌, ◌<◌, ◌+◌, ◌-◌, ◌*◌, ◌==◌, not, ℕ, zero, suc, List, [], ◌∷◌, ◌++◌, length, take, drop, map, get_or, replicate, Result, Ok, Err, IfErr, IsErrAnd, refl, sym, ◌∙◌, ap, subst, arith}
 use Rattle.std.proofs.lemmas.List.{append_assoc, append-nil, length-append, take_more, take-append-drop, ext_get_or, flat_map_more, length-replicate, get_or-replicate}
 use Rattle.std.proofs.lemmas.List.FromFn.{length-map-range_with_len, get_or-map-range_with_len}
 use Rattle.std.proofs.lemmas.Grind.{flat_map-append}
@@ -11,7 +11,8 @@ use Rattle.vol_sector.specs.Disk.{Image}
 use Rattle.vol_sector.specs.declared.fault.VolumeFault.{VolumeFault}
 use Rattle.vol_body.specs.Body.{number_in}
 use Rattle.vol_body.specs.Survey.{nonzero, AreInside}
-use Rattle.vol_body.specs.internal.Surveying.{listed, with_listed, all_listed, Pushes, Overflows}
+use Rattle.vol_inode.specs.Space.{lists_of}
+use Rattle.vol_body.specs.internal.Surveying.{listed, with_listed, all_listed, Pushes, Overflows, ListsNoneFrom, LaterNone}
 use Rattle.vol_body.proofs.Places.{number_there}
 
 -- a beginning of numbers that are inside
@@ -120,3 +121,32 @@ overflows_list content first end a b xs i lt one over =
     (ap (λ (l : List ℕ). l ++ rest) (flat_map_more (with_listed content) [] (take i xs) (get_or xs i 0) ∙ ap (all_listed content) (sym (take_more xs i 0 lt)))
     ∙ sym (flat_map-append (with_listed content) (take (i + 1) xs) (drop (i + 1) xs)) ∙ ap (all_listed content) (take-append-drop (i + 1) xs))
     (overflows_before first end a (so_far ++ this) rest (overflows_then first end a b so_far this one over))
+
+-- ---- sector 0 stands for no list
+
+zeros_none : (k : ℕ) → nonzero (replicate k 0) ≡ []
+zeros_none zero = refl
+zeros_none (suc k) = zeros_none k
+
+pub none_listed : (content : Image) (n : ℕ) → n ≡ 0 → nonzero (with_listed content n) ≡ []
+none_listed content n none = (λ i. nonzero (none i ∷ sym (listed_none content n none) i)) ∙ zeros_none 128
+
+none_of_all : (content : Image) (k : ℕ) → nonzero (all_listed content (replicate k 0)) ≡ []
+none_of_all content zero = refl
+none_of_all content (suc k) =
+    nonzero-append (with_listed content 0) (all_listed content (replicate k 0)) ∙ (λ i. none_listed content 0 refl i ++ none_of_all content k i)
+
+pub none_later : (content : Image) (n : ℕ) → n ≡ 0 → nonzero (n ∷ all_listed content (listed content n)) ≡ []
+none_later content n none = (λ i. nonzero (none i ∷ all_listed content (sym (listed_none content n none) i))) ∙ none_of_all content 128
+
+pub pushes_zeros : (first end : ℕ) (old numbers : List ℕ) → AreInside first end old → nonzero numbers ≡ [] → Pushes first end old old numbers
+pushes_zeros first end old numbers all none = record { named = sym (append-nil old) ∙ ap (λ (l : List ℕ). old ++ l) (sym none); inside = all }
+
+pub lists_none : (content : Image) (n from : ℕ) → n ≡ 0 → ListsNoneFrom content n from
+lists_none content n from none i le lt = ap (λ (m : ℕ). number_in content m i) none
+
+pub later_list_none : (content : Image) (n count : ℕ) → n ≡ 0 → LaterNone content n count
+later_list_none content n count none = record {
+  own = lists_none content n (lists_of (count - 186)) none;
+  later = λ i lt. lists_none content (get_or (listed content n) i 0) (count - (186 + 128 * i)) (number_listed content n i lt ∙ ap (λ (m : ℕ). number_in content m i) none);
+}

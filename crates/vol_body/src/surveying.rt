@@ -143,6 +143,9 @@ fn survey_list<D: Device>(
     ensures reads { OnlyReads log.old log.new }
     ensures failed { has_failed log.new ≡ device_failed result }
 {
+    if list == 0 {
+        return Ok(()); // no numbers are listed
+    }
     push_number(named, list, first, end)?;
     let numbers = read_numbers(log, list, from)?;
     push_all(named, &numbers, first, end)
@@ -209,6 +212,9 @@ fn survey_later<D: Device>(
     ensures reads { OnlyReads log.old log.new }
     ensures failed { has_failed log.new ≡ device_failed result }
 {
+    if lists == 0 {
+        return Ok(()); // nor are there any later lists
+    }
     push_number(named, lists, first, end)?;
     let kept = count.saturating_sub(186).div_ceil(128);
     let numbers = read_numbers(log, lists, kept)?;

@@ -4,7 +4,7 @@ use Rattle.vol_sector.specs.Disk.{Image}
 use Rattle.vol_sector.specs.declared.fault.VolumeFault.TheVariants as faults
 use Rattle.vol_log.specs.Log.{view}
 use Rattle.vol_body.specs.internal.Surveying.{listed, all_listed, Overflows, LaterListNone, LaterNone}
-use Rattle.vol_body.proofs.Surveys.{overflows_before, overflows_then, handed_on}
+use Rattle.vol_body.proofs.Surveys.{none_later, later_list_none, pushes_zeros, overflows_before, overflows_then, handed_on}
 use Rattle.vol_body.proofs.surveying.survey_later.Goals as goal
 
 pub returns-in_err-push_number-clause-damaged : goal.returns-in_err-push_number-clause-damaged
@@ -29,3 +29,11 @@ returns-clause-damaged g c h =
     (subst (λ (ns : List ℕ). LaterListNone content ns c.args.count → Overflows c.args.first c.args.end b (all_listed content ns)) (c.in_ok-numbers.ensures.numbers h)
     (subst (λ (m : Image). LaterListNone m numbers c.args.count → Overflows c.args.first c.args.end b (all_listed m numbers)) (reads.view h) (holds is)) none.later))
     (c.survey_lists.ensures.damaged (reads.honest.0 h))
+
+pub returns-then-lists-eq0-clause-pushes : goal.returns-then-lists-eq0-clause-pushes
+returns-then-lists-eq0-clause-pushes g c h =
+    let content = view c.args.log.now in
+    pushes_zeros c.args.first c.args.end c.args.named.now.items (c.args.lists ∷ all_listed content (listed content c.args.lists)) c.requires.inside (none_later content c.args.lists c.if-lists-eq0.true)
+
+pub returns-then-lists-eq0-clause-past : goal.returns-then-lists-eq0-clause-past
+returns-then-lists-eq0-clause-past g c h = later_list_none (view c.args.log.now) c.args.lists c.args.count c.if-lists-eq0.true

@@ -1,9 +1,14 @@
 use Rattle.std.proofs.Common.{◌∷◌, []}
 use Rattle.vol_log.specs.Log.{view}
-use Rattle.vol_body.specs.internal.Surveying.{listed}
-use Rattle.vol_body.proofs.Surveys.{overflows_before, handed_on}
+use Rattle.vol_body.specs.internal.Surveying.{listed, with_listed}
+use Rattle.vol_body.proofs.Surveys.{none_listed, pushes_zeros, overflows_before, handed_on}
 use Rattle.vol_body.proofs.surveying.survey_list.Goals as goal
 
 pub returns-in_err-push_number-clause-damaged : goal.returns-in_err-push_number-clause-damaged
 returns-in_err-push_number-clause-damaged g c h = handed_on c.from_residual.result _ c.in_err-push_number.field-0.0 c.from_residual.ensures.1
     (λ is none. overflows_before c.args.first c.args.end c.args.named.now.items (c.args.list ∷ []) (listed (view c.args.log.now) c.args.list) (c.in_err-push_number.ensures.damaged is))
+
+pub returns-then-list-eq0-clause-pushes : goal.returns-then-list-eq0-clause-pushes
+returns-then-list-eq0-clause-pushes g c h =
+    let content = view c.args.log.now in
+    pushes_zeros c.args.first c.args.end c.args.named.now.items (with_listed content c.args.list) c.requires.inside (none_listed content c.args.list c.if-list-eq0.true)
