@@ -1,5 +1,5 @@
 -- Entries that are open.
-use Rattle.std.proofs.Common.{◌≡◌, ℕ, Bool, true, false, cond, not, ◌==◌, List, [], Option, Some, None, Ok, refl, sym, ◌∙◌, ap, subst}
+use Rattle.std.proofs.Common.{◌≡◌, ℕ, Bool, true, false, cond, not, ◌==◌, List, [], Option, Some, None, IsSome, Ok, refl, sym, ◌∙◌, ap, subst}
 use Rattle.std.specs.Option.{option_map_or}
 use Rattle.vol_inode.specs.declared.version.Version.TheVariants.{One}
 use Rattle.vol_tree.specs.Tree.{Tree, Entry as TreeEntry, entry}
@@ -13,9 +13,9 @@ use Rattle.wasi_fd.specs.declared.descriptor.Descriptor.TheVariants.{Stream, Ent
 use Rattle.wasi_fd.specs.declared.descriptor.Opened.{Opened as OpenedEntry}
 use Rattle.wasi_fd.specs.Table.{Table, streams}
 use Rattle.wasi_calls.specs.World.{World}
-use Rattle.wasi_calls.specs.Checks.{Refusals, entry_at}
+use Rattle.wasi_calls.specs.Checks.{Refusals, descriptor, entry_at}
 use Rattle.wasi_calls.specs.internal.Serving.{KnowsEntries, IsFileOf}
-use Rattle.wasi_calls.proofs.Parts.{entered, is_file_kind}
+use Rattle.wasi_calls.proofs.Parts.{described, entered, is_file_kind}
 use Rattle.wasi_calls.proofs.Holds.{is_directory_kind}
 
 -- a world with this table
@@ -52,6 +52,13 @@ file_of honest v table known fd r n rights o refuses at =
           let there = known.there h fd o of.0 in
           file_there v.tree o.serial there.e there.used (there.kind ∙ is_file_kind r n refuses o.kind of.1);
     }
+
+pub at_descriptor : (table : Table) (fd : ℕ) (r : Refusals) (rights : ℕ) (d : Descriptor) → ((w : World) → w.table ≡ table → descriptor w fd r rights ≡ Ok d) → table fd ≡ Some d
+unfolding some_world
+at_descriptor table fd r rights d at = (described (some_world table) fd r rights d (at (some_world table) refl)).0
+
+pub is_used : (T : Tree) (serial : ℕ) (e : TreeEntry) → entry T serial ≡ Some e → IsSome (entry T serial)
+is_used T serial e used = subst (λ (o : Option TreeEntry). IsSome o) (sym used) refl
 
 -- ---- a new table
 

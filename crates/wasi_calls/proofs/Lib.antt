@@ -8,6 +8,7 @@ pub mod Serving
 pub mod Served
 pub mod Volumes
 pub mod Entries
+pub mod Hosting
 pub mod Texts
 pub mod Examples
 pub mod Moments

@@ -23,7 +23,9 @@ mod wasi_host;
 
 pub use fault::HostFault;
 pub use host::VolumeHost;
-pub use laws::{confined, confined_host, kept, resumes};
+pub use laws::{
+    confined, confined_host, host_calls_are_rows, host_calls_keep_moments, kept, resumes,
+};
 pub use settings::{Preopen, Settings};
 pub use streams::{Input, Output};
 pub use wasi_host::{HostParts, RefusedHost, WasiHost};

@@ -13,7 +13,7 @@ use crate::inner::Inner;
 use std::io::{Read, Write};
 use vol_sector::Device;
 use wasi_fd::Rights;
-use wasm_store::Errno;
+use wasm_store::{Errno, Memory};
 
 impl<'s, 't, D: Device, R: Read, W1: Write, W2: Write> Inner<'s, 't, D, R, W1, W2> {
     ghost use Rattle.wasi_calls.specs.internal.Serving.{IsSetUp, KnowsEntries, Serves, errno_of};
@@ -49,5 +49,15 @@ impl<'s, 't, D: Device, R: Read, W1: Write, W2: Write> Inner<'s, 't, D, R, W1, W
         let fd = word(arguments, 0);
         let size = long(arguments, 1);
         files::set_size(&mut self.volume, &self.descriptors, fd, size)
+    }
+
+    /// `fd_filestat_get(fd, result)`.
+    pub fn fd_filestat_get(&mut self, memory: &mut Memory, arguments: &[u64]) -> Result<(), Errno>
+        requires set_up { IsSetUp R.remaining self.old }
+        requires known { KnowsEntries D.honest self.old.volume (table_of self.old.descriptors) }
+        ensures { (used : _) → Serves D.honest D.disk D.size D.failures R.remaining W1.contents W2.contents (λ w. row call.FdFilestatGet w memory.old used arguments.now) self.old memory.old self.new memory.new (errno_of result) }
+    {
+        let (fd, result_at) = (word(arguments, 0), word(arguments, 1));
+        files::filestat_get(&mut self.volume, &self.descriptors, memory, fd, result_at)
     }
 }

@@ -1,6 +1,8 @@
 -- What the bodies of calls say.
 use Rattle.std.specs.Prelude.{◌≡◌, ◌≤◌, IsTrue, ℕ, Bool, true, false, List, Option, Result, Ok, Err, None, Some, vec_len}
 use Rattle.std.specs.Io.KnownBytes.{IsAtEnd}
+use Rattle.vol_inode.specs.declared.entry.Kind.{Kind}
+use Rattle.vol_inode.specs.declared.entry.Kind.TheVariants as nodes
 use Rattle.vol_sector.specs.Disk.{Disk}
 use Rattle.vol_tree.specs.Tree.{Tree, Entry as TreeEntry, entry}
 use Rattle.vol_tree.specs.Calls.{is_directory, is_file_at}
@@ -19,6 +21,11 @@ use Rattle.wasi_calls.specs.Settings.{settings_fit}
 use Rattle.wasi_calls.specs.World.{World}
 use Rattle.wasi_calls.specs.Calls.{Answered}
 use Rattle.wasi_calls.specs.Host.{HostState, StreamBytes, world_of, StreamsTell, VolumeStep}
+
+-- `filetype`
+abbrev pub type_of_entry : Kind → ℕ
+type_of_entry nodes.Directory = 3
+type_of_entry nodes.File = 4
 
 -- the number that a call answers
 abbrev pub errno_of : {X : Type 0} → Result X Errno → ℕ

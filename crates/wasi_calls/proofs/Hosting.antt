@@ -1,0 +1,56 @@
+-- What a host says of its calls: they are rows, and tell what a crash may leave.
+use Rattle.std.proofs.Common.{◌≡◌, ◌⊎◌, ℕ, ◌≤◌, List, Option, refl, sym, ◌∙◌, ap, inl, inr, arith}
+use Rattle.vol_sector.specs.Disk.{Image, Disk}
+use Rattle.vol_tree.specs.Tree.{Tree}
+use Rattle.vol_tree.specs.Stands.{Stands}
+use Rattle.vol_tree.specs.Opened.{Opened, Reflects}
+use Rattle.wasi_fd.specs.Table.{table_of}
+use Rattle.wasi_calls.specs.World.{World}
+use Rattle.wasi_calls.specs.Confined.{IsHostOf}
+use Rattle.wasi_calls.specs.Host.{HostState, Shows, VolumeStep, HostCalls}
+use Rattle.wasi_calls.specs.Moments.{CouldStand, IsSound, IsTurn, CountsMoments, CallsKeepMoments}
+
+module _ {D R W1 W2 : Type 0} (honest : D → Type 0) (disk : D → Disk) (sectors_on failures : D → ℕ)
+    (remaining : R → Option (List ℕ)) (out_contents : W1 → Option (List ℕ)) (err_contents : W2 → Option (List ℕ)) where
+  pub are_rows : IsHostOf {H = HostState D R W1 W2} (HostCalls honest disk sectors_on failures remaining out_contents err_contents) Shows (λ h. honest h.volume.device)
+  are_rows = record {
+    tree = λ h v w is also.
+        let first : v.tree ≡ h.volume.tree = ap (λ (w : World). w.tree) is.1 in
+        let second : w.tree ≡ h.volume.tree = ap (λ (w : World). w.tree) also.1 in
+        first ∙ sym second;
+    table = λ h v w is also.
+        let first : v.table ≡ table_of h.descriptors = ap (λ (w : World). w.table) is.1 in
+        let second : w.table ≡ table_of h.descriptors = ap (λ (w : World). w.table) also.1 in
+        first ∙ sym second;
+    answers = λ h h' m m' used x args answer is_honest a.
+        let (before, after, told, meaning) = a.row is_honest in
+        (a.volume.kept.honest.0 is_honest, (_, _, (before, refl), (after, refl), meaning));
+  }
+
+  -- each image that a crash may have left since
+  since : (counts : (d : D) (image : Image) → honest d → (disk d).left_since (disk d).operation_count image → (disk d).may_leave image)
+      → (old new : Opened D) → VolumeStep honest disk sectors_on failures old new → honest old.device → IsSound (disk old.device)
+      → IsTurn (disk old.device) (disk new.device) old.tree new.tree
+  since counts old new step is_honest sound = let crash = step.crash is_honest in record {
+    later = crash.later;
+    each = λ image left. elim (crash.since (disk old.device).operation_count image (omega arith) left) [
+      | inl before ↦
+          let may = counts old.device image is_honest before in
+          let T = sound image may in
+          (T.0, T.1, inl (image, may, T.1))
+      | inr (inl (r)) ↦ (r.tree, r.stands, inl (r.earlier, r.could, r.stood))
+      | inr (inr stands) ↦ (old.tree, stands, inr (inl refl))
+    ];
+  }
+
+  pub keep_moments : ((d : D) (t : ℕ) (image : Image) → honest d → t ≤ (disk d).operation_count → (disk d).may_leave image → (disk d).left_since t image)
+      → ((d : D) (image : Image) → honest d → (disk d).left_since (disk d).operation_count image → (disk d).may_leave image)
+      → CallsKeepMoments {H = HostState D R W1 W2} (λ h. disk h.volume.device) (λ h. h.volume.tree) (λ h. honest h.volume.device)
+      (HostCalls honest disk sectors_on failures remaining out_contents err_contents)
+  keep_moments now only = record {
+    turn = λ h h' m m' used x args e a is_honest sound. since only h.volume h'.volume a.volume is_honest sound;
+    synced = λ h h' m m' used x args e a is_honest sound. a.synced is_honest e refl;
+    exits = λ h h' m m' used x args status a. a.exits status refl;
+    stays_honest = λ h h' m m' used x args e a is_honest. a.volume.kept.honest.0 is_honest;
+    counts = λ h is_honest. record { counts_now = λ t image low may. now h.volume.device t image is_honest low may; only_now = λ image left. only h.volume.device image is_honest left };
+  }
