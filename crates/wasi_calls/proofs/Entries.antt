@@ -1,5 +1,5 @@
 -- Entries that are open.
-use Rattle.std.proofs.Common.{◌≡◌, ℕ, Bool, true, false, cond, not, ◌==◌, List, [], Option, Some, None, IsSome, Ok, refl, sym, ◌∙◌, ap, subst}
+use Rattle.std.proofs.Common.{◌≡◌, ℕ, Bool, true, false, cond, not, ◌==◌, List, [], Option, Some, None, IsSome, Ok, Err, refl, sym, ◌∙◌, ap, subst}
 use Rattle.std.specs.Option.{option_map_or}
 use Rattle.vol_inode.specs.declared.version.Version.TheVariants.{One}
 use Rattle.vol_tree.specs.Tree.{Tree, Entry as TreeEntry, entry}
@@ -13,9 +13,13 @@ use Rattle.wasi_fd.specs.declared.descriptor.Descriptor.TheVariants.{Stream, Ent
 use Rattle.wasi_fd.specs.declared.descriptor.Opened.{Opened as OpenedEntry}
 use Rattle.wasi_fd.specs.Table.{Table, streams}
 use Rattle.wasi_calls.specs.World.{World}
-use Rattle.wasi_calls.specs.Checks.{Refusals, descriptor, entry_at}
+use Rattle.wasi_calls.specs.Checks.{Checked, Refusals, and_then, descriptor, entry_at, range, only_directories}
 use Rattle.wasi_calls.specs.internal.Serving.{KnowsEntries, IsFileOf}
-use Rattle.wasi_calls.proofs.Parts.{described, entered, is_file_kind}
+use Rattle.path_walk.specs.Walk.{IsEntryOf}
+use Rattle.wasi_calls.specs.internal.Reaching.{entered}
+use Rattle.wasi_calls.proofs.Yields.{bound}
+use Rattle.wasi_calls.proofs.Parts as parts
+use Rattle.wasi_calls.proofs.Parts.{described, same_Ok, is_file_kind}
 use Rattle.wasi_calls.proofs.Holds.{is_directory_kind}
 
 -- a world with this table
@@ -43,7 +47,7 @@ pub file_of : {D : Type 0} (honest : D → Type 0) (v : Opened D) (table : Table
     → ((w : World) → w.table ≡ table → entry_at w fd r rights ≡ Ok o) → IsFileOf honest v o.serial
 unfolding some_world
 file_of honest v table known fd r n rights o refuses at =
-    let of = entered (some_world table) fd r rights o (at (some_world table) refl) in
+    let of = parts.entered (some_world table) fd r rights o (at (some_world table) refl) in
     let number = known.numbers fd o of.0 in
     record {
       first = number.first;
@@ -59,6 +63,29 @@ at_descriptor table fd r rights d at = (described (some_world table) fd r rights
 
 pub is_used : (T : Tree) (serial : ℕ) (e : TreeEntry) → entry T serial ≡ Some e → IsSome (entry T serial)
 is_used T serial e used = subst (λ (o : Option TreeEntry). IsSome o) (sym used) refl
+
+-- ---- a directory that a path is walked from
+
+pub entered_row : {X : Type 0} (r : Checked OpenedEntry) (g : Checked (Unit {0})) (k : OpenedEntry → Checked X)
+    → and_then r (λ o. and_then g (λ _. k o)) ≡ and_then (and_then r (λ o. and_then g (λ _. Ok o))) k
+unfolding and_then
+entered_row (Ok o) (Ok u) k = refl
+entered_row (Ok o) (Err e) k = refl
+entered_row (Err e) g k = refl
+
+pub entry_of : {D : Type 0} (honest : D → Type 0) (v : Opened D) (table : Table) → KnowsEntries honest v table → (m : List ℕ) (fd rights path len : ℕ) (o : OpenedEntry)
+    → ((w : World) → w.table ≡ table → entered w m fd rights path len ≡ Ok o) → IsEntryOf honest v o.serial
+unfolding some_world
+entry_of honest v table known m fd rights path len o at =
+    let w = some_world table in
+    let one = bound (entry_at w fd only_directories rights) _ o (at w refl) in
+    let two = bound (range m path len) _ o one.2 in
+    let same : one.0 ≡ o = same_Ok one.0 o two.2 in
+    let of = parts.entered w fd only_directories rights o (one.1 ∙ ap Ok same) in
+    record {
+      number = known.numbers fd o of.0;
+      used = λ h. let there = known.there h fd o of.0 in is_used v.tree o.serial there.e there.used;
+    }
 
 -- ---- a new table
 

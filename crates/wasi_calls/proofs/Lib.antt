@@ -9,6 +9,7 @@ pub mod Served
 pub mod Volumes
 pub mod Entries
 pub mod Hosting
+pub mod Walked
 pub mod Texts
 pub mod Examples
 pub mod Moments

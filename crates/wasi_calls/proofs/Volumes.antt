@@ -130,7 +130,7 @@ unit_err : (r : Result Tree Errno) (e : Errno) → with_unit r ≡ Err e → r �
 unit_err (Ok U) e h = cc
 unit_err (Err d) e h = let same : d ≡ e = cc in ap Err same
 
-numbered_io : {X : Type 0} (r : Result X Errno) → r ≢ Err errno.Io → numbered r ≢ Err 29
+pub numbered_io : {X : Type 0} (r : Result X Errno) → r ≢ Err errno.Io → numbered r ≢ Err 29
 numbered_io (Ok x) never = λ is. cc
 numbered_io (Err e) never = elim (io_or (Unit {0}) e) [
   | inl (io, fails) ↦ λ is. never (ap Err io)
@@ -175,11 +175,11 @@ module _ {D : Type 0} (honest : D → Type 0) (sectors_on failures : D → ℕ) 
 
 -- ---- the calls of a tree never say that the device failed
 
-never_if : {X : Type 0} (b : Bool) (e : Errno) (r : Result X Errno) → e ≢ errno.Io → r ≢ Err errno.Io → cond b (Err e) r ≢ Err errno.Io
+pub never_if : {X : Type 0} (b : Bool) (e : Errno) (r : Result X Errno) → e ≢ errno.Io → r ≢ Err errno.Io → cond b (Err e) r ≢ Err errno.Io
 never_if true e r other never = λ is. other (let same : e ≡ errno.Io = cc in same)
 never_if false e r other never = never
 
-ok_no_io : {X : Type 0} (x : X) → ◌≢◌ {A = Result X Errno} (Ok x) (Err errno.Io)
+pub ok_no_io : {X : Type 0} (x : X) → ◌≢◌ {A = Result X Errno} (Ok x) (Err errno.Io)
 ok_no_io x is = cc
 
 big_no_io : errno.TooBig ≢ errno.Io

@@ -20,6 +20,9 @@ pub(crate) const MFILE: Errno = Errno(33);
 /// A name is too long.
 pub(crate) const NAMETOOLONG: Errno = Errno(37);
 
+/// There is no entry of that name.
+pub(crate) const NOENT: Errno = Errno(44);
+
 /// There is no such call.
 pub(crate) const NOSYS: Errno = Errno(52);
 

@@ -15,6 +15,7 @@ mod laws;
 mod linking;
 mod numbers;
 mod on_volume;
+mod paths;
 mod plain;
 mod settings;
 mod streams;

@@ -8,8 +8,8 @@ ghost use Rattle.wasm_store.specs.declared.call.HostCall.TheVariants as call;
 ghost use Rattle.wasi_calls.specs.Calls.{row};
 
 use crate::arguments::{long, word};
-use crate::files;
 use crate::inner::Inner;
+use crate::{files, paths};
 use std::io::{Read, Write};
 use vol_sector::Device;
 use wasi_fd::Rights;
@@ -59,5 +59,17 @@ impl<'s, 't, D: Device, R: Read, W1: Write, W2: Write> Inner<'s, 't, D, R, W1, W
     {
         let (fd, result_at) = (word(arguments, 0), word(arguments, 1));
         files::filestat_get(&mut self.volume, &self.descriptors, memory, fd, result_at)
+    }
+
+    /// `path_filestat_get(fd, flags, path, length, result)`.
+    pub fn path_filestat_get(&mut self, memory: &mut Memory, arguments: &[u64]) -> Result<(), Errno>
+        requires set_up { IsSetUp R.remaining self.old }
+        requires known { KnowsEntries D.honest self.old.volume (table_of self.old.descriptors) }
+        ensures { (used : _) → Serves D.honest D.disk D.size D.failures R.remaining W1.contents W2.contents (λ w. row call.PathFilestatGet w memory.old used arguments.now) self.old memory.old self.new memory.new (errno_of result) }
+    {
+        let (fd, path) = (word(arguments, 0), word(arguments, 2));
+        let (len, result_at) = (word(arguments, 3), word(arguments, 4));
+        let volume = &mut self.volume;
+        paths::path_filestat_get(volume, &self.descriptors, memory, fd, path, len, result_at)
     }
 }

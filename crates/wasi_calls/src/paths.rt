@@ -1,0 +1,129 @@
+//! Calls on paths.
+
+ghost use Rattle.std.specs.Prelude.{◌≡◌, ◌+◌, ◌≤◌, length, Ok, Err, MatchResult, IfOk, OnOk};
+ghost use Rattle.wasi_calls.specs.Calls.{Answered};
+ghost use Rattle.wasm_store.specs.Bytes.{bytes_at};
+ghost use Rattle.wasi_fd.specs.Table.{table_of};
+ghost use Rattle.wasi_fd.specs.Rights.{bits_of};
+ghost use Rattle.path_walk.specs.Walk.{IsEntryOf, IsReached};
+ghost use Rattle.wasi_calls.specs.World.{World};
+ghost use Rattle.wasi_calls.specs.Host.{VolumeStep};
+ghost use Rattle.wasi_calls.specs.internal.Serving.{with_volume, KnowsEntries, errno_of};
+ghost use Rattle.wasi_calls.specs.internal.Reaching.{StillWorks, Reaches, Finds, entered};
+ghost use Rattle.wasi_calls.specs.Paths.{path_filestat_get as stat_row};
+
+use crate::checks::{Takes, check_range, entry_at, write_bytes};
+use crate::errno::NOENT;
+use crate::files::{refused, stat_entry};
+use path_walk::{Path, Reached, walk};
+use vol_sector::Device;
+use vol_tree::Volume;
+use wasi_fd::{Descriptors, Opened, Rights};
+use wasm_store::{Errno, Memory};
+
+/// What a path of the guest reaches from a directory.
+pub(crate) fn reach<'p, D: Device>(
+    volume: &mut Volume<D>,
+    directory: u32,
+    text: &'p [u8],
+) -> Result<Reached<'p>, vol_tree::Errno>
+    requires { IsEntryOf D.honest volume.old directory }
+    ensures reaches { D.honest volume.old.device → (w : World) (o : _) → o.serial ≡ directory → w ≡ with_volume volume.old w
+        → Reaches D.honest D.disk D.size D.failures volume.old volume.new w o text.now result }
+    ensures works { IfOk result (λ r. StillWorks D.honest D.disk D.size D.failures volume.old volume.new) }
+    ensures reached { IfOk result (IsReached D.honest volume.new) }
+    ensures step { VolumeStep D.honest D.disk D.size D.failures volume.old volume.new }
+{
+    match Path::read(text) {
+        Ok(path) => walk(volume, directory, &path),
+        Err(errno) => Err(errno),
+    }
+}
+
+/// The checks of a call on a path before it is walked: an open directory whose descriptor has the
+/// rights, and a path that lies in memory.
+#[tactic(auto, using(crate::proofs::Yields::goes_on, crate::proofs::Yields::stops))]
+fn enter<'t, 'm>(
+    descriptors: &Descriptors<'t>,
+    memory: &'m Memory,
+    fd: u32,
+    path: u32,
+    len: u32,
+    rights: Rights,
+) -> Result<(Opened<'t>, &'m [u8]), Errno>
+    ensures row { (w : World) → w.table ≡ table_of descriptors.now → MatchResult result
+        (λ p. entered w memory.now fd (bits_of rights) path len ≡ Ok p.0)
+        (λ e. entered w memory.now fd (bits_of rights) path len ≡ Err e.0) }
+    ensures text { IfOk result (λ p. p.1.now ≡ bytes_at memory.now path len) }
+{
+    let opened = entry_at(descriptors, fd, Takes::Directories, rights)?;
+    check_range(memory, path, len)?;
+    match memory.slice(path, len) {
+        Some(text) => Ok((opened, text)),
+        None => Err(Errno::FAULT),
+    }
+}
+
+/// What is told of the entry that a path of the guest reaches.
+fn stat_path<D: Device>(
+    volume: &mut Volume<D>,
+    descriptors: &Descriptors<'_>,
+    memory: &Memory,
+    fd: u32,
+    path: u32,
+    len: u32,
+    result_at: u32,
+) -> Result<[u8; 64], Errno>
+    requires { KnowsEntries D.honest volume.old (table_of descriptors.now) }
+    ensures step { VolumeStep D.honest D.disk D.size D.failures volume.old volume.new }
+    ensures inside { OnOk result (result_at + 64 ≤ length memory.now) }
+    ensures finds { D.honest volume.old.device → (w : World) → w.table ≡ table_of descriptors.now → w ≡ with_volume volume.old w
+        → Finds (λ v. stat_row v memory.now fd path len result_at) w memory.now volume.new result_at result }
+{
+    let (directory, text) = match enter(
+        descriptors,
+        memory,
+        fd,
+        path,
+        len,
+        Rights::PATH_FILESTAT_GET,
+    ) {
+        Ok(entered) => entered,
+        Err(errno) => return Err(errno),
+    };
+    if let Err(errno) = check_range(memory, result_at, 64) {
+        return Err(errno);
+    }
+    match reach(volume, directory.serial, text) {
+        Ok(Reached::Found(serial)) => match stat_entry(volume, serial) {
+            Ok(bytes) => Ok(bytes),
+            Err(errno) => Err(refused(errno)),
+        },
+        Ok(Reached::Missing { .. }) => Err(NOENT),
+        Err(errno) => Err(refused(errno)),
+    }
+}
+
+/// `path_filestat_get(fd, flags, path, length, result)`. The flags have no effect.
+pub(crate) fn path_filestat_get<D: Device>(
+    volume: &mut Volume<D>,
+    descriptors: &Descriptors<'_>,
+    memory: &mut Memory,
+    fd: u32,
+    path: u32,
+    len: u32,
+    result_at: u32,
+) -> Result<(), Errno>
+    requires { KnowsEntries D.honest volume.old (table_of descriptors.now) }
+    ensures step { VolumeStep D.honest D.disk D.size D.failures volume.old volume.new }
+    ensures answered { D.honest volume.old.device → (w : World) → w.table ≡ table_of descriptors.now → w ≡ with_volume volume.old w
+        → Answered (λ v. stat_row v memory.old fd path len result_at) w memory.old (with_volume volume.new w) memory.new (errno_of result) }
+{
+    match stat_path(volume, descriptors, memory, fd, path, len, result_at) {
+        Ok(bytes) => {
+            write_bytes(memory, result_at, &bytes);
+            Ok(())
+        }
+        Err(errno) => Err(errno),
+    }
+}
