@@ -4,11 +4,14 @@ use Rattle.std.proofs.lemmas.Bool.{false≢true}
 use Rattle.vol_sector.specs.Disk.{Disk, Leaves, counted}
 use Rattle.vol_tree.specs.declared.errno.Errno.{Errno}
 use Rattle.vol_tree.specs.declared.errno.Errno.TheVariants as errno
-use Rattle.vol_tree.specs.Tree.{Tree}
+use Rattle.vol_tree.specs.Tree.{Tree, Name, Node, lookup, least_from, is_unused}
+use Rattle.vol_tree.specs.Stands.{Stands}
+use Rattle.std.specs.Option.{option_map_or}
+use Rattle.wasi_calls.specs.internal.Reaching.{StillWorks}
 use Rattle.vol_tree.specs.Numbers.{number_of}
-use Rattle.vol_tree.specs.Opened.{Opened, Keeps, ReflectsOr, geometry, is_io}
+use Rattle.vol_tree.specs.Opened.{Opened, Keeps, Reflects, ReflectsOr, geometry, is_io}
 use Rattle.vol_tree.specs.Space.{Geometry}
-use Rattle.vol_tree.specs.Calls.{with_unit, if_it_fits, resized}
+use Rattle.vol_tree.specs.Calls.{with_unit, created, if_it_fits, resized}
 use Rattle.wasi_calls.specs.World.{World, volume_gone}
 use Rattle.wasi_calls.specs.Checks.{Checked, Done, put, guard, and_then, only_world, tree_call, numbered}
 use Rattle.wasi_calls.specs.Calls.{Answers, Answered, by_row, volume_fails}
@@ -194,3 +197,88 @@ fits_never volume T file bytes =
 
 pub resized_never : (volume : Geometry) (T : Tree) (file size : ℕ) → resized volume T file size ≢ Err errno.Io
 resized_never volume T file size = fits_never volume T file _
+
+some_never : {X Y : Type 0} (f : X → Result Y Errno) (o : Option X) (r : Result Y Errno) → ((x : X) → f x ≢ Err errno.Io) → r ≢ Err errno.Io → option_map_or f o r ≢ Err errno.Io
+some_never f None r some none = none
+some_never f (Some x) r some none = some x
+
+exist_no_io : {X : Type 0} → ◌≢◌ {A = Result X Errno} (Err errno.Exist) (Err errno.Io)
+exist_no_io is = cc
+
+full_no_io : {X : Type 0} → ◌≢◌ {A = Result X Errno} (Err errno.NoSpace) (Err errno.Io)
+full_no_io is = cc
+
+pub created_never : (T : Tree) (parent : ℕ) (name : Name) (node : Node) → created T parent name node ≢ Err errno.Io
+created_never T parent name node = some_never _ (lookup T parent name) _ (λ x. exist_no_io) (some_never _ (least_from 1 is_unused T) _ (λ x. ok_no_io _) full_no_io)
+
+-- ---- rows that end in a new entry
+
+abbrev pub making : (World → Result (Tree × ℕ) Errno) → World → Checked Done
+making r u = and_then (tree_call u (r u)) (λ made. Ok (only_world (record u { tree = made.0 })))
+
+pub making_never : (r : World → Result (Tree × ℕ) Errno) (w : World) → w.volume_failed ≡ false → r w ≢ Err errno.Io → making r w ≢ Err 29
+making_never r w alive never = never_after (tree_call w (r w)) (λ made. Ok (only_world (record w { tree = made.0 })))
+    (λ h. numbered_io (r w) never (sym (tree_called_alive w (r w) alive) ∙ h)) (λ made _ h. cc)
+
+module _ {D : Type 0} (honest : D → Type 0) (sectors_on failures : D → ℕ) (w : World) (m : List ℕ) (run : World → Checked Done) (r : World → Result (Tree × ℕ) Errno)
+    (v v' : Opened D) (shown : w ≡ with_volume v w) (same : run w ≡ making r w) where
+  pub made_ok : Keeps honest sectors_on failures v v' false → (serial : ℕ) → r (with_volume v w) ≡ Ok (v'.tree, serial) → Answered run w m (with_volume v' w) m 0
+  made_ok k serial is =
+      let working : v.failed ≡ false = was_working honest sectors_on failures v v' false k refl in
+      let alive : w.volume_failed ≡ false = ap (λ (w : World). w.volume_failed) shown ∙ working in
+      let gives : r w ≡ Ok (v'.tree, serial) = ap r shown ∙ is in
+      let all : run w ≡ Ok (only_world (record w { tree = v'.tree })) = same ∙ goes_on _ _ (v'.tree, serial) (tree_called_alive w (r w) alive ∙ ap numbered gives) in
+      done_by w m run v' m (only_world (record w { tree = v'.tree })) all
+      ((λ i. record w { volume = geometry (k.numbers i); tree = v'.tree; volume_failed = (k.failed ∙ sym working) i })
+      ∙ λ i. record w { volume = (sym shown i).volume; tree = v'.tree; volume_failed = (sym shown i).volume_failed })
+      refl
+
+  pub made_err : run (volume_gone w) ≡ Err 29 → r w ≢ Err errno.Io → (e : Errno) → Keeps honest sectors_on failures v v' (is_io {X = ℕ} (Err e)) → v'.tree ≡ v.tree
+      → (r (with_volume v w) ≡ Err e) ⊎ (e ≡ errno.Io) → Answered run w m (with_volume v' w) m (number_of e)
+  made_err gone never e k tree meant =
+      tree_refuses w m honest sectors_on failures ℕ run v v' e k shown tree
+      (λ alive other. elim meant [
+        | inl is ↦ same ∙ stops _ _ (number_of e) (tree_called_alive w (r w) alive ∙ ap numbered (ap r shown ∙ is))
+        | inr io ↦ absurd (other io)
+      ])
+      gone
+      (λ alive is. making_never r w alive never (sym same ∙ is))
+
+-- ---- a step after the volume was asked
+
+pub steps_after : {D : Type 0} (honest : D → Type 0) (disk : D → Disk) (sectors_on failures : D → ℕ) (a b c : Opened D)
+    → StillWorks honest disk sectors_on failures a b → VolumeStep honest disk sectors_on failures b c → VolumeStep honest disk sectors_on failures a c
+steps_after honest disk sectors_on failures a b c first second =
+    let k = first.kept in
+    let l = second.kept in
+    record {
+      kept = record {
+        numbers = l.numbers ∙ k.numbers;
+        failed = refl;
+        failures = λ working. l.failures k.failed ∙ ap (counted c.failed) (k.failures working);
+        idle = λ failed. absurd (false≢true (k.idle failed).1);
+        honest = ((λ h. l.honest.0 (k.honest.0 h)), (λ h. k.honest.1 (l.honest.1 h)));
+        size = l.size ∙ k.size;
+      };
+      crash = λ h.
+          let before = first.crash h in
+          let after = second.crash (k.honest.0 h) in
+          record {
+            later = omega (arith, before.later, after.later);
+            since = λ t image low left. elim (after.since t image (omega (arith, before.later)) left) [
+              | inl still ↦ elim (before.since t image low still) [ inl then ↦ inl then | inr never ↦ absurd never ]
+              | inr (inl r) ↦ inr (inl (record { earlier = r.earlier; could = elim (before.now r.earlier r.could) [ inl then ↦ then | inr never ↦ absurd never ]; tree = r.tree; stood = r.stood; stands = r.stands }))
+              | inr (inr stands) ↦ inr (inr (subst (λ (T : Tree). Stands image T) (first.tree h) stands))
+            ];
+            now = λ image left. elim (after.now image left) [
+              | inl still ↦ elim (before.now image still) [ inl then ↦ inl then | inr never ↦ absurd never ]
+              | inr (inl r) ↦ inr (inl (record { earlier = r.earlier; could = elim (before.now r.earlier r.could) [ inl then ↦ then | inr never ↦ absurd never ]; tree = r.tree; stood = r.stood; stands = r.stands }))
+              | inr (inr stands) ↦ inr (inr (subst (λ (T : Tree). Stands image T) (first.tree h) stands))
+            ];
+          };
+    }
+
+-- one operation of the volume is a step
+pub steps : {D : Type 0} (honest : D → Type 0) (disk : D → Disk) (sectors_on failures : D → ℕ) (a b : Opened D) (io : Bool) → Keeps honest sectors_on failures a b io
+    → (honest a.device → Leaves (disk a.device) (disk b.device) (ReflectsOr (disk a.device) a.tree)) → VolumeStep honest disk sectors_on failures a b
+steps honest disk sectors_on failures a b io k crash = record { kept = subst (Keeps honest sectors_on failures a b) (sym k.failed) k; crash = crash }

@@ -6,18 +6,21 @@ use Rattle.vol_sector.specs.Disk.{Disk, Leaves}
 use Rattle.vol_tree.specs.declared.errno.Errno.{Errno}
 use Rattle.vol_tree.specs.declared.errno.Errno.TheVariants as errno
 use Rattle.vol_tree.specs.Numbers.{number_of}
-use Rattle.vol_tree.specs.Tree.{Tree, Name, same_name, lookup}
-use Rattle.vol_tree.specs.Calls.{directory_at}
+use Rattle.vol_tree.specs.Tree.{Tree, Node, Directory, File, Entry as TreeEntry, entry, Name, IsDirectory, same_name, lookup}
+use Rattle.vol_tree.specs.Calls.{is_directory, directory_at}
 use Rattle.vol_tree.specs.Opened.{Opened, Keeps, ReflectsOr, is_io}
 use Rattle.path_walk.specs.declared.walking.Reached.{Reached as ReachedValue}
+use Rattle.path_walk.specs.declared.walking.Reached.TheVariants as values
+use Rattle.path_walk.proofs.Walks.{missing_free}
 use Rattle.path_walk.specs.Walk.{Gives, reached_as}
 use Rattle.path_walk.specs.Paths.{Reached, Found, Missing, path_read, components_of, wants_directory, stays_inside, resolved, walked, as_wanted, missing, dots, ◌>>=◌}
 use Rattle.wasi_fd.specs.declared.descriptor.Opened.{Opened as OpenedEntry}
 use Rattle.wasi_calls.specs.World.{World, volume_gone}
 use Rattle.wasi_calls.specs.Checks.{Checked, numbered, walk, found}
+use Rattle.wasi_calls.specs.Paths as rows
 use Rattle.wasi_calls.specs.Host.{VolumeStep}
 use Rattle.wasi_calls.specs.internal.Serving.{with_volume}
-use Rattle.wasi_calls.specs.internal.Reaching.{RefusesText, RefusesWalk, Reaches}
+use Rattle.wasi_calls.specs.internal.Reaching.{RefusesText, RefusesWalk, Reaches, Places}
 use Rattle.wasi_calls.proofs.Yields.{guard_passes, guard_fails, goes_on, stops}
 use Rattle.wasi_calls.proofs.Served.{volume_rests}
 use Rattle.wasi_calls.proofs.Volumes.{never_if, ok_no_io, numbered_io}
@@ -139,3 +142,23 @@ module _ {D : Type 0} (honest : D → Type 0) (disk : D → Disk) (sectors_on fa
   pub step_by : (names : List Name) (v v' : Opened D) (io : Bool) → (stays_inside 0 names ≡ true → Keeps honest sectors_on failures v v' io) → (stays_inside 0 names ≡ false → v' ≡ v)
       → (honest v.device → Leaves (disk v.device) (disk v'.device) (λ c. ⊥)) → VolumeStep honest disk sectors_on failures v v'
   step_by names v v' io kept same crash = step_if (stays_inside 0 names) v v' io kept same crash
+
+-- ---- where a missing name may be made
+
+node_is : (n : Node) → is_directory n ≡ true → n ≡ Directory
+node_is Directory h = refl
+node_is (File bytes) h = absurd (false≢true h)
+
+is_directory_if : (T : Tree) (serial : ℕ) (o : Option TreeEntry) → entry T serial ≡ o → option_map_or (λ (e : TreeEntry). is_directory e.node) o false ≡ true → IsDirectory T serial
+is_directory_if T serial None is h = absurd (false≢true h)
+is_directory_if T serial (Some e) is h = (e, is, node_is e.node h)
+
+pub places : (T : Tree) (directory : ℕ) (wants : Bool) (names : List Name) (result : Result ReachedValue Errno) → Gives (resolved T directory wants names) result → Places T result
+places T directory wants names (Ok (values.Found serial)) gives = tt
+places T directory wants names (Ok (values.Missing parent name)) gives =
+    is_directory_if T parent (entry T parent) refl (missing_free T directory parent name.now wants names gives).directory
+places T directory wants names (Err e) gives = tt
+
+pub missing_name_never : (r : Reached) → rows.missing r ≢ Err 29
+missing_name_never (Found serial) = other_errno 20 (λ is. absurd (omega (arith, is)))
+missing_name_never (Missing parent name) = λ is. cc

@@ -72,4 +72,14 @@ impl<'s, 't, D: Device, R: Read, W1: Write, W2: Write> Inner<'s, 't, D, R, W1, W
         let volume = &mut self.volume;
         paths::path_filestat_get(volume, &self.descriptors, memory, fd, path, len, result_at)
     }
+
+    /// `path_create_directory(fd, path, length)`.
+    pub fn path_create_directory(&mut self, memory: &Memory, arguments: &[u64]) -> Result<(), Errno>
+        requires set_up { IsSetUp R.remaining self.old }
+        requires known { KnowsEntries D.honest self.old.volume (table_of self.old.descriptors) }
+        ensures { (used : _) → Serves D.honest D.disk D.size D.failures R.remaining W1.contents W2.contents (λ w. row call.PathCreateDirectory w memory.now used arguments.now) self.old memory.now self.new memory.now (errno_of result) }
+    {
+        let (fd, path, len) = (word(arguments, 0), word(arguments, 1), word(arguments, 2));
+        paths::path_create_directory(&mut self.volume, &self.descriptors, memory, fd, path, len)
+    }
 }

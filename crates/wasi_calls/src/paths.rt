@@ -9,11 +9,11 @@ ghost use Rattle.path_walk.specs.Walk.{IsEntryOf, IsReached};
 ghost use Rattle.wasi_calls.specs.World.{World};
 ghost use Rattle.wasi_calls.specs.Host.{VolumeStep};
 ghost use Rattle.wasi_calls.specs.internal.Serving.{with_volume, KnowsEntries, errno_of};
-ghost use Rattle.wasi_calls.specs.internal.Reaching.{StillWorks, Reaches, Finds, entered};
-ghost use Rattle.wasi_calls.specs.Paths.{path_filestat_get as stat_row};
+ghost use Rattle.wasi_calls.specs.internal.Reaching.{StillWorks, Reaches, Places, Finds, entered};
+ghost use Rattle.wasi_calls.specs.Paths.{path_filestat_get as stat_row, path_create_directory as create_row};
 
 use crate::checks::{Takes, check_range, entry_at, write_bytes};
-use crate::errno::NOENT;
+use crate::errno::{EXIST, NOENT};
 use crate::files::{refused, stat_entry};
 use path_walk::{Path, Reached, walk};
 use vol_sector::Device;
@@ -30,6 +30,7 @@ pub(crate) fn reach<'p, D: Device>(
     requires { IsEntryOf D.honest volume.old directory }
     ensures reaches { D.honest volume.old.device → (w : World) (o : _) → o.serial ≡ directory → w ≡ with_volume volume.old w
         → Reaches D.honest D.disk D.size D.failures volume.old volume.new w o text.now result }
+    ensures place { D.honest volume.old.device → Places volume.old.tree result }
     ensures works { IfOk result (λ r. StillWorks D.honest D.disk D.size D.failures volume.old volume.new) }
     ensures reached { IfOk result (IsReached D.honest volume.new) }
     ensures step { VolumeStep D.honest D.disk D.size D.failures volume.old volume.new }
@@ -125,5 +126,34 @@ pub(crate) fn path_filestat_get<D: Device>(
             Ok(())
         }
         Err(errno) => Err(errno),
+    }
+}
+
+/// `path_create_directory(fd, path, length)`.
+pub(crate) fn path_create_directory<D: Device>(
+    volume: &mut Volume<D>,
+    descriptors: &Descriptors<'_>,
+    memory: &Memory,
+    fd: u32,
+    path: u32,
+    len: u32,
+) -> Result<(), Errno>
+    requires { KnowsEntries D.honest volume.old (table_of descriptors.now) }
+    ensures step { VolumeStep D.honest D.disk D.size D.failures volume.old volume.new }
+    ensures answered { D.honest volume.old.device → (w : World) → w.table ≡ table_of descriptors.now → w ≡ with_volume volume.old w
+        → Answered (λ v. create_row v memory.now fd path len) w memory.now (with_volume volume.new w) memory.now (errno_of result) }
+{
+    let right = Rights::PATH_CREATE_DIRECTORY;
+    let (directory, text) = match enter(descriptors, memory, fd, path, len, right) {
+        Ok(entered) => entered,
+        Err(errno) => return Err(errno),
+    };
+    match reach(volume, directory.serial, text) {
+        Ok(Reached::Missing { parent, name }) => match volume.create_dir(parent, name) {
+            Ok(_) => Ok(()),
+            Err(errno) => Err(refused(errno)),
+        },
+        Ok(Reached::Found(_)) => Err(EXIST),
+        Err(errno) => Err(refused(errno)),
     }
 }

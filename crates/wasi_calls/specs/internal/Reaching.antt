@@ -5,7 +5,9 @@ use Rattle.vol_tree.specs.declared.errno.Errno.{Errno}
 use Rattle.vol_tree.specs.declared.errno.Errno.TheVariants as errno
 use Rattle.vol_tree.specs.Numbers.{number_of}
 use Rattle.vol_tree.specs.Opened.{Opened, Keeps, is_io}
+use Rattle.vol_tree.specs.Tree.{Tree, IsDirectory}
 use Rattle.path_walk.specs.declared.walking.Reached.{Reached as ReachedValue}
+use Rattle.path_walk.specs.declared.walking.Reached.TheVariants as values
 use Rattle.path_walk.specs.Walk.{IsEntryOf, reached_as}
 use Rattle.wasi_fd.specs.declared.descriptor.Opened.{Opened as OpenedEntry}
 use Rattle.wasi_calls.specs.World.{World, volume_gone}
@@ -13,6 +15,12 @@ use Rattle.wasi_calls.specs.Checks.{Checked, Done, ◌>>=◌, ◌>>◌, entry_at
 use Rattle.wasi_calls.specs.Calls.{Answered}
 use Rattle.wasm_store.specs.declared.call.Errno.{Errno as Number}
 use Rattle.wasi_calls.specs.internal.Serving.{with_volume}
+
+-- what is missing may be made in a directory
+abbrev pub Places : Tree → Result ReachedValue Errno → Type 0
+Places T (Ok (values.Found serial)) = Unit {0}
+Places T (Ok (values.Missing parent name)) = IsDirectory T parent
+Places T (Err e) = Unit {0}
 
 -- the checks of a call on a path before it is walked
 abbrev pub entered : World → List ℕ → ℕ → ℕ → ℕ → ℕ → Checked OpenedEntry

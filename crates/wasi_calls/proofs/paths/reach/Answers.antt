@@ -2,7 +2,7 @@ use Rattle.std.proofs.Common.{◌≡◌, ℕ, List, Ok, Err, refl, sym, ap, ◌�
 use Rattle.path_walk.specs.Paths.{components_of, wants_directory, resolved, stays_inside}
 use Rattle.path_walk.specs.Walk.{Gives}
 use Rattle.wasi_calls.specs.internal.Reaching.{Reaches}
-use Rattle.wasi_calls.proofs.Walked.{by_text, reaches_by, step_by}
+use Rattle.wasi_calls.proofs.Walked.{by_text, reaches_by, step_by, places}
 use Rattle.wasi_calls.proofs.paths.reach.Goals as goal
 
 pub returns-in-Ok-clause-reaches : goal.returns-in-Ok-clause-reaches
@@ -25,3 +25,7 @@ returns-in-Ok-clause-step g c =
 pub returns-in-Err-clause-reaches : goal.returns-in-Err-clause-reaches
 returns-in-Err-clause-reaches g c = λ h w o serial shown.
     inl (record { same = refl; answer = by_text w o c.args.text.now c.in-Err.errno c.in-Err.ensures })
+
+pub returns-in-Ok-clause-place : goal.returns-in-Ok-clause-place
+returns-in-Ok-clause-place g c = λ h.
+    places c.args.volume.now.tree c.args.directory (wants_directory c.in-Ok.path) (components_of c.in-Ok.path) c.walk.result (c.walk.ensures.answer h)
