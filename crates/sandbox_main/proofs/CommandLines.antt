@@ -4,7 +4,7 @@ use Rattle.std.specs.Prelude.{option_and_then}
 use Rattle.std.specs.List.{list_all}
 use Rattle.std.specs.Char.{digit_value}
 use Rattle.std.specs.Str.Parse.{AllDigits, IsNumeral, ParsesUnsigned, digits_value, without_leading_plus}
-use Rattle.clap.specs.Words.{AddsArg, App, ReadsOne, Rule, app_of, is_simple, rule_of, with_rule}
+use Rattle.clap.specs.Words.{AddsArg, AddsSubcommand, App, ReadsOne, Rule, app_of, is_simple, rule_of, with_rule, with_subcommand}
 use Rattle.clap.specs.Faults.{is_simple_and_free}
 use Rattle.clap.specs.declared.builder.arg.Arg.{Arg}
 use Rattle.clap.specs.declared.builder.command.Command.{Command}
@@ -76,6 +76,15 @@ pub argument_added : (old : Command) (a : Arg) (new : Command) (app : App) (r : 
     → (app_of new ≡ with_rule app r) × ((fields_of new).has_globals ≡ false)
 argument_added old a new app r added (is, local) (rule, own) = (
   added.shape own ∙ ap₂ with_rule is rule,
+  added.globals ∙ ap₂ (λ x y. x || y) local own,
+)
+
+-- one more subcommand
+pub subcommand_added : (old sub new : Command) (app : App) (leaf : App) → AddsSubcommand old sub new
+    → (app_of old ≡ app) × ((fields_of old).has_globals ≡ false) → (app_of sub ≡ leaf) × ((fields_of sub).has_globals ≡ false)
+    → (app_of new ≡ with_subcommand app leaf.top) × ((fields_of new).has_globals ≡ false)
+subcommand_added old sub new app leaf added (is, local) (sub_is, own) = (
+  added.shape own ∙ ap₂ with_subcommand is (ap (λ (a : App). a.top) sub_is),
   added.globals ∙ ap₂ (λ x y. x || y) local own,
 )
 

@@ -1,1 +1,10 @@
 mod CommandLines
+mod Asking
+mod Listing
+mod Texts
+mod Rooted
+mod Pieces
+mod Filled
+mod Beginning
+mod Missing
+mod Opened

@@ -1,7 +1,7 @@
 -- The command line: the command that clap is told of, and what its matches ask for. The words are those of clap's own
 -- model: an `App` is a command with its subcommands, a `Rule` an argument, and a `Row` what was found for one.
-use Rattle.std.specs.Prelude.{◌≡◌, ◌&&◌, ◌^◌, ℕ, Bool, true, List, [], length, pos, Option, Some, None, unwrap_or, option_and_then, option_map, if◌then◌else◌, nat_lt, codes}
-use Rattle.std.specs.List.{list_all}
+use Rattle.std.specs.Prelude.{◌≡◌, ◌≢◌, ◌&&◌, ◌^◌, ℕ, Bool, true, List, [], ◌∷◌, length, pos, Option, Some, None, unwrap_or, option_and_then, if◌then◌else◌, nat_lt, codes}
+use Rattle.std.specs.List.{Contains, list_all}
 use Rattle.std.specs.Char.{digit_value}
 use Rattle.std.specs.Str.Parse.{digits_value, without_leading_plus}
 use Rattle.clap.specs.declared.builder.action.ArgAction.TheVariants.{Set, Append}
@@ -9,11 +9,22 @@ use Rattle.clap.specs.declared.builder.value_parser.ValueParser.{ValueParser}
 use Rattle.clap.specs.declared.builder.value_parser.ValueParser.TheVariants.{Signed, Unsigned}
 use Rattle.clap.specs.Lexer.{usize_max}
 use Rattle.clap.specs.Simple.{on_top}
-use Rattle.clap.specs.Words.{App, Row, Rule, all_of, first_of, new_app, new_rule, one_of, subcommand_of, with_rule, with_subcommand}
+use Rattle.clap.specs.Words.{App, Row, Rule, all_of, first_of, new_app, new_rule, one_of, with_rule, with_subcommand}
 use Rattle.sandbox_main.specs.declared.request.Run.{Run}
+use Rattle.sandbox_main.specs.declared.request.Task.{Task}
+use Rattle.sandbox_main.specs.declared.request.Task.TheVariants.{List as Ls, Get, Put, Check, Upgrade}
+use Rattle.sandbox_main.specs.declared.request.Invocation.{Invocation}
+use Rattle.sandbox_main.specs.declared.request.Invocation.TheVariants as asked
 use Rattle.sandbox_main.specs.Request.{Text, texts}
 
 -- ---- the command
+
+-- the numbers of `u64` and of `u32`
+abbrev pub u64_numbers : ValueParser
+u64_numbers = Unsigned 0 18446744073709551615
+
+abbrev pub u32_numbers : ValueParser
+u32_numbers = Signed (pos 0) (pos 4294967295)
 
 -- `--name N`
 abbrev pub number_rule : Text → ValueParser → Rule
@@ -24,9 +35,13 @@ number_rule name numbers = record (new_rule name) {
   parser = Some numbers;
 }
 
--- `MODULE`, which has to be there
-abbrev pub module_rule : Rule
-module_rule = record (new_rule (codes "MODULE")) { action = Some Set; required = true }
+-- a word that has to be there
+abbrev pub word_rule : Text → Rule
+word_rule name = record (new_rule name) { action = Some Set; required = true }
+
+-- such a word, which is a number
+abbrev pub number_word_rule : Text → Rule
+number_word_rule name = record (word_rule name) { parser = Some u32_numbers }
 
 -- `WORD`, as often as it comes
 abbrev pub words_rule : Rule
@@ -35,23 +50,30 @@ words_rule = record (new_rule (codes "WORD")) {
   range = Some (record { start_inclusive = 0; end_inclusive = usize_max });
 }
 
--- the numbers of `u64` and of `u32`
-abbrev pub fuel_numbers : ValueParser
-fuel_numbers = Unsigned 0 18446744073709551615
-
-abbrev pub page_numbers : ValueParser
-page_numbers = Signed (pos 0) (pos 4294967295)
-
 -- `run`
 unfoldable pub run_app : App
 run_app =
     with_rule (with_rule (with_rule (with_rule (new_app (codes "run"))
-    (number_rule (codes "fuel") fuel_numbers)) (number_rule (codes "pages") page_numbers)) module_rule) words_rule
+    (number_rule (codes "fuel") u64_numbers)) (number_rule (codes "pages") u32_numbers)) (word_rule (codes "MODULE"))) words_rule
+
+-- a command on the volume in a file
+abbrev pub file_app : Text → App
+file_app name = with_rule (new_app name) (word_rule (codes "FILE"))
+
+-- and on what a path in it names
+abbrev pub path_app : Text → App
+path_app name = with_rule (file_app name) (word_rule (codes "PATH"))
+
+abbrev pub format_app : App
+format_app = with_rule (with_rule (file_app (codes "format")) (number_word_rule (codes "SECTORS"))) (number_word_rule (codes "SLOTS"))
 
 -- the program: one of its subcommands has to be there, and it tells its version
 unfoldable pub program : App
 program =
-    with_subcommand (on_top (λ s. record s { subcommand_required = true; has_version = true }) (new_app (codes "sandbox"))) run_app.top
+    with_subcommand (with_subcommand (with_subcommand (with_subcommand (with_subcommand (with_subcommand (with_subcommand
+    (on_top (λ s. record s { subcommand_required = true; has_version = true }) (new_app (codes "sandbox")))
+    run_app.top) format_app.top) (path_app (codes "ls")).top) (path_app (codes "get")).top) (path_app (codes "put")).top)
+    (file_app (codes "check")).top) (file_app (codes "upgrade")).top
 
 -- ---- what is asked for
 
@@ -69,13 +91,32 @@ number_of bits text =
 abbrev pub number_or : ℕ → ℕ → Text → List Row → ℕ
 number_or default bits id rows = unwrap_or (option_and_then (number_of bits) (one_of id rows)) default
 
+-- the word of an argument, or the empty one
+abbrev pub word_of : Text → List Row → Text
+word_of id rows = unwrap_or (first_of id rows) []
+
 -- what `run` is asked for by what was found for its arguments
-pub record AsksFor (rows : List Row) (run : Run) : Type 0 where
+pub record AsksRun (rows : List Row) (run : Run) : Type 0 where
   pub fuel : run.limits.fuel ≡ number_or 1000000000 64 (codes "fuel") rows
   pub pages : run.limits.pages ≡ number_or 1024 32 (codes "pages") rows
-  pub module_word : run.module.now ≡ unwrap_or (first_of (codes "MODULE") rows) []
+  pub module_word : run.module.now ≡ word_of (codes "MODULE") rows
   pub words : texts run.words.items ≡ unwrap_or (all_of (codes "WORD") rows) []
 
--- what was found for the arguments of the subcommand that the words enter
-abbrev pub rows_given : List Text → Option (List Row)
-rows_given words = option_map (λ p. p.1) (subcommand_of program words)
+-- the command of this name is this task
+abbrev pub AsksTask : Text → List Row → Task → Type 0
+AsksTask name rows (Ls path) = (name ≡ codes "ls") × (path.now ≡ word_of (codes "PATH") rows)
+AsksTask name rows (Get path) = (name ≡ codes "get") × (path.now ≡ word_of (codes "PATH") rows)
+AsksTask name rows (Put path) = (name ≡ codes "put") × (path.now ≡ word_of (codes "PATH") rows)
+AsksTask name rows Check = name ≡ codes "check"
+AsksTask name rows Upgrade = name ≡ codes "upgrade"
+
+-- the commands that are tasks
+abbrev pub task_names : List Text
+task_names = codes "ls" ∷ codes "get" ∷ codes "put" ∷ codes "check" ∷ codes "upgrade" ∷ []
+
+-- What the command of this name is asked for by what was found for its arguments. It is `run` where it is no other.
+abbrev pub AsksFor : Text → List Row → Invocation → Type 0
+AsksFor name rows (asked.Run run) = (name ≢ codes "format") × (Contains task_names name → ⊥) × AsksRun rows run
+AsksFor name rows (asked.Format file sectors slots) = (name ≡ codes "format") × (file.now ≡ word_of (codes "FILE") rows)
+    × (sectors ≡ number_or 0 32 (codes "SECTORS") rows) × (slots ≡ number_or 0 32 (codes "SLOTS") rows)
+AsksFor name rows (asked.Volume file task) = (file.now ≡ word_of (codes "FILE") rows) × AsksTask name rows task

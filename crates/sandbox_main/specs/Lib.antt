@@ -1,4 +1,9 @@
+pub mod File
 pub mod Status
 pub mod Request
-pub mod Execution
 pub mod CommandLine
+pub mod Formatting
+pub mod Tasks
+pub mod Doing
+pub mod Execution
+pub mod internal

@@ -1,5 +1,5 @@
 -- The exit statuses of the program.
-use Rattle.std.specs.Prelude.{◌≡◌, ◌⊎◌, ℕ, if◌then◌else◌, nat_le}
+use Rattle.std.specs.Prelude.{◌≡◌, ◌⊎◌, ℕ, Result, Ok, Err, if◌then◌else◌, nat_le}
 use Rattle.std.specs.declared.io.ErrorKind.{ErrorKind as InputKind}
 use Rattle.std.specs.declared.io.ErrorKind.TheVariants as input
 use Rattle.clap.specs.declared.error.kind.ErrorKind.{ErrorKind as LineKind}
@@ -10,6 +10,9 @@ use Rattle.wasm_interp.specs.declared.pause.Outcome.{Outcome}
 use Rattle.wasm_interp.specs.declared.pause.Outcome.TheVariants.{Exited, Trapped, OutOfFuel, OutOfMemory}
 use Rattle.sandbox_core.specs.declared.fault.SessionFault.{SessionFault}
 use Rattle.sandbox_core.specs.declared.fault.SessionFault.TheVariants as opening
+use Rattle.vol_sector.specs.declared.fault.VolumeFault.TheVariants as volume
+use Rattle.sandbox_main.specs.declared.failure.Failure.{Failure}
+use Rattle.sandbox_main.specs.declared.failure.Failure.TheVariants.{Volume}
 
 -- the guest's own status, where it isn't greater than 119
 abbrev pub status_of : Outcome → ℕ
@@ -40,3 +43,16 @@ words_status k = 125
 abbrev pub command_line_status : LineKind → ℕ
 command_line_status line.OutOfMemory = 122
 command_line_status k = 125
+
+-- of a task on a volume
+abbrev pub failure_status : Failure → ℕ
+failure_status (Volume volume.Memory) = 122
+failure_status f = 124
+
+abbrev pub task_status : Result (Unit {0}) Failure → ℕ
+task_status (Ok x) = 0
+task_status (Err f) = failure_status f
+
+-- The status after a task: that of how it ended, or 124 where an output couldn't be flushed.
+abbrev pub TaskEndsWith : Result (Unit {0}) Failure → ℕ → Type 0
+TaskEndsWith done status = (status ≡ task_status done) ⊎ (status ≡ 124)

@@ -5,16 +5,20 @@ ghost use Rattle.std.specs.IoError.{error_kind};
 ghost use Rattle.clap.specs.Values.{kind_of};
 ghost use Rattle.sandbox_main.specs.Status.{status_of, EndsWith, load_status, session_status};
 ghost use Rattle.sandbox_main.specs.Status.{words_status, command_line_status};
-ghost use Rattle.sandbox_main.specs.Request.{texts, run_of, arguments_of};
-ghost use Rattle.sandbox_main.specs.Execution.{AreSettings, Launches, Executes};
+ghost use Rattle.sandbox_main.specs.Status.{TaskEndsWith};
+ghost use Rattle.sandbox_main.specs.Request.{texts, arguments_of};
+ghost use Rattle.sandbox_main.specs.Execution.{AreSettings, Launches, Runs, Executes};
 
+use crate::failure::Failure;
 use crate::request::{Invocation, Limits, Run};
+use crate::tasks::{format, perform};
 use sandbox_core::{
     LoadFault, Outcome, Preopen, RefusedSession, Report, Session, SessionFault, Settings, Valid,
 };
 use std::alloc::{AllocError, Global};
 use std::io;
 use std::io::{Read, Write};
+use vol_sector::{Device, VolumeFault};
 
 /// The status where a guest's own one is greater than `GREATEST`.
 const OTHER_EXIT: u8 = 119;
@@ -175,7 +179,7 @@ fn launch<R: Read + Drop, W1: Write + Drop, W2: Write + Drop>(
     out: W1,
     err: W2,
 ) -> u8
-    ensures { Launches W1.contents W2.contents valid.entry (texts args.now) limits input out err result }
+    ensures { Launches R.remaining W1.contents W2.contents valid.entry (texts args.now) limits input out err result }
 {
     match Session::new(alloc, valid, settings(args, limits.pages), input, out, err) {
         Ok(session) => report(sandbox_core::run(session, limits.fuel)),
@@ -194,7 +198,7 @@ fn run<R: Read + Drop, W1: Write + Drop, W2: Write + Drop>(
     out: W1,
     mut err: W2,
 ) -> u8
-    ensures { Executes W1.contents W2.contents run.now «module».now input out err result }
+    ensures { Runs R.remaining W1.contents W2.contents run.now «module».now input out err result }
 {
     let valid = match sandbox_core::load(alloc, module) {
         Ok(valid) => valid,
@@ -206,20 +210,52 @@ fn run<R: Read + Drop, W1: Write + Drop, W2: Write + Drop>(
     }
 }
 
-/// Does what the command line asks, on the bytes of the module's file, and gives the exit status.
-/// The guest reads `input` and writes `out` and `err`; the program's own line goes to `err`.
-pub fn execute<R: Read + Drop, W1: Write + Drop, W2: Write + Drop>(
+/// Ends a task on a volume: a failure's line, and the status.
+fn task_ended<W1: Write + Drop, W2: Write + Drop>(
+    done: Result<(), Failure>,
+    mut out: W1,
+    mut err: W2,
+) -> u8
+    ensures { TaskEndsWith done result }
+{
+    let flushed = out.flush();
+    match done {
+        Ok(()) if flushed.is_err() => refuse_file(&mut err),
+        Ok(()) => 0,
+        Err(Failure::Volume(VolumeFault::Memory)) => out_of_memory(&mut err),
+        Err(failure) => {
+            let _ = writeln!(err, "sandbox: {failure}");
+            FAULT
+        }
+    }
+}
+
+/// Does what the command line asks, on the bytes of the module's file and on the device, and gives
+/// the exit status and the device. A run has no use of the device, and the other commands none of
+/// the bytes. The guest reads `input` and writes `out` and `err`; the program's own line goes to
+/// `err`.
+pub fn execute<D: Device, R: Read + Drop, W1: Write + Drop, W2: Write + Drop>(
     alloc: Global,
     invocation: &Invocation<'_>,
     module: &[u8],
-    input: R,
-    out: W1,
+    device: D,
+    mut input: R,
+    mut out: W1,
     err: W2,
-) -> u8
-    ensures tells { Executes W1.contents W2.contents (run_of invocation.now) «module».now input out err result }
-    ensures within { result ≤ 124 }
+) -> (u8, D)
+    ensures tells { Executes R.remaining W1.contents W2.contents D.honest D.disk D.size
+        invocation.now «module».now device input out err result.0 result.1 }
+    ensures within { result.0 ≤ 124 }
 {
     match invocation {
-        Invocation::Run(it) => run(alloc, it, module, input, out, err),
+        Invocation::Run(it) => (run(alloc, it, module, input, out, err), device),
+        Invocation::Format { sectors, slots, .. } => {
+            let (done, device) = format(device, *sectors, *slots);
+            (task_ended(done, out, err), device)
+        }
+        Invocation::Volume { task, .. } => {
+            let (done, device) = perform(alloc, device, *task, &mut input, &mut out);
+            (task_ended(done, out, err), device)
+        }
     }
 }

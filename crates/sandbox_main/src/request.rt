@@ -1,8 +1,5 @@
 //! What a command line asks for.
 
-ghost use Rattle.std.specs.Prelude.{◌≡◌};
-ghost use Rattle.sandbox_main.specs.Request.{run_of};
-
 /// What a guest may use.
 #[derive(Clone, Copy, Debug, PartialEq, Eq)]
 pub struct Limits {
@@ -22,19 +19,35 @@ pub struct Run<'a> {
     pub words: Vec<&'a str>,
 }
 
+/// What is done with the volume in a file.
+#[derive(Clone, Copy, Debug)]
+pub enum Task<'a> {
+    /// Print the entries of the directory of this path.
+    List { path: &'a str },
+    /// Print the file of this path.
+    Get { path: &'a str },
+    /// Put the input into the file of this path.
+    Put { path: &'a str },
+    /// Print how much of the volume is used.
+    Check,
+    /// Make it a volume of version 2.
+    Upgrade,
+}
+
 /// What a command line asks for.
 #[derive(Debug, Drop)]
 pub enum Invocation<'a> {
+    /// Run a module.
     Run(Run<'a>),
-}
-
-impl<'a> Invocation<'a> {
-    /// The file of the module that is to be run.
-    pub fn module(&self) -> &'a str
-        ensures { result ≡ (run_of self.now).«module» }
-    {
-        match self {
-            Invocation::Run(run) => run.module,
-        }
-    }
+    /// Make a file an empty volume with these numbers of sectors and of slots for entries.
+    Format {
+        file: &'a str,
+        sectors: u32,
+        slots: u32,
+    },
+    /// Do this with the volume in a file.
+    Volume {
+        file: &'a str,
+        task: Task<'a>,
+    },
 }

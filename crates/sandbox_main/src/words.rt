@@ -1,12 +1,16 @@
 //! The command line.
 
-ghost use Rattle.std.specs.Prelude.{◌≡◌, IfOk, IsSomeAnd, false, [], map, string_bytes, unwrap_or};
-ghost use Rattle.clap.specs.Words.{FailsBy, all_of, app_of, fault_of, first_of, found_of, rows_of, rule_of};
+ghost use Rattle.std.specs.Option.{MatchOption};
+ghost use Rattle.std.specs.List.{Contains};
+ghost use Rattle.std.specs.Prelude.{◌≡◌, IfOk, IsSomeAnd, Some, None, false, [], map, string_bytes, unwrap_or, option_and_then};
+ghost use Rattle.clap.specs.Words.{FailsBy, all_of, app_of, fault_of, found_of, one_of, rows_of, rule_of, subcommand_of};
 ghost use Rattle.clap.specs.declared.builder.command.Command.TheViews.{out-Command as fields_of};
-ghost use Rattle.sandbox_main.specs.Request.{run_of, texts};
-ghost use Rattle.sandbox_main.specs.CommandLine.{AsksFor, module_rule, number_rule, program, rows_given, run_app, words_rule};
+ghost use Rattle.sandbox_main.specs.Request.{texts};
+ghost use Rattle.sandbox_main.specs.CommandLine.{AsksFor, AsksRun, AsksTask, number_of, number_rule, number_word_rule};
+ghost use Rattle.sandbox_main.specs.CommandLine.{task_names, word_rule, words_rule, word_of};
+ghost use Rattle.sandbox_main.specs.CommandLine.{file_app, path_app, format_app, program, run_app};
 
-use crate::request::{Invocation, Limits, Run};
+use crate::request::{Invocation, Limits, Run, Task};
 use clap::builder::ValueParser;
 use clap::{Arg, ArgAction, ArgMatches, Command, Error};
 use std::alloc::{AllocError, Global};
@@ -24,8 +28,10 @@ Statuses:
   124       a fault, which is named by its number
   125       the command line is refused, or help or the version is asked for
 
-Example:
-  sandbox run --fuel 5000000 --pages 16 hello.wasm first second -- --third";
+Examples:
+  sandbox run --fuel 5000000 --pages 16 hello.wasm first second -- --third
+  sandbox format disk.img 2048 64
+  sandbox put disk.img /notes.txt < notes.txt";
 
 /// Fuel where the command line says nothing of it, in units.
 const FUEL: u64 = 1_000_000_000;
@@ -58,17 +64,24 @@ fn number_option<'a>(
         .help(help)
 }
 
-/// The word that names the module.
-fn module_word<'a>(alloc: Global) -> Arg<'a>
-    ensures { (rule_of result ≡ module_rule) × (result.global ≡ false) }
+/// A word that has to be there.
+fn word<'a>(alloc: Global, name: &'a str, help: &'a str) -> Arg<'a>
+    ensures { (rule_of result ≡ word_rule name.entry.now) × (result.global ≡ false) }
 {
-    Arg::new(alloc, "MODULE")
+    Arg::new(alloc, name)
         .required(true)
         .action(ArgAction::Set)
-        .help("The module's file; the guest gets this word as argument 0")
+        .help(help)
 }
 
-/// The words after it.
+/// A word that has to be there and is a number.
+fn number_word<'a>(alloc: Global, name: &'a str, help: &'a str) -> Arg<'a>
+    ensures { (rule_of result ≡ number_word_rule name.entry.now) × (result.global ≡ false) }
+{
+    word(alloc, name, help).value_parser(clap::value_parser!(u32))
+}
+
+/// The words after the module.
 fn further_words<'a>(alloc: Global) -> Arg<'a>
     ensures { (rule_of result ≡ words_rule) × (result.global ≡ false) }
 {
@@ -95,11 +108,44 @@ fn run_command<'a>(alloc: Global) -> Result<Command<'a>, AllocError>
         "Most pages of memory, each of 65536 bytes [default: 1024]",
     );
     let about = "Run the _start of a WebAssembly module, until it ends or its fuel is used up";
+    let module = "The module's file; the guest gets this word as argument 0";
     described(Command::new(alloc, "run"), about)
         .arg(fuel)?
         .arg(pages)?
-        .arg(module_word(alloc))?
+        .arg(word(alloc, "MODULE", module))?
         .arg(further_words(alloc))
+}
+
+/// A command on the volume in a file.
+fn file_command<'a>(alloc: Global, name: &'a str, about: &'a str) -> Result<Command<'a>, AllocError>
+    ensures { IfOk result (λ c. (app_of c ≡ file_app name.entry.now)
+        × ((fields_of c).has_globals ≡ false)) }
+{
+    described(Command::new(alloc, name), about).arg(word(alloc, "FILE", "The volume's file"))
+}
+
+/// A command on what a path in a volume names.
+fn path_command<'a>(alloc: Global, name: &'a str, about: &'a str) -> Result<Command<'a>, AllocError>
+    ensures { IfOk result (λ c. (app_of c ≡ path_app name.entry.now)
+        × ((fields_of c).has_globals ≡ false)) }
+{
+    file_command(alloc, name, about)?.arg(word(alloc, "PATH", "The path, which begins with /"))
+}
+
+/// `format`, with its arguments.
+fn format_command<'a>(alloc: Global) -> Result<Command<'a>, AllocError>
+    ensures { IfOk result (λ c. (app_of c ≡ format_app) × ((fields_of c).has_globals ≡ false)) }
+{
+    let about = "Make a file an empty volume; it is made, or lengthened, where that is needed";
+    let sectors = number_word(alloc, "SECTORS", "Sectors of 512 bytes, 137 to 65536");
+    let slots = number_word(
+        alloc,
+        "SLOTS",
+        "Slots for entries, 1 to 8192 and fewer than SECTORS - 122",
+    );
+    file_command(alloc, "format", about)?
+        .arg(sectors)?
+        .arg(slots)
 }
 
 /// The program, of whose commands one has to be there.
@@ -109,16 +155,21 @@ fn command<'a>(alloc: Global) -> Result<Command<'a>, AllocError>
     let program = Command::new(alloc, "sandbox")
         .version(VERSION)
         .subcommand_required(true);
-    described(
-        program,
-        "Runs command-line WebAssembly programs with exact fuel",
-    )
-    .subcommand(run_command(alloc)?)
+    let about =
+        "Runs command-line WebAssembly programs with exact fuel, and keeps volumes of files";
+    described(program, about)
+        .subcommand(run_command(alloc)?)?
+        .subcommand(format_command(alloc)?)?
+        .subcommand(path_command(alloc, "ls", "Print the entries of a directory")?)?
+        .subcommand(path_command(alloc, "get", "Print a file")?)?
+        .subcommand(path_command(alloc, "put", "Put standard input into a file")?)?
+        .subcommand(file_command(alloc, "check", "Print how much of a volume is used")?)?
+        .subcommand(file_command(alloc, "upgrade", "Make a volume one of version 2")?)
 }
 
 /// The text of an argument, or the empty one.
 fn text<'a>(matches: &ArgMatches<'a>, id: &str) -> &'a str
-    ensures { result.now ≡ unwrap_or (first_of id.now (rows_of (found_of matches.now))) [] }
+    ensures { result.now ≡ word_of id.now (rows_of (found_of matches.now)) }
 {
     match matches.get_str(id) {
         Some(text) => text,
@@ -136,31 +187,75 @@ fn texts<'a>(alloc: Global, matches: &ArgMatches<'a>, id: &str) -> Result<Vec<&'
     }
 }
 
+/// The number of an argument.
+fn number(matches: &ArgMatches<'_>, id: &str) -> Option<u32>
+    ensures { result ≡ option_and_then (number_of 32) (one_of id.now (rows_of (found_of matches.now))) }
+{
+    matches.get_one::<u32>(id)
+}
+
 /// What `run` is asked for by what was found for its arguments.
 fn run_given<'a>(alloc: Global, matches: &ArgMatches<'a>) -> Result<Run<'a>, AllocError>
-    ensures { IfOk result (AsksFor (rows_of (found_of matches.now))) }
+    ensures { IfOk result (AsksRun (rows_of (found_of matches.now))) }
 {
     Ok(Run {
         limits: Limits {
             fuel: matches.get_one::<u64>("fuel").unwrap_or(FUEL),
-            pages: matches.get_one::<u32>("pages").unwrap_or(PAGES),
+            pages: number(matches, "pages").unwrap_or(PAGES),
         },
         module: text(matches, "MODULE"),
         words: texts(alloc, matches, "WORD")?,
     })
 }
 
+/// What the command of this name does with a volume; none where it is no such command.
+fn task_given<'a>(name: &str, matches: &ArgMatches<'a>) -> Option<Task<'a>>
+    ensures { MatchOption result (Contains task_names name.now → ⊥)
+        (AsksTask name.now (rows_of (found_of matches.now))) }
+{
+    let path = text(matches, "PATH");
+    match name {
+        "ls" => Some(Task::List { path }),
+        "get" => Some(Task::Get { path }),
+        "put" => Some(Task::Put { path }),
+        "check" => Some(Task::Check),
+        "upgrade" => Some(Task::Upgrade),
+        _ => None,
+    }
+}
+
+/// What the command of this name is asked for.
+fn asked<'a>(
+    alloc: Global,
+    name: &str,
+    matches: &ArgMatches<'a>,
+) -> Result<Invocation<'a>, AllocError>
+    ensures { IfOk result (AsksFor name.now (rows_of (found_of matches.now))) }
+{
+    let file = text(matches, "FILE");
+    if name == "format" {
+        return Ok(Invocation::Format {
+            file,
+            sectors: number(matches, "SECTORS").unwrap_or(0),
+            slots: number(matches, "SLOTS").unwrap_or(0),
+        });
+    }
+    match task_given(name, matches) {
+        Some(task) => Ok(Invocation::Volume { file, task }),
+        None => Ok(Invocation::Run(run_given(alloc, matches)?)),
+    }
+}
+
 /// Reads the words of a command line, of which the first is the program's name. A refusal, and
 /// the answer to a question for help or the version, is what clap prints.
 pub fn invocation<'a>(alloc: Global, words: &'a [String]) -> Result<Invocation<'a>, Error>
-    ensures asks { IfOk result (λ i. IsSomeAnd (rows_given (map string_bytes words.entry.now))
-        (λ rows. AsksFor rows (run_of i))) }
+    ensures asks { IfOk result (λ i. IsSomeAnd (subcommand_of program (map string_bytes words.entry.now))
+        (λ entered. AsksFor entered.0 entered.1 i)) }
     ensures fails { FailsBy (fault_of program (map string_bytes words.entry.now)) result }
 {
     let matches = command(alloc)?.try_get_matches_from(words)?;
-    match matches.subcommand() {
-        Some((_, inner)) => Ok(Invocation::Run(run_given(alloc, inner)?)),
-        // clap refuses a command line without a subcommand
-        None => unreachable!(),
-    }
+    let Some((name, inner)) = matches.subcommand() else {
+        unreachable!() // clap refuses a command line without a subcommand
+    };
+    Ok(asked(alloc, name, inner)?)
 }

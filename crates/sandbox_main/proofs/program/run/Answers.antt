@@ -12,6 +12,6 @@ returns-in-Ok-arguments g c =
       c.in-Ok.valid,
       found.0,
       found.1,
-      inr (subst (λ (arguments : List Text). Launches g.W1.Write.contents g.W2.Write.contents c.in-Ok.valid arguments
+      inr (subst (λ (arguments : List Text). Launches g.R.Read.remaining g.W1.Write.contents g.W2.Write.contents c.in-Ok.valid arguments
           c.args.run.now.limits c.args.input c.args.out c.args.err c.launch.result) same c.launch.ensures),
     )

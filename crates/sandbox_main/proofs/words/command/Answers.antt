@@ -1,8 +1,8 @@
-use Rattle.std.proofs.Common.{◌∙◌, ap, ap₂, true, ◌||◌}
+use Rattle.std.proofs.Common.{◌∙◌, ap, true}
 use Rattle.std.proofs.lemmas.Result.{IfOk-weaker}
 use Rattle.clap.specs.Simple.{app_of_fields, on_top}
-use Rattle.clap.specs.Words.{App, with_subcommand}
-use Rattle.sandbox_main.specs.CommandLine.{program}
+use Rattle.sandbox_main.specs.CommandLine.{file_app, format_app, path_app, program, run_app}
+use Rattle.sandbox_main.proofs.CommandLines.{subcommand_added}
 use Rattle.sandbox_main.proofs.words.command.Goals as goal
 
 pub returns : goal.returns
@@ -13,8 +13,10 @@ returns c =
     let top = c.described.ensures.shape ∙ required in
     let local = c.described.ensures.globals ∙ (ap (λ f. f.has_globals) c.subcommand_required-program.ensures
     ∙ (ap (λ f. f.has_globals) c.version.ensures ∙ c.new.ensures.local)) in
-    let run = c.in_ok-run_command.ensures in
-    IfOk-weaker c.subcommand.result _ _ (λ d added. (
-      added.shape run.1 ∙ ap₂ with_subcommand top (ap (λ (a : App). a.top) run.0),
-      added.globals ∙ ap₂ (λ x y. x || y) local run.1,
-    )) c.subcommand.ensures
+    let one = subcommand_added _ _ _ _ _ c.in_ok-subcommand.ensures (top, local) c.in_ok-run_command.ensures in
+    let two = subcommand_added _ _ _ _ _ c.in_ok-subcommand-2.ensures one c.in_ok-format_command.ensures in
+    let three = subcommand_added _ _ _ _ _ c.in_ok-subcommand-3.ensures two c.in_ok-path_command.ensures in
+    let four = subcommand_added _ _ _ _ _ c.in_ok-subcommand-4.ensures three c.in_ok-path_command-2.ensures in
+    let five = subcommand_added _ _ _ _ _ c.in_ok-subcommand-5.ensures four c.in_ok-path_command-3.ensures in
+    let six = subcommand_added _ _ _ _ _ c.in_ok-subcommand-6.ensures five c.in_ok-file_command.ensures in
+    IfOk-weaker c.subcommand-7.result _ _ (λ d added. subcommand_added _ _ _ _ _ added six c.in_ok-file_command-2.ensures) c.subcommand-7.ensures

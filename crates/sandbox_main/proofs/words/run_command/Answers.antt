@@ -1,7 +1,7 @@
 use Rattle.std.proofs.Common.{◌≡◌, ◌∙◌, ap, codes, false}
 use Rattle.std.proofs.lemmas.Result.{IfOk-weaker}
 use Rattle.clap.specs.Words.{new_app, rule_of}
-use Rattle.sandbox_main.specs.CommandLine.{fuel_numbers, module_rule, number_rule, page_numbers, run_app, words_rule}
+use Rattle.sandbox_main.specs.CommandLine.{number_rule, run_app, u32_numbers, u64_numbers, word_rule, words_rule}
 use Rattle.sandbox_main.proofs.CommandLines.{argument_added}
 use Rattle.sandbox_main.proofs.words.run_command.Goals as goal
 
@@ -9,12 +9,12 @@ use Rattle.sandbox_main.proofs.words.run_command.Goals as goal
 pub returns : goal.returns
 unfolding run_app
 returns c =
-    let fuel : (rule_of c.number_option-fuel.result ≡ number_rule (codes "fuel") fuel_numbers) × (c.number_option-fuel.result.global ≡ false) =
+    let fuel : (rule_of c.number_option-fuel.result ≡ number_rule (codes "fuel") u64_numbers) × (c.number_option-fuel.result.global ≡ false) =
     (c.number_option-fuel.ensures.0 ∙ ap (number_rule (codes "fuel")) c.value_parser.ensures, c.number_option-fuel.ensures.1) in
-    let pages : (rule_of c.number_option-pages.result ≡ number_rule (codes "pages") page_numbers) × (c.number_option-pages.result.global ≡ false) =
+    let pages : (rule_of c.number_option-pages.result ≡ number_rule (codes "pages") u32_numbers) × (c.number_option-pages.result.global ≡ false) =
     (c.number_option-pages.ensures.0 ∙ ap (number_rule (codes "pages")) c.value_parser-2.ensures, c.number_option-pages.ensures.1) in
-    let one = argument_added _ _ _ (new_app (codes "run")) (number_rule (codes "fuel") fuel_numbers)
+    let one = argument_added _ _ _ (new_app (codes "run")) (number_rule (codes "fuel") u64_numbers)
     c.in_ok-arg.ensures (c.described.ensures.shape ∙ c.new.ensures.app, c.described.ensures.globals ∙ c.new.ensures.local) fuel in
-    let two = argument_added _ _ _ _ (number_rule (codes "pages") page_numbers) c.in_ok-arg-2.ensures one pages in
-    let three = argument_added _ _ _ _ module_rule c.in_ok-arg-3.ensures two c.module_word.ensures in
+    let two = argument_added _ _ _ _ (number_rule (codes "pages") u32_numbers) c.in_ok-arg-2.ensures one pages in
+    let three = argument_added _ _ _ _ (word_rule (codes "MODULE")) c.in_ok-arg-3.ensures two c.word.ensures in
     IfOk-weaker c.arg-4.result _ _ (λ d added. argument_added _ _ _ _ words_rule added three c.further_words.ensures) c.arg-4.ensures

@@ -13,13 +13,10 @@ returns c =
     let found = found_of c.args.matches.now in
     let fuel = option_reads (λ bs r. ParsesUnsigned 64 10 bs r × ExplainsUnsignedError 10 bs r × HasUnsignedDigitsIfOk bs r) 64
     (one_text found (codes "fuel")) c.get_one.result (λ u x g. g.0) c.get_one.ensures.none c.get_one.ensures.value in
-    let pages = option_reads (λ bs r. ParsesUnsigned 32 10 bs r × ExplainsUnsignedError 10 bs r × HasUnsignedDigitsIfOk bs r) 32
-    (one_text found (codes "pages")) c.get_one-2.result (λ u x g. g.0) c.get_one-2.ensures.none c.get_one-2.ensures.value in
     record {
       fuel = c.unwrap_or.ensures ∙ ap (λ (o : Option ℕ). unwrap_or o 1000000000)
           (fuel ∙ ap (option_and_then (number_of 64)) (one_text-rows found (codes "fuel")));
-      pages = c.unwrap_or-2.ensures ∙ ap (λ (o : Option ℕ). unwrap_or o 1024)
-          (pages ∙ ap (option_and_then (number_of 32)) (one_text-rows found (codes "pages")));
+      pages = c.unwrap_or-2.ensures ∙ ap (λ (o : Option ℕ). unwrap_or o 1024) c.number.ensures;
       module_word = c.text.ensures;
       words = c.in_ok-texts.ensures;
     }

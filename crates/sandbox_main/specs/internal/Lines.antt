@@ -1,0 +1,13 @@
+-- The line of an entry, by what is told of it.
+use Rattle.std.specs.Prelude.{ℕ, List, [], ◌∷◌, take, codes, decimal}
+use Rattle.std.specs.List.{concat}
+use Rattle.vol_inode.specs.declared.entry.Kind.{Kind}
+use Rattle.vol_inode.specs.declared.entry.Kind.TheVariants as kinds
+use Rattle.vol_tree.specs.declared.stat.Stat.{Stat}
+
+abbrev pub mark_of_kind : Kind → List ℕ
+mark_of_kind kinds.Directory = codes "d "
+mark_of_kind kinds.File = codes "f "
+
+unfoldable pub stat_line : Stat → List ℕ
+stat_line s = concat (mark_of_kind s.kind ∷ decimal s.size ∷ codes " " ∷ take s.name_length s.name ∷ codes "\n" ∷ [])

@@ -1,0 +1,140 @@
+//! A device in a file of the system.
+
+ghost use Rattle.std.specs.Prelude.{◌≡◌, ◌≤◌, true};
+ghost use Rattle.vol_sector.specs.Disk.{counted};
+ghost use Rattle.sandbox_main.specs.File.{unknown};
+
+use std::fs::{File, OpenOptions};
+use std::io;
+use std::os::unix::fs::FileExt;
+use std::rt::Files;
+use vol_sector::{Device, DeviceFault};
+
+/// Bytes of a sector.
+const SECTOR: u64 = 512;
+
+/// The sectors that a device has at most. What a file has after them is never read or written.
+const MOST_SECTORS: u32 = 65_536;
+
+/// An open file as a device: sector n is the 512 bytes from `512 * n` on.
+///
+/// It is read and written at offsets, so it has no position. A sync makes its bytes and its size
+/// last. No contract says what a file gives or keeps, so a file is honest nowhere: what is said of
+/// the contents of an honest device holds of a file by that premise alone.
+#[derive(Drop)]
+pub struct FileDevice {
+    file: File,
+    sectors: u32,
+    failures: u64,
+}
+
+impl FileDevice {
+    ghost use Rattle.std.specs.Prelude.{IfOk};
+
+    /// Opens a file to read and write, and locks it. It fails where there is no such file, where it
+    /// may not be written, where it is a directory, and where another process has locked it.
+    pub fn open<R: Files<File = File>>(files: &R, path: &str) -> io::Result<FileDevice>
+        ensures { IfOk result (λ d. d.failures ≡ 0) }
+    {
+        let file = OpenOptions::new().read(true).write(true).open(files, path)?;
+        FileDevice::locked(file)
+    }
+
+    /// Opens a file as `open` does, but makes it where it isn't there, and lengthens it to this many
+    /// sectors, or to 65,536 where that is less. What the file has stays.
+    pub fn make<R: Files<File = File>>(
+        files: &R,
+        path: &str,
+        sectors: u32,
+    ) -> io::Result<FileDevice>
+        ensures { IfOk result (λ d. d.failures ≡ 0) }
+    {
+        let file = OpenOptions::new()
+            .read(true)
+            .write(true)
+            .create(true)
+            .open(files, path)?;
+        let mut device = FileDevice::locked(file)?;
+        if device.sectors < sectors.min(MOST_SECTORS) {
+            device.lengthen(sectors.min(MOST_SECTORS))?;
+        }
+        Ok(device)
+    }
+
+    /// The whole sectors of a file, which is locked until it is closed.
+    fn locked(file: File) -> io::Result<FileDevice>
+        ensures few { IfOk result (λ d. d.sectors ≤ 65536) }
+        ensures unused { IfOk result (λ d. d.failures ≡ 0) }
+    {
+        file.try_lock()?;
+        let sectors = file.metadata()?.len() / SECTOR;
+        Ok(FileDevice {
+            file,
+            sectors: sectors.min(u64::from(MOST_SECTORS)) as u32,
+            failures: 0,
+        })
+    }
+
+    fn lengthen(&mut self, sectors: u32) -> io::Result<()>
+        ensures { self.new.failures ≡ self.old.failures }
+    {
+        self.file.set_len(u64::from(sectors) * SECTOR)?;
+        self.sectors = sectors;
+        Ok(())
+    }
+
+    /// Counts an operation that failed, as far as the count goes.
+    fn fail(&mut self) -> DeviceFault
+        ensures failures { self.new.failures ≡ counted true self.old.failures }
+        ensures sectors { self.new.sectors ≡ self.old.sectors }
+    {
+        self.failures = self.failures.saturating_add(1);
+        DeviceFault
+    }
+}
+
+impl Device for FileDevice {
+    ghost disk = { λ d. unknown };
+
+    ghost honest = { λ d. ⊥ };
+
+    ghost size = { λ d. d.sectors };
+
+    ghost failures = { λ d. d.failures };
+
+    ghost counts_now = { λ d t c h. absurd h };
+
+    ghost only_now = { λ d c h. absurd h };
+
+    ghost may_stay = { λ d h. absurd h };
+
+    fn sectors(&self) -> u32 {
+        self.sectors
+    }
+
+    fn failures(&self) -> u64 {
+        self.failures
+    }
+
+    fn read(&mut self, n: u32) -> Result<[u8; 512], DeviceFault> {
+        let mut image = [0; 512];
+        match self.file.read_exact_at(&mut image, u64::from(n) * SECTOR) {
+            Ok(()) => Ok(image),
+            Err(_) => Err(self.fail()),
+        }
+    }
+
+    fn write(&mut self, n: u32, image: &[u8; 512]) -> Result<(), DeviceFault> {
+        match self.file.write_all_at(image, u64::from(n) * SECTOR) {
+            Ok(()) => Ok(()),
+            Err(_) => Err(self.fail()),
+        }
+    }
+
+    fn sync(&mut self) -> Result<(), DeviceFault> {
+        match self.file.sync_all() {
+            Ok(()) => Ok(()),
+            Err(_) => Err(self.fail()),
+        }
+    }
+}
