@@ -1,5 +1,5 @@
 -- Entries that are open.
-use Rattle.std.proofs.Common.{◌≡◌, ℕ, Bool, true, false, cond, not, ◌==◌, List, [], Option, Some, None, IsSome, Ok, Err, refl, sym, ◌∙◌, ap, subst}
+use Rattle.std.proofs.Common.{◌≡◌, ℕ, Bool, true, false, cond, not, ◌==◌, List, [], Option, Some, IsSome, Ok, Err, refl, sym, ◌∙◌, ap, subst}
 use Rattle.std.specs.Option.{option_map_or}
 use Rattle.vol_inode.specs.declared.version.Version.TheVariants.{One}
 use Rattle.vol_tree.specs.Tree.{Tree, Entry as TreeEntry, entry}
@@ -20,7 +20,6 @@ use Rattle.wasi_calls.specs.internal.Reaching.{entered}
 use Rattle.wasi_calls.proofs.Yields.{bound}
 use Rattle.wasi_calls.proofs.Parts as parts
 use Rattle.wasi_calls.proofs.Parts.{described, same_Ok, is_file_kind}
-use Rattle.wasi_calls.proofs.Holds.{is_directory_kind}
 
 -- a world with this table
 some_world : Table → World

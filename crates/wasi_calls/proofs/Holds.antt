@@ -1,5 +1,5 @@
 -- What holds at each moment of a run that began with some directories open, and what keeps it.
-use Rattle.std.proofs.Common.{◌≡◌, ◌≢◌, ℕ, ◌<◌, Bool, true, false, List, [], ◌∷◌, Option, Some, None, Ok, refl, sym, ◌∙◌, ap, subst, inl, inr}
+use Rattle.std.proofs.Common.{◌≡◌, ◌≢◌, ℕ, ◌<◌, false, List, [], ◌∷◌, Option, Some, None, Ok, refl, sym, ◌∙◌, ap, subst, inl, inr}
 use Rattle.std.proofs.lemmas.Option.{same_Some, none-some}
 use Rattle.std.proofs.lemmas.Bool.{cases_eq, cond-true, cond-false, false≢true, eq-eqb, ne_eqb}
 use Rattle.vol_inode.specs.Name.{IsName}
@@ -10,8 +10,6 @@ use Rattle.vol_tree.proofs.Creates.{created_least}
 use Rattle.vol_tree.proofs.Grows.{created_grows}
 use Rattle.wasi_fd.specs.declared.descriptor.Descriptor.{Descriptor}
 use Rattle.wasi_fd.specs.declared.descriptor.Descriptor.TheVariants.{Entry}
-use Rattle.wasi_fd.specs.declared.descriptor.EntryKind.{EntryKind}
-use Rattle.wasi_fd.specs.declared.descriptor.EntryKind.TheVariants as kinds
 use Rattle.wasi_fd.specs.declared.descriptor.Opened.{Opened}
 use Rattle.wasi_fd.specs.Table.{Table, with_at}
 use Rattle.wasi_calls.specs.World.{places}

@@ -1,14 +1,12 @@
 -- What a host says of its calls: they are rows, and tell what a crash may leave.
-use Rattle.std.proofs.Common.{◌≡◌, ◌⊎◌, ℕ, ◌≤◌, List, Option, refl, sym, ◌∙◌, ap, inl, inr, arith}
+use Rattle.std.proofs.Common.{◌≡◌, ℕ, ◌≤◌, List, Option, refl, sym, ◌∙◌, ap, inl, inr, arith}
 use Rattle.vol_sector.specs.Disk.{Image, Disk}
-use Rattle.vol_tree.specs.Tree.{Tree}
-use Rattle.vol_tree.specs.Stands.{Stands}
-use Rattle.vol_tree.specs.Opened.{Opened, Reflects}
+use Rattle.vol_tree.specs.Opened.{Opened}
 use Rattle.wasi_fd.specs.Table.{table_of}
 use Rattle.wasi_calls.specs.World.{World}
 use Rattle.wasi_calls.specs.Confined.{IsHostOf}
 use Rattle.wasi_calls.specs.Host.{HostState, Shows, VolumeStep, HostCalls}
-use Rattle.wasi_calls.specs.Moments.{CouldStand, IsSound, IsTurn, CountsMoments, CallsKeepMoments}
+use Rattle.wasi_calls.specs.Moments.{IsSound, IsTurn, CallsKeepMoments}
 
 module _ {D R W1 W2 : Type 0} (honest : D → Type 0) (disk : D → Disk) (sectors_on failures : D → ℕ)
     (remaining : R → Option (List ℕ)) (out_contents : W1 → Option (List ℕ)) (err_contents : W2 → Option (List ℕ)) where

@@ -1,6 +1,5 @@
 -- What bodies of calls answer.
-use Rattle.std.proofs.Common.{◌≡◌, ℕ, ◌+◌, ◌≤◌, List, length, Ok, Err, refl, subst, sym}
-use Rattle.wasm_store.specs.Bytes.{written}
+use Rattle.std.proofs.Common.{◌≡◌, ℕ, List, Ok, Err, refl, subst, sym}
 use Rattle.wasi_calls.specs.World.{World}
 use Rattle.wasi_calls.specs.Checks.{Checked, Done, put}
 use Rattle.wasi_calls.specs.Calls.{Answers}

@@ -9,12 +9,12 @@ use Rattle.vol_tree.specs.Stands.{Stands}
 use Rattle.std.specs.Option.{option_map_or}
 use Rattle.wasi_calls.specs.internal.Reaching.{StillWorks}
 use Rattle.vol_tree.specs.Numbers.{number_of}
-use Rattle.vol_tree.specs.Opened.{Opened, Keeps, Reflects, ReflectsOr, geometry, is_io}
+use Rattle.vol_tree.specs.Opened.{Opened, Keeps, ReflectsOr, geometry, is_io}
 use Rattle.vol_tree.specs.Space.{Geometry}
 use Rattle.vol_tree.specs.Calls.{with_unit, created, if_it_fits, resized}
 use Rattle.wasi_calls.specs.World.{World, volume_gone}
 use Rattle.wasi_calls.specs.Checks.{Checked, Done, put, guard, and_then, only_world, tree_call, numbered}
-use Rattle.wasi_calls.specs.Calls.{Answers, Answered, by_row, volume_fails}
+use Rattle.wasi_calls.specs.Calls.{Answered, by_row, volume_fails}
 use Rattle.wasi_calls.specs.Host.{VolumeStep}
 use Rattle.wasi_calls.specs.internal.Serving.{with_volume}
 use Rattle.wasi_calls.proofs.Yields.{guard_passes, guard_fails, goes_on, stops}

@@ -1,5 +1,5 @@
 -- Walks of a guest's paths.
-use Rattle.std.proofs.Common.{◌≡◌, ◌≢◌, ◌⊎◌, ℕ, Bool, true, false, cond, not, List, [], ◌∷◌, Option, Some, None, Result, Ok, Err, refl, sym, ◌∙◌, ap, subst, inl, inr, arith}
+use Rattle.std.proofs.Common.{◌≡◌, ◌≢◌, ℕ, Bool, true, false, cond, not, List, [], ◌∷◌, Option, Some, None, Result, Ok, Err, refl, sym, ◌∙◌, ap, subst, inl, inr, arith}
 use Rattle.std.specs.Option.{option_map_or}
 use Rattle.std.proofs.lemmas.Bool.{false≢true}
 use Rattle.vol_sector.specs.Disk.{Disk, Leaves}
@@ -8,19 +8,19 @@ use Rattle.vol_tree.specs.declared.errno.Errno.TheVariants as errno
 use Rattle.vol_tree.specs.Numbers.{number_of}
 use Rattle.vol_tree.specs.Tree.{Tree, Node, Directory, File, Entry as TreeEntry, entry, Name, IsDirectory, same_name, lookup}
 use Rattle.vol_tree.specs.Calls.{is_directory, directory_at}
-use Rattle.vol_tree.specs.Opened.{Opened, Keeps, ReflectsOr, is_io}
+use Rattle.vol_tree.specs.Opened.{Opened, Keeps, is_io}
 use Rattle.path_walk.specs.declared.walking.Reached.{Reached as ReachedValue}
 use Rattle.path_walk.specs.declared.walking.Reached.TheVariants as values
 use Rattle.path_walk.proofs.Walks.{missing_free}
-use Rattle.path_walk.specs.Walk.{Gives, reached_as}
-use Rattle.path_walk.specs.Paths.{Reached, Found, Missing, path_read, components_of, wants_directory, stays_inside, resolved, walked, as_wanted, missing, dots, ◌>>=◌}
+use Rattle.path_walk.specs.Walk.{Gives}
+use Rattle.path_walk.specs.Paths.{Reached, Found, Missing, path_read, wants_directory, stays_inside, resolved, walked, as_wanted, missing, dots, ◌>>=◌}
 use Rattle.wasi_fd.specs.declared.descriptor.Opened.{Opened as OpenedEntry}
 use Rattle.wasi_calls.specs.World.{World, volume_gone}
 use Rattle.wasi_calls.specs.Checks.{Checked, numbered, walk, found}
 use Rattle.wasi_calls.specs.Paths as rows
 use Rattle.wasi_calls.specs.Host.{VolumeStep}
 use Rattle.wasi_calls.specs.internal.Serving.{with_volume}
-use Rattle.wasi_calls.specs.internal.Reaching.{RefusesText, RefusesWalk, Reaches, Places}
+use Rattle.wasi_calls.specs.internal.Reaching.{Reaches, Places}
 use Rattle.wasi_calls.proofs.Yields.{guard_passes, guard_fails, goes_on, stops}
 use Rattle.wasi_calls.proofs.Served.{volume_rests}
 use Rattle.wasi_calls.proofs.Volumes.{never_if, ok_no_io, numbered_io}

@@ -1,5 +1,5 @@
 -- A host over a volume and streams: what callers see of it, the worlds that it shows, and what its calls say.
-use Rattle.std.specs.Prelude.{◌≡◌, ℕ, Bool, true, List, [], map, Option, Some, None}
+use Rattle.std.specs.Prelude.{◌≡◌, ℕ, true, List, [], Option, Some, None}
 use Rattle.vol_sector.specs.Disk.{Disk, Leaves}
 use Rattle.vol_tree.specs.Opened.{Opened, Keeps, ReflectsOr, geometry}
 use Rattle.wasi_fd.specs.declared.table.Descriptors.{Descriptors}

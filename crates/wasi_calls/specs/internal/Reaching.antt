@@ -1,5 +1,5 @@
 -- What a walk from an open directory says of the row that makes it.
-use Rattle.std.specs.Prelude.{◌≡◌, ◌≢◌, ◌⊎◌, ℕ, Bool, true, false, List, Result, Ok, Err}
+use Rattle.std.specs.Prelude.{◌≡◌, ◌≢◌, ◌⊎◌, ℕ, false, List, Result, Ok, Err}
 use Rattle.vol_sector.specs.Disk.{Disk, Leaves}
 use Rattle.vol_tree.specs.declared.errno.Errno.{Errno}
 use Rattle.vol_tree.specs.declared.errno.Errno.TheVariants as errno
@@ -8,7 +8,7 @@ use Rattle.vol_tree.specs.Opened.{Opened, Keeps, is_io}
 use Rattle.vol_tree.specs.Tree.{Tree, IsDirectory}
 use Rattle.path_walk.specs.declared.walking.Reached.{Reached as ReachedValue}
 use Rattle.path_walk.specs.declared.walking.Reached.TheVariants as values
-use Rattle.path_walk.specs.Walk.{IsEntryOf, reached_as}
+use Rattle.path_walk.specs.Walk.{reached_as}
 use Rattle.wasi_fd.specs.declared.descriptor.Opened.{Opened as OpenedEntry}
 use Rattle.wasi_calls.specs.World.{World, volume_gone}
 use Rattle.wasi_calls.specs.Checks.{Checked, Done, ◌>>=◌, ◌>>◌, entry_at, only_directories, range, walk, with_result}

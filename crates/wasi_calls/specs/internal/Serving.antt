@@ -1,5 +1,5 @@
 -- What the bodies of calls say.
-use Rattle.std.specs.Prelude.{◌≡◌, ◌≤◌, IsTrue, ℕ, Bool, true, false, List, Option, Result, Ok, Err, None, Some, vec_len}
+use Rattle.std.specs.Prelude.{◌≡◌, ◌≤◌, IsTrue, ℕ, Bool, true, false, List, Option, Result, Ok, Err, Some, vec_len}
 use Rattle.std.specs.Io.KnownBytes.{IsAtEnd}
 use Rattle.vol_inode.specs.declared.entry.Kind.{Kind}
 use Rattle.vol_inode.specs.declared.entry.Kind.TheVariants as nodes

@@ -1,4 +1,4 @@
-use Rattle.std.proofs.Common.{◌≡◌, Ok, Err, ◌∙◌}
+use Rattle.std.proofs.Common.{◌∙◌}
 use Rattle.wasi_calls.proofs.Yields.{goes_on, stops}
 use Rattle.wasi_calls.proofs.checks.allowed.Goals as goal
 

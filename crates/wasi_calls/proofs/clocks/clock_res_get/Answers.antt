@@ -1,7 +1,7 @@
-use Rattle.std.proofs.Common.{◌≡◌, ◌≤◌, nat_le, Ok, refl, ap, ◌∙◌}
+use Rattle.std.proofs.Common.{refl, ap, ◌∙◌}
 use Rattle.wasm_store.specs.Bytes.{written}
 use Rattle.byteorder.specs.Endian.{little_bytes}
-use Rattle.wasi_calls.specs.Checks.{guard, with_result}
+use Rattle.wasi_calls.specs.Checks.{with_result}
 use Rattle.wasi_calls.proofs.Yields.{goes_on}
 use Rattle.wasi_calls.proofs.Serving.{answers_done}
 use Rattle.wasi_calls.proofs.clocks.clock_res_get.Goals as goal

@@ -1,6 +1,4 @@
-use Rattle.std.proofs.Common.{◌≡◌, Ok, refl, ap, ◌∙◌}
-use Rattle.wasm_store.specs.Bytes.{written}
-use Rattle.byteorder.specs.Endian.{little_bytes}
+use Rattle.std.proofs.Common.{refl, ◌∙◌}
 use Rattle.wasi_calls.specs.Checks.{with_result}
 use Rattle.wasi_calls.proofs.Yields.{goes_on}
 use Rattle.wasi_calls.proofs.Serving.{answers_done}

@@ -1,4 +1,4 @@
-use Rattle.std.proofs.Common.{◌≡◌, Ok, refl, ap, ◌∙◌}
+use Rattle.std.proofs.Common.{refl, ap, ◌∙◌}
 use Rattle.wasm_store.specs.Bytes.{written}
 use Rattle.byteorder.specs.Endian.{little_bytes}
 use Rattle.wasi_calls.specs.Checks.{with_result}

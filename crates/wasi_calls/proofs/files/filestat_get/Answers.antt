@@ -1,10 +1,8 @@
-use Rattle.std.proofs.Common.{◌≡◌, ◌≢◌, ◌^◌, ℕ, List, false, Ok, Err, Some, refl, sym, ap, ◌∙◌, subst}
-use Rattle.vol_tree.specs.declared.errno.Errno.TheVariants as errno
+use Rattle.std.proofs.Common.{◌≡◌, ◌^◌, ℕ, List, false, Ok, Some, refl, sym, ap, ◌∙◌, subst}
 use Rattle.wasm_store.specs.Bytes.{written}
-use Rattle.wasi_fd.specs.declared.descriptor.Descriptor.TheVariants.{Stream, Entry}
 use Rattle.wasi_fd.specs.Table.{table_of}
 use Rattle.wasi_calls.specs.World.{World, volume_gone}
-use Rattle.wasi_calls.specs.Checks.{Checked, Done, any_kind, and_then, with_result}
+use Rattle.wasi_calls.specs.Checks.{any_kind, with_result}
 use Rattle.wasi_calls.specs.Descriptors.{fd_filestat_get, filestat, entry_stat, stat_of}
 use Rattle.wasi_calls.specs.Calls.{Answered}
 use Rattle.wasi_calls.specs.internal.Serving.{with_volume}

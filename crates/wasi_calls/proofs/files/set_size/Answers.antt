@@ -1,10 +1,7 @@
-use Rattle.std.proofs.Common.{◌≡◌, ◌≢◌, ◌^◌, ℕ, Bool, true, false, Result, Ok, Err, refl, sym, ap, ◌∙◌, subst}
-use Rattle.vol_tree.specs.declared.errno.Errno.{Errno}
-use Rattle.vol_tree.specs.declared.errno.Errno.TheVariants as errno
-use Rattle.vol_tree.specs.Tree.{Tree}
+use Rattle.std.proofs.Common.{◌^◌, ℕ, refl, sym, subst}
 use Rattle.vol_tree.specs.Calls.{resized}
 use Rattle.wasi_fd.specs.Table.{table_of}
-use Rattle.wasi_calls.specs.World.{World, volume_gone}
+use Rattle.wasi_calls.specs.World.{volume_gone}
 use Rattle.wasi_calls.specs.Files.{fd_filestat_set_size}
 use Rattle.wasi_calls.specs.Calls.{Answered}
 use Rattle.wasi_calls.specs.Checks.{sized}

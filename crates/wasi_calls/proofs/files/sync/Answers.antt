@@ -1,11 +1,9 @@
-use Rattle.std.proofs.Common.{◌≡◌, ◌≢◌, ℕ, false, not, Result, Ok, Err, inl, inr, refl, sym, ap, ◌∙◌, subst}
+use Rattle.std.proofs.Common.{◌≡◌, ℕ, false, not, Ok, Err, inl, inr, refl, sym, ap, ◌∙◌, subst}
 use Rattle.vol_tree.specs.declared.errno.Errno.TheVariants as errno
-use Rattle.vol_tree.specs.Tree.{Tree}
 use Rattle.wasi_fd.specs.Rights.{bits_of}
 use Rattle.wasi_calls.specs.World.{World, volume_gone}
-use Rattle.wasi_calls.specs.Checks.{Checked, Done, only_world, entry_at, no_streams}
+use Rattle.wasi_calls.specs.Checks.{only_world, entry_at, no_streams}
 use Rattle.wasi_fd.specs.declared.descriptor.Opened.{Opened}
-use Rattle.vol_tree.specs.declared.errno.Errno.{Errno}
 use Rattle.wasi_calls.specs.Files.{fd_sync}
 use Rattle.wasi_calls.specs.Calls.{Answered}
 use Rattle.wasi_calls.specs.internal.Serving.{with_volume}

@@ -1,11 +1,11 @@
-use Rattle.std.proofs.Common.{◌≡◌, ◌≢◌, ◌^◌, ℕ, List, Bool, true, false, Result, Ok, Err, refl, sym, ap, ◌∙◌, subst, inl, inr}
+use Rattle.std.proofs.Common.{◌≡◌, ◌≢◌, ◌^◌, ℕ, List, false, Result, Ok, Err, refl, sym, ap, ◌∙◌, subst, inl, inr}
 use Rattle.vol_tree.specs.declared.errno.Errno.{Errno}
 use Rattle.vol_tree.specs.Numbers.{number_of}
 use Rattle.vol_tree.specs.Tree.{Tree, Name, Directory}
 use Rattle.vol_tree.specs.Calls.{created}
 use Rattle.path_walk.specs.declared.walking.Reached.{Reached as ReachedValue}
 use Rattle.path_walk.specs.Walk.{reached_as}
-use Rattle.path_walk.specs.Paths.{Reached, Found, Missing}
+use Rattle.path_walk.specs.Paths.{Reached}
 use Rattle.wasi_fd.specs.Table.{table_of}
 use Rattle.wasi_fd.specs.declared.descriptor.Opened.{Opened}
 use Rattle.wasi_calls.specs.World.{World, volume_gone}

@@ -1,4 +1,3 @@
-use Rattle.std.proofs.Common.{◌≡◌, refl}
 use Rattle.wasi_calls.specs.Checks.{with_result}
 use Rattle.wasi_calls.specs.Paths.{path_filestat_get}
 use Rattle.wasi_calls.proofs.Volumes.{done_by}

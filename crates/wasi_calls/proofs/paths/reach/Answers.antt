@@ -1,7 +1,6 @@
-use Rattle.std.proofs.Common.{◌≡◌, ℕ, List, Ok, Err, refl, sym, ap, ◌∙◌, subst, inl, inr}
+use Rattle.std.proofs.Common.{◌≡◌, ℕ, List, refl, sym, ap, ◌∙◌, subst, inl}
 use Rattle.path_walk.specs.Paths.{components_of, wants_directory, resolved, stays_inside}
 use Rattle.path_walk.specs.Walk.{Gives}
-use Rattle.wasi_calls.specs.internal.Reaching.{Reaches}
 use Rattle.wasi_calls.proofs.Walked.{by_text, reaches_by, step_by, places}
 use Rattle.wasi_calls.proofs.paths.reach.Goals as goal
 

@@ -1,11 +1,9 @@
-use Rattle.std.proofs.Common.{◌≡◌, ◌≢◌, ◌^◌, ℕ, List, Bool, true, false, Ok, Err, refl, sym, ap, ◌∙◌, subst, inl, inr}
-use Rattle.vol_tree.specs.declared.errno.Errno.TheVariants as errno
+use Rattle.std.proofs.Common.{◌≡◌, ◌≢◌, ◌^◌, ℕ, List, true, false, Ok, Err, refl, sym, ap, ◌∙◌, subst, inl, inr}
 use Rattle.vol_tree.specs.Numbers.{number_of}
 use Rattle.vol_tree.specs.Opened.{is_io}
-use Rattle.wasm_store.specs.Bytes.{bytes_at}
 use Rattle.path_walk.specs.declared.walking.Reached.{Reached as ReachedValue}
 use Rattle.path_walk.specs.Walk.{reached_as}
-use Rattle.path_walk.specs.Paths.{Reached, Found, Missing}
+use Rattle.path_walk.specs.Paths.{Reached}
 use Rattle.wasi_fd.specs.Table.{table_of}
 use Rattle.wasi_fd.specs.declared.descriptor.Opened.{Opened}
 use Rattle.wasi_calls.specs.World.{World, volume_gone}

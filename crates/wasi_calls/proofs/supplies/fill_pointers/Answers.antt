@@ -1,8 +1,7 @@
 use Rattle.std.proofs.Common.{◌≡◌, ℕ, ◌+◌, ◌++◌, List, [], length, take, ap, ◌∙◌, sym, arith}
 use denote.Ref.{Bor}
 use Rattle.byteorder.specs.Endian.{little_bytes}
-use Rattle.wasi_calls.specs.Texts.{texts_of, ended_bytes}
-use Rattle.wasi_calls.specs.Supplies.{pointers}
+use Rattle.wasi_calls.specs.Texts.{ended_bytes}
 use Rattle.wasi_calls.proofs.Texts.{pointers_more, sum_more}
 use Rattle.wasi_calls.proofs.supplies.fill_pointers.Goals as goal
 

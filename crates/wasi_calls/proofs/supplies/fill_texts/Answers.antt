@@ -1,6 +1,6 @@
 use Rattle.std.proofs.Common.{◌≡◌, ℕ, ◌+◌, ◌++◌, List, [], ◌∷◌, get_or, length, take, ap, ◌∙◌, sym, arith, append_assoc}
 use denote.Ref.{Bor}
-use Rattle.wasi_calls.specs.Texts.{texts_of, ended_bytes}
+use Rattle.wasi_calls.specs.Texts.{texts_of}
 use Rattle.wasi_calls.specs.Supplies.{ended}
 use Rattle.wasi_calls.proofs.Texts.{ended_more, sum_more}
 use Rattle.wasi_calls.proofs.supplies.fill_texts.Goals as goal

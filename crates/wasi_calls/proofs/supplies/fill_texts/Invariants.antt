@@ -1,4 +1,4 @@
-use Rattle.std.proofs.Common.{◌≡◌, ◌+◌, ◌*◌, length, take, drop}
+use Rattle.std.proofs.Common.{◌≡◌, take}
 use Rattle.wasi_calls.specs.Texts.{texts_of, ended_bytes}
 use Rattle.wasi_calls.specs.Supplies.{ended}
 use Rattle.wasi_calls.proofs.supplies.fill_texts.Given as goal

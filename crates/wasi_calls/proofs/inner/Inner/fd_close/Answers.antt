@@ -1,8 +1,7 @@
-use Rattle.std.proofs.Common.{◌≡◌, refl, sym}
-use Rattle.wasi_fd.specs.Table.{table_of}
+use Rattle.std.proofs.Common.{refl, sym}
 use Rattle.wasi_calls.specs.Host.{world_of}
 use Rattle.wasi_calls.specs.internal.Serving.{state_of}
-use Rattle.wasi_calls.proofs.Served.{no_more, serves_plain}
+use Rattle.wasi_calls.proofs.Served.{serves_plain}
 use Rattle.wasi_calls.specs.Descriptors.{fd_close}
 use Rattle.wasi_calls.proofs.inner.Inner.fd_close.Goals as goal
 

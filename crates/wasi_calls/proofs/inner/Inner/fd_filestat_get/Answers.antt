@@ -1,5 +1,4 @@
-use Rattle.std.proofs.Common.{◌≡◌, refl, sym}
-use Rattle.wasi_calls.specs.World.{World}
+use Rattle.std.proofs.Common.{refl, sym}
 use Rattle.wasi_calls.specs.Descriptors.{fd_filestat_get}
 use Rattle.wasi_calls.specs.Host.{world_of}
 use Rattle.wasi_calls.specs.internal.Serving.{state_of}

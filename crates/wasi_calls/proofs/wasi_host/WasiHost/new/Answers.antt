@@ -1,4 +1,4 @@
-use Rattle.std.proofs.Common.{◌≡◌, refl, sym, ◌∙◌}
+use Rattle.std.proofs.Common.{refl, sym, ◌∙◌}
 use Rattle.wasi_fd.specs.Table.{table_of}
 use Rattle.wasi_calls.proofs.Entries.{no_entries}
 use Rattle.wasi_calls.proofs.wasi_host.WasiHost.new.Goals as goal
