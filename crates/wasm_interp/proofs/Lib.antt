@@ -5,4 +5,3 @@ pub mod Linking
 pub mod Flat
 pub mod Checks
 pub mod Alike
-pub mod Fast

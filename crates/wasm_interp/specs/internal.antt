@@ -9,5 +9,3 @@ pub mod Running
 pub mod Signatures
 pub mod Begun
 pub mod Keys
-pub mod Fast
-pub mod Loop

@@ -3,12 +3,8 @@
 
 mod accesses;
 mod activation;
-mod arms;
 mod begin;
-mod calculate;
-mod groups;
 mod halt;
-mod hurry;
 mod least;
 mod machine;
 mod operands;
@@ -16,12 +12,8 @@ mod operators;
 mod pause;
 mod pending;
 mod phase;
-mod place;
-mod places;
 mod running;
-mod runs;
 mod state;
-mod steps;
 mod tables;
 mod work;
 
