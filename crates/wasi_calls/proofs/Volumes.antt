@@ -1,5 +1,5 @@
 -- Calls that reach the volume: their checks refuse, the volume fails, or the row is done.
-use Rattle.std.proofs.Common.{◌≡◌, ◌≢◌, ◌⊎◌, ℕ, Bool, true, false, cond, not, List, [], Option, Some, None, Result, Ok, Err, refl, sym, ◌∙◌, ap, subst, inl, inr, arith}
+use Rattle.std.proofs.Common.{◌≡◌, ◌≢◌, ◌⊎◌, ℕ, Bool, true, false, cond, not, List, Option, Some, None, Result, Ok, Err, refl, sym, ◌∙◌, ap, subst, inl, inr, arith}
 use Rattle.std.proofs.lemmas.Bool.{false≢true}
 use Rattle.vol_sector.specs.Disk.{Disk, Leaves, counted}
 use Rattle.vol_tree.specs.declared.errno.Errno.{Errno}
@@ -105,9 +105,7 @@ module _ {D : Type 0} (w : World) (m : List ℕ) where
       reaches = record { refused = is; only_so = only_so working };
       answer = refl;
       after = gone v v' shown numbers tree failed;
-      begun = [];
-      beginning = tt;
-      bytes = refl;
+      bytes = record { as_long = refl; each = λ i. inl refl };
     })
   ]
 
