@@ -5,3 +5,4 @@ pub mod Linking
 pub mod Flat
 pub mod Checks
 pub mod Alike
+pub mod Fast

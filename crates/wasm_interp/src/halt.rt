@@ -17,6 +17,8 @@ pub enum Halt {
     Trap(Trap),
     /// No unit is left for the next instruction.
     Spent,
+    /// An instruction was performed, and others may be performed at once.
+    Again,
     /// Memory was refused to the values.
     Full,
 }

@@ -3,8 +3,12 @@
 
 mod accesses;
 mod activation;
+mod arms;
 mod begin;
+mod calculate;
+mod groups;
 mod halt;
+mod hurry;
 mod least;
 mod machine;
 mod operands;
@@ -12,8 +16,12 @@ mod operators;
 mod pause;
 mod pending;
 mod phase;
+mod place;
+mod places;
 mod running;
+mod runs;
 mod state;
+mod steps;
 mod tables;
 mod work;
 

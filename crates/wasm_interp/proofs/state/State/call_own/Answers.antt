@@ -1,4 +1,4 @@
-use Rattle.std.proofs.Common.{◌≡◌, ◌+◌, suc, refl, arith, ◌∙◌, ap, length, vec_len}
+use Rattle.std.proofs.Common.{◌≡◌, ◌+◌, refl, arith, ap, length, vec_len}
 use Rattle.wasm_interp.specs.declared.state.State.{State}
 use Rattle.wasm_interp.specs.internal.Running.{entered}
 use Rattle.wasm_interp.proofs.Flat.Frames.{called_into}
