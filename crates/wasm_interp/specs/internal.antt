@@ -11,3 +11,4 @@ pub mod Begun
 pub mod Keys
 pub mod Fast
 pub mod Loop
+pub mod Hurrying
