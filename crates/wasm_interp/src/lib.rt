@@ -20,8 +20,12 @@ mod place;
 mod places;
 mod running;
 mod runs;
+mod single_arms;
+mod singles;
 mod state;
 mod steps;
+mod store_arms;
+mod stores;
 mod tables;
 mod work;
 
