@@ -18,6 +18,7 @@ mod pending;
 mod phase;
 mod place;
 mod places;
+mod plain_arms;
 mod running;
 mod runs;
 mod single_arms;
