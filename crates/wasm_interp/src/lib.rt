@@ -27,6 +27,7 @@ mod state;
 mod steps;
 mod store_arms;
 mod stores;
+mod table_arms;
 mod tables;
 mod work;
 
