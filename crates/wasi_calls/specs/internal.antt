@@ -1,2 +1,3 @@
 pub mod Serving
 pub mod Reaching
+pub mod Seeking

@@ -1,0 +1,29 @@
+//! The calls on files and streams that move a position, or read and write bytes.
+
+ghost use Rattle.std.specs.Prelude.{◌≡◌};
+ghost use Rattle.wasi_fd.specs.Table.{table_of};
+ghost use Rattle.wasm_store.specs.declared.call.HostCall.TheVariants as call;
+ghost use Rattle.wasi_calls.specs.Calls.{row};
+
+use crate::arguments::{long, word};
+use crate::inner::Inner;
+use crate::seeking;
+use std::io::{Read, Write};
+use vol_sector::Device;
+use wasm_store::{Errno, Memory};
+
+impl<'s, 't, D: Device, R: Read, W1: Write, W2: Write> Inner<'s, 't, D, R, W1, W2> {
+    ghost use Rattle.wasi_calls.specs.internal.Serving.{IsSetUp, KnowsEntries, Serves, errno_of};
+
+    /// `fd_seek(fd, delta, whence, result)`.
+    pub fn fd_seek(&mut self, memory: &mut Memory, arguments: &[u64]) -> Result<(), Errno>
+        requires set_up { IsSetUp R.remaining self.old }
+        requires known { KnowsEntries D.honest self.old.volume (table_of self.old.descriptors) }
+        ensures { (used : _) → Serves D.honest D.disk D.size D.failures R.remaining W1.contents W2.contents (λ w. row call.FdSeek w memory.old used arguments.now) self.old memory.old self.new memory.new (errno_of result) }
+    {
+        let (fd, delta) = (word(arguments, 0), long(arguments, 1));
+        let (whence, result_at) = (word(arguments, 2), word(arguments, 3));
+        let (volume, descriptors) = (&mut self.volume, &mut self.descriptors);
+        seeking::fd_seek(volume, descriptors, memory, fd, delta, whence, result_at)
+    }
+}
