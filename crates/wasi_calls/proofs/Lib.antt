@@ -15,3 +15,6 @@ pub mod Examples
 pub mod Moments
 pub mod Positions
 pub mod Moving
+pub mod Arrays
+pub mod Written
+pub mod Prepared

@@ -1,5 +1,5 @@
 -- Calls that reach the volume and move a position.
-use Rattle.std.proofs.Common.{◌≡◌, ℕ, List, Option, sym, subst}
+use Rattle.std.proofs.Common.{◌≡◌, ℕ, true, List, Option, sym, ap, ◌∙◌, vec_len, subst}
 use Rattle.vol_sector.specs.Disk.{Disk}
 use Rattle.vol_tree.specs.declared.superblock.Superblock.{Superblock}
 use Rattle.vol_tree.specs.Opened.{Opened, IsSerial}
@@ -9,8 +9,10 @@ use Rattle.wasi_calls.specs.declared.inner.Inner.{Inner}
 use Rattle.wasi_calls.specs.World.{World}
 use Rattle.wasi_calls.specs.Checks.{Checked, Done}
 use Rattle.wasi_calls.specs.Calls.{Answered}
-use Rattle.wasi_calls.specs.Host.{StreamBytes, world_of, VolumeStep}
+use Rattle.wasi_calls.specs.Host.{HostState, StreamsTell, StreamBytes, world_of, VolumeStep}
 use Rattle.wasi_calls.specs.internal.Serving.{NoMoreEntries, state_of, with_volume, with_table, IsSetUp, Serves}
+use Rattle.std.specs.Io.KnownBytes.{IsAtEnd}
+use Rattle.wasi_calls.specs.Settings.{settings_fit}
 use Rattle.wasi_calls.proofs.Served.{bytes_told, streams_rest}
 
 module _ {D R W1 W2 : Type 0} (honest : D → Type 0) (disk : D → Disk) (sectors_on failures : D → ℕ)
@@ -46,6 +48,35 @@ module _ {D R W1 W2 : Type 0} (honest : D → Type 0) (disk : D → Disk) (secto
           b,
           streams_rest honest disk sectors_on failures remaining out_contents err_contents old v d old.settings h,
           subst (λ (x : World → Checked Done). Answered x (world_of (state_of old) b) m (world_of (state_of new) b) m' e) (sym same_run) (answers is_honest b),
+        );
+        volume = step;
+      }
+
+  -- A call that changes the volume and positions, and leaves what it likes in the room for its bytes.
+  pub serves_roomy : (run : World → Checked Done) (old new : Inner D R W1 W2) (m m' : List ℕ) (e : ℕ)
+      → IsSetUp remaining old → vec_len new.buffers ≡ 1024 → vec_len new.piece ≡ 16384
+      → state_of new ≡ state_of (record old { volume = new.volume; descriptors = new.descriptors })
+      → VolumeStep honest disk sectors_on failures old.volume new.volume → NoMoreEntries (table_of old.descriptors) (table_of new.descriptors)
+      → (honest old.volume.device → (b : StreamBytes)
+      → Answered run (world_of (state_of old) b) m (with_table (table_of new.descriptors) (with_volume new.volume (world_of (state_of old) b))) m' e)
+      → Serves honest disk sectors_on failures remaining out_contents err_contents run old m new m' e
+  serves_roomy run old new m m' e h buffers piece state step entries answers =
+      let b : StreamBytes = bytes_told honest disk sectors_on failures remaining out_contents err_contents old in
+      let moved = moved_set_up old new.volume new.descriptors h step entries in
+      record {
+        set_up = record {
+          settings = ap (λ (s : HostState D R W1 W2). settings_fit s.settings) state ∙ h.settings;
+          buffers = buffers;
+          piece = piece;
+          ended = subst (λ (s : HostState D R W1 W2). s.input.ended ≡ true → IsAtEnd (remaining s.input.reader)) (sym state) h.ended;
+          serials = moved.serials;
+        };
+        row = λ is_honest. (
+          b,
+          b,
+          subst (λ (s : HostState D R W1 W2). StreamsTell remaining out_contents err_contents (state_of old) s b b) (sym state)
+              (streams_rest honest disk sectors_on failures remaining out_contents err_contents old new.volume new.descriptors old.settings h),
+          subst (λ (s : HostState D R W1 W2). Answered run (world_of (state_of old) b) m (world_of s b) m' e) (sym state) (answers is_honest b),
         );
         volume = step;
       }

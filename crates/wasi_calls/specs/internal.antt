@@ -1,3 +1,5 @@
 pub mod Serving
 pub mod Reaching
 pub mod Seeking
+pub mod Buffers
+pub mod Writing

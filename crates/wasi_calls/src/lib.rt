@@ -3,6 +3,7 @@
 #![tactic(auto)]
 
 mod arguments;
+mod buffers;
 mod checks;
 mod clocks;
 mod descriptors;
@@ -23,6 +24,7 @@ mod settings;
 mod streams;
 mod supplies;
 mod wasi_host;
+mod writing;
 
 pub use fault::HostFault;
 pub use host::VolumeHost;
