@@ -1,11 +1,11 @@
 -- Buffers that a call reads.
 use Rattle.std.proofs.Common.{◌≡◌, ℕ, suc, ◌+◌, ◌-◌, ◌*◌, ◌<◌, ◌≤◌, List, [], ◌∷◌, ◌++◌, length, take, drop, min, get_or, set, Bool, true, false, refl, sym, ap, ◌∙◌, append_assoc, add-zero, add-one, append-nil, ◌⊎◌, inl, inr, nat_le, Ok, arith}
-use Rattle.std.proofs.lemmas.Bool.{leb-true, false≢true, cases_lt}
-use Rattle.std.proofs.Math.Seq.{take-suc, take-append-add}
+use Rattle.std.proofs.lemmas.Bool.{leb-true, false≢true, cases_lt, and_parts}
+use Rattle.std.proofs.Math.Seq.{take-suc, take-append-add, drop-cons}
 use Rattle.std.proofs.lemmas.List.Folds.{list_all_at, list_all-map}
 use Rattle.wasi_calls.specs.internal.Buffers.{fit, usable}
 use Rattle.wasi_calls.proofs.Yields.{goes_on}
-use Rattle.std.proofs.lemmas.List.{drop-drop, take_more_set, map-append, take_all, length-take, take-append-le}
+use Rattle.std.proofs.lemmas.List.{drop-drop, take_more_set, map-append, take_all, length-append, length-take, length-drop, take-append-le}
 use Rattle.std.proofs.lemmas.List.Sums.{sum_by-cons, sum_by-append}
 use Rattle.std.specs.List.{list_all}
 use Rattle.byteorder.specs.Endian.{little_number}
@@ -108,3 +108,24 @@ found_row m iovs count result all few inside is =
     let passed : buffers m iovs count ≡ fit m read =
     goes_on (guard (nat_le count 1024) 28) (λ _. and_then (range m iovs (8 * count)) (λ _. fit m read)) tt few ∙ goes_on (range m iovs (8 * count)) (λ _. fit m read) tt inside in
     ap (λ (r : Checked (List Buffer)). and_then r rest) passed ∙ ap (λ (all : List Buffer). and_then (fit m all) rest) (sym is)
+
+-- ---- from one buffer on
+
+pub gathered_from : (memory bytes : List ℕ) (bs : List BufferValue) (i : ℕ) (d : BufferValue) → i < length bs → bytes ≡ bytes_at memory (get_or bs i d).pointer (get_or bs i d).len
+    → gathered memory (list_of (drop i bs)) ≡ bytes ++ gathered memory (list_of (drop (i + 1) bs))
+gathered_from memory bytes bs i d h read =
+    let next : drop i bs ≡ get_or bs i d ∷ drop (i + 1) bs = rw add-one (drop-cons bs i d h) in
+    ap (λ (l : List BufferValue). gathered memory (list_of l)) next
+    ∙ ap (λ (l : List ℕ). l ++ gathered memory (list_of (drop (i + 1) bs))) (sym read)
+
+pub gathered_length : (memory : List ℕ) (bs : List Buffer) → list_all (is_inside memory) bs ≡ true → length (gathered memory bs) ≡ total bs
+gathered_length memory [] h = refl
+gathered_length memory (b ∷ bs) h =
+    let both = and_parts (is_inside memory b) (list_all (is_inside memory) bs) h in
+    let inside = leb-true (b.0 + b.1) (length memory) both.0 in
+    let rest = gathered_length memory bs both.1 in
+    let one = length-append (bytes_at memory b.0 b.1) (gathered memory bs) in
+    let two = length-take b.1 (drop b.0 memory) in
+    let three = length-drop b.0 memory in
+    let sum = sum_by-cons (λ (x : Buffer). x.1) b bs in
+    omega (arith, inside, rest, one, two, three, sum)

@@ -18,3 +18,5 @@ pub mod Moving
 pub mod Arrays
 pub mod Written
 pub mod Prepared
+pub mod Handing
+pub mod Streamed

@@ -1,14 +1,24 @@
 -- Calls that change the tree, and leave more than that.
-use Rattle.std.proofs.Common.{◌≡◌, ◌≢◌, ◌⊎◌, ℕ, false, List, [], ◌∷◌, Result, Ok, Err, inl, inr, refl, sym, ap, ◌∙◌}
+use Rattle.std.proofs.Common.{◌≡◌, ◌≢◌, ◌⊎◌, ◌+◌, ◌-◌, ◌^◌, ◌<◌, ◌++◌, ◌==◌, ℕ, Bool, true, false, cond, nat_lt, length, take, drop, replicate, if◌then◌else◌, lit<, arith, List, [], ◌∷◌, Result, Ok, Err, inl, inr, refl, sym, ap, ◌∙◌}
 use Rattle.vol_tree.specs.declared.errno.Errno.{Errno}
 use Rattle.vol_tree.specs.declared.errno.Errno.TheVariants as errno
 use Rattle.vol_tree.specs.Numbers.{number_of}
 use Rattle.vol_tree.specs.Tree.{Tree}
 use Rattle.vol_tree.specs.Opened.{Opened, Keeps, is_io}
+use Rattle.wasi_fd.specs.declared.descriptor.Opened.{Opened as Opened'}
+use Rattle.wasi_fd.specs.declared.descriptor.Descriptor.TheVariants.{Entry}
+use Rattle.byteorder.specs.Endian.{little_bytes}
+use Rattle.vol_inode.specs.declared.version.Version.{Version}
+use Rattle.vol_inode.specs.declared.version.Version.TheVariants.{One, Two}
+use Rattle.vol_inode.specs.Space.{size_limit}
+use Rattle.wasi_calls.specs.Files.{file_write}
+use Rattle.wasi_calls.specs.internal.Writing.{written_on, written_to}
+use Rattle.std.proofs.lemmas.Bool.{ltb-false}
+use Rattle.std.proofs.lemmas.List.{length-append, length-take, length-replicate}
 use Rattle.vol_tree.specs.Space.{Geometry}
-use Rattle.vol_tree.specs.Calls.{with_unit, written}
-use Rattle.wasi_calls.specs.World.{World, volume_gone}
-use Rattle.wasi_calls.specs.Checks.{Checked, Done, and_then, put, tree_call, numbered}
+use Rattle.vol_tree.specs.Calls.{with_unit, written, bytes_at, overwritten, extended}
+use Rattle.wasi_calls.specs.World.{World, volume_gone, with_descriptor, moved_to}
+use Rattle.wasi_calls.specs.Checks.{Checked, Done, and_then, put, tree_call, numbered, with_result}
 use Rattle.wasi_calls.specs.Calls.{Answered, by_row}
 use Rattle.wasi_calls.specs.internal.Serving.{with_volume}
 use Rattle.wasi_calls.proofs.Yields.{goes_on, stops}
@@ -58,3 +68,58 @@ module _ {D : Type 0} (honest : D → Type 0) (sectors_on failures : D → ℕ) 
       (same (volume_gone w) ∙ stops _ _ 29 (tree_called_gone w (r (volume_gone w))))
       (λ alive is. never_after (tree_call w (r w)) (λ T. Ok (k w T))
       (λ h. numbered_io (r w) never (sym (tree_called_alive w (r w) alive) ∙ h)) (λ T _ h. cc) (sym (same w) ∙ is))
+
+-- ---- a file that is written where it stands
+
+pub leaving_never : (r : World → Result Tree Errno) (k : World → Tree → Done) (w : World) → w.volume_failed ≡ false → r w ≢ Err errno.Io → leaving r k w ≢ Err 29
+leaving_never r k w alive never is =
+    never_after (tree_call w (r w)) (λ T. Ok (k w T)) (λ h. numbered_io (r w) never (sym (tree_called_alive w (r w) alive) ∙ h)) (λ T _ h. cc) is
+
+abbrev pub part_of : List ℕ → List ℕ
+part_of bytes = take 16384 bytes
+
+abbrev pub tree_on : Opened' → List ℕ → World → Result Tree Errno
+tree_on o bytes v = written v.volume v.tree o.serial o.position (part_of bytes)
+
+abbrev pub done_on : ℕ → Opened' → List ℕ → ℕ → World → Tree → Done
+done_on fd o bytes result v T = with_result
+    (if length (part_of bytes) == 0 then record v { tree = T } else with_descriptor fd (moved_to o (o.position + length (part_of bytes))) (record v { tree = T }))
+    result (little_bytes 4 (length (part_of bytes)))
+
+pub row_on : (fd : ℕ) (o : Opened') (bytes : List ℕ) (result : ℕ) (v : World) → written_on v fd o bytes result ≡ leaving (tree_on o bytes) (done_on fd o bytes result) v
+row_on fd o bytes result v =
+    one_after (tree_call v (tree_on o bytes v)) (λ T. (record v { tree = T }, length (part_of bytes)))
+    (λ r. with_result (if r.1 == 0 then r.0 else with_descriptor fd (moved_to o (o.position + r.1)) r.0) result (little_bytes 4 r.1))
+
+pub row_to : (fd : ℕ) (o : Opened') (bytes : List ℕ) (result : ℕ) (v : World) (p : ℕ) → (if o.append then length (bytes_at v.tree o.serial) else o.position) ≡ p
+    → written_to v fd (Entry o) bytes result ≡ written_on v fd (record o { position = p }) bytes result
+row_to fd o bytes result v p is =
+    one_after (file_write v o (if o.append then length (bytes_at v.tree o.serial) else o.position) bytes)
+    (λ r. (if r.1 == 0 then r.0 else with_descriptor fd (moved_to o ((if o.append then length (bytes_at v.tree o.serial) else o.position) + r.1)) r.0, r.1))
+    (λ r. with_result r.0 result (little_bytes 4 r.1))
+    ∙ ap (λ (at : ℕ). written_on v fd (record o { position = at }) bytes result) is
+
+-- ---- no file is longer than 2 ^ 32
+
+limited : (version : Version) → size_limit version < 2 ^ 32
+limited One = lit< tt
+limited Two = lit< tt
+
+first_holds : {X : Type 0} (b : Bool) (e : Errno) (r : Result X Errno) (x : X) → cond b (Err e) r ≡ Ok x → b ≡ false
+first_holds true e r x h = cc
+first_holds false e r x h = refl
+
+pub written_small : (volume : Geometry) (T : Tree) (file at : ℕ) (bytes : List ℕ) (U : Tree) → 0 < length bytes → written volume T file at bytes ≡ Ok U → at + length bytes < 2 ^ 32
+written_small volume T file at [] U some h = absurd (omega arith)
+written_small volume T file at (b ∷ bytes) U some h =
+    let old = bytes_at T file in
+    let new : List ℕ = b ∷ bytes in
+    let all : List ℕ = overwritten old at new in
+    let fits = ltb-false _ _ (first_holds (nat_lt (size_limit volume.version) (length all)) errno.TooBig _ U h) in
+    let small = limited volume.version in
+    let one = length-append (take at (extended at old) ++ new) (drop (at + length new) old) in
+    let two = length-append (take at (extended at old)) new in
+    let three = length-take at (extended at old) in
+    let four = length-append old (replicate (at - length old) 0) in
+    let five = length-replicate {A = ℕ} (at - length old) 0 in
+    omega (arith, fits, small, one, two, three, four, five)

@@ -3,3 +3,4 @@ pub mod Reaching
 pub mod Seeking
 pub mod Buffers
 pub mod Writing
+pub mod Outputs

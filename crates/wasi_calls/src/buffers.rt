@@ -41,7 +41,7 @@ fn read_buffers(room: &mut [Buffer], array: &[u8])
 }
 
 /// How many bytes all of them have.
-fn total_len(buffers: &[Buffer]) -> u64
+pub(crate) fn total_len(buffers: &[Buffer]) -> u64
     requires { length buffers.now ≤ 1024 }
     ensures { result ≡ total (list_of buffers.now) }
 {

@@ -17,6 +17,7 @@ mod linking;
 mod numbers;
 mod on_files;
 mod on_volume;
+mod outputs;
 mod paths;
 mod plain;
 mod seeking;

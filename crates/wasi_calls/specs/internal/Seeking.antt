@@ -1,11 +1,13 @@
 -- Where a position is moved from.
-use Rattle.std.specs.Prelude.{◌≡◌, ◌≢◌, ℕ, ◌^◌, ◌==◌, ◌&&◌, ◌||◌, nat_le, true, false, List, Ok, Err}
+use Rattle.std.specs.Prelude.{◌≡◌, ◌≢◌, ℕ, ◌^◌, ◌==◌, ◌&&◌, ◌||◌, nat_le, true, false, List, Some, Ok, Err}
 use Rattle.std.specs.Option.{ok_or}
 use Rattle.byteorder.specs.Endian.{little_bytes}
 use Rattle.vol_tree.specs.declared.errno.Errno.{Errno}
 use Rattle.vol_tree.specs.declared.errno.Errno.TheVariants as errno
 use Rattle.vol_tree.specs.Opened.{Opened}
 use Rattle.wasi_fd.specs.declared.descriptor.Opened.{Opened as OpenedEntry}
+use Rattle.wasi_fd.specs.declared.descriptor.Descriptor.TheVariants.{Entry}
+use Rattle.wasi_fd.specs.Table.{Table}
 use Rattle.wasi_calls.specs.World.{World, volume_gone, with_descriptor, moved_to}
 use Rattle.wasi_calls.specs.Checks.{Checked, Done, ◌>>=◌, ◌>>◌, guard, get, of_kind, only_files, has, opened, range, with_result}
 use Rattle.wasi_calls.specs.Descriptors.{shifted, last_position, seek_from}
@@ -48,3 +50,9 @@ pub record FailsFrom {D : Type 0} (old new : Opened D) (w : World) (o : OpenedEn
   pub failed : new.failed ≡ true
   pub gone : seek_from (volume_gone w) o whence ≡ Err 29
   pub never : w.volume_failed ≡ false → seek_from w o whence ≢ Err 29
+
+-- a number stands for this entry, at whatever position
+pub record StandsFor (table : Table) (fd : ℕ) (o : OpenedEntry) : Type 0 where
+  pub open_as : OpenedEntry
+  pub is : table fd ≡ Some (Entry open_as)
+  pub moved : o ≡ record open_as { position = o.position }

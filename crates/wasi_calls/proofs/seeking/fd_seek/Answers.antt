@@ -30,7 +30,8 @@ seek_from-requires-clause-file g c =
 
 pub move_to-requires : goal.move_to-requires
 move_to-requires g c =
-    (seek_open (table_of c.args.descriptors.now) c.args.memory.now c.args.fd c.args.delta c.args.whence c.args.result_at c.in-Ok.opened c.in-Ok.ensures.checked).0
+    let at = seek_open (table_of c.args.descriptors.now) c.args.memory.now c.args.fd c.args.delta c.args.whence c.args.result_at c.in-Ok.opened c.in-Ok.ensures.checked in
+    record { open_as = c.in-Ok.opened; is = at.0; moved = refl }
 
 pub write_bytes-requires : goal.write_bytes-requires
 write_bytes-requires g c = let eight : length c.le64.result ≡ 8 = ap length c.le64.ensures in omega (arith, c.in-Ok.ensures.inside)

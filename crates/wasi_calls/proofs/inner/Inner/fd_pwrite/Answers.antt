@@ -93,4 +93,4 @@ returns g c = λ used.
     c.write_at.ensures.step (no_more (table_of s.descriptors))
     (λ h b.
     let w = world_of (state_of s) b in
-    answered_so run (λ v. placed v o offset (gathered m bs) q.result_at) w same m _ _ _ (c.write_at.ensures.answered h w refl))
+    answered_so run (λ v. placed v o offset (gathered m bs) q.result_at) w (λ v table tree. same v table) m _ _ _ (c.write_at.ensures.answered h w refl))
