@@ -13,13 +13,14 @@ use Rattle.wasi_fd.specs.declared.descriptor.Descriptor.TheVariants.{Stream, Ent
 use Rattle.wasi_fd.specs.declared.descriptor.Opened.{Opened as OpenedEntry}
 use Rattle.wasi_fd.specs.Table.{Table, streams}
 use Rattle.wasi_calls.specs.World.{World}
-use Rattle.wasi_calls.specs.Checks.{Checked, Refusals, and_then, descriptor, entry_at, range, only_directories}
+use Rattle.wasi_calls.specs.Checks.{Checked, Refusals, and_then, get, of_kind, descriptor, entry_at, range, only_directories, only_files}
+use Rattle.wasi_calls.specs.internal.Seeking.{seekable}
 use Rattle.wasi_calls.specs.internal.Serving.{KnowsEntries, IsFileOf}
 use Rattle.path_walk.specs.Walk.{IsEntryOf}
 use Rattle.wasi_calls.specs.internal.Reaching.{entered}
-use Rattle.wasi_calls.proofs.Yields.{bound}
+use Rattle.wasi_calls.proofs.Yields.{bound, passed}
 use Rattle.wasi_calls.proofs.Parts as parts
-use Rattle.wasi_calls.proofs.Parts.{described, same_Ok, is_file_kind}
+use Rattle.wasi_calls.proofs.Parts.{described, same_Ok, ok_or_some, opened_is, is_file_kind}
 
 -- a world with this table
 some_world : Table → World
@@ -95,3 +96,30 @@ no_entry_if false s d o none h = none h
 pub no_entries : (table : Table) → ((n : ℕ) → table n ≡ streams n) → (fd : ℕ) (o : OpenedEntry) → table fd ≡ Some (Entry o) → ⊥
 no_entries table new fd o is =
     no_entry_if (fd == 0) Input _ o (no_entry_if (fd == 1) Output _ o (no_entry_if (fd == 2) Error _ o (none-some (Entry o)))) (sym (new fd) ∙ is)
+
+-- ---- a file that is moved
+
+pub file_at : {D : Type 0} (honest : D → Type 0) (v : Opened D) (table : Table) → KnowsEntries honest v table → (fd : ℕ) (r : Refusals) (n : ℕ) (o : OpenedEntry) → r.directory ≡ Some n
+    → table fd ≡ Some (Entry o) → of_kind r (Entry o) ≡ Ok tt → IsFileOf honest v o.serial
+file_at honest v table known fd r n o refuses at kind =
+    let number = known.numbers fd o at in
+    record {
+      first = number.first;
+      last = number.last;
+      used = λ h.
+          let there = known.there h fd o at in
+          file_there v.tree o.serial there.e there.used (there.kind ∙ is_file_kind r n refuses o.kind kind);
+    }
+
+pub seek_open : (table : Table) (m : List ℕ) (fd delta whence result : ℕ) (o : OpenedEntry) → ((w : World) → w.table ≡ table → seekable w m fd delta whence result ≡ Ok o)
+    → (table fd ≡ Some (Entry o)) × (of_kind only_files (Entry o) ≡ Ok tt)
+unfolding some_world
+seek_open table m fd delta whence result o at =
+    let w = some_world table in
+    let one = bound (get w fd) _ o (at w refl) in
+    let two = bound (of_kind only_files one.0) _ o one.2 in
+    let three = passed _ 76 _ o two.2 in
+    let four = passed _ 28 _ o three.1 in
+    let five = bound (range m result 8) _ o four.1 in
+    let same : one.0 ≡ Entry o = opened_is one.0 o five.2 in
+    (ok_or_some (table fd) 8 (Entry o) (one.1 ∙ ap Ok same), subst (λ (d : Descriptor). of_kind only_files d ≡ Ok tt) same two.1)

@@ -13,3 +13,10 @@ pub mod Walked
 pub mod Texts
 pub mod Examples
 pub mod Moments
+pub mod Positions
+pub mod Moving
+pub mod Arrays
+pub mod Written
+pub mod Prepared
+pub mod Handing
+pub mod Streamed

@@ -1,8 +1,9 @@
 -- Calls that reach neither the volume nor a stream.
-use Rattle.std.proofs.Common.{◌≡◌, ℕ, Bool, true, false, List, [], Option, Some, None, refl, sym, ◌∙◌, subst, inl, inr, arith}
+use Rattle.std.proofs.Common.{◌≡◌, ℕ, Bool, true, false, List, [], ◌++◌, Option, Some, None, refl, sym, ap, ◌∙◌, subst, inl, inr, arith}
 use Rattle.std.proofs.lemmas.Bool.{cases_eq, cond-true, cond-false, eq-eqb, ne_eqb}
 use Rattle.std.proofs.lemmas.Option.{none-some}
-use Rattle.std.specs.Io.KnownBytes.{IsAtEnd}
+use Rattle.std.specs.Io.KnownBytes.{Appends, IsAtEnd}
+use Rattle.wasi_calls.specs.declared.streams.Output.{Output}
 use Rattle.vol_sector.specs.Disk.{Disk, counted}
 use Rattle.vol_tree.specs.declared.superblock.Superblock.{Superblock}
 use Rattle.vol_tree.specs.Opened.{Opened, IsSerial}
@@ -139,3 +140,36 @@ module _ {D R W1 W2 : Type 0} (honest : D → Type 0) (disk : D → Disk) (secto
         );
         volume = step;
       }
+
+-- ---- a stream that took more bytes
+
+told_more : (old new : Option (List ℕ)) (bytes : List ℕ) → Appends old new bytes → Tells old new (told old) (told old ++ bytes)
+unfolding told
+told_more None new bytes h = tt
+told_more (Some xs) None bytes h = absurd h
+told_more (Some xs) (Some ys) bytes h = (refl, ap Some h)
+
+module _ {D R W1 W2 : Type 0} (honest : D → Type 0) (disk : D → Disk) (sectors_on failures : D → ℕ)
+    (remaining : R → Option (List ℕ)) (out_contents : W1 → Option (List ℕ)) (err_contents : W2 → Option (List ℕ)) where
+  abbrev pub told_bytes : Inner D R W1 W2 → StreamBytes
+  told_bytes p = bytes_told honest disk sectors_on failures remaining out_contents err_contents p
+
+  pub told_by_out : (old : Inner D R W1 W2) (o : Output W1) (taken : List ℕ) → IsSetUp remaining old → Appends (out_contents old.out.writer) (out_contents o.writer) taken
+      → StreamsTell remaining out_contents err_contents (state_of old) (state_of (record old { out = o })) (told_bytes old) (record (told_bytes old) { output = (told_bytes old).output ++ taken })
+  unfolding bytes_told
+  told_by_out old o taken h more = record {
+    input = rests (remaining old.input.reader);
+    ended = λ is. told_end (remaining old.input.reader) (h.ended is);
+    output = told_more (out_contents old.out.writer) (out_contents o.writer) taken more;
+    errors = rests (err_contents old.err.writer);
+  }
+
+  pub told_by_err : (old : Inner D R W1 W2) (o : Output W2) (taken : List ℕ) → IsSetUp remaining old → Appends (err_contents old.err.writer) (err_contents o.writer) taken
+      → StreamsTell remaining out_contents err_contents (state_of old) (state_of (record old { err = o })) (told_bytes old) (record (told_bytes old) { errors = (told_bytes old).errors ++ taken })
+  unfolding bytes_told
+  told_by_err old o taken h more = record {
+    input = rests (remaining old.input.reader);
+    ended = λ is. told_end (remaining old.input.reader) (h.ended is);
+    errors = told_more (err_contents old.err.writer) (err_contents o.writer) taken more;
+    output = rests (out_contents old.out.writer);
+  }

@@ -1,5 +1,6 @@
 -- Texts behind references.
 use Rattle.std.proofs.Common.{◌≡◌, ◌≤◌, true, ℕ, ◌+◌, ◌<◌, List, [], ◌∷◌, ◌++◌, length, take, get_or, arith, add-one, add-zero, append-nil, append_assoc, refl, ap, ◌∙◌, sym}
+use Rattle.std.proofs.lemmas.List.{length-map}
 use Rattle.std.proofs.lemmas.List.Sums.{sum_by-cons, sum_by-append}
 use Rattle.std.proofs.Math.Seq.{take-suc}
 use Rattle.byteorder.specs.Endian.{little_bytes}
@@ -19,6 +20,9 @@ same_ended (t ∷ ts) =
 -- texts that fit are short
 pub fits_ended : (ts : Texts) → behind.texts_fit ts ≡ true → behind.ended_bytes ts ≤ 65536
 fits_ended ts h = leb-true _ _ (and_parts _ _ (and_parts _ _ h).0).1
+
+pub few_texts : (ts : Texts) → behind.texts_fit ts ≡ true → (length (texts_of ts) ≡ length ts) × (length ts ≤ 1024)
+few_texts ts h = (length-map ts _, leb-true _ _ (and_parts _ _ (and_parts _ _ h).0).0)
 
 -- ---- one text more
 

@@ -3,6 +3,7 @@
 #![tactic(auto)]
 
 mod arguments;
+mod buffers;
 mod checks;
 mod clocks;
 mod descriptors;
@@ -14,13 +15,17 @@ mod inner;
 mod laws;
 mod linking;
 mod numbers;
+mod on_files;
 mod on_volume;
+mod outputs;
 mod paths;
 mod plain;
+mod seeking;
 mod settings;
 mod streams;
 mod supplies;
 mod wasi_host;
+mod writing;
 
 pub use fault::HostFault;
 pub use host::VolumeHost;

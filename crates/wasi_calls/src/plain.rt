@@ -109,4 +109,22 @@ impl<'s, 't, D: Device, R: Read, W1: Write, W2: Write> Inner<'s, 't, D, R, W1, W
         let (fd, result_at) = (word(arguments, 0), word(arguments, 1));
         descriptors::fd_tell(&self.descriptors, memory, fd, result_at)
     }
+
+    /// `args_get(pointers, buffer)`.
+    pub fn args_get(&self, memory: &mut Memory, arguments: &[u64]) -> Result<(), Errno>
+        requires { IsSetUp R.remaining self.now }
+        ensures { (used : _) → Serves D.honest D.disk D.size D.failures R.remaining W1.contents W2.contents (λ w. row call.ArgsGet w memory.old used arguments.now) self.now memory.old self.now memory.new (errno_of result) }
+    {
+        let (at, buffer) = (word(arguments, 0), word(arguments, 1));
+        supplies::texts_get(self.settings.args, memory, at, buffer)
+    }
+
+    /// `environ_get(pointers, buffer)`.
+    pub fn environ_get(&self, memory: &mut Memory, arguments: &[u64]) -> Result<(), Errno>
+        requires { IsSetUp R.remaining self.now }
+        ensures { (used : _) → Serves D.honest D.disk D.size D.failures R.remaining W1.contents W2.contents (λ w. row call.EnvironGet w memory.old used arguments.now) self.now memory.old self.now memory.new (errno_of result) }
+    {
+        let (at, buffer) = (word(arguments, 0), word(arguments, 1));
+        supplies::texts_get(self.settings.env, memory, at, buffer)
+    }
 }

@@ -3,7 +3,8 @@
 ghost use Rattle.std.specs.Prelude.{◌≡◌, ◌≤◌, ◌<◌, ◌+◌, ◌*◌, ◌^◌, ◌++◌, true, length, take};
 ghost use Rattle.wasi_calls.specs.Texts.{texts_of, texts_fit, ended_bytes};
 ghost use Rattle.wasi_calls.specs.World.{World};
-ghost use Rattle.wasi_calls.specs.Supplies.{sizes_get as sizes, random_get as random, pointers, ended};
+ghost use Rattle.wasm_store.specs.Bytes.{written};
+ghost use Rattle.wasi_calls.specs.Supplies.{sizes_get as sizes, texts_get as texts_row, random_get as random, ended_bytes as all_bytes, pointers, ended};
 ghost use Rattle.wasi_calls.specs.Calls.{Answers};
 ghost use Rattle.wasi_calls.specs.internal.Serving.{errno_of};
 
@@ -84,4 +85,62 @@ fn fill_texts(part: &mut [u8], texts: &[&[u8]])
         append_at(part, place + text.len(), &[0]);
         place += text.len() + 1;
     }
+}
+
+/// How many bytes the pointers to the texts have.
+#[tactic(auto, using(crate::proofs::Texts::few_texts))]
+fn pointers_len(texts: &[&[u8]]) -> u32
+    requires { texts_fit texts.now ≡ true }
+    ensures { result ≡ 4 * length (texts_of texts.now) }
+{
+    4 * texts.len() as u32
+}
+
+/// How many bytes the texts have with a NUL after each.
+#[tactic(auto, using(crate::proofs::Texts::fits_ended, crate::proofs::Texts::same_ended))]
+fn texts_len(texts: &[&[u8]]) -> u32
+    requires { texts_fit texts.now ≡ true }
+    ensures { result ≡ all_bytes (texts_of texts.now) }
+{
+    ended_len(texts) as u32
+}
+
+/// Writes a pointer to each text, the first of which stands at this place.
+fn write_pointers(memory: &mut Memory, at: u32, texts: &[&[u8]], first: u32)
+    requires fit { texts_fit texts.now ≡ true }
+    requires inside { at + 4 * length (texts_of texts.now) ≤ length memory.old }
+    ensures bytes { memory.new ≡ written memory.old at (pointers first (texts_of texts.now)) }
+    ensures length { length memory.new ≡ length memory.old }
+{
+    let part = memory.part_mut(at as usize, pointers_len(texts) as usize);
+    fill_pointers(part, texts, u64::from(first));
+}
+
+/// Writes the texts with a NUL after each.
+fn write_texts(memory: &mut Memory, at: u32, texts: &[&[u8]])
+    requires fit { texts_fit texts.now ≡ true }
+    requires inside { at + all_bytes (texts_of texts.now) ≤ length memory.old }
+    ensures bytes { memory.new ≡ written memory.old at (ended (texts_of texts.now)) }
+{
+    let part = memory.part_mut(at as usize, texts_len(texts) as usize);
+    fill_texts(part, texts);
+}
+
+/// `args_get(pointers, buffer)`, `environ_get(pointers, buffer)`: the texts with a NUL after each, one after another, and
+/// a pointer to each.
+#[tactic(auto, using(crate::proofs::Yields::goes_on, crate::proofs::Yields::stops))]
+pub(crate) fn texts_get(
+    texts: &[&[u8]],
+    memory: &mut Memory,
+    at: u32,
+    buffer: u32,
+) -> Result<(), Errno>
+    requires { texts_fit texts.now ≡ true }
+    ensures { (w : World) → Answers (texts_row (texts_of texts.now) w memory.old at buffer) w memory.old w memory.new (errno_of result) }
+{
+    check_range(memory, at, pointers_len(texts))?;
+    check_range(memory, buffer, texts_len(texts))?;
+    write_pointers(memory, at, texts, buffer);
+    write_texts(memory, buffer, texts);
+    Ok(())
 }

@@ -1,6 +1,6 @@
 -- What memory ends as, where a part of it is lent to be written.
 use Rattle.std.specs.Prelude.{ℕ, List, length, Option}
-use Rattle.std.specs.Borrow.{LendsIf, Fml, MutBor, Array, u8}
+use Rattle.std.specs.Borrow.{Lends, LendsIf, Fml, MutBor, Array, u8}
 use Rattle.std.specs.List.{refill}
 use Rattle.wasm_store.specs.contracts.memory.Memory.{the_row}
 use Rattle.wasm_store.specs.Bytes.{written}
@@ -8,6 +8,10 @@ use Rattle.wasm_store.specs.Bytes.{written}
 -- memory with these bytes from an address on, which is as long as before
 abbrev pub rewritten : List ℕ → ℕ → List ℕ → List ℕ
 rewritten memory a bs = refill (length memory) memory (written memory a bs)
+
+-- memory ends with the last bytes of the part
+abbrev pub LendsPart : MutBor (List ℕ) → ℕ → MutBor (List ℕ) → Fml
+LendsPart memory address part = Lends the_row (Array u8 0) memory part (rewritten memory.now address)
 
 -- the same where the part is lent; else memory stays
 abbrev pub LendsPartIf : MutBor (List ℕ) → ℕ → Option (MutBor (List ℕ)) → Fml

@@ -1,3 +1,2 @@
 -- Definitions that only private contracts and proofs cite.
 pub mod Finding
-pub mod LendingParts

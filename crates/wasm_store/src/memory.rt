@@ -30,8 +30,7 @@ impl Memory {
     ghost use Rattle.std.specs.Bool.{OnTrue, OnFalse};
     ghost use Rattle.std.specs.Borrow.{sem};
     ghost use Rattle.wasm_store.specs.Bytes.{from_bytes, to_bytes, bytes_at, written};
-    ghost use Rattle.wasm_store.specs.internal.LendingParts.{LendsPart};
-    ghost use Rattle.wasm_store.specs.Lending.{LendsPartIf};
+    ghost use Rattle.wasm_store.specs.Lending.{LendsPart, LendsPartIf};
 
     /// Memory of so many pages of 65,536 bytes, all zeros.
     pub fn new(alloc: Global, pages: u32) -> Result<Memory, AllocError>
@@ -90,8 +89,16 @@ impl Memory {
         ensures* writes_back { sem 𝓛 (LendsPart self.entry address result) }
         ensures value { result.now ≡ bytes_at self.old address len }
     {
-        let start = address as usize;
-        self.bytes.slice_mut(start..start + len as usize)
+        self.part_mut(address as usize, len as usize)
+    }
+
+    /// So many bytes from a place on, to be written. They have to be in memory.
+    pub fn part_mut(&mut self, start: usize, len: usize) -> &mut [u8]
+        requires { start + len ≤ length self.old }
+        ensures* writes_back { sem 𝓛 (LendsPart self.entry start result) }
+        ensures value { result.now ≡ bytes_at self.old start len }
+    {
+        self.bytes.slice_mut(start..start + len)
     }
 
     /// Writes these bytes from an address on, or nothing where they would pass the end.

@@ -102,3 +102,7 @@ module _ {D R W1 W2 : Type 0} (honest : D → Type 0) (disk : D → Disk) (secto
     pub row : honest old.volume.device → (before after : StreamBytes) × StreamsTell remaining out_contents err_contents (state_of old) (state_of new) before after
         × Answered run (world_of (state_of old) before) memory (world_of (state_of new) after) memory' errno
     pub volume : VolumeStep honest disk sectors_on failures old.volume new.volume
+
+-- the world with this table
+abbrev pub with_table : Table → World → World
+with_table table w = record w { table = table }

@@ -35,8 +35,7 @@ use types.Part.{agg}
 use types.Run.{enter, of_opd, lit, addr, stop, no_more, and_then, first, branches, exec, returns}
 use types.Tokens.{lft_new, lft_end, lent_back}
 use Rattle.wasm_store.specs.Bytes.{bytes_at}
-use Rattle.wasm_store.specs.internal.LendingParts.{LendsPart}
-use Rattle.wasm_store.specs.Lending.{LendsPartIf}
+use Rattle.wasm_store.specs.Lending.{LendsPart, LendsPartIf}
 use Rattle.wasm_store.specs.contracts.memory.Memory.{the_row as R}
 use Rattle.wasm_store.specs.contracts.memory.Memory.slice_mut as f
 use Rattle.wasm_store.specs.contracts.memory.Memory.has_range as has

@@ -1,0 +1,17 @@
+use Rattle.std.proofs.Common.{sym}
+use Rattle.wasi_fd.specs.Table.{table_of}
+use Rattle.wasi_calls.specs.Texts.{texts_of}
+use Rattle.wasi_calls.specs.Host.{world_of}
+use Rattle.wasi_calls.specs.internal.Serving.{state_of}
+use Rattle.wasi_calls.specs.Supplies.{texts_get}
+use Rattle.wasi_calls.proofs.Served.{no_more, serves_plain}
+use Rattle.wasi_calls.proofs.inner.Inner.environ_get.Goals as goal
+
+pub returns : goal.returns
+returns g c = λ used.
+    let s = c.args.self.now in
+    let m = c.args.memory.now in
+    serves_plain g.D.Device.honest g.D.Device.disk g.D.Device.size g.D.Device.failures g.R.Read.remaining g.W1.Write.contents g.W2.Write.contents
+    _ _ s s.descriptors s.settings m _ _ c.requires c.requires.settings (no_more (table_of s.descriptors))
+    (λ b i. texts_get (texts_of s.settings.env.now) (world_of (state_of s) b) m (sym c.word-at.ensures i) (sym c.word-buffer.ensures i))
+    (λ b. c.texts_get.ensures (world_of (state_of s) b))

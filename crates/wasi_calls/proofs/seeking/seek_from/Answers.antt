@@ -1,0 +1,39 @@
+use Rattle.std.proofs.Common.{◌≡◌, ℕ, false, Ok, Err, refl, sym, ap, ◌∙◌, arith, length, []}
+use Rattle.vol_tree.specs.declared.errno.Errno.{Errno}
+use Rattle.vol_tree.specs.Opened.{is_io}
+use Rattle.vol_tree.specs.Calls.{bytes_at}
+use Rattle.wasi_calls.specs.World.{World, volume_gone}
+use Rattle.wasi_calls.specs.Checks.{Checked}
+use Rattle.wasi_calls.proofs.Volumes.{was_working, same_volume, tree_called_alive, tree_called_gone}
+use Rattle.wasi_calls.proofs.Positions.{from_end}
+use Rattle.wasi_calls.proofs.seeking.seek_from.Goals as goal
+
+pub returns-in-Ok-clause-told : goal.returns-in-Ok-clause-told
+returns-in-Ok-clause-told g c = λ h w shown.
+    let old = c.args.volume.now in
+    let new = c.size_of.new.volume in
+    let o = c.args.opened.now in
+    let k = c.in-Ok.ensures.kept in
+    let (told, tree) = c.in-Ok.ensures.answer h in
+    let working : old.failed ≡ false = was_working g.D.Device.honest g.D.Device.size g.D.Device.failures old new false k refl in
+    let alive : w.volume_failed ≡ false = ap (λ (w : World). w.volume_failed) shown ∙ working in
+    let size : length (bytes_at w.tree o.serial) ≡ c.from.result = ap (λ (w : World). length (bytes_at w.tree o.serial)) shown ∙ (sym told ∙ sym c.from.ensures) in
+    record {
+      told = from_end w o c.args.whence (omega arith) ∙ (tree_called_alive w (Ok (length (bytes_at w.tree o.serial))) alive ∙ ap Ok size);
+      same = same_volume w [] old new shown k.numbers tree (k.failed ∙ sym working);
+    }
+
+pub returns-in-Err-clause-failed : goal.returns-in-Err-clause-failed
+returns-in-Err-clause-failed g c = λ h w shown.
+    let o = c.args.opened.now in
+    let k = c.in-Err.ensures.kept in
+    let (io, tree) = c.in-Err.ensures.answer h in
+    let size = length (bytes_at w.tree o.serial) in
+    record {
+      io = io;
+      numbers = k.numbers;
+      tree = tree;
+      failed = k.failed ∙ ap (λ (e : Errno). is_io {X = ℕ} (Err e)) io;
+      gone = from_end (volume_gone w) o c.args.whence (omega arith) ∙ tree_called_gone w (Ok size);
+      never = λ alive is. let both : ◌≡◌ {A = Checked ℕ} (Ok size) (Err 29) = sym (from_end w o c.args.whence (omega arith) ∙ tree_called_alive w (Ok size) alive) ∙ is in cc;
+    }

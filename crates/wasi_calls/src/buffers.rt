@@ -1,0 +1,186 @@
+//! Buffers of the guest, which a call names by an array of them.
+
+ghost use Rattle.std.specs.Prelude.{◌≡◌, ◌<◌, ◌≤◌, ◌+◌, ◌-◌, ◌*◌, ◌^◌, ◌++◌, min, nat_le, length, take, drop, true, Ok, Err, OnOk, MatchResult};
+ghost use Rattle.std.specs.List.{list_all};
+ghost use Rattle.byteorder.specs.Endian.{little_number};
+ghost use Rattle.wasm_store.specs.Bytes.{bytes_at};
+ghost use Rattle.wasi_calls.specs.Checks.{buffers_in, total, is_inside, gathered};
+ghost use Rattle.wasi_calls.specs.internal.Buffers.{pair_of, list_of, fit};
+
+use crate::arguments::word;
+use crate::checks::{check_range, check_that};
+use crate::inner::Buffer;
+use byteorder::{ByteOrder, LittleEndian};
+use wasm_store::{Errno, Memory};
+
+/// How many buffers a call can name.
+const MOST_BUFFERS: u32 = 1_024;
+
+/// How many bytes of an array stand for a buffer.
+const ENTRY_BYTES: u32 = 8;
+
+/// The buffer that an array begins with.
+fn buffer_in(array: &[u8]) -> Buffer
+    requires { 8 ≤ length array.now }
+    ensures { pair_of result ≡ (little_number 4 array.now, little_number 4 (drop 4 array.now)) }
+{
+    Buffer {
+        pointer: LittleEndian::read_u32(array),
+        len: LittleEndian::read_u32(&array[4..]),
+    }
+}
+
+/// Reads as many buffers of an array as there is room for.
+fn read_buffers(room: &mut [Buffer], array: &[u8])
+    requires { length array.now ≡ 8 * length room.old }
+    ensures { list_of room.new ≡ buffers_in (length room.old) array.now }
+{
+    for index in 0..room.len() {
+        room[index] = buffer_in(&array[ENTRY_BYTES as usize * index..]);
+    }
+}
+
+/// How many bytes all of them have.
+pub(crate) fn total_len(buffers: &[Buffer]) -> u64
+    requires { length buffers.now ≤ 1024 }
+    ensures { result ≡ total (list_of buffers.now) }
+{
+    let mut total = 0;
+    for buffer in buffers {
+        total += u64::from(buffer.len);
+    }
+    total
+}
+
+/// Whether all of them end in so many bytes.
+fn end_within(buffers: &[Buffer], len: usize) -> bool
+    ensures { result ≡ list_all (λ b. nat_le (b.pointer + b.len) len) buffers.now }
+{
+    buffers.iter().all(|buffer| buffer.pointer as usize + buffer.len as usize <= len)
+}
+
+/// Whether all of them lie in memory.
+fn are_inside(buffers: &[Buffer], memory: &Memory) -> bool
+    ensures { result ≡ list_all (is_inside memory.now) (list_of buffers.now) }
+{
+    end_within(buffers, memory.len())
+}
+
+/// Reads the buffers of the array of so many at an address.
+fn read_array(room: &mut [Buffer], memory: &Memory, iovs: u32, count: u32)
+    requires room { length room.old ≡ 1024 }
+    requires few { count ≤ 1024 }
+    requires inside { iovs + 8 * count ≤ length memory.now }
+    ensures { list_of (take count room.new) ≡ buffers_in count (bytes_at memory.now iovs (8 * count)) }
+{
+    let Some(array) = memory.slice(iovs, ENTRY_BYTES * count) else {
+        unreachable!()
+    };
+    read_buffers(&mut room[..count as usize], array);
+}
+
+/// Whether the buffers have few enough bytes and lie in memory.
+#[tactic(auto, using(crate::proofs::Yields::goes_on, crate::proofs::Yields::stops))]
+fn check_buffers(buffers: &[Buffer], memory: &Memory) -> Result<(), Errno>
+    requires { length buffers.now ≤ 1024 }
+    ensures fit { MatchResult result (λ _. fit memory.now (list_of buffers.now) ≡ Ok (list_of buffers.now))
+        (λ e. fit memory.now (list_of buffers.now) ≡ Err e.0) }
+    ensures small { OnOk result (total (list_of buffers.now) < 2 ^ 32) }
+    ensures inside { OnOk result (list_all (is_inside memory.now) (list_of buffers.now) ≡ true) }
+{
+    check_that(total_len(buffers) < 1 << 32, Errno::INVAL)?;
+    match check_that(are_inside(buffers, memory), Errno::FAULT) {
+        Ok(()) => Ok(()),
+        Err(errno) => Err(errno),
+    }
+}
+
+/// What a call on buffers is asked: a descriptor, an array of so many buffers, and where its result is to stand.
+#[derive(Clone, Copy)]
+pub(crate) struct Request {
+    pub fd: u32,
+    pub iovs: u32,
+    pub count: u32,
+    pub result_at: u32,
+}
+
+impl Request {
+    ghost use Rattle.wasi_calls.specs.Calls.{word};
+    ghost use Rattle.wasi_calls.specs.internal.Buffers.{list_of, usable, AreUsable};
+
+    /// What the arguments ask, of which this one says where the result is to stand.
+    pub fn new(arguments: &[u64], result_index: usize) -> Request
+        ensures fd { result.fd ≡ word arguments.now 0 }
+        ensures iovs { result.iovs ≡ word arguments.now 1 }
+        ensures count { result.count ≡ word arguments.now 2 }
+        ensures result_at { result.result_at ≡ word arguments.now result_index }
+    {
+        Request {
+            fd: word(arguments, 0),
+            iovs: word(arguments, 1),
+            count: word(arguments, 2),
+            result_at: word(arguments, result_index),
+        }
+    }
+
+    /// Reads the buffers into the room, where all of them and the place of the result lie in memory.
+    #[tactic(auto, using(crate::proofs::Yields::goes_on, crate::proofs::Yields::stops))]
+    pub fn find_buffers(&self, room: &mut [Buffer], memory: &Memory) -> Result<(), Errno>
+        requires { length room.old ≡ 1024 }
+        ensures found { MatchResult result
+            (λ _. usable memory.now self.now.iovs self.now.count self.now.result_at ≡ Ok (list_of (take self.now.count room.new)))
+            (λ e. usable memory.now self.now.iovs self.now.count self.now.result_at ≡ Err e.0) }
+        ensures usable { OnOk result (AreUsable memory.now (list_of (take self.now.count room.new)) self.now.result_at) }
+        ensures few { OnOk result (self.now.count ≤ 1024) }
+    {
+        if let Err(errno) = check_that(self.count <= MOST_BUFFERS, Errno::INVAL) {
+            return Err(errno);
+        }
+        if let Err(errno) = check_range(memory, self.iovs, ENTRY_BYTES * self.count) {
+            return Err(errno);
+        }
+        read_array(room, memory, self.iovs, self.count);
+        if let Err(errno) = check_buffers(self.buffers_in(room), memory) {
+            return Err(errno);
+        }
+        match check_range(memory, self.result_at, 4) {
+            Ok(()) => Ok(()),
+            Err(errno) => Err(errno),
+        }
+    }
+
+    /// The buffers of the call, once they are in the room.
+    pub fn buffers_in<'a>(&self, room: &'a [Buffer]) -> &'a [Buffer]
+        requires { self.now.count ≤ length room.now }
+        ensures { result.now ≡ take self.now.count room.now }
+    {
+        &room[..self.count as usize]
+    }
+}
+
+/// Copies as many of the bytes as there is room for into the piece, from a place on, and says how many.
+fn append_some(piece: &mut [u8], place: usize, bytes: &[u8]) -> usize
+    requires { place ≤ length piece.old }
+    ensures count { result ≡ min (length bytes.now) (length piece.old - place) }
+    ensures bytes { take (place + result) piece.new ≡ take place piece.old ++ take result bytes.now }
+{
+    let count = bytes.len().min(piece.len() - place);
+    piece[place..place + count].copy_from_slice(&bytes[..count]);
+    count
+}
+
+/// Copies what stands in the buffers into the piece, as far as there is room, and says how many bytes that is.
+pub(crate) fn gather(piece: &mut [u8], memory: &Memory, buffers: &[Buffer]) -> usize
+    requires { list_all (is_inside memory.now) (list_of buffers.now) ≡ true }
+    ensures room { result ≤ length piece.old }
+    ensures bytes { take result piece.new ≡ take (length piece.old) (gathered memory.now (list_of buffers.now)) }
+{
+    let mut filled: usize = 0;
+    for buffer in buffers {
+        let Some(bytes) = memory.slice(buffer.pointer, buffer.len) else {
+            unreachable!()
+        };
+        filled += append_some(piece, filled, bytes);
+    }
+    filled
+}

@@ -1,0 +1,200 @@
+//! Bytes that a call writes to files and streams.
+
+ghost use Rattle.std.specs.Prelude.{◌≡◌, ◌⊎◌, ◌≤◌, ◌+◌, ◌^◌, length, take, true, IsTrue, IsFalse, Ok, Err, Some, IfOk, IfErr, MatchResult};
+ghost use Rattle.std.specs.List.{list_all};
+ghost use Rattle.vol_sector.specs.Disk.{Leaves};
+ghost use Rattle.vol_tree.specs.declared.errno.Errno.TheVariants as vol_errno;
+ghost use Rattle.vol_tree.specs.Opened.{Tells, Keeps, ReflectsOr, geometry, is_io};
+ghost use Rattle.vol_tree.specs.Calls.{bytes_at, written as tree_with};
+ghost use Rattle.wasi_fd.specs.Table.{table_of};
+ghost use Rattle.wasi_calls.specs.World.{World};
+ghost use Rattle.wasi_calls.specs.Checks.{is_inside, gathered, only_files, entry_at as entry};
+ghost use Rattle.wasi_calls.specs.Calls.{Answered};
+ghost use Rattle.wasi_calls.specs.Host.{VolumeStep};
+ghost use Rattle.wasi_calls.specs.internal.Serving.{IsFileOf, NoMoreEntries, errno_of, with_volume, with_table};
+ghost use Rattle.wasi_calls.specs.internal.Buffers.{list_of, AreUsable};
+ghost use Rattle.wasi_calls.specs.internal.Writing.{placed, written_on, written_to};
+ghost use Rattle.wasi_calls.specs.internal.Seeking.{StandsFor};
+
+use crate::buffers::{Request, gather};
+use crate::checks::{Takes, entry_at, write_bytes};
+use crate::files::refused;
+use crate::inner::Buffer;
+use crate::numbers::le32;
+use crate::seeking::{move_to, size_of};
+use bitflags::Flags;
+use vol_sector::Device;
+use vol_tree::Volume;
+use wasi_fd::{Descriptor, Descriptors, Opened, Rights};
+use wasm_store::{Errno, Memory};
+
+/// The first bytes of a piece.
+fn first(piece: &[u8], len: usize) -> &[u8]
+    requires { len ≤ length piece.now }
+    ensures { result.now ≡ take len piece.now }
+{
+    &piece[..len]
+}
+
+/// Writes what stands in the buffers to a file, as far as it fits in the piece, and says how many bytes that is.
+fn put_bytes<D: Device>(
+    volume: &mut Volume<D>,
+    serial: u32,
+    at: u64,
+    piece: &mut [u8],
+    memory: &Memory,
+    buffers: &[Buffer],
+) -> Result<u32, vol_tree::Errno>
+    requires file { IsFileOf D.honest volume.old serial }
+    requires room { length piece.old ≡ 16384 }
+    requires inside { list_all (is_inside memory.now) (list_of buffers.now) ≡ true }
+    ensures written { D.honest volume.old.device → IfOk result (λ n. (n ≡ length (take 16384 (gathered memory.now (list_of buffers.now))))
+        × (tree_with (geometry volume.old.numbers) volume.old.tree serial at (take 16384 (gathered memory.now (list_of buffers.now))) ≡ Ok volume.new.tree)) }
+    ensures refused { D.honest volume.old.device → IfErr result (λ e. (volume.new.tree ≡ volume.old.tree)
+        × ((tree_with (geometry volume.old.numbers) volume.old.tree serial at (take 16384 (gathered memory.now (list_of buffers.now))) ≡ Err e) ⊎ (e ≡ vol_errno.Io))) }
+    ensures crash { D.honest volume.old.device
+        → Leaves (D.disk volume.old.device) (D.disk volume.new.device)
+        (ReflectsOr (D.disk volume.old.device) volume.old.tree) }
+    ensures kept { Keeps D.honest D.size D.failures volume.old volume.new (is_io result) }
+{
+    let len = gather(piece, memory, buffers);
+    match volume.write(serial, at, first(piece, len)) {
+        Ok(()) => Ok(len as u32),
+        Err(errno) => Err(errno),
+    }
+}
+
+/// An open file that can be written at a place of its own.
+pub(crate) fn file_to_write<'t>(descriptors: &Descriptors<'t>, fd: u32) -> Result<Opened<'t>, Errno>
+    ensures { (w : World) → w.table ≡ table_of descriptors.now → MatchResult result
+        (λ o. entry w fd only_files (2 ^ 6 + 2 ^ 2) ≡ Ok o)
+        (λ e. entry w fd only_files (2 ^ 6 + 2 ^ 2) ≡ Err e.0) }
+{
+    let rights = Rights::FD_WRITE.union(Rights::FD_SEEK);
+    entry_at(descriptors, fd, Takes::Files, rights)
+}
+
+/// Writes what stands in the buffers to an open file at a place, and then how many bytes that is.
+pub(crate) fn write_at<D: Device>(
+    volume: &mut Volume<D>,
+    piece: &mut [u8],
+    memory: &mut Memory,
+    opened: &Opened<'_>,
+    at: u64,
+    buffers: &[Buffer],
+    result_at: u32,
+) -> Result<(), Errno>
+    requires file { IsFileOf D.honest volume.old opened.now.serial }
+    requires room { length piece.old ≡ 16384 }
+    requires usable { AreUsable memory.old (list_of buffers.now) result_at }
+    ensures step { VolumeStep D.honest D.disk D.size D.failures volume.old volume.new }
+    ensures answered { D.honest volume.old.device → (w : World) → w ≡ with_volume volume.old w
+        → Answered (λ v. placed v opened.now at (gathered memory.old (list_of buffers.now)) result_at) w memory.old (with_volume volume.new w) memory.new (errno_of result) }
+{
+    match put_bytes(volume, opened.serial, at, piece, memory, buffers) {
+        Ok(len) => {
+            write_bytes(memory, result_at, &le32(len));
+            Ok(())
+        }
+        Err(errno) => Err(refused(errno)),
+    }
+}
+
+/// The open file, standing where a write begins: at its end with append, else where it stands.
+fn where_it_writes<'t, D: Device>(
+    volume: &mut Volume<D>,
+    opened: &Opened<'t>,
+) -> Result<Opened<'t>, vol_tree::Errno>
+    requires { IsFileOf D.honest volume.old opened.now.serial }
+    ensures stays { IsFalse opened.now.append → (volume.new ≡ volume.old) × (result ≡ Ok opened.now) }
+    ensures at_end { IsTrue opened.now.append → D.honest volume.old.device
+        → Tells (record opened.now { position = length (bytes_at volume.old.tree opened.now.serial) }) volume.old.tree volume.new.tree result }
+    ensures kept { IsTrue opened.now.append → Keeps D.honest D.size D.failures volume.old volume.new (is_io result) }
+    ensures asked { IsTrue opened.now.append → D.honest volume.old.device → Leaves (D.disk volume.old.device) (D.disk volume.new.device) (λ c. ⊥) }
+    ensures moved { IfOk result (λ s. s ≡ record opened.now { position = s.position }) }
+    ensures step { VolumeStep D.honest D.disk D.size D.failures volume.old volume.new }
+{
+    if !opened.append {
+        return Ok(*opened);
+    }
+    match size_of(volume, opened.serial) {
+        Ok(size) => Ok(Opened {
+            position: u64::from(size),
+            ..*opened
+        }),
+        Err(errno) => Err(errno),
+    }
+}
+
+/// Writes what stands in the buffers to an open file where it stands, which moves behind it, and then how many bytes
+/// that is.
+fn write_on<'t, D: Device>(
+    volume: &mut Volume<D>,
+    descriptors: &mut Descriptors<'t>,
+    piece: &mut [u8],
+    memory: &mut Memory,
+    opened: &Opened<'t>,
+    request: &Request,
+    buffers: &[Buffer],
+) -> Result<(), Errno>
+    requires file { IsFileOf D.honest volume.old opened.now.serial }
+    requires open { StandsFor (table_of descriptors.old) request.now.fd opened.now }
+    requires room { length piece.old ≡ 16384 }
+    requires usable { AreUsable memory.old (list_of buffers.now) request.now.result_at }
+    ensures step { VolumeStep D.honest D.disk D.size D.failures volume.old volume.new }
+    ensures entries { NoMoreEntries (table_of descriptors.old) (table_of descriptors.new) }
+    ensures answered { D.honest volume.old.device → (w : World) → w.table ≡ table_of descriptors.old → w ≡ with_volume volume.old w
+        → Answered (λ v. written_on v request.now.fd opened.now (gathered memory.old (list_of buffers.now)) request.now.result_at) w memory.old (with_table (table_of descriptors.new) (with_volume volume.new w)) memory.new (errno_of result) }
+{
+    match put_bytes(
+        volume,
+        opened.serial,
+        opened.position,
+        piece,
+        memory,
+        buffers,
+    ) {
+        Ok(len) => {
+            if len > 0 {
+                let behind = opened.position.saturating_add(u64::from(len));
+                move_to(descriptors, request.fd, opened, behind);
+            }
+            write_bytes(memory, request.result_at, &le32(len));
+            Ok(())
+        }
+        Err(errno) => Err(refused(errno)),
+    }
+}
+
+/// Writes what stands in the buffers to an open file, and then how many bytes that is.
+pub(crate) fn write_file<'t, D: Device>(
+    volume: &mut Volume<D>,
+    descriptors: &mut Descriptors<'t>,
+    piece: &mut [u8],
+    memory: &mut Memory,
+    opened: &Opened<'t>,
+    request: &Request,
+    buffers: &[Buffer],
+) -> Result<(), Errno>
+    requires file { IsFileOf D.honest volume.old opened.now.serial }
+    requires open { table_of descriptors.old request.now.fd ≡ Some (Descriptor.Entry opened.now) }
+    requires room { length piece.old ≡ 16384 }
+    requires usable { AreUsable memory.old (list_of buffers.now) request.now.result_at }
+    ensures step { VolumeStep D.honest D.disk D.size D.failures volume.old volume.new }
+    ensures entries { NoMoreEntries (table_of descriptors.old) (table_of descriptors.new) }
+    ensures answered { D.honest volume.old.device → (w : World) → w.table ≡ table_of descriptors.old → w ≡ with_volume volume.old w
+        → Answered (λ v. written_to v request.now.fd (Descriptor.Entry opened.now) (gathered memory.old (list_of buffers.now)) request.now.result_at) w memory.old (with_table (table_of descriptors.new) (with_volume volume.new w)) memory.new (errno_of result) }
+{
+    match where_it_writes(volume, opened) {
+        Ok(standing) => write_on(
+            volume,
+            descriptors,
+            piece,
+            memory,
+            &standing,
+            request,
+            buffers,
+        ),
+        Err(errno) => Err(refused(errno)),
+    }
+}
