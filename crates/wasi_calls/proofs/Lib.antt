@@ -13,3 +13,5 @@ pub mod Walked
 pub mod Texts
 pub mod Examples
 pub mod Moments
+pub mod Asking
+pub mod Holding

@@ -1,2 +1,4 @@
 pub mod Serving
 pub mod Reaching
+pub mod Asking
+pub mod Removing
