@@ -2,7 +2,7 @@
 use Rattle.std.proofs.Common.{◌≡◌, ◌≢◌, ◌⊎◌, ℕ, Bool, true, false, List, [], Option, Some, None, IsSome, IsTrue, Result, Ok, Err, not, refl, sym, ◌∙◌, ap, subst, inl, inr, arith}
 use Rattle.std.specs.Option.{option_map_or}
 use Rattle.std.proofs.lemmas.Bool.{false≢true}
-use Rattle.vol_sector.specs.Disk.{Disk, Leaves, counted}
+use Rattle.vol_sector.specs.Disk.{Disk, Leaves}
 use Rattle.vol_tree.specs.declared.errno.Errno.{Errno}
 use Rattle.vol_tree.specs.declared.errno.Errno.TheVariants as errno
 use Rattle.vol_tree.specs.Numbers.{number_of}
@@ -20,10 +20,9 @@ use Rattle.wasi_calls.specs.Calls.{Answered, by_row, volume_fails}
 use Rattle.wasi_calls.specs.Host.{VolumeStep}
 use Rattle.wasi_calls.specs.internal.Serving.{with_volume}
 use Rattle.wasi_calls.specs.internal.Reaching.{StillWorks, Reaches}
-use Rattle.wasi_calls.specs.internal.Asking.{Passes, Refuses, Fails, Stops, Asked}
+use Rattle.wasi_calls.specs.internal.Asking.{Passes, Stops, Asked}
 use Rattle.wasi_calls.proofs.Yields.{goes_on, stops}
 use Rattle.wasi_calls.proofs.Serving.{answers_refused}
-use Rattle.wasi_calls.proofs.Parts.{not_false}
 use Rattle.wasi_calls.proofs.Volumes.{io_or, was_working, never_after, same_volume, gone, tree_refuses, numbered_io, tree_called_alive, changing, steps_after}
 
 -- ---- rows cut in parts

@@ -17,6 +17,9 @@ use Rattle.wasi_calls.specs.Checks.{Checked, Refusals, and_then, descriptor, ent
 use Rattle.wasi_calls.specs.internal.Serving.{KnowsEntries, IsFileOf}
 use Rattle.path_walk.specs.Walk.{IsEntryOf}
 use Rattle.wasi_calls.specs.internal.Reaching.{entered}
+use Rattle.wasi_calls.specs.internal.Opening.{open_entered, flags_checked}
+use Rattle.wasi_calls.specs.declared.opening.OpenCall.{OpenCall}
+use Rattle.wasi_calls.specs.Paths.{open_rights}
 use Rattle.wasi_calls.proofs.Yields.{bound}
 use Rattle.wasi_calls.proofs.Parts as parts
 use Rattle.wasi_calls.proofs.Parts.{described, same_Ok, is_file_kind}
@@ -95,3 +98,21 @@ no_entry_if false s d o none h = none h
 pub no_entries : (table : Table) → ((n : ℕ) → table n ≡ streams n) → (fd : ℕ) (o : OpenedEntry) → table fd ≡ Some (Entry o) → ⊥
 no_entries table new fd o is =
     no_entry_if (fd == 0) Input _ o (no_entry_if (fd == 1) Output _ o (no_entry_if (fd == 2) Error _ o (none-some (Entry o)))) (sym (new fd) ∙ is)
+
+-- ---- a directory that a path is opened from
+
+pub opened_at : {D : Type 0} (honest : D → Type 0) (v : Opened D) (table : Table) → KnowsEntries honest v table → (m : List ℕ) (a : OpenCall) (o : OpenedEntry)
+    → ((w : World) → w.table ≡ table → open_entered w m a ≡ Ok o) → IsEntryOf honest v o.serial
+unfolding some_world
+opened_at honest v table known m a o at =
+    let w = some_world table in
+    let one = bound (entry_at w a.fd only_directories (open_rights a.oflags)) _ o (at w refl) in
+    let two = bound (flags_checked a.oflags a.fdflags) _ o one.2 in
+    let three = bound (range m a.path a.len) _ o two.2 in
+    let four = bound (range m a.result_at 4) _ o three.2 in
+    let same : one.0 ≡ o = same_Ok one.0 o four.2 in
+    let of = parts.entered w a.fd only_directories (open_rights a.oflags) o (one.1 ∙ ap Ok same) in
+    record {
+      number = known.numbers a.fd o of.0;
+      used = λ h. let there = known.there h a.fd o of.0 in is_used v.tree o.serial there.e there.used;
+    }

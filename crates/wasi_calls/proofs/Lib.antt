@@ -15,3 +15,4 @@ pub mod Examples
 pub mod Moments
 pub mod Asking
 pub mod Holding
+pub mod Targets

@@ -16,6 +16,7 @@ mod linking;
 mod numbers;
 mod on_paths;
 mod on_volume;
+mod opening;
 mod paths;
 mod plain;
 mod removing;

@@ -6,7 +6,8 @@ ghost use Rattle.wasi_calls.specs.Calls.{row};
 
 use crate::arguments::word;
 use crate::inner::Inner;
-use crate::removing;
+use crate::opening::OpenCall;
+use crate::{opening, removing};
 use std::io::{Read, Write};
 use vol_sector::Device;
 use wasm_store::{Errno, Memory};
@@ -32,5 +33,15 @@ impl<'s, 't, D: Device, R: Read, W1: Write, W2: Write> Inner<'s, 't, D, R, W1, W
     {
         let (fd, path, len) = (word(arguments, 0), word(arguments, 1), word(arguments, 2));
         removing::path_remove_directory(&mut self.volume, &self.descriptors, memory, fd, path, len)
+    }
+
+    /// `path_open(fd, flags, path, length, oflags, base, inheriting, fdflags, result)`.
+    pub fn path_open(&mut self, memory: &mut Memory, arguments: &[u64]) -> Result<(), Errno>
+        requires set_up { IsSetUp R.remaining self.old }
+        requires known { KnowsEntries D.honest self.old.volume (table_of self.old.descriptors) }
+        ensures { (used : _) → Serves D.honest D.disk D.size D.failures R.remaining W1.contents W2.contents (λ w. row call.PathOpen w memory.old used arguments.now) self.old memory.old self.new memory.new (errno_of result) }
+    {
+        let asked = OpenCall::read(arguments);
+        opening::path_open(&mut self.volume, &mut self.descriptors, memory, &asked)
     }
 }

@@ -30,6 +30,15 @@ module _ {D X : Type 0} where
   abbrev pub Stops : (World → Checked X) → World → Opened D → ℕ → Type 0
   Stops part w new e = Refuses part w new e ⊎ Fails part w new e
 
+  -- the volume fails in a part that comes after others
+  pub record FailsNext (part : World → Checked X) (w : World) (new : Opened D) (e : ℕ) : Type 0 where
+    pub answer : e ≡ 29
+    pub never : part w ≢ Err 29
+    pub after : with_volume new w ≡ volume_gone w
+
+  abbrev pub StopsNext : (World → Checked X) → World → Opened D → ℕ → Type 0
+  StopsNext part w new e = Refuses part w new e ⊎ FailsNext part w new e
+
   abbrev pub Asks : (World → Checked X) → World → Opened D → Result X Number → Type 0
   Asks part w new (Ok x) = Passes part w new x
   Asks part w new (Err e) = Stops part w new e.0
