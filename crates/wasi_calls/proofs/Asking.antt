@@ -2,16 +2,17 @@
 use Rattle.std.proofs.Common.{◌≡◌, ◌≢◌, ◌⊎◌, ℕ, Bool, true, false, List, [], Option, Some, None, IsSome, IsTrue, Result, Ok, Err, not, refl, sym, ◌∙◌, ap, subst, inl, inr, arith}
 use Rattle.std.specs.Option.{option_map_or}
 use Rattle.std.proofs.lemmas.Bool.{false≢true}
-use Rattle.vol_sector.specs.Disk.{Disk, Leaves}
+use Rattle.vol_sector.specs.Disk.{Disk, Leaves, counted}
 use Rattle.vol_tree.specs.declared.errno.Errno.{Errno}
 use Rattle.vol_tree.specs.declared.errno.Errno.TheVariants as errno
 use Rattle.vol_tree.specs.Numbers.{number_of}
 use Rattle.vol_tree.specs.Tree.{Tree, Entry as TreeEntry, entry}
 use Rattle.vol_tree.specs.Calls.{with_unit, directory_at, is_directory, is_file_at}
-use Rattle.vol_tree.specs.Opened.{Opened, Keeps, is_io}
+use Rattle.vol_tree.specs.Opened.{Opened, Keeps, IsSerial, is_io}
 use Rattle.wasm_store.specs.Bytes.{bytes_at}
 use Rattle.path_walk.specs.declared.walking.Reached.{Reached as ReachedValue}
-use Rattle.path_walk.specs.Walk.{reached_as}
+use Rattle.vol_tree.specs.declared.superblock.Superblock.{Superblock}
+use Rattle.path_walk.specs.Walk.{reached_as, IsEntryOf}
 use Rattle.wasi_fd.specs.declared.descriptor.Opened.{Opened as OpenedEntry}
 use Rattle.wasi_calls.specs.World.{World, volume_gone}
 use Rattle.wasi_calls.specs.Paths.{path_at}
@@ -20,7 +21,7 @@ use Rattle.wasi_calls.specs.Calls.{Answered, by_row, volume_fails}
 use Rattle.wasi_calls.specs.Host.{VolumeStep}
 use Rattle.wasi_calls.specs.internal.Serving.{with_volume}
 use Rattle.wasi_calls.specs.internal.Reaching.{StillWorks, Reaches}
-use Rattle.wasi_calls.specs.internal.Asking.{Passes, Stops, Asked}
+use Rattle.wasi_calls.specs.internal.Asking.{Passes, Stops, StopsNext, Asked}
 use Rattle.wasi_calls.proofs.Yields.{goes_on, stops}
 use Rattle.wasi_calls.proofs.Serving.{answers_refused}
 use Rattle.wasi_calls.proofs.Volumes.{io_or, was_working, never_after, same_volume, gone, tree_refuses, numbered_io, tree_called_alive, changing, steps_after}
@@ -243,3 +244,42 @@ module _ {D : Type 0} (honest : D → Type 0) (disk : D → Disk) (sectors_on fa
           same = same_volume w m old new shown r.kept.numbers r.tree (r.kept.failed ∙ (works ∙ sym working));
         })
   ]
+
+module _ {D : Type 0} (honest : D → Type 0) (disk : D → Disk) (sectors_on failures : D → ℕ) where
+  -- one question after others
+  pub asked_on : (a b c : Opened D) (io : Bool) → StillWorks honest disk sectors_on failures a b → Asked honest disk sectors_on failures b c io → Asked honest disk sectors_on failures a c io
+  asked_on a b c io first second =
+      let k = first.kept in
+      let l = second.kept in
+      record {
+        kept = record {
+          numbers = l.numbers ∙ k.numbers;
+          failed = l.failed;
+          failures = λ working. l.failures k.failed ∙ ap (counted io) (k.failures working);
+          idle = λ failed. absurd (false≢true (k.idle failed).1);
+          honest = ((λ h. l.honest.0 (k.honest.0 h)), (λ h. k.honest.1 (l.honest.1 h)));
+          size = l.size ∙ k.size;
+        };
+        tree = λ h. second.tree (k.honest.0 h) ∙ first.tree h;
+        crash = λ h. leaves_nothing honest disk sectors_on failures (disk a.device) (disk b.device) (disk c.device) (first.crash h) (second.crash (k.honest.0 h));
+      }
+
+  pub works_as : (a b : Opened D) → StillWorks honest disk sectors_on failures a b → Asked honest disk sectors_on failures a b false
+  works_as a b w = record { kept = w.kept; tree = w.tree; crash = w.crash }
+
+  pub asked_works : (a b : Opened D) → Asked honest disk sectors_on failures a b false → StillWorks honest disk sectors_on failures a b
+  asked_works a b w = record { kept = w.kept; tree = w.tree; crash = w.crash }
+
+  -- an entry is one after questions too
+  pub entry_still : (a b : Opened D) (serial : ℕ) → StillWorks honest disk sectors_on failures a b → IsEntryOf honest a serial → IsEntryOf honest b serial
+  entry_still a b serial works e = record {
+    number = subst (λ (n : Superblock). IsSerial n serial) (sym works.kept.numbers) e.number;
+    used = λ h. let before = works.kept.honest.1 h in subst (λ (T : Tree). IsSome (entry T serial)) (sym (works.tree before)) (e.used before);
+  }
+
+-- the next part of a row stops in a world whose volume works
+pub next_stops : {D X Y : Type 0} (w : World) (part : World → Checked X) (rest : World → X → Checked Y) (between new : Opened D) (x : X) (e : ℕ) → Passes part w between x
+    → StopsNext (λ v. rest v x) w new e → Stops (λ v. and_then (part v) (rest v)) w new e
+next_stops w part rest between new x e p (inl r) = refuses_on w part rest between x p new e r.same r.is
+next_stops w part rest between new x e p (inr f) =
+    subst (λ (n : ℕ). Stops (λ v. and_then (part v) (rest v)) w new n) (sym f.answer) (fails_on w part rest between x p new f.after f.never)

@@ -16,3 +16,6 @@ pub mod Moments
 pub mod Asking
 pub mod Holding
 pub mod Targets
+pub mod Below
+pub mod Renames
+pub mod BothWalks

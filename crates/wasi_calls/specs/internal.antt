@@ -3,3 +3,5 @@ pub mod Reaching
 pub mod Asking
 pub mod Removing
 pub mod Opening
+pub mod Climbing
+pub mod Renaming

@@ -20,6 +20,7 @@ mod opening;
 mod paths;
 mod plain;
 mod removing;
+mod renaming;
 mod settings;
 mod streams;
 mod supplies;

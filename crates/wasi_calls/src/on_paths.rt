@@ -7,7 +7,8 @@ ghost use Rattle.wasi_calls.specs.Calls.{row};
 use crate::arguments::word;
 use crate::inner::Inner;
 use crate::opening::OpenCall;
-use crate::{opening, removing};
+use crate::renaming::RenameCall;
+use crate::{opening, removing, renaming};
 use std::io::{Read, Write};
 use vol_sector::Device;
 use wasm_store::{Errno, Memory};
@@ -43,5 +44,15 @@ impl<'s, 't, D: Device, R: Read, W1: Write, W2: Write> Inner<'s, 't, D, R, W1, W
     {
         let asked = OpenCall::read(arguments);
         opening::path_open(&mut self.volume, &mut self.descriptors, memory, &asked)
+    }
+
+    /// `path_rename(fd, path, length, fd, path, length)`.
+    pub fn path_rename(&mut self, memory: &Memory, arguments: &[u64]) -> Result<(), Errno>
+        requires set_up { IsSetUp R.remaining self.old }
+        requires known { KnowsEntries D.honest self.old.volume (table_of self.old.descriptors) }
+        ensures { (used : _) → Serves D.honest D.disk D.size D.failures R.remaining W1.contents W2.contents (λ w. row call.PathRename w memory.now used arguments.now) self.old memory.now self.new memory.now (errno_of result) }
+    {
+        let asked = RenameCall::read(arguments);
+        renaming::path_rename(&mut self.volume, &self.descriptors, memory, &asked)
     }
 }

@@ -174,7 +174,7 @@ fn check_missing(oflags: u32, slash: bool) -> Result<(), Errno>
 }
 
 /// Whether a path that can be read wants a directory.
-fn ends_open(text: &[u8]) -> bool
+pub(crate) fn ends_open(text: &[u8]) -> bool
     ensures { (names : List Name) → path_read text.now ≡ Ok names → result ≡ wants_directory text.now }
 {
     match Path::read(text) {

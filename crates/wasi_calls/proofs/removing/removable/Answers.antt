@@ -1,18 +1,17 @@
-use Rattle.std.proofs.Common.{◌≡◌, ℕ, Bool, true, false, not, List, Ok, Err, refl, sym, ◌∙◌, ap, subst, arith}
+use Rattle.std.proofs.Common.{◌≡◌, ℕ, Bool, true, false, not, Ok, Err, sym, ◌∙◌, ap, subst, arith}
 use Rattle.vol_inode.specs.declared.entry.Kind.{Kind}
 use Rattle.vol_inode.specs.declared.entry.Kind.TheVariants as nodes
 use Rattle.vol_tree.specs.Calls.{directory_at}
 use Rattle.vol_tree.specs.Numbers.{number_of}
-use Rattle.vol_tree.specs.Opened.{Opened, is_io}
+use Rattle.vol_tree.specs.Opened.{is_io}
 use Rattle.wasi_fd.specs.Rights.{bits_of}
-use Rattle.wasi_fd.specs.Table.{table_of}
 use Rattle.wasi_calls.specs.World.{World, held_open}
 use Rattle.wasi_calls.specs.Checks.{Checked, and_then, guard}
 use Rattle.wasi_calls.specs.internal.Asking.{Stops, Asked}
 use Rattle.wasi_calls.specs.internal.Removing.{found_at, is_kind, other_kind, removable}
 use Rattle.wasi_calls.proofs.Yields.{goes_on, stops, guard_passes, guard_fails}
 use Rattle.wasi_calls.proofs.Volumes.{never_after, never_guard}
-use Rattle.wasi_calls.proofs.Asking.{ends_part, passes_on, refuses_on, fails_on, works_on, asked_after, asked_same, asked_gone}
+use Rattle.wasi_calls.proofs.Asking.{ends_part, passes_on, refuses_on, fails_on, asked_same, asked_gone}
 use Rattle.wasi_calls.proofs.removing.removable.Goals as goal
 
 -- the checks on what was found
