@@ -20,3 +20,9 @@ pub mod Written
 pub mod Prepared
 pub mod Handing
 pub mod Streamed
+pub mod Asking
+pub mod Holding
+pub mod Targets
+pub mod Below
+pub mod Renames
+pub mod BothWalks

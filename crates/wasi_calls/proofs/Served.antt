@@ -18,6 +18,7 @@ use Rattle.wasi_calls.specs.Checks.{Checked, Done}
 use Rattle.wasi_calls.specs.Calls.{Answers, Answered, by_row}
 use Rattle.wasi_calls.specs.Host.{StreamBytes, Tells, StreamsTell, world_of, VolumeStep}
 use Rattle.wasi_calls.specs.internal.Serving.{NoMoreEntries, state_of, with_volume, IsSetUp, Serves}
+use Rattle.wasi_calls.specs.internal.Opening.{AreSerials, with_both}
 
 -- ---- tables
 
@@ -173,3 +174,27 @@ module _ {D R W1 W2 : Type 0} (honest : D → Type 0) (disk : D → Disk) (secto
     errors = told_more (err_contents old.err.writer) (err_contents o.writer) taken more;
     output = rests (out_contents old.out.writer);
   }
+
+-- ---- calls that change the volume and the descriptors
+
+module _ {D R W1 W2 : Type 0} (honest : D → Type 0) (disk : D → Disk) (sectors_on failures : D → ℕ)
+    (remaining : R → Option (List ℕ)) (out_contents : W1 → Option (List ℕ)) (err_contents : W2 → Option (List ℕ)) where
+  pub serves_both : (run r : World → Checked Done) (old : Inner D R W1 W2) (v : Opened D) (d : Descriptors) (m m' : List ℕ) (e : ℕ)
+      → IsSetUp remaining old → VolumeStep honest disk sectors_on failures old.volume v → AreSerials v.numbers (table_of d)
+      → ((w : World) → run w ≡ r w)
+      → (honest old.volume.device → (b : StreamBytes) → Answered r (world_of (state_of old) b) m (with_both v (table_of d) (world_of (state_of old) b)) m' e)
+      → Serves honest disk sectors_on failures remaining out_contents err_contents run old m (record old { volume = v; descriptors = d }) m' e
+  serves_both run r old v d m m' e h step serials same answers =
+      let new : Inner D R W1 W2 = record old { volume = v; descriptors = d } in
+      let b : StreamBytes = bytes_told honest disk sectors_on failures remaining out_contents err_contents old in
+      let same_run : run ≡ r = λ i w. same w i in
+      record {
+        set_up = record { settings = h.settings; buffers = h.buffers; piece = h.piece; ended = h.ended; serials = serials };
+        row = λ is_honest. (
+          b,
+          b,
+          streams_rest honest disk sectors_on failures remaining out_contents err_contents old v d old.settings h,
+          subst (λ (x : World → Checked Done). Answered x (world_of (state_of old) b) m (world_of (state_of new) b) m' e) (sym same_run) (answers is_honest b),
+        );
+        volume = step;
+      }

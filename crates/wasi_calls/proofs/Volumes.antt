@@ -11,7 +11,7 @@ use Rattle.wasi_calls.specs.internal.Reaching.{StillWorks}
 use Rattle.vol_tree.specs.Numbers.{number_of}
 use Rattle.vol_tree.specs.Opened.{Opened, Keeps, ReflectsOr, geometry, is_io}
 use Rattle.vol_tree.specs.Space.{Geometry}
-use Rattle.vol_tree.specs.Calls.{with_unit, created, if_it_fits, resized}
+use Rattle.vol_tree.specs.Calls.{with_unit, created, if_it_fits, resized, directory_removed}
 use Rattle.wasi_calls.specs.World.{World, volume_gone}
 use Rattle.wasi_calls.specs.Checks.{Checked, Done, put, guard, and_then, only_world, tree_call, numbered}
 use Rattle.wasi_calls.specs.Calls.{Answered, by_row, volume_fails}
@@ -76,7 +76,7 @@ module _ {D : Type 0} (w : World) (m : List ℕ) where
   pub same_volume : (v v' : Opened D) → w ≡ with_volume v w → v'.numbers ≡ v.numbers → v'.tree ≡ v.tree → v'.failed ≡ v.failed → with_volume v' w ≡ w
   same_volume v v' shown numbers tree failed = (λ i. record w { volume = geometry (numbers i); tree = tree i; volume_failed = failed i }) ∙ sym shown
 
-  gone : (v v' : Opened D) → w ≡ with_volume v w → v'.numbers ≡ v.numbers → v'.tree ≡ v.tree → v'.failed ≡ true → with_volume v' w ≡ volume_gone w
+  pub gone : (v v' : Opened D) → w ≡ with_volume v w → v'.numbers ≡ v.numbers → v'.tree ≡ v.tree → v'.failed ≡ true → with_volume v' w ≡ volume_gone w
   gone v v' shown numbers tree failed =
       (λ i. record w { volume = geometry (numbers i); tree = tree i; volume_failed = failed i }) ∙ ap volume_gone (sym shown)
 
@@ -282,3 +282,14 @@ steps_after honest disk sectors_on failures a b c first second =
 pub steps : {D : Type 0} (honest : D → Type 0) (disk : D → Disk) (sectors_on failures : D → ℕ) (a b : Opened D) (io : Bool) → Keeps honest sectors_on failures a b io
     → (honest a.device → Leaves (disk a.device) (disk b.device) (ReflectsOr (disk a.device) a.tree)) → VolumeStep honest disk sectors_on failures a b
 steps honest disk sectors_on failures a b io k crash = record { kept = subst (Keeps honest sectors_on failures a b) (sym k.failed) k; crash = crash }
+
+-- ---- more calls of a tree never say that the device failed
+
+invalid_no_io : errno.Invalid ≢ errno.Io
+invalid_no_io is = cc
+
+not_empty_no_io : errno.NotEmpty ≢ errno.Io
+not_empty_no_io is = cc
+
+pub removed_never : (T : Tree) (directory : ℕ) → directory_removed T directory ≢ Err errno.Io
+removed_never T directory = never_if _ errno.Invalid _ invalid_no_io (never_if _ errno.NotEmpty _ not_empty_no_io (ok_no_io _))

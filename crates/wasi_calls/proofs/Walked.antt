@@ -16,14 +16,14 @@ use Rattle.path_walk.specs.Walk.{Gives}
 use Rattle.path_walk.specs.Paths.{Reached, Found, Missing, path_read, wants_directory, stays_inside, resolved, walked, as_wanted, missing, dots, ◌>>=◌}
 use Rattle.wasi_fd.specs.declared.descriptor.Opened.{Opened as OpenedEntry}
 use Rattle.wasi_calls.specs.World.{World, volume_gone}
-use Rattle.wasi_calls.specs.Checks.{Checked, numbered, walk, found}
+use Rattle.wasi_calls.specs.Checks.{Checked, guard, numbered, walk, found}
 use Rattle.wasi_calls.specs.Paths as rows
 use Rattle.wasi_calls.specs.Host.{VolumeStep}
 use Rattle.wasi_calls.specs.internal.Serving.{with_volume}
 use Rattle.wasi_calls.specs.internal.Reaching.{Reaches, Places}
 use Rattle.wasi_calls.proofs.Yields.{guard_passes, guard_fails, goes_on, stops}
 use Rattle.wasi_calls.proofs.Served.{volume_rests}
-use Rattle.wasi_calls.proofs.Volumes.{never_if, ok_no_io, numbered_io}
+use Rattle.wasi_calls.proofs.Volumes.{never_after, never_guard, never_if, ok_no_io, numbered_io}
 
 -- ---- a walk never says that the device failed
 
@@ -162,3 +162,29 @@ places T directory wants names (Err e) gives = tt
 pub missing_name_never : (r : Reached) → rows.missing r ≢ Err 29
 missing_name_never (Found serial) = other_errno 20 (λ is. absurd (omega (arith, is)))
 missing_name_never (Missing parent name) = λ is. cc
+
+-- ---- a walk in a world whose volume works never answers 29
+
+no_text : errno.BadText ≢ errno.Io
+no_text is = cc
+
+invalid : errno.Invalid ≢ errno.Io
+invalid is = cc
+
+too_long : errno.NameTooLong ≢ errno.Io
+too_long is = cc
+
+read_never : (text : List ℕ) → path_read text ≢ Err errno.Io
+read_never text =
+    never_if _ errno.NotFound _ not_found (never_if _ errno.BadText _ no_text (never_if _ errno.Invalid _ invalid
+    (never_if _ errno.NotCapable _ not_capable (never_if _ errno.NameTooLong _ too_long (ok_no_io _)))))
+
+pub walk_never : (w : World) (o : OpenedEntry) (text : List ℕ) → w.volume_failed ≡ false → walk w o text ≢ Err 29
+walk_never w o text alive =
+    never_after (numbered (path_read text)) _ (numbered_io (path_read text) (read_never text))
+    (λ names _. never_after (guard (stays_inside 0 names) 76) _ (never_guard _ 76 (λ is. absurd (omega (arith, is))))
+    (λ _ _. never_after (guard (not w.volume_failed) 29) _ (passing_never (not w.volume_failed) (ap not alive))
+    (λ _ _. numbered_io _ (resolved_never w.tree o.serial (wants_directory text) names))))
+  where
+    passing_never : (b : Bool) → b ≡ true → guard b 29 ≢ Err 29
+    passing_never b holds is = let both : ◌≡◌ {A = Checked (Unit {0})} (Ok tt) (Err 29) = sym (guard_passes b 29 holds) ∙ is in cc

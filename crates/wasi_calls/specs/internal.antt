@@ -4,3 +4,8 @@ pub mod Seeking
 pub mod Buffers
 pub mod Writing
 pub mod Outputs
+pub mod Asking
+pub mod Removing
+pub mod Opening
+pub mod Climbing
+pub mod Renaming

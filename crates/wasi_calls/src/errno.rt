@@ -40,3 +40,6 @@ pub(crate) const SPIPE: Errno = Errno(70);
 
 /// A right is missing.
 pub(crate) const NOTCAPABLE: Errno = Errno(76);
+
+/// A directory has entries in it.
+pub(crate) const NOTEMPTY: Errno = Errno(55);

@@ -44,7 +44,7 @@ pub(crate) fn reach<'p, D: Device>(
 /// The checks of a call on a path before it is walked: an open directory whose descriptor has the
 /// rights, and a path that lies in memory.
 #[tactic(auto, using(crate::proofs::Yields::goes_on, crate::proofs::Yields::stops))]
-fn enter<'t, 'm>(
+pub(crate) fn enter<'t, 'm>(
     descriptors: &Descriptors<'t>,
     memory: &'m Memory,
     fd: u32,

@@ -1,0 +1,24 @@
+use Rattle.std.proofs.Common.{ℕ, Bool, true, Err, refl, sym, ◌∙◌, ap, subst, inr}
+use Rattle.vol_tree.specs.Calls.{directory_at}
+use Rattle.vol_tree.specs.Numbers.{number_of}
+use Rattle.vol_tree.specs.Opened.{is_io}
+use Rattle.path_walk.specs.Paths.{Found}
+use Rattle.wasi_calls.specs.Paths.{open_checks}
+use Rattle.wasi_calls.specs.internal.Asking.{Asked, StopsNext}
+use Rattle.wasi_calls.proofs.Asking.{asked_gone}
+use Rattle.wasi_calls.proofs.Targets.{found_checked_never}
+use Rattle.wasi_calls.proofs.opening.found_target.Goals as goal
+
+pub returns-in-Err-clause-checks : goal.returns-in-Err-clause-checks
+returns-in-Err-clause-checks g c = λ h w slash alive shown.
+    let old = c.args.volume.now in
+    let new = c.is_directory.new.volume in
+    let io = c.in-Err.ensures.told h in
+    let asked : Asked g.D.Device.honest g.D.Device.disk g.D.Device.size g.D.Device.failures old new true =
+    subst (Asked g.D.Device.honest g.D.Device.disk g.D.Device.size g.D.Device.failures old new) (ap (λ (e : _). is_io {X = Bool} (Err e)) io) c.in-Err.ensures.asked in
+    subst (λ (n : ℕ). StopsNext (λ v. open_checks v c.args.oflags slash (Found c.args.serial)) w new n) (sym (c.refused.ensures ∙ ap number_of io))
+    (inr (record {
+      answer = refl;
+      never = found_checked_never c.args.oflags (directory_at w.tree c.args.serial);
+      after = asked_gone g.D.Device.honest g.D.Device.disk g.D.Device.size g.D.Device.failures w old new shown h asked;
+    }))

@@ -1,0 +1,7 @@
+use Rattle.std.proofs.Common.{ℕ, Option, is_some, not, ◌∙◌, ap}
+use Rattle.wasi_calls.proofs.Below.{some_next, flipped}
+use Rattle.wasi_calls.proofs.renaming.is_empty.Goals as goal
+
+pub returns-clause-told : goal.returns-clause-told
+returns-clause-told g c = λ h.
+    flipped c.is_none.result _ c.is_none.ensures ∙ (ap (λ (o : Option ℕ). not (is_some o)) (c.in_ok-list_next.ensures.answer h).0 ∙ ap not (some_next c.args.volume.now.tree c.args.directory))

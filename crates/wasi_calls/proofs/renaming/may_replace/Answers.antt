@@ -1,0 +1,35 @@
+use Rattle.std.proofs.Common.{◌≡◌, ℕ, true, Err, refl, sym, ◌∙◌, ap, subst, inr}
+use Rattle.vol_tree.specs.Numbers.{number_of}
+use Rattle.vol_tree.specs.Opened.{is_io}
+use Rattle.wasi_calls.specs.World.{World, held_open}
+use Rattle.wasi_calls.specs.declared.renaming.Facts.{Facts}
+use Rattle.wasi_calls.specs.internal.Asking.{Asked, StopsNext}
+use Rattle.wasi_calls.specs.internal.Renaming.{facts_of, replace_checked, replace_row}
+use Rattle.wasi_calls.proofs.Asking.{asked_same, asked_gone}
+use Rattle.wasi_calls.proofs.Renames.{facts_are, replaces_as, replace_never}
+use Rattle.wasi_calls.proofs.renaming.may_replace.Goals as goal
+
+pub returns-in-Ok-clause-checks : goal.returns-in-Ok-clause-checks
+returns-in-Ok-clause-checks g c = λ h w table alive shown.
+    let old = c.args.volume.now in
+    let new = c.ask_facts.new.volume in
+    let facts : c.in-Ok.facts ≡ facts_of w.tree c.args.source c.args.target =
+    facts_are old.tree c.args.source c.args.target c.in-Ok.facts (c.in-Ok.ensures.told h) ∙ ap (λ (v : World). facts_of v.tree c.args.source c.args.target) (sym shown) in
+    replaces_as w new c.args.source c.args.target (replace_checked c.in-Ok.facts c.is_held.result) c.check_replace.result
+    (λ i. replace_checked (facts i) (c.is_held.ensures w table i))
+    (asked_same g.D.Device.honest g.D.Device.disk g.D.Device.size g.D.Device.failures w old new shown alive h c.in-Ok.ensures.asked)
+    c.check_replace.ensures
+
+pub returns-in-Err-clause-checks : goal.returns-in-Err-clause-checks
+returns-in-Err-clause-checks g c = λ h w table alive shown.
+    let old = c.args.volume.now in
+    let new = c.ask_facts.new.volume in
+    let io = c.in-Err.ensures.told h in
+    let asked : Asked g.D.Device.honest g.D.Device.disk g.D.Device.size g.D.Device.failures old new true =
+    subst (Asked g.D.Device.honest g.D.Device.disk g.D.Device.size g.D.Device.failures old new) (ap (λ (e : _). is_io {X = Facts} (Err e)) io) c.in-Err.ensures.asked in
+    subst (λ (n : ℕ). StopsNext (λ v. replace_row v c.args.source c.args.target) w new n) (sym (c.refused.ensures ∙ ap number_of io))
+    (inr (record {
+      answer = refl;
+      never = replace_never (facts_of w.tree c.args.source c.args.target) (held_open w c.args.target);
+      after = asked_gone g.D.Device.honest g.D.Device.disk g.D.Device.size g.D.Device.failures w old new shown h asked;
+    }))

@@ -1,0 +1,21 @@
+use Rattle.std.proofs.Common.{◌==◌, ◌∙◌}
+use Rattle.std.proofs.lemmas.Bool.{cond-false, ne_eqb}
+use Rattle.wasi_calls.proofs.Volumes.{steps_after, steps}
+use Rattle.wasi_calls.proofs.Renames.{onto_answers}
+use Rattle.wasi_calls.proofs.renaming.rename_onto.Goals as goal
+
+pub returns-clause-answer : goal.returns-clause-answer
+returns-clause-answer g c = λ h.
+    let old = c.args.volume.now in
+    let mid = c.stat.new.self in
+    let (told, tree) = c.in-Ok.ensures.answer h in
+    onto_answers old.tree mid.tree c.rename.new.self.tree c.args.source c.args.target _ _ told.0 c.rename.result tree told.1
+    (told.2.parent ∙ cond-false (c.args.target == 1) 1 told.0.parent (ne_eqb c.args.target 1 (c.requires.below h)))
+    told.2.name
+    (c.rename.ensures.answer (c.in-Ok.ensures.kept.honest.0 h))
+
+pub returns-clause-crash : goal.returns-clause-crash
+returns-clause-crash g c =
+    (steps_after g.D.Device.honest g.D.Device.disk g.D.Device.size g.D.Device.failures c.args.volume.now c.stat.new.self c.rename.new.self
+    (record { kept = c.in-Ok.ensures.kept; tree = λ h. (c.in-Ok.ensures.answer h).1; crash = c.in-Ok.ensures.crash })
+    (steps g.D.Device.honest g.D.Device.disk g.D.Device.size g.D.Device.failures c.stat.new.self c.rename.new.self _ c.rename.ensures.kept c.rename.ensures.crash)).crash

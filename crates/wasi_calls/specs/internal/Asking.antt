@@ -1,0 +1,50 @@
+-- Bodies that only ask the volume: the part of a row that they go through, and how they may end the call.
+use Rattle.std.specs.Prelude.{◌≡◌, ◌≢◌, ◌⊎◌, ℕ, Bool, false, Result, Ok, Err}
+use Rattle.vol_sector.specs.Disk.{Disk, Leaves}
+use Rattle.vol_tree.specs.Opened.{Opened, Keeps}
+use Rattle.wasm_store.specs.declared.call.Errno.{Errno as Number}
+use Rattle.wasi_calls.specs.World.{World, volume_gone}
+use Rattle.wasi_calls.specs.Checks.{Checked}
+use Rattle.wasi_calls.specs.internal.Serving.{with_volume}
+
+module _ {D X : Type 0} where
+  -- the part is gone through in the same world, and needs the volume
+  pub record Passes (part : World → Checked X) (w : World) (new : Opened D) (x : X) : Type 0 where
+    pub is : part w ≡ Ok x
+    pub gone : part (volume_gone w) ≡ Err 29
+    pub same : with_volume new w ≡ w
+    pub working : w.volume_failed ≡ false
+
+  -- a check of the part refuses, in the same world
+  pub record Refuses (part : World → Checked X) (w : World) (new : Opened D) (e : ℕ) : Type 0 where
+    pub is : part w ≡ Err e
+    pub same : with_volume new w ≡ w
+
+  -- the volume fails in the part, or had failed before
+  pub record Fails (part : World → Checked X) (w : World) (new : Opened D) (e : ℕ) : Type 0 where
+    pub answer : e ≡ 29
+    pub gone : part (volume_gone w) ≡ Err 29
+    pub never : w.volume_failed ≡ false → part w ≢ Err 29
+    pub after : with_volume new w ≡ volume_gone w
+
+  abbrev pub Stops : (World → Checked X) → World → Opened D → ℕ → Type 0
+  Stops part w new e = Refuses part w new e ⊎ Fails part w new e
+
+  -- the volume fails in a part that comes after others
+  pub record FailsNext (part : World → Checked X) (w : World) (new : Opened D) (e : ℕ) : Type 0 where
+    pub answer : e ≡ 29
+    pub never : part w ≢ Err 29
+    pub after : with_volume new w ≡ volume_gone w
+
+  abbrev pub StopsNext : (World → Checked X) → World → Opened D → ℕ → Type 0
+  StopsNext part w new e = Refuses part w new e ⊎ FailsNext part w new e
+
+  abbrev pub Asks : (World → Checked X) → World → Opened D → Result X Number → Type 0
+  Asks part w new (Ok x) = Passes part w new x
+  Asks part w new (Err e) = Stops part w new e.0
+
+-- one question to the volume
+pub record Asked {D : Type 0} (honest : D → Type 0) (disk : D → Disk) (sectors_on failures : D → ℕ) (old new : Opened D) (io : Bool) : Type 0 where
+  pub kept : Keeps honest sectors_on failures old new io
+  pub tree : honest old.device → new.tree ≡ old.tree
+  pub crash : honest old.device → Leaves (disk old.device) (disk new.device) (λ c. ⊥)

@@ -1,0 +1,58 @@
+//! The calls on paths that change the volume alone.
+
+ghost use Rattle.wasi_fd.specs.Table.{table_of};
+ghost use Rattle.wasm_store.specs.declared.call.HostCall.TheVariants as call;
+ghost use Rattle.wasi_calls.specs.Calls.{row};
+
+use crate::arguments::word;
+use crate::inner::Inner;
+use crate::opening::OpenCall;
+use crate::renaming::RenameCall;
+use crate::{opening, removing, renaming};
+use std::io::{Read, Write};
+use vol_sector::Device;
+use wasm_store::{Errno, Memory};
+
+impl<'s, 't, D: Device, R: Read, W1: Write, W2: Write> Inner<'s, 't, D, R, W1, W2> {
+    ghost use Rattle.wasi_calls.specs.internal.Serving.{IsSetUp, KnowsEntries, Serves, errno_of};
+
+    /// `path_unlink_file(fd, path, length)`.
+    pub fn path_unlink_file(&mut self, memory: &Memory, arguments: &[u64]) -> Result<(), Errno>
+        requires set_up { IsSetUp R.remaining self.old }
+        requires known { KnowsEntries D.honest self.old.volume (table_of self.old.descriptors) }
+        ensures { (used : _) → Serves D.honest D.disk D.size D.failures R.remaining W1.contents W2.contents (λ w. row call.PathUnlinkFile w memory.now used arguments.now) self.old memory.now self.new memory.now (errno_of result) }
+    {
+        let (fd, path, len) = (word(arguments, 0), word(arguments, 1), word(arguments, 2));
+        removing::path_unlink_file(&mut self.volume, &self.descriptors, memory, fd, path, len)
+    }
+
+    /// `path_remove_directory(fd, path, length)`.
+    pub fn path_remove_directory(&mut self, memory: &Memory, arguments: &[u64]) -> Result<(), Errno>
+        requires set_up { IsSetUp R.remaining self.old }
+        requires known { KnowsEntries D.honest self.old.volume (table_of self.old.descriptors) }
+        ensures { (used : _) → Serves D.honest D.disk D.size D.failures R.remaining W1.contents W2.contents (λ w. row call.PathRemoveDirectory w memory.now used arguments.now) self.old memory.now self.new memory.now (errno_of result) }
+    {
+        let (fd, path, len) = (word(arguments, 0), word(arguments, 1), word(arguments, 2));
+        removing::path_remove_directory(&mut self.volume, &self.descriptors, memory, fd, path, len)
+    }
+
+    /// `path_open(fd, flags, path, length, oflags, base, inheriting, fdflags, result)`.
+    pub fn path_open(&mut self, memory: &mut Memory, arguments: &[u64]) -> Result<(), Errno>
+        requires set_up { IsSetUp R.remaining self.old }
+        requires known { KnowsEntries D.honest self.old.volume (table_of self.old.descriptors) }
+        ensures { (used : _) → Serves D.honest D.disk D.size D.failures R.remaining W1.contents W2.contents (λ w. row call.PathOpen w memory.old used arguments.now) self.old memory.old self.new memory.new (errno_of result) }
+    {
+        let asked = OpenCall::read(arguments);
+        opening::path_open(&mut self.volume, &mut self.descriptors, memory, &asked)
+    }
+
+    /// `path_rename(fd, path, length, fd, path, length)`.
+    pub fn path_rename(&mut self, memory: &Memory, arguments: &[u64]) -> Result<(), Errno>
+        requires set_up { IsSetUp R.remaining self.old }
+        requires known { KnowsEntries D.honest self.old.volume (table_of self.old.descriptors) }
+        ensures { (used : _) → Serves D.honest D.disk D.size D.failures R.remaining W1.contents W2.contents (λ w. row call.PathRename w memory.now used arguments.now) self.old memory.now self.new memory.now (errno_of result) }
+    {
+        let asked = RenameCall::read(arguments);
+        renaming::path_rename(&mut self.volume, &self.descriptors, memory, &asked)
+    }
+}
