@@ -26,3 +26,4 @@ pub mod Targets
 pub mod Below
 pub mod Renames
 pub mod BothWalks
+pub mod Dirents
