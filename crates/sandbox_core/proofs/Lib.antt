@@ -1,2 +1,3 @@
+pub mod Arrays
+pub mod Handing
 pub mod Reaching
-pub mod Headline

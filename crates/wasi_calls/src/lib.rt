@@ -4,7 +4,6 @@
 
 mod arguments;
 mod buffers;
-mod calling;
 mod checks;
 mod clocks;
 mod descriptors;
@@ -15,7 +14,6 @@ mod host;
 mod inner;
 mod laws;
 mod linking;
-mod missing;
 mod numbers;
 mod on_files;
 mod on_paths;
@@ -24,10 +22,8 @@ mod opening;
 mod outputs;
 mod paths;
 mod plain;
-mod preopening;
 mod removing;
 mod renaming;
-mod reading;
 mod seeking;
 mod settings;
 mod streams;

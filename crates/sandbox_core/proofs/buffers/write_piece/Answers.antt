@@ -1,0 +1,18 @@
+use Rattle.std.proofs.Common.{◌≡◌, ◌-◌, ℕ, List, length, take, drop, sym, subst, arith}
+use Rattle.std.proofs.lemmas.List.{take_all, length-drop}
+use Rattle.sandbox_core.proofs.Handing.{Begun, begun_write}
+use Rattle.sandbox_core.proofs.buffers.write_piece.Goals as goal
+
+-- `&rest[n..]` is what is left behind n bytes
+tail_of : (rest : List ℕ) (n : ℕ) → drop n rest ≡ take (length rest - n) (drop n rest)
+tail_of rest n = sym (take_all (length rest - n) (drop n rest) (omega (arith, length-drop n rest)))
+
+-- one write more
+pub loop-rest-preserved : goal.loop-rest-preserved
+loop-rest-preserved g c =
+    let rest = c.loop-rest.rest.now in
+    let n = c.in-Ok.taken in
+    let contents = g.W.Write.contents in
+    let more = begun_write contents c.args.writer.now c.loop-rest.writer c.write.new.self c.args.bytes.now rest n
+    c.if-taken-gt0.true c.in-Ok.ensures.bound c.loop-rest.invariant c.in-Ok.ensures.bytes in
+    subst (Begun contents c.args.writer.now c.write.new.self c.args.bytes.now) (tail_of rest n) more
