@@ -1,3 +1,2 @@
-pub mod Arrays
-pub mod Handing
 pub mod Reaching
+pub mod Headline

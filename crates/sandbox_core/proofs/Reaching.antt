@@ -1,5 +1,10 @@
 -- Runs that begin where others ended.
-use Rattle.std.proofs.Common.{◌≡◌, ℕ, List, [], ◌∷◌, ◌++◌, refl, sym, ap, ◌∙◌, subst}
+use Rattle.std.proofs.Common.{◌≡◌, ◌⊎◌, ℕ, List, [], ◌∷◌, ◌++◌, refl, sym, ap, ◌∙◌, subst, inl, inr, arith, append_assoc, append-nil}
+use Rattle.vol_sector.specs.Disk.{Image, Disk, Leaves}
+use Rattle.vol_tree.specs.Tree.{Tree}
+use Rattle.vol_tree.specs.Opened.{Reflects, ReflectsOr}
+use Rattle.vol_tree.specs.Stands.{Stands}
+use Rattle.vol_tree.proofs.OneTree.{one_tree}
 use Rattle.wasm_store.specs.declared.call.HostCall.{HostCall}
 use Rattle.wasm_store.specs.declared.call.Errno.{Errno}
 use Rattle.wasm_interp.specs.declared.pause.Pause.{Pause}
@@ -10,7 +15,8 @@ use Rattle.wasm_interp.specs.Machine.{Snapshot, Represents}
 use Rattle.wasm_interp.specs.declared.pause.Outcome.{Outcome}
 use Rattle.wasm_interp.specs.declared.pause.Outcome.TheVariants.{Exited, Trapped, OutOfFuel, OutOfMemory}
 use Rattle.wasm_interp.specs.Promise.{EndsAs, Paused, Resumed}
-use Rattle.sandbox_core.specs.Runs.{answered, PausesFollow, ResumesFollow, StopsAs, RunsWithin}
+use Rattle.wasi_calls.specs.Moments.{IsTurn}
+use Rattle.sandbox_core.specs.Runs.{answered, PausesFollow, ResumesFollow, StopsAs, RunsWithin, ComesBy, Left, Passed}
 
 module _ (H : Type 0) (Calls : CallsOf H) (i : Instance) where
   -- two runs of which one begins where the other ended are one run
@@ -113,3 +119,128 @@ module _ (H : Type 0) (Calls : CallsOf H) where
         units = next.4;
         stops = ends_stops i o fuel s'.used h' next.0 next.2.1;
       }
+
+-- ---- what a crash may leave
+
+module _ (H : Type 0) (Calls : CallsOf H) (disk : H → Disk) (tree : H → Tree) (honest : H → Type 0) where
+  abbrev LeftBy : Instance → H → Configuration → List (HostCall × Errno) → H → Configuration → Image → Type 0
+  LeftBy = Left H Calls disk tree
+
+  -- an image that stands for the tree of another is left like that one
+  pub like : (i : Instance) (h h' : H) (c c' : Configuration) (es : List (HostCall × Errno)) (earlier image : Image) (T : Tree)
+      → LeftBy i h c es h' c' earlier → Stands earlier T → Stands image T → LeftBy i h c es h' c' image
+  like i h h' c c' es earlier image T (inl r) stood stands =
+      let same : T ≡ r.tree = one_tree earlier T r.tree stood r.stands in
+      inl (record { earlier = r.earlier; could = r.could; tree = r.tree; stood = r.stood; stands = subst (λ (U : Tree). Stands image U) same stands })
+  like i h h' c c' es earlier image T (inr (host, comes, there)) stood stands =
+      let same : T ≡ tree host = one_tree earlier T (tree host) stood there in
+      inr (host, comes, subst (λ (U : Tree). Stands image U) same stands)
+
+  -- what a run leaves is left by a longer one
+  longer : (i : Instance) (h g h' : H) (c d c' : Configuration) (es fs : List (HostCall × Errno)) (image : Image)
+      → Reach H Calls i g d fs h' c' → LeftBy i h c es g d image → LeftBy i h c (es ++ fs) h' c' image
+  longer i h g h' c d c' es fs image rest (inl r) = inl r
+  longer i h g h' c d c' es fs image rest (inr (host, comes, there)) = inr (
+    host,
+    record {
+      at = comes.at;
+      before = comes.before;
+      after = comes.after ++ fs;
+      parts = ap (λ (xs : List (HostCall × Errno)). xs ++ fs) comes.parts ∙ append_assoc comes.before comes.after fs;
+      comes = comes.comes;
+      goes_on = reach_on H Calls i comes.after fs host g h' comes.at d c' comes.goes_on rest;
+    },
+    there,
+  )
+
+  -- what a turn after a run may leave, or what is left then
+  module _ (i : Instance) (h g h' : H) (c d c' : Configuration) (es fs : List (HostCall × Errno)) (new : Disk)
+      (first : Reach H Calls i h c es g d) (rest : Reach H Calls i g d fs h' c') (crash : Leaves (disk h) (disk g) (LeftBy i h c es g d)) where
+    at_end : (image : Image) → Stands image (tree g) → LeftBy i h c (es ++ fs) h' c' image
+    at_end image stands = inr (g, record { at = d; before = es; after = fs; parts = refl; comes = first; goes_on = rest }, stands)
+
+    reflected : (image : Image) → Reflects (disk g) image → LeftBy i h c (es ++ fs) h' c' image
+    reflected image r = elim (crash.now r.earlier r.could) [
+      | inl may ↦ inl (record { earlier = r.earlier; could = may; tree = r.tree; stood = r.stood; stands = r.stands })
+      | inr left ↦ like i h h' c c' (es ++ fs) r.earlier image r.tree (longer i h g h' c d c' es fs r.earlier rest left) r.stood r.stands
+    ]
+
+    pub leaves_on : (P : Image → Type 0) → ((image : Image) → P image → LeftBy i h c (es ++ fs) h' c' image)
+        → Leaves (disk g) new (λ image. Reflects (disk g) image ⊎ P image) → Leaves (disk h) new (LeftBy i h c (es ++ fs) h' c')
+    leaves_on P given turn = record {
+      later = omega (arith, crash.later, turn.later);
+      since = λ t image before left. elim (turn.since t image (omega (arith, crash.later, before)) left) [
+        | inl earlier ↦ elim (crash.since t image before earlier) [
+          | inl could ↦ inl could
+          | inr passed ↦ inr (longer i h g h' c d c' es fs image rest passed)
+        ]
+        | inr (inl r) ↦ inr (reflected image r)
+        | inr (inr p) ↦ inr (given image p)
+      ];
+      now = λ image may. elim (turn.now image may) [
+        | inl earlier ↦ elim (crash.now image earlier) [
+          | inl could ↦ inl could
+          | inr passed ↦ inr (longer i h g h' c d c' es fs image rest passed)
+        ]
+        | inr (inl r) ↦ inr (reflected image r)
+        | inr (inr p) ↦ inr (given image p)
+      ];
+    }
+
+    pub whole : (image : Image) → Stands image (tree h') → LeftBy i h c (es ++ fs) h' c' image
+    whole image stands = inr (h', record { at = c'; before = es ++ fs; after = []; parts = sym (append-nil (es ++ fs)); comes = reach_on H Calls i es fs h g h' c d c' first rest; goes_on = stays }, stands)
+
+    pub turn_on : IsTurn (disk g) new (tree g) (tree h') → Leaves (disk h) new (LeftBy i h c (es ++ fs) h' c')
+    turn_on turn = leaves_on (λ image. Stands image (tree g) ⊎ Stands image (tree h')) (λ image p. elim p [ inl before ↦ at_end image before | inr after ↦ whole image after ]) turn
+
+  -- a run so far with what a crash may leave
+  pub record SafeSoFar (h : H) (s : Snapshot) (h' : H) (s' : Snapshot) : Type 0 where
+    pub run : SoFar H Calls h s h' s'
+    pub honest_after : honest h → honest h'
+    pub crash : honest h → (i : Instance) (c : Configuration) (a : Represents s i c) → Leaves (disk h) (disk h') (LeftBy i h c (run.answers i c a) h' (run.last i c a))
+
+  pub safe_so_far : (h : H) (s : Snapshot) → SafeSoFar h s h s
+  safe_so_far h s = record {
+    run = so_far H Calls h s;
+    honest_after = λ is. is;
+    crash = λ is i c a. record { later = omega arith; since = λ t image before left. inl left; now = λ image may. inl may };
+  }
+
+  pub safe_on : (h g h' : H) (s t s' : Snapshot) (units : ℕ) (p : Pause) → SafeSoFar h s g t → Resumed H Calls g h' t s' units p
+      → (honest g → honest h') → (honest g → IsTurn (disk g) (disk h') (tree g) (tree h')) → SafeSoFar h s h' s'
+  unfolding so_far_on
+  safe_on h g h' s t s' units p safe more stays_honest turn = record {
+    run = so_far_on H Calls h g h' s t s' units p safe.run more;
+    honest_after = λ is. stays_honest (safe.honest_after is);
+    crash = λ is i c a.
+        let next = more.run i (safe.run.last i c a) (safe.run.stands i c a) in
+        turn_on i h g h' c (safe.run.last i c a) next.0 (safe.run.answers i c a) (answered (p ∷ [])) (disk h')
+        (safe.run.reach i c a) (paused_reach H Calls i p g h' (safe.run.last i c a) next.0 next.2) (safe.crash is i c a) (turn (safe.honest_after is));
+  }
+
+  abbrev Ran : H → Snapshot → ℕ → H → Snapshot → Outcome → Type 0
+  Ran h s fuel h' s' o = (honest h → honest h') × ((run : (i : Instance) (c : Configuration) → Represents s i c → RunsWithin H Calls i h c fuel h' o s'.used)
+      × (honest h → (i : Instance) (c : Configuration) (a : Represents s i c) → Leaves (disk h) (disk h') (Passed H Calls disk tree i h c fuel h' o s'.used (run i c a))))
+
+  -- the last resume found the fuel used
+  pub ran_out : (h g h' : H) (s t s' : Snapshot) (units fuel : ℕ) → SafeSoFar h s g t → Resumed H Calls g h' t s' units Spent → s'.used ≡ fuel
+      → (honest g → honest h') → (honest g → IsTurn (disk g) (disk h') (tree g) (tree h')) → Ran h s fuel h' s' OutOfFuel
+  unfolding so_far_on runs_out safe_on
+  ran_out h g h' s t s' units fuel safe more used stays_honest turn =
+      let all = safe_on h g h' s t s' units Spent safe more stays_honest turn in
+      (all.honest_after, (runs_out H Calls h g h' s t s' units fuel safe.run more used, all.crash))
+
+  -- the last resume found the end
+  pub ran_to_end : (h g h' : H) (s t s' : Snapshot) (units fuel : ℕ) (o : Outcome) → SafeSoFar h s g t → Resumed H Calls g h' t s' units (Ended o)
+      → (honest g → honest h') → (honest g → IsTurn (disk g) (disk h') (tree g) (tree h')) → Ran h s fuel h' s' o
+  unfolding so_far_on runs_to_end safe_on
+  ran_to_end h g h' s t s' units fuel o safe more stays_honest turn =
+      let all = safe_on h g h' s t s' units (Ended o) safe more stays_honest turn in
+      (all.honest_after, (runs_to_end H Calls h g h' s t s' units fuel o safe.run more, all.crash))
+
+  -- a commit after a run leaves no other tree
+  pub commit_after : (i : Instance) (h h' : H) (c c' : Configuration) (es : List (HostCall × Errno)) (new : Disk) → Reach H Calls i h c es h' c'
+      → Leaves (disk h) (disk h') (LeftBy i h c es h' c') → Leaves (disk h') new (ReflectsOr (disk h') (tree h')) → Leaves (disk h) new (LeftBy i h c es h' c')
+  commit_after i h h' c c' es new run crash commit =
+      subst (λ (fs : List (HostCall × Errno)). Leaves (disk h) new (LeftBy i h c fs h' c')) (append-nil es)
+      (leaves_on i h h' h' c c' c' es [] new run stays crash (λ image. Stands image (tree h')) (λ image stands. at_end i h h' h' c c' c' es [] new run stays crash image stands) commit)

@@ -1,10 +1,7 @@
-pub mod Texts
-pub mod Settings
-pub mod Checks
-pub mod Buffers
-pub mod Writing
-pub mod Rows
-pub mod Streams
+-- Read in this order: sessions with what each call of them promises, runs of a machine over a host, whole runs, and the
+-- headline over any list of resumes.
 pub mod Session
 pub mod Runs
 pub mod Report
+pub mod Headline
+pub mod internal

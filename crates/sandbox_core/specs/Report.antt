@@ -1,27 +1,49 @@
 -- What the report of a run says.
-use Rattle.std.specs.Prelude.{◌≡◌, ℕ, ◌≤◌, List, Option}
+use Rattle.std.specs.Prelude.{◌≡◌, ◌⊎◌, ℕ, ◌≤◌, List, Option, Result}
+use Rattle.vol_sector.specs.Disk.{Image, Disk, Leaves}
+use Rattle.vol_tree.specs.Opened.{Reflects}
+use Rattle.vol_tree.specs.Stands.{Stands}
+use Rattle.vol_tree.specs.Tree.{Tree}
 use Rattle.wasm_interp.specs.Configuration.{Instance, Configuration}
 use Rattle.wasm_interp.specs.Machine.{Represents}
-use Rattle.sandbox_core.specs.declared.streams.Streams.{Streams}
-use Rattle.sandbox_core.specs.declared.session.Session.{Session}
-use Rattle.sandbox_core.specs.declared.report.Report.{Report}
-use Rattle.sandbox_core.specs.Streams.{Calls}
-use Rattle.sandbox_core.specs.Session.{machine_of, streams_of, used_by}
+use Rattle.wasm_interp.specs.Steps.{CallsOf}
 use Rattle.wasm_interp.specs.declared.pause.Outcome.{Outcome}
-use Rattle.sandbox_core.specs.Runs.{RunsWithin}
+use Rattle.wasi_calls.specs.Host.{HostState, HostCalls}
+use Rattle.sandbox_core.specs.declared.report.Report.{Report}
+use Rattle.sandbox_core.specs.Session.{SessionState, Commits, used_by}
+use Rattle.sandbox_core.specs.Runs.{RunsWithin, Passed}
 
-module _ {R W1 W2 : Type 0} (out_contents : W1 → Option (List ℕ)) (err_contents : W2 → Option (List ℕ)) where
-  -- a run from the old session's configuration, whichever its machine stands for, to the new one
-  abbrev pub RunsTo : Session R W1 W2 → ℕ → Session R W1 W2 → Outcome → Type 0
-  RunsTo old fuel new outcome = (i : Instance) (c : Configuration) → Represents (machine_of old) i c
-      → RunsWithin (Streams R W1 W2) (Calls out_contents err_contents) i (streams_of old) c fuel (streams_of new) outcome (used_by new)
+module _ {D R W1 W2 : Type 0} (honest : D → Type 0) (disk : D → Disk) (sectors_on failures : D → ℕ)
+    (remaining : R → Option (List ℕ)) (out_contents : W1 → Option (List ℕ)) (err_contents : W2 → Option (List ℕ)) where
+  abbrev pub Calls : CallsOf (HostState D R W1 W2)
+  Calls = HostCalls honest disk sectors_on failures remaining out_contents err_contents
 
-  -- It tells of a run from the session's configuration, whichever the machine stands for, to these last streams.
-  pub record Reports (session : Session R W1 W2) (fuel : ℕ) (report : Report R W1 W2) : Type 0 where
-    pub streams : Streams R W1 W2
-    pub input : report.input ≡ streams.input
-    pub out : report.out ≡ streams.out.writer
-    pub err : report.err ≡ streams.err.writer
+  abbrev pub disk_of : HostState D R W1 W2 → Disk
+  disk_of h = disk h.volume.device
+
+  abbrev pub tree_of : HostState D R W1 W2 → Tree
+  tree_of h = h.volume.tree
+
+  -- A run from a configuration with these units of fuel, which ends so. Each image that a crash may leave since it began
+  -- could be left before, or stands for a tree that one could leave then, or for that of a host that the run comes by.
+  pub record RunsTo (old : SessionState D R W1 W2) (fuel : ℕ) (new : SessionState D R W1 W2) (outcome : Outcome) : Type 0 where
+    pub honest_after : honest old.host.volume.device → honest new.host.volume.device
+    pub run : (i : Instance) (c : Configuration) → Represents old.machine i c
+        → RunsWithin (HostState D R W1 W2) Calls i old.host c fuel new.host outcome (used_by new)
+    pub crash : honest old.host.volume.device → (i : Instance) (c : Configuration) (stands : Represents old.machine i c)
+        → Leaves (disk_of old.host) (disk_of new.host) (Passed (HostState D R W1 W2) Calls disk_of tree_of i old.host c fuel new.host outcome (used_by new) (run i c stands))
+
+  -- The same of a run and the commit at its end, and what is left.
+  pub record Reports (session : SessionState D R W1 W2) (fuel : ℕ) (report : Report D R W1 W2) : Type 0 where
+    pub last : SessionState D R W1 W2
+    pub used : report.used ≡ used_by last
     pub within : report.used ≤ fuel
-    pub run : (i : Instance) (c : Configuration) → Represents (machine_of session) i c
-        → RunsWithin (Streams R W1 W2) (Calls out_contents err_contents) i (streams_of session) c fuel streams report.outcome report.used
+    pub run : (i : Instance) (c : Configuration) → Represents session.machine i c
+        → RunsWithin (HostState D R W1 W2) Calls i session.host c fuel last.host report.outcome (used_by last)
+    pub volume : Commits honest disk sectors_on failures last.host.volume report.volume
+    pub crash : honest session.host.volume.device → (i : Instance) (c : Configuration) (stands : Represents session.machine i c)
+        → Leaves (disk_of session.host) (disk volume.new.device) (Passed (HostState D R W1 W2) Calls disk_of tree_of i session.host c fuel last.host report.outcome (used_by last) (run i c stands))
+    pub honest_after : honest session.host.volume.device → honest last.host.volume.device
+    pub input : report.input ≡ last.host.input.reader
+    pub out : report.out ≡ last.host.out.writer
+    pub err : report.err ≡ last.host.err.writer

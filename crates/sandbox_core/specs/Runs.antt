@@ -1,5 +1,9 @@
 -- Runs of a machine over a host: resume by resume, and all of them as one.
-use Rattle.std.specs.Prelude.{◌≡◌, ℕ, List, [], ◌∷◌}
+use Rattle.std.specs.Prelude.{◌≡◌, ◌⊎◌, ℕ, List, [], ◌∷◌, ◌++◌}
+use Rattle.vol_sector.specs.Disk.{Image, Disk}
+use Rattle.vol_tree.specs.Tree.{Tree}
+use Rattle.vol_tree.specs.Opened.{Reflects}
+use Rattle.vol_tree.specs.Stands.{Stands}
 use Rattle.wasm_store.specs.declared.call.HostCall.{HostCall}
 use Rattle.wasm_store.specs.declared.call.Errno.{Errno}
 use Rattle.wasm_interp.specs.declared.pause.Pause.{Pause}
@@ -57,3 +61,20 @@ module _ (H : Type 0) (Calls : CallsOf H) where
     pub reach : Reach H Calls i h c answers h' last
     pub units : used_by last ≡ used
     pub stops : StopsAs i outcome fuel used h' last
+
+  -- a host that a run comes by, between its beginning and its end
+  pub record ComesBy (i : Instance) (h : H) (c : Configuration) (answers : List (HostCall × Errno)) (h' : H) (c' : Configuration) (host : H) : Type 0 where
+    pub at : Configuration
+    pub before : List (HostCall × Errno)
+    pub after : List (HostCall × Errno)
+    pub parts : answers ≡ before ++ after
+    pub comes : Reach H Calls i h c before host at
+    pub goes_on : Reach H Calls i host at after h' c'
+
+  -- The image stands for a tree that a crash could leave at the beginning, or for that of a host that the run comes by.
+  module _ (disk : H → Disk) (tree : H → Tree) where
+    abbrev pub Left : Instance → H → Configuration → List (HostCall × Errno) → H → Configuration → Image → Type 0
+    Left i h c answers h' c' image = Reflects (disk h) image ⊎ ((host : H) × ComesBy i h c answers h' c' host × Stands image (tree host))
+
+    abbrev pub Passed : (i : Instance) (h : H) (c : Configuration) (fuel : ℕ) (h' : H) (outcome : Outcome) (used : ℕ) → RunsWithin i h c fuel h' outcome used → Image → Type 0
+    Passed i h c fuel h' outcome used run = Left i h c run.answers h' run.last

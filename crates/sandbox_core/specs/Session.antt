@@ -1,66 +1,135 @@
--- Sessions: a machine and the streams that answer its calls.
-use Rattle.std.specs.Prelude.{◌≡◌, ◌≢◌, ℕ, true, false, List, Option}
+-- Sessions: a machine, and the host that answers its calls.
+use Rattle.std.specs.Prelude.{◌≡◌, ◌≢◌, ℕ, true, false, Bool, List, Option, None, Result, Ok, Err}
+use Rattle.vol_sector.specs.Disk.{Image, Disk, Leaves}
+use Rattle.vol_sector.specs.declared.fault.Refused.{Refused}
+use Rattle.vol_sector.specs.declared.fault.VolumeFault.TheVariants as fault
+use Rattle.vol_tree.specs.Tree.{IsTree}
+use Rattle.vol_tree.specs.Opened.{Opened, Keeps, ReflectsOr}
+use Rattle.vol_tree.specs.Stands.{Stands}
 use Rattle.wasm_module.specs.declared.module.Module.{Module}
 use Rattle.wasm_store.specs.declared.fault.InstanceFault.TheVariants.{Memory as NoMemory}
-use Rattle.wasm_interp.specs.declared.pause.Pause.{Pause}
-use Rattle.wasm_interp.specs.Machine.{Snapshot}
 use Rattle.wasm_store.specs.Instantiation.{RefusedFor}
+use Rattle.wasm_interp.specs.declared.pause.Pause.{Pause}
+use Rattle.wasm_interp.specs.Configuration.{Instance, Configuration}
+use Rattle.wasm_interp.specs.Machine.{Snapshot, Represents}
 use Rattle.wasm_interp.specs.Promise.{Starts, Resumed}
+use Rattle.wasi_fd.specs.Table.{table_of}
+use Rattle.wasi_calls.specs.declared.settings.Settings.{Settings}
+use Rattle.wasi_calls.specs.declared.wasi_host.HostParts.{HostParts}
+use Rattle.wasi_calls.specs.Settings.{settings_fit}
+use Rattle.wasi_calls.specs.Links.{link}
+use Rattle.wasi_calls.specs.Host.{HostState, HostCalls}
+use Rattle.wasi_calls.specs.Making.{HasPreopens, preopens_of, OnlyReads}
+use Rattle.wasi_calls.specs.Moments.{IsTurn, PauseSynced}
 use Rattle.sandbox_core.specs.declared.fault.SessionFault.{SessionFault}
-use Rattle.sandbox_core.specs.declared.fault.SessionFault.TheVariants.{Setting, Instance, Memory}
-use Rattle.sandbox_core.specs.declared.settings.Settings.{Settings}
-use Rattle.sandbox_core.specs.declared.streams.Streams.{Streams}
-use Rattle.sandbox_core.specs.declared.streams.Finished.{Finished}
-use Rattle.sandbox_core.specs.declared.session.Session.{Session}
+use Rattle.sandbox_core.specs.declared.fault.SessionFault.TheVariants.{Setting, Instance as NoInstance, Device, Preopen, Memory}
 use Rattle.sandbox_core.specs.declared.session.RefusedSession.{RefusedSession}
-use Rattle.sandbox_core.specs.Settings.{settings_fit}
-use Rattle.sandbox_core.specs.Rows.{link}
-use Rattle.sandbox_core.specs.Streams.{Calls}
+use Rattle.sandbox_core.specs.declared.session.Finished.{Finished}
 
-module _ {R W1 W2 : Type 0} where
-  abbrev pub machine_of : Session R W1 W2 → Snapshot
-  machine_of session = session.machine
+-- what callers see of a session
+pub record SessionState (D R W1 W2 : Type 0) : Type 0 where
+  pub machine : Snapshot
+  pub host : HostState D R W1 W2
 
-  -- the host of the run
-  abbrev pub streams_of : Session R W1 W2 → Streams R W1 W2
-  streams_of session = session.streams
+-- the machine stands for some configuration
+pub record HasConfiguration (machine : Snapshot) : Type 0 where
+  pub instance : Instance
+  pub configuration : Configuration
+  pub stands : Represents machine instance configuration
 
-  abbrev pub used_by : Session R W1 W2 → ℕ
-  used_by session = (machine_of session).used
+-- a module can be instantiated: some machine stands for its first configuration
+abbrev pub IsInstantiable : Module → ℕ → Type 0
+IsInstantiable m pages = (machine : Snapshot) × Starts link pages m machine
 
-  -- the streams as they are now
-  abbrev pub finished : Session R W1 W2 → Finished R W1 W2
-  finished session =
-      let streams = streams_of session in
-      record { input = streams.input; out = streams.out.writer; err = streams.err.writer }
+module _ {D R W1 W2 : Type 0} where
+  abbrev pub used_by : SessionState D R W1 W2 → ℕ
+  used_by s = s.machine.used
 
-  -- streams of which none has failed
-  abbrev pub fresh_streams : R → W1 → W2 → Streams R W1 W2
-  fresh_streams input out err =
-      record { input = input; out = record { writer = out; failed = false }; err = record { writer = err; failed = false } }
+  -- what a session is made of beside its module
+  abbrev pub given : Settings → Opened D → R → W1 → W2 → HostParts D R W1 W2
+  given settings volume input out err = record { settings = settings; volume = volume; input = input; out = out; err = err }
 
-  -- the settings fit, the machine stands for the module's first configuration, and the streams are fresh
-  pub record Opens (m : Module) (settings : Settings) (input : R) (out : W1) (err : W2) (session : Session R W1 W2) : Type 0 where
-    pub fits : settings_fit settings ≡ true
-    pub starts : Starts link settings.pages m (machine_of session)
-    pub streams : streams_of session ≡ fresh_streams input out err
+  -- The settings fit, the machine stands for the module's first configuration, and no stream has failed.
+  pub record Opens (m : Module) (parts : HostParts D R W1 W2) (s : SessionState D R W1 W2) : Type 0 where
+    pub fits : settings_fit parts.settings ≡ true
+    pub starts : Starts link parts.settings.pages m s.machine
+    pub input : s.host.input ≡ record { reader = parts.input; failed = false; ended = false }
+    pub out : s.host.out ≡ record { writer = parts.out; failed = false }
+    pub err : s.host.err ≡ record { writer = parts.err; failed = false }
+    pub settings : s.host.settings ≡ parts.settings
+
+module _ {D : Type 0} (honest : D → Type 0) (disk : D → Disk) (sectors_on failures : D → ℕ) where
+  -- Nothing was done with the volume before its directories were asked for.
+  abbrev pub KeepsVolume : SessionFault → Opened D → Opened D → Type 0
+  KeepsVolume Setting old new = new ≡ old
+  KeepsVolume (NoInstance f) old new = new ≡ old
+  KeepsVolume Device old new = OnlyReads honest disk sectors_on failures old new true
+  KeepsVolume Preopen old new = OnlyReads honest disk sectors_on failures old new false
+  KeepsVolume Memory old new = new ≡ old
+
+module _ {D R W1 W2 : Type 0} (honest : D → Type 0) (disk : D → Disk) (sectors_on failures : D → ℕ) where
+  -- The host has the volume's tree, of which only reads were made, and the preopened directories.
+  pub record Shares (parts : HostParts D R W1 W2) (s : SessionState D R W1 W2) : Type 0 where
+    pub is_tree : honest parts.volume.device → IsTree parts.volume.tree
+    pub reads : OnlyReads honest disk sectors_on failures parts.volume s.host.volume false
+    pub preopens : honest parts.volume.device → HasPreopens parts.volume.tree parts.settings.preopens.now (table_of s.host.descriptors)
 
   -- a refusal has all that was handed in
-  pub record HandsBack (m : Module) (given : Settings) (r : R) (w1 : W1) (w2 : W2) (refused : RefusedSession R W1 W2) : Type 0 where
+  pub record HandsBack (m : Module) (parts : HostParts D R W1 W2) (refused : RefusedSession D R W1 W2) : Type 0 where
     pub valid : refused.valid ≡ m
-    pub settings : refused.settings ≡ given
-    pub input : refused.input ≡ r
-    pub out : refused.out ≡ w1
-    pub err : refused.err ≡ w2
+    pub settings : refused.parts.settings ≡ parts.settings
+    pub input : refused.parts.input ≡ parts.input
+    pub out : refused.parts.out ≡ parts.out
+    pub err : refused.parts.err ≡ parts.err
+    pub volume : KeepsVolume honest disk sectors_on failures refused.fault parts.volume refused.parts.volume
 
--- The reason of a refusal: the settings exactly where they don't fit, and else one of the machine.
-abbrev pub IsRefused : SessionFault → Module → Settings → Type 0
-IsRefused Setting m settings = settings_fit settings ≡ false
-IsRefused (Instance f) m settings = (settings_fit settings ≡ true) × (f ≢ NoMemory) × RefusedFor link settings.pages m f
-IsRefused Memory m settings = settings_fit settings ≡ true
+-- The reason of a refusal, in this order: the settings exactly where they don't fit, the module exactly where it can't be
+-- instantiated, the volume where it has failed then, and a path exactly where it names no directory.
+abbrev pub IsRefused : {D R W1 W2 : Type 0} → (D → Type 0) → SessionFault → Module → HostParts D R W1 W2 → Type 0
+IsRefused honest Setting m parts = settings_fit parts.settings ≡ false
+IsRefused honest (NoInstance f) m parts = (settings_fit parts.settings ≡ true) × (f ≢ NoMemory) × RefusedFor link parts.settings.pages m f
+IsRefused honest Device m parts = (settings_fit parts.settings ≡ true) × IsInstantiable m parts.settings.pages
+IsRefused honest Preopen m parts = (settings_fit parts.settings ≡ true) × IsInstantiable m parts.settings.pages
+    × (honest parts.volume.device → preopens_of parts.volume.tree parts.settings.preopens.now ≡ None)
+IsRefused honest Memory m parts = settings_fit parts.settings ≡ true
 
--- a resume is one of the machine, with the streams as its host
-module _ {R W1 W2 : Type 0} (out_contents : W1 → Option (List ℕ)) (err_contents : W2 → Option (List ℕ)) where
-  abbrev pub Resumes : Session R W1 W2 → Session R W1 W2 → ℕ → Pause → Type 0
-  Resumes old new units pause =
-      Resumed (Streams R W1 W2) (Calls out_contents err_contents) (streams_of old) (streams_of new) (machine_of old) (machine_of new) units pause
+module _ {D R W1 W2 : Type 0} (honest : D → Type 0) (disk : D → Disk) (sectors_on failures : D → ℕ)
+    (remaining : R → Option (List ℕ)) (out_contents : W1 → Option (List ℕ)) (err_contents : W2 → Option (List ℕ)) where
+  -- A resume is one of the machine over the host. Each image that a crash may leave since it began could be left before,
+  -- or stands for a tree that one could leave then, or for the tree before or after; and for the tree after where the
+  -- resume answered a sync.
+  pub record Resumes (old new : SessionState D R W1 W2) (units : ℕ) (p : Pause) : Type 0 where
+    pub run : Resumed (HostState D R W1 W2) (HostCalls honest disk sectors_on failures remaining out_contents err_contents)
+        old.host new.host old.machine new.machine units p
+    pub honest_after : honest old.host.volume.device → honest new.host.volume.device
+    pub crash : honest old.host.volume.device
+        → IsTurn (disk old.host.volume.device) (disk new.host.volume.device) old.host.volume.tree new.host.volume.tree
+    pub synced : honest old.host.volume.device
+        → PauseSynced (λ (h : HostState D R W1 W2). disk h.volume.device) (λ h. h.volume.tree) (λ h. honest h.volume.device) p new.host
+
+module _ {D : Type 0} (honest : D → Type 0) (disk : D → Disk) (sectors_on failures : D → ℕ) where
+  -- what is handed back of a volume: itself, or its device
+  abbrev pub IsHandedBack : Opened D → Result (Opened D) (Refused D) → Type 0
+  IsHandedBack v (Ok w) = w ≡ v
+  IsHandedBack v (Err r) = (r.device ≡ v.device) × (r.fault ≡ fault.Device)
+
+  abbrev pub is_refused : Result (Opened D) (Refused D) → Bool
+  is_refused (Ok w) = false
+  is_refused (Err r) = true
+
+  -- All calls so far are committed. Each image that a crash may leave since could be left before, or stands for a tree that
+  -- one could leave then, or for the tree; and at success for the tree.
+  pub record Commits (old : Opened D) (result : Result (Opened D) (Refused D)) : Type 0 where
+    pub new : Opened D
+    pub handed_back : IsHandedBack new result
+    pub kept : Keeps honest sectors_on failures old new (is_refused result)
+    pub tree : honest old.device → new.tree ≡ old.tree
+    pub crash : honest old.device → Leaves (disk old.device) (disk new.device) (ReflectsOr (disk old.device) old.tree)
+    pub durable : honest old.device → is_refused result ≡ false → (image : Image) → (disk new.device).may_leave image → Stands image old.tree
+
+  -- the volume is committed, and the streams are as they are then
+  pub record Finishes {R W1 W2 : Type 0} (old : SessionState D R W1 W2) (finished : Finished D R W1 W2) : Type 0 where
+    pub volume : Commits old.host.volume finished.volume
+    pub input : finished.input ≡ old.host.input.reader
+    pub out : finished.out ≡ old.host.out.writer
+    pub err : finished.err ≡ old.host.err.writer

@@ -1,6 +1,10 @@
 //! Why a session can't be made.
 
+ghost use Rattle.std.specs.Prelude.{◌≡◌};
+ghost use Rattle.sandbox_core.specs.internal.Faults.{of_host, of_instance};
+
 use thiserror::Error;
+use wasi_calls::HostFault;
 use wasm_interp::InstanceFault;
 
 /// Why a session can't be made.
@@ -12,7 +16,35 @@ pub enum SessionFault {
     /// The module can't be instantiated.
     #[error("{0}")]
     Instance(InstanceFault),
+    /// The volume has failed or fails.
+    #[error("fault 33")]
+    Device,
+    /// A path to be preopened is no directory of the volume.
+    #[error("fault 16")]
+    Preopen,
     /// Memory was refused.
     #[error("out of memory")]
     Memory,
+}
+
+/// The reason of a host's refusal.
+pub(crate) fn of_host(fault: HostFault) -> SessionFault
+    ensures { result ≡ of_host fault }
+{
+    match fault {
+        HostFault::Setting => SessionFault::Setting,
+        HostFault::Preopen => SessionFault::Preopen,
+        HostFault::Device => SessionFault::Device,
+        HostFault::Memory => SessionFault::Memory,
+    }
+}
+
+/// The reason of a machine's refusal.
+pub(crate) fn of_instance(fault: InstanceFault) -> SessionFault
+    ensures { result ≡ of_instance fault }
+{
+    match fault {
+        InstanceFault::Memory => SessionFault::Memory,
+        fault => SessionFault::Instance(fault),
+    }
 }

@@ -1,11 +1,22 @@
 //! Laws of runs, over the definitions alone.
 
+ghost use Rattle.sandbox_core.specs.Headline.{Headline};
 ghost use Rattle.sandbox_core.specs.Runs.{PausesCompose, ResumesCompose};
 
+use std::io::{Read, Write};
+use vol_sector::Device;
+pub use wasi_calls::{confined, confined_host, kept};
 use wasm_interp::Host;
 
 /// Any list of resumes is one run, over any host: the pauses say which calls the host answered in it.
 pub fn compose<H: Host>()
     ensures pauses { PausesCompose H H.calls }
     ensures resumes { ResumesCompose H H.calls }
+{}
+
+/// The headline, over what `Session::new` and `Session::resume` say: whatever resumes follow, the guest's steps are a run
+/// of the reduction rules over a tree of paths, each image that a crash may leave stands for the tree after a first part
+/// of its calls, with all up to the last sync that was answered, and what is outside its directories stays.
+pub fn headline<D: Device, R: Read, W1: Write, W2: Write>()
+    ensures { Headline D.honest D.disk D.size D.failures R.remaining W1.contents W2.contents }
 {}

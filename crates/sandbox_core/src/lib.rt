@@ -1,21 +1,18 @@
-//! Sessions: a module and the streams of its guest, run with exact fuel.
+//! Sessions: a module with a volume and the streams of its guest, run with exact fuel.
 #![tactic(auto)]
 
-mod buffers;
 mod fault;
 pub mod laws;
 mod loading;
-mod output;
 mod report;
 mod session;
-mod settings;
-mod streams;
 
 pub use fault::SessionFault;
 pub use loading::load;
 pub use report::{Report, run};
-pub use session::{RefusedSession, Session};
-pub use settings::{Preopen, Settings};
-pub use streams::{Finished, Streams};
+pub use session::{Finished, RefusedSession, Session};
+pub use vol_sector::Refused;
+pub use vol_tree::Volume;
+pub use wasi_calls::{HostParts, Preopen, Settings};
 pub use wasm_interp::{Errno, Host, HostCall, InstanceFault, Outcome, Pause, Trap};
 pub use wasm_valid::{LoadFault, Valid};

@@ -1,41 +1,53 @@
 //! Runs of a session from its beginning.
 
 ghost use Rattle.std.specs.Prelude.{◌≡◌, ◌≤◌};
+ghost use Rattle.sandbox_core.specs.Session.{used_by};
+ghost use Rattle.sandbox_core.specs.Report.{RunsTo, Reports};
 
-use crate::session::Session;
-use crate::streams::Finished;
+use crate::session::{Finished, Session};
 use std::io::{Read, Write};
+use vol_sector::{Device, Refused};
+use vol_tree::Volume;
 use wasm_interp::{Outcome, Pause};
 
-/// How a run ended, the units of fuel that it used, and its streams as they are then.
-#[derive(Debug, Drop)]
-pub struct Report<R, W1, W2> {
+/// How a run ended, the units of fuel that it used, and what it left: the volume, or its device where it failed, and the
+/// streams.
+#[derive(Drop)]
+pub struct Report<D: Device, R, W1, W2> {
     pub outcome: Outcome,
     pub used: u64,
+    pub volume: Result<Volume<D>, Refused<D>>,
     pub input: R,
     pub out: W1,
     pub err: W2,
 }
 
-ghost use Rattle.sandbox_core.specs.Session.{machine_of, streams_of, used_by};
-ghost use Rattle.sandbox_core.specs.Report.{RunsTo, Reports};
-
 /// Runs a session that has used nothing with so many units of fuel: until it ends, or the fuel is used and the next step
-/// takes a unit.
-pub fn run<R, W1, W2>(mut session: Session<'_, R, W1, W2>, fuel: u64) -> Report<R, W1, W2>
+/// takes a unit. Then it commits all calls, whatever the outcome.
+pub fn run<D, R, W1, W2>(
+    mut session: Session<'_, '_, '_, D, R, W1, W2>,
+    fuel: u64,
+) -> Report<D, R, W1, W2>
 where
+    D: Device + Drop,
     R: Read + Drop,
     W1: Write + Drop,
     W2: Write + Drop,
     requires { used_by session ≡ 0 }
-    ensures { Reports W1.contents W2.contents session.entry fuel result }
+    ensures { Reports D.honest D.disk D.size D.failures R.remaining W1.contents W2.contents session.entry fuel result }
 {
     let outcome = run_out(&mut session, fuel);
     let used = session.used();
-    let Finished { input, out, err } = session.finish();
+    let Finished {
+        volume,
+        input,
+        out,
+        err,
+    } = session.finish();
     Report {
         outcome,
         used,
+        volume,
         input,
         out,
         err,
@@ -43,14 +55,15 @@ where
 }
 
 /// Resumes a session until it ends, or the fuel is used and the next step takes a unit.
-fn run_out<R, W1, W2>(session: &mut Session<'_, R, W1, W2>, fuel: u64) -> Outcome
+fn run_out<D, R, W1, W2>(session: &mut Session<'_, '_, '_, D, R, W1, W2>, fuel: u64) -> Outcome
 where
+    D: Device + Drop,
     R: Read + Drop,
     W1: Write + Drop,
     W2: Write + Drop,
     requires { used_by session.old ≤ fuel }
     ensures within { used_by session.new ≤ fuel }
-    ensures run { RunsTo W1.contents W2.contents session.old fuel session.new result }
+    ensures run { RunsTo D.honest D.disk D.size D.failures R.remaining W1.contents W2.contents session.old fuel session.new result }
 {
     'running: loop {
         match session.resume(fuel - session.used()) {

@@ -1,83 +1,131 @@
 //! Sessions of a guest.
 
 ghost use Rattle.std.specs.Prelude.{◌≡◌, ◌+◌, ◌^◌, ◌<◌, IfOk, IfErr};
+ghost use Rattle.sandbox_core.specs.Session.{given, Commits};
 
-use crate::fault::SessionFault;
-use crate::settings::Settings;
-use crate::streams::{Finished, Streams};
+use crate::fault::{SessionFault, of_host, of_instance};
 use std::alloc::Global;
 use std::io::{Read, Write};
-use wasm_interp::{InstanceFault, Machine, Pause, RefusedInstance};
+use std::marker::Model;
+use vol_sector::{Device, Refused, VolumeFault};
+use vol_tree::Volume;
+use wasi_calls::{HostParts, RefusedHost, Settings, WasiHost};
+use wasm_interp::{Machine, Pause, RefusedInstance};
 use wasm_valid::Valid;
 
-/// A guest with its streams, which runs as far as it is let.
+/// A guest with its volume and its streams, which runs as far as it is let.
 #[derive(Drop)]
-pub struct Session<'a, R, W1, W2> {
+pub struct Session<'a, 's, 't, D: Device, R: Read, W1: Write, W2: Write> {
     machine: Machine<'a>,
-    streams: Streams<R, W1, W2>,
+    host: WasiHost<'s, 't, D, R, W1, W2>,
+}
+
+impl<'a, 's, 't, D: Device, R: Read, W1: Write, W2: Write> Model
+    for Session<'a, 's, 't, D, R, W1, W2> {
+    ghost use Rattle.sandbox_core.specs.Session.{SessionState, HasConfiguration};
+
+    ghost Value = { SessionState D R W1 W2 };
+
+    ghost view = { λ s. record { machine = s.machine; host = s.host } };
+
+    ghost invariant = { λ s. HasConfiguration s.machine };
 }
 
 /// What a session was to be made of, handed back with the reason.
-#[derive(Debug, Drop)]
-pub struct RefusedSession<'a, 's, 't, R, W1, W2> {
+#[derive(Drop)]
+pub struct RefusedSession<'a, 's, 't, D: Device, R, W1, W2> {
     pub valid: Valid<'a>,
-    pub settings: Settings<'s, 't>,
-    pub input: R,
-    pub out: W1,
-    pub err: W2,
+    pub parts: HostParts<'s, 't, D, R, W1, W2>,
     pub fault: SessionFault,
 }
 
-impl<'a, R, W1, W2> Session<'a, R, W1, W2>
+/// What a session leaves: the volume, or its device where it failed, and the streams.
+#[derive(Drop)]
+pub struct Finished<D: Device, R, W1, W2> {
+    pub volume: Result<Volume<D>, Refused<D>>,
+    pub input: R,
+    pub out: W1,
+    pub err: W2,
+}
+
+/// Commits all calls so far, and gives the volume back, or its device where it fails or has failed.
+fn committed<D: Device>(mut volume: Volume<D>) -> Result<Volume<D>, Refused<D>>
+    ensures { Commits D.honest D.disk D.size D.failures volume result }
+{
+    // It is refused exactly where the volume has failed then.
+    let _answer = volume.sync();
+    if volume.failed() {
+        return Err(Refused {
+            device: volume.into_device(),
+            fault: VolumeFault::Device,
+        });
+    }
+    Ok(volume)
+}
+
+impl<'a, 's, 't, D, R, W1, W2> Session<'a, 's, 't, D, R, W1, W2>
 where
+    D: Device + Drop,
     R: Read + Drop,
     W1: Write + Drop,
     W2: Write + Drop,
 {
-    ghost use Rattle.sandbox_core.specs.Session.{used_by, finished, Opens, HandsBack, IsRefused, Resumes};
+    ghost use Rattle.sandbox_core.specs.Session.{used_by, Opens, Shares, HandsBack, IsRefused, Resumes, Finishes};
 
-    /// A session of the module, which has used nothing yet.
+    /// A session of the module, which has used nothing yet. The streams are the descriptors 0 to 2, and the preopened
+    /// directories of the settings those from 3 on.
     ///
-    /// A refusal hands everything back. It comes for the settings before it comes for the module.
-    pub fn new<'s, 't>(
+    /// A refusal hands everything back. It comes for the settings first, then for the module, and then for the volume and
+    /// its directories. Only where the volume fails is anything changed: it has failed then.
+    pub fn new(
         alloc: Global,
         valid: Valid<'a>,
         settings: Settings<'s, 't>,
+        volume: Volume<D>,
         input: R,
         out: W1,
         err: W2,
-    ) -> Result<Session<'a, R, W1, W2>, RefusedSession<'a, 's, 't, R, W1, W2>>
-        ensures opens { IfOk result (Opens valid.entry settings.entry input out err) }
-        ensures hands_back { IfErr result (HandsBack valid.entry settings.entry input out err) }
-        ensures refused { IfErr result (λ r. IsRefused r.fault valid.entry settings.entry) }
+    ) -> Result<Session<'a, 's, 't, D, R, W1, W2>, RefusedSession<'a, 's, 't, D, R, W1, W2>>
+        ensures opens { IfOk result (Opens valid.entry (given settings.entry volume input out err)) }
+        ensures shares { IfOk result (Shares D.honest D.disk D.size D.failures (given settings.entry volume input out err)) }
+        ensures hands_back { IfErr result (HandsBack D.honest D.disk D.size D.failures valid.entry (given settings.entry volume input out err)) }
+        ensures refused { IfErr result (λ r. IsRefused D.honest r.fault valid.entry (given settings.entry volume input out err)) }
     {
-        if !settings.fits() {
-            return Err(RefusedSession {
-                valid,
-                settings,
-                input,
-                out,
-                err,
-                fault: SessionFault::Setting,
-            });
-        }
-        let streams = Streams::new(input, out, err);
-        match Machine::new(alloc, valid, settings.pages, &streams) {
-            Ok(machine) => Ok(Session { machine, streams }),
-            Err(RefusedInstance { valid, fault }) => {
-                let Finished { input, out, err } = streams.finish();
-                Err(RefusedSession {
+        volume.is_a_tree(); // a law for the contract
+        let parts = HostParts {
+            settings,
+            volume,
+            input,
+            out,
+            err,
+        };
+        let mut host = match WasiHost::new(alloc, parts) {
+            Ok(host) => host,
+            Err(RefusedHost { parts, fault }) => {
+                return Err(RefusedSession {
                     valid,
-                    settings,
-                    input,
-                    out,
-                    err,
-                    fault: match fault {
-                        InstanceFault::Memory => SessionFault::Memory,
-                        fault => SessionFault::Instance(fault),
-                    },
-                })
+                    parts,
+                    fault: of_host(fault),
+                });
             }
+        };
+        let machine = match Machine::new(alloc, valid, settings.pages, &host) {
+            Ok(machine) => machine,
+            Err(RefusedInstance { valid, fault }) => {
+                return Err(RefusedSession {
+                    valid,
+                    parts: host.into_parts(),
+                    fault: of_instance(fault),
+                });
+            }
+        };
+        match host.preopen() {
+            Ok(()) => Ok(Session { machine, host }),
+            Err(fault) => Err(RefusedSession {
+                valid: machine.into_valid(),
+                parts: host.into_parts(),
+                fault: of_host(fault),
+            }),
         }
     }
 
@@ -85,9 +133,9 @@ where
     /// take a unit that isn't left. A session that has ended answers the same again.
     pub fn resume(&mut self, units: u64) -> Pause
         requires { used_by self.old + units < 2 ^ 64 }
-        ensures { Resumes W1.contents W2.contents self.old self.new units result }
+        ensures { Resumes D.honest D.disk D.size D.failures R.remaining W1.contents W2.contents self.old self.new units result }
     {
-        self.machine.resume(&mut self.streams, units)
+        self.machine.resume(&mut self.host, units)
     }
 
     /// The units of fuel used so far.
@@ -97,14 +145,24 @@ where
         self.machine.used()
     }
 
-    /// The streams as they are now.
-    pub fn finish(self) -> Finished<R, W1, W2>
-        ensures { result ≡ finished self.entry }
+    /// Commits all calls so far, and gives the volume back and the streams. Where the device fails, or had failed, the
+    /// device itself is given back as `Device`.
+    pub fn finish(self) -> Finished<D, R, W1, W2>
+        ensures { Finishes D.honest D.disk D.size D.failures self.entry result }
     {
-        let Session {
-            machine: _,
-            streams,
-        } = self;
-        streams.finish()
+        let Session { machine: _, host } = self;
+        let HostParts {
+            settings: _,
+            volume,
+            input,
+            out,
+            err,
+        } = host.into_parts();
+        Finished {
+            volume: committed(volume),
+            input,
+            out,
+            err,
+        }
     }
 }

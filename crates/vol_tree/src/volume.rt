@@ -131,10 +131,11 @@ impl<D: Device> Volume<D> {
     }
 
     /// A law: on a device that keeps its model, what an open volume shows is a tree with a place for
-    /// each slot.
+    /// each slot. On any device its numbers are those that a volume may have.
     pub fn is_a_tree(&self)
         ensures tree { D.honest self.now.device → IsTree self.now.tree }
         ensures count { length self.now.tree ≡ self.now.numbers.slots }
+        ensures ranges { HasRanges self.now.numbers }
     {
         self.parts.is_a_tree();
     }

@@ -18,17 +18,17 @@ use Rattle.wasi_calls.specs.internal.Seeking.{seekable}
 use Rattle.wasi_calls.specs.internal.Serving.{KnowsEntries, IsFileOf}
 use Rattle.path_walk.specs.Walk.{IsEntryOf}
 use Rattle.wasi_calls.specs.internal.Reaching.{entered}
+use Rattle.wasi_calls.proofs.Yields.{bound, passed}
 use Rattle.wasi_calls.specs.internal.Opening.{open_entered, flags_checked}
 use Rattle.wasi_calls.specs.declared.opening.OpenCall.{OpenCall}
 use Rattle.wasi_calls.specs.internal.Renaming.{rename_allowed, rename_entered}
 use Rattle.wasi_calls.specs.declared.renaming.RenameCall.{RenameCall}
 use Rattle.wasi_calls.specs.Paths.{open_rights}
-use Rattle.wasi_calls.proofs.Yields.{bound, passed}
 use Rattle.wasi_calls.proofs.Parts as parts
 use Rattle.wasi_calls.proofs.Parts.{described, same_Ok, ok_or_some, opened_is, is_file_kind}
 
 -- a world with this table
-some_world : Table → World
+unfoldable pub some_world : Table → World
 some_world table = record {
   volume = record { version = One; data_sectors = 0 };
   tree = [];

@@ -6,7 +6,7 @@ use Rattle.wasi_fd.specs.Table.{table_of}
 use Rattle.wasi_calls.specs.World.{World}
 use Rattle.wasi_calls.specs.Confined.{IsHostOf}
 use Rattle.wasi_calls.specs.Host.{HostState, Shows, VolumeStep, HostCalls}
-use Rattle.wasi_calls.specs.Moments.{IsSound, IsTurn, CallsKeepMoments}
+use Rattle.wasi_calls.specs.Moments.{IsTurn, CallsKeepMoments}
 
 module _ {D R W1 W2 : Type 0} (honest : D → Type 0) (disk : D → Disk) (sectors_on failures : D → ℕ)
     (remaining : R → Option (List ℕ)) (out_contents : W1 → Option (List ℕ)) (err_contents : W2 → Option (List ℕ)) where
@@ -25,19 +25,20 @@ module _ {D R W1 W2 : Type 0} (honest : D → Type 0) (disk : D → Disk) (secto
         (a.volume.kept.honest.0 is_honest, (_, _, (before, refl), (after, refl), meaning));
   }
 
-  -- each image that a crash may have left since
-  since : (counts : (d : D) (image : Image) → honest d → (disk d).left_since (disk d).operation_count image → (disk d).may_leave image)
-      → (old new : Opened D) → VolumeStep honest disk sectors_on failures old new → honest old.device → IsSound (disk old.device)
+  -- what a crash may have left since
+  pub since : (old new : Opened D) → VolumeStep honest disk sectors_on failures old new → honest old.device
       → IsTurn (disk old.device) (disk new.device) old.tree new.tree
-  since counts old new step is_honest sound = let crash = step.crash is_honest in record {
+  since old new step is_honest = let crash = step.crash is_honest in record {
     later = crash.later;
-    each = λ image left. elim (crash.since (disk old.device).operation_count image (omega arith) left) [
-      | inl before ↦
-          let may = counts old.device image is_honest before in
-          let T = sound image may in
-          (T.0, T.1, inl (image, may, T.1))
-      | inr (inl (r)) ↦ (r.tree, r.stands, inl (r.earlier, r.could, r.stood))
-      | inr (inr stands) ↦ (old.tree, stands, inr (inl refl))
+    since = λ t image before left. elim (crash.since t image before left) [
+      | inl could ↦ inl could
+      | inr (inl reflects) ↦ inr (inl reflects)
+      | inr (inr stands) ↦ inr (inr (inl stands))
+    ];
+    now = λ image may. elim (crash.now image may) [
+      | inl could ↦ inl could
+      | inr (inl reflects) ↦ inr (inl reflects)
+      | inr (inr stands) ↦ inr (inr (inl stands))
     ];
   }
 
@@ -46,8 +47,8 @@ module _ {D R W1 W2 : Type 0} (honest : D → Type 0) (disk : D → Disk) (secto
       → CallsKeepMoments {H = HostState D R W1 W2} (λ h. disk h.volume.device) (λ h. h.volume.tree) (λ h. honest h.volume.device)
       (HostCalls honest disk sectors_on failures remaining out_contents err_contents)
   keep_moments now only = record {
-    turn = λ h h' m m' used x args e a is_honest sound. since only h.volume h'.volume a.volume is_honest sound;
-    synced = λ h h' m m' used x args e a is_honest sound. a.synced is_honest e refl;
+    turn = λ h h' m m' used x args e a is_honest. since h.volume h'.volume a.volume is_honest;
+    synced = λ h h' m m' used x args e a is_honest. a.synced is_honest e refl;
     exits = λ h h' m m' used x args status a. a.exits status refl;
     stays_honest = λ h h' m m' used x args e a is_honest. a.volume.kept.honest.0 is_honest;
     counts = λ h is_honest. record { counts_now = λ t image low may. now h.volume.device t image is_honest low may; only_now = λ image left. only h.volume.device image is_honest left };

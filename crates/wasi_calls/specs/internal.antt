@@ -3,9 +3,11 @@ pub mod Reaching
 pub mod Seeking
 pub mod Buffers
 pub mod Writing
-pub mod Outputs
 pub mod Asking
 pub mod Removing
 pub mod Opening
+pub mod Outputs
 pub mod Climbing
 pub mod Renaming
+pub mod Preopening
+pub mod Reading

@@ -1,6 +1,6 @@
 //! Bytes of files, and the whole volume.
 
-ghost use Rattle.std.specs.Prelude.{◌≡◌, ◌≤◌, OnOk, IsSome};
+ghost use Rattle.std.specs.Prelude.{◌≡◌, ◌≤◌, IsSome};
 ghost use Rattle.vol_sector.specs.Disk.{Image, Leaves};
 ghost use Rattle.vol_tree.specs.Tree.{entry};
 ghost use Rattle.vol_tree.specs.Opened.{Tells, Keeps, is_io};
@@ -41,8 +41,8 @@ pub(crate) fn sync<D: Device>(
     ensures answered { D.honest volume.old.device → (w : World) (m : _) → w.table ≡ table_of descriptors.now
         → w ≡ with_volume volume.old w
         → Answered (λ v. sync_row v fd (bits_of right)) w m (with_volume volume.new w) m (errno_of result) }
-    ensures durable { D.honest volume.old.device → OnOk result ((c : Image)
-        → (D.disk volume.new.device).may_leave c → Stands c volume.new.tree) }
+    ensures durable { D.honest volume.old.device → errno_of result ≡ 0 → (c : Image)
+        → (D.disk volume.new.device).may_leave c → Stands c volume.new.tree }
 {
     if let Err(errno) = entry_at(descriptors, fd, Takes::NoStreams, right) {
         return Err(errno);

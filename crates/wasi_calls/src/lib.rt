@@ -4,6 +4,7 @@
 
 mod arguments;
 mod buffers;
+mod calling;
 mod checks;
 mod clocks;
 mod descriptors;
@@ -14,6 +15,7 @@ mod host;
 mod inner;
 mod laws;
 mod linking;
+mod missing;
 mod numbers;
 mod on_files;
 mod on_paths;
@@ -22,8 +24,10 @@ mod opening;
 mod outputs;
 mod paths;
 mod plain;
+mod preopening;
 mod removing;
 mod renaming;
+mod reading;
 mod seeking;
 mod settings;
 mod streams;

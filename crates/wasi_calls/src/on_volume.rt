@@ -1,6 +1,6 @@
 //! The calls that change the volume alone.
 
-ghost use Rattle.std.specs.Prelude.{◌≡◌, OnOk};
+ghost use Rattle.std.specs.Prelude.{◌≡◌};
 ghost use Rattle.vol_sector.specs.Disk.{Image};
 ghost use Rattle.vol_tree.specs.Stands.{Stands};
 ghost use Rattle.wasi_fd.specs.Table.{table_of};
@@ -22,8 +22,8 @@ impl<'s, 't, D: Device, R: Read, W1: Write, W2: Write> Inner<'s, 't, D, R, W1, W
     pub fn fd_sync(&mut self, arguments: &[u64]) -> Result<(), Errno>
         requires { IsSetUp R.remaining self.old }
         ensures serves { (m : _) (used : _) → Serves D.honest D.disk D.size D.failures R.remaining W1.contents W2.contents (λ w. row call.FdSync w m used arguments.now) self.old m self.new m (errno_of result) }
-        ensures durable { D.honest self.old.volume.device → OnOk result ((c : Image)
-            → (D.disk self.new.volume.device).may_leave c → Stands c self.new.volume.tree) }
+        ensures durable { D.honest self.old.volume.device → errno_of result ≡ 0 → (c : Image)
+            → (D.disk self.new.volume.device).may_leave c → Stands c self.new.volume.tree }
     {
         let fd = word(arguments, 0);
         files::sync(&mut self.volume, &self.descriptors, fd, Rights::FD_SYNC)
@@ -33,8 +33,8 @@ impl<'s, 't, D: Device, R: Read, W1: Write, W2: Write> Inner<'s, 't, D, R, W1, W
     pub fn fd_datasync(&mut self, arguments: &[u64]) -> Result<(), Errno>
         requires { IsSetUp R.remaining self.old }
         ensures serves { (m : _) (used : _) → Serves D.honest D.disk D.size D.failures R.remaining W1.contents W2.contents (λ w. row call.FdDatasync w m used arguments.now) self.old m self.new m (errno_of result) }
-        ensures durable { D.honest self.old.volume.device → OnOk result ((c : Image)
-            → (D.disk self.new.volume.device).may_leave c → Stands c self.new.volume.tree) }
+        ensures durable { D.honest self.old.volume.device → errno_of result ≡ 0 → (c : Image)
+            → (D.disk self.new.volume.device).may_leave c → Stands c self.new.volume.tree }
     {
         let fd = word(arguments, 0);
         files::sync(&mut self.volume, &self.descriptors, fd, Rights::FD_DATASYNC)

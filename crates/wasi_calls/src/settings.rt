@@ -32,7 +32,7 @@ const MOST_TEXTS: usize = 1_024;
 
 const MOST_TEXT_BYTES: usize = 65_536;
 
-const MOST_PREOPENS: usize = 64;
+pub(crate) const MOST_PREOPENS: usize = 64;
 
 const LONGEST_NAME: usize = 255;
 

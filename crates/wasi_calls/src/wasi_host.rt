@@ -1,9 +1,14 @@
 //! The host of a guest: a volume, streams and supplies.
 
 ghost use Rattle.std.specs.Prelude.{◌≡◌, IfOk, IfErr};
+ghost use Rattle.wasi_calls.specs.internal.Serving.{errno_of};
 
+use crate::arguments::word;
 use crate::fault::HostFault;
+use crate::host::VolumeHost;
 use crate::inner::{Buffer, Inner};
+use crate::linking;
+use crate::preopening;
 use crate::settings::Settings;
 use crate::streams::{Input, Output};
 use std::alloc::Global;
@@ -12,6 +17,9 @@ use std::marker::Model;
 use vol_sector::Device;
 use vol_tree::Volume;
 use wasi_fd::Descriptors;
+use wasm_interp::Host;
+use wasm_module::FuncType;
+use wasm_store::{Answer, Errno, HostCall, Memory};
 
 /// How many buffers a call can name.
 const MOST_BUFFERS: usize = 1_024;
@@ -138,4 +146,84 @@ impl<'s, 't, D: Device, R: Read + Drop, W1: Write + Drop, W2: Write + Drop> Wasi
         let WasiHost { inner } = self;
         inner.into_parts()
     }
+}
+
+impl<'s, 't, D: Device, R: Read, W1: Write, W2: Write> WasiHost<'s, 't, D, R, W1, W2> {
+    ghost use Rattle.std.specs.Prelude.{ℕ, OnOk, OnErr};
+    ghost use Rattle.wasi_fd.specs.Table.{table_of, streams};
+    ghost use Rattle.wasi_calls.specs.Making.{HasPreopens, IsRefusedPreopen, HasNoMore, OnlyReads, KeepsStreams, is_device};
+
+    /// Opens the preopened directories of the settings, in order from 3 on. Each path begins with a
+    /// slash and leads from the root to a directory.
+    ///
+    /// It is refused as `Preopen` where a path names no directory, and as `Device` where the volume
+    /// has failed or fails; then none is opened.
+    pub fn preopen(&mut self) -> Result<(), HostFault>
+        requires { (n : ℕ) → table_of self.old.descriptors n ≡ streams n }
+        ensures opened { D.honest self.old.volume.device
+            → OnOk result (HasPreopens self.old.volume.tree self.old.settings.preopens.now (table_of self.new.descriptors)) }
+        ensures refused { IfErr result (IsRefusedPreopen D.honest self.old self.new) }
+        ensures closed { OnErr result (HasNoMore self.old self.new) }
+        ensures reads { OnlyReads D.honest D.disk D.size D.failures self.old.volume self.new.volume (is_device result) }
+        ensures streams { KeepsStreams self.old self.new }
+    {
+        let preopens = self.inner.settings.preopens;
+        preopening::preopen(&mut self.inner.volume, &mut self.inner.descriptors, preopens)
+    }
+}
+
+/// What a call that doesn't end the guest gives it.
+fn value_of(answered: Result<(), Errno>) -> Answer
+    ensures { result ≡ Answer.Value (record { 0 = errno_of answered }) }
+{
+    match answered {
+        Ok(()) => Answer::Value(Errno::SUCCESS),
+        Err(errno) => Answer::Value(errno),
+    }
+}
+
+impl<'s, 't, D: Device, R: Read, W1: Write, W2: Write> Host for WasiHost<'s, 't, D, R, W1, W2> {
+    ghost use Rattle.wasi_calls.specs.Links.{link};
+    ghost use Rattle.wasi_calls.specs.Host.{HostCalls};
+
+    ghost links = { λ _. link };
+
+    ghost calls = { HostCalls D.honest D.disk D.size D.failures R.remaining W1.contents W2.contents };
+
+    fn link(&self, module_name: &str, name: &str, func_type: &FuncType) -> Option<HostCall> {
+        linking::call_of(module_name, name, func_type)
+    }
+
+    fn call(
+        &mut self,
+        memory: &mut Memory,
+        used: u64,
+        call: HostCall,
+        arguments: &[u64],
+    ) -> Answer {
+        self.inner.volume.is_a_tree(); // a law for the contract
+        if let HostCall::ProcExit = call {
+            return Answer::Exit(word(arguments, 0));
+        }
+        value_of(self.inner.answer(memory, used, call, arguments))
+    }
+}
+
+impl<'s, 't, D: Device, R: Read, W1: Write, W2: Write> VolumeHost for WasiHost<
+    's,
+    't,
+    D,
+    R,
+    W1,
+    W2,
+> {
+    ghost use Rattle.wasi_calls.specs.Host.{Shows};
+
+    ghost shows = { Shows };
+
+    ghost disk = { λ h. D.disk h.volume.device };
+
+    ghost tree = { λ h. h.volume.tree };
+
+    ghost honest = { λ h. D.honest h.volume.device };
 }

@@ -1,21 +1,26 @@
-use Rattle.std.proofs.Common.{ℕ, ap, arith, subst, sym}
-use Rattle.sandbox_core.specs.Streams.{Calls}
-use Rattle.sandbox_core.specs.Session.{streams_of}
-use Rattle.sandbox_core.specs.Runs.{RunsWithin}
+use Rattle.std.proofs.Common.{arith}
+use Rattle.sandbox_core.specs.Report.{Calls, disk_of, tree_of}
+use Rattle.sandbox_core.proofs.Reaching.{commit_after}
 use Rattle.sandbox_core.proofs.report.run.Goals as goal
 
--- the report has what the run left
+-- the report has what the run and the commit left
 pub returns : goal.returns
 returns g c =
     let last = c.run_out-outcome.new.session in
-    let calls = Calls g.W1.Write.contents g.W2.Write.contents in
-    let run = c.run_out-outcome.ensures.run in
+    let ran = c.run_out-outcome.ensures.run in
+    let finishes = c.finish-volume.ensures in
     record {
-      streams = streams_of last;
-      input = ap (λ f. f.input) c.finish-input.ensures;
-      out = ap (λ f. f.out) c.finish-input.ensures;
-      err = ap (λ f. f.err) c.finish-input.ensures;
+      last = last;
+      used = c.used-used.ensures;
       within = omega (arith, c.used-used.ensures, c.run_out-outcome.ensures.within);
-      run = λ i d stands. subst (λ (n : ℕ). RunsWithin _ calls i (streams_of c.args.session) d c.args.fuel (streams_of last) c.run_out-outcome.result n)
-          (sym c.used-used.ensures) (run i d stands);
+      run = ran.run;
+      volume = finishes.volume;
+      crash = λ is i d stands. commit_after _ (Calls g.D.Device.honest g.D.Device.disk g.D.Device.size g.D.Device.failures g.R.Read.remaining g.W1.Write.contents g.W2.Write.contents)
+          (disk_of g.D.Device.honest g.D.Device.disk g.D.Device.size g.D.Device.failures g.R.Read.remaining g.W1.Write.contents g.W2.Write.contents) (tree_of g.D.Device.honest g.D.Device.disk g.D.Device.size g.D.Device.failures g.R.Read.remaining g.W1.Write.contents g.W2.Write.contents)
+          (λ h. g.D.Device.honest h.volume.device) i c.args.session.host last.host d (ran.run i d stands).last (ran.run i d stands).answers _ (ran.run i d stands).reach
+          (ran.crash is i d stands) (finishes.volume.crash (ran.honest_after is));
+      honest_after = ran.honest_after;
+      input = finishes.input;
+      out = finishes.out;
+      err = finishes.err;
     }

@@ -1,13 +1,15 @@
 use Rattle.std.proofs.Common.{arith}
-use Rattle.sandbox_core.specs.Streams.{Calls}
-use Rattle.sandbox_core.proofs.Reaching.{so_far, so_far_on, runs_out, runs_to_end}
+use Rattle.sandbox_core.specs.Report.{Calls, disk_of, tree_of}
+use Rattle.sandbox_core.proofs.Reaching.{safe_so_far, safe_on, ran_out, ran_to_end}
 use Rattle.sandbox_core.proofs.report.run_out.Goals as goal
 
 -- nothing has run yet
 pub running-init : goal.running-init
 running-init g c = record {
   within = c.requires;
-  so_far = so_far _ (Calls g.W1.Write.contents g.W2.Write.contents) c.args.session.now.streams c.args.session.now.machine;
+  so_far = safe_so_far _ (Calls g.D.Device.honest g.D.Device.disk g.D.Device.size g.D.Device.failures g.R.Read.remaining g.W1.Write.contents g.W2.Write.contents)
+      (disk_of g.D.Device.honest g.D.Device.disk g.D.Device.size g.D.Device.failures g.R.Read.remaining g.W1.Write.contents g.W2.Write.contents) (tree_of g.D.Device.honest g.D.Device.disk g.D.Device.size g.D.Device.failures g.R.Read.remaining g.W1.Write.contents g.W2.Write.contents)
+      (λ h. g.D.Device.honest h.volume.device) c.args.session.now.host c.args.session.now.machine;
 }
 
 -- one answered call more
@@ -17,9 +19,11 @@ running-preserved g c =
     let old = c.running.session in
     let new = c.resume.new.self in
     record {
-      within = let rise = c.in-Called.ensures.units_rise in omega (arith, rise, c.used.ensures, c.running.invariant.within);
-      so_far = so_far_on _ (Calls g.W1.Write.contents g.W2.Write.contents) first.streams old.streams new.streams
-          first.machine old.machine new.machine _ _ c.running.invariant.so_far c.in-Called.ensures;
+      within = let rise = c.in-Called.ensures.run.units_rise in omega (arith, rise, c.used.ensures, c.running.invariant.within);
+      so_far = safe_on _ (Calls g.D.Device.honest g.D.Device.disk g.D.Device.size g.D.Device.failures g.R.Read.remaining g.W1.Write.contents g.W2.Write.contents)
+          (disk_of g.D.Device.honest g.D.Device.disk g.D.Device.size g.D.Device.failures g.R.Read.remaining g.W1.Write.contents g.W2.Write.contents) (tree_of g.D.Device.honest g.D.Device.disk g.D.Device.size g.D.Device.failures g.R.Read.remaining g.W1.Write.contents g.W2.Write.contents)
+          (λ h. g.D.Device.honest h.volume.device) first.host old.host new.host
+          first.machine old.machine new.machine _ _ c.running.invariant.so_far c.in-Called.ensures.run c.in-Called.ensures.honest_after c.in-Called.ensures.crash;
     }
 
 -- the fuel was used
@@ -28,9 +32,12 @@ returns-in-Spent-clause-run g c =
     let first = c.args.session.now in
     let old = c.running.session in
     let new = c.resume.new.self in
-    runs_out _ (Calls g.W1.Write.contents g.W2.Write.contents) first.streams old.streams new.streams
-    first.machine old.machine new.machine _ c.args.fuel c.running.invariant.so_far c.in-Spent.ensures
-    (omega (arith, c.in-Spent.ensures.units_rise, c.used.ensures, c.running.invariant.within))
+    let ran = ran_out _ (Calls g.D.Device.honest g.D.Device.disk g.D.Device.size g.D.Device.failures g.R.Read.remaining g.W1.Write.contents g.W2.Write.contents)
+    (disk_of g.D.Device.honest g.D.Device.disk g.D.Device.size g.D.Device.failures g.R.Read.remaining g.W1.Write.contents g.W2.Write.contents) (tree_of g.D.Device.honest g.D.Device.disk g.D.Device.size g.D.Device.failures g.R.Read.remaining g.W1.Write.contents g.W2.Write.contents)
+    (λ h. g.D.Device.honest h.volume.device) first.host old.host new.host
+    first.machine old.machine new.machine _ c.args.fuel c.running.invariant.so_far c.in-Spent.ensures.run
+    (omega (arith, c.in-Spent.ensures.run.units_rise, c.used.ensures, c.running.invariant.within)) c.in-Spent.ensures.honest_after c.in-Spent.ensures.crash in
+    record { honest_after = ran.0; run = ran.1.0; crash = ran.1.1 }
 
 -- the run ended
 pub returns-in-Ended-clause-run : goal.returns-in-Ended-clause-run
@@ -38,5 +45,8 @@ returns-in-Ended-clause-run g c =
     let first = c.args.session.now in
     let old = c.running.session in
     let new = c.resume.new.self in
-    runs_to_end _ (Calls g.W1.Write.contents g.W2.Write.contents) first.streams old.streams new.streams
-    first.machine old.machine new.machine _ c.args.fuel c.in-Ended.outcome c.running.invariant.so_far c.in-Ended.ensures
+    let ran = ran_to_end _ (Calls g.D.Device.honest g.D.Device.disk g.D.Device.size g.D.Device.failures g.R.Read.remaining g.W1.Write.contents g.W2.Write.contents)
+    (disk_of g.D.Device.honest g.D.Device.disk g.D.Device.size g.D.Device.failures g.R.Read.remaining g.W1.Write.contents g.W2.Write.contents) (tree_of g.D.Device.honest g.D.Device.disk g.D.Device.size g.D.Device.failures g.R.Read.remaining g.W1.Write.contents g.W2.Write.contents)
+    (λ h. g.D.Device.honest h.volume.device) first.host old.host new.host
+    first.machine old.machine new.machine _ c.args.fuel c.in-Ended.outcome c.running.invariant.so_far c.in-Ended.ensures.run c.in-Ended.ensures.honest_after c.in-Ended.ensures.crash in
+    record { honest_after = ran.0; run = ran.1.0; crash = ran.1.1 }

@@ -1,13 +1,17 @@
 use Rattle.std.proofs.Common.{◌+◌, ◌-◌, ◌≤◌}
 use Rattle.wasm_interp.specs.Machine.{entries_left}
-use Rattle.sandbox_core.specs.Streams.{Calls}
-use Rattle.sandbox_core.proofs.Reaching.{SoFar}
+use Rattle.sandbox_core.specs.Report.{Calls, disk_of, tree_of}
+use Rattle.sandbox_core.proofs.Reaching.{SafeSoFar}
 use Rattle.sandbox_core.proofs.report.run_out.Given as goal
 
 abbrev pub invariant-running : goal.invariant-running
 invariant-running g l = record {
   within : l.session.machine.used ≤ l.fuel;
-  so_far : SoFar _ (Calls g.W1.Write.contents g.W2.Write.contents) l.initial.session.streams l.initial.session.machine l.session.streams l.session.machine;
+  so_far : SafeSoFar _ (Calls g.D.Device.honest g.D.Device.disk g.D.Device.size g.D.Device.failures g.R.Read.remaining g.W1.Write.contents g.W2.Write.contents)
+      (disk_of g.D.Device.honest g.D.Device.disk g.D.Device.size g.D.Device.failures g.R.Read.remaining g.W1.Write.contents g.W2.Write.contents)
+      (tree_of g.D.Device.honest g.D.Device.disk g.D.Device.size g.D.Device.failures g.R.Read.remaining g.W1.Write.contents g.W2.Write.contents)
+      (λ h. g.D.Device.honest h.volume.device)
+      l.initial.session.host l.initial.session.machine l.session.host l.session.machine;
 }
 
 abbrev pub decreases-running : goal.decreases-running

@@ -9,6 +9,9 @@ use Rattle.wasi_calls.specs.Calls.{Answered}
 use Rattle.wasi_calls.specs.internal.Serving.{with_volume}
 use Rattle.wasi_calls.proofs.Yields.{guard_passes, guard_fails, goes_on, stops}
 use Rattle.wasi_calls.proofs.Volumes.{is_no_err, same_tree, was_working, same_volume, refused_first, done_by, tree_refuses}
+use Rattle.wasi_fd.specs.Table.{table_of}
+use Rattle.wasi_calls.proofs.Entries.{some_world}
+use Rattle.wasi_calls.proofs.Refusals.{not_zero, entry_never_zero, number_never_zero}
 use Rattle.wasi_calls.proofs.files.sync.Goals as goal
 
 pub returns-in-Err-clause-answered : goal.returns-in-Err-clause-answered
@@ -51,3 +54,11 @@ returns-in-Err-sync-clause-answered g c = λ h w m table shown.
     (λ alive other. absurd (other is_io))
     (failed w c.args.fd right o (c.in_default.ensures (volume_gone w) table))
     (λ alive. is_no_err _ (only_world w) 29 (ok alive)))
+
+-- no refusal has the number of success
+pub returns-in-Err-clause-durable : goal.returns-in-Err-clause-durable
+unfolding some_world
+returns-in-Err-clause-durable g c = λ h zero. absurd (not_zero _ _ (entry_never_zero (some_world (table_of c.args.descriptors.now)) c.args.fd (bits_of c.args.right)) (c.in-Err.ensures (some_world (table_of c.args.descriptors.now)) refl) zero)
+
+pub returns-in-Err-sync-clause-durable : goal.returns-in-Err-sync-clause-durable
+returns-in-Err-sync-clause-durable g c = λ h zero. absurd (number_never_zero c.in-Err-sync.errno (sym c.refused.ensures ∙ zero))

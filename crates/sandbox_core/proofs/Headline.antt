@@ -1,0 +1,275 @@
+-- The headline, from what each resume says.
+use Rattle.std.proofs.Common.{◌≡◌, ◌≢◌, ◌==◌, cond, zero, suc, Result, Ok, Err, ℕ, ◌+◌, ◌-◌, ◌<◌, ◌≤◌, Bool, true, false, IsTrue, ◌&&◌, nat_lt, nat_le, List, [], ◌∷◌, ◌++◌, map, length, Option, Some, None, refl, sym, ◌∙◌, ap, subst, inl, inr, arith, slice_get}
+use Rattle.vol_sector.specs.Disk.{Image, Disk}
+use Rattle.std.proofs.lemmas.Bool.{and_parts, leb-true, ltb-false, eqb-true}
+use Rattle.std.proofs.lemmas.Option.{slice_get_within}
+use Rattle.std.specs.Option.{option_map, option_map_or}
+use Rattle.vol_tree.specs.declared.errno.Errno.{Errno as TreeErrno}
+use Rattle.vol_tree.specs.Tree.{Tree, IsTree, IsDirectory, root}
+use Rattle.vol_tree.specs.Calls.{directory_at}
+use Rattle.vol_tree.proofs.Trees.{directory_is}
+use Rattle.path_walk.specs.Paths.{Reached, Found, Missing, slash}
+use Rattle.wasi_fd.specs.declared.descriptor.Descriptor.{Descriptor}
+use Rattle.wasi_fd.specs.declared.descriptor.Descriptor.TheVariants.{Entry}
+use Rattle.wasi_fd.specs.declared.descriptor.EntryKind.TheVariants as kinds
+use Rattle.wasi_fd.specs.declared.descriptor.Opened.{Opened as OpenedEntry}
+use Rattle.wasi_fd.specs.Table.{table_of, streams}
+use Rattle.wasi_calls.specs.declared.settings.Preopen.{Preopen}
+use Rattle.wasi_calls.specs.declared.settings.Settings.{Settings}
+use Rattle.wasi_calls.specs.declared.wasi_host.HostParts.{HostParts}
+use Rattle.wasi_calls.specs.Texts.{texts_fit}
+use Rattle.wasi_calls.specs.Settings.{settings_fit, preopens_fit}
+use Rattle.wasi_calls.specs.Moments.{CountsMoments, Turns, IsSafe, PauseSynced, is_sync}
+use Rattle.wasi_calls.specs.Confined.{Begins}
+use Rattle.wasi_calls.proofs.Entries.{no_entries}
+use Rattle.wasi_calls.proofs.Hosting.{are_rows}
+use Rattle.wasi_calls.proofs.Moments.{keeps_all}
+use Rattle.wasi_calls.proofs.Confinement.{confines_host}
+use Rattle.wasi_calls.specs.Making.{found_directory, from_root, directory_named, preopened, preopens_of, table_with, HasPreopens}
+use Rattle.vol_tree.specs.Opened.{Opened}
+use Rattle.vol_tree.specs.Stands.{Stands}
+use Rattle.wasm_module.specs.declared.module.Module.{Module}
+use Rattle.wasm_store.specs.declared.call.HostCall.{HostCall}
+use Rattle.wasm_store.specs.declared.call.Errno.{Errno}
+use Rattle.wasm_store.specs.declared.call.Answer.{Answer}
+use Rattle.wasm_interp.specs.declared.pause.Pause.{Pause}
+use Rattle.wasm_interp.specs.declared.pause.Pause.TheVariants.{Called, Spent, Ended}
+use Rattle.wasm_interp.specs.Configuration.{Instance, Configuration, first_configuration}
+use Rattle.wasm_interp.specs.Steps.{CallsOf, Event, silent, answers, seen, Step, plain_step, free_step, host_answers, host_exits, in_label, in_frame, Reach, stays, goes}
+use Rattle.wasi_calls.specs.World.{World, places}
+use Rattle.wasi_calls.specs.Calls as world
+use Rattle.wasi_calls.specs.Host.{HostState, HostCalls, StreamBytes, Shows, Tells, world_of}
+use Rattle.sandbox_core.specs.Session.{SessionState, Opens, Shares}
+use Rattle.sandbox_core.proofs.Reaching.{resumes_compose}
+use Rattle.sandbox_core.specs.Runs.{ResumesFollow, answered}
+use Rattle.sandbox_core.specs.Headline.{TellAll, Upholds, Headline, History, Follow, is_synced, pauses_of, turns_of}
+
+-- ---- a run over a host whose streams tell their bytes is one over a world
+
+module _ {D R W1 W2 : Type 0} (honest : D → Type 0) (disk : D → Disk) (sectors_on failures : D → ℕ)
+    (remaining : R → Option (List ℕ)) (out_contents : W1 → Option (List ℕ)) (err_contents : W2 → Option (List ℕ)) where
+  abbrev H : Type 0
+  H = HostState D R W1 W2
+
+  abbrev CallsH : CallsOf H
+  CallsH = HostCalls honest disk sectors_on failures remaining out_contents err_contents
+
+  abbrev Told : H → StreamBytes → Type 0
+  Told = TellAll honest disk sectors_on failures remaining out_contents err_contents
+
+  -- a stream that told its bytes goes on to
+  goes_on : (known known' : Option (List ℕ)) (bytes before after : List ℕ) → known ≡ Some bytes → Tells known known' before after → (before ≡ bytes) × (known' ≡ Some after)
+  goes_on None known' bytes before after is tells = cc
+  goes_on (Some xs) known' bytes before after is (same, now) = (same ∙ cc, now)
+
+  same_bytes : (a b : StreamBytes) → a.input ≡ b.input → a.output ≡ b.output → a.errors ≡ b.errors → a ≡ b
+  same_bytes a b i o e =
+      ap (λ (xs : List ℕ). record { input = xs; output = a.output; errors = a.errors }) i
+      ∙ (ap (λ (xs : List ℕ). record { input = b.input; output = xs; errors = a.errors }) o
+      ∙ ap (λ (xs : List ℕ). record { input = b.input; output = b.output; errors = xs }) e)
+
+  call_told : (h h' : H) (m m' : List ℕ) (used : ℕ) (x : HostCall) (args : List ℕ) (answer : Answer) (b : StreamBytes) → CallsH h m used x args h' m' answer → honest h.volume.device → Told h b
+      → (b' : StreamBytes) × Told h' b' × world.Calls (world_of h b) m used x args (world_of h' b') m' answer × honest h'.volume.device
+  call_told h h' m m' used x args answer b a is_honest told =
+      let (before, after, tell, meaning) = a.row is_honest in
+      let input = goes_on (remaining h.input.reader) (remaining h'.input.reader) b.input before.input after.input told.input tell.input in
+      let output = goes_on (out_contents h.out.writer) (out_contents h'.out.writer) b.output before.output after.output told.output tell.output in
+      let errors = goes_on (err_contents h.err.writer) (err_contents h'.err.writer) b.errors before.errors after.errors told.errors tell.errors in
+      let same : before ≡ b = same_bytes before b input.0 output.0 errors.0 in (
+        after,
+        record { input = input.1; output = output.1; errors = errors.1 },
+        subst (λ (c : StreamBytes). world.Calls (world_of h c) m used x args (world_of h' after) m' answer) same meaning,
+        a.volume.kept.honest.0 is_honest,
+      )
+
+  step_told : (i : Instance) (n : ℕ) (h h' : H) (c c' : Configuration) (ev : Event) (b : StreamBytes) → Step H CallsH i n h c ev h' c' → honest h.volume.device → Told h b
+      → (b' : StreamBytes) × Told h' b' × Step World world.Calls i n (world_of h b) c ev (world_of h' b') c' × honest h'.volume.device
+  step_told i n h h' c c' ev b (plain_step r) is_honest told = (b, told, plain_step r, is_honest)
+  step_told i n h h' c c' ev b (free_step r) is_honest told = (b, told, free_step r, is_honest)
+  step_told i n h h' c c' ev b (host_answers {s = s} {memory = memory} args vs callee all count a) is_honest told =
+      let (b', told', meaning, still) = call_told h h' s.memory memory s.used _ _ _ b a is_honest told in
+      (b', told', host_answers args vs callee all count meaning, still)
+  step_told i n h h' c c' ev b (host_exits {s = s} {memory = memory} args vs callee all count a) is_honest told =
+      let (b', told', meaning, still) = call_told h h' s.memory memory s.used _ _ _ b a is_honest told in
+      (b', told', host_exits args vs callee all count meaning, still)
+  step_told i n h h' c c' ev b (in_label s) is_honest told =
+      let (b', told', step, still) = step_told i n h h' _ _ ev b s is_honest told in (b', told', in_label step, still)
+  step_told i n h h' c c' ev b (in_frame s) is_honest told =
+      let (b', told', step, still) = step_told i _ h h' _ _ ev b s is_honest told in (b', told', in_frame step, still)
+
+  pub reach_told : (i : Instance) (h h' : H) (c c' : Configuration) (es : List (HostCall × Errno)) (b : StreamBytes) → Reach H CallsH i h c es h' c' → honest h.volume.device → Told h b
+      → (b' : StreamBytes) × Told h' b' × Reach World world.Calls i (world_of h b) c es (world_of h' b') c'
+  reach_told i h h' c c' es b stays is_honest told = (b, told, stays)
+  reach_told i h h' c c' es b (goes {h' = g} {c' = d} ev fs s r) is_honest told =
+      let (b', told', step, still) = step_told i 0 h g c d ev b s is_honest told in
+      let (b'', told'', more) = reach_told i g h' d c' fs b' r still told' in
+      (b'', told'', goes ev fs step more)
+
+-- ---- preopened directories
+
+option_none : {X : Type 0} (x : X) → ◌≡◌ {A = Option X} None (Some x) → ⊥
+option_none x h = cc
+
+found_is : (T : Tree) (r : Result Reached TreeErrno) (serial : ℕ) → found_directory T r ≡ Some serial → IsDirectory T serial
+found_is T (Ok (Found s)) serial is = by_kind (directory_at T s) refl is
+  where
+    by_kind : (b : Bool) → directory_at T s ≡ b → cond b (Some s) None ≡ Some serial → IsDirectory T serial
+    by_kind true kind is = let same : s ≡ serial = cc in subst (λ (n : ℕ). IsDirectory T n) same (directory_is T s kind)
+    by_kind false kind is = cc
+found_is T (Ok (Missing parent name)) serial is = cc
+found_is T (Err e) serial is = cc
+
+from_root_is : (T : Tree) → IsTree T → (path : List ℕ) (serial : ℕ) → from_root T path ≡ Some serial → IsDirectory T serial
+from_root_is T tree [] serial is = let same : 1 ≡ serial = cc in subst (λ (n : ℕ). IsDirectory T n) same (root, tree.top, refl)
+from_root_is T tree (c ∷ rest) serial is = found_is T _ serial is
+
+named_is : (T : Tree) → IsTree T → (path : List ℕ) (serial : ℕ) → directory_named T path ≡ Some serial → IsDirectory T serial
+named_is T tree [] serial is = cc
+named_is T tree (c ∷ rest) serial is = by_slash (c == slash) is
+  where
+    by_slash : (b : Bool) → cond b (from_root T rest) None ≡ Some serial → IsDirectory T serial
+    by_slash true is = from_root_is T tree rest serial is
+    by_slash false is = cc
+
+-- each of the descriptors is one of a directory, and there are as many as settings
+AreDirectories : Tree → List Preopen → List Descriptor → Type 0
+AreDirectories T ps ds = (length ds ≡ length ps) × ((k : ℕ) (o : OpenedEntry) → slice_get ds k ≡ Some (Entry o) → IsDirectory T o.serial × (o.kind ≡ kinds.Directory))
+
+at_place : (T : Tree) (p : Preopen) (serial : ℕ) (es : List Descriptor) → IsDirectory T serial
+    → ((k : ℕ) (o : OpenedEntry) → slice_get es k ≡ Some (Entry o) → IsDirectory T o.serial × (o.kind ≡ kinds.Directory))
+    → (k : ℕ) (o : OpenedEntry) → slice_get (preopened p serial ∷ es) k ≡ Some (Entry o) → IsDirectory T o.serial × (o.kind ≡ kinds.Directory)
+at_place T p serial es there later zero o at =
+    let same : serial ≡ o.serial = cc in
+    (subst (λ (n : ℕ). IsDirectory T n) same there, cc)
+at_place T p serial es there later (suc k) o at = later k o at
+
+directories : (T : Tree) → IsTree T → (ps : List Preopen) (ds : List Descriptor) → preopens_of T ps ≡ Some ds → AreDirectories T ps ds
+unfolding AreDirectories
+directories T tree [] ds is = let none : ds ≡ [] = cc in subst (λ (ds : List Descriptor). AreDirectories T [] ds) (sym none) (refl, λ k o at. cc)
+directories T tree (p ∷ ps) ds is = by_name (directories T tree ps) (directory_named T p.path.now) refl (preopens_of T ps) refl is
+  where
+    by_name : ((es : List Descriptor) → preopens_of T ps ≡ Some es → AreDirectories T ps es) → (found : Option ℕ) → directory_named T p.path.now ≡ found → (rest : Option (List Descriptor)) → preopens_of T ps ≡ rest
+        → option_map_or (λ serial. option_map (λ (ds : List Descriptor). preopened p serial ∷ ds) rest) found None ≡ Some ds → AreDirectories T (p ∷ ps) ds
+    by_name later None named rest more is = cc
+    by_name later (Some serial) named None more is = cc
+    by_name later (Some serial) named (Some es) more is =
+        let same : preopened p serial ∷ es ≡ ds = cc in
+        let rest = later es more in
+        subst (λ (ds : List Descriptor). AreDirectories T (p ∷ ps) ds) same (ap suc rest.0, at_place T p serial es (named_is T tree p.path.now serial named) rest.1)
+
+few_preopens : (s : Settings) → settings_fit s ≡ true → length s.preopens.now ≤ 64
+few_preopens s is = leb-true (length s.preopens.now) 64 (and_parts _ _ (and_parts _ _ (and_parts _ _ is).0).1).0
+
+-- what a table with preopened directories opens
+opens : (ds : List Descriptor) (n : ℕ) (o : OpenedEntry) → table_with ds n ≡ Some (Entry o) → (k : ℕ) × (n ≡ 3 + k) × (slice_get ds k ≡ Some (Entry o))
+opens ds n o is = by_number (nat_lt n 3) refl is
+  where
+    by_number : (b : Bool) → nat_lt n 3 ≡ b → cond b (streams n) (slice_get ds (n - 3)) ≡ Some (Entry o) → (k : ℕ) × (n ≡ 3 + k) × (slice_get ds k ≡ Some (Entry o))
+    by_number true low is = absurd (no_entries streams (λ m. refl) n o is)
+    by_number false high is = (n - 3, omega (arith, ltb-false n 3 high), is)
+
+-- ---- any list of resumes
+
+module _ {D R W1 W2 : Type 0} (honest : D → Type 0) (disk : D → Disk) (sectors_on failures : D → ℕ)
+    (remaining : R → Option (List ℕ)) (out_contents : W1 → Option (List ℕ)) (err_contents : W2 → Option (List ℕ)) where
+  abbrev S : Type 0
+  S = SessionState D R W1 W2
+
+  abbrev Host : Type 0
+  Host = HostState D R W1 W2
+
+  abbrev Calls : CallsOf Host
+  Calls = HostCalls honest disk sectors_on failures remaining out_contents err_contents
+
+  abbrev disk_of : Host → Disk
+  disk_of h = disk h.volume.device
+
+  abbrev tree_of : Host → Tree
+  tree_of h = h.volume.tree
+
+  abbrev honest_of : Host → Type 0
+  honest_of h = honest h.volume.device
+
+  abbrev Follows : S → History S → S → Type 0
+  Follows = Follow honest disk sectors_on failures remaining out_contents err_contents
+
+  follows : (rs : History S) (s s' : S) → Follows s rs s' → ResumesFollow Host Calls (pauses_of rs) s.host s.machine s'.host s'.machine
+  follows [] s s' same = (ap (λ (s : S). s.host) same, ap (λ (s : S). s.machine) same)
+  follows (r ∷ rs) s s' ((units, resumes), rest) = (r.1.host, r.1.machine, units, resumes.run, follows rs r.1 s' rest)
+
+  synced_by : (p : Pause) (h : Host) → PauseSynced disk_of tree_of honest_of p h → IsTrue (is_synced p) → (image : Image) → (disk_of h).may_leave image → Stands image (tree_of h)
+  synced_by (Called c e) h told is image may =
+      let both = and_parts (is_sync c) (e.0 == 0) is in told both.0 (eqb-true e.0 0 both.1) image may
+  synced_by Spent h told is image may = cc
+  synced_by (Ended o) h told is image may = cc
+
+  module _ (now : (d : D) (t : ℕ) (image : Image) → honest d → t ≤ (disk d).operation_count → (disk d).may_leave image → (disk d).left_since t image)
+      (only : (d : D) (image : Image) → honest d → (disk d).left_since (disk d).operation_count image → (disk d).may_leave image) where
+    counts : (d : D) → honest d → CountsMoments (disk d)
+    counts d is = record { counts_now = λ t image low may. now d t image is low may; only_now = λ image left. only d image is left }
+
+    turns : (rs : History S) (s s' : S) → Follows s rs s' → honest_of s.host → Turns disk_of tree_of s.host (turns_of s rs)
+    turns [] s s' same is = tt
+    turns (r ∷ rs) s s' ((units, resumes), rest) is = (refl, resumes.crash is, synced_by r.0 r.1.host (resumes.synced is), counts r.1.host.volume.device (resumes.honest_after is), turns rs r.1 s' rest (resumes.honest_after is))
+
+    module _ (parts : HostParts D R W1 W2) (s : S) (shares : Shares honest disk sectors_on failures parts s) (is : honest parts.volume.device) where
+      still : honest_of s.host
+      still = shares.reads.kept.honest.0 is
+
+      same_tree : s.host.volume.tree ≡ parts.volume.tree
+      same_tree = shares.reads.tree is
+
+      safe : (trees : List Tree) (from : ℕ) → IsSafe (λ (v : Opened D). disk v.device) (λ v. v.tree) parts.volume trees from → IsSafe disk_of tree_of s.host trees from
+      safe trees from before = record {
+        some = before.some;
+        now = before.now ∙ sym same_tree;
+        counts = counts s.host.volume.device still;
+        each = λ image may. elim ((shares.reads.crash is).now image may) [
+          | inl could ↦ before.each image could
+          | inr never ↦ absurd never
+        ];
+      }
+
+      world_begins : (settings_fit parts.settings ≡ true) → (b : StreamBytes) → Begins (world_of s.host b)
+      unfolding AreDirectories places
+      world_begins fits b =
+          let there = shares.preopens is in
+          let dirs = directories parts.volume.tree (shares.is_tree is) parts.settings.preopens.now there.directories there.named in
+          let at = λ (fd : ℕ) (o : OpenedEntry) (open_at : table_of s.host.descriptors fd ≡ Some (Entry o)). opens there.directories fd o (sym (there.opened fd) ∙ open_at) in
+          record {
+            tree = subst IsTree (sym same_tree) (shares.is_tree is);
+            directories = λ fd o open_at.
+                let place = at fd o open_at in
+                let d = dirs.1 place.0 o place.2 in
+                (subst (λ (T : Tree). IsDirectory T o.serial) (sym same_tree) d.0, d.1);
+            few = λ fd o open_at.
+                let place = at fd o open_at in
+                omega (arith, place.1, slice_get_within there.directories place.0 (Entry o) place.2, dirs.0, few_preopens parts.settings fits);
+          }
+
+      upholds : (m : Module) (trees : List Tree) (from : ℕ) (s' : S) (rs : History S) → Opens m parts s → IsSafe (λ (v : Opened D). disk v.device) (λ v. v.tree) parts.volume trees from
+          → Follows s rs s' → Upholds honest disk sectors_on failures remaining out_contents err_contents m parts.settings.pages trees from s rs s'
+      upholds m trees from s' rs opens before follow =
+          let first = opens.starts in
+          let run = resumes_compose Host Calls first.instance (pauses_of rs) s.host s'.host s.machine s'.machine (first_configuration first.entered first.store) first.stands (follows rs s s' follow)
+          (first.instantiates.used ∙ sym first.used) in
+          record {
+            instance = first.instance;
+            store = first.store;
+            entered = first.entered;
+            instantiates = first.instantiates;
+            last = run.0;
+            run = run.2;
+            units = run.3;
+            over_paths = λ bytes told. reach_told honest disk sectors_on failures remaining out_contents err_contents first.instance s.host s'.host
+                (first_configuration first.entered first.store) run.0 (answered (pauses_of rs)) bytes run.2 still told;
+            kept = keeps_all disk_of tree_of (turns_of s rs) s.host trees from (safe trees from before) (turns rs s s' follow still);
+            confined = λ w w' shown shown_after. confines_host Calls Shows honest_of first.instance s.host s'.host w w' (first_configuration first.entered first.store) run.0 (answered (pauses_of rs))
+                (are_rows honest disk sectors_on failures remaining out_contents err_contents) still shown
+                (subst Begins (sym shown.1) (world_begins opens.fits shown.0)) run.2 shown_after;
+          }
+
+  pub headline : ((d : D) (t : ℕ) (image : Image) → honest d → t ≤ (disk d).operation_count → (disk d).may_leave image → (disk d).left_since t image)
+      → ((d : D) (image : Image) → honest d → (disk d).left_since (disk d).operation_count image → (disk d).may_leave image)
+      → Headline honest disk sectors_on failures remaining out_contents err_contents
+  headline now only m parts trees from s s' rs opens shares is before follow = upholds now only parts s shares is m trees from s' rs opens before follow

@@ -1,0 +1,13 @@
+use Rattle.std.proofs.Common.{arith}
+use Rattle.wasi_calls.specs.declared.inner.Buffer.{Buffer}
+use Rattle.wasi_calls.proofs.Overlaps.{covered_by}
+use Rattle.wasi_calls.proofs.reading.stretch_from.Goals as goal
+
+pub returns-then-at-behind : goal.returns-then-at-behind
+returns-then-at-behind c =
+    let d : Buffer = record { pointer = 0; len = 0 } in
+    record {
+      some = omega (arith, c.min.ensures);
+      within = omega (arith, c.min.ensures);
+      each = λ k le lt. covered_by k c.args.later.now c.loop-buffer.buffer-index d c.loop-buffer-test.true (omega arith) (omega (arith, c.min.ensures));
+    }

@@ -1,0 +1,37 @@
+-- How buffers that may overlap are filled.
+use Rattle.std.specs.Prelude.{◌≡◌, ℕ, ◌+◌, ◌-◌, ◌<◌, ◌≤◌, true, false, ◌&&◌, nat_le, nat_lt, min, Bool, List, [], ◌∷◌, length, take, get_or, if◌then◌else◌}
+use Rattle.std.specs.List.{list_any}
+use Rattle.wasi_calls.specs.declared.reading.Stretch.{Stretch}
+use Rattle.wasi_calls.specs.declared.reading.Stretch.TheVariants.{Covered, Free}
+use Rattle.wasm_store.specs.Bytes.{written}
+use Rattle.wasi_calls.specs.Checks.{Buffer}
+
+-- the buffers cut to so many bytes in all
+abbrev pub cut : ℕ → List Buffer → List Buffer
+cut n [] = []
+cut n (b ∷ bs) = (b.0, min b.1 n) ∷ cut (n - b.1) bs
+
+-- a place is in some of the buffers
+abbrev pub covered : ℕ → List Buffer → Bool
+covered at bs = list_any (λ b. nat_le b.0 at && nat_lt at (b.0 + b.1)) bs
+
+-- Memory while buffers are filled: a place in one that is still to be filled has its old byte, each other its last one.
+pub record HalfFilled (old last memory : List ℕ) (left : List Buffer) : Type 0 where
+  pub as_long : length memory ≡ length old
+  pub each : (at : ℕ) → get_or memory at 0 ≡ (if covered at left then get_or old at 0 else get_or last at 0)
+
+-- the places from one on, up to another, are all in the buffers, or none of them is
+pub record HasAll (at until end : ℕ) (bs : List Buffer) (test : Bool) : Type 0 where
+  pub some : at < until
+  pub within : until ≤ end
+  pub each : (k : ℕ) → at ≤ k → k < until → covered k bs ≡ test
+
+abbrev pub IsStretch : ℕ → ℕ → List Buffer → Stretch → Type 0
+IsStretch at end bs (Covered until) = HasAll at until end bs true
+IsStretch at end bs (Free until) = HasAll at until end bs false
+
+-- some of the first bytes were written at a place
+pub record IsBegun (old : List ℕ) (at : ℕ) (bytes : List ℕ) (memory : List ℕ) : Type 0 where
+  pub count : ℕ
+  pub few : count ≤ length bytes
+  pub is : memory ≡ written old at (take count bytes)
