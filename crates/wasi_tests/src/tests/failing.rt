@@ -43,6 +43,8 @@ fn answered(guest: &mut Guest<'_, '_>, memory: &mut Memory) -> Option<usize> {
         match guest.call(memory, 1, *call, arguments) {
             Answer::Value(Errno(errno)) if errno == working(i) && count == i => count += 1,
             Answer::Value(Errno(29)) => {}
+            // the file wasn't opened
+            Answer::Value(Errno(8)) if count < 2 => {}
             _ => return None,
         }
     }
