@@ -3,8 +3,9 @@
  *
  *     keys FILE put KEY VALUE     adds a record and syncs it
  *     keys FILE get KEY           writes the last value of the key
- *     keys FILE fill FROM TO      adds a record for each number and says it on standard output once it is synced
- *     keys FILE has TO            fails unless all numbers below TO are there
+ *     keys FILE fill TO           adds the records of the numbers below TO that aren't there, and says each on standard
+ *                                 output once it is synced
+ *     keys FILE has TO            fails unless the records of all numbers below TO are there, in order
  *
  * A record is a line KEY=VALUE. A last line without its end was never synced, and is cut off.
  */
@@ -69,8 +70,11 @@ static const char *value_of(char *bytes, const char *key) {
   return found;
 }
 
-static int fill(int file, long from, long to) {
+static int fill(int file, const char *bytes, long to) {
   char key[32];
+  long from = 0;
+  for (; *bytes; bytes++)
+    from += *bytes == '\n';
   for (long n = from; n < to; n++) {
     snprintf(key, sizeof key, "k%ld", n);
     if (put(file, key, key))
@@ -98,7 +102,7 @@ static int has(const char *bytes, long to) {
 
 int main(int argc, char **argv) {
   if (argc < 4) {
-    fprintf(stderr, "keys FILE put KEY VALUE | get KEY | fill FROM TO | has TO\n");
+    fprintf(stderr, "keys FILE put KEY VALUE | get KEY | fill TO | has TO\n");
     return 2;
   }
   int file = open(argv[1], O_RDWR | O_CREAT | O_APPEND, 0666);
@@ -115,8 +119,8 @@ int main(int argc, char **argv) {
   bytes[whole] = 0;
   if (!strcmp(argv[2], "put") && argc == 5)
     return put(file, argv[3], argv[4]) ? refuse("put") : 0;
-  if (!strcmp(argv[2], "fill") && argc == 5)
-    return fill(file, atol(argv[3]), atol(argv[4]));
+  if (!strcmp(argv[2], "fill"))
+    return fill(file, bytes, atol(argv[3]));
   if (!strcmp(argv[2], "has"))
     return has(bytes, atol(argv[3]));
   const char *value = value_of(bytes, argv[3]);
