@@ -4,6 +4,7 @@ mod descriptors;
 mod failing;
 mod files;
 mod guest;
+mod linking;
 mod listing;
 mod paths;
 mod streams;

@@ -92,6 +92,16 @@ fn nothing_is_done_where_a_buffer_is_bad(rt: HostRuntime) -> Result<(), Fail> {
             Call(FdWrite, &[4, 1_000, 1_024, 216], 0),
             Has(216, b"\0\0\0\0"),
             Call(FdWrite, &[4, 1_000, 1_025, 216], 28),
+            // lengths that add up to 2 ^ 32, and to one less; the array is read first
+            Put(400, b"\0\0\0\0\xFF\xFF\xFF\xFF\0\0\0\0\x01\0\0\0"),
+            Call(FdWrite, &[4, 400, 2, 70_000], 28),
+            Call(FdWrite, &[4, 400, 1, 216], 21),
+            Call(FdWrite, &[4, 65_529, 1, 216], 21),
+            Call(FdWrite, &[4, 65_536, 0, 216], 0),
+            Call(FdWrite, &[4, 65_537, 0, 216], 21),
+            // arguments are read modulo 2 ^ 32
+            Call(FdWrite, &[(1 << 32) + 4, 200, 1, 216], 0),
+            Has(216, b"\x03\0\0\0"),
         ],
     )
 }
