@@ -1,5 +1,5 @@
 -- How the preopened directories are found and opened.
-use Rattle.std.proofs.Common.{◌≡◌, ◌≢◌, ◌⊎◌, ◌<◌, ◌≤◌, ◌+◌, ◌-◌, ◌==◌, nat_lt, cond, ℕ, zero, suc, Bool, true, false, List, [], ◌∷◌, length, set, get_or, Option, Some, None, Result, Ok, Err, IsSome, inl, inr, refl, sym, ◌∙◌, ap, subst, arith, zero-add, add-one}
+use Rattle.std.proofs.Common.{◌≡◌, ◌≢◌, ◌⊎◌, ◌<◌, ◌≤◌, ◌+◌, ◌-◌, ◌==◌, nat_lt, ℕ, zero, suc, Bool, true, false, List, [], ◌∷◌, length, set, get_or, Option, Some, None, Result, Ok, Err, inl, inr, refl, sym, ◌∙◌, ap, subst, arith, zero-add}
 use Rattle.std.specs.List.{slice_get}
 use Rattle.std.specs.Option.{option_map, option_map_or}
 use Rattle.std.proofs.lemmas.Bool.{cases_Bool, cases_lt, cases_eq, cond-true, cond-false, lt-ltb, le-ltb, eq-eqb, ne_eqb, false≢true}
@@ -24,7 +24,7 @@ use Rattle.wasi_calls.specs.declared.fault.HostFault.{HostFault}
 use Rattle.wasi_calls.specs.declared.fault.HostFault.TheVariants.{Setting, Preopen, Device, Memory}
 use Rattle.wasi_calls.specs.declared.settings.Preopen.{Preopen as PreopenValue}
 use Rattle.wasi_calls.specs.Making.{OnlyReads, HasPreopens, directory_named, from_root, found_directory, preopens_of, preopened, table_with, is_device}
-use Rattle.wasi_calls.specs.internal.Preopening.{fault_as, Finds, FindsAll, AreFound, AreNumbers, AreOpen, Refuses, FoundSoFar, opened_from}
+use Rattle.wasi_calls.specs.internal.Preopening.{fault_as, Finds, FindsAll, AreFound, AreNumbers, AreOpen, FoundSoFar, opened_from}
 use Rattle.wasi_calls.specs.internal.Serving.{IsThere, KnowsEntries, is_directory_kind}
 use Rattle.wasi_calls.proofs.Entries.{no_entries}
 use Rattle.wasi_calls.proofs.Parts.{same_entry}
@@ -122,6 +122,10 @@ named_is T tree (c ∷ rest) serial is = elim (cases_eq c slash) [
 
 -- ---- the list of directories
 
+-- what stands past its end
+abbrev pub no_preopen : PreopenValue
+no_preopen = record { guest_name = record { ref_ptr = (0, 0); now = [] }; path = record { ref_ptr = (0, 0); now = [] } }
+
 abbrev both : (T : Tree) (p : PreopenValue) → Option ℕ → Option (List Descriptor) → Option (List Descriptor)
 both T p serial ds = option_map_or (λ serial. option_map (λ (ds : List Descriptor). preopened p serial ∷ ds) ds) serial None
 
@@ -188,35 +192,6 @@ module _ {D : Type 0} (honest : D → Type 0) (disk : D → Disk) (sectors_on fa
     found = λ h. found_more a.tree ps serials i serial p inside at
         (ap (λ (T : Tree). directory_named T p.path.now) (sym (before.reads.tree h)) ∙ named (before.reads.kept.honest.0 h)) (before.found h);
     numbers = numbers_more c.numbers serials i serial inside number (subst (λ (n : Superblock). AreNumbers n serials i) (sym reads.kept.numbers) before.numbers);
-  }
-
-  -- nothing was done
-  pub reads_none : (v : Opened D) → v.failed ≡ false → OnlyReads honest disk sectors_on failures v v false
-  reads_none v working = record {
-    tree = λ h. refl;
-    crash = λ h. record { later = omega arith; since = λ t c _ left. inl left; now = λ c left. inl left };
-    kept = record {
-      numbers = refl;
-      failed = working;
-      failures = λ ok. refl;
-      idle = λ failed. absurd (false≢true (sym working ∙ failed));
-      honest = ((λ h. h), (λ h. h));
-      size = refl;
-    };
-  }
-
-  pub reads_gone : (v : Opened D) → v.failed ≡ true → OnlyReads honest disk sectors_on failures v v true
-  reads_gone v failed = record {
-    tree = λ h. refl;
-    crash = λ h. record { later = omega arith; since = λ t c _ left. inl left; now = λ c left. inl left };
-    kept = record {
-      numbers = refl;
-      failed = failed;
-      failures = λ ok. absurd (false≢true (sym ok ∙ failed));
-      idle = λ failed. (refl, refl);
-      honest = ((λ h. h), (λ h. h));
-      size = refl;
-    };
   }
 
 pub opened_get : (n : ℕ) (ps : List PreopenValue) (serials : List ℕ) (k : ℕ) → slice_get (opened_from n ps serials) k ≡ option_map (λ (p : PreopenValue). preopened p (get_or serials (n + k) 0)) (slice_get ps k)
@@ -304,14 +279,6 @@ has_preopens T ps serials table found opens = record {
   opened = all_open ps serials table opens;
 }
 
--- why none was opened
-pub refuses_all : {D : Type 0} (honest : D → Type 0) (old new : Opened D) (ps : List PreopenValue) (serials : List ℕ) (fault : HostFault) → Finds {X = ℕ} None (Err fault)
-    → (honest old.device → FindsAll old.tree ps serials (Err fault)) → new.failed ≡ is_device {X = Unit {0}} (Err fault) → Refuses honest old new ps fault
-refuses_all honest old new ps serials Setting may found failed = may
-refuses_all honest old new ps serials Preopen may found failed = found
-refuses_all honest old new ps serials Device may found failed = failed
-refuses_all honest old new ps serials Memory may found failed = may
-
 -- ---- what is known of the directories that are open
 
 abbrev opened_as : PreopenValue → ℕ → OpenedEntry
@@ -373,11 +340,4 @@ knows_preopens honest v ps serials table opens numbers found = record {
       let both = found h in
       directory_there v.tree o (get_or serials one.place 0) (ap (λ (o : OpenedEntry). o.serial) one.is) (ap (λ (o : OpenedEntry). is_directory_kind o.kind) one.is)
       (named_is v.tree both.0 one.preopen.path.now (get_or serials one.place 0) (both.1 one.place one.preopen one.below one.at));
-}
-
--- while none is open
-pub knows_none : {D : Type 0} (honest : D → Type 0) (v : Opened D) (table : Table) → ((n : ℕ) → table n ≡ streams n) → KnowsEntries honest v table
-knows_none honest v table is = record {
-  numbers = λ fd o at. absurd (no_entries table is fd o at);
-  there = λ h fd o at. absurd (no_entries table is fd o at);
 }

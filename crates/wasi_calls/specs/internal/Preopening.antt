@@ -4,7 +4,7 @@ use Rattle.vol_tree.specs.Tree.{Tree}
 use Rattle.vol_tree.specs.declared.errno.Errno.{Errno}
 use Rattle.vol_tree.specs.declared.errno.Errno.TheVariants as errno
 use Rattle.vol_tree.specs.declared.superblock.Superblock.{Superblock}
-use Rattle.vol_tree.specs.Opened.{Opened, IsSerial, is_io}
+use Rattle.vol_tree.specs.Opened.{Opened, IsSerial}
 use Rattle.wasi_fd.specs.declared.descriptor.Descriptor.{Descriptor}
 use Rattle.wasi_fd.specs.Table.{Table}
 use Rattle.wasi_calls.specs.declared.settings.Preopen.{Preopen as PreopenValue}

@@ -1,4 +1,4 @@
-use Rattle.std.proofs.Common.{List, ℕ, length, sym, subst}
+use Rattle.std.proofs.Common.{length, sym, subst}
 use Rattle.vol_tree.specs.Tree.{Tree, IsTree}
 use Rattle.wasi_fd.specs.Table.{table_of}
 use Rattle.wasi_calls.specs.internal.Preopening.{AreFound}
