@@ -8,7 +8,6 @@ use crate::fault::HostFault;
 use crate::host::VolumeHost;
 use crate::inner::{Buffer, Inner};
 use crate::linking;
-use crate::preopening;
 use crate::settings::Settings;
 use crate::streams::{Input, Output};
 use std::alloc::Global;
@@ -167,8 +166,7 @@ impl<'s, 't, D: Device, R: Read, W1: Write, W2: Write> WasiHost<'s, 't, D, R, W1
         ensures reads { OnlyReads D.honest D.disk D.size D.failures self.old.volume self.new.volume (is_device result) }
         ensures streams { KeepsStreams self.old self.new }
     {
-        let preopens = self.inner.settings.preopens;
-        preopening::preopen(&mut self.inner.volume, &mut self.inner.descriptors, preopens)
+        self.inner.preopen()
     }
 }
 
