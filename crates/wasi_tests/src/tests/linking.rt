@@ -9,7 +9,7 @@ use wasm_module::{FuncType, Items, ValueType};
 use wasm_store::{Answer, Errno, HostCall, Memory};
 
 /// A type by letters: `i` is i32 and `I` is i64.
-fn types(alloc: Global, letters: &[u8]) -> Result<Items<'static, ValueType>, AllocError> {
+fn types(alloc: Global, letters: &[u8]) -> Result<Items<ValueType>, AllocError> {
     let mut types = Vec::new(alloc);
     for letter in letters {
         types.push(match letter {
