@@ -42,13 +42,13 @@ same_dirent serial e s is long few =
     let count : s.name_length ≡ length e.name = (let n : s.name_length ≡ length (take s.name_length s.name) = omega (arith, all) in n) ∙ ap length is.name in
     λ i. header serial (count i) ((ap type_of_entry is.kind ∙ same_type e.node) i) ++ is.name i
 
-pub told_next : (T : Tree) (directory after serial : ℕ) (e : TreeEntry) (s : Stat) (t : Told) → next_child T directory after ≡ Some serial → entry T serial ≡ Some e → IsStat serial e s
-    → length s.name ≡ 255 → s.name_length ≤ 255 → t.serial ≡ serial → told_bytes t ≡ dirent_of serial s → TellsNext T directory after (Some t)
-told_next T directory after serial e s t next used is long few same bytes =
+pub told_next : (T : Tree) (directory after serial : ℕ) (e : TreeEntry) (t : Told) → next_child T directory after ≡ Some serial → entry T serial ≡ Some e
+    → t.serial ≡ serial → told_bytes t ≡ dirent serial e → TellsNext T directory after (Some t)
+told_next T directory after serial e t next used same bytes =
     let on = list_goes_on T directory after serial next in
-    let both : Some on.e ≡ Some e = sym on.used ∙ used in
+    let both : ◌≡◌ {A = Option TreeEntry} (Some on.e) (Some e) = sym on.used ∙ used in
     let entry_is : on.e ≡ e = cc in
-    on.told ∙ λ i. ((ap (dirent serial) entry_is ∙ sym (bytes ∙ same_dirent serial e s is long few)) i) ++ dirents T directory (sym same i)
+    on.told ∙ λ i. (ap (dirent serial) entry_is ∙ sym bytes) i ++ dirents T directory (sym same i)
 
 pub next_used : (T : Tree) (directory after serial : ℕ) → next_child T directory after ≡ Some serial → IsSome (entry T serial)
 next_used T directory after serial next =

@@ -2,17 +2,19 @@
 
 ghost use Rattle.std.specs.Prelude.{◌≡◌, ◌<◌, ◌≤◌, ◌+◌, ◌-◌, ◌^◌, ◌++◌, min, length, take, drop, true, false, Ok, Err, IfOk, IfErr, IfSome, OnOk, MatchResult};
 ghost use Rattle.vol_tree.specs.declared.errno.Errno.TheVariants as vol_errno;
+ghost use Rattle.vol_tree.specs.Tree.{Entry};
+ghost use Rattle.vol_tree.specs.Stat.{IsStat};
 ghost use Rattle.vol_tree.specs.Opened.{TellsBytes, is_io};
 ghost use Rattle.wasm_store.specs.Bytes.{written};
 ghost use Rattle.wasi_fd.specs.Table.{table_of};
 ghost use Rattle.wasi_calls.specs.World.{World};
-ghost use Rattle.wasi_calls.specs.Files.{dirents, fd_readdir as list_row};
+ghost use Rattle.wasi_calls.specs.Files.{dirent, dirents, fd_readdir as list_row};
 ghost use Rattle.wasi_calls.specs.Calls.{Answered};
 ghost use Rattle.wasi_calls.specs.Host.{VolumeStep};
 ghost use Rattle.wasi_calls.specs.internal.Serving.{errno_of, with_volume, type_of_entry};
 ghost use Rattle.wasi_calls.specs.internal.Asking.{Asked};
 ghost use Rattle.wasi_calls.specs.internal.Reading.{IsBegun};
-ghost use Rattle.wasi_calls.specs.internal.Listing.{listable, header, dirent_of, told_bytes, TellsNext};
+ghost use Rattle.wasi_calls.specs.internal.Listing.{listable, header, told_bytes, TellsNext};
 
 use crate::arguments::{long, word};
 use crate::checks::{Takes, check_range, entry_at, write_bytes};
@@ -97,7 +99,7 @@ fn describe(serial: u32, stat: &Stat) -> Told
     ensures serial { result.serial ≡ serial }
     ensures least { 24 ≤ result.len }
     ensures most { result.len ≤ 279 }
-    ensures bytes { told_bytes result ≡ dirent_of serial stat.now }
+    ensures told { (e : Entry) → IsStat serial e stat.now → told_bytes result ≡ dirent serial e }
 {
     let beginning = header(serial, stat.name_length, file_type(stat.kind));
     let mut bytes = [0; 279];
