@@ -27,6 +27,9 @@ use Rattle.wasi_calls.specs.internal.Listing.{listable, header, dirent_of, told_
 use Rattle.wasi_calls.proofs.Yields.{goes_on, stops}
 use Rattle.wasi_calls.proofs.Serving.{answers_refused}
 use Rattle.wasi_calls.proofs.Volumes.{tree_called_alive, tree_called_gone, is_no_err}
+use Rattle.wasi_calls.proofs.Overlaps.{written_over, length_written}
+use Rattle.wasi_calls.proofs.Prepared.{refilled}
+use Rattle.std.specs.List.{refill}
 use Rattle.wasi_calls.proofs.Dirents.{told_from, over, list_ends, list_goes_on}
 
 -- ---- one entry
@@ -146,6 +149,43 @@ module _ (T : Tree) (directory cookie : ℕ) (before : List ℕ) where
     pub tells_broken : (U : Tree) (e : Errno) → e ≡ errno.Io → U ≡ T → TellsBytes (take (length before) (dirents T directory cookie)) before part T U (Err e)
     unfolding meant
     tells_broken U e io same = (io, same, (place, long_meant, begun))
+
+-- ---- a part of memory
+
+-- bytes put over the first of those of a part
+pub part_written : (m xs before after : List ℕ) (p len n : ℕ) → p + len ≤ length m → before ≡ take len (drop p m) → n ≡ length xs → n ≤ len → after ≡ xs ++ drop n before
+    → refill (length m) m (written m p after) ≡ written m p xs
+part_written m xs before after p len n inside is count few stands =
+    let over : after ≡ xs ++ drop (length xs) (take len (drop p m)) = stands ∙ λ i. xs ++ drop (count i) (is i) in
+    let same : written m p after ≡ written m p xs = ap (written m p) over ∙ written_over m xs p len inside (omega arith) in
+    ap (refill (length m) m) same ∙ refilled (length m) (written m p xs) _ (length_written m xs p (omega arith))
+
+pub part_long : (m before : List ℕ) (p len : ℕ) → p + len ≤ length m → before ≡ take len (drop p m) → length before ≡ len
+part_long m before p len inside is =
+    let a = length-drop p m in
+    let b = length-take len (drop p m) in
+    ap length is ∙ (let all : length (take len (drop p m)) ≡ len = omega (arith, a, b, inside) in all)
+
+pub part_listed : (m all before after : List ℕ) (p len n : ℕ) → p + len ≤ length m → before ≡ take len (drop p m) → n ≡ length (take (length before) all) → after ≡ take (length before) all ++ drop n before
+    → refill (length m) m (written m p after) ≡ written m p (take len all)
+part_listed m all before after p len n inside is count stands =
+    let long = part_long m before p len inside is in
+    let most = length-take (length before) all in
+    part_written m (take (length before) all) before after p len n inside is count (omega (arith, count, most, long)) stands
+    ∙ ap (λ (k : ℕ). written m p (take k all)) long
+
+pub part_begun : (m all before after : List ℕ) (p len n : ℕ) → p + len ≤ length m → before ≡ take len (drop p m) → n ≤ length (take (length before) all) → after ≡ take n (take (length before) all) ++ drop n before
+    → IsBegun m p (take len all) (refill (length m) m (written m p after))
+part_begun m all before after p len n inside is few stands =
+    let long = part_long m before p len inside is in
+    let most = length-take (length before) all in
+    let count = length-take n (take (length before) all) in
+    record {
+      count = n;
+      few = (let same : length (take (length before) all) ≡ length (take len all) = ap (λ (k : ℕ). length (take k all)) long in omega (arith, few, same));
+      is = part_written m (take n (take (length before) all)) before after p len n inside is (omega (arith, count, few)) (omega (arith, few, most, long)) stands
+          ∙ ap (λ (k : ℕ). written m p (take n (take k all))) long;
+    }
 
 -- ---- some of the bytes are written
 
