@@ -26,7 +26,9 @@ use Rattle.wasi_calls.specs.internal.Reading.{IsBegun}
 use Rattle.wasi_calls.specs.internal.Listing.{listable, header, dirent_of, told_bytes, TellsNext, HasTold}
 use Rattle.wasi_calls.proofs.Yields.{goes_on, stops}
 use Rattle.wasi_calls.proofs.Serving.{answers_refused}
-use Rattle.wasi_calls.proofs.Volumes.{tree_called_alive, tree_called_gone, is_no_err}
+use Rattle.wasi_calls.specs.internal.Asking.{Asked}
+use Rattle.wasi_calls.proofs.Asking.{asked_same, asked_gone}
+use Rattle.wasi_calls.proofs.Volumes.{was_working, done_by, tree_called_alive, tree_called_gone, is_no_err}
 use Rattle.wasi_calls.proofs.Overlaps.{written_over, length_written}
 use Rattle.wasi_calls.proofs.Prepared.{refilled}
 use Rattle.std.specs.List.{refill}
@@ -205,3 +207,88 @@ some_over (suc n) [] old few fits i = absurd (omega arith)
 some_over (suc n) (b ∷ bytes) [] few fits i = absurd (omega arith)
 some_over (suc n) (b ∷ bytes) (o ∷ old) few fits zero = inr refl
 some_over (suc n) (b ∷ bytes) (o ∷ old) few fits (suc i) = some_over n bytes old (omega arith) (omega arith) i
+
+-- where a beginning of the bytes is written, each place has its old byte or its last one
+pub begun_mixed : (m bytes m' : List ℕ) (p : ℕ) → p + length bytes ≤ length m → IsBegun m p bytes m' → IsMixed m (written m p bytes) m'
+unfolding Either
+begun_mixed m bytes m' p inside b =
+    let n : ℕ = b.count in
+    let xs : List ℕ = take n bytes in
+    let front : List ℕ = take p m in
+    let rest : List ℕ = drop p m in
+    let few = b.few in
+    let a = length-drop p m in
+    let c = length-take n bytes in
+    let count : length xs ≡ n = omega (arith, c, few) in
+    let old_is : front ++ rest ≡ m = take-append-drop p m in
+    let last_is : front ++ (bytes ++ drop (length bytes) rest) ≡ written m p bytes = ap (λ (l : List ℕ). front ++ (bytes ++ l)) (drop-drop (length bytes) p m) in
+    let now_is : front ++ (xs ++ drop n rest) ≡ m' =
+    ap (λ (l : List ℕ). front ++ (xs ++ l)) (drop-drop n p m ∙ ap (λ (k : ℕ). drop (p + k) m) (sym count)) ∙ sym b.is in
+    let each : Either (front ++ rest) (front ++ (bytes ++ drop (length bytes) rest)) (front ++ (xs ++ drop n rest)) =
+    behind_same front rest (bytes ++ drop (length bytes) rest) (xs ++ drop n rest) (some_over n bytes rest few (omega (arith, a, inside))) in
+    record {
+      as_long = ap length b.is ∙ length_written m xs p (omega (arith, count, few, inside));
+      each = subst (λ (l : List ℕ). Either l (written m p bytes) m') old_is
+          (subst (λ (l : List ℕ). Either (front ++ rest) l m') last_is (subst (λ (l : List ℕ). Either (front ++ rest) (front ++ (bytes ++ drop (length bytes) rest)) l) now_is each));
+    }
+
+-- ---- the row
+
+-- what is left where all of the list is told
+abbrev pub listed : World → ListCall → List ℕ → Done
+listed w a all = record { world = w; fills = (a.buffer, take a.len all) ∷ []; results = (a.used_at, little_bytes 4 (min a.len (length all))) ∷ [] }
+
+abbrev pub list_row : World → List ℕ → ListCall → Checked Done
+list_row w m a = fd_readdir w m a.fd a.buffer a.len a.cookie a.used_at
+
+checks_first : {X : Type 0} (r : Checked OpenedEntry) (g h : Checked (Unit {0})) (k : OpenedEntry → Checked X)
+    → and_then r (λ o. and_then g (λ _. and_then h (λ _. k o))) ≡ and_then (and_then r (λ o. and_then g (λ _. and_then h (λ _. Ok o)))) k
+unfolding and_then
+checks_first (Ok o) (Ok u) (Ok v) k = refl
+checks_first (Ok o) (Ok u) (Err e) k = refl
+checks_first (Ok o) (Err e) h k = refl
+checks_first (Err e) g h k = refl
+
+pub row_of_list : (w : World) (m : List ℕ) (a : ListCall)
+    → list_row w m a ≡ and_then (listable w m a) (λ o. and_then (tree_call w (Ok (dirents w.tree o.serial a.cookie))) (λ all. Ok (listed w a all)))
+row_of_list w m a = checks_first (entry_at w a.fd only_directories (2 ^ 14)) (range m a.buffer a.len) (range m a.used_at 4)
+    (λ o. and_then (tree_call w (Ok (dirents w.tree o.serial a.cookie))) (λ all. Ok (listed w a all)))
+
+either : (b : Bool) → (b ≡ true) ⊎ (b ≡ false)
+either true = inl refl
+either false = inr refl
+
+module _ {D : Type 0} (honest : D → Type 0) (disk : D → Disk) (sectors_on failures : D → ℕ) (old new : Opened D) (w : World) (m : List ℕ) (a : ListCall) (o : OpenedEntry)
+    (h : honest old.device) (shown : w ≡ with_volume old w) (here : listable w m a ≡ Ok o) where
+  abbrev all : List ℕ
+  all = dirents w.tree o.serial a.cookie
+
+  row_is : w.volume_failed ≡ false → list_row w m a ≡ Ok (listed w a all)
+  row_is alive = row_of_list w m a ∙ (goes_on _ _ o here ∙ goes_on _ _ all (tree_called_alive w (Ok all) alive))
+
+  pub list_done : Asked honest disk sectors_on failures old new false → (m' : List ℕ) → m' ≡ written (written m a.buffer (take a.len all)) a.used_at (little_bytes 4 (min a.len (length all)))
+      → Answered (λ v. list_row v m a) w m (with_volume new w) m' 0
+  list_done asked m' bytes =
+      let working : old.failed ≡ false = was_working honest sectors_on failures old new false asked.kept refl in
+      let alive : w.volume_failed ≡ false = ap (λ (w : World). w.volume_failed) shown ∙ working in
+      done_by w m (λ v. list_row v m a) new m' (listed w a all) (row_is alive) (asked_same honest disk sectors_on failures w old new shown alive h asked) bytes
+
+  pub list_fails : Asked honest disk sectors_on failures old new true → listable (volume_gone w) m a ≡ Ok o → (m' : List ℕ) → a.buffer + a.len ≤ length m
+      → (old.failed ≡ true → m' ≡ m) → IsBegun m a.buffer (take a.len all) m' → Answered (λ v. list_row v m a) w m (with_volume new w) m' 29
+  list_fails asked there m' inside idle begun =
+      let run : World → Checked Done = λ v. list_row v m a in
+      let after : with_volume new w ≡ volume_gone w = asked_gone honest disk sectors_on failures w old new shown h asked in
+      let is : run (volume_gone w) ≡ Err 29 = row_of_list (volume_gone w) m a ∙ (goes_on _ _ o there ∙ stops _ _ 29 (tree_called_gone w (Ok all))) in
+      elim (either w.volume_failed) [
+        | inl before ↦
+            let same : volume_gone w ≡ w = λ i. record w { volume_failed = sym before i } in
+            by_row (answers_refused (run w) w m (with_volume new w) m' 29 (ap run (sym same) ∙ is) (after ∙ same) (idle (sym (ap (λ (w : World). w.volume_failed) shown) ∙ before)))
+        | inr working ↦
+            let most = length-take a.len all in
+            volume_fails (record {
+              reaches = record { refused = is; only_so = is_no_err (run w) (listed w a all) 29 (row_is working) };
+              answer = refl;
+              after = after;
+              bytes = subst (λ (r : Checked Done). IsMixed m (filled r m) m') (sym (row_is working)) (begun_mixed m (take a.len all) m' a.buffer (omega (arith, most, inside)) begun);
+            })
+      ]
