@@ -1,27 +1,26 @@
 -- The list of a directory, as it is put into memory.
-use Rattle.std.proofs.Common.{◌≡◌, ◌≢◌, ◌⊎◌, ◌≤◌, ◌<◌, ◌+◌, ◌-◌, ◌^◌, ℕ, zero, suc, Bool, true, false, ◌==◌, List, [], ◌∷◌, ◌++◌, length, take, drop, min, get_or, Option, Some, None, IsSome, Ok, Err, inl, inr, refl, sym, ◌∙◌, ap, subst, append-nil, append_assoc, arith}
-use Rattle.std.proofs.lemmas.Bool.{cases_lt, cond-true}
-use Rattle.std.proofs.lemmas.List.{length-append, length-take, length-drop, take_all, take-take, take-append-le, take-append-drop, take_at, drop_all, drop-drop, drop_at}
+use Rattle.std.proofs.Common.{◌≡◌, ◌⊎◌, ◌≤◌, ◌<◌, ◌+◌, ◌-◌, ◌^◌, ℕ, zero, suc, Bool, true, false, List, [], ◌∷◌, ◌++◌, length, take, drop, min, get_or, Option, Some, IsSome, Ok, Err, inl, inr, refl, sym, ◌∙◌, ap, subst, append-nil, append_assoc, arith}
+use Rattle.std.proofs.lemmas.Bool.{cases_lt}
+use Rattle.std.proofs.lemmas.List.{length-append, length-take, length-drop, take_all, take-take, take-append-le, take-append-drop, take_at, drop_all, drop-drop}
 use Rattle.std.proofs.Math.Seq.{take-append-add, drop-append-add}
 use Rattle.byteorder.specs.Endian.{little_bytes}
 use Rattle.vol_sector.specs.Disk.{Disk}
 use Rattle.vol_tree.specs.declared.errno.Errno.{Errno}
 use Rattle.vol_tree.specs.declared.errno.Errno.TheVariants as errno
 use Rattle.vol_tree.specs.declared.stat.Stat.{Stat}
-use Rattle.vol_tree.specs.Stat.{IsStat, kind_of, TellsStat}
+use Rattle.vol_tree.specs.Stat.{IsStat, kind_of}
 use Rattle.vol_tree.specs.Tree.{Tree, Node, Directory, File, Entry as TreeEntry, entry}
 use Rattle.vol_tree.specs.Calls.{next_child}
 use Rattle.vol_tree.specs.Opened.{Opened, TellsBytes}
 use Rattle.wasm_store.specs.Bytes.{written}
 use Rattle.wasi_fd.specs.declared.descriptor.Opened.{Opened as OpenedEntry}
 use Rattle.wasi_calls.specs.World.{World, volume_gone}
-use Rattle.wasi_calls.specs.Checks.{Checked, Done, and_then, put, range, entry_at, only_directories, tree_call}
+use Rattle.wasi_calls.specs.Checks.{Checked, Done, and_then, range, entry_at, only_directories, tree_call}
 use Rattle.wasi_calls.specs.Files.{dirent, dirents, type_of_node, fd_readdir}
 use Rattle.wasi_calls.specs.Calls.{IsMixed, filled, Answered, by_row, volume_fails}
 use Rattle.wasi_calls.specs.declared.listing.ListCall.{ListCall}
 use Rattle.wasi_calls.specs.declared.listing.Told.{Told}
 use Rattle.wasi_calls.specs.internal.Serving.{with_volume, type_of_entry}
-use Rattle.wasi_calls.specs.internal.Reaching.{StillWorks}
 use Rattle.wasi_calls.specs.internal.Reading.{IsBegun}
 use Rattle.wasi_calls.specs.internal.Listing.{listable, header, dirent_of, told_bytes, TellsNext, HasTold}
 use Rattle.wasi_calls.proofs.Yields.{goes_on, stops}
@@ -32,7 +31,7 @@ use Rattle.wasi_calls.proofs.Volumes.{was_working, done_by, tree_called_alive, t
 use Rattle.wasi_calls.proofs.Overlaps.{written_over, length_written}
 use Rattle.wasi_calls.proofs.Prepared.{refilled}
 use Rattle.std.specs.List.{refill}
-use Rattle.wasi_calls.proofs.Dirents.{told_from, over, list_ends, list_goes_on}
+use Rattle.wasi_calls.proofs.Dirents.{told_from, over, list_goes_on}
 
 -- ---- one entry
 

@@ -1,6 +1,6 @@
 //! Lists of directories.
 
-ghost use Rattle.std.specs.Prelude.{◌≡◌, ◌<◌, ◌≤◌, ◌+◌, ◌-◌, ◌^◌, ◌++◌, min, length, take, drop, true, false, Ok, Err, IfOk, IfErr, IfSome, OnOk, MatchResult};
+ghost use Rattle.std.specs.Prelude.{◌≡◌, ◌≤◌, ◌+◌, ◌-◌, ◌^◌, ◌++◌, min, length, take, drop, true, false, Ok, Err, IfOk, IfErr, IfSome, OnOk, MatchResult};
 ghost use Rattle.vol_tree.specs.declared.errno.Errno.TheVariants as vol_errno;
 ghost use Rattle.vol_tree.specs.Tree.{Entry};
 ghost use Rattle.vol_tree.specs.Stat.{IsStat};

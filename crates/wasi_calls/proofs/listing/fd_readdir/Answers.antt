@@ -1,4 +1,4 @@
-use Rattle.std.proofs.Common.{◌≡◌, ℕ, List, Err, length, min, take, sym, ap, ◌∙◌, subst}
+use Rattle.std.proofs.Common.{◌≡◌, ℕ, Err, length, min, take, sym, ap, ◌∙◌, subst}
 use Rattle.byteorder.specs.Endian.{little_bytes}
 use Rattle.wasm_store.specs.Bytes.{written}
 use Rattle.vol_tree.specs.declared.errno.Errno.{Errno}

@@ -1,7 +1,6 @@
-use Rattle.std.proofs.Common.{◌≡◌, ◌≤◌, ℕ, List, length, min, take, ap, ◌∙◌, subst, arith}
+use Rattle.std.proofs.Common.{◌≤◌, ℕ, List, length, min, take, ap, ◌∙◌, subst, arith}
 use Rattle.vol_tree.specs.Tree.{Tree}
 use Rattle.wasm_store.specs.Bytes.{written}
-use Rattle.wasi_calls.specs.Files.{dirents}
 use Rattle.wasi_calls.specs.internal.Reading.{IsBegun}
 use Rattle.wasi_calls.proofs.Listed.{cut_cookie}
 use Rattle.wasi_calls.proofs.listing.list_from.Goals as goal

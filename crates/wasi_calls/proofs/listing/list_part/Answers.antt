@@ -10,6 +10,8 @@ returns-in-Ok-clause-listed g c = λ h.
 
 pub returns-in-Err-clause-broke : goal.returns-in-Err-clause-broke
 returns-in-Err-clause-broke g c = λ h.
-    let told = c.in-Err.ensures.answer h in
-    (told.0, part_begun c.args.memory.now (dirents c.args.volume.now.tree c.args.directory c.args.cookie) c.part_mut.result.now c.list.new.part c.args.start c.args.len told.2.0
-    c.requires.inside c.part_mut.ensures.value told.2.1 told.2.2)
+    let told = c.in-Err.ensures.answer h in (
+      told.0,
+      part_begun c.args.memory.now (dirents c.args.volume.now.tree c.args.directory c.args.cookie) c.part_mut.result.now c.list.new.part c.args.start c.args.len told.2.0
+          c.requires.inside c.part_mut.ensures.value told.2.1 told.2.2,
+    )

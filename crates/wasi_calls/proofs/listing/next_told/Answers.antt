@@ -1,4 +1,4 @@
-use Rattle.std.proofs.Common.{◌≡◌, ◌≤◌, ◌-◌, ◌^◌, ℕ, Option, Some, None, length, sym, ◌∙◌, ap, subst, IsSome}
+use Rattle.std.proofs.Common.{◌≡◌, Some, sym, ◌∙◌, ap, subst, IsSome}
 use Rattle.vol_tree.specs.Tree.{Tree, entry}
 use Rattle.vol_tree.specs.Calls.{next_child}
 use Rattle.wasi_calls.proofs.Dirents.{list_ends}
