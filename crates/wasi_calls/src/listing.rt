@@ -53,7 +53,7 @@ impl ListCall {
     }
 }
 
-/// An entry that is told: its serial, and its `dirent` with zeros behind it.
+/// An entry that is told: its serial, and bytes that begin with its `dirent`.
 #[derive(Clone, Copy)]
 struct Told {
     serial: u32,
