@@ -1,15 +1,17 @@
 //! Bytes that a call reads from files and streams.
 
-ghost use Rattle.std.specs.Prelude.{◌≡◌, ◌<◌, ◌≤◌, ◌+◌, length, IfOk, IfErr, OnOk};
-ghost use Rattle.vol_sector.specs.Disk.{Leaves};
+ghost use Rattle.std.specs.Prelude.{◌≡◌, ◌<◌, ◌≤◌, ◌+◌, ◌-◌, ◌^◌, true, false, length, drop, IfOk, IfErr, OnOk};
+ghost use Rattle.std.specs.List.{list_all};
 ghost use Rattle.vol_tree.specs.declared.errno.Errno.TheVariants as vol_errno;
-ghost use Rattle.vol_tree.specs.Opened.{Keeps, is_io};
+ghost use Rattle.vol_tree.specs.Opened.{is_io};
 ghost use Rattle.vol_tree.specs.Calls.{bytes_at, read_bytes};
 ghost use Rattle.wasm_store.specs.Bytes.{written};
+ghost use Rattle.wasi_calls.specs.Checks.{total, is_inside, scattered, put};
+ghost use Rattle.wasi_calls.specs.Calls.{IsMixed};
 ghost use Rattle.wasi_calls.specs.internal.Serving.{IsFileOf};
-ghost use Rattle.wasi_calls.specs.internal.Reaching.{StillWorks};
+ghost use Rattle.wasi_calls.specs.internal.Asking.{Asked};
 ghost use Rattle.wasi_calls.specs.internal.Buffers.{list_of};
-ghost use Rattle.wasi_calls.specs.internal.Reading.{cut, IsStretch, IsBegun};
+ghost use Rattle.wasi_calls.specs.internal.Reading.{cut, IsStretch, IsBegun, BufferFilled, BufferBegun};
 
 use crate::inner::Buffer;
 use vol_sector::Device;
@@ -56,7 +58,8 @@ fn stretch_from(at: usize, end: usize, later: &[Buffer]) -> Stretch
     Stretch::Free(until)
 }
 
-/// Reads bytes of a file into memory, from a place on. They have to be in the file.
+/// Reads bytes of a file into memory, from a place on. Only where all of them are in the file is anything said of what
+/// stands in memory then.
 fn read_part<D: Device>(
     volume: &mut Volume<D>,
     serial: u32,
@@ -71,15 +74,113 @@ fn read_part<D: Device>(
     ensures read { D.honest volume.old.device → at + len ≤ length (bytes_at volume.old.tree serial)
         → IfOk result (λ _. memory.new ≡ written memory.old start (read_bytes volume.old.tree serial at len)) }
     ensures broke { D.honest volume.old.device → at + len ≤ length (bytes_at volume.old.tree serial)
-        → IfErr result (λ e. (e ≡ vol_errno.Io) × (volume.new.tree ≡ volume.old.tree)
+        → IfErr result (λ e. (e ≡ vol_errno.Io)
         × IsBegun memory.old start (read_bytes volume.old.tree serial at len) memory.new) }
-    ensures works { OnOk result (StillWorks D.honest D.disk D.size D.failures volume.old volume.new) }
-    ensures crash { D.honest volume.old.device
-        → Leaves (D.disk volume.old.device) (D.disk volume.new.device) (λ c. ⊥) }
-    ensures kept { Keeps D.honest D.size D.failures volume.old volume.new (is_io result) }
+    ensures asked { Asked D.honest D.disk D.size D.failures volume.old volume.new (is_io result) }
 {
     match volume.read(serial, at, memory.part_mut(start, len)) {
         Ok(_) => Ok(()),
         Err(errno) => Err(errno),
     }
+}
+
+/// Reads bytes of a file into a buffer, as far as the next stretch of it reaches, and says where that ends. A stretch
+/// that is in later buffers is passed over.
+fn fill_stretch<D: Device>(
+    volume: &mut Volume<D>,
+    serial: u32,
+    from: u64,
+    memory: &mut Memory,
+    place: usize,
+    end: usize,
+    later: &[Buffer],
+) -> Result<usize, vol_tree::Errno>
+    requires file { IsFileOf D.honest volume.old serial }
+    requires works { volume.old.failed ≡ false }
+    requires some { place < end }
+    requires inside { end ≤ length memory.old }
+    ensures long { length memory.new ≡ length memory.old }
+    ensures within { IfOk result (λ until. (place < until) × (until ≤ end)) }
+    ensures filled { D.honest volume.old.device → end - place ≤ length (bytes_at volume.old.tree serial) - from
+        → IfOk result (λ until. BufferFilled (bytes_at volume.old.tree serial) from place until (list_of later.now) memory.old memory.new) }
+    ensures broke { D.honest volume.old.device → end - place ≤ length (bytes_at volume.old.tree serial) - from
+        → IfErr result (λ e. (e ≡ vol_errno.Io)
+        × BufferBegun (bytes_at volume.old.tree serial) from place end (list_of later.now) memory.old memory.new) }
+    ensures asked { Asked D.honest D.disk D.size D.failures volume.old volume.new (is_io result) }
+{
+    match stretch_from(place, end, later) {
+        Stretch::Covered(until) => Ok(until),
+        Stretch::Free(until) => {
+            match read_part(volume, serial, from, memory, place, until - place) {
+                Ok(()) => Ok(until),
+                Err(errno) => Err(errno),
+            }
+        }
+    }
+}
+
+/// Fills a buffer with the bytes of a file from a place on, but for what of it is in later buffers.
+fn fill_buffer<D: Device>(
+    volume: &mut Volume<D>,
+    serial: u32,
+    from: u64,
+    memory: &mut Memory,
+    buffer: Buffer,
+    later: &[Buffer],
+) -> Result<(), vol_tree::Errno>
+    requires file { IsFileOf D.honest volume.old serial }
+    requires works { volume.old.failed ≡ false }
+    requires small { from + buffer.len < 2 ^ 64 }
+    requires inside { buffer.pointer + buffer.len ≤ length memory.old }
+    ensures long { length memory.new ≡ length memory.old }
+    ensures filled { D.honest volume.old.device → buffer.len ≤ length (bytes_at volume.old.tree serial) - from
+        → OnOk result (BufferFilled (bytes_at volume.old.tree serial) from buffer.pointer (buffer.pointer + buffer.len) (list_of later.now) memory.old memory.new) }
+    ensures broke { D.honest volume.old.device → buffer.len ≤ length (bytes_at volume.old.tree serial) - from
+        → IfErr result (λ e. (e ≡ vol_errno.Io)
+        × BufferBegun (bytes_at volume.old.tree serial) from buffer.pointer (buffer.pointer + buffer.len) (list_of later.now) memory.old memory.new) }
+    ensures asked { Asked D.honest D.disk D.size D.failures volume.old volume.new (is_io result) }
+{
+    let start = buffer.pointer as usize;
+    let end = start + buffer.len as usize;
+    let mut place = start;
+    while place < end {
+        let at = from + (place - start) as u64;
+        match fill_stretch(volume, serial, at, memory, place, end, later) {
+            Ok(until) => place = until,
+            Err(errno) => return Err(errno),
+        }
+    }
+    Ok(())
+}
+
+/// Fills the buffers with the bytes of a file from a place on, one after another. Where they overlap, later ones win.
+fn fill_buffers<D: Device>(
+    volume: &mut Volume<D>,
+    serial: u32,
+    from: u64,
+    memory: &mut Memory,
+    buffers: &[Buffer],
+) -> Result<(), vol_tree::Errno>
+    requires file { IsFileOf D.honest volume.old serial }
+    requires works { volume.old.failed ≡ false }
+    requires small { from + total (list_of buffers.now) < 2 ^ 64 }
+    requires inside { list_all (is_inside memory.old) (list_of buffers.now) ≡ true }
+    ensures long { length memory.new ≡ length memory.old }
+    ensures filled { D.honest volume.old.device → total (list_of buffers.now) ≤ length (bytes_at volume.old.tree serial) - from
+        → OnOk result (memory.new ≡ put memory.old (scattered (drop from (bytes_at volume.old.tree serial)) (list_of buffers.now))) }
+    ensures broke { D.honest volume.old.device → total (list_of buffers.now) ≤ length (bytes_at volume.old.tree serial) - from
+        → IfErr result (λ e. (e ≡ vol_errno.Io)
+        × IsMixed memory.old (put memory.old (scattered (drop from (bytes_at volume.old.tree serial)) (list_of buffers.now))) memory.new) }
+    ensures asked { Asked D.honest D.disk D.size D.failures volume.old volume.new (is_io result) }
+{
+    let mut at = from;
+    for index in 0..buffers.len() {
+        let buffer = buffers[index];
+        let later = &buffers[index + 1..];
+        match fill_buffer(volume, serial, at, memory, buffer, later) {
+            Ok(()) => at += u64::from(buffer.len),
+            Err(errno) => return Err(errno),
+        }
+    }
+    Ok(())
 }
