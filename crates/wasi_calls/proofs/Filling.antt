@@ -1,11 +1,18 @@
 -- Buffers that are filled from a file, stretch by stretch, and one after another.
-use Rattle.std.proofs.Common.{◌≡◌, ◌⊎◌, ℕ, ◌+◌, ◌-◌, ◌<◌, ◌≤◌, Bool, true, false, cond, ◌&&◌, ◌||◌, nat_le, nat_lt, List, [], ◌∷◌, length, take, drop, get_or, inl, inr, refl, sym, ap, ◌∙◌, arith}
+use Rattle.std.proofs.Common.{◌≡◌, ◌⊎◌, ℕ, ◌+◌, ◌-◌, ◌<◌, ◌≤◌, Bool, true, false, cond, ◌&&◌, ◌||◌, nat_le, nat_lt, List, [], ◌∷◌, length, take, drop, get_or, inl, inr, refl, sym, ap, ◌∙◌, subst, IsTrue, arith}
 use Rattle.std.proofs.lemmas.Bool.{cond-true, cond-false, leb-true, le-ltb, lt-leb, and_parts, cases_lt, false≢true}
 use Rattle.std.proofs.lemmas.List.{length-take, length-drop, get_or-take, get_or-drop, drop-drop}
 use Rattle.std.specs.List.{list_all}
+use Rattle.vol_sector.specs.Disk.{Disk}
+use Rattle.vol_tree.specs.declared.superblock.Superblock.{Superblock}
+use Rattle.vol_tree.specs.Tree.{Tree}
+use Rattle.vol_tree.specs.Calls.{is_file_at}
+use Rattle.vol_tree.specs.Opened.{Opened}
 use Rattle.wasm_store.specs.Bytes.{written}
 use Rattle.wasi_calls.specs.Checks.{Buffer, put, scattered, is_inside}
 use Rattle.wasi_calls.specs.Calls.{IsMixed}
+use Rattle.wasi_calls.specs.internal.Serving.{IsFileOf}
+use Rattle.wasi_calls.specs.internal.Reaching.{StillWorks}
 use Rattle.wasi_calls.specs.internal.Reading.{covered, HalfFilled, HasAll, IsBegun, BufferFilled, HasByte, BufferBegun}
 use Rattle.wasi_calls.proofs.Overlaps.{length_written, written_before, written_behind, written_inside, untouched, either, or_true, is_in, half_begun, half_mixed, half_done}
 
@@ -235,3 +242,12 @@ module _ (file old last memory memory' : List ℕ) (at : ℕ) (b : Buffer) (late
           | inr is ↦ inr (is.byte ∙ sym (stands k is.low is.high is.apart))
         ];
       }
+
+-- ---- a volume that is asked
+
+pub file_still : {D : Type 0} (honest : D → Type 0) (disk : D → Disk) (sectors_on failures : D → ℕ) (a b : Opened D) (serial : ℕ) → StillWorks honest disk sectors_on failures a b → IsFileOf honest a serial → IsFileOf honest b serial
+file_still honest disk sectors_on failures a b serial works file = record {
+  first = file.first;
+  last = subst (λ (n : Superblock). serial ≤ n.slots) (sym works.kept.numbers) file.last;
+  used = λ h. let before = works.kept.honest.1 h in subst (λ (T : Tree). IsTrue (is_file_at T serial)) (sym (works.tree before)) (file.used before);
+}
