@@ -1,7 +1,8 @@
 -- Buffers that are filled from a file, stretch by stretch, and one after another.
-use Rattle.std.proofs.Common.{◌≡◌, ◌⊎◌, ℕ, ◌+◌, ◌-◌, ◌<◌, ◌≤◌, Bool, true, false, cond, ◌&&◌, ◌||◌, nat_le, nat_lt, List, [], ◌∷◌, length, take, drop, get_or, inl, inr, refl, sym, ap, ◌∙◌, subst, IsTrue, arith}
+use Rattle.std.proofs.Common.{◌≡◌, ◌⊎◌, ℕ, ◌+◌, ◌-◌, ◌<◌, ◌≤◌, Bool, true, false, cond, ◌&&◌, ◌||◌, nat_le, nat_lt, min, List, [], ◌∷◌, length, take, drop, get_or, inl, inr, refl, sym, ap, ◌∙◌, subst, IsTrue, arith}
 use Rattle.std.proofs.lemmas.Bool.{cond-true, cond-false, leb-true, le-ltb, lt-leb, and_parts, cases_lt, false≢true}
-use Rattle.std.proofs.lemmas.List.{length-take, length-drop, get_or-take, get_or-drop, drop-drop}
+use Rattle.std.proofs.lemmas.List.{length-take, length-drop, get_or-take, get_or-drop, drop-drop, take-take, drop-take}
+use Rattle.std.proofs.lemmas.List.Sums.{sum_by-cons}
 use Rattle.std.specs.List.{list_all}
 use Rattle.vol_sector.specs.Disk.{Disk}
 use Rattle.vol_tree.specs.declared.superblock.Superblock.{Superblock}
@@ -9,12 +10,12 @@ use Rattle.vol_tree.specs.Tree.{Tree}
 use Rattle.vol_tree.specs.Calls.{is_file_at}
 use Rattle.vol_tree.specs.Opened.{Opened}
 use Rattle.wasm_store.specs.Bytes.{written}
-use Rattle.wasi_calls.specs.Checks.{Buffer, put, scattered, is_inside}
+use Rattle.wasi_calls.specs.Checks.{Buffer, put, total, scattered, is_inside}
 use Rattle.wasi_calls.specs.Calls.{IsMixed}
 use Rattle.wasi_calls.specs.internal.Serving.{IsFileOf}
 use Rattle.wasi_calls.specs.internal.Reaching.{StillWorks}
-use Rattle.wasi_calls.specs.internal.Reading.{covered, HalfFilled, HasAll, IsBegun, BufferFilled, HasByte, BufferBegun}
-use Rattle.wasi_calls.proofs.Overlaps.{length_written, written_before, written_behind, written_inside, untouched, either, or_true, is_in, half_begun, half_mixed, half_done}
+use Rattle.wasi_calls.specs.internal.Reading.{cut, received, covered, HalfFilled, HasAll, IsBegun, BufferFilled, HasByte, BufferBegun}
+use Rattle.wasi_calls.proofs.Overlaps.{length_written, written_before, written_behind, written_inside, untouched, either, or_true, is_in, half_begun, half_mixed, half_done, cut_scattered, cut_total}
 
 -- ---- a stretch
 
@@ -251,3 +252,35 @@ file_still honest disk sectors_on failures a b serial works file = record {
   last = subst (λ (n : Superblock). serial ≤ n.slots) (sym works.kept.numbers) file.last;
   used = λ h. let before = works.kept.honest.1 h in subst (λ (T : Tree). IsTrue (is_file_at T serial)) (sym (works.tree before)) (file.used before);
 }
+
+-- ---- what is read
+
+-- no more than all of the buffers take is dealt out
+scattered_take : (k : ℕ) (bs : List Buffer) (bytes : List ℕ) → total bs ≤ k → scattered (take k bytes) bs ≡ scattered bytes bs
+scattered_take k [] bytes h = refl
+scattered_take k (b ∷ bs) bytes h =
+    let all = sum_by-cons (λ (x : Buffer). x.1) b bs in
+    let more : b.1 + (k - b.1) ≡ k = omega (arith, all, h) in
+    let first : take b.1 (take k bytes) ≡ take b.1 bytes = take-take b.1 k bytes (omega (arith, all, h)) in
+    let behind : drop b.1 (take k bytes) ≡ take (k - b.1) (drop b.1 bytes) = ap (λ (n : ℕ). drop b.1 (take n bytes)) (sym more) ∙ drop-take b.1 (k - b.1) bytes in
+    let rest : scattered (take (k - b.1) (drop b.1 bytes)) bs ≡ scattered (drop b.1 bytes) bs = scattered_take (k - b.1) bs (drop b.1 bytes) (omega (arith, all, h)) in
+    (λ i. (b.0, first i) ∷ scattered (behind i) bs) ∙ ap (λ (l : List (ℕ × List ℕ)). (b.0, take b.1 bytes) ∷ l) rest
+
+module _ (file : List ℕ) (from n : ℕ) (bs : List Buffer) (count : n ≡ min (total bs) (length file - from)) where
+  pub as_many : n ≡ length (take (total bs) (drop from file))
+  as_many =
+      let a = length-take (total bs) (drop from file) in
+      let b = length-drop from file in
+      omega (arith, a, b, count)
+
+  pub cut_fits : total (cut n bs) ≤ length file - from
+  cut_fits =
+      let all = cut_total n bs (omega (arith, count)) in
+      omega (arith, all, count)
+
+  pub cut_received : (m : List ℕ) → put m (scattered (drop from file) (cut n bs)) ≡ received m (take (total bs) (drop from file)) bs
+  cut_received m =
+      let all = cut_total n bs (omega (arith, count)) in
+      let xs : List ℕ = take (total bs) (drop from file) in
+      let long = as_many in
+      ap (put m) (sym (scattered_take (total bs) (cut n bs) (drop from file) (omega (arith, all, count))) ∙ cut_scattered n bs xs (omega (arith, long)))

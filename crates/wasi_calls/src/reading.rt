@@ -1,22 +1,32 @@
 //! Bytes that a call reads from files and streams.
 
-ghost use Rattle.std.specs.Prelude.{◌≡◌, ◌<◌, ◌≤◌, ◌+◌, ◌-◌, ◌^◌, true, false, length, drop, IfOk, IfErr, OnOk};
+ghost use Rattle.std.specs.Prelude.{◌≡◌, ◌<◌, ◌≤◌, ◌+◌, ◌-◌, ◌^◌, min, true, false, length, take, drop, Ok, Err, IfOk, IfErr, OnOk, MatchResult};
 ghost use Rattle.std.specs.List.{list_all};
 ghost use Rattle.vol_tree.specs.declared.errno.Errno.TheVariants as vol_errno;
 ghost use Rattle.vol_tree.specs.Opened.{is_io};
 ghost use Rattle.vol_tree.specs.Calls.{bytes_at, read_bytes};
 ghost use Rattle.wasm_store.specs.Bytes.{written};
-ghost use Rattle.wasi_calls.specs.Checks.{total, is_inside, scattered, put};
-ghost use Rattle.wasi_calls.specs.Calls.{IsMixed};
-ghost use Rattle.wasi_calls.specs.internal.Serving.{IsFileOf};
+ghost use Rattle.wasi_fd.specs.Table.{table_of};
+ghost use Rattle.wasi_calls.specs.World.{World};
+ghost use Rattle.wasi_calls.specs.Checks.{total, is_inside, scattered, put, only_files, entry_at as entry};
+ghost use Rattle.wasi_calls.specs.Calls.{IsMixed, Answered};
+ghost use Rattle.wasi_calls.specs.Host.{VolumeStep};
+ghost use Rattle.wasi_calls.specs.internal.Serving.{IsFileOf, errno_of, with_volume};
 ghost use Rattle.wasi_calls.specs.internal.Asking.{Asked};
-ghost use Rattle.wasi_calls.specs.internal.Buffers.{list_of};
-ghost use Rattle.wasi_calls.specs.internal.Reading.{cut, IsStretch, IsBegun, BufferFilled, BufferBegun};
+ghost use Rattle.wasi_calls.specs.internal.Buffers.{list_of, AreUsable};
+ghost use Rattle.wasi_calls.specs.internal.Reading.{cut, IsStretch, IsBegun, BufferFilled, BufferBegun, wanted, received, read_into};
 
+use crate::buffers::{Request, total_len};
+use crate::checks::{Takes, entry_at, write_bytes};
+use crate::files::refused;
 use crate::inner::Buffer;
+use crate::numbers::le32;
+use crate::seeking::size_of;
+use bitflags::Flags;
 use vol_sector::Device;
 use vol_tree::Volume;
-use wasm_store::Memory;
+use wasi_fd::{Descriptors, Opened, Rights};
+use wasm_store::{Errno, Memory};
 
 /// Cuts the buffers to so many bytes in all.
 pub(crate) fn cut_to(buffers: &mut [Buffer], len: u32)
@@ -183,4 +193,88 @@ fn fill_buffers<D: Device>(
         }
     }
     Ok(())
+}
+
+/// How many bytes of a file of this size there are from a place on, at most so many.
+fn count_from(size: u32, from: u64, most: u32) -> u32
+    ensures count { result ≡ min most (size - from) }
+    ensures near { from + result < 2 ^ 64 }
+{
+    let left = u64::from(size).saturating_sub(from);
+    u64::from(most).min(left) as u32
+}
+
+/// Reads the bytes of a file from a place on into the buffers, as many as there are and fit, and says how many. The
+/// buffers are cut to them. Where buffers overlap, later ones win; where the volume fails, some places may have their
+/// bytes already.
+pub(crate) fn read_at<D: Device>(
+    volume: &mut Volume<D>,
+    serial: u32,
+    from: u64,
+    memory: &mut Memory,
+    buffers: &mut [Buffer],
+) -> Result<u32, vol_tree::Errno>
+    requires file { IsFileOf D.honest volume.old serial }
+    requires few { length buffers.old ≤ 1024 }
+    requires small { total (list_of buffers.old) < 2 ^ 32 }
+    requires inside { list_all (is_inside memory.old) (list_of buffers.old) ≡ true }
+    ensures long { length memory.new ≡ length memory.old }
+    ensures idle { volume.old.failed ≡ true → memory.new ≡ memory.old }
+    ensures read { D.honest volume.old.device
+        → IfOk result (λ n. (n ≡ length (wanted volume.old.tree serial from (list_of buffers.old)))
+        × (memory.new ≡ received memory.old (wanted volume.old.tree serial from (list_of buffers.old)) (list_of buffers.old))) }
+    ensures broke { D.honest volume.old.device
+        → IfErr result (λ e. (e ≡ vol_errno.Io)
+        × IsMixed memory.old (received memory.old (wanted volume.old.tree serial from (list_of buffers.old)) (list_of buffers.old)) memory.new) }
+    ensures asked { Asked D.honest D.disk D.size D.failures volume.old volume.new (is_io result) }
+{
+    match size_of(volume, serial) {
+        Ok(size) => {
+            let len = count_from(size, from, total_len(buffers) as u32);
+            cut_to(buffers, len);
+            match fill_buffers(volume, serial, from, memory, buffers) {
+                Ok(()) => Ok(len),
+                Err(errno) => Err(errno),
+            }
+        }
+        Err(errno) => Err(errno),
+    }
+}
+
+/// An open file that can be read at a place of its own.
+pub(crate) fn file_to_read<'t>(descriptors: &Descriptors<'t>, fd: u32) -> Result<Opened<'t>, Errno>
+    ensures { (w : World) → w.table ≡ table_of descriptors.now → MatchResult result
+        (λ o. entry w fd only_files (2 ^ 1 + 2 ^ 2) ≡ Ok o)
+        (λ e. entry w fd only_files (2 ^ 1 + 2 ^ 2) ≡ Err e.0) }
+{
+    let rights = Rights::FD_READ.union(Rights::FD_SEEK);
+    entry_at(descriptors, fd, Takes::Files, rights)
+}
+
+/// Reads the bytes of an open file from a place on into the buffers of a call, and then writes how many. The buffers
+/// are in the room, which is cut to what was read.
+pub(crate) fn read_placed<D: Device>(
+    volume: &mut Volume<D>,
+    memory: &mut Memory,
+    opened: &Opened<'_>,
+    from: u64,
+    request: &Request,
+    room: &mut [Buffer],
+) -> Result<(), Errno>
+    requires file { IsFileOf D.honest volume.old opened.now.serial }
+    requires room { length room.old ≡ 1024 }
+    requires few { request.now.count ≤ 1024 }
+    requires usable { AreUsable memory.old (list_of (take request.now.count room.old)) request.now.result_at }
+    ensures step { VolumeStep D.honest D.disk D.size D.failures volume.old volume.new }
+    ensures answered { D.honest volume.old.device → (w : World) → w ≡ with_volume volume.old w
+        → Answered (λ v. read_into v opened.now from (list_of (take request.now.count room.old)) request.now.result_at) w memory.old (with_volume volume.new w) memory.new (errno_of result) }
+{
+    let buffers = &mut room[..request.count as usize];
+    match read_at(volume, opened.serial, from, memory, buffers) {
+        Ok(len) => {
+            write_bytes(memory, request.result_at, &le32(len));
+            Ok(())
+        }
+        Err(errno) => Err(refused(errno)),
+    }
 }

@@ -4,11 +4,12 @@ use Rattle.std.specs.List.{list_any}
 use Rattle.wasi_calls.specs.declared.reading.Stretch.{Stretch}
 use Rattle.wasi_calls.specs.declared.reading.Stretch.TheVariants.{Covered, Free}
 use Rattle.byteorder.specs.Endian.{little_bytes}
+use Rattle.vol_tree.specs.Tree.{Tree}
 use Rattle.vol_tree.specs.Calls.{read_bytes}
 use Rattle.wasi_fd.specs.declared.descriptor.Opened.{Opened}
 use Rattle.wasm_store.specs.Bytes.{written}
 use Rattle.wasi_calls.specs.World.{World}
-use Rattle.wasi_calls.specs.Checks.{Checked, Done, Buffer, ◌>>=◌, tree_call, total, scattered}
+use Rattle.wasi_calls.specs.Checks.{Checked, Done, Buffer, ◌>>=◌, tree_call, total, scattered, put}
 
 -- the buffers cut to so many bytes in all
 abbrev pub cut : ℕ → List Buffer → List Buffer
@@ -59,6 +60,14 @@ pub record HasByte (file : List ℕ) (from start until : ℕ) (later : List Buff
 pub record BufferBegun (file : List ℕ) (from start until : ℕ) (later : List Buffer) (old memory : List ℕ) : Type 0 where
   pub as_long : length memory ≡ length old
   pub each : (k : ℕ) → (get_or memory k 0 ≡ get_or old k 0) ⊎ HasByte file from start until later memory k
+
+-- the bytes of a file from a place on that fit in the buffers
+abbrev pub wanted : Tree → ℕ → ℕ → List Buffer → List ℕ
+wanted T serial from bs = read_bytes T serial from (total bs)
+
+-- memory with these bytes in the buffers
+abbrev pub received : List ℕ → List ℕ → List Buffer → List ℕ
+received memory bytes bs = put memory (scattered bytes bs)
 
 -- the bytes of a file from a place on, into the buffers, and then how many
 abbrev pub read_into : World → Opened → ℕ → List Buffer → ℕ → Checked Done
