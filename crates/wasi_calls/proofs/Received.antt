@@ -9,8 +9,9 @@ use Rattle.wasi_calls.specs.internal.Serving.{with_volume}
 use Rattle.wasi_calls.specs.internal.Asking.{Asked}
 use Rattle.wasi_calls.proofs.Yields.{goes_on, stops}
 use Rattle.wasi_calls.proofs.Serving.{answers_done, answers_refused}
-use Rattle.wasi_calls.proofs.Volumes.{failed_or, was_working, is_no_err, tree_called_alive, tree_called_gone}
+use Rattle.wasi_calls.proofs.Volumes.{was_working, is_no_err, tree_called_alive, tree_called_gone}
 use Rattle.wasi_calls.proofs.Asking.{asked_gone}
+use Rattle.wasi_calls.proofs.Overlaps.{either}
 
 -- a row that asks for bytes, and what it makes of them
 abbrev pub asking : (World → List ℕ) → (World → List ℕ → Done) → World → Checked Done
@@ -37,7 +38,7 @@ module _ {D : Type 0} (honest : D → Type 0) (disk : D → Disk) (sectors_on fa
       → Answered run w m (with_volume new w) m' 29
   broke_off h asked m' idle mixed =
       let after : with_volume new w ≡ volume_gone w = asked_gone honest disk sectors_on failures w old new shown h asked in
-      elim (failed_or w.volume_failed) [
+      elim (either w.volume_failed) [
         | inl before ↦
             let same_w : volume_gone w ≡ w = λ i. record w { volume_failed = sym before i } in
             by_row (answers_refused (run w) w m (with_volume new w) m' 29 (ap run (sym same_w) ∙ row_gone) (after ∙ same_w) (idle (sym (ap (λ (w : World). w.volume_failed) shown) ∙ before)))
