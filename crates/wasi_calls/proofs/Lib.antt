@@ -33,4 +33,4 @@ pub mod Dirents
 pub mod Preopens
 pub mod Overlaps
 pub mod Filling
-pub mod Received
+pub mod Telling

@@ -1,6 +1,6 @@
 //! Bytes that a call reads from files and streams.
 
-ghost use Rattle.std.specs.Prelude.{◌≡◌, ◌<◌, ◌≤◌, ◌+◌, ◌-◌, ◌^◌, min, true, false, length, take, drop, Ok, Err, IfOk, IfErr, OnOk, MatchResult};
+ghost use Rattle.std.specs.Prelude.{◌≡◌, ◌<◌, ◌≤◌, ◌+◌, ◌-◌, ◌^◌, min, true, false, length, take, drop, Ok, Err, Some, IfOk, IfErr, OnOk, MatchResult};
 ghost use Rattle.std.specs.List.{list_all};
 ghost use Rattle.vol_tree.specs.declared.errno.Errno.TheVariants as vol_errno;
 ghost use Rattle.vol_tree.specs.Opened.{is_io};
@@ -11,21 +11,21 @@ ghost use Rattle.wasi_calls.specs.World.{World};
 ghost use Rattle.wasi_calls.specs.Checks.{total, is_inside, scattered, put, only_files, entry_at as entry};
 ghost use Rattle.wasi_calls.specs.Calls.{IsMixed, Answered};
 ghost use Rattle.wasi_calls.specs.Host.{VolumeStep};
-ghost use Rattle.wasi_calls.specs.internal.Serving.{IsFileOf, errno_of, with_volume};
+ghost use Rattle.wasi_calls.specs.internal.Serving.{IsFileOf, NoMoreEntries, errno_of, with_volume, with_table};
 ghost use Rattle.wasi_calls.specs.internal.Asking.{Asked};
 ghost use Rattle.wasi_calls.specs.internal.Buffers.{list_of, AreUsable};
-ghost use Rattle.wasi_calls.specs.internal.Reading.{cut, IsStretch, IsBegun, BufferFilled, BufferBegun, wanted, received, read_into};
+ghost use Rattle.wasi_calls.specs.internal.Reading.{cut, IsStretch, IsBegun, BufferFilled, BufferBegun, wanted, received, read_into, read_file_to};
 
 use crate::buffers::{Request, total_len};
 use crate::checks::{Takes, entry_at, write_bytes};
 use crate::files::refused;
 use crate::inner::Buffer;
 use crate::numbers::le32;
-use crate::seeking::size_of;
+use crate::seeking::{move_to, size_of};
 use bitflags::Flags;
 use vol_sector::Device;
 use vol_tree::Volume;
-use wasi_fd::{Descriptors, Opened, Rights};
+use wasi_fd::{Descriptor, Descriptors, Opened, Rights};
 use wasm_store::{Errno, Memory};
 
 /// Cuts the buffers to so many bytes in all.
@@ -219,6 +219,7 @@ pub(crate) fn read_at<D: Device>(
     requires small { total (list_of buffers.old) < 2 ^ 32 }
     requires inside { list_all (is_inside memory.old) (list_of buffers.old) ≡ true }
     ensures long { length memory.new ≡ length memory.old }
+    ensures near { IfOk result (λ n. from + n < 2 ^ 64) }
     ensures idle { volume.old.failed ≡ true → memory.new ≡ memory.old }
     ensures read { D.honest volume.old.device
         → IfOk result (λ n. (n ≡ length (wanted volume.old.tree serial from (list_of buffers.old)))
@@ -272,6 +273,38 @@ pub(crate) fn read_placed<D: Device>(
     let buffers = &mut room[..request.count as usize];
     match read_at(volume, opened.serial, from, memory, buffers) {
         Ok(len) => {
+            write_bytes(memory, request.result_at, &le32(len));
+            Ok(())
+        }
+        Err(errno) => Err(refused(errno)),
+    }
+}
+
+/// Reads the bytes of an open file where it stands into the buffers of a call. The file moves behind them, and then it is
+/// written how many. The buffers are in the room, which is cut to what was read.
+pub(crate) fn read_file<'t, D: Device>(
+    volume: &mut Volume<D>,
+    descriptors: &mut Descriptors<'t>,
+    memory: &mut Memory,
+    opened: &Opened<'t>,
+    request: &Request,
+    room: &mut [Buffer],
+) -> Result<(), Errno>
+    requires file { IsFileOf D.honest volume.old opened.now.serial }
+    requires open { table_of descriptors.old request.now.fd ≡ Some (Descriptor.Entry opened.now) }
+    requires room { length room.old ≡ 1024 }
+    requires few { request.now.count ≤ 1024 }
+    requires usable { AreUsable memory.old (list_of (take request.now.count room.old)) request.now.result_at }
+    ensures step { VolumeStep D.honest D.disk D.size D.failures volume.old volume.new }
+    ensures entries { NoMoreEntries (table_of descriptors.old) (table_of descriptors.new) }
+    ensures answered { D.honest volume.old.device → (w : World) → w.table ≡ table_of descriptors.old → w ≡ with_volume volume.old w
+        → Answered (λ v. read_file_to v request.now.fd opened.now (list_of (take request.now.count room.old)) request.now.result_at) w memory.old (with_table (table_of descriptors.new) (with_volume volume.new w)) memory.new (errno_of result) }
+{
+    let buffers = &mut room[..request.count as usize];
+    match read_at(volume, opened.serial, opened.position, memory, buffers) {
+        Ok(len) => {
+            let behind = opened.position + u64::from(len);
+            move_to(descriptors, request.fd, opened, behind);
             write_bytes(memory, request.result_at, &le32(len));
             Ok(())
         }

@@ -6,10 +6,12 @@ use Rattle.wasi_calls.specs.declared.reading.Stretch.TheVariants.{Covered, Free}
 use Rattle.byteorder.specs.Endian.{little_bytes}
 use Rattle.vol_tree.specs.Tree.{Tree}
 use Rattle.vol_tree.specs.Calls.{read_bytes}
+use Rattle.wasi_fd.specs.declared.descriptor.Descriptor.TheVariants.{Entry}
 use Rattle.wasi_fd.specs.declared.descriptor.Opened.{Opened}
 use Rattle.wasm_store.specs.Bytes.{written}
 use Rattle.wasi_calls.specs.World.{World}
 use Rattle.wasi_calls.specs.Checks.{Checked, Done, Buffer, ◌>>=◌, tree_call, total, scattered, put}
+use Rattle.wasi_calls.specs.Files.{read_from}
 
 -- the buffers cut to so many bytes in all
 abbrev pub cut : ℕ → List Buffer → List Buffer
@@ -74,3 +76,9 @@ abbrev pub read_into : World → Opened → ℕ → List Buffer → ℕ → Chec
 read_into w o at bs result = do
   bytes ← tree_call w (Ok (read_bytes w.tree o.serial at (total bs)))
   Ok (record { world = w; fills = scattered bytes bs; results = (result, little_bytes 4 (length bytes)) ∷ [] })
+
+-- the bytes of a file where it stands, which moves behind them, into the buffers, and then how many
+abbrev pub read_file_to : World → ℕ → Opened → List Buffer → ℕ → Checked Done
+read_file_to w fd o bs result = do
+  r ← read_from w fd (Entry o) (total bs)
+  Ok (record { world = r.0; fills = scattered r.1 bs; results = (result, little_bytes 4 (length r.1)) ∷ [] })

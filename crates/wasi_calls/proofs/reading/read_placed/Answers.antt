@@ -13,7 +13,7 @@ use Rattle.wasi_calls.specs.internal.Asking.{Asked}
 use Rattle.wasi_calls.specs.internal.Buffers.{list_of}
 use Rattle.wasi_calls.specs.internal.Reading.{wanted, received, read_into}
 use Rattle.wasi_calls.proofs.Volumes.{was_working, same_volume}
-use Rattle.wasi_calls.proofs.Received.{told_bytes, broke_off}
+use Rattle.wasi_calls.proofs.Telling.{told_bytes, broke_off}
 use Rattle.wasi_calls.proofs.reading.read_placed.Goals as goal
 
 pub returns-in-Ok-clause-answered : goal.returns-in-Ok-clause-answered

@@ -1,16 +1,20 @@
 -- Calls that read a file: the volume is asked, and what it tells is dealt out.
-use Rattle.std.proofs.Common.{◌≡◌, ◌≢◌, ◌⊎◌, ℕ, true, false, List, Ok, Err, refl, sym, ap, ◌∙◌, subst, inl, inr}
+use Rattle.std.proofs.Common.{◌≡◌, ◌≢◌, ◌⊎◌, ℕ, ◌+◌, true, false, List, [], ◌∷◌, length, Ok, Err, refl, sym, ap, ◌∙◌, subst, inl, inr}
 use Rattle.vol_sector.specs.Disk.{Disk}
 use Rattle.vol_tree.specs.Opened.{Opened}
-use Rattle.wasi_calls.specs.World.{World, volume_gone}
-use Rattle.wasi_calls.specs.Checks.{Checked, Done, and_then, put, tree_call}
+use Rattle.byteorder.specs.Endian.{little_bytes}
+use Rattle.wasi_fd.specs.declared.descriptor.Opened.{Opened as Opened'}
+use Rattle.wasi_calls.specs.World.{World, volume_gone, with_descriptor, moved_to}
+use Rattle.wasi_calls.specs.Checks.{Checked, Done, Buffer, and_then, put, tree_call, scattered}
 use Rattle.wasi_calls.specs.Calls.{Answered, IsMixed, filled, by_row, volume_fails}
 use Rattle.wasi_calls.specs.internal.Serving.{with_volume}
 use Rattle.wasi_calls.specs.internal.Asking.{Asked}
+use Rattle.wasi_calls.specs.internal.Reading.{wanted, read_file_to}
 use Rattle.wasi_calls.proofs.Yields.{goes_on, stops}
 use Rattle.wasi_calls.proofs.Serving.{answers_done, answers_refused}
 use Rattle.wasi_calls.proofs.Volumes.{was_working, is_no_err, tree_called_alive, tree_called_gone}
 use Rattle.wasi_calls.proofs.Asking.{asked_gone}
+use Rattle.wasi_calls.proofs.Written.{one_after}
 use Rattle.wasi_calls.proofs.Overlaps.{either}
 
 -- a row that asks for bytes, and what it makes of them
@@ -49,3 +53,13 @@ module _ {D : Type 0} (honest : D → Type 0) (disk : D → Disk) (sectors_on fa
           bytes = subst (λ (r : Checked Done). IsMixed m (filled r m) m') (sym (row_told alive)) mixed;
         })
       ]
+
+-- ---- a file that is read where it stands
+
+abbrev pub done_file : ℕ → Opened' → List Buffer → ℕ → World → List ℕ → Done
+done_file fd o bs result v xs = record { world = with_descriptor fd (moved_to o (o.position + length xs)) v; fills = scattered xs bs; results = (result, little_bytes 4 (length xs)) ∷ [] }
+
+pub row_file : (fd : ℕ) (o : Opened') (bs : List Buffer) (result : ℕ) (v : World) → read_file_to v fd o bs result ≡ asking (λ v. wanted v.tree o.serial o.position bs) (done_file fd o bs result) v
+row_file fd o bs result v =
+    one_after (tree_call v (Ok (wanted v.tree o.serial o.position bs))) (λ xs. (with_descriptor fd (moved_to o (o.position + length xs)) v, xs))
+    (λ r. record { world = r.0; fills = scattered r.1 bs; results = (result, little_bytes 4 (length r.1)) ∷ [] })
