@@ -33,3 +33,5 @@ pub mod Dirents
 pub mod Preopens
 pub mod Overlaps
 pub mod Listed
+pub mod Filling
+pub mod Telling
