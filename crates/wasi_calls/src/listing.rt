@@ -18,9 +18,8 @@ ghost use Rattle.wasi_calls.specs.internal.Listing.{listable, header, told_bytes
 
 use crate::arguments::{long, word};
 use crate::checks::{Takes, check_range, entry_at, write_bytes};
-use crate::files::refused;
+use crate::files::{refused, type_of_entry};
 use crate::numbers::{le32, le64};
-use vol_inode::Kind;
 use vol_sector::Device;
 use vol_tree::{Stat, Volume};
 use wasi_fd::{Descriptors, Opened, Rights};
@@ -62,16 +61,6 @@ struct Told {
     bytes: [u8; 279],
 }
 
-/// The `filetype` of an entry.
-fn file_type(kind: Kind) -> u8
-    ensures { result ≡ type_of_entry kind }
-{
-    match kind {
-        Kind::Directory => 3,
-        Kind::File => 4,
-    }
-}
-
 /// A `dirent` before its name: the next cookie at 0, the serial at 8, the name's length at 16 and the type at 20.
 fn header(serial: u32, name_length: u8, file_type: u8) -> [u8; 24]
     ensures { result ≡ header serial name_length file_type }
@@ -101,7 +90,7 @@ fn describe(serial: u32, stat: &Stat) -> Told
     ensures most { result.len ≤ 279 }
     ensures told { (e : Entry) → IsStat serial e stat.now → told_bytes result ≡ dirent serial e }
 {
-    let beginning = header(serial, stat.name_length, file_type(stat.kind));
+    let beginning = header(serial, stat.name_length, type_of_entry(stat.kind));
     let mut bytes = [0; 279];
     join(&mut bytes, &beginning, &stat.name);
     let len = 24 + stat.name_length as usize;

@@ -11,7 +11,7 @@ returns-clause-told c = λ e is.
     let s = c.args.stat.now in
     let n = s.name_length in
     let head : List ℕ = header c.args.serial n (type_of_entry s.kind) in
-    let first : c.header-beginning.result ≡ head = c.header-beginning.ensures ∙ ap (header c.args.serial n) c.file_type.ensures in
+    let first : c.header-beginning.result ≡ head = c.header-beginning.ensures ∙ ap (header c.args.serial n) c.type_of_entry.ensures in
     let all : c.join.new.bytes ≡ head ++ s.name = c.join.ensures ∙ ap (λ (l : List ℕ). l ++ s.name) first in
     let long : length s.name ≡ 255 = (let a = length-append head s.name in let b = ap length all in omega (arith, a, b, c.join.auto.bytes)) in
     ap (take (24 + n)) all ∙ (take-append-add head s.name n ∙ same_dirent c.args.serial e s is long (omega arith))
