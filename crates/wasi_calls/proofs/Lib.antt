@@ -32,3 +32,4 @@ pub mod BothWalks
 pub mod Dirents
 pub mod Preopens
 pub mod Overlaps
+pub mod Incoming

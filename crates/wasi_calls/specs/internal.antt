@@ -11,3 +11,4 @@ pub mod Climbing
 pub mod Renaming
 pub mod Preopening
 pub mod Reading
+pub mod Inputs

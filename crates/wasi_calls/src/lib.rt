@@ -13,6 +13,7 @@ mod fault;
 mod files;
 mod host;
 mod inner;
+mod inputs;
 mod laws;
 mod linking;
 mod missing;
