@@ -1,5 +1,5 @@
 -- Bytes that come from a reader.
-use Rattle.std.proofs.Common.{◌≡◌, ◌⊎◌, inl, inr, ℕ, ◌+◌, ◌-◌, ◌<◌, ◌≤◌, List, [], ◌∷◌, ◌++◌, length, take, drop, get_or, Option, refl, sym, ap, ◌∙◌, subst, add-zero, add-one, append_assoc, append-nil, arith}
+use Rattle.std.proofs.Common.{◌≡◌, ◌⊎◌, inl, inr, ℕ, ◌+◌, ◌-◌, ◌<◌, ◌≤◌, List, [], ◌∷◌, ◌++◌, length, take, drop, get_or, Bool, true, false, Option, Result, Ok, Err, refl, sym, ap, ◌∙◌, subst, add-zero, add-one, append_assoc, append-nil, arith}
 use Rattle.std.proofs.KnownBytes.{Consumes-nil, Consumes-trans}
 use Rattle.std.proofs.Math.Seq.{take-append_seam, drop-append_seam, drop-append-add, take-suc}
 use Rattle.std.proofs.lemmas.List.{length-append, length-take, length-drop, take_all, drop_all, take-append-le, drop-append-le, take-append-drop, drop-drop, map-append}
@@ -180,3 +180,13 @@ dealt_fails a b c m m1 m2 bs i n d h x y full =
       count = n + y.count;
       dealt = subst (λ (l : List Buffer). Dealt a c m l m2 (n + y.count)) parts (dealt_rest a c m m2 (list_of (take (i + 1) bs)) (list_of (drop (i + 1) bs)) (n + y.count) some);
     }
+
+pub ended_or : (b : Bool) → (b ≡ true) ⊎ (b ≡ false)
+ended_or true = inl refl
+ended_or false = inr refl
+
+pub same_count : {E : Type 0} (n k : ℕ) → ◌≡◌ {A = Result ℕ E} (Ok n) (Ok k) → n ≡ k
+same_count n k h = cc
+
+pub no_count : {E : Type 0} (e : E) (n : ℕ) → ◌≡◌ {A = Result ℕ E} (Err e) (Ok n) → ⊥
+no_count e n h = cc

@@ -119,6 +119,7 @@ fn fill_next<R: Read>(
     ensures long { length memory.new ≡ length memory.old }
     ensures came { IfOk result (λ n. Came (R.remaining input.old.reader) (R.remaining input.new.reader) memory.old buffer.pointer buffer.len memory.new n) }
     ensures full { IfOk result (λ n. input.new.ended ≡ false → n ≡ buffer.len) }
+    ensures small { IfOk result (λ n. n < 2 ^ 32) }
     ensures none { input.old.ended ≡ true → (result ≡ Ok 0) × (input.new.ended ≡ true) }
     ensures end { input.new.ended ≡ true → IsAtEnd (R.remaining input.new.reader) }
     ensures broke { OnErr result (SomeCame (R.remaining input.old.reader) (R.remaining input.new.reader) memory.old buffer.pointer buffer.len memory.new) }
