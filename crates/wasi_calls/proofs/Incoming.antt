@@ -11,7 +11,7 @@ use Rattle.wasi_calls.specs.Checks.{Buffer, put, total, scattered}
 use Rattle.wasi_calls.specs.internal.Buffers.{pair_of, list_of}
 use Rattle.wasi_calls.specs.internal.Inputs.{Came, SomeCame, Dealt, SomeDealt}
 
-none_long : (l : List ℕ) → length l ≡ 0 → l ≡ []
+pub none_long : (l : List ℕ) → length l ≡ 0 → l ≡ []
 none_long [] h = refl
 none_long (x ∷ l) h = absurd (omega (arith, h))
 

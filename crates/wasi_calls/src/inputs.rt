@@ -175,7 +175,7 @@ pub(crate) fn read_stream<R: Read>(
     requires end { input.old.ended ≡ true → IsAtEnd (R.remaining input.old.reader) }
     ensures idle { input.old.failed ≡ true → (input.new ≡ input.old) × (memory.new ≡ memory.old) × (result ≡ Err Errno.IO) }
     ensures took { OnOk result (IsRead R.remaining input.old input.new memory.old (list_of buffers.now) result_at memory.new) }
-    ensures broke { OnErr result (input.old.failed ≡ false → (input.new.failed ≡ true)
+    ensures broke { OnErr result (input.old.failed ≡ false → (input.new.failed ≡ true) × (input.old.ended ≡ false)
         × SomeDealt (R.remaining input.old.reader) (R.remaining input.new.reader) memory.old (list_of buffers.now) memory.new) }
     ensures answer { IfErr result (λ e. e.0 ≡ 29) }
     ensures end { input.new.ended ≡ true → IsAtEnd (R.remaining input.new.reader) }
