@@ -33,4 +33,4 @@ pub mod Dirents
 pub mod Preopens
 pub mod Overlaps
 pub mod Incoming
-pub mod Received
+pub mod FromInput
