@@ -34,3 +34,5 @@ pub mod Preopens
 pub mod Overlaps
 pub mod Incoming
 pub mod FromInput
+pub mod Filling
+pub mod Telling

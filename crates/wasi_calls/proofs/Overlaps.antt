@@ -16,7 +16,7 @@ both_so : (a b : Bool) → a ≡ true → b ≡ true → a && b ≡ true
 both_so true b h k = k
 both_so false b h k = absurd (false≢true h)
 
-or_true : (b : Bool) → b || true ≡ true
+pub or_true : (b : Bool) → b || true ≡ true
 or_true true = refl
 or_true false = refl
 
@@ -66,14 +66,14 @@ length_written m xs p h =
     let four = length-drop (p + length xs) m in
     omega (arith, one, two, three, four)
 
-written_before : (m xs : List ℕ) (p at : ℕ) → p ≤ length m → at < p → get_or (written m p xs) at 0 ≡ get_or m at 0
+pub written_before : (m xs : List ℕ) (p at : ℕ) → p ≤ length m → at < p → get_or (written m p xs) at 0 ≡ get_or m at 0
 written_before m xs p at inside h =
     let all = length-take p m in
     let here : at < length (take p m) = omega (arith, all) in
     get_or_append_left (take p m) (xs ++ drop (p + length xs) m) 0 at here
     ∙ (sym (get_or_append_left (take p m) (drop p m) 0 at here) ∙ ap (λ (l : List ℕ). get_or l at 0) (take-append-drop p m))
 
-written_behind : (m xs : List ℕ) (p at : ℕ) → p ≤ length m → p + length xs ≤ at → get_or (written m p xs) at 0 ≡ get_or m at 0
+pub written_behind : (m xs : List ℕ) (p at : ℕ) → p ≤ length m → p + length xs ≤ at → get_or (written m p xs) at 0 ≡ get_or m at 0
 written_behind m xs p at inside h =
     let all = length-take p m in
     let first : length (take p m) ≡ p = omega (arith, all) in
@@ -114,7 +114,7 @@ untouched size (b ∷ bs) m bytes at same inside out =
 
 -- ---- memory while buffers are filled
 
-either : (b : Bool) → (b ≡ true) ⊎ (b ≡ false)
+pub either : (b : Bool) → (b ≡ true) ⊎ (b ≡ false)
 either true = inl refl
 either false = inr refl
 

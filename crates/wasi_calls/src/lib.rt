@@ -26,7 +26,6 @@ mod outputs;
 mod paths;
 mod plain;
 mod preopening;
-mod read_file_stub;
 mod removing;
 mod renaming;
 mod reading;

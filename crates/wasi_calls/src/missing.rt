@@ -14,15 +14,6 @@ impl<'s, 't, D: Device, R: Read, W1: Write, W2: Write> Inner<'s, 't, D, R, W1, W
     ghost use Rattle.wasi_calls.specs.internal.Serving.{IsSetUp, KnowsEntries, Serves, errno_of};
 
     /// STUB
-    pub fn fd_pread(&mut self, memory: &mut Memory, arguments: &[u64]) -> Result<(), Errno>
-        requires set_up { IsSetUp R.remaining self.old }
-        requires known { KnowsEntries D.honest self.old.volume (table_of self.old.descriptors) }
-        ensures { (used : _) → Serves D.honest D.disk D.size D.failures R.remaining W1.contents W2.contents (λ w. row call.FdPread w memory.old used arguments.now) self.old memory.old self.new memory.new (errno_of result) }
-    {
-        unreachable!()
-    }
-
-    /// STUB
     pub fn fd_readdir(&mut self, memory: &mut Memory, arguments: &[u64]) -> Result<(), Errno>
         requires set_up { IsSetUp R.remaining self.old }
         requires known { KnowsEntries D.honest self.old.volume (table_of self.old.descriptors) }
