@@ -1,5 +1,5 @@
 -- Calls that read from the input.
-use Rattle.std.proofs.Common.{◌≡◌, ◌⊎◌, inl, inr, Bool, Result, OnOk, OnErr, IfErr, ℕ, ◌+◌, ◌≤◌, true, false, not, List, [], ◌∷◌, ◌++◌, length, take, drop, Option, Some, None, Ok, Err, vec_len, refl, sym, ap, ◌∙◌, subst, append-nil, arith}
+use Rattle.std.proofs.Common.{◌≡◌, ◌⊎◌, inl, inr, Result, OnOk, OnErr, IfErr, ℕ, ◌+◌, ◌≤◌, true, false, not, List, [], ◌∷◌, ◌++◌, length, take, drop, Option, Some, None, Ok, Err, vec_len, refl, sym, ap, ◌∙◌, subst, append-nil, arith}
 use Rattle.std.proofs.lemmas.Bool.{false≢true}
 use Rattle.std.proofs.lemmas.List.{length-append, length-drop, take_all, drop_all}
 use Rattle.std.proofs.Math.Seq.{take-append_seam, drop-append_seam}
@@ -20,7 +20,7 @@ use Rattle.wasi_calls.specs.Checks.{Checked, Done, Buffer, put, total, scattered
 use Rattle.wasi_calls.specs.Calls.{Answered, by_row, input_fails, input_left, filled}
 use Rattle.wasi_calls.specs.Host.{HostState, StreamBytes, StreamsTell, Tells, world_of, VolumeStep}
 use Rattle.wasi_calls.specs.internal.Serving.{state_of, errno_of, IsSetUp, Serves}
-use Rattle.wasi_calls.specs.internal.Inputs.{Dealt, SomeDealt, IsRead, read_to}
+use Rattle.wasi_calls.specs.internal.Inputs.{SomeDealt, IsRead, read_to}
 use Rattle.wasi_calls.proofs.Yields.{guard_passes, guard_fails, goes_on, stops}
 use Rattle.wasi_calls.proofs.Serving.{answers_done, answers_refused}
 use Rattle.wasi_calls.proofs.Served.{volume_rests, bytes_told, streams_rest, told, rests}
