@@ -33,5 +33,7 @@ pub mod Dirents
 pub mod Preopens
 pub mod Overlaps
 pub mod Listed
+pub mod Incoming
+pub mod FromInput
 pub mod Filling
 pub mod Telling

@@ -135,7 +135,7 @@ all_from T [] serials n found = refl
 all_from T (p ∷ ps) serials n found =
     let here : directory_named T p.path.now ≡ Some (get_or serials n 0) = found 0 p refl ∙ ap (λ (k : ℕ). Some (get_or serials k 0)) (omega arith) in
     let rest : preopens_of T ps ≡ Some (opened_from (suc n) ps serials) =
-        all_from T ps serials (suc n) (λ k q is. found (suc k) q is ∙ ap (λ (k : ℕ). Some (get_or serials k 0)) (omega arith)) in
+    all_from T ps serials (suc n) (λ k q is. found (suc k) q is ∙ ap (λ (k : ℕ). Some (get_or serials k 0)) (omega arith)) in
     ap (λ (s : Option ℕ). both T p s (preopens_of T ps)) here ∙ ap (both T p (Some (get_or serials n 0))) rest
 
 pub all_found : (T : Tree) (ps : List PreopenValue) (serials : List ℕ) → AreFound T ps serials (length ps) → preopens_of T ps ≡ Some (opened_from 0 ps serials)

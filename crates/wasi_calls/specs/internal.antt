@@ -12,3 +12,4 @@ pub mod Renaming
 pub mod Preopening
 pub mod Reading
 pub mod Listing
+pub mod Inputs
