@@ -12,7 +12,7 @@ use wasm_store::HostCall::{
 };
 use wasm_store::{Answer, Errno, HostCall, Memory};
 
-/// Calls that all reach the volume, in memory with `ab` at 100 and a buffer of 20,000 bytes at 200.
+/// Calls that all reach the volume, in memory with `ab` at 100 and a buffer of 10,000 bytes at 200.
 const CALLS: [(HostCall, &[u64]); 15] = [
     (PathCreateDirectory, &[3, 100, 1]),
     (PathOpen, &[3, 0, 101, 1, 1, u64::MAX, 0, 0, 104]),
@@ -54,7 +54,7 @@ fn answered(guest: &mut Guest<'_, '_>, memory: &mut Memory) -> Option<usize> {
 fn page(alloc: Global) -> Result<Memory, AllocError> {
     let mut memory = Memory::new(alloc, 1)?;
     let _ = memory.write(100, b"abcd");
-    let _ = memory.write(200, b"\xE8\x03\0\0\x20\x4E\0\0");
+    let _ = memory.write(200, b"\xE8\x03\0\0\x10\x27\0\0");
     Ok(memory)
 }
 
