@@ -13,9 +13,13 @@ use Rattle.wasi_calls.specs.internal.Asking.{Asked}
 use Rattle.wasi_calls.specs.internal.Buffers.{list_of}
 use Rattle.wasi_calls.specs.internal.Reading.{wanted, received, read_file_to}
 use Rattle.wasi_calls.proofs.Volumes.{was_working, same_volume}
+use Rattle.wasi_calls.proofs.Asking.{asked_step}
 use Rattle.wasi_calls.proofs.Positions.{in_table, table_moved}
 use Rattle.wasi_calls.proofs.Telling.{told_bytes, broke_off, done_file, row_file}
 use Rattle.wasi_calls.proofs.reading.read_file.Goals as goal
+
+pub returns-in-Err-clause-step : goal.returns-in-Err-clause-step
+returns-in-Err-clause-step g c = asked_step g.D.Device.honest g.D.Device.disk g.D.Device.size g.D.Device.failures c.args.volume.now c.read_at.new.volume _ c.in-Err.ensures.asked
 
 pub returns-in-Ok-clause-answered : goal.returns-in-Ok-clause-answered
 returns-in-Ok-clause-answered g c = λ h w table shown.
