@@ -6,7 +6,7 @@ use Rattle.vol_tree.specs.Numbers.{number_of}
 use Rattle.vol_tree.specs.Tree.{Tree}
 use Rattle.vol_tree.specs.Opened.{is_io}
 use Rattle.wasi_fd.specs.Table.{table_of, with_at}
-use Rattle.wasi_calls.specs.World.{World, moved_to, with_descriptor}
+use Rattle.wasi_calls.specs.World.{World, moved_to}
 use Rattle.wasi_calls.specs.Calls.{Answered, IsMixed}
 use Rattle.wasi_calls.specs.internal.Serving.{with_volume, with_table}
 use Rattle.wasi_calls.specs.internal.Asking.{Asked}
