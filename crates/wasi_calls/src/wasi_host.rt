@@ -207,14 +207,8 @@ impl<'s, 't, D: Device, R: Read, W1: Write, W2: Write> Host for WasiHost<'s, 't,
     }
 }
 
-impl<'s, 't, D: Device, R: Read, W1: Write, W2: Write> VolumeHost for WasiHost<
-    's,
-    't,
-    D,
-    R,
-    W1,
-    W2,
-> {
+impl<'s, 't, D: Device, R: Read, W1: Write, W2: Write> VolumeHost
+    for WasiHost<'s, 't, D, R, W1, W2> {
     ghost use Rattle.wasi_calls.specs.Host.{Shows};
 
     ghost shows = { Shows };

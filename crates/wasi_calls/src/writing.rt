@@ -54,11 +54,7 @@ fn bytes_in<'m>(memory: &'m Memory, buffer: &Buffer) -> &'m [u8]
 
 /// The bytes in the buffers, or the first of them that may be written at once: those of one buffer where they stand,
 /// those of more in the piece.
-fn bytes_to_write<'m>(
-    piece: &'m mut [u8],
-    memory: &'m Memory,
-    buffers: &[Buffer],
-) -> &'m [u8]
+fn bytes_to_write<'m>(piece: &'m mut [u8], memory: &'m Memory, buffers: &[Buffer]) -> &'m [u8]
     requires inside { list_all (is_inside memory.now) (list_of buffers.now) ≡ true }
     requires room { length piece.old ≡ 16384 }
     ensures bytes { result.now ≡ take 16384 (gathered memory.now (list_of buffers.now)) }
