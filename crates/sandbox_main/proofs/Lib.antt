@@ -8,3 +8,4 @@ mod Filled
 mod Beginning
 mod Missing
 mod Opened
+mod Ram

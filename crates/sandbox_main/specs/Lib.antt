@@ -1,4 +1,5 @@
 pub mod File
+pub mod Ram
 pub mod Status
 pub mod Request
 pub mod CommandLine
