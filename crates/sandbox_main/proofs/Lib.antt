@@ -9,3 +9,4 @@ mod Beginning
 mod Missing
 mod Opened
 mod Ram
+mod Walks

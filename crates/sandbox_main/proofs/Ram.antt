@@ -5,36 +5,36 @@ use Rattle.std.proofs.lemmas.Bool.Decides.{nat_tests}
 use Rattle.std.proofs.lemmas.List.{get_or-set_same, get_or-set_other}
 use Rattle.vol_sector.specs.Disk.{Image, put, Wrote, After, Leaves, Keeps}
 use Rattle.vol_sector.specs.Record.{image_of}
-use Rattle.sandbox_main.specs.Ram.{IsOneOf, held}
+use Rattle.sandbox_main.specs.Ram.{Sectors, IsOneOf, held}
 
 -- what it held since an earlier moment, after one operation more
-since_more : (now then : Image) (before : List Image) (t : ℕ) (c : Image) → t ≤ length before → (held now (then ∷ before)).left_since t c → (c ≡ now) ⊎ (held then before).left_since t c
-since_more now then before t c le left =
-    let longer : length (then ∷ before) - t ≡ suc (length before - t) = omega arith in
-    subst (λ (k : ℕ). IsOneOf (now ∷ take k (then ∷ before)) c) longer left
+since_more : (now was : Sectors) (before : List Sectors) (t : ℕ) (c : Image) → t ≤ length before → (held now (was ∷ before)).left_since t c → (c ≡ image_of now) ⊎ (held was before).left_since t c
+since_more now was before t c le left =
+    let longer : length (was ∷ before) - t ≡ suc (length before - t) = omega arith in
+    subst (λ (k : ℕ). IsOneOf (now ∷ take k (was ∷ before)) c) longer left
 
-more_since : (now then : Image) (before : List Image) (t : ℕ) (c : Image) → t ≤ length before → (held then before).left_since t c → (held now (then ∷ before)).left_since t c
-more_since now then before t c le left =
-    let longer : length (then ∷ before) - t ≡ suc (length before - t) = omega arith in
-    subst (λ (k : ℕ). IsOneOf (now ∷ take k (then ∷ before)) c) (sym longer) (inr left)
+more_since : (now was : Sectors) (before : List Sectors) (t : ℕ) (c : Image) → t ≤ length before → (held was before).left_since t c → (held now (was ∷ before)).left_since t c
+more_since now was before t c le left =
+    let longer : length (was ∷ before) - t ≡ suc (length before - t) = omega arith in
+    subst (λ (k : ℕ). IsOneOf (now ∷ take k (was ∷ before)) c) (sym longer) (inr left)
 
 -- an operation that writes nothing
-pub leaves_held : (now : Image) (before : List Image) → Leaves (held now before) (held now (now ∷ before)) (λ c. ⊥)
+pub leaves_held : (now : Sectors) (before : List Sectors) → Leaves (held now before) (held now (now ∷ before)) (λ c. ⊥)
 leaves_held now before = record {
   later = omega arith;
-  since = λ t c le left. inl (⊎_elim (λ is. inl is) (λ was. was) (since_more now now before t c le left));
+  since = λ t c le left. inl (⊎_elim (λ is. inl is) (λ old. old) (since_more now now before t c le left));
   now = λ c is. inl is;
 }
 
-pub keeps_held : (now then : Image) (before : List Image) → Keeps (held then before) (held now (then ∷ before))
-keeps_held now then before t c le left = more_since now then before t c le left
+pub keeps_held : (now was : Sectors) (before : List Sectors) → Keeps (held was before) (held now (was ∷ before))
+keeps_held now was before t c le left = more_since now was before t c le left
 
 -- a write
-pub leaves_put : (now then : Image) (before : List Image) (n : ℕ) (bytes : List ℕ) → now ≡ put n bytes then → Leaves (held then before) (held now (then ∷ before)) (After (Wrote n bytes) (held then before).may_leave)
-leaves_put now then before n bytes put_is = record {
+pub leaves_put : (now was : Sectors) (before : List Sectors) (n : ℕ) (bytes : List ℕ) → image_of now ≡ put n bytes (image_of was) → Leaves (held was before) (held now (was ∷ before)) (After (Wrote n bytes) (held was before).may_leave)
+leaves_put now was before n bytes put_is = record {
   later = omega arith;
-  since = λ t c le left. ⊎_elim (λ is. inr (then, refl, inr (is ∙ put_is))) (λ was. inl was) (since_more now then before t c le left);
-  now = λ c is. inr (then, refl, inr (is ∙ put_is));
+  since = λ t c le left. ⊎_elim (λ is. inr (image_of was, refl, inr (is ∙ put_is))) (λ old. inl old) (since_more now was before t c le left);
+  now = λ c is. inr (image_of was, refl, inr (is ∙ put_is));
 }
 
 -- the sectors after one was rewritten

@@ -1,17 +1,22 @@
 -- A disk in memory: each write lasts at once.
-use Rattle.std.specs.Prelude.{◌≡◌, ◌⊎◌, ◌-◌, List, [], ◌∷◌, length, take}
+use Rattle.std.specs.Prelude.{◌≡◌, ◌⊎◌, ◌-◌, ℕ, List, [], ◌∷◌, length, take}
 use Rattle.vol_sector.specs.Disk.{Image, Disk}
+use Rattle.vol_sector.specs.Record.{image_of}
+
+-- the bytes of each sector
+abbrev pub Sectors : Type 0
+Sectors = List (List ℕ)
 
 -- one of these
-abbrev pub IsOneOf : List Image → Image → Type 0
+abbrev pub IsOneOf : List Sectors → Image → Type 0
 IsOneOf [] c = ⊥
-IsOneOf (one ∷ images) c = (c ≡ one) ⊎ IsOneOf images c
+IsOneOf (sectors ∷ others) c = (c ≡ image_of sectors) ⊎ IsOneOf others c
 
--- What it holds now, and held before each operation, the newest first. A crash leaves what it held then.
-abbrev pub held : Image → List Image → Disk
+-- Its sectors now, and before each operation, the newest first. A crash leaves what they were then.
+abbrev pub held : Sectors → List Sectors → Disk
 held now before = record {
-  seen = now;
-  may_leave = λ c. c ≡ now;
+  seen = image_of now;
+  may_leave = λ c. c ≡ image_of now;
   operation_count = length before;
   left_since = λ t. IsOneOf (now ∷ take (length before - t) before);
 }

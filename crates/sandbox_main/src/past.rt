@@ -1,16 +1,15 @@
-//! What a device held before each operation on it. It exists only in proofs.
+//! The sectors of a device before each operation on it. It exists only in proofs.
 
-ghost use Rattle.std.specs.Prelude.{◌≡◌, [], List};
+ghost use Rattle.std.specs.Prelude.{◌≡◌, [], List, ℕ};
 ghost use Rattle.std.specs.Borrow.{ftrue};
-ghost use Rattle.vol_sector.specs.Disk.{Image};
 
 use std::marker::Model;
 
-/// What a device held before each operation on it, the newest first. It takes no memory and does
-/// nothing at run time.
+/// The sectors of a device before each operation on it, the newest first. It takes no memory and
+/// does nothing at run time.
 #[derive(Drop)]
 pub(crate) struct Past {
-    ghost images: { List Image },
+    ghost images: { List (List (List ℕ)) },
 }
 
 impl Model for Past {

@@ -1,7 +1,6 @@
 //! A device in memory.
 
 ghost use Rattle.std.specs.Prelude.{◌≡◌, ◌<◌, ◌^◌, IfOk, refl, vec_len};
-ghost use Rattle.vol_sector.specs.Record.{image_of};
 ghost use Rattle.sandbox_main.specs.Ram.{held};
 ghost use Rattle.sandbox_main.specs.internal.RamLaws.{now_is_since, now_is_all};
 
@@ -30,16 +29,16 @@ impl RamDevice {
         })
     }
 
-    /// What it held before each operation, after one more.
+    /// Its sectors before each operation, after one more.
     fn next_past(&self) -> Past
-        ensures { result.images ≡ image_of self.now.sectors.items ∷ self.now.past.images }
+        ensures { result.images ≡ self.now.sectors.items ∷ self.now.past.images }
     {
         Past {}
     }
 }
 
 impl Device for RamDevice {
-    ghost disk = { λ d. held (image_of d.sectors.items) d.past.images };
+    ghost disk = { λ d. held d.sectors.items d.past.images };
 
     ghost honest = { λ d. Unit {0} };
 
@@ -47,9 +46,9 @@ impl Device for RamDevice {
 
     ghost failures = { λ d. 0 };
 
-    ghost counts_now = { λ d t c h le may. now_is_since (image_of d.sectors.items) d.past.images t c may };
+    ghost counts_now = { λ d t c h le may. now_is_since d.sectors.items d.past.images t c may };
 
-    ghost only_now = { λ d c h left. now_is_all (image_of d.sectors.items) d.past.images c left };
+    ghost only_now = { λ d c h left. now_is_all d.sectors.items d.past.images c left };
 
     ghost may_stay = { λ d h. refl };
 

@@ -2,15 +2,17 @@
 use Rattle.std.specs.Prelude.{◌≡◌, ◌-◌, ℕ, List, ◌∷◌, length, take}
 use Rattle.std.proofs.Common.{inl, inr, subst, arith}
 use Rattle.vol_sector.specs.Disk.{Image}
-use Rattle.sandbox_main.specs.Ram.{IsOneOf, held}
+use Rattle.vol_sector.specs.Record.{image_of}
+use Rattle.sandbox_main.specs.Ram.{Sectors, IsOneOf, held}
 
-pub now_is_since : (now : Image) (before : List Image) (t : ℕ) (c : Image) → c ≡ now → (held now before).left_since t c
+pub now_is_since : (now : Sectors) (before : List Sectors) (t : ℕ) (c : Image) → c ≡ image_of now → (held now before).left_since t c
 now_is_since now before t c is = inl is
 
-pub now_is_all : (now : Image) (before : List Image) (c : Image) → (held now before).left_since (length before) c → c ≡ now
+pub now_is_all : (now : Sectors) (before : List Sectors) (c : Image) → (held now before).left_since (length before) c → c ≡ image_of now
 now_is_all now before c left =
     let none : length before - length before ≡ 0 = omega arith in
     alone (subst (λ (k : ℕ). IsOneOf (now ∷ take k before) c) none left)
   where
-    alone : IsOneOf (now ∷ take 0 before) c → c ≡ now
-    alone left = elim left [ inl is ↦ is | inr never ↦ absurd never ]
+    alone : IsOneOf (now ∷ take 0 before) c → c ≡ image_of now
+    alone (inl is) = is
+    alone (inr never) = absurd never
