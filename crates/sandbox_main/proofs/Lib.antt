@@ -8,5 +8,6 @@ mod Filled
 mod Beginning
 mod Missing
 mod Opened
+mod FreshVolume
 mod Ram
 mod Walks

@@ -6,5 +6,6 @@ pub mod CommandLine
 pub mod Formatting
 pub mod Tasks
 pub mod Doing
+pub mod Volumes
 pub mod Execution
 pub mod internal
