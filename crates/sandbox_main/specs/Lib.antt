@@ -6,6 +6,8 @@ pub mod CommandLine
 pub mod Formatting
 pub mod Tasks
 pub mod Doing
+pub mod Supplies
 pub mod Volumes
+pub mod Running
 pub mod Execution
 pub mod internal

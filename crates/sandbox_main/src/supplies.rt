@@ -1,10 +1,9 @@
 //! What a guest is given by the words of its command line.
 
-ghost use Rattle.std.specs.Prelude.{◌≡◌, ◌⊎◌, IfOk, IfErr, None, Some, map, option_map};
-ghost use Rattle.std.specs.List.{Contains};
+ghost use Rattle.std.specs.Prelude.{◌≡◌, IfOk, IfErr, option_map};
 ghost use Rattle.sandbox_main.specs.Request.{texts, arguments_of};
 ghost use Rattle.sandbox_main.specs.Supplies.{cut, names_of, directories_of};
-ghost use Rattle.sandbox_main.specs.Supplies.{AreSettings, AreSupplies, IsNotSupplied, IsUncut};
+ghost use Rattle.sandbox_main.specs.Supplies.{AreDirectories, AreSettings, AreSupplies, IsUncut};
 
 use crate::request::Run;
 use sandbox_core::{Preopen, SessionFault, Settings};
@@ -68,7 +67,7 @@ fn directories<'a, 't>(run: &'a Run<'t>) -> &'a [&'t str]
 
 /// The guest's directories. One whose word has no `=` is refused as `Setting`.
 fn preopens<'t>(alloc: Global, words: &[&'t str]) -> Result<Vec<Preopen<'t>>, SessionFault>
-    ensures cut { IfOk result (λ v. map (λ p. Some (names_of p)) v.items ≡ map cut (texts words.now)) }
+    ensures cut { IfOk result (λ v. AreDirectories (texts words.now) v.items) }
     ensures refused { IfErr result (IsUncut (texts words.now)) }
 {
     let mut preopens = Vec::new(alloc);
@@ -84,7 +83,7 @@ fn preopens<'t>(alloc: Global, words: &[&'t str]) -> Result<Vec<Preopen<'t>>, Se
 }
 
 /// What a guest is given. A directory whose word has no `=` is refused as `Setting`.
-pub(crate) fn supplies<'t>(alloc: Global, run: &Run<'t>) -> Result<Supplies<'t>, SessionFault>
+pub(crate) fn supplied<'t>(alloc: Global, run: &Run<'t>) -> Result<Supplies<'t>, SessionFault>
     ensures given { IfOk result (AreSupplies run.now) }
     ensures refused { IfErr result (IsUncut (directories_of run.now)) }
 {
