@@ -9,5 +9,6 @@ mod Beginning
 mod Missing
 mod Opened
 mod FreshVolume
+mod Began
 mod Ram
 mod Walks
