@@ -8,3 +8,7 @@ mod Filled
 mod Beginning
 mod Missing
 mod Opened
+mod FreshVolume
+mod Began
+mod Ram
+mod Walks

@@ -1,6 +1,7 @@
 -- The command line: the command that clap is told of, and what its matches ask for. The words are those of clap's own
 -- model: an `App` is a command with its subcommands, a `Rule` an argument, and a `Row` what was found for one.
-use Rattle.std.specs.Prelude.{◌≡◌, ◌≢◌, ◌&&◌, ◌^◌, ℕ, Bool, true, List, [], ◌∷◌, length, pos, Option, Some, None, unwrap_or, option_and_then, if◌then◌else◌, nat_lt, codes}
+use Rattle.std.specs.Prelude.{◌≡◌, ◌≢◌, ◌&&◌, ◌^◌, ℕ, Bool, true, List, [], ◌∷◌, length, pos, Option, Some, None, unwrap_or, option_and_then, option_map, if◌then◌else◌, nat_lt, codes}
+use Rattle.std.specs.Borrow.{Bor}
 use Rattle.std.specs.List.{Contains, list_all}
 use Rattle.std.specs.Char.{digit_value}
 use Rattle.std.specs.Str.Parse.{digits_value, without_leading_plus}
@@ -35,6 +36,14 @@ number_rule name numbers = record (new_rule name) {
   parser = Some numbers;
 }
 
+-- `--name TEXT`
+abbrev pub text_rule : Text → Rule
+text_rule name = record (new_rule name) { long = Some name; action = Some Set; value_names = 1 }
+
+-- `--name TEXT`, as often as it comes
+abbrev pub texts_rule : Text → Rule
+texts_rule name = record (new_rule name) { long = Some name; action = Some Append; value_names = 1 }
+
 -- a word that has to be there
 abbrev pub word_rule : Text → Rule
 word_rule name = record (new_rule name) { action = Some Set; required = true }
@@ -50,11 +59,21 @@ words_rule = record (new_rule (codes "WORD")) {
   range = Some (record { start_inclusive = 0; end_inclusive = usize_max });
 }
 
--- `run`
+-- `run`, with what a guest may use
+unfoldable pub limited_app : App
+limited_app =
+    with_rule (with_rule (with_rule (new_app (codes "run")) (text_rule (codes "volume")))
+    (number_rule (codes "fuel") u64_numbers)) (number_rule (codes "pages") u32_numbers)
+
+-- and with what it is given
+unfoldable pub supplied_app : App
+supplied_app =
+    with_rule (with_rule (with_rule (with_rule limited_app (texts_rule (codes "dir"))) (texts_rule (codes "env")))
+    (number_rule (codes "moment") u64_numbers)) (text_rule (codes "random"))
+
+-- and with its words
 unfoldable pub run_app : App
-run_app =
-    with_rule (with_rule (with_rule (with_rule (new_app (codes "run"))
-    (number_rule (codes "fuel") u64_numbers)) (number_rule (codes "pages") u32_numbers)) (word_rule (codes "MODULE"))) words_rule
+run_app = with_rule (with_rule supplied_app (word_rule (codes "MODULE"))) words_rule
 
 -- a command on the volume in a file
 abbrev pub file_app : Text → App
@@ -95,12 +114,25 @@ number_or default bits id rows = unwrap_or (option_and_then (number_of bits) (on
 abbrev pub word_of : Text → List Row → Text
 word_of id rows = unwrap_or (first_of id rows) []
 
+-- all texts of an argument, in order
+abbrev pub texts_of : Text → List Row → List Text
+texts_of id rows = unwrap_or (all_of id rows) []
+
+-- the text behind a reference, if there is one
+abbrev pub text_in : Option (Bor Text) → Option Text
+text_in o = option_map (λ t. t.now) o
+
 -- what `run` is asked for by what was found for its arguments
 pub record AsksRun (rows : List Row) (run : Run) : Type 0 where
   pub fuel : run.limits.fuel ≡ number_or 1000000000 64 (codes "fuel") rows
   pub pages : run.limits.pages ≡ number_or 1024 32 (codes "pages") rows
+  pub volume : text_in run.volume ≡ first_of (codes "volume") rows
+  pub dirs : texts run.dirs.items ≡ texts_of (codes "dir") rows
+  pub env : texts run.env.items ≡ texts_of (codes "env") rows
+  pub moment : run.moment ≡ number_or 0 64 (codes "moment") rows
+  pub random : text_in run.random ≡ first_of (codes "random") rows
   pub module_word : run.module.now ≡ word_of (codes "MODULE") rows
-  pub words : texts run.words.items ≡ unwrap_or (all_of (codes "WORD") rows) []
+  pub words : texts run.words.items ≡ texts_of (codes "WORD") rows
 
 -- the command of this name is this task
 abbrev pub AsksTask : Text → List Row → Task → Type 0

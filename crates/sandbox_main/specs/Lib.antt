@@ -1,9 +1,13 @@
 pub mod File
+pub mod Ram
 pub mod Status
 pub mod Request
 pub mod CommandLine
 pub mod Formatting
 pub mod Tasks
 pub mod Doing
+pub mod Supplies
+pub mod Volumes
+pub mod Running
 pub mod Execution
 pub mod internal

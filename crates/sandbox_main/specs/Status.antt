@@ -10,6 +10,7 @@ use Rattle.wasm_interp.specs.declared.pause.Outcome.{Outcome}
 use Rattle.wasm_interp.specs.declared.pause.Outcome.TheVariants.{Exited, Trapped, OutOfFuel, OutOfMemory}
 use Rattle.sandbox_core.specs.declared.fault.SessionFault.{SessionFault}
 use Rattle.sandbox_core.specs.declared.fault.SessionFault.TheVariants as opening
+use Rattle.vol_sector.specs.declared.fault.VolumeFault.{VolumeFault}
 use Rattle.vol_sector.specs.declared.fault.VolumeFault.TheVariants as volume
 use Rattle.sandbox_main.specs.declared.failure.Failure.{Failure}
 use Rattle.sandbox_main.specs.declared.failure.Failure.TheVariants.{Volume}
@@ -21,10 +22,11 @@ status_of (Trapped t) = 120
 status_of OutOfFuel = 121
 status_of OutOfMemory = 122
 
--- The status after a run: that of its outcome, or 124 where an output couldn't be flushed. When a flush fails, no
--- writer says.
-abbrev pub EndsWith : Outcome → ℕ → Type 0
-EndsWith outcome status = (status ≡ status_of outcome) ⊎ (status ≡ 124)
+-- The status after a run that left this: 123 where its calls couldn't be committed; else that of its outcome, or 124
+-- where an output couldn't be flushed. When a flush fails, no writer says.
+abbrev pub EndsWith : {V R : Type 0} → Outcome → Result V R → ℕ → Type 0
+EndsWith outcome (Ok volume) status = (status ≡ status_of outcome) ⊎ (status ≡ 124)
+EndsWith outcome (Err refused) status = status ≡ 123
 
 abbrev pub load_status : LoadFault → ℕ
 load_status loading.Memory = 122
@@ -33,6 +35,11 @@ load_status f = 124
 abbrev pub session_status : SessionFault → ℕ
 session_status opening.Memory = 122
 session_status f = 124
+
+-- where a volume is refused
+abbrev pub volume_status : VolumeFault → ℕ
+volume_status volume.Memory = 122
+volume_status f = 124
 
 -- where the words of the command line can't be read
 abbrev pub words_status : InputKind → ℕ

@@ -1,3 +1,4 @@
 pub mod Reaching
 pub mod Lines
 pub mod Filling
+pub mod RamLaws

@@ -1,24 +1,26 @@
 //! What the program does once the command line is read, and with which status it ends.
 
-ghost use Rattle.std.specs.Prelude.{◌≡◌, ◌≤◌, IfOk};
+ghost use Rattle.std.specs.Prelude.{◌≡◌, ◌≤◌};
 ghost use Rattle.std.specs.IoError.{error_kind};
 ghost use Rattle.clap.specs.Values.{kind_of};
 ghost use Rattle.sandbox_main.specs.Status.{status_of, EndsWith, load_status, session_status};
-ghost use Rattle.sandbox_main.specs.Status.{words_status, command_line_status};
+ghost use Rattle.sandbox_main.specs.Status.{volume_status, words_status, command_line_status};
 ghost use Rattle.sandbox_main.specs.Status.{TaskEndsWith};
-ghost use Rattle.sandbox_main.specs.Request.{texts, arguments_of};
-ghost use Rattle.sandbox_main.specs.Execution.{AreSettings, Launches, Runs, Executes};
+ghost use Rattle.sandbox_main.specs.Running.{Launches, device_of};
+ghost use Rattle.sandbox_main.specs.Execution.{Runs, Executes};
 
 use crate::failure::Failure;
-use crate::request::{Invocation, Limits, Run};
+use crate::opening::open_for_run;
+use crate::request::{Invocation, Run};
+use crate::supplies::{settings, supplied};
 use crate::tasks::{format, perform};
 use sandbox_core::{
-    LoadFault, Outcome, Preopen, RefusedSession, Report, Session, SessionFault, Settings, Valid,
+    HostParts, LoadFault, Outcome, RefusedSession, Report, Session, SessionFault, Valid,
 };
-use std::alloc::{AllocError, Global};
+use std::alloc::Global;
 use std::io;
 use std::io::{Read, Write};
-use vol_sector::{Device, VolumeFault};
+use vol_sector::{Device, Refused, VolumeFault};
 
 /// The status where a guest's own one is greater than `GREATEST`.
 const OTHER_EXIT: u8 = 119;
@@ -31,16 +33,12 @@ const OUT_OF_FUEL: u8 = 121;
 
 const OUT_OF_MEMORY: u8 = 122;
 
+const NOT_COMMITTED: u8 = 123;
+
 const FAULT: u8 = 124;
 
 /// The status where the command line is refused, or help or the version is asked for.
 const REFUSED: u8 = 125;
-
-/// What is preopened where the command line says nothing of it: the root.
-static PREOPENS: [Preopen<'static>; 1] = [Preopen {
-    guest_name: b"/",
-    path: b"/",
-}];
 
 /// Prints a fault's line, and gives its status.
 fn load_refused<W: Write>(err: &mut W, fault: LoadFault) -> u8
@@ -62,6 +60,25 @@ fn session_refused<W: Write>(err: &mut W, fault: SessionFault) -> u8
         SessionFault::Memory => OUT_OF_MEMORY,
         _ => FAULT,
     }
+}
+
+/// Prints the line of a volume that is refused, and gives its status.
+fn volume_refused<W: Write>(err: &mut W, fault: VolumeFault) -> u8
+    ensures { result ≡ volume_status fault }
+{
+    let _ = writeln!(err, "sandbox: {fault}");
+    match fault {
+        VolumeFault::Memory => OUT_OF_MEMORY,
+        _ => FAULT,
+    }
+}
+
+/// Prints the line of a volume whose device failed before all was committed, and gives its status.
+fn not_committed<W: Write>(err: &mut W) -> u8
+    ensures { result ≡ 123 }
+{
+    let _ = writeln!(err, "sandbox: fault 33");
+    NOT_COMMITTED
 }
 
 /// Prints the line of words that can't be read, one that isn't UTF-8 among them, and gives the
@@ -126,88 +143,92 @@ fn ended<W: Write>(err: &mut W, outcome: Outcome) -> u8
     }
 }
 
-/// The guest's arguments: the module's word, and then the others.
-fn arguments<'a>(alloc: Global, run: &Run<'a>) -> Result<Vec<&'a [u8]>, AllocError>
-    ensures { IfOk result (λ args. texts args.items ≡ arguments_of run.now) }
-{
-    let mut arguments = Vec::new(alloc);
-    arguments.push(run.module.as_bytes())?;
-    for word in &run.words {
-        arguments.push(word.as_bytes())?;
-    }
-    Ok(arguments)
-}
-
-/// The settings of a run: no environment, the moment 0, no random bytes, and the root as `/`.
-fn settings<'a, 't>(args: &'a [&'t [u8]], pages: u32) -> Settings<'a, 't>
-    ensures { AreSettings (texts args.entry.now) pages result }
-{
-    Settings {
-        args,
-        env: &[],
-        preopens: &PREOPENS,
-        moment: 0,
-        random: b"",
-        pages,
-    }
-}
-
-/// Ends a run: its outcome's line and status, but where the guest's output can't be flushed.
-fn report<R: Drop, W1: Write + Drop, W2: Write + Drop>(report: Report<R, W1, W2>) -> u8
-    ensures { EndsWith report.outcome result }
+/// Ends a run: its outcome's line and status, but where its calls couldn't be committed or the guest's
+/// output can't be flushed. Gives the device of the volume back.
+fn report<D: Device + Drop, R: Drop, W1: Write + Drop, W2: Write + Drop>(
+    report: Report<D, R, W1, W2>,
+) -> (u8, D)
+    ensures ends { EndsWith report.outcome report.volume result.0 }
+    ensures device { result.1 ≡ device_of report.volume }
 {
     let Report {
         outcome,
+        volume,
         mut out,
         mut err,
         ..
     } = report;
     let status = ended(&mut err, outcome);
-    if out.flush().is_err() || err.flush().is_err() {
-        return refuse_file(&mut err);
+    let flushed = out.flush().is_ok() && err.flush().is_ok();
+    match volume {
+        Ok(volume) if flushed => (status, volume.into_device()),
+        Ok(volume) => (refuse_file(&mut err), volume.into_device()),
+        Err(Refused { device, .. }) => (not_committed(&mut err), device),
     }
-    status
 }
 
-/// Runs a valid module with these arguments.
-fn launch<R: Read + Drop, W1: Write + Drop, W2: Write + Drop>(
+/// Runs a valid module with these settings on an open volume, whose device it gives back.
+fn launch<D: Device + Drop, R: Read + Drop, W1: Write + Drop, W2: Write + Drop>(
     alloc: Global,
     valid: Valid<'_>,
-    args: &[&[u8]],
-    limits: Limits,
-    input: R,
-    out: W1,
-    err: W2,
-) -> u8
-    ensures { Launches R.remaining W1.contents W2.contents valid.entry (texts args.now) limits input out err result }
+    fuel: u64,
+    parts: HostParts<'_, '_, D, R, W1, W2>,
+) -> (u8, D)
+    ensures { Launches D.honest D.disk D.size D.failures R.remaining W1.contents W2.contents
+        valid.entry fuel parts.entry result.0 result.1 }
 {
-    match Session::new(alloc, valid, settings(args, limits.pages), input, out, err) {
-        Ok(session) => report(sandbox_core::run(session, limits.fuel)),
-        Err(refused) => {
-            let RefusedSession { mut err, fault, .. } = refused;
-            session_refused(&mut err, fault)
+    let HostParts {
+        settings,
+        volume,
+        input,
+        out,
+        err,
+    } = parts;
+    match Session::new(alloc, valid, settings, volume, input, out, err) {
+        Ok(session) => report(sandbox_core::run(session, fuel)),
+        Err(RefusedSession { parts, fault, .. }) => {
+            let HostParts {
+                volume, mut err, ..
+            } = parts;
+            (session_refused(&mut err, fault), volume.into_device())
         }
     }
 }
 
-fn run<R: Read + Drop, W1: Write + Drop, W2: Write + Drop>(
+/// Runs a module on the volume of a device, with random bytes, and gives the device back.
+fn run<D: Device + Drop, R: Read + Drop, W1: Write + Drop, W2: Write + Drop>(
     alloc: Global,
     run: &Run<'_>,
     module: &[u8],
+    random: &[u8],
+    device: D,
     input: R,
     out: W1,
     mut err: W2,
-) -> u8
-    ensures { Runs R.remaining W1.contents W2.contents run.now «module».now input out err result }
+) -> (u8, D)
+    ensures { Runs D.honest D.disk D.size D.failures R.remaining W1.contents W2.contents
+        run.now «module».now random.now device input out err result.0 result.1 }
 {
+    let supplies = match supplied(alloc, run) {
+        Ok(supplies) => supplies,
+        Err(fault) => return (session_refused(&mut err, fault), device),
+    };
     let valid = match sandbox_core::load(alloc, module) {
         Ok(valid) => valid,
-        Err(fault) => return load_refused(&mut err, fault),
+        Err(fault) => return (load_refused(&mut err, fault), device),
     };
-    match arguments(alloc, run) {
-        Ok(args) => launch(alloc, valid, args.as_slice(), run.limits, input, out, err),
-        Err(_) => out_of_memory(&mut err),
-    }
+    let volume = match open_for_run(alloc, run.volume, device) {
+        Ok(volume) => volume,
+        Err(Refused { device, fault }) => return (volume_refused(&mut err, fault), device),
+    };
+    let parts = HostParts {
+        settings: settings(run, &supplies, random),
+        volume,
+        input,
+        out,
+        err,
+    };
+    launch(alloc, valid, run.limits.fuel, parts)
 }
 
 /// Ends a task on a volume: a failure's line, and the status.
@@ -230,25 +251,26 @@ fn task_ended<W1: Write + Drop, W2: Write + Drop>(
     }
 }
 
-/// Does what the command line asks, on the bytes of the module's file and on the device, and gives
-/// the exit status and the device. A run has no use of the device, and the other commands none of
-/// the bytes. The guest reads `input` and writes `out` and `err`; the program's own line goes to
-/// `err`.
-pub fn execute<D: Device, R: Read + Drop, W1: Write + Drop, W2: Write + Drop>(
+/// Does what the command line asks, on the bytes of the module's file and of the random bytes' and on
+/// the device, and gives the exit status and the device. Without a volume's file a run makes the
+/// device an empty volume; the other commands have no use of the bytes. The guest reads `input` and
+/// writes `out` and `err`; the program's own line goes to `err`.
+pub fn execute<D: Device + Drop, R: Read + Drop, W1: Write + Drop, W2: Write + Drop>(
     alloc: Global,
     invocation: &Invocation<'_>,
     module: &[u8],
+    random: &[u8],
     device: D,
     mut input: R,
     mut out: W1,
     err: W2,
 ) -> (u8, D)
-    ensures tells { Executes R.remaining W1.contents W2.contents D.honest D.disk D.size
-        invocation.now «module».now device input out err result.0 result.1 }
+    ensures tells { Executes D.honest D.disk D.size D.failures R.remaining W1.contents W2.contents
+        invocation.now «module».now random.now device input out err result.0 result.1 }
     ensures within { result.0 ≤ 124 }
 {
     match invocation {
-        Invocation::Run(it) => (run(alloc, it, module, input, out, err), device),
+        Invocation::Run(it) => run(alloc, it, module, random, device, input, out, err),
         Invocation::Format { sectors, slots, .. } => {
             let (done, device) = format(device, *sectors, *slots);
             (task_ended(done, out, err), device)

@@ -9,10 +9,21 @@ pub struct Limits {
     pub pages: u32,
 }
 
-/// `sandbox run`: a module, and what it may use.
+/// `sandbox run`: a module, what it may use, and what it is given.
 #[derive(Debug, Drop)]
 pub struct Run<'a> {
     pub limits: Limits,
+    /// The file of its volume; where there is none, it gets an empty volume, which is given up.
+    pub volume: Option<&'a str>,
+    /// Its directories, each as `GUEST=PATH`: the name that the guest knows it by, and its path in
+    /// the volume. Where there is none, it gets the root as `/`.
+    pub dirs: Vec<&'a str>,
+    /// Its environment, each text as `NAME=VALUE`.
+    pub env: Vec<&'a str>,
+    /// The time of day that it is told, in nanoseconds since 1970-01-01 00:00:00 UTC.
+    pub moment: u64,
+    /// The file of its random bytes; where there is none, it gets none.
+    pub random: Option<&'a str>,
     /// The module's file, which is also the guest's argument 0.
     pub module: &'a str,
     /// The guest's further arguments.

@@ -2,13 +2,15 @@
 
 ghost use Rattle.std.specs.Option.{MatchOption};
 ghost use Rattle.std.specs.List.{Contains};
-ghost use Rattle.std.specs.Prelude.{◌≡◌, IfOk, IsSomeAnd, Some, None, false, [], map, string_bytes, unwrap_or, option_and_then};
-ghost use Rattle.clap.specs.Words.{FailsBy, all_of, app_of, fault_of, found_of, one_of, rows_of, rule_of, subcommand_of};
+ghost use Rattle.std.specs.Prelude.{◌≡◌, IfOk, IsSomeAnd, Some, None, false, map, string_bytes, option_and_then};
+ghost use Rattle.clap.specs.Words.{FailsBy, app_of, fault_of, first_of, found_of, one_of, rows_of, rule_of, subcommand_of};
 ghost use Rattle.clap.specs.declared.builder.command.Command.TheViews.{out-Command as fields_of};
 ghost use Rattle.sandbox_main.specs.Request.{texts};
 ghost use Rattle.sandbox_main.specs.CommandLine.{AsksFor, AsksRun, AsksTask, number_of, number_rule, number_word_rule};
-ghost use Rattle.sandbox_main.specs.CommandLine.{task_names, word_rule, words_rule, word_of};
-ghost use Rattle.sandbox_main.specs.CommandLine.{file_app, path_app, format_app, program, run_app};
+ghost use Rattle.sandbox_main.specs.CommandLine.{task_names, text_rule, texts_rule, word_rule, words_rule};
+ghost use Rattle.sandbox_main.specs.CommandLine.{text_in, texts_of, word_of};
+ghost use Rattle.sandbox_main.specs.CommandLine.{file_app, path_app, format_app, program};
+ghost use Rattle.sandbox_main.specs.CommandLine.{limited_app, run_app, supplied_app};
 
 use crate::request::{Invocation, Limits, Run, Task};
 use clap::builder::ValueParser;
@@ -25,11 +27,13 @@ Statuses:
   120       the guest trapped
   121       the fuel is used up
   122       out of memory
+  123       the volume's device failed before all was kept
   124       a fault, which is named by its number
   125       the command line is refused, or help or the version is asked for
 
 Examples:
   sandbox run --fuel 5000000 --pages 16 hello.wasm first second -- --third
+  sandbox run --volume disk.img --dir /=/home --env LANG=C edit.wasm notes.txt
   sandbox format disk.img 2048 64
   sandbox put disk.img /notes.txt < notes.txt";
 
@@ -64,6 +68,28 @@ fn number_option<'a>(
         .help(help)
 }
 
+/// An option with one text.
+fn text_option<'a>(alloc: Global, name: &'a str, value: &'a str, help: &'a str) -> Arg<'a>
+    ensures { (rule_of result ≡ text_rule name.entry.now) × (result.global ≡ false) }
+{
+    Arg::new(alloc, name)
+        .long(name)
+        .value_name(value)
+        .action(ArgAction::Set)
+        .help(help)
+}
+
+/// An option with one text, which may come any number of times.
+fn texts_option<'a>(alloc: Global, name: &'a str, value: &'a str, help: &'a str) -> Arg<'a>
+    ensures { (rule_of result ≡ texts_rule name.entry.now) × (result.global ≡ false) }
+{
+    Arg::new(alloc, name)
+        .long(name)
+        .value_name(value)
+        .action(ArgAction::Append)
+        .help(help)
+}
+
 /// A word that has to be there.
 fn word<'a>(alloc: Global, name: &'a str, help: &'a str) -> Arg<'a>
     ensures { (rule_of result ≡ word_rule name.entry.now) × (result.global ≡ false) }
@@ -91,10 +117,16 @@ fn further_words<'a>(alloc: Global) -> Arg<'a>
         .help("Further arguments of the guest; -- comes before one that begins with -")
 }
 
-/// `run`, with its arguments.
-fn run_command<'a>(alloc: Global) -> Result<Command<'a>, AllocError>
-    ensures { IfOk result (λ c. (app_of c ≡ run_app) × ((fields_of c).has_globals ≡ false)) }
+/// `run`, with the options of what a guest may use.
+fn limited_command<'a>(alloc: Global) -> Result<Command<'a>, AllocError>
+    ensures { IfOk result (λ c. (app_of c ≡ limited_app) × ((fields_of c).has_globals ≡ false)) }
 {
+    let volume = text_option(
+        alloc,
+        "volume",
+        "FILE",
+        "The file of its volume [default: an empty volume, which is given up]",
+    );
     let fuel = number_option(
         alloc,
         "fuel",
@@ -108,10 +140,53 @@ fn run_command<'a>(alloc: Global) -> Result<Command<'a>, AllocError>
         "Most pages of memory, each of 65536 bytes [default: 1024]",
     );
     let about = "Run the _start of a WebAssembly module, until it ends or its fuel is used up";
-    let module = "The module's file; the guest gets this word as argument 0";
     described(Command::new(alloc, "run"), about)
+        .arg(volume)?
         .arg(fuel)?
-        .arg(pages)?
+        .arg(pages)
+}
+
+/// `run`, also with the options of what a guest is given.
+fn supplied_command<'a>(alloc: Global) -> Result<Command<'a>, AllocError>
+    ensures { IfOk result (λ c. (app_of c ≡ supplied_app) × ((fields_of c).has_globals ≡ false)) }
+{
+    let dir = texts_option(
+        alloc,
+        "dir",
+        "GUEST=PATH",
+        "A directory of the volume and its name for the guest, as often as wanted [default: /=/]",
+    );
+    let env = texts_option(
+        alloc,
+        "env",
+        "NAME=VALUE",
+        "A text of its environment, as often as wanted",
+    );
+    let moment = number_option(
+        alloc,
+        "moment",
+        clap::value_parser!(u64),
+        "Its time of day, in nanoseconds since 1970-01-01 00:00:00 UTC [default: 0]",
+    );
+    let random = text_option(
+        alloc,
+        "random",
+        "FILE",
+        "The file of its random bytes [default: none]",
+    );
+    limited_command(alloc)?
+        .arg(dir)?
+        .arg(env)?
+        .arg(moment)?
+        .arg(random)
+}
+
+/// `run`, with its arguments.
+fn run_command<'a>(alloc: Global) -> Result<Command<'a>, AllocError>
+    ensures { IfOk result (λ c. (app_of c ≡ run_app) × ((fields_of c).has_globals ≡ false)) }
+{
+    let module = "The module's file; the guest gets this word as argument 0";
+    supplied_command(alloc)?
         .arg(word(alloc, "MODULE", module))?
         .arg(further_words(alloc))
 }
@@ -179,12 +254,19 @@ fn text<'a>(matches: &ArgMatches<'a>, id: &str) -> &'a str
 
 /// The texts of an argument.
 fn texts<'a>(alloc: Global, matches: &ArgMatches<'a>, id: &str) -> Result<Vec<&'a str>, AllocError>
-    ensures { IfOk result (λ v. texts v.items ≡ unwrap_or (all_of id.now (rows_of (found_of matches.now))) []) }
+    ensures { IfOk result (λ v. texts v.items ≡ texts_of id.now (rows_of (found_of matches.now))) }
 {
     match matches.get_strs(id) {
         Some(texts) => Vec::from_slice(alloc, texts),
         None => Ok(Vec::new(alloc)),
     }
+}
+
+/// The text of an option, where it is there.
+fn option_text<'a>(matches: &ArgMatches<'a>, id: &str) -> Option<&'a str>
+    ensures { text_in result ≡ first_of id.now (rows_of (found_of matches.now)) }
+{
+    matches.get_str(id)
 }
 
 /// The number of an argument.
@@ -194,15 +276,27 @@ fn number(matches: &ArgMatches<'_>, id: &str) -> Option<u32>
     matches.get_one::<u32>(id)
 }
 
+/// The number of an argument that may have 64 bits.
+fn long_number(matches: &ArgMatches<'_>, id: &str) -> Option<u64>
+    ensures { result ≡ option_and_then (number_of 64) (one_of id.now (rows_of (found_of matches.now))) }
+{
+    matches.get_one::<u64>(id)
+}
+
 /// What `run` is asked for by what was found for its arguments.
 fn run_given<'a>(alloc: Global, matches: &ArgMatches<'a>) -> Result<Run<'a>, AllocError>
     ensures { IfOk result (AsksRun (rows_of (found_of matches.now))) }
 {
     Ok(Run {
         limits: Limits {
-            fuel: matches.get_one::<u64>("fuel").unwrap_or(FUEL),
+            fuel: long_number(matches, "fuel").unwrap_or(FUEL),
             pages: number(matches, "pages").unwrap_or(PAGES),
         },
+        volume: option_text(matches, "volume"),
+        dirs: texts(alloc, matches, "dir")?,
+        env: texts(alloc, matches, "env")?,
+        moment: long_number(matches, "moment").unwrap_or(0),
+        random: option_text(matches, "random"),
         module: text(matches, "MODULE"),
         words: texts(alloc, matches, "WORD")?,
     })

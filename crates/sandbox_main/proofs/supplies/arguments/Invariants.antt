@@ -1,6 +1,6 @@
 use Rattle.std.proofs.Common.{◌≡◌, ◌∷◌, take}
 use Rattle.sandbox_main.specs.Request.{texts}
-use Rattle.sandbox_main.proofs.program.arguments.Given as goal
+use Rattle.sandbox_main.proofs.supplies.arguments.Given as goal
 
 -- the words so far
 abbrev pub invariant-loop-word : goal.invariant-loop-word
