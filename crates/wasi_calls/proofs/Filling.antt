@@ -1,158 +1,23 @@
--- Buffers that are filled from a file, stretch by stretch, and one after another.
-use Rattle.std.proofs.Common.{◌≡◌, ◌⊎◌, ℕ, ◌+◌, ◌-◌, ◌<◌, ◌≤◌, Bool, true, false, cond, ◌&&◌, ◌||◌, nat_le, nat_lt, min, List, [], ◌∷◌, length, take, drop, get_or, inl, inr, refl, sym, ap, ◌∙◌, subst, IsTrue, arith}
-use Rattle.std.proofs.lemmas.Bool.{cond-true, cond-false, leb-true, le-ltb, lt-leb, and_parts, cases_lt, false≢true}
+-- Buffers that are filled from a file, one after another.
+use Rattle.std.proofs.Common.{◌≡◌, ◌⊎◌, ℕ, ◌+◌, ◌-◌, ◌<◌, ◌≤◌, Bool, true, false, ◌&&◌, ◌||◌, nat_le, nat_lt, min, List, [], ◌∷◌, length, take, drop, get_or, inl, inr, refl, sym, ap, ◌∙◌, arith}
+use Rattle.std.proofs.lemmas.Bool.{cond-true, cond-false, leb-true, le-ltb, lt-leb, and_parts, cases_lt}
 use Rattle.std.proofs.lemmas.List.{length-take, length-drop, get_or-take, get_or-drop, drop-drop, take-take, drop-take}
 use Rattle.std.proofs.lemmas.List.Sums.{sum_by-cons}
 use Rattle.std.specs.List.{list_all}
-use Rattle.vol_sector.specs.Disk.{Disk}
-use Rattle.vol_tree.specs.declared.superblock.Superblock.{Superblock}
-use Rattle.vol_tree.specs.Tree.{Tree}
-use Rattle.vol_tree.specs.Calls.{is_file_at}
-use Rattle.vol_tree.specs.Opened.{Opened}
 use Rattle.wasm_store.specs.Bytes.{written}
 use Rattle.wasi_calls.specs.Checks.{Buffer, put, total, scattered, is_inside}
 use Rattle.wasi_calls.specs.Calls.{IsMixed}
-use Rattle.wasi_calls.specs.internal.Serving.{IsFileOf}
-use Rattle.wasi_calls.specs.internal.Reaching.{StillWorks}
-use Rattle.wasi_calls.specs.internal.Reading.{cut, received, covered, HalfFilled, HasAll, IsBegun, BufferFilled, HasByte, BufferBegun}
-use Rattle.wasi_calls.proofs.Overlaps.{length_written, written_before, written_behind, written_inside, untouched, either, or_true, is_in, half_begun, half_mixed, half_done, cut_scattered, cut_total}
+use Rattle.wasi_calls.specs.internal.Reading.{cut, received, covered, HalfFilled, BufferFilled, BufferBegun}
+use Rattle.wasi_calls.proofs.Overlaps.{length_written, written_inside, untouched, either, or_true, is_in, half_begun, half_mixed, half_done, cut_scattered, cut_total}
 
--- ---- a stretch
-
+-- a byte of a part of a file
 part_byte : (file : List ℕ) (from n j : ℕ) → j < n → get_or (take n (drop from file)) j 0 ≡ get_or file (from + j) 0
 part_byte file from n j h = get_or-take n (drop from file) j 0 h ∙ get_or-drop from file j 0
 
--- it is in later buffers
-pub stretch_covered : (file : List ℕ) (from place until end : ℕ) (later : List Buffer) (m : List ℕ) → HasAll place until end later true → BufferFilled file from place until later m m
-stretch_covered file from place until end later m h = record {
-  as_long = refl;
-  filled = λ k le lt out. absurd (false≢true (sym out ∙ h.each k le lt));
-  beyond = λ k apart. refl;
-  hidden = λ k is. refl;
-}
-
--- it is free, and was read
-pub stretch_free : (file : List ℕ) (from place until end : ℕ) (later : List Buffer) (m m' : List ℕ) → HasAll place until end later false → end - place ≤ length file - from → end ≤ length m
-    → m' ≡ written m place (take (until - place) (drop from file)) → BufferFilled file from place until later m m'
-stretch_free file from place until end later m m' h inside room is =
-    let n = until - place in
-    let xs : List ℕ = take n (drop from file) in
-    let some = h.some in
-    let within = h.within in
-    let a = length-take n (drop from file) in
-    let b = length-drop from file in
-    let long : length xs ≡ n = omega (arith, a, b, some, within, inside) in
-    let start : place ≤ length m = omega (arith, some, within, room) in
-    let fits : place + length xs ≤ length m = omega (arith, long, some, within, room) in
-    let now : (k : ℕ) → get_or m' k 0 ≡ get_or (written m place xs) k 0 = λ k. ap (λ (l : List ℕ). get_or l k 0) is in
-    let apart : (k : ℕ) → (k < place) ⊎ (until ≤ k) → get_or m' k 0 ≡ get_or m k 0 = λ k out. elim out [
-      | inl before ↦ now k ∙ written_before m xs place k start before
-      | inr behind ↦ now k ∙ written_behind m xs place k start (omega (arith, long, some))
-    ] in
-    record {
-      as_long = ap length is ∙ length_written m xs place fits;
-      filled = λ k le lt out. now k ∙ (written_inside m xs place k start le (omega (arith, long)) ∙ part_byte file from n (k - place) (omega arith));
-      beyond = apart;
-      hidden = λ k is_in_later. elim (cases_lt k place) [
-        | inl before ↦ apart k (inl before)
-        | inr le ↦ elim (cases_lt k until) [
-          | inl lt ↦ absurd (false≢true (sym (h.each k le lt) ∙ is_in_later))
-          | inr behind ↦ apart k (inr behind)
-        ]
-      ];
-    }
-
--- it is free, and some of it was read
-pub stretch_begun : (file : List ℕ) (from place until end : ℕ) (later : List Buffer) (m m' : List ℕ) → HasAll place until end later false → end - place ≤ length file - from → end ≤ length m
-    → IsBegun m place (take (until - place) (drop from file)) m' → BufferBegun file from place end later m m'
-stretch_begun file from place until end later m m' h inside room begun =
-    let n = until - place in
-    let xs : List ℕ = take n (drop from file) in
-    let ys : List ℕ = take begun.count xs in
-    let few = begun.few in
-    let some = h.some in
-    let within = h.within in
-    let a = length-take n (drop from file) in
-    let b = length-drop from file in
-    let d = length-take begun.count xs in
-    let long : length xs ≡ n = omega (arith, a, b, some, within, inside) in
-    let so_many : length ys ≡ begun.count = omega (arith, d, few) in
-    let start : place ≤ length m = omega (arith, some, within, room) in
-    let fits : place + length ys ≤ length m = omega (arith, so_many, few, long, some, within, room) in
-    let now : (k : ℕ) → get_or m' k 0 ≡ get_or (written m place ys) k 0 = λ k. ap (λ (l : List ℕ). get_or l k 0) begun.is in
-    record {
-      as_long = ap length begun.is ∙ length_written m ys place fits;
-      each = λ k. elim (cases_lt k place) [
-        | inl before ↦ inl (now k ∙ written_before m ys place k start before)
-        | inr le ↦ elim (cases_lt k (place + length ys)) [
-          | inl lt ↦
-              let under : k - place < begun.count = omega (arith, so_many, lt, le) in
-              let below : k < until = omega (arith, so_many, few, long, lt, some) in
-              inr (record {
-                low = le;
-                high = omega (arith, below, within);
-                apart = h.each k le below;
-                byte = now k ∙ (written_inside m ys place k start le lt
-                ∙ (get_or-take begun.count xs (k - place) 0 under ∙ part_byte file from n (k - place) (omega (arith, below, le))));
-              })
-          | inr behind ↦ inl (now k ∙ written_behind m ys place k start behind)
-        ]
-      ];
-    }
-
--- ---- a buffer
-
-pub nothing_filled : (file : List ℕ) (from start : ℕ) (later : List Buffer) (m : List ℕ) → BufferFilled file from start start later m m
-nothing_filled file from start later m = record {
-  as_long = refl;
-  filled = λ k le lt out. absurd (omega (arith, le, lt));
-  beyond = λ k apart. refl;
-  hidden = λ k is. refl;
-}
-
-module _ (file : List ℕ) (from start place until : ℕ) (later : List Buffer) (old memory memory' : List ℕ) (low : start ≤ place) (high : place ≤ until) where
-  same_byte : (k : ℕ) → place ≤ k → get_or file (from + (place - start) + (k - place)) 0 ≡ get_or file (from + (k - start)) 0
-  same_byte k le = ap (λ (n : ℕ). get_or file n 0) (let same : from + (place - start) + (k - place) ≡ from + (k - start) = omega (arith, le, low) in same)
-
-  -- one stretch more
-  pub filled_on : BufferFilled file from start place later old memory → BufferFilled file (from + (place - start)) place until later memory memory' → BufferFilled file from start until later old memory'
-  filled_on first second = record {
-    as_long = second.as_long ∙ first.as_long;
-    filled = λ k le lt out. elim (cases_lt k place) [
-      | inl before ↦ second.beyond k (inl before) ∙ first.filled k le before out
-      | inr behind ↦ second.filled k behind lt out ∙ same_byte k behind
-    ];
-    beyond = λ k apart. elim apart [
-      | inl before ↦ second.beyond k (inl (omega (arith, before, low))) ∙ first.beyond k (inl before)
-      | inr behind ↦ second.beyond k (inr behind) ∙ first.beyond k (inr (omega (arith, behind, high)))
-    ];
-    hidden = λ k is. second.hidden k is ∙ first.hidden k is;
-  }
-
-  -- some of what is left
-  pub begun_on : BufferFilled file from start place later old memory → BufferBegun file (from + (place - start)) place until later memory memory' → BufferBegun file from start until later old memory'
-  begun_on first second = record {
-    as_long = second.as_long ∙ first.as_long;
-    each = λ k. elim (second.each k) [
-      | inr is ↦
-          let le = is.low in
-          inr (record { low = omega (arith, le, low); high = is.high; apart = is.apart; byte = is.byte ∙ same_byte k is.low })
-      | inl same ↦ elim (cases_lt k start) [
-        | inl before ↦ inl (same ∙ first.beyond k (inl before))
-        | inr le ↦ elim (cases_lt k place) [
-          | inr behind ↦ inl (same ∙ first.beyond k (inr behind))
-          | inl lt ↦ elim (either (covered k later)) [
-            | inl is ↦ inl (same ∙ first.hidden k is)
-            | inr out ↦ inr (record { low = le; high = omega (arith, lt, high); apart = out; byte = same ∙ first.filled k le lt out })
-          ]
-        ]
-      ]
-    ];
-  }
-
 -- ---- one buffer after another
 
--- Memory between two buffers: these are left, and what they leave behind the earlier ones is the last memory.
+-- Memory between two buffers, of which these are left: the last memory is one where the earlier ones are filled whole,
+-- with the rest of the bytes put into these.
 pub record Filling (file old last memory : List ℕ) (at : ℕ) (left : List Buffer) : Type 0 where
   pub before : List ℕ
   pub as_long : length before ≡ length old
@@ -243,15 +108,6 @@ module _ (file old last memory memory' : List ℕ) (at : ℕ) (b : Buffer) (late
           | inr is ↦ inr (is.byte ∙ sym (stands k is.low is.high is.apart))
         ];
       }
-
--- ---- a volume that is asked
-
-pub file_still : {D : Type 0} (honest : D → Type 0) (disk : D → Disk) (sectors_on failures : D → ℕ) (a b : Opened D) (serial : ℕ) → StillWorks honest disk sectors_on failures a b → IsFileOf honest a serial → IsFileOf honest b serial
-file_still honest disk sectors_on failures a b serial works file = record {
-  first = file.first;
-  last = subst (λ (n : Superblock). serial ≤ n.slots) (sym works.kept.numbers) file.last;
-  used = λ h. let before = works.kept.honest.1 h in subst (λ (T : Tree). IsTrue (is_file_at T serial)) (sym (works.tree before)) (file.used before);
-}
 
 -- ---- what is read
 

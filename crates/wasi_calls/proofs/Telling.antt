@@ -1,5 +1,5 @@
 -- Calls that read a file: the volume is asked, and what it tells is dealt out.
-use Rattle.std.proofs.Common.{◌≡◌, ◌≢◌, ◌⊎◌, ℕ, ◌+◌, true, false, List, [], ◌∷◌, length, Ok, Err, refl, sym, ap, ◌∙◌, subst, inl, inr}
+use Rattle.std.proofs.Common.{◌≡◌, ℕ, ◌+◌, true, false, List, [], ◌∷◌, length, Ok, Err, refl, sym, ap, ◌∙◌, subst, inl, inr}
 use Rattle.vol_sector.specs.Disk.{Disk}
 use Rattle.vol_tree.specs.Opened.{Opened}
 use Rattle.byteorder.specs.Endian.{little_bytes}

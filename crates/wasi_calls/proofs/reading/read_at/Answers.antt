@@ -1,4 +1,4 @@
-use Rattle.std.proofs.Common.{◌≡◌, ◌+◌, ◌-◌, ◌<◌, ◌≤◌, ◌^◌, ℕ, List, length, min, drop, true, sym, ap, ◌∙◌, subst, arith}
+use Rattle.std.proofs.Common.{◌≡◌, ◌-◌, ◌≤◌, ℕ, List, length, min, drop, true, sym, ap, ◌∙◌, subst, arith}
 use Rattle.std.specs.List.{list_all}
 use Rattle.vol_tree.specs.declared.errno.Errno.TheVariants as errno
 use Rattle.vol_tree.specs.Tree.{Tree}
@@ -6,7 +6,7 @@ use Rattle.vol_tree.specs.Calls.{bytes_at}
 use Rattle.wasi_calls.specs.Checks.{Buffer, total, is_inside, put, scattered}
 use Rattle.wasi_calls.specs.Calls.{IsMixed}
 use Rattle.wasi_calls.specs.internal.Buffers.{list_of}
-use Rattle.wasi_calls.specs.internal.Reading.{cut, wanted}
+use Rattle.wasi_calls.specs.internal.Reading.{cut}
 use Rattle.wasi_calls.proofs.Overlaps.{cut_total, cut_inside}
 use Rattle.wasi_calls.proofs.Filling.{as_many, cut_fits, cut_received}
 use Rattle.wasi_calls.proofs.reading.read_at.Goals as goal
@@ -59,7 +59,7 @@ returns-in-Err-fill_buffers-clause-broke g c = λ h.
     let counted = c.count_from-len.ensures.count in
     let count : n ≡ min (total bs) (length F - from) = omega (arith, len, counted, size) in
     let meant = λ (U : Tree) (l : List Buffer). total l ≤ length (bytes_at U c.args.serial) - from
-        → (c.in-Err-fill_buffers.errno ≡ errno.Io) × IsMixed m (put m (scattered (drop from (bytes_at U c.args.serial)) l)) m' in
+    → (c.in-Err-fill_buffers.errno ≡ errno.Io) × IsMixed m (put m (scattered (drop from (bytes_at U c.args.serial)) l)) m' in
     let broke = subst (λ (U : Tree). meant U (cut n bs)) tree (subst (meant T) c.cut_to.ensures (c.in-Err-fill_buffers.ensures.broke (c.in-Ok.ensures.kept.honest.0 h))) in
     let both = broke (cut_fits F from n bs count) in
     (both.0, subst (λ (l : List ℕ). IsMixed m l m') (cut_received F from n bs count m) both.1)

@@ -6,16 +6,20 @@ use Rattle.vol_tree.specs.Numbers.{number_of}
 use Rattle.vol_tree.specs.Tree.{Tree}
 use Rattle.vol_tree.specs.Opened.{is_io}
 use Rattle.wasi_fd.specs.Table.{table_of, with_at}
-use Rattle.wasi_calls.specs.World.{World, moved_to, with_descriptor}
+use Rattle.wasi_calls.specs.World.{World, moved_to}
 use Rattle.wasi_calls.specs.Calls.{Answered, IsMixed}
 use Rattle.wasi_calls.specs.internal.Serving.{with_volume, with_table}
 use Rattle.wasi_calls.specs.internal.Asking.{Asked}
 use Rattle.wasi_calls.specs.internal.Buffers.{list_of}
 use Rattle.wasi_calls.specs.internal.Reading.{wanted, received, read_file_to}
 use Rattle.wasi_calls.proofs.Volumes.{was_working, same_volume}
+use Rattle.wasi_calls.proofs.Asking.{asked_step}
 use Rattle.wasi_calls.proofs.Positions.{in_table, table_moved}
 use Rattle.wasi_calls.proofs.Telling.{told_bytes, broke_off, done_file, row_file}
 use Rattle.wasi_calls.proofs.reading.read_file.Goals as goal
+
+pub returns-in-Err-clause-step : goal.returns-in-Err-clause-step
+returns-in-Err-clause-step g c = asked_step g.D.Device.honest g.D.Device.disk g.D.Device.size g.D.Device.failures c.args.volume.now c.read_at.new.volume _ c.in-Err.ensures.asked
 
 pub returns-in-Ok-clause-answered : goal.returns-in-Ok-clause-answered
 returns-in-Ok-clause-answered g c = λ h w table shown.
