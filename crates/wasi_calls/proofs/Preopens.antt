@@ -11,9 +11,8 @@ use Rattle.vol_tree.specs.declared.errno.Errno.TheVariants as errno
 use Rattle.vol_tree.specs.Tree.{Tree, Name, IsTree, Entry as TreeEntry, entry}
 use Rattle.vol_tree.specs.Calls.{directory_at, is_directory}
 use Rattle.vol_tree.specs.declared.superblock.Superblock.{Superblock}
-use Rattle.vol_tree.specs.Opened.{Opened, IsSerial, is_io}
+use Rattle.vol_tree.specs.Opened.{Opened, IsSerial}
 use Rattle.path_walk.specs.Paths.{Reached, Found, Missing, slash, path_read, wants_directory, components_of, resolved, ◌>>=◌}
-use Rattle.path_walk.specs.declared.walking.Reached.{Reached as ReachedValue}
 use Rattle.wasi_fd.specs.declared.descriptor.Descriptor.{Descriptor}
 use Rattle.wasi_fd.specs.declared.descriptor.Descriptor.TheVariants.{Entry}
 use Rattle.wasi_fd.specs.declared.descriptor.EntryKind.TheVariants as kinds
@@ -23,7 +22,7 @@ use Rattle.wasi_fd.specs.Table.{Table, streams, with_at}
 use Rattle.wasi_calls.specs.declared.fault.HostFault.{HostFault}
 use Rattle.wasi_calls.specs.declared.fault.HostFault.TheVariants.{Setting, Preopen, Device, Memory}
 use Rattle.wasi_calls.specs.declared.settings.Preopen.{Preopen as PreopenValue}
-use Rattle.wasi_calls.specs.Making.{OnlyReads, HasPreopens, directory_named, from_root, found_directory, preopens_of, preopened, table_with, is_device}
+use Rattle.wasi_calls.specs.Making.{OnlyReads, HasPreopens, directory_named, from_root, found_directory, preopens_of, preopened, table_with}
 use Rattle.wasi_calls.specs.internal.Preopening.{fault_as, Finds, FindsAll, AreFound, AreNumbers, AreOpen, FoundSoFar, opened_from}
 use Rattle.wasi_calls.specs.internal.Serving.{IsThere, KnowsEntries, is_directory_kind}
 use Rattle.wasi_calls.proofs.Entries.{no_entries}
@@ -53,14 +52,6 @@ module _ {D : Type 0} (honest : D → Type 0) (disk : D → Disk) (sectors_on fa
 
 -- ---- what a path names
 
-pub root_named : (T : Tree) (rest : List ℕ) → length rest ≡ 0 → from_root T rest ≡ Some 1
-root_named T [] h = refl
-root_named T (c ∷ rest) h = absurd (omega (arith, h))
-
-pub root_unread : (T : Tree) (rest : List ℕ) (e : Errno) → length rest ≢ 0 → path_read rest ≡ Err e → from_root T rest ≡ None
-root_unread T [] e some read = absurd (some refl)
-root_unread T (c ∷ rest) e some read = ap (λ (names : Result (List Name) Errno). found_directory T (names >>= resolved T 1 (wants_directory (c ∷ rest)))) read
-
 pub root_walked : (T : Tree) (rest path : List ℕ) (r : Result Reached Errno) → length rest ≢ 0 → path ≡ rest → path_read rest ≡ Ok (components_of rest)
     → resolved T 1 (wants_directory path) (components_of path) ≡ r → from_root T rest ≡ found_directory T r
 root_walked T [] path r some same read is = absurd (some refl)
@@ -81,20 +72,6 @@ refused_none m errno.NoSpace why = elim why [ inl none ↦ none | inr io ↦ abs
 refused_none m errno.NotDirectory why = elim why [ inl none ↦ none | inr io ↦ absurd (cc) ]
 refused_none m errno.NotEmpty why = elim why [ inl none ↦ none | inr io ↦ absurd (cc) ]
 refused_none m errno.NotCapable why = elim why [ inl none ↦ none | inr io ↦ absurd (cc) ]
-
-pub fault_io : (e : Errno) → is_device {X = ℕ} (Err (fault_as e)) ≡ is_io {X = ReachedValue} (Err e)
-fault_io errno.Io = refl
-fault_io errno.Exist = refl
-fault_io errno.TooBig = refl
-fault_io errno.BadText = refl
-fault_io errno.Invalid = refl
-fault_io errno.IsDirectory = refl
-fault_io errno.NameTooLong = refl
-fault_io errno.NotFound = refl
-fault_io errno.NoSpace = refl
-fault_io errno.NotDirectory = refl
-fault_io errno.NotEmpty = refl
-fault_io errno.NotCapable = refl
 
 some_same : (a b : ℕ) → ◌≡◌ {A = Option ℕ} (Some a) (Some b) → a ≡ b
 some_same a b is = cc
