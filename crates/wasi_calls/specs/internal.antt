@@ -10,6 +10,6 @@ pub mod Outputs
 pub mod Climbing
 pub mod Renaming
 pub mod Preopening
+pub mod Inputs
 pub mod Reading
 pub mod Listing
-pub mod Inputs

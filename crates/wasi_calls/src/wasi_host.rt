@@ -23,7 +23,7 @@ use wasm_store::{Answer, Errno, HostCall, Memory};
 /// How many buffers a call can name.
 const MOST_BUFFERS: usize = 1_024;
 
-/// How many bytes a call writes to a file at most.
+/// How many bytes a call writes to a file at most, and takes from the input at once.
 const PIECE: usize = 16_384;
 
 /// The host of a guest, which answers its calls.

@@ -11,7 +11,7 @@ use Rattle.wasi_fd.specs.declared.descriptor.Opened.{Opened}
 use Rattle.wasm_store.specs.Bytes.{written}
 use Rattle.wasi_calls.specs.World.{World}
 use Rattle.wasi_calls.specs.Checks.{Checked, Done, Buffer, ◌>>=◌, tree_call, total, scattered, put}
-use Rattle.wasi_calls.specs.Files.{read_from}
+use Rattle.wasi_calls.specs.internal.Inputs.{read_to}
 
 -- the buffers cut to so many bytes in all
 abbrev pub cut : ℕ → List Buffer → List Buffer
@@ -79,6 +79,4 @@ read_into w o at bs result = do
 
 -- the bytes of a file where it stands, which moves behind them, into the buffers, and then how many
 abbrev pub read_file_to : World → ℕ → Opened → List Buffer → ℕ → Checked Done
-read_file_to w fd o bs result = do
-  r ← read_from w fd (Entry o) (total bs)
-  Ok (record { world = r.0; fills = scattered r.1 bs; results = (result, little_bytes 4 (length r.1)) ∷ [] })
+read_file_to w fd o bs result = read_to w fd (Entry o) bs result
