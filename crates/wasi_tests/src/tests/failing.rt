@@ -66,10 +66,9 @@ fn one_failing_operation_ends_the_volume(rt: HostRuntime) -> Result<(), Fail> {
         let Some(volume) = opened(alloc, failing)? else {
             continue;
         };
-        let mut guest = host(alloc, PLAIN, volume, Feeding::new(b"", 0), 0)?;
-        if guest.preopen().is_err() {
+        let Ok(mut guest) = host(alloc, PLAIN, volume, Feeding::new(b"", 0), 0) else {
             continue;
-        }
+        };
         let Some(count) = answered(&mut guest, &mut page(alloc)?) else {
             return Err(Fail::from("another answer"));
         };

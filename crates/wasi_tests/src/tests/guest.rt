@@ -6,7 +6,7 @@ use std::process::Abort;
 use std::test::Fail;
 use vol_sector::{FlakyDevice, MemoryDevice};
 use vol_tree::Volume;
-use wasi_calls::{HostParts, Preopen, Settings, WasiHost};
+use wasi_calls::{HostFault, HostParts, Preopen, Settings, WasiHost};
 use wasm_interp::Host;
 use wasm_store::{Answer, Errno, HostCall, Memory};
 
@@ -75,14 +75,14 @@ pub fn volume(alloc: Global) -> Result<Flaky, Fail> {
     }
 }
 
-/// A host of these settings over a volume, whose outputs take so many bytes.
+/// A host of these settings over a volume, whose outputs take so many bytes, with its directories open.
 pub fn host<'s, 't>(
     alloc: Global,
     settings: Settings<'s, 't>,
     volume: Flaky,
     input: Feeding,
     takes: usize,
-) -> Result<Guest<'s, 't>, Fail> {
+) -> Result<Guest<'s, 't>, HostFault> {
     let parts = HostParts {
         settings,
         volume,
@@ -91,8 +91,32 @@ pub fn host<'s, 't>(
         err: Taking::new(alloc, 1_000),
     };
     match WasiHost::new(alloc, parts) {
+        Ok(mut host) => match host.preopen() {
+            Ok(()) => Ok(host),
+            Err(fault) => Err(fault),
+        },
+        Err(refused) => Err(refused.fault),
+    }
+}
+
+/// A host over a fresh volume, which has to be there.
+pub fn fresh<'s, 't>(
+    alloc: Global,
+    settings: Settings<'s, 't>,
+    input: Feeding,
+    takes: usize,
+) -> Result<Guest<'s, 't>, Fail> {
+    match host(alloc, settings, volume(alloc)?, input, takes) {
         Ok(host) => Ok(host),
         Err(_) => Err(Fail::from("no host")),
+    }
+}
+
+/// Whether memory has these bytes at an address.
+fn has_bytes(memory: &Memory, address: u32, bytes: &[u8]) -> bool {
+    match u32::try_from(bytes.len()) {
+        Ok(len) => memory.slice(address, len) == Some(bytes),
+        Err(_) => false,
     }
 }
 
@@ -139,7 +163,7 @@ fn is_as_wanted(guest: &mut Guest<'_, '_>, memory: &mut Memory, step: &Step<'_>)
     match step {
         Step::Put(address, bytes) => memory.write(*address, bytes),
         Step::Call(call, arguments, errno) => answers(guest, memory, *call, arguments, *errno),
-        Step::Has(address, bytes) => memory.slice(*address, bytes.len() as u32) == Some(*bytes),
+        Step::Has(address, bytes) => has_bytes(memory, *address, bytes),
         Step::Open(path, oflags, errno) => {
             let len = path.len() as u64;
             let arguments = [3, 0, at, len, *oflags, u64::MAX, u64::MAX, 0, OPENED];
@@ -177,8 +201,7 @@ pub fn assert_with(
     settings: Settings<'_, '_>,
     steps: &[Step<'_>],
 ) -> Result<(), Fail> {
-    let mut guest = host(alloc, settings, volume(alloc)?, Feeding::new(b"", 0), 1_000)?;
-    assert!(rt; guest.preopen().is_ok());
+    let mut guest = fresh(alloc, settings, Feeding::new(b"", 0), 1_000)?;
     assert_steps(rt, alloc, &mut guest, steps)
 }
 

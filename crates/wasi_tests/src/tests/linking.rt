@@ -1,6 +1,6 @@
 //! Which imports link, and what a call without memory or arguments answers.
 
-use super::guest::{PLAIN, host, volume};
+use super::guest::{PLAIN, fresh};
 use super::streams::Feeding;
 use std::alloc::{AllocError, Global};
 use std::test::Fail;
@@ -23,7 +23,7 @@ fn types(alloc: Global, letters: &[u8]) -> Result<Items<ValueType>, AllocError> 
 #[test]
 fn calls_link_by_their_types(rt: HostRuntime) -> Result<(), Fail> {
     let alloc = rt.alloc();
-    let guest = host(alloc, PLAIN, volume(alloc)?, Feeding::new(b"", 0), 0)?;
+    let guest = fresh(alloc, PLAIN, Feeding::new(b"", 0), 0)?;
     let wasi = "wasi_snapshot_preview1";
     let rows: [(&str, &str, &[u8], &[u8], Option<HostCall>); 12] = [
         (wasi, "fd_write", b"iiii", b"i", Some(HostCall::FdWrite)),
@@ -66,7 +66,7 @@ fn calls_link_by_their_types(rt: HostRuntime) -> Result<(), Fail> {
 #[test]
 fn calls_need_no_memory_and_no_arguments(rt: HostRuntime) -> Result<(), Fail> {
     let alloc = rt.alloc();
-    let mut guest = host(alloc, PLAIN, volume(alloc)?, Feeding::new(b"", 0), 0)?;
+    let mut guest = fresh(alloc, PLAIN, Feeding::new(b"", 0), 0)?;
     let mut memory = Memory::new(alloc, 0)?;
     let rows: [(HostCall, &[u64], Answer); 6] = [
         (HostCall::FdRead, &[], Answer::Value(Errno(21))),

@@ -1,8 +1,10 @@
 //! Paths, and what they name.
 
 use super::guest::Step::{Call, Has, On, Open, Put, Rename};
-use super::guest::{PLAIN, STAT, Step, assert_plain, assert_steps, host, volume};
+use super::guest::{Flaky, STAT, Step, assert_plain, assert_steps, host, volume};
 use super::streams::Feeding;
+use std::alloc::Global;
+use std::process::Abort;
 use std::test::Fail;
 use wasi_calls::{HostFault, HostParts, Preopen, Settings};
 use wasm_store::HostCall::{
@@ -191,54 +193,63 @@ fn seeing<'a, 't>(preopens: &'a [Preopen<'t>]) -> Settings<'a, 't> {
     }
 }
 
+/// Does the steps over a volume with this directory open, and gives the volume back.
+fn within(
+    rt: &impl Abort,
+    alloc: Global,
+    path: &[u8],
+    volume: Flaky,
+    steps: &[Step<'_>],
+) -> Result<Flaky, Fail> {
+    let preopens = [Preopen {
+        guest_name: b"/",
+        path,
+    }];
+    let Ok(mut guest) = host(alloc, seeing(&preopens), volume, Feeding::new(b"", 0), 0) else {
+        return Err(Fail::from("no host"));
+    };
+    assert_steps(rt, alloc, &mut guest, steps)?;
+    let HostParts { volume, .. } = guest.into_parts();
+    Ok(volume)
+}
+
 #[test]
 fn a_preopened_directory_is_all_there_is(rt: HostRuntime) -> Result<(), Fail> {
     let alloc = rt.alloc();
-    let none = || Feeding::new(b"", 0);
-    let mut first = host(alloc, PLAIN, volume(alloc)?, none(), 0)?;
-    assert!(rt; first.preopen().is_ok());
-    let found: &[Step<'_>] = &[On(PathFilestatGet, b"x", 0), On(PathFilestatGet, b"d", 0)];
-    let steps = [On(PathCreateDirectory, b"d", 0), Open(b"x", 1, 0)];
-    assert_steps(&rt, alloc, &mut first, &steps)?;
-    let HostParts { volume, .. } = first.into_parts();
-    let preopens = [Preopen {
-        guest_name: b"/",
-        path: b"/d",
-    }];
-    let mut second = host(alloc, seeing(&preopens), volume, none(), 0)?;
-    assert!(rt; second.preopen().is_ok());
-    let steps = [
+    let made = [On(PathCreateDirectory, b"d", 0), Open(b"x", 1, 0)];
+    let outside = [
         Open(b"../x", 0, 76),
         On(PathUnlinkFile, b"../x", 76),
         Open(b"x", 0, 44),
         Open(b"x", 1, 0),
     ];
-    assert_steps(&rt, alloc, &mut second, &steps)?;
-    let HostParts { volume, .. } = second.into_parts();
-    let mut third = host(alloc, PLAIN, volume, none(), 0)?;
-    assert!(rt; third.preopen().is_ok());
-    assert_steps(&rt, alloc, &mut third, found)
+    let found = [On(PathFilestatGet, b"x", 0), On(PathFilestatGet, b"d/x", 0)];
+    let volume = within(&rt, alloc, b"/", volume(alloc)?, &made)?;
+    let volume = within(&rt, alloc, b"/d", volume, &outside)?;
+    let _ = within(&rt, alloc, b"/", volume, &found)?;
+    Ok(())
 }
 
 #[test]
 fn directories_are_preopened(rt: HostRuntime) -> Result<(), Fail> {
     let alloc = rt.alloc();
-    for (path, answer) in [
-        (b"/".as_slice(), Ok(())),
-        (b"/.", Ok(())),
-        (b"/d", Err(HostFault::Preopen)),
-        (b"d", Err(HostFault::Preopen)),
-        (b"", Err(HostFault::Preopen)),
-        (b"//", Err(HostFault::Preopen)),
-        (b"/..", Err(HostFault::Preopen)),
-    ] {
+    let rows: [(&[u8], Option<HostFault>); 7] = [
+        (b"/", None),
+        (b"/.", None),
+        (b"/d", Some(HostFault::Preopen)),
+        (b"d", Some(HostFault::Preopen)),
+        (b"", Some(HostFault::Preopen)),
+        (b"//", Some(HostFault::Preopen)),
+        (b"/..", Some(HostFault::Preopen)),
+    ];
+    for (path, fault) in rows {
         let preopens = [Preopen {
             guest_name: b"/",
             path,
         }];
         let input = Feeding::new(b"", 0);
-        let mut guest = host(alloc, seeing(&preopens), volume(alloc)?, input, 0)?;
-        assert_eq!(rt; guest.preopen(), answer);
+        let made = host(alloc, seeing(&preopens), volume(alloc)?, input, 0);
+        assert_eq!(rt; made.err(), fault, "{path:?}");
     }
     Ok(())
 }

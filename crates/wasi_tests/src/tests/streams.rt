@@ -1,7 +1,7 @@
 //! A reader and a writer for all tests, and a guest's standard streams.
 
 use super::guest::Step::{Call, Has, Put};
-use super::guest::{PLAIN, assert_steps, host, volume};
+use super::guest::{PLAIN, assert_steps, fresh};
 use std::alloc::Global;
 use std::io;
 use std::io::{ErrorKind, Read, Write};
@@ -9,38 +9,29 @@ use std::test::Fail;
 use wasi_calls::HostParts;
 use wasm_store::HostCall::{FdRead, FdWrite};
 
-/// Gives its bytes two at a time, and fails before the byte of a number.
+/// Gives its bytes two at a time, and fails once so many are given, where there are more.
 #[derive(Drop)]
 pub struct Feeding {
     bytes: &'static [u8],
-    given: usize,
-    most: usize,
+    left: usize,
 }
 
 impl Feeding {
-    /// Of these bytes so many are given; where there are more, the next read fails.
-    pub fn new(bytes: &'static [u8], most: usize) -> Feeding {
-        Feeding {
-            bytes,
-            given: 0,
-            most,
-        }
+    pub fn new(bytes: &'static [u8], left: usize) -> Feeding {
+        Feeding { bytes, left }
     }
 }
 
 impl Read for Feeding {
     fn read(&mut self, buf: &mut [u8]) -> io::Result<usize> {
-        if self.given >= self.most && self.given < self.bytes.len() {
+        if self.left == 0 && !self.bytes.is_empty() {
             return Err(io::Error::from(ErrorKind::Interrupted));
         }
-        let mut count: usize = 0;
-        for byte in buf.iter_mut().take(2) {
-            if self.given < self.bytes.len() && self.given < self.most {
-                *byte = self.bytes[self.given];
-                self.given += 1;
-                count += 1;
-            }
-        }
+        let count = self.bytes.len().min(2).min(self.left).min(buf.len());
+        let (given, rest) = self.bytes.split_at(count);
+        buf[..count].copy_from_slice(given);
+        self.bytes = rest;
+        self.left -= count;
         Ok(count)
     }
 }
@@ -80,7 +71,7 @@ const BUFFERS: &[u8] = b"\x2C\x01\0\0\x03\0\0\0\x40\x01\0\0\0\0\0\0\x40\x01\0\0\
 #[test]
 fn input_is_read_to_its_end(rt: HostRuntime) -> Result<(), Fail> {
     let alloc = rt.alloc();
-    let mut guest = host(alloc, PLAIN, volume(alloc)?, Feeding::new(b"abcd", 4), 0)?;
+    let mut guest = fresh(alloc, PLAIN, Feeding::new(b"abcd", 4), 0)?;
     assert_steps(
         &rt,
         alloc,
@@ -105,7 +96,7 @@ fn readers_that_fail(rt: HostRuntime) -> Result<(), Fail> {
     let alloc = rt.alloc();
     for (most, stands) in [(0, b"..."), (1, b"a.."), (2, b"ab.")] {
         let input = Feeding::new(b"abcd", most);
-        let mut guest = host(alloc, PLAIN, volume(alloc)?, input, 1_000)?;
+        let mut guest = fresh(alloc, PLAIN, input, 1_000)?;
         assert_steps(
             &rt,
             alloc,
@@ -130,7 +121,7 @@ fn writers_that_fail(rt: HostRuntime) -> Result<(), Fail> {
     let alloc = rt.alloc();
     for (takes, stands) in [(0, b"".as_slice()), (1, b"a"), (2, b"ab"), (3, b"abc")] {
         let input = Feeding::new(b"", 0);
-        let mut guest = host(alloc, PLAIN, volume(alloc)?, input, takes)?;
+        let mut guest = fresh(alloc, PLAIN, input, takes)?;
         assert_steps(
             &rt,
             alloc,
