@@ -4,7 +4,7 @@ use Rattle.std.specs.Prelude.{nat_lt}
 use Rattle.std.specs.List.{flat_map, enumerate_from}
 use Rattle.std.specs.Option.{option_map_or}
 use Rattle.std.proofs.Math.Numerals.{add-one}
-use Rattle.std.proofs.lemmas.Bool.{cases_Bool, cond-true, cond-false, and_from, and_left, and_right, lt-ltb, le-ltb, false≢true}
+use Rattle.std.proofs.lemmas.Bool.{cases_Bool, cond-true, cond-false, and_left, and_right, lt-ltb, le-ltb, false≢true}
 use Rattle.std.proofs.lemmas.Option.{none-some, same_Some}
 use Rattle.vol_tree.specs.Tree.{Tree, Entry, entry, is_in, least_from}
 use Rattle.vol_tree.specs.Calls.{next_child}
@@ -94,7 +94,7 @@ skipped [] n (suc k) m directory cookie h low = refl
 skipped (o ∷ T) n (suc k) m directory cookie h low =
     (λ i. before directory cookie n o (omega (arith, h)) i ++ told_from (n + 1) T directory cookie) ∙ skipped T (n + 1) k m directory cookie (omega (arith, h)) low
 
-over : (T : Tree) (directory m cookie : ℕ) → m ≤ cookie → dirents T directory cookie ≡ told_from (m + 1) (drop m T) directory cookie
+pub over : (T : Tree) (directory m cookie : ℕ) → m ≤ cookie → dirents T directory cookie ≡ told_from (m + 1) (drop m T) directory cookie
 over T directory m cookie low = skipped T 1 m m directory cookie (omega arith) low
 
 -- the list ends where no entry comes

@@ -32,3 +32,8 @@ pub mod BothWalks
 pub mod Dirents
 pub mod Preopens
 pub mod Overlaps
+pub mod Listed
+pub mod Incoming
+pub mod FromInput
+pub mod Filling
+pub mod Telling

@@ -1,13 +1,13 @@
 -- Buffers that are filled, which may overlap.
-use Rattle.std.proofs.Common.{◌≡◌, ◌⊎◌, ℕ, zero, suc, ◌+◌, ◌-◌, ◌<◌, ◌≤◌, Bool, true, false, cond, ◌&&◌, ◌||◌, nat_le, nat_lt, List, [], ◌∷◌, ◌++◌, length, take, drop, get_or, set, min, add-one, append_assoc, inl, inr, refl, sym, ap, ◌∙◌, subst, arith}
-use Rattle.std.proofs.lemmas.Bool.{cond-true, cond-false, leb-true, le-leb, lt-ltb, ltb-false, and_parts, or_parts, cases_lt, false≢true}
+use Rattle.std.proofs.Common.{◌≡◌, ◌⊎◌, ℕ, zero, suc, ◌+◌, ◌-◌, ◌<◌, ◌≤◌, Bool, true, false, ◌&&◌, ◌||◌, nat_le, nat_lt, List, [], ◌∷◌, ◌++◌, length, take, drop, get_or, set, min, add-one, append_assoc, inl, inr, refl, sym, ap, ◌∙◌, arith}
+use Rattle.std.proofs.lemmas.Bool.{cond-true, cond-false, leb-true, le-leb, lt-ltb, and_parts, or_parts, cases_lt, false≢true}
 use Rattle.std.proofs.lemmas.List.{ext_get_or, take_more_set, map-append, take_all, drop_all, length-append, length-take, length-drop, take-append-drop, drop-append-le, drop-drop, get_or_append_left, get_or-append_right, get_or-drop}
 use Rattle.std.proofs.lemmas.List.Sums.{sum_by-cons}
 use Rattle.std.specs.List.{list_all}
 use Rattle.wasi_calls.specs.Checks.{Buffer, put, total, is_inside, scattered}
 use Rattle.wasi_calls.specs.internal.Reading.{cut, covered, HalfFilled}
 use Rattle.wasi_calls.specs.Calls.{IsMixed}
-use Rattle.std.proofs.Math.Seq.{drop-cons, take-suc}
+use Rattle.std.proofs.Math.Seq.{drop-cons}
 use Rattle.wasi_calls.specs.declared.inner.Buffer.{Buffer as BufferValue}
 use Rattle.wasi_calls.specs.internal.Buffers.{pair_of, list_of}
 use Rattle.wasm_store.specs.Bytes.{written}
@@ -16,13 +16,9 @@ both_so : (a b : Bool) → a ≡ true → b ≡ true → a && b ≡ true
 both_so true b h k = k
 both_so false b h k = absurd (false≢true h)
 
-or_true : (b : Bool) → b || true ≡ true
+pub or_true : (b : Bool) → b || true ≡ true
 or_true true = refl
 or_true false = refl
-
-or_assoc : (a b c : Bool) → a || (b || c) ≡ (a || b) || c
-or_assoc true b c = refl
-or_assoc false b c = refl
 
 -- ---- buffers cut to what there is to be read
 
@@ -66,14 +62,14 @@ length_written m xs p h =
     let four = length-drop (p + length xs) m in
     omega (arith, one, two, three, four)
 
-written_before : (m xs : List ℕ) (p at : ℕ) → p ≤ length m → at < p → get_or (written m p xs) at 0 ≡ get_or m at 0
+pub written_before : (m xs : List ℕ) (p at : ℕ) → p ≤ length m → at < p → get_or (written m p xs) at 0 ≡ get_or m at 0
 written_before m xs p at inside h =
     let all = length-take p m in
     let here : at < length (take p m) = omega (arith, all) in
     get_or_append_left (take p m) (xs ++ drop (p + length xs) m) 0 at here
     ∙ (sym (get_or_append_left (take p m) (drop p m) 0 at here) ∙ ap (λ (l : List ℕ). get_or l at 0) (take-append-drop p m))
 
-written_behind : (m xs : List ℕ) (p at : ℕ) → p ≤ length m → p + length xs ≤ at → get_or (written m p xs) at 0 ≡ get_or m at 0
+pub written_behind : (m xs : List ℕ) (p at : ℕ) → p ≤ length m → p + length xs ≤ at → get_or (written m p xs) at 0 ≡ get_or m at 0
 written_behind m xs p at inside h =
     let all = length-take p m in
     let first : length (take p m) ≡ p = omega (arith, all) in
@@ -114,7 +110,7 @@ untouched size (b ∷ bs) m bytes at same inside out =
 
 -- ---- memory while buffers are filled
 
-either : (b : Bool) → (b ≡ true) ⊎ (b ≡ false)
+pub either : (b : Bool) → (b ≡ true) ⊎ (b ≡ false)
 either true = inl refl
 either false = inr refl
 
@@ -135,35 +131,6 @@ half_mixed old last memory left h = record {
     | inr out ↦ inr (h.each at ∙ cond-false (covered at left) _ _ out)
   ];
 }
-
--- the same places are left
-pub half_skipped : (old last memory : List ℕ) (left less : List Buffer) → ((at : ℕ) → covered at less ≡ covered at left) → HalfFilled old last memory left → HalfFilled old last memory less
-half_skipped old last memory left less same h = record {
-  as_long = h.as_long;
-  each = λ at. h.each at ∙ ap (λ (b : Bool). cond b (get_or old at 0) (get_or last at 0)) (sym (same at));
-}
-
--- bytes were written that stand there in the end: their places are left no more, and each other is as it was
-pub half_filled : (old last memory xs : List ℕ) (left less : List Buffer) (p : ℕ) → p + length xs ≤ length memory
-    → ((at : ℕ) → p ≤ at → at < p + length xs → (covered at less ≡ false) × (get_or xs (at - p) 0 ≡ get_or last at 0))
-    → ((at : ℕ) → (at < p) ⊎ (p + length xs ≤ at) → covered at less ≡ covered at left)
-    → HalfFilled old last memory left → HalfFilled old last (written memory p xs) less
-half_filled old last memory xs left less p inside here there h =
-    let out : (at : ℕ) → (at < p) ⊎ (p + length xs ≤ at) → get_or (written memory p xs) at 0 ≡ get_or memory at 0
-    → get_or (written memory p xs) at 0 ≡ cond (covered at less) (get_or old at 0) (get_or last at 0) = λ at apart still.
-    still ∙ (h.each at ∙ ap (λ (b : Bool). cond b (get_or old at 0) (get_or last at 0)) (sym (there at apart))) in
-    record {
-      as_long = length_written memory xs p inside ∙ h.as_long;
-      each = λ at. elim (cases_lt at p) [
-        | inl before ↦ out at (inl before) (written_before memory xs p at (omega arith) before)
-        | inr le ↦ elim (cases_lt at (p + length xs)) [
-          | inl within ↦
-              let both = here at le within in
-              written_inside memory xs p at (omega arith) le within ∙ (both.1 ∙ sym (cond-false (covered at less) _ _ both.0))
-          | inr behind ↦ out at (inr behind) (written_behind memory xs p at (omega arith) behind)
-        ]
-      ];
-    }
 
 -- nothing is left
 pub half_done : (old last memory : List ℕ) → length last ≡ length old → HalfFilled old last memory [] → memory ≡ last
@@ -191,17 +158,6 @@ cut_more bs bs0 i left left' y d h long same is less =
 
 abbrev pub is_in : ℕ → Buffer → Bool
 is_in at b = nat_le b.0 at && nat_lt at (b.0 + b.1)
-
-covered_append : (at : ℕ) (xs ys : List Buffer) → covered at (xs ++ ys) ≡ covered at xs || covered at ys
-covered_append at [] ys = refl
-covered_append at (x ∷ xs) ys = ap (λ (b : Bool). is_in at x || b) (covered_append at xs ys) ∙ or_assoc (is_in at x) (covered at xs) (covered at ys)
-
-listed : (bs : List BufferValue) (i : ℕ) (d : BufferValue) → i < length bs → list_of (take (i + 1) bs) ≡ list_of (take i bs) ++ pair_of (get_or bs i d) ∷ []
-listed bs i d h = ap list_of (rw add-one (take-suc bs i d h)) ∙ map-append pair_of (take i bs) (get_or bs i d ∷ [])
-
-pub covered_more : (at : ℕ) (bs : List BufferValue) (i : ℕ) (d : BufferValue) → i < length bs
-    → covered at (list_of (take (i + 1) bs)) ≡ covered at (list_of (take i bs)) || (is_in at (pair_of (get_or bs i d)) || false)
-covered_more at bs i d h = ap (covered at) (listed bs i d h) ∙ covered_append at (list_of (take i bs)) (pair_of (get_or bs i d) ∷ [])
 
 -- a place in one of them
 pub covered_by : (at : ℕ) (bs : List BufferValue) (i : ℕ) (d : BufferValue) → i < length bs → (get_or bs i d).pointer ≤ at → at < (get_or bs i d).pointer + (get_or bs i d).len

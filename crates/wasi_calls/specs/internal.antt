@@ -10,4 +10,6 @@ pub mod Outputs
 pub mod Climbing
 pub mod Renaming
 pub mod Preopening
+pub mod Inputs
 pub mod Reading
+pub mod Listing

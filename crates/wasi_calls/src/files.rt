@@ -88,7 +88,7 @@ fn filestat(serial: u32, file_type: u8, size: u32) -> [u8; 64]
 }
 
 /// The `filetype` of an entry.
-fn type_of_entry(kind: Kind) -> u8
+pub(crate) fn type_of_entry(kind: Kind) -> u8
     ensures { result ≡ type_of_entry kind }
 {
     match kind {

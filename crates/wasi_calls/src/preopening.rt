@@ -11,6 +11,7 @@ ghost use Rattle.wasi_calls.specs.internal.Preopening.{fault_as, Finds, FindsAll
 ghost use Rattle.wasi_calls.specs.internal.Serving.{KnowsEntries};
 
 use crate::fault::HostFault;
+use crate::inner::Inner;
 use crate::settings::{MOST_PREOPENS, Preopen};
 use path_walk::{Path, Reached, walk};
 use vol_inode::Kind;
@@ -178,7 +179,7 @@ fn open_all<'t>(
 }
 
 /// Opens the preopened directories, in order from 3 on, or none.
-pub(crate) fn preopen<'t, D: Device>(
+fn open_directories<'t, D: Device>(
     volume: &mut Volume<D>,
     descriptors: &mut Descriptors<'t>,
     preopens: &[Preopen<'t>],
@@ -203,5 +204,26 @@ pub(crate) fn preopen<'t, D: Device>(
             Ok(())
         }
         Err(fault) => Err(fault),
+    }
+}
+
+impl<'s, 't, D: Device, R, W1, W2> Inner<'s, 't, D, R, W1, W2> {
+    ghost use Rattle.wasi_calls.specs.internal.Preopening.{ChangesVolume};
+
+    /// Opens the preopened directories of the settings, in order from 3 on, or none.
+    pub fn preopen(&mut self) -> Result<(), HostFault>
+        requires streams { (n : ℕ) → table_of self.old.descriptors n ≡ streams n }
+        requires few { length self.old.settings.preopens.now ≤ 64 }
+        ensures opened { D.honest self.old.volume.device
+            → OnOk result (HasPreopens self.old.volume.tree self.old.settings.preopens.now (table_of self.new.descriptors)) }
+        ensures refused { IfErr result (Refuses D.honest self.old.volume self.new.volume self.old.settings.preopens.now) }
+        ensures closed { OnErr result ((n : ℕ) → table_of self.new.descriptors n ≡ table_of self.old.descriptors n) }
+        ensures reads { OnlyReads D.honest D.disk D.size D.failures self.old.volume self.new.volume (is_device result) }
+        ensures known { KnowsEntries D.honest self.new.volume (table_of self.new.descriptors) }
+        ensures others { ChangesVolume self.old self.new }
+    {
+        let preopens = self.settings.preopens;
+        let (volume, descriptors) = (&mut self.volume, &mut self.descriptors);
+        open_directories(volume, descriptors, preopens)
     }
 }

@@ -8,7 +8,6 @@ use crate::fault::HostFault;
 use crate::host::VolumeHost;
 use crate::inner::{Buffer, Inner};
 use crate::linking;
-use crate::preopening;
 use crate::settings::Settings;
 use crate::streams::{Input, Output};
 use std::alloc::Global;
@@ -24,7 +23,7 @@ use wasm_store::{Answer, Errno, HostCall, Memory};
 /// How many buffers a call can name.
 const MOST_BUFFERS: usize = 1_024;
 
-/// How many bytes a call writes to a file at most.
+/// How many bytes a call writes to a file at most, and takes from the input at once.
 const PIECE: usize = 16_384;
 
 /// The host of a guest, which answers its calls.
@@ -167,8 +166,7 @@ impl<'s, 't, D: Device, R: Read, W1: Write, W2: Write> WasiHost<'s, 't, D, R, W1
         ensures reads { OnlyReads D.honest D.disk D.size D.failures self.old.volume self.new.volume (is_device result) }
         ensures streams { KeepsStreams self.old self.new }
     {
-        let preopens = self.inner.settings.preopens;
-        preopening::preopen(&mut self.inner.volume, &mut self.inner.descriptors, preopens)
+        self.inner.preopen()
     }
 }
 
@@ -209,14 +207,8 @@ impl<'s, 't, D: Device, R: Read, W1: Write, W2: Write> Host for WasiHost<'s, 't,
     }
 }
 
-impl<'s, 't, D: Device, R: Read, W1: Write, W2: Write> VolumeHost for WasiHost<
-    's,
-    't,
-    D,
-    R,
-    W1,
-    W2,
-> {
+impl<'s, 't, D: Device, R: Read, W1: Write, W2: Write> VolumeHost
+    for WasiHost<'s, 't, D, R, W1, W2> {
     ghost use Rattle.wasi_calls.specs.Host.{Shows};
 
     ghost shows = { Shows };

@@ -7,12 +7,13 @@ ghost use Rattle.vol_tree.specs.declared.errno.Errno.TheVariants as vol_errno;
 ghost use Rattle.vol_tree.specs.Opened.{Tells, Keeps, ReflectsOr, geometry, is_io};
 ghost use Rattle.vol_tree.specs.Calls.{bytes_at, written as tree_with};
 ghost use Rattle.wasi_fd.specs.Table.{table_of};
+ghost use Rattle.wasm_store.specs.Bytes.{bytes_at as part};
 ghost use Rattle.wasi_calls.specs.World.{World};
 ghost use Rattle.wasi_calls.specs.Checks.{is_inside, gathered, only_files, entry_at as entry};
 ghost use Rattle.wasi_calls.specs.Calls.{Answered};
 ghost use Rattle.wasi_calls.specs.Host.{VolumeStep};
 ghost use Rattle.wasi_calls.specs.internal.Serving.{IsFileOf, NoMoreEntries, errno_of, with_volume, with_table};
-ghost use Rattle.wasi_calls.specs.internal.Buffers.{list_of, AreUsable};
+ghost use Rattle.wasi_calls.specs.internal.Buffers.{list_of, pair_of, AreUsable};
 ghost use Rattle.wasi_calls.specs.internal.Writing.{placed, written_on, written_to};
 ghost use Rattle.wasi_calls.specs.internal.Seeking.{StandsFor};
 
@@ -28,12 +29,44 @@ use vol_tree::Volume;
 use wasi_fd::{Descriptor, Descriptors, Opened, Rights};
 use wasm_store::{Errno, Memory};
 
+/// How many bytes a call writes to a file at most.
+const MOST_WRITTEN: usize = 16_384;
+
 /// The first bytes of a piece.
 fn first(piece: &[u8], len: usize) -> &[u8]
     requires { len ≤ length piece.now }
     ensures { result.now ≡ take len piece.now }
 {
     &piece[..len]
+}
+
+/// The bytes of a buffer in memory, or the first of them that may be written at once.
+fn bytes_in<'m>(memory: &'m Memory, buffer: &Buffer) -> &'m [u8]
+    requires { is_inside memory.now (pair_of buffer.now) ≡ true }
+    ensures bytes { result.now ≡ take 16384 (part memory.now buffer.now.pointer buffer.now.len) }
+    ensures most { length result.now ≤ 16384 }
+{
+    let Some(bytes) = memory.slice(buffer.pointer, buffer.len) else {
+        unreachable!()
+    };
+    first(bytes, MOST_WRITTEN.min(bytes.len()))
+}
+
+/// The bytes in the buffers, or the first of them that may be written at once: those of one buffer where they stand,
+/// those of more in the piece.
+fn bytes_to_write<'m>(piece: &'m mut [u8], memory: &'m Memory, buffers: &[Buffer]) -> &'m [u8]
+    requires inside { list_all (is_inside memory.now) (list_of buffers.now) ≡ true }
+    requires room { length piece.old ≡ 16384 }
+    ensures bytes { result.now ≡ take 16384 (gathered memory.now (list_of buffers.now)) }
+    ensures most { length result.now ≤ 16384 }
+{
+    match buffers {
+        [only] => bytes_in(memory, only),
+        _ => {
+            let len = gather(piece, memory, buffers);
+            first(piece, len)
+        }
+    }
 }
 
 /// Writes what stands in the buffers to a file, as far as it fits in the piece, and says how many bytes that is.
@@ -57,9 +90,9 @@ fn put_bytes<D: Device>(
         (ReflectsOr (D.disk volume.old.device) volume.old.tree) }
     ensures kept { Keeps D.honest D.size D.failures volume.old volume.new (is_io result) }
 {
-    let len = gather(piece, memory, buffers);
-    match volume.write(serial, at, first(piece, len)) {
-        Ok(()) => Ok(len as u32),
+    let bytes = bytes_to_write(piece, memory, buffers);
+    match volume.write(serial, at, bytes) {
+        Ok(()) => Ok(bytes.len() as u32),
         Err(errno) => Err(errno),
     }
 }

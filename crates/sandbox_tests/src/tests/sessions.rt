@@ -2,13 +2,14 @@
 
 use super::writer::Bounded;
 use sandbox_core::{
-    Errno, HostCall, InstanceFault, Outcome, Pause, Preopen, Session, SessionFault, Settings, load,
-    run,
+    Errno, HostCall, InstanceFault, Outcome, Pause, Preopen, RefusedSession, Session, SessionFault,
+    Settings, Volume, load, run,
 };
 use std::alloc::Global;
 use std::io::ErrorKind;
 use std::process::Abort;
 use std::test::Fail;
+use vol_sector::{Device, MemoryDevice};
 use wasm_tests::HELLO;
 
 fn settings<'a, 't>(
@@ -100,6 +101,8 @@ fn prints_faults(rt: HostRuntime) -> Result<(), Fail> {
             SessionFault::Instance(InstanceFault::DataOutOfBounds),
             "fault 20",
         ),
+        (SessionFault::Device, "fault 33"),
+        (SessionFault::Preopen, "fault 16"),
         (SessionFault::Memory, "out of memory"),
     ] {
         assert_eq!(rt; format!(in rt.alloc(); "{fault}")?.as_str(), text);
@@ -107,21 +110,46 @@ fn prints_faults(rt: HostRuntime) -> Result<(), Fail> {
     Ok(())
 }
 
-pub type Small<'a> = Session<'a, &'static [u8], Bounded, Bounded>;
+/// The root as `/`, and nothing else.
+pub static PLAIN: Settings<'static, 'static> = Settings {
+    args: &[],
+    env: &[],
+    preopens: &[Preopen {
+        guest_name: b"/",
+        path: b"/",
+    }],
+    moment: 0,
+    random: b"",
+    pages: 1_024,
+};
 
-pub fn opened(alloc: Global, module: &[u8], most: usize) -> Option<Small<'_>> {
+/// A session over a volume in memory.
+pub type Small<'a> = On<'a, MemoryDevice>;
+
+pub type On<'a, D> = Session<'a, 'static, 'static, D, &'static [u8], Bounded, Bounded>;
+
+/// A device with a fresh volume of 202 sectors and 16 slots.
+pub fn device(alloc: Global) -> Option<MemoryDevice> {
+    Volume::format(MemoryDevice::new(alloc, 202, 400).ok()?, 202, 16).ok()
+}
+
+/// A session over a volume, of whose output so many bytes are taken.
+pub fn over<'a, D: Device + Drop>(
+    alloc: Global,
+    module: &'a [u8],
+    volume: Volume<D>,
+    input: &'static [u8],
+    most: usize,
+) -> Option<On<'a, D>> {
     let valid = load(alloc, module).ok()?;
     let out = Bounded::new(alloc, 100, most, Some(ErrorKind::BrokenPipe));
     let err = Bounded::new(alloc, 1, 1, None);
-    Session::new(
-        alloc,
-        valid,
-        settings(&[], &[], &[], 1_024),
-        b"".as_slice(),
-        out,
-        err,
-    )
-    .ok()
+    Session::new(alloc, valid, PLAIN, volume, input, out, err).ok()
+}
+
+pub fn opened(alloc: Global, module: &[u8], most: usize) -> Option<Small<'_>> {
+    let volume = Volume::open(alloc, device(alloc)?).ok()?;
+    over(alloc, module, volume, b"", most)
 }
 
 /// What a run by so much fuel gives: the outcome, the units, and how many bytes of the line were written.
@@ -231,25 +259,37 @@ fn resumes(rt: HostRuntime) {
 }
 
 /// Why a session is refused; else, or where not all is handed back, `None`.
-fn refusal(alloc: Global, module: &[u8], pages: u32) -> Option<SessionFault> {
+fn refusal(
+    alloc: Global,
+    module: &[u8],
+    pages: u32,
+    preopened: &'static [u8],
+) -> Option<SessionFault> {
     let valid = load(alloc, module).ok()?;
     let (out, err) = (
         Bounded::new(alloc, 1, 2, None),
         Bounded::new(alloc, 1, 3, None),
     );
-    let refused = Session::new(
+    let volume = Volume::open(alloc, device(alloc)?).ok()?;
+    let preopens = [Preopen {
+        guest_name: b"/",
+        path: preopened,
+    }];
+    let settings = settings(&[], &[], &preopens, pages);
+    let RefusedSession { parts, fault, .. } = Session::new(
         alloc,
         valid,
-        settings(&[], &[], &[], pages),
+        settings,
+        volume,
         b"in".as_slice(),
         out,
         err,
-    )
-    .err()?;
-    let is_back = refused.settings.pages == pages
-        && refused.input == b"in".as_slice()
-        && (refused.out.most, refused.err.most) == (2, 3);
-    is_back.then_some(refused.fault)
+    ).err()?;
+    let is_back = parts.settings.pages == pages
+        && parts.input == b"in".as_slice()
+        && (parts.out.most, parts.err.most) == (2, 3)
+        && parts.volume.stats().slots == 16;
+    is_back.then_some(fault)
 }
 
 #[test]
@@ -262,20 +302,25 @@ fn refuses_in_order(rt: HostRuntime) {
     // The data begins at address 2 ^ 32 - 1.
     let mut far = HELLO;
     far[154] = 0x7F;
-    // The import is fd_writf.
+    // The import's module is wasi_snapshot_preview2.
     let mut other = far;
-    other[60] = b'f';
-    let rows: [(&[u8], u32, Option<SessionFault>); 8] = [
-        (&HELLO[..8], 0, Some(start)),
-        (&HELLO[..8], 65_537, Some(SessionFault::Setting)),
-        (&HELLO, 1, None),
-        (&HELLO, 0, Some(limit)),
-        (&far, 1, Some(data)),
-        (&far, 0, Some(limit)),
-        (&other, 0, Some(import)),
-        (&other, 65_537, Some(SessionFault::Setting)),
+    other[51] = b'2';
+    let none = SessionFault::Preopen;
+    let setting = SessionFault::Setting;
+    let rows: [(&[u8], u32, &'static [u8], Option<SessionFault>); 10] = [
+        (&HELLO[..8], 0, b"/", Some(start)),
+        (&HELLO[..8], 65_537, b"/", Some(setting)),
+        (&HELLO, 1, b"/", None),
+        (&HELLO, 0, b"/", Some(limit)),
+        (&far, 1, b"/", Some(data)),
+        (&far, 0, b"/", Some(limit)),
+        (&other, 0, b"/", Some(import)),
+        (&other, 65_537, b"/d", Some(setting)),
+        // its directory is asked for last
+        (&other, 0, b"/d", Some(import)),
+        (&HELLO, 1, b"/d", Some(none)),
     ];
-    for (i, (module, pages, want)) in rows.into_iter().enumerate() {
-        assert_eq!(rt; refusal(alloc, module, pages), want, "row {i}");
+    for (i, (module, pages, preopened, want)) in rows.into_iter().enumerate() {
+        assert_eq!(rt; refusal(alloc, module, pages, preopened), want, "row {i}");
     }
 }

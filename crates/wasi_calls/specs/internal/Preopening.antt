@@ -4,10 +4,11 @@ use Rattle.vol_tree.specs.Tree.{Tree}
 use Rattle.vol_tree.specs.declared.errno.Errno.{Errno}
 use Rattle.vol_tree.specs.declared.errno.Errno.TheVariants as errno
 use Rattle.vol_tree.specs.declared.superblock.Superblock.{Superblock}
-use Rattle.vol_tree.specs.Opened.{Opened, IsSerial, is_io}
+use Rattle.vol_tree.specs.Opened.{Opened, IsSerial}
 use Rattle.wasi_fd.specs.declared.descriptor.Descriptor.{Descriptor}
 use Rattle.wasi_fd.specs.Table.{Table}
 use Rattle.wasi_calls.specs.declared.settings.Preopen.{Preopen as PreopenValue}
+use Rattle.wasi_calls.specs.declared.inner.Inner.{Inner}
 use Rattle.wasi_calls.specs.declared.fault.HostFault.{HostFault}
 use Rattle.wasi_calls.specs.declared.fault.HostFault.TheVariants.{Setting, Preopen, Device, Memory}
 use Rattle.vol_sector.specs.Disk.{Disk}
@@ -67,6 +68,10 @@ Refuses honest old new ps Setting = ⊥
 Refuses honest old new ps Preopen = honest old.device → preopens_of old.tree ps ≡ None
 Refuses honest old new ps Device = new.failed ≡ true
 Refuses honest old new ps Memory = ⊥
+
+-- volume and descriptors may have changed, and nothing else
+abbrev pub ChangesVolume : {D R W1 W2 : Type 0} → Inner D R W1 W2 → Inner D R W1 W2 → Type 0
+ChangesVolume old new = new ≡ record old { volume = new.volume; descriptors = new.descriptors }
 
 -- the serials of the first so many directories were found
 pub record FoundSoFar {D : Type 0} (honest : D → Type 0) (disk : D → Disk) (sectors_on failures : D → ℕ) (old new : Opened D) (ps : List PreopenValue) (serials : List ℕ) (n : ℕ) : Type 0 where

@@ -19,7 +19,7 @@ returns-in-Err-clause-broke g c = λ h inside.
     let b = length-take len (drop p m) in
     let room = c.requires.inside in
     let long : length before ≡ len = ap length value ∙ (let all : length (take len (drop p m)) ≡ len = omega (arith, a, b, room) in all) in
-    let (io, tree, so) = c.in-Err.ensures.answer h in
+    let (io, _, so) = c.in-Err.ensures.answer h in
     let n = so.0 in
     let few = so.1 in
     let after = so.2 in
@@ -34,6 +34,5 @@ returns-in-Err-clause-broke g c = λ h inside.
     let same : written m p c.read.new.buffer ≡ written m p xs = ap (written m p) stands ∙ written_over m xs p len room fits in
     let whole : length (written m p xs) ≡ length m = length_written m xs p (omega (arith, room, fits)) in (
       io,
-      tree,
       record { count = n; few = less; is = ap (refill (length m) m) same ∙ refilled (length m) (written m p xs) _ whole },
     )

@@ -1,4 +1,4 @@
-use Rattle.std.proofs.Common.{◌≡◌, ◌<◌, ◌≤◌, ℕ, false, take}
+use Rattle.std.proofs.Common.{false, take}
 use Rattle.wasi_calls.specs.internal.Buffers.{list_of}
 use Rattle.wasi_calls.specs.internal.Reading.{HasAll}
 use Rattle.wasi_calls.proofs.reading.stretch_from.Given as goal

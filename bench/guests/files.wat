@@ -1,0 +1,26 @@
+;; Makes the files p, q and r, syncs, writes 20,000 bytes to p in two calls, and prints the errno of each call.
+(module
+  (import "wasi_snapshot_preview1" "path_open"
+    (func $path_open (param i32 i32 i32 i32 i32 i64 i64 i32 i32) (result i32)))
+  (import "wasi_snapshot_preview1" "fd_write" (func $fd_write (param i32 i32 i32 i32) (result i32)))
+  (import "wasi_snapshot_preview1" "fd_sync" (func $fd_sync (param i32) (result i32)))
+  (memory (export "memory") 1)
+  (global $told (mut i32) (i32.const 100))
+  (func $tell (param $errno i32)
+    (i32.store8 (global.get $told) (local.get $errno))
+    (global.set $told (i32.add (global.get $told) (i32.const 1))))
+  (func $create (param $path i32)
+    (call $tell (call $path_open (i32.const 3) (i32.const 0) (local.get $path) (i32.const 1) (i32.const 1)
+      (i64.const -1) (i64.const -1) (i32.const 0) (i32.const 4))))
+  (func (export "_start")
+    (call $create (i32.const 0))
+    (call $create (i32.const 1))
+    (call $create (i32.const 2))
+    (call $tell (call $fd_sync (i32.const 3)))
+    (call $tell (call $fd_write (i32.const 4) (i32.const 16) (i32.const 1) (i32.const 8)))
+    (i32.store (i32.const 20) (i32.const 3616))
+    (call $tell (call $fd_write (i32.const 4) (i32.const 16) (i32.const 1) (i32.const 8)))
+    (drop (call $fd_write (i32.const 1) (i32.const 24) (i32.const 1) (i32.const 8))))
+  (data (i32.const 0) "pqr")
+  ;; 20,000 bytes at 1,000; the six errnos
+  (data (i32.const 16) "\e8\03\00\00\20\4e\00\00\64\00\00\00\06\00\00\00"))

@@ -1,0 +1,95 @@
+use Rattle.std.proofs.Common.{◌≡◌, ◌+◌, ◌^◌, List, Ok, take, refl, sym, ap, ◌∙◌, subst}
+use Rattle.std.specs.Vec.{with_items}
+use Rattle.wasi_fd.specs.Table.{table_of}
+use Rattle.wasi_calls.specs.declared.inner.Buffer.{Buffer}
+use Rattle.wasi_calls.specs.World.{World}
+use Rattle.wasi_calls.specs.Checks.{Checked, Done, only_files}
+use Rattle.wasi_calls.specs.Files.{fd_pread}
+use Rattle.wasi_calls.specs.Calls.{word, long}
+use Rattle.wasi_calls.specs.Host.{world_of}
+use Rattle.wasi_calls.specs.internal.Serving.{state_of, errno_of}
+use Rattle.wasi_calls.specs.internal.Buffers.{list_of, AreUsable}
+use Rattle.wasi_calls.specs.internal.Reading.{read_into}
+use Rattle.wasi_calls.proofs.Yields.{goes_on, stops}
+use Rattle.wasi_calls.proofs.Entries.{file_of}
+use Rattle.wasi_calls.proofs.Volumes.{refused_first}
+use Rattle.wasi_calls.proofs.Served.{no_more, volume_rests}
+use Rattle.wasi_calls.proofs.Moving.{serves_roomy}
+use Rattle.wasi_calls.proofs.Prepared.{answered_so, usable_row, refilled}
+use Rattle.wasi_calls.proofs.inner.Inner.fd_pread.Goals as goal
+
+pub returns-in-Err : goal.returns-in-Err
+returns-in-Err g c = λ used.
+    let s = c.args.self.now in
+    let m = c.args.memory.now in
+    let a = c.args.arguments.now in
+    let q = c.new-request.result in
+    let asked = c.new-request.ensures in
+    let run : World → Checked Done = λ w. fd_pread w m (word a 0) (word a 1) (word a 2) (long a 3) (word a 4) in
+    serves_roomy g.D.Device.honest g.D.Device.disk g.D.Device.size g.D.Device.failures g.R.Read.remaining g.W1.Write.contents g.W2.Write.contents
+    run s s m m _ c.requires.set_up c.requires.set_up.buffers c.requires.set_up.piece refl
+    (volume_rests g.D.Device.honest g.D.Device.disk g.D.Device.size g.D.Device.failures s.volume) (no_more (table_of s.descriptors))
+    (λ h b.
+    let w = world_of (state_of s) b in
+    refused_first w m run s.volume _ refl
+    ((λ i. fd_pread w m (sym asked.fd i) (sym asked.iovs i) (sym asked.count i) (sym c.long-offset.ensures i) (sym asked.result_at i))
+    ∙ stops _ _ _ (c.in-Err.ensures w refl)))
+
+pub returns-in-Err-find_buffers : goal.returns-in-Err-find_buffers
+returns-in-Err-find_buffers g c = λ used.
+    let s = c.args.self.now in
+    let m = c.args.memory.now in
+    let a = c.args.arguments.now in
+    let q = c.new-request.result in
+    let asked = c.new-request.ensures in
+    let o = c.in-Ok.opened in
+    let run : World → Checked Done = λ w. fd_pread w m (word a 0) (word a 1) (word a 2) (long a 3) (word a 4) in
+    serves_roomy g.D.Device.honest g.D.Device.disk g.D.Device.size g.D.Device.failures g.R.Read.remaining g.W1.Write.contents g.W2.Write.contents
+    run s (record s { buffers = with_items s.buffers c.find_buffers.new.room }) m m _ c.requires.set_up c.requires.set_up.buffers c.requires.set_up.piece refl
+    (volume_rests g.D.Device.honest g.D.Device.disk g.D.Device.size g.D.Device.failures s.volume) (no_more (table_of s.descriptors))
+    (λ h b.
+    let w = world_of (state_of s) b in
+    refused_first w m run s.volume _ refl
+    ((λ i. fd_pread w m (sym asked.fd i) (sym asked.iovs i) (sym asked.count i) (sym c.long-offset.ensures i) (sym asked.result_at i))
+    ∙ (goes_on _ _ o (c.in-Ok.ensures w refl)
+    ∙ (usable_row m q.iovs q.count q.result_at (λ bs. read_into w o c.long-offset.result bs q.result_at) ∙ stops _ _ _ c.in-Err-find_buffers.ensures.found))))
+
+pub read_placed-requires-clause-file : goal.read_placed-requires-clause-file
+read_placed-requires-clause-file g c =
+    let s = c.args.self.now in
+    file_of g.D.Device.honest s.volume (table_of s.descriptors) c.requires.known c.new-request.result.fd only_files 31 (2 ^ 1 + 2 ^ 2) c.in-Ok.opened refl c.in-Ok.ensures
+
+pub read_placed-requires-clause-usable : goal.read_placed-requires-clause-usable
+read_placed-requires-clause-usable g c =
+    let q = c.new-request.result in
+    let whole : c.as_mut_slice-room.result.now ≡ c.find_buffers.new.room = c.as_mut_slice-room.ensures.value ∙ refilled _ c.find_buffers.new.room _ (c.find_buffers.auto.room ∙ c.as_mut_slice.ensures.len) in
+    subst (λ (bs : List Buffer). AreUsable c.args.memory.now (list_of (take q.count bs)) q.result_at) (sym whole) c.in_default.ensures.usable
+
+pub returns : goal.returns
+returns g c = λ used.
+    let s = c.args.self.now in
+    let m = c.args.memory.now in
+    let a = c.args.arguments.now in
+    let q = c.new-request.result in
+    let asked = c.new-request.ensures in
+    let o = c.in-Ok.opened in
+    let offset = c.long-offset.result in
+    let bs = list_of (take q.count c.as_mut_slice-room.result.now) in
+    let run : World → Checked Done = λ w. fd_pread w m (word a 0) (word a 1) (word a 2) (long a 3) (word a 4) in
+    let new = record s {
+      volume = c.read_placed.new.volume;
+      buffers = with_items (with_items s.buffers c.find_buffers.new.room) c.read_placed.new.room;
+    } in
+    let whole : c.as_mut_slice-room.result.now ≡ c.find_buffers.new.room = c.as_mut_slice-room.ensures.value ∙ refilled _ c.find_buffers.new.room _ (c.find_buffers.auto.room ∙ c.as_mut_slice.ensures.len) in
+    let found : list_of (take q.count c.find_buffers.new.room) ≡ bs = ap (λ (bs : List Buffer). list_of (take q.count bs)) (sym whole) in
+    let same : (w : World) → w.table ≡ table_of s.descriptors → run w ≡ read_into w o offset bs q.result_at = λ w table.
+    (λ i. fd_pread w m (sym asked.fd i) (sym asked.iovs i) (sym asked.count i) (sym c.long-offset.ensures i) (sym asked.result_at i))
+    ∙ (goes_on _ _ o (c.in-Ok.ensures w table)
+    ∙ (usable_row m q.iovs q.count q.result_at (λ bs. read_into w o offset bs q.result_at)
+    ∙ goes_on _ _ bs (c.in_default.ensures.found ∙ ap Ok found))) in
+    serves_roomy g.D.Device.honest g.D.Device.disk g.D.Device.size g.D.Device.failures g.R.Read.remaining g.W1.Write.contents g.W2.Write.contents
+    run s new m c.read_placed.new.memory (errno_of c.read_placed.result) c.requires.set_up c.requires.set_up.buffers c.requires.set_up.piece refl
+    c.read_placed.ensures.step (no_more (table_of s.descriptors))
+    (λ h b.
+    let w = world_of (state_of s) b in
+    answered_so run (λ v. read_into v o offset bs q.result_at) w (λ v table tree. same v table) m _ _ _ (c.read_placed.ensures.answered h w refl))

@@ -1,0 +1,26 @@
+use Rattle.std.proofs.Common.{◌≤◌, ℕ, List, length, min, take, ap, ◌∙◌, subst, arith}
+use Rattle.vol_tree.specs.Tree.{Tree}
+use Rattle.wasm_store.specs.Bytes.{written}
+use Rattle.wasi_calls.specs.internal.Reading.{IsBegun}
+use Rattle.wasi_calls.proofs.Listed.{cut_cookie}
+use Rattle.wasi_calls.proofs.listing.list_from.Goals as goal
+
+pub returns-in-Ok-clause-count : goal.returns-in-Ok-clause-count
+returns-in-Ok-clause-count g c = λ h.
+    let T : Tree = c.args.volume.now.tree in
+    let few : length T ≤ 8192 = omega (arith, c.is_a_tree.ensures.count, c.is_a_tree.ensures.ranges.few_slots) in
+    c.in-Ok.ensures.count h ∙ ap (λ (all : List ℕ). min c.args.len (length all)) (cut_cookie T c.args.directory c.args.cookie c.last_told-last.result few c.last_told-last.ensures)
+
+pub returns-in-Ok-clause-listed : goal.returns-in-Ok-clause-listed
+returns-in-Ok-clause-listed g c = λ h.
+    let T : Tree = c.args.volume.now.tree in
+    let few : length T ≤ 8192 = omega (arith, c.is_a_tree.ensures.count, c.is_a_tree.ensures.ranges.few_slots) in
+    c.in-Ok.ensures.listed h
+    ∙ ap (λ (all : List ℕ). written c.args.memory.now c.args.start (take c.args.len all)) (cut_cookie T c.args.directory c.args.cookie c.last_told-last.result few c.last_told-last.ensures)
+
+pub returns-in-Err-clause-broke : goal.returns-in-Err-clause-broke
+returns-in-Err-clause-broke g c = λ h.
+    let T : Tree = c.args.volume.now.tree in
+    let few : length T ≤ 8192 = omega (arith, c.is_a_tree.ensures.count, c.is_a_tree.ensures.ranges.few_slots) in
+    let (io, begun) = c.in-Err.ensures.broke h in
+    (io, subst (λ (all : List ℕ). IsBegun c.args.memory.now c.args.start (take c.args.len all) c.list_part.new.memory) (cut_cookie T c.args.directory c.args.cookie c.last_told-last.result few c.last_told-last.ensures) begun)

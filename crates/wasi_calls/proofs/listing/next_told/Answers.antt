@@ -1,0 +1,27 @@
+use Rattle.std.proofs.Common.{◌≡◌, Some, sym, ◌∙◌, ap, subst, IsSome}
+use Rattle.vol_tree.specs.Tree.{Tree, entry}
+use Rattle.vol_tree.specs.Calls.{next_child}
+use Rattle.wasi_calls.proofs.Dirents.{list_ends}
+use Rattle.wasi_calls.proofs.Listed.{next_used, told_next}
+use Rattle.wasi_calls.proofs.listing.next_told.Goals as goal
+
+pub stat-requires-clause-used : goal.stat-requires-clause-used
+stat-requires-clause-used g c = λ h.
+    let T : Tree = c.args.volume.now.tree in
+    let before = c.in-Ok-Some.ensures.kept.honest.1 h in
+    let told = c.in-Ok-Some.ensures.answer before in
+    let next : next_child T c.args.directory c.args.after ≡ Some c.in-Ok-Some.serial = sym told.0 ∙ c.in-Ok-Some.field-0-is in
+    subst (λ (T : Tree). IsSome (entry T c.in-Ok-Some.serial)) (sym told.1) (next_used T c.args.directory c.args.after c.in-Ok-Some.serial next)
+
+pub returns-in-Ok-clause-told : goal.returns-in-Ok-clause-told
+returns-in-Ok-clause-told g c = λ h.
+    let T : Tree = c.args.volume.now.tree in
+    let serial = c.in-Ok-Some.serial in
+    let told = c.in-Ok-Some.ensures.answer h in
+    let next : next_child T c.args.directory c.args.after ≡ Some serial = sym told.0 ∙ c.in-Ok-Some.field-0-is in
+    let stat = (c.in-Ok.ensures.answer (c.in-Ok-Some.ensures.kept.honest.0 h)).0 in
+    told_next T c.args.directory c.args.after serial stat.0 c.describe.result next (ap (λ (T : Tree). entry T serial) (sym told.1) ∙ stat.1)
+    c.describe.ensures.serial (c.describe.ensures.told stat.0 stat.2)
+
+pub returns-in-Ok-None-clause-told : goal.returns-in-Ok-None-clause-told
+returns-in-Ok-None-clause-told g c = λ h. list_ends c.args.volume.now.tree c.args.directory c.args.after (sym (c.in-Ok-None.ensures.answer h).0 ∙ c.in-Ok-None.field-0-is)

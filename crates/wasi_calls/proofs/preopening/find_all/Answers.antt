@@ -1,0 +1,21 @@
+use Rattle.std.proofs.Common.{get_or, Err, subst, arith}
+use Rattle.std.proofs.lemmas.Option.{slice_get-get_or}
+use Rattle.vol_tree.specs.Tree.{Tree}
+use Rattle.wasi_calls.specs.internal.Preopening.{FindsAll}
+use Rattle.wasi_calls.proofs.Preopens.{no_preopen, refused_one, so_far_more}
+use Rattle.wasi_calls.proofs.preopening.find_all.Goals as goal
+
+pub returns-in-Err-clause-found : goal.returns-in-Err-clause-found
+returns-in-Err-clause-found g c = λ h.
+    let ps = c.args.preopens.now in
+    let i = c.loop-i.i in
+    let before = c.loop-i.invariant.reads in
+    subst (λ (T : Tree). FindsAll T ps c.loop-i.serials (Err c.in-Err.fault)) (before.tree h)
+    (refused_one c.loop-i.volume.tree ps c.loop-i.serials i (get_or ps i no_preopen) c.in-Err.fault (slice_get-get_or ps i no_preopen c.loop-i-test.true) (c.in-Err.ensures.found (before.kept.honest.0 h)))
+
+pub loop-i-preserved : goal.loop-i-preserved
+loop-i-preserved g c =
+    let ps = c.args.preopens.now in
+    let i = c.loop-i.i in
+    so_far_more g.D.Device.honest g.D.Device.disk g.D.Device.size g.D.Device.failures c.args.volume.now c.loop-i.volume c.directory_named.new.volume ps c.loop-i.serials i c.in-Ok.serial
+    (get_or ps i no_preopen) (omega arith) (slice_get-get_or ps i no_preopen c.loop-i-test.true) c.loop-i.invariant c.in-Ok.ensures.reads c.in-Ok.ensures.found c.in-Ok.ensures.number

@@ -1,0 +1,20 @@
+use Rattle.std.proofs.Common.{length, sym, subst}
+use Rattle.vol_tree.specs.Tree.{Tree, IsTree}
+use Rattle.wasi_fd.specs.Table.{table_of}
+use Rattle.wasi_calls.specs.internal.Preopening.{AreFound}
+use Rattle.wasi_calls.proofs.Preopens.{has_preopens, knows_preopens}
+use Rattle.wasi_calls.proofs.preopening.open_directories.Goals as goal
+
+pub returns-in-Ok-clause-opened : goal.returns-in-Ok-clause-opened
+returns-in-Ok-clause-opened g c = λ h.
+    has_preopens c.args.volume.now.tree c.args.preopens.now c.find_all.new.serials (table_of c.open_all.new.descriptors) (c.in-Ok.ensures.found h) c.open_all.ensures
+
+pub returns-in-Ok-clause-known : goal.returns-in-Ok-clause-known
+returns-in-Ok-clause-known g c =
+    let ps = c.args.preopens.now in
+    let serials = c.find_all.new.serials in
+    let reads = c.in-Ok.ensures.reads in
+    knows_preopens g.D.Device.honest c.find_all.new.volume ps serials (table_of c.open_all.new.descriptors) c.open_all.ensures c.in-Ok.ensures.numbers
+    (λ h'.
+    let h = reads.kept.honest.1 h' in
+    subst (λ (T : Tree). IsTree T × AreFound T ps serials (length ps)) (sym (reads.tree h)) (c.is_a_tree.ensures.tree h, c.in-Ok.ensures.found h))

@@ -1,0 +1,83 @@
+//! A device of whose operations one fails, in the middle of a guest's calls.
+
+use super::guest::{Guest, PLAIN, host, opened};
+use super::streams::Feeding;
+use std::alloc::{AllocError, Global};
+use std::process::Abort;
+use std::test::Fail;
+use wasm_interp::Host;
+use wasm_store::HostCall::{
+    FdDatasync, FdPread, FdPwrite, FdRead, FdReaddir, FdSeek, FdSync, FdWrite, PathCreateDirectory,
+    PathFilestatGet, PathOpen, PathRename, PathUnlinkFile,
+};
+use wasm_store::{Answer, Errno, HostCall, Memory};
+
+/// Calls that all reach the volume, in memory with `ab` at 100 and a buffer of 10,000 bytes at 200.
+const CALLS: [(HostCall, &[u64]); 15] = [
+    (PathCreateDirectory, &[3, 100, 1]),
+    (PathOpen, &[3, 0, 101, 1, 1, u64::MAX, 0, 0, 104]),
+    (FdWrite, &[4, 200, 1, 208]),
+    (FdWrite, &[4, 200, 1, 208]),
+    (FdSync, &[4]),
+    (FdPwrite, &[4, 200, 1, 3, 208]),
+    (FdPread, &[4, 200, 1, 3, 208]),
+    (FdSeek, &[4, 0, 2, 208]),
+    (FdRead, &[4, 200, 1, 208]),
+    (FdDatasync, &[4]),
+    (FdReaddir, &[3, 1_000, 60, 0, 208]),
+    (PathFilestatGet, &[3, 0, 101, 1, 300]),
+    (PathRename, &[3, 101, 1, 3, 102, 1]),
+    (PathUnlinkFile, &[3, 103, 1]),
+    (FdSync, &[4]),
+];
+
+/// What the calls answer where the device works: only the last path isn't there.
+fn working(i: usize) -> u16 {
+    if i == 13 { 44 } else { 0 }
+}
+
+/// Makes the calls in turn. Once one of them answers 29 all others do. How many answered as they would where all works.
+fn answered(guest: &mut Guest<'_, '_>, memory: &mut Memory) -> Option<usize> {
+    let mut count: usize = 0;
+    for (i, (call, arguments)) in CALLS.iter().enumerate() {
+        match guest.call(memory, 1, *call, arguments) {
+            Answer::Value(Errno(errno)) if errno == working(i) && count == i => count += 1,
+            Answer::Value(Errno(29)) => {}
+            // the file wasn't opened
+            Answer::Value(Errno(8)) if count < 2 => {}
+            _ => return None,
+        }
+    }
+    Some(count)
+}
+
+fn page(alloc: Global) -> Result<Memory, AllocError> {
+    let mut memory = Memory::new(alloc, 1)?;
+    let _ = memory.write(100, b"abcd");
+    let _ = memory.write(200, b"\xE8\x03\0\0\x10\x27\0\0");
+    Ok(memory)
+}
+
+#[test]
+fn one_failing_operation_ends_the_volume(rt: HostRuntime) -> Result<(), Fail> {
+    let alloc = rt.alloc();
+    let mut last: usize = 0;
+    for failing in 1..1_000 {
+        let Some(volume) = opened(alloc, failing)? else {
+            continue;
+        };
+        let Ok(mut guest) = host(alloc, PLAIN, volume, Feeding::new(b"", 0), 0) else {
+            continue;
+        };
+        let Some(count) = answered(&mut guest, &mut page(alloc)?) else {
+            return Err(Fail::from("another answer"));
+        };
+        // a later operation fails in the same call or in a later one
+        assert!(rt; last <= count, "operation {failing}");
+        last = count;
+        if count == CALLS.len() {
+            return Ok(());
+        }
+    }
+    Err(Fail::from("always failing"))
+}

@@ -1,0 +1,211 @@
+//! A guest's calls, one after another, and what they answer.
+
+use super::streams::{Feeding, Taking};
+use std::alloc::{AllocError, Global};
+use std::process::Abort;
+use std::test::Fail;
+use vol_sector::{FlakyDevice, MemoryDevice};
+use vol_tree::Volume;
+use wasi_calls::{HostFault, HostParts, Preopen, Settings, WasiHost};
+use wasm_interp::Host;
+use wasm_store::{Answer, Errno, HostCall, Memory};
+
+/// What a guest does, and what is wanted of it.
+#[derive(Clone, Copy)]
+pub enum Step<'a> {
+    /// Puts bytes into memory at an address.
+    Put(u32, &'a [u8]),
+    /// Makes a call with these arguments, which answers this errno.
+    Call(HostCall, &'a [u64], u16),
+    /// Memory has these bytes at an address.
+    Has(u32, &'a [u8]),
+    /// Opens a path from descriptor 3, with these oflags and all rights, which answers this errno.
+    Open(&'a [u8], u64, u16),
+    /// Makes a call on a path from descriptor 3. What it tells of it stands at `STAT`.
+    On(HostCall, &'a [u8], u16),
+    /// Renames a path to another, both from descriptor 3.
+    Rename(&'a [u8], &'a [u8], u16),
+}
+
+/// Where a path stands in memory, the second path of a call, a number of `path_open`, and what `path_filestat_get` tells.
+const PATH: u32 = 60_000;
+
+const OTHER_PATH: u32 = 61_000;
+
+const OPENED: u64 = 62_000;
+
+pub const STAT: u32 = 62_008;
+
+/// The units used at each call, the call's among them.
+const USED: u64 = 4;
+
+/// The root as `/`, and nothing else.
+pub static PLAIN: Settings<'static, 'static> = Settings {
+    args: &[],
+    env: &[],
+    preopens: &[Preopen {
+        guest_name: b"/",
+        path: b"/",
+    }],
+    moment: 0,
+    random: b"",
+    pages: 1,
+};
+
+pub type Guest<'s, 't> = WasiHost<'s, 't, FlakyDevice<MemoryDevice>, Feeding, Taking, Taking>;
+
+/// A volume on a device, of whose operations one fails.
+pub type Flaky = Volume<FlakyDevice<MemoryDevice>>;
+
+/// A fresh volume of 202 sectors and 16 slots, on a device whose operation of this number fails; none where it can't be
+/// opened.
+pub fn opened(alloc: Global, failing: u64) -> Result<Option<Flaky>, AllocError> {
+    let device = MemoryDevice::new(alloc, 202, 2_000)?;
+    match Volume::format(device, 202, 16) {
+        Ok(device) => Ok(Volume::open(alloc, FlakyDevice::new(device, failing)).ok()),
+        Err(_) => Ok(None),
+    }
+}
+
+/// A fresh volume of 202 sectors and 16 slots.
+pub fn volume(alloc: Global) -> Result<Flaky, Fail> {
+    match opened(alloc, 0)? {
+        Some(volume) => Ok(volume),
+        None => Err(Fail::from("not opened")),
+    }
+}
+
+/// A host of these settings over a volume, whose outputs take so many bytes, with its directories open.
+pub fn host<'s, 't>(
+    alloc: Global,
+    settings: Settings<'s, 't>,
+    volume: Flaky,
+    input: Feeding,
+    takes: usize,
+) -> Result<Guest<'s, 't>, HostFault> {
+    let parts = HostParts {
+        settings,
+        volume,
+        input,
+        out: Taking::new(alloc, takes),
+        err: Taking::new(alloc, 1_000),
+    };
+    match WasiHost::new(alloc, parts) {
+        Ok(mut host) => match host.preopen() {
+            Ok(()) => Ok(host),
+            Err(fault) => Err(fault),
+        },
+        Err(refused) => Err(refused.fault),
+    }
+}
+
+/// A host over a fresh volume, which has to be there.
+pub fn fresh<'s, 't>(
+    alloc: Global,
+    settings: Settings<'s, 't>,
+    input: Feeding,
+    takes: usize,
+) -> Result<Guest<'s, 't>, Fail> {
+    match host(alloc, settings, volume(alloc)?, input, takes) {
+        Ok(host) => Ok(host),
+        Err(_) => Err(Fail::from("no host")),
+    }
+}
+
+/// Whether memory has these bytes at an address.
+fn has_bytes(memory: &Memory, address: u32, bytes: &[u8]) -> bool {
+    match u32::try_from(bytes.len()) {
+        Ok(len) => memory.slice(address, len) == Some(bytes),
+        Err(_) => false,
+    }
+}
+
+/// Whether a call answers this errno.
+fn answers(
+    guest: &mut Guest<'_, '_>,
+    memory: &mut Memory,
+    call: HostCall,
+    arguments: &[u64],
+    errno: u16,
+) -> bool {
+    guest.call(memory, USED, call, arguments) == Answer::Value(Errno(errno))
+}
+
+/// Makes a call on a path, and says whether it answers this errno.
+fn answers_on(
+    guest: &mut Guest<'_, '_>,
+    memory: &mut Memory,
+    call: HostCall,
+    path: &[u8],
+    errno: u16,
+) -> bool {
+    let (at, len) = (u64::from(PATH), path.len() as u64);
+    if !memory.write(PATH, path) {
+        return false;
+    }
+    match call {
+        HostCall::PathFilestatGet => {
+            answers(
+                guest,
+                memory,
+                call,
+                &[3, 0, at, len, u64::from(STAT)],
+                errno,
+            )
+        }
+        _ => answers(guest, memory, call, &[3, at, len], errno),
+    }
+}
+
+/// Does a step, and says whether it is as wanted.
+fn is_as_wanted(guest: &mut Guest<'_, '_>, memory: &mut Memory, step: &Step<'_>) -> bool {
+    let (at, other) = (u64::from(PATH), u64::from(OTHER_PATH));
+    match step {
+        Step::Put(address, bytes) => memory.write(*address, bytes),
+        Step::Call(call, arguments, errno) => answers(guest, memory, *call, arguments, *errno),
+        Step::Has(address, bytes) => has_bytes(memory, *address, bytes),
+        Step::Open(path, oflags, errno) => {
+            let len = path.len() as u64;
+            let arguments = [3, 0, at, len, *oflags, u64::MAX, u64::MAX, 0, OPENED];
+            memory.write(PATH, path)
+                && answers(guest, memory, HostCall::PathOpen, &arguments, *errno)
+        }
+        Step::On(call, path, errno) => answers_on(guest, memory, *call, path, *errno),
+        Step::Rename(from, to, errno) => {
+            let arguments = [3, at, from.len() as u64, 3, other, to.len() as u64];
+            memory.write(PATH, from)
+                && memory.write(OTHER_PATH, to)
+                && answers(guest, memory, HostCall::PathRename, &arguments, *errno)
+        }
+    }
+}
+
+/// Does the steps in turn, in a page of memory.
+pub fn assert_steps(
+    rt: &impl Abort,
+    alloc: Global,
+    guest: &mut Guest<'_, '_>,
+    steps: &[Step<'_>],
+) -> Result<(), Fail> {
+    let mut memory = Memory::new(alloc, 1)?;
+    for (i, step) in steps.iter().enumerate() {
+        assert!(rt; is_as_wanted(guest, &mut memory, step), "step {i}");
+    }
+    Ok(())
+}
+
+/// Does the steps in turn over a fresh volume with these settings and preopened directories.
+pub fn assert_with(
+    rt: &impl Abort,
+    alloc: Global,
+    settings: Settings<'_, '_>,
+    steps: &[Step<'_>],
+) -> Result<(), Fail> {
+    let mut guest = fresh(alloc, settings, Feeding::new(b"", 0), 1_000)?;
+    assert_steps(rt, alloc, &mut guest, steps)
+}
+
+/// Does the steps in turn over a fresh volume, with the root as descriptor 3.
+pub fn assert_plain(rt: &impl Abort, alloc: Global, steps: &[Step<'_>]) -> Result<(), Fail> {
+    assert_with(rt, alloc, PLAIN, steps)
+}

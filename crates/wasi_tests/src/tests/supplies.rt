@@ -1,0 +1,101 @@
+//! What a guest is given: texts, the time, random bytes.
+
+use super::guest::Step::{Call, Has, Put};
+use super::guest::{PLAIN, assert_plain, assert_with};
+use std::test::Fail;
+use wasi_calls::Settings;
+use wasm_store::HostCall::{
+    ArgsGet, ArgsSizesGet, ClockResGet, ClockTimeGet, EnvironGet, EnvironSizesGet, RandomGet,
+};
+
+#[test]
+fn texts_stand_one_after_another(rt: HostRuntime) -> Result<(), Fail> {
+    let settings = Settings {
+        args: &[b"a", b"", b"bc"],
+        env: &[b"X=1"],
+        ..PLAIN
+    };
+    assert_with(
+        &rt,
+        rt.alloc(),
+        settings,
+        &[
+            Call(ArgsSizesGet, &[200, 204], 0),
+            Has(200, b"\x03\0\0\0\x06\0\0\0"),
+            Call(ArgsGet, &[200, 300], 0),
+            Has(200, b"\x2C\x01\0\0\x2E\x01\0\0\x2F\x01\0\0"),
+            Has(300, b"a\0\0bc\0"),
+            Call(EnvironSizesGet, &[200, 204], 0),
+            Has(200, b"\x01\0\0\0\x04\0\0\0"),
+            Call(EnvironGet, &[200, 300], 0),
+            Has(200, b"\x2C\x01\0\0"),
+            Has(300, b"X=1\0"),
+            // both ranges are asked first
+            Put(300, b"...."),
+            Call(EnvironGet, &[65_533, 300], 21),
+            Call(EnvironGet, &[200, 65_533], 21),
+            Has(300, b"...."),
+        ],
+    )
+}
+
+#[test]
+fn random_bytes_are_those_handed_in(rt: HostRuntime) -> Result<(), Fail> {
+    let settings = Settings {
+        random: b"\xAA\xBB\xCC",
+        ..PLAIN
+    };
+    assert_with(
+        &rt,
+        rt.alloc(),
+        settings,
+        &[
+            Call(RandomGet, &[200, 2], 0),
+            Has(200, b"\xAA\xBB\0"),
+            // too few are left, and none is taken
+            Call(RandomGet, &[200, 2], 6),
+            Call(RandomGet, &[65_536, 1], 21),
+            Call(RandomGet, &[200, 1], 0),
+            Has(200, b"\xCC\xBB\0"),
+        ],
+    )
+}
+
+#[test]
+fn clocks_are_told(rt: HostRuntime) -> Result<(), Fail> {
+    let settings = Settings {
+        moment: 0x0102,
+        ..PLAIN
+    };
+    assert_with(
+        &rt,
+        rt.alloc(),
+        settings,
+        &[
+            Call(ClockTimeGet, &[0, 0, 200], 0),
+            Has(200, b"\x02\x01\0\0\0\0\0\0"),
+            Call(ClockTimeGet, &[1, 0, 200], 0),
+            Has(200, b"\x04\0\0\0\0\0\0\0"),
+            Call(ClockTimeGet, &[2, 0, 200], 28),
+            Call(ClockResGet, &[1, 200], 0),
+            Has(200, b"\x01\0\0\0\0\0\0\0"),
+            Call(ClockResGet, &[2, 200], 28),
+        ],
+    )
+}
+
+#[test]
+fn nothing_is_given(rt: HostRuntime) -> Result<(), Fail> {
+    assert_plain(
+        &rt,
+        rt.alloc(),
+        &[
+            Put(200, b"\x09\0\0\0\x09\0\0\0"),
+            Call(ArgsSizesGet, &[200, 204], 0),
+            Has(200, b"\0\0\0\0\0\0\0\0"),
+            Call(ArgsGet, &[65_536, 65_536], 0),
+            Call(RandomGet, &[200, 0], 0),
+            Call(RandomGet, &[200, 1], 6),
+        ],
+    )
+}

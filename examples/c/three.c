@@ -1,0 +1,2 @@
+/* Exits with status 3. */
+int main(void) { return 3; }

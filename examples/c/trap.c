@@ -1,0 +1,2 @@
+/* Executes an instruction that traps. */
+int main(void) { __builtin_trap(); }
