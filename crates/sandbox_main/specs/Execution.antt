@@ -1,6 +1,6 @@
 -- What the program does: how it ends, and of which run, formatting or task its status tells.
 use Rattle.std.specs.Prelude.{◌≡◌, ◌≢◌, ◌⊎◌, ℕ, List, Option, Result}
-use Rattle.vol_sector.specs.Disk.{Disk}
+use Rattle.vol_sector.specs.Disk.{Disk, Leaves}
 use Rattle.vol_sector.specs.declared.fault.Refused.{Refused}
 use Rattle.vol_tree.specs.Opened.{Opened}
 use Rattle.wasm_module.specs.declared.fault.LoadFault.{LoadFault}
@@ -19,8 +19,8 @@ use Rattle.sandbox_main.specs.Formatting.{Formats}
 use Rattle.sandbox_main.specs.Doing.{Performs}
 use Rattle.sandbox_main.specs.Status.{load_status, session_status, volume_status, TaskEndsWith}
 use Rattle.sandbox_main.specs.Supplies.{AreSettings, IsUncut, directories_of}
-use Rattle.sandbox_main.specs.Volumes.{IsOpenFor, IsRefusedFor}
-use Rattle.sandbox_main.specs.Running.{Launches}
+use Rattle.sandbox_main.specs.Volumes.{IsOpenFor, IsRefusedFor, LeftByOpening}
+use Rattle.sandbox_main.specs.Running.{Launches, LeftByRun}
 use Rattle.sandbox_main.specs.Request.{Text}
 
 -- A directory's word has no `=`, or memory was refused.
@@ -51,6 +51,10 @@ module _ {D R W1 W2 : Type 0} (is_honest : D → Type 0) (disk : D → Disk) (se
     pub settings : Settings
     pub are_settings : AreSettings run random settings
     pub launched : Launches is_honest disk sectors_on failures remaining out_contents err_contents m run.limits.fuel (given settings volume input out err) status after
+    -- At any moment a crash leaves what it could leave before, what opening leaves, or the tree of a host that the run comes by.
+    pub crash : is_honest device → Leaves (disk device) (disk after)
+        (λ c. LeftByOpening is_honest disk sectors_on run.volume volume c ⊎ LeftByRun is_honest disk sectors_on failures remaining out_contents err_contents m run.limits.fuel (given settings volume input out err) status after launched c)
+    pub honest : is_honest device → is_honest after
 
   -- The words are refused, or the bytes; or they spell a valid module, and then the volume is refused, or the module is
   -- launched. Where it isn't opened, the device is as it was.

@@ -1,5 +1,6 @@
 -- What a run of a module on an open volume says.
 use Rattle.std.specs.Prelude.{◌≡◌, ◌⊎◌, ℕ, List, Option, Result, Ok, Err}
+use Rattle.std.proofs.Common.{inl, inr}
 use Rattle.vol_sector.specs.Disk.{Image, Disk, Leaves}
 use Rattle.vol_sector.specs.declared.fault.Refused.{Refused}
 use Rattle.vol_tree.specs.Opened.{Opened}
@@ -58,15 +59,23 @@ module _ {D R W1 W2 : Type 0} (is_honest : D → Type 0) (disk : D → Disk) (se
     -- Where the streams tell their bytes, it is a run over a tree of paths and these bytes.
     pub over_paths : is_honest parts.volume.device → (before : StreamBytes) → TellAll is_honest disk sectors_on failures remaining out_contents err_contents session.host before
         → let first = first_configuration opens.starts.entered opens.starts.store in
-          let run = reports.run opens.starts.instance first opens.starts.stands in
-          (bytes : StreamBytes) × TellAll is_honest disk sectors_on failures remaining out_contents err_contents reports.last.host bytes
-          × Reach World world.Calls opens.starts.instance (world_of session.host before) first run.answers (world_of reports.last.host bytes) run.last
+        let run = reports.run opens.starts.instance first opens.starts.stands in
+        (bytes : StreamBytes) × TellAll is_honest disk sectors_on failures remaining out_contents err_contents reports.last.host bytes
+        × Reach World world.Calls opens.starts.instance (world_of session.host before) first run.answers (world_of reports.last.host bytes) run.last
     -- Where a crash at its beginning leaves the volume's tree, one at any moment leaves that of a host that the run comes by.
     pub crash : is_honest parts.volume.device → ((c : Image) → (disk parts.volume.device).may_leave c → Stands c parts.volume.tree)
         → let first = first_configuration opens.starts.entered opens.starts.store in
-          Leaves (disk parts.volume.device) (disk after) (StandsInRun opens.starts.instance session.host first fuel report reports.last.host _
-          (reports.run opens.starts.instance first opens.starts.stands))
+        Leaves (disk parts.volume.device) (disk after) (StandsInRun opens.starts.instance session.host first fuel report reports.last.host _
+        (reports.run opens.starts.instance first opens.starts.stands))
 
   -- a valid module gets no session, or runs
   abbrev pub Launches : Module → ℕ → HostParts D R W1 W2 → ℕ → D → Type 0
   Launches m fuel parts status after = NotOpened m parts status after ⊎ Ran m fuel parts status after
+
+  -- what a stop after the volume was opened may leave: the tree of a host that the run comes by
+  abbrev pub LeftByRun : (m : Module) (fuel : ℕ) (parts : HostParts D R W1 W2) (status : ℕ) (after : D) → Launches m fuel parts status after → Image → Type 0
+  LeftByRun m fuel parts status after (inl refused) image = ⊥
+  LeftByRun m fuel parts status after (inr ran) image =
+      let first = first_configuration ran.opens.starts.entered ran.opens.starts.store in
+      StandsInRun ran.opens.starts.instance ran.session.host first fuel ran.report ran.reports.last.host _
+      (ran.reports.run ran.opens.starts.instance first ran.opens.starts.stands) image

@@ -54,6 +54,11 @@ module _ {D : Type 0} (is_honest : D → Type 0) (disk : D → Disk) (sectors_on
   IsOpenFor (Some file) device v = IsOpen device v
   IsOpenFor None device v = IsFresh device v
 
+  -- what a stop while it is opened may leave beside what it could leave before
+  abbrev pub LeftByOpening : Option (Bor Text) → Opened D → Image → Type 0
+  LeftByOpening (Some file) v c = StandsAs c v.numbers v.tree
+  LeftByOpening None v c = IsNoneOrEmpty fresh_numbers c
+
   -- The volume is refused; what stands for a tree stands for it still.
   pub record IsRefused (device : D) (refused : Refused D) : Type 0 where
     pub why : is_honest device → RefusedBy refused.fault (sectors_on device) (disk device).seen

@@ -188,7 +188,9 @@ fn launch<D: Device + Drop, R: Read + Drop, W1: Write + Drop, W2: Write + Drop>(
         Ok(session) => report(sandbox_core::run(session, fuel)),
         Err(RefusedSession { parts, fault, .. }) => {
             let HostParts {
-                volume, mut err, ..
+                volume,
+                mut err,
+                ..
             } = parts;
             (session_refused(&mut err, fault), volume.into_device())
         }

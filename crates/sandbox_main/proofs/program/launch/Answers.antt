@@ -39,7 +39,7 @@ returns-in-Ok g c =
           subst (λ (d : g.row.D.Denot). Leaves (disk parts.volume.device) (disk d) (StandsInRun honest disk size failures remaining outs errs i s.host first c.args.fuel c.run.result last _ run))
           (sym back)
           (began (Host honest disk size failures remaining outs errs) (HostCalls honest disk size failures remaining outs errs) (λ h. disk h.volume.device) (λ h. h.volume.tree)
-          i s.host last first run.last run.answers (disk parts.volume.device) (disk reports.volume.new.device) parts.volume.tree run.reach (sym (made.shares.reads.tree is))
+          i s.host last first run.last run.answers (disk parts.volume.device) (disk reports.volume.new.device) parts.volume.tree run.reach (sym {b = parts.volume.tree} (made.shares.reads.tree is))
           lasts (made.shares.reads.crash is) (reports.crash (made.shares.reads.kept.honest.0 is) i first made.opens.starts.stands));
     })
 
