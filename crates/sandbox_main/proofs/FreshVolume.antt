@@ -7,12 +7,12 @@ use Rattle.vol_sector.specs.declared.fault.VolumeFault.{VolumeFault}
 use Rattle.vol_sector.specs.declared.fault.VolumeFault.TheVariants as fault
 use Rattle.vol_log.proofs.Moments.{leaves_then}
 use Rattle.vol_tree.specs.declared.superblock.Superblock.{Superblock}
-use Rattle.vol_tree.specs.Superblock.{HasRanges, magic, superblock}
+use Rattle.vol_tree.specs.Superblock.{HasRanges}
 use Rattle.vol_tree.specs.Tree.{Tree}
 use Rattle.vol_tree.specs.Stands.{StandsAs, empty_tree}
-use Rattle.vol_tree.specs.Fresh.{fresh, IsNoneOrEmpty}
+use Rattle.vol_tree.specs.Fresh.{IsNoneOrEmpty}
 use Rattle.vol_tree.specs.Opened.{Opened}
-use Rattle.vol_tree.specs.Opening.{StandsOn, NoVolumeOn, HasNoVersion, IsDamaged, version_in}
+use Rattle.vol_tree.specs.Opening.{StandsOn, NoVolumeOn, HasNoVersion, IsDamaged}
 use Rattle.vol_tree.proofs.OneTree.{one_tree, same_superblock, version_is}
 use Rattle.sandbox_main.specs.Volumes.{fresh_numbers, FreshRefusedBy, IsFresh, IsFreshRefused, IsRefused}
 use Rattle.sandbox_main.proofs.Opened.{refused_by}

@@ -1,13 +1,12 @@
 -- The entries of a directory, one after another.
-use Rattle.std.proofs.Common.{◌≡◌, ◌<◌, ◌+◌, ℕ, suc, true, List, [], ◌∷◌, ◌++◌, get_or, drop, drop-drop, Option, Some, None, IsSome, inl, inr, refl, sym, ◌∙◌, ap, subst, arith}
+use Rattle.std.proofs.Common.{◌≡◌, ◌<◌, ◌+◌, ℕ, suc, List, [], ◌∷◌, ◌++◌, get_or, drop, drop-drop, Option, Some, None, inl, inr, refl, sym, ◌∙◌, ap, arith}
 use Rattle.std.specs.List.{flat_map}
 use Rattle.std.proofs.lemmas.List.{get_or-drop}
 use Rattle.std.proofs.lemmas.Option.{same_Some, none-some}
-use Rattle.std.proofs.lemmas.Bool.{cases_Bool, cond-true, cond-false, eqb-true, false≢true}
+use Rattle.std.proofs.lemmas.Bool.{cases_Bool, cond-true, cond-false}
 use Rattle.vol_tree.specs.Tree.{Tree, Entry, entry, least_from, is_in}
 use Rattle.vol_tree.specs.Calls.{next_child}
-use Rattle.vol_tree.proofs.Lookups.{FoundAt, found}
-use Rattle.sandbox_main.specs.Tasks.{line_in, line_of, listing}
+use Rattle.sandbox_main.specs.Tasks.{line_in, line_of}
 
 abbrev lines : ℕ → Tree → List ℕ
 lines directory T = flat_map (line_in directory) T

@@ -8,14 +8,13 @@ use Rattle.vol_tree.specs.Stands.{Stands}
 use Rattle.wasm_module.specs.declared.module.Module.{Module}
 use Rattle.wasm_interp.specs.Configuration.{Instance, Configuration, first_configuration}
 use Rattle.wasm_interp.specs.Steps.{CallsOf, Reach}
-use Rattle.wasi_calls.specs.declared.settings.Settings.{Settings}
 use Rattle.wasi_calls.specs.declared.wasi_host.HostParts.{HostParts}
 use Rattle.wasi_calls.specs.World.{World}
 use Rattle.wasi_calls.specs.Calls as world
 use Rattle.wasi_calls.specs.Host.{HostState, StreamBytes, world_of}
 use Rattle.sandbox_core.specs.declared.fault.SessionFault.{SessionFault}
 use Rattle.sandbox_core.specs.declared.report.Report.{Report}
-use Rattle.sandbox_core.specs.Session.{SessionState, Opens, Shares, IsRefused, KeepsVolume, given}
+use Rattle.sandbox_core.specs.Session.{SessionState, Opens, Shares, IsRefused, KeepsVolume}
 use Rattle.sandbox_core.specs.Runs.{ComesBy, RunsWithin}
 use Rattle.sandbox_core.specs.Report.{Calls, Reports}
 use Rattle.sandbox_core.specs.Headline.{TellAll}

@@ -1,4 +1,4 @@
-use Rattle.std.proofs.Common.{sym, ◌∙◌, subst, arith, Some, ap, refl, IsSome, Option}
+use Rattle.std.proofs.Common.{sym, ◌∙◌, subst, arith, ap, refl, IsSome, Option}
 use Rattle.vol_tree.specs.Tree.{Entry, Tree, entry}
 use Rattle.vol_tree.specs.declared.superblock.Superblock.{Superblock}
 use Rattle.vol_tree.specs.Opened.{IsSerial}

@@ -1,4 +1,4 @@
-use Rattle.std.proofs.Common.{◌≡◌, ◌*◌, take, false}
+use Rattle.std.proofs.Common.{◌*◌, take, false}
 use Rattle.std.specs.Io.KnownBytes.{Appends}
 use Rattle.vol_tree.specs.Calls.{bytes_at}
 use Rattle.path_walk.specs.internal.Asked.{Asked}

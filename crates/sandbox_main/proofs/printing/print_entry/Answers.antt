@@ -1,4 +1,4 @@
-use Rattle.std.proofs.Common.{List, ℕ, ◌++◌, [], ◌∷◌, codes, subst, take, sym, ap}
+use Rattle.std.proofs.Common.{List, ℕ, ◌++◌, codes, subst, take}
 use Rattle.std.specs.Prelude.{decimal}
 use Rattle.std.specs.Io.KnownBytes.{Appends}
 use Rattle.sandbox_main.proofs.Asking.{on_ok}

@@ -1,7 +1,7 @@
 use Rattle.std.proofs.Common.{◌∙◌, ap, true}
 use Rattle.std.proofs.lemmas.Result.{IfOk-weaker}
 use Rattle.clap.specs.Simple.{app_of_fields, on_top}
-use Rattle.sandbox_main.specs.CommandLine.{file_app, format_app, path_app, program, run_app}
+use Rattle.sandbox_main.specs.CommandLine.{program}
 use Rattle.sandbox_main.proofs.CommandLines.{subcommand_added}
 use Rattle.sandbox_main.proofs.words.command.Goals as goal
 

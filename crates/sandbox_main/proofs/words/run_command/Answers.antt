@@ -1,4 +1,4 @@
-use Rattle.std.proofs.Common.{◌∙◌, ap, codes}
+use Rattle.std.proofs.Common.{codes}
 use Rattle.std.proofs.lemmas.Result.{IfOk-weaker}
 use Rattle.sandbox_main.specs.CommandLine.{run_app, word_rule, words_rule}
 use Rattle.sandbox_main.proofs.CommandLines.{argument_added}
