@@ -5,6 +5,7 @@ use super::sessions::{device, over};
 use sandbox_core::{Outcome, Report, Volume, run};
 use std::alloc::Global;
 use std::process::Abort;
+use vol_inode::is_name;
 use vol_sector::{Device, FlakyDevice, FuseDevice, MemoryDevice};
 
 /// More than any guest here uses.
@@ -63,20 +64,24 @@ fn the_next_session_finds_the_files(rt: HostRuntime) {
     assert!(rt; appended(rt.alloc()).is_some());
 }
 
+/// The size of a file in the root, where it is there.
+fn size_of(volume: &mut Volume<MemoryDevice>, name: &[u8]) -> Option<Option<u32>> {
+    if !is_name(name) {
+        return None;
+    }
+    match volume.lookup(1, name).ok()? {
+        Some(serial) => Some(Some(volume.stat(serial).ok()?.size)),
+        None => Some(None),
+    }
+}
+
 /// Which of the files p, q and r a volume has, in this order, and the size of p.
 fn found(alloc: Global, device: MemoryDevice) -> Option<([bool; 3], u32)> {
     let mut volume = Volume::open(alloc, device).ok()?;
-    let mut there = [false; 3];
-    let mut size: u32 = 0;
-    for (i, name) in [b"p".as_slice(), b"q", b"r"].into_iter().enumerate() {
-        if let Some(serial) = volume.lookup(1, name).ok()? {
-            there[i] = true;
-            if i == 0 {
-                size = volume.stat(serial).ok()?.size;
-            }
-        }
-    }
-    Some((there, size))
+    let p = size_of(&mut volume, b"p")?;
+    let q = size_of(&mut volume, b"q")?;
+    let r = size_of(&mut volume, b"r")?;
+    Some(([p.is_some(), q.is_some(), r.is_some()], p.unwrap_or(0)))
 }
 
 /// Whether what was found is what a first part of the calls made, with all up to the sync where that was answered.
