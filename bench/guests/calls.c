@@ -4,7 +4,7 @@
  *     calls create COUNT     makes so many empty files
  *     calls write COUNT      writes 16,384 bytes into each
  *     calls touch COUNT      writes one byte into the first of them so many times
- *     calls read COUNT       reads each whole
+ *     calls read COUNT       reads one whole so many times, the first 200 in turn
  *     calls rename COUNT     gives each another name
  *     calls none 0           does nothing
  *
@@ -20,7 +20,7 @@
 #include <string.h>
 #include <unistd.h>
 
-enum { PIECE = 16384 };
+enum { PIECE = 16384, FILES = 200 };
 
 static char bytes[PIECE];
 
@@ -83,7 +83,7 @@ int main(int argc, char **argv) {
     else if (!strcmp(argv[1], "touch"))
       failed = put(0, 1);
     else if (!strcmp(argv[1], "read"))
-      failed = get(number);
+      failed = get(number % FILES);
     else if (!strcmp(argv[1], "rename"))
       failed = give_name(directory, number);
     if (failed)
