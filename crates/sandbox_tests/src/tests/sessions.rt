@@ -9,7 +9,7 @@ use std::alloc::Global;
 use std::io::ErrorKind;
 use std::process::Abort;
 use std::test::Fail;
-use vol_sector::{Device, MemoryDevice};
+use vol_sector::{FlakyDevice, FuseDevice, MemoryDevice};
 use wasm_tests::HELLO;
 
 fn settings<'a, 't>(
@@ -123,24 +123,43 @@ pub static PLAIN: Settings<'static, 'static> = Settings {
     pages: 1_024,
 };
 
-/// A session over a volume in memory.
-pub type Small<'a> = On<'a, MemoryDevice>;
+/// A device in memory, of whose operations one may fail, and all from one on: one type for all tests.
+pub type Disk = FlakyDevice<FuseDevice<MemoryDevice>>;
 
-pub type On<'a, D> = Session<'a, 'static, 'static, D, &'static [u8], Bounded, Bounded>;
+/// A session over a volume on such a device.
+pub type Small<'a> = Session<'a, 'static, 'static, Disk, &'static [u8], Bounded, Bounded>;
+
+/// The device whose operation of this number fails, and all after so many.
+pub fn faulty(device: MemoryDevice, failing: u64, passes: u64) -> Disk {
+    FlakyDevice::new(FuseDevice::new(device, passes), failing)
+}
+
+pub fn memory_of(disk: Disk) -> MemoryDevice {
+    disk.into_inner().into_inner()
+}
 
 /// A device with a fresh volume of 202 sectors and 16 slots.
-pub fn device(alloc: Global) -> Option<MemoryDevice> {
-    Volume::format(MemoryDevice::new(alloc, 202, 400).ok()?, 202, 16).ok()
+pub fn formatted(alloc: Global) -> Option<MemoryDevice> {
+    let device = faulty(MemoryDevice::new(alloc, 202, 400).ok()?, 0, u64::MAX);
+    match Volume::format(device, 202, 16) {
+        Ok(device) => Some(memory_of(device)),
+        Err(_) => None,
+    }
+}
+
+/// The volume on a device that works.
+pub fn working(alloc: Global, device: MemoryDevice) -> Option<Volume<Disk>> {
+    Volume::open(alloc, faulty(device, 0, u64::MAX)).ok()
 }
 
 /// A session over a volume, of whose output so many bytes are taken.
-pub fn over<'a, D: Device + Drop>(
+pub fn over<'a>(
     alloc: Global,
     module: &'a [u8],
-    volume: Volume<D>,
+    volume: Volume<Disk>,
     input: &'static [u8],
     most: usize,
-) -> Option<On<'a, D>> {
+) -> Option<Small<'a>> {
     let valid = load(alloc, module).ok()?;
     let out = Bounded::new(alloc, 100, most, Some(ErrorKind::BrokenPipe));
     let err = Bounded::new(alloc, 1, 1, None);
@@ -148,7 +167,7 @@ pub fn over<'a, D: Device + Drop>(
 }
 
 pub fn opened(alloc: Global, module: &[u8], most: usize) -> Option<Small<'_>> {
-    let volume = Volume::open(alloc, device(alloc)?).ok()?;
+    let volume = working(alloc, formatted(alloc)?)?;
     over(alloc, module, volume, b"", most)
 }
 
@@ -270,7 +289,7 @@ fn refusal(
         Bounded::new(alloc, 1, 2, None),
         Bounded::new(alloc, 1, 3, None),
     );
-    let volume = Volume::open(alloc, device(alloc)?).ok()?;
+    let volume = working(alloc, formatted(alloc)?)?;
     let preopens = [Preopen {
         guest_name: b"/",
         path: preopened,

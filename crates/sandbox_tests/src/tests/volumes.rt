@@ -1,12 +1,12 @@
 //! Guests that use a volume: what they print, what stands in the next session, and what stands where the device fails.
 
 use super::guests::{APPEND, CUT, FILES, INPUT, LISTING, LONG};
-use super::sessions::{device, over};
+use super::sessions::{Disk, faulty, formatted, memory_of, over, working};
 use sandbox_core::{Outcome, Report, Volume, run};
 use std::alloc::Global;
 use std::process::Abort;
 use vol_inode::is_name;
-use vol_sector::{Device, FlakyDevice, FuseDevice, MemoryDevice};
+use vol_sector::MemoryDevice;
 
 /// More than any guest here uses.
 const FUEL: u64 = 1_000;
@@ -15,10 +15,10 @@ const FUEL: u64 = 1_000;
 fn printed(
     alloc: Global,
     module: &[u8],
-    volume: Volume<MemoryDevice>,
+    volume: Volume<Disk>,
     input: &'static [u8],
     line: &[u8],
-) -> Option<Volume<MemoryDevice>> {
+) -> Option<Volume<Disk>> {
     let session = over(alloc, module, volume, input, 1_000)?;
     if session.used() > 0 {
         return None;
@@ -43,7 +43,7 @@ fn guests_print_what_files_hold(rt: HostRuntime) {
         (INPUT, b"abcd", b"abc\0\x03d\0\0\0\x01\0\0\0\0\0"),
     ];
     for (i, (module, input, line)) in rows.into_iter().enumerate() {
-        let volume = device(rt.alloc()).and_then(|it| Volume::open(rt.alloc(), it).ok());
+        let volume = formatted(rt.alloc()).and_then(|it| working(rt.alloc(), it));
         let ran = volume.and_then(|it| printed(rt.alloc(), module, it, input, line));
         assert!(rt; ran.is_some(), "row {i}");
     }
@@ -51,10 +51,10 @@ fn guests_print_what_files_hold(rt: HostRuntime) {
 
 /// Three sessions one after another, each of which appends to the file.
 fn appended(alloc: Global) -> Option<()> {
-    let mut volume = Volume::open(alloc, device(alloc)?).ok()?;
+    let mut volume = working(alloc, formatted(alloc)?)?;
     for line in [b"abc".as_slice(), b"abcabc", b"abcabcabc"] {
         volume = printed(alloc, APPEND, volume, b"", line)?;
-        volume = Volume::open(alloc, volume.into_device()).ok()?;
+        volume = working(alloc, memory_of(volume.into_device()))?;
     }
     Some(())
 }
@@ -64,30 +64,29 @@ fn the_next_session_finds_the_files(rt: HostRuntime) {
     assert!(rt; appended(rt.alloc()).is_some());
 }
 
-/// The size of a file in the root, where it is there.
-fn size_of(volume: &mut Volume<MemoryDevice>, name: &[u8]) -> Option<Option<u32>> {
+/// Whether a file is in the root.
+fn has(volume: &mut Volume<Disk>, name: &[u8]) -> Option<bool> {
     if !is_name(name) {
         return None;
     }
-    match volume.lookup(1, name).ok()? {
-        Some(serial) => Some(Some(volume.stat(serial).ok()?.size)),
-        None => Some(None),
-    }
+    Some(volume.lookup(1, name).ok()?.is_some())
 }
 
-/// Which of the files p, q and r a volume has, in this order, and the size of p.
+/// Which of the files p, q and r a volume has, in this order, and how many sectors their bytes need.
 fn found(alloc: Global, device: MemoryDevice) -> Option<([bool; 3], u32)> {
-    let mut volume = Volume::open(alloc, device).ok()?;
-    let p = size_of(&mut volume, b"p")?;
-    let q = size_of(&mut volume, b"q")?;
-    let r = size_of(&mut volume, b"r")?;
-    Some(([p.is_some(), q.is_some(), r.is_some()], p.unwrap_or(0)))
+    let mut volume = working(alloc, device)?;
+    let there = [
+        has(&mut volume, b"p")?,
+        has(&mut volume, b"q")?,
+        has(&mut volume, b"r")?,
+    ];
+    Some((there, volume.stats().needed))
 }
 
 /// Whether what was found is what a first part of the calls made, with all up to the sync where that was answered.
 fn is_a_first_part(synced: bool, found: ([bool; 3], u32)) -> bool {
     match found {
-        ([true, true, true], 0 | 16_384 | 20_000) => true,
+        ([true, true, true], 0 | 32 | 40) => true,
         ([true, true, false], 0) => !synced,
         ([true, false, false], 0) => !synced,
         ([false, false, false], 0) => !synced,
@@ -95,54 +94,59 @@ fn is_a_first_part(synced: bool, found: ([bool; 3], u32)) -> bool {
     }
 }
 
-/// How many calls answered 0 before the first that answered 29, as all after it did.
-fn succeeded(told: &[u8]) -> Option<usize> {
-    let count = told.iter().take_while(|errno| **errno == 0).count();
-    (told.len() == 6 && told[count..].iter().all(|errno| *errno == 29)).then_some(count)
+/// Whether a call after one that failed may answer this: 29, or 8 where the file was never opened.
+fn fails(errno: u8, opened: bool) -> bool {
+    errno == 29 || (errno == 8 && !opened)
 }
 
-/// How many calls of the guest succeeded, whether all was committed at the end, and the device.
-fn ran<D: Device + Drop>(alloc: Global, volume: Volume<D>) -> Option<(usize, bool, D)> {
+/// How many calls answered 0 before the first that failed, as all after it did.
+fn succeeded(told: &[u8]) -> Option<usize> {
+    let count = told.iter().take_while(|errno| **errno == 0).count();
+    let opened = count > 0;
+    (told.len() == 6 && told[count..].iter().all(|errno| fails(*errno, opened))).then_some(count)
+}
+
+/// How many calls of the guest succeeded, where it told what it should, whether all was committed at the end, and the
+/// device.
+fn ran(alloc: Global, volume: Volume<Disk>) -> Option<(Option<usize>, bool, MemoryDevice)> {
     let session = over(alloc, FILES, volume, b"", 1_000)?;
     if session.used() > 0 {
         return None;
     }
     let Report { out, volume, .. } = run(session, FUEL);
-    let count = succeeded(out.held.as_slice())?;
+    let count = succeeded(out.held.as_slice());
     match volume {
-        Ok(volume) => Some((count, true, volume.into_device())),
-        Err(refused) => Some((count, false, refused.device)),
+        Ok(volume) => Some((count, true, memory_of(volume.into_device()))),
+        Err(refused) => Some((count, false, memory_of(refused.device))),
     }
 }
 
-#[test]
-fn one_failing_operation_leaves_a_first_part(rt: HostRuntime) {
-    let alloc = rt.alloc();
-    for failing in 1..1_000 {
-        let flaky = device(alloc).map(|it| FlakyDevice::new(it, failing));
-        let Some(volume) = flaky.and_then(|it| Volume::open(alloc, it).ok()) else {
-            continue;
-        };
-        let Some((count, whole, device)) = ran(alloc, volume) else {
-            continue;
-        };
-        let found = found(alloc, device.into_inner());
-        let is_right = found.is_some_and(|it| is_a_first_part(count > 3, it));
-        assert!(rt; is_right, "operation {failing}: {count}, {found:?}");
-        if whole && count == 6 {
-            assert_eq!(rt; found, Some(([true; 3], 20_000)));
-            return;
-        }
+/// Whether a device's volume can be opened and holds what a first part of the calls made.
+fn holds_a_first_part(alloc: Global, device: MemoryDevice, count: Option<usize>) -> bool {
+    let Some(count) = count else {
+        return false;
+    };
+    match found(alloc, device) {
+        Some(found) => is_a_first_part(count > 3, found),
+        None => false,
     }
-    panic!(rt; "always failing");
 }
 
-/// Whether each image that a stop after so many operations may leave is a first part, and whether the guest came to its
-/// end.
+/// Whether the guest, on a device whose operation of this number fails, leaves a first part, and whether it came to its
+/// end. None where it can't begin.
+fn failed(alloc: Global, failing: u64) -> Option<(bool, bool)> {
+    let device = faulty(formatted(alloc)?, failing, u64::MAX);
+    let (count, whole, device) = ran(alloc, Volume::open(alloc, device).ok()?)?;
+    Some((
+        holds_a_first_part(alloc, device, count),
+        whole && count == Some(6),
+    ))
+}
+
+/// The same for each of some images that a stop after so many operations may leave.
 fn stopped(alloc: Global, operations: u64) -> Option<(bool, bool)> {
-    let volume = Volume::open(alloc, FuseDevice::new(device(alloc)?, operations)).ok()?;
-    let (count, whole, device) = ran(alloc, volume)?;
-    let device = device.into_inner();
+    let device = faulty(formatted(alloc)?, 0, operations);
+    let (count, whole, device) = ran(alloc, Volume::open(alloc, device).ok()?)?;
     let mut is_right = true;
     let rows: [&[u32]; 4] = [
         &[],
@@ -152,21 +156,37 @@ fn stopped(alloc: Global, operations: u64) -> Option<(bool, bool)> {
     ];
     for picks in rows {
         let image = device.crashed(alloc, picks).ok()?;
-        is_right &= is_a_first_part(count > 3, found(alloc, image)?);
+        is_right &= holds_a_first_part(alloc, image, count);
     }
     Some((is_right, whole))
 }
 
-#[test]
-fn every_stop_leaves_a_first_part(rt: HostRuntime) {
-    for operations in 0..1_000 {
-        let Some((is_right, whole)) = stopped(rt.alloc(), operations) else {
+/// Counts operations up until the guest comes to its end, which takes more than 20 of them.
+fn assert_first_parts(
+    rt: &impl Abort,
+    alloc: Global,
+    leaves: fn(Global, u64) -> Option<(bool, bool)>,
+) {
+    for operations in 1..1_000 {
+        let Some((is_right, whole)) = leaves(alloc, operations) else {
+            assert!(rt; operations < 100, "never begun");
             continue;
         };
-        assert!(rt; is_right, "after {operations}");
+        assert!(rt; is_right, "operation {operations}");
         if whole {
+            assert!(rt; operations > 20);
             return;
         }
     }
-    panic!(rt; "always stopped");
+    panic!(rt; "never at its end");
+}
+
+#[test]
+fn one_failing_operation_leaves_a_first_part(rt: HostRuntime) {
+    assert_first_parts(&rt, rt.alloc(), failed);
+}
+
+#[test]
+fn every_stop_leaves_a_first_part(rt: HostRuntime) {
+    assert_first_parts(&rt, rt.alloc(), stopped);
 }
