@@ -161,14 +161,25 @@ fn stopped(alloc: Global, operations: u64) -> Option<(bool, bool)> {
     Some((is_right, whole))
 }
 
+/// How a device breaks at an operation: it fails that one, or stops there.
+#[derive(Clone, Copy)]
+enum Break {
+    Fails,
+    Stops,
+}
+
+/// What `failed` or `stopped` says.
+fn broken(alloc: Global, way: Break, operations: u64) -> Option<(bool, bool)> {
+    match way {
+        Break::Fails => failed(alloc, operations),
+        Break::Stops => stopped(alloc, operations),
+    }
+}
+
 /// Counts operations up until the guest comes to its end, which takes more than 20 of them.
-fn assert_first_parts(
-    rt: &impl Abort,
-    alloc: Global,
-    leaves: fn(Global, u64) -> Option<(bool, bool)>,
-) {
+fn assert_first_parts(rt: &impl Abort, alloc: Global, way: Break) {
     for operations in 1..1_000 {
-        let Some((is_right, whole)) = leaves(alloc, operations) else {
+        let Some((is_right, whole)) = broken(alloc, way, operations) else {
             assert!(rt; operations < 100, "never begun");
             continue;
         };
@@ -183,10 +194,10 @@ fn assert_first_parts(
 
 #[test]
 fn one_failing_operation_leaves_a_first_part(rt: HostRuntime) {
-    assert_first_parts(&rt, rt.alloc(), failed);
+    assert_first_parts(&rt, rt.alloc(), Break::Fails);
 }
 
 #[test]
 fn every_stop_leaves_a_first_part(rt: HostRuntime) {
-    assert_first_parts(&rt, rt.alloc(), stopped);
+    assert_first_parts(&rt, rt.alloc(), Break::Stops);
 }
