@@ -55,10 +55,18 @@ right_file version content e changed size right none small is widths body =
       };
     })
 
--- three facts on one success
+-- facts on one success
+pub both : (r : Result (Unit {0}) DeviceFault) (P Q S : Type 0) → (P → Q → S) → OnOk r P → OnOk r Q → OnOk r S
+both (Ok x) P Q S f p q = f p q
+both (Err x) P Q S f p q = tt
+
 pub all_three : (r : Result (Unit {0}) DeviceFault) (P Q R S : Type 0) → (P → Q → R → S) → OnOk r P → OnOk r Q → OnOk r R → OnOk r S
 all_three (Ok x) P Q R S f p q s = f p q s
 all_three (Err x) P Q R S f p q s = tt
+
+pub four : (r : Result (Unit {0}) DeviceFault) (P Q R S T : Type 0) → (P → Q → R → S → T) → OnOk r P → OnOk r Q → OnOk r R → OnOk r S → OnOk r T
+four (Ok x) P Q R S T f p q s t = f p q s t
+four (Err x) P Q R S T f p q s t = tt
 
 pub max_limit : (version : Version) (size end : ℕ) → size ≤ size_limit version → end ≤ size_limit version → max size end ≤ size_limit version
 max_limit version size end one other = omega arith

@@ -1,8 +1,18 @@
 -- What a change of one file leaves on a volume.
 use Rattle.std.specs.Prelude.{◌≡◌, ◌≢◌, ◌≤◌, ◌<◌, ◌+◌, ◌-◌, ◌==◌, ◌⊎◌, ◌++◌, ℕ, Bool, true, false, not, List, [], ◌∷◌, length, take, drop, replicate, count_by}
 use Rattle.vol_sector.specs.Disk.{Image}
+use Rattle.vol_sector.specs.declared.device.Device.{Ghosts}
+use Rattle.vol_log.specs.Log.{view, device_of}
+use Rattle.vol_log.specs.declared.log.Log.{Log}
+use Rattle.vol_alloc.specs.Alloc.{first_of, end_of, taken_of, free_of}
+use Rattle.vol_alloc.specs.declared.sectors.Alloc.{Alloc}
 use Rattle.vol_inode.specs.declared.entry.Entry.{Entry}
-use Rattle.vol_body.specs.Body.{Place, IsPlace, named, places_of, NamesTaken, NamesOthers}
+use Rattle.vol_inode.specs.declared.entry.Kind.TheVariants.{Directory}
+use Rattle.vol_inode.specs.declared.version.Version.{Version}
+use Rattle.vol_inode.specs.Entry.{IsEntry}
+use Rattle.vol_inode.specs.Space.{size_limit}
+use Rattle.vol_inode.specs.Spelling.{spelling}
+use Rattle.vol_body.specs.Body.{Place, IsPlace, named, places_of, bytes_of, NamesTaken, NamesOthers, IsBody}
 
 -- the bytes with zeros behind them, up to a length
 abbrev pub extended : ℕ → List ℕ → List ℕ
@@ -41,3 +51,26 @@ pub record TakesAndGives (before now : ℕ → Bool) (content after : Image) (e 
   pub given : (n : ℕ) → Names content e n → NamesOthers after changed n → now n ≡ false
   -- all others stay
   pub others : (n : ℕ) → NamesOthers content e n → NamesOthers after changed n → now n ≡ before n
+
+-- The fact holds where the device keeps its model, the file names only taken sectors, and it keeps the rules on them.
+abbrev pub IfSound : {D : Type 0} {g : Ghosts D} → Log D g → Alloc → Entry → Type 0 → Type 0
+IfSound {D} {g} log sectors e Fact = g.honest (device_of log) → NamesTaken (taken_of sectors) (view log) e → IsBody (view log) e → Fact
+
+-- A file becomes one with these bytes. Its entry is in the sector `place`.
+pub record FileBecomes (place : ℕ) (a b : Alloc) (content after : Image) (e changed : Entry) (new : List ℕ) : Type 0 where
+  pub bytes : bytes_of after changed ≡ new
+  -- it keeps the rules on its sectors
+  pub rules : IsBody after changed
+  pub others : OthersStay place (first_of a) (end_of a) (taken_of a) content after e
+  pub taken : TakesAndGives (taken_of a) (taken_of b) content after e changed
+  -- its entry keeps the rules of a version, where the size is within that version's limit, and 0 for a directory
+  pub right : (version : Version) → IsEntry version e → (e.kind ≡ Directory → changed.size ≡ 0) → changed.size ≤ size_limit version → IsEntry version changed
+
+-- no free sector is lost: what the file names more was free
+abbrev pub LosesNoSector : Alloc → Alloc → Image → Image → Entry → Entry → Type 0
+LosesNoSector a b content after e changed = free_of a + used_of content e ≤ free_of b + used_of after changed
+
+-- the entry has this size, and else only other pointers; its sector spells it
+pub record EntryBecomes (place size : ℕ) (after : Image) (e changed : Entry) : Type 0 where
+  pub entry : changed ≡ record e { size = size; pointers = changed.pointers }
+  pub staged : after place ≡ spelling changed

@@ -1,9 +1,11 @@
 -- What stays of a log that is read and staged to.
-use Rattle.std.specs.Prelude.{◌≡◌, ◌↔◌, false}
+use Rattle.std.specs.Prelude.{◌≡◌, ◌↔◌, ◌≤◌, ◌+◌, ℕ, Bool, false}
 use Rattle.vol_sector.specs.Disk.{Leaves, counted}
 use Rattle.vol_sector.specs.declared.device.Device.{Ghosts}
-use Rattle.vol_log.specs.Log.{device_of, sectors_of, has_failed}
+use Rattle.vol_log.specs.Log.{device_of, sectors_of, room_of, has_failed}
 use Rattle.vol_log.specs.declared.log.Log.{Log}
+use Rattle.vol_alloc.specs.Alloc.{first_of, end_of}
+use Rattle.vol_alloc.specs.declared.sectors.Alloc.{Alloc}
 
 -- Sectors are read, and then others are staged: a crash leaves nothing new. At most one operation fails, and the log then.
 pub record OnlyStages {D : Type 0} {g : Ghosts D} (old new : Log D g) : Type 0 where
@@ -13,3 +15,10 @@ pub record OnlyStages {D : Type 0} {g : Ghosts D} (old new : Log D g) : Type 0 w
   pub honest : g.honest (device_of old) ↔ g.honest (device_of new)
   pub size : g.size (device_of new) ≡ g.size (device_of old)
   pub failures : has_failed old ≡ false → g.failures (device_of new) ≡ counted (has_failed new) (g.failures (device_of old))
+
+-- A change of a file stages so many sectors at most. The log has failed where the change is refused, and only there.
+pub record StagesAtMost {D : Type 0} {g : Ghosts D} (most : ℕ) (old new : Log D g) (a b : Alloc) (refused : Bool) : Type 0 where
+  pub room : room_of old ≤ room_of new + most
+  pub log : OnlyStages old new
+  pub failed : has_failed new ≡ refused
+  pub range : (first_of b ≡ first_of a) × (end_of b ≡ end_of a)

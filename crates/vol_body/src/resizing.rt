@@ -1,17 +1,12 @@
 //! Setting the size of a file.
 
 ghost use Rattle.std.specs.Prelude.{◌≡◌, ◌≤◌, ◌<◌, ◌+◌, true, OnOk, OnErr, IsErr, is_err};
-ghost use Rattle.vol_log.specs.Log.{view, sectors_of, room_of, has_failed, device_of};
-ghost use Rattle.vol_alloc.specs.Alloc.{first_of, end_of, taken_of};
-ghost use Rattle.vol_inode.specs.Spelling.{spelling};
-ghost use Rattle.vol_inode.specs.Space.{size_limit};
-ghost use Rattle.vol_inode.specs.Entry.{IsEntry};
-ghost use Rattle.vol_inode.specs.declared.entry.Kind.TheVariants.{Directory};
-ghost use Rattle.vol_inode.specs.declared.version.Version.{Version};
-ghost use Rattle.vol_body.specs.Body.{NamesTaken, bytes_of, IsBody};
-ghost use Rattle.vol_body.specs.Change.{resized, OthersStay, TakesAndGives};
+ghost use Rattle.vol_log.specs.Log.{view, sectors_of, room_of, has_failed};
+ghost use Rattle.vol_alloc.specs.Alloc.{first_of, end_of};
+ghost use Rattle.vol_body.specs.Body.{bytes_of};
+ghost use Rattle.vol_body.specs.Change.{resized, IfSound, FileBecomes, EntryBecomes};
 ghost use Rattle.vol_log.specs.Reading.{OnlyReads};
-ghost use Rattle.vol_body.specs.Reading.{OnlyStages};
+ghost use Rattle.vol_body.specs.Reading.{StagesAtMost};
 
 use crate::growing::grow;
 use crate::shrinking::shrink;
@@ -41,39 +36,12 @@ pub fn set_size<D: Device>(
     requires small_before { entry.old.size ≤ 8483840 }
     requires small { size ≤ 8483840 }
     // Read as a list, the file is cut or has zeros behind it.
-    ensures bytes { D.honest (device_of log.old)
-        → NamesTaken (taken_of sectors.old) (view log.old) entry.old
-        → IsBody (view log.old) entry.old
-        → OnOk result (bytes_of (view log.new) entry.new
-        ≡ resized size (bytes_of (view log.old) entry.old)) }
-    ensures rules { D.honest (device_of log.old)
-        → NamesTaken (taken_of sectors.old) (view log.old) entry.old
-        → IsBody (view log.old) entry.old
-        → OnOk result (IsBody (view log.new) entry.new) }
-    ensures others { D.honest (device_of log.old)
-        → NamesTaken (taken_of sectors.old) (view log.old) entry.old
-        → IsBody (view log.old) entry.old
-        → OnOk result (OthersStay place (first_of sectors.old) (end_of sectors.old)
-        (taken_of sectors.old) (view log.old) (view log.new) entry.old) }
-    ensures taken { D.honest (device_of log.old)
-        → NamesTaken (taken_of sectors.old) (view log.old) entry.old
-        → IsBody (view log.old) entry.old
-        → OnOk result (TakesAndGives (taken_of sectors.old) (taken_of sectors.new)
-        (view log.old) (view log.new) entry.old entry.new) }
-    ensures entry { OnOk result (entry.new
-        ≡ record entry.old { size = size; pointers = entry.new.pointers }) }
-    // The entry keeps the rules that its own sector shows.
-    ensures right { (version : Version) → D.honest (device_of log.old)
-        → NamesTaken (taken_of sectors.old) (view log.old) entry.old
-        → IsBody (view log.old) entry.old → IsEntry version entry.old
-        → (entry.old.kind ≡ Directory → size ≡ 0) → size ≤ size_limit version → OnOk result (IsEntry version entry.new) }
-    ensures staged { OnOk result (view log.new place ≡ spelling entry.new) }
-    ensures range { (first_of sectors.new ≡ first_of sectors.old)
-        × (end_of sectors.new ≡ end_of sectors.old) }
-    ensures room { room_of log.old ≤ room_of log.new + 4 }
-    ensures log { OnlyStages log.old log.new }
+    ensures file { IfSound log.old sectors.old entry.old (OnOk result
+        (FileBecomes place sectors.old sectors.new (view log.old) (view log.new) entry.old
+        entry.new (resized size (bytes_of (view log.old) entry.old)))) }
+    ensures entry { OnOk result (EntryBecomes place size (view log.new) entry.old entry.new) }
+    ensures steps { StagesAtMost 4 log.old log.new sectors.old sectors.new (is_err result) }
     ensures refused { OnErr result ((OnlyReads log.old log.new) × (entry.new ≡ entry.old)) }
-    ensures failed { has_failed log.new ≡ is_err result }
     ensures idle { has_failed log.old ≡ true → (log.new ≡ log.old) × IsErr result }
 {
     if size < entry.size {

@@ -2,16 +2,14 @@
 
 ghost use Rattle.std.specs.Prelude.{◌≡◌, ◌≢◌, ◌≤◌, ◌<◌, ◌+◌, ◌-◌, ℕ, true, false, IfOk, OnOk, OnErr, IsErr, is_err};
 ghost use Rattle.std.specs.Prelude.{length, nat_lt, slice_index, if◌then◌else◌};
-ghost use Rattle.vol_log.specs.Log.{view, sectors_of, room_of, has_failed, device_of};
-ghost use Rattle.vol_alloc.specs.Alloc.{first_of, end_of, taken_of};
-ghost use Rattle.vol_inode.specs.Spelling.{spelling};
+ghost use Rattle.vol_log.specs.Log.{view, sectors_of, room_of, has_failed};
+ghost use Rattle.vol_alloc.specs.Alloc.{first_of, end_of};
 ghost use Rattle.vol_inode.specs.Space.{sectors_of as parts_of};
-ghost use Rattle.vol_body.specs.Body.{NamesTaken, bytes_of, IsBody};
-ghost use Rattle.vol_body.specs.Change.{resized, OthersStay, TakesAndGives};
+ghost use Rattle.vol_body.specs.Body.{bytes_of};
+ghost use Rattle.vol_body.specs.Change.{resized, IfSound, FileBecomes, EntryBecomes};
 ghost use Rattle.vol_body.specs.internal.Shorter.{first_of_pointer};
-ghost use Rattle.vol_inode.specs.Entry.{HasWidths};
 ghost use Rattle.vol_log.specs.Reading.{OnlyReads};
-ghost use Rattle.vol_body.specs.Reading.{OnlyStages};
+ghost use Rattle.vol_body.specs.Reading.{StagesAtMost};
 
 use crate::cutting::{read_cuts, stage_cuts};
 use crate::giving::give_back;
@@ -55,35 +53,12 @@ pub fn shrink<D: Device>(
     requires room { 4 ≤ room_of log.old }
     requires shorter { size < entry.old.size }
     requires small_before { entry.old.size ≤ 8483840 }
-    ensures bytes { D.honest (device_of log.old)
-        → NamesTaken (taken_of sectors.old) (view log.old) entry.old
-        → IsBody (view log.old) entry.old
-        → OnOk result (bytes_of (view log.new) entry.new
-        ≡ resized size (bytes_of (view log.old) entry.old)) }
-    ensures rules { D.honest (device_of log.old)
-        → NamesTaken (taken_of sectors.old) (view log.old) entry.old
-        → IsBody (view log.old) entry.old
-        → OnOk result (IsBody (view log.new) entry.new) }
-    ensures others { D.honest (device_of log.old)
-        → NamesTaken (taken_of sectors.old) (view log.old) entry.old
-        → IsBody (view log.old) entry.old
-        → OnOk result (OthersStay place (first_of sectors.old) (end_of sectors.old)
-        (taken_of sectors.old) (view log.old) (view log.new) entry.old) }
-    ensures taken { D.honest (device_of log.old)
-        → NamesTaken (taken_of sectors.old) (view log.old) entry.old
-        → IsBody (view log.old) entry.old
-        → OnOk result (TakesAndGives (taken_of sectors.old) (taken_of sectors.new)
-        (view log.old) (view log.new) entry.old entry.new) }
-    ensures entry { OnOk result (entry.new
-        ≡ record entry.old { size = size; pointers = entry.new.pointers }) }
-    ensures widths { OnOk result (HasWidths entry.new) }
-    ensures staged { OnOk result (view log.new place ≡ spelling entry.new) }
-    ensures range { (first_of sectors.new ≡ first_of sectors.old)
-        × (end_of sectors.new ≡ end_of sectors.old) }
-    ensures room { room_of log.old ≤ room_of log.new + 4 }
-    ensures log { OnlyStages log.old log.new }
+    ensures file { IfSound log.old sectors.old entry.old (OnOk result
+        (FileBecomes place sectors.old sectors.new (view log.old) (view log.new) entry.old
+        entry.new (resized size (bytes_of (view log.old) entry.old)))) }
+    ensures entry { OnOk result (EntryBecomes place size (view log.new) entry.old entry.new) }
+    ensures steps { StagesAtMost 4 log.old log.new sectors.old sectors.new (is_err result) }
     ensures refused { OnErr result ((OnlyReads log.old log.new) × (entry.new ≡ entry.old)) }
-    ensures failed { has_failed log.new ≡ is_err result }
     ensures idle { has_failed log.old ≡ true → (log.new ≡ log.old) × IsErr result }
 {
     if log.failed() {

@@ -3,16 +3,13 @@
 ghost use Rattle.std.specs.Prelude.{◌≡◌, ◌≢◌, ◌≤◌, ◌<◌, ◌+◌, ◌*◌, ℕ, true, false, length, max, OnOk, OnErr, IfOk, IsErr, is_err};
 ghost use Rattle.vol_log.specs.Log.{view, sectors_of, room_of, has_failed, device_of};
 ghost use Rattle.vol_alloc.specs.Alloc.{first_of, end_of, taken_of, free_of};
-ghost use Rattle.vol_inode.specs.Space.{need_of, size_limit};
-ghost use Rattle.vol_inode.specs.Entry.{IsEntry, HasWidths};
-ghost use Rattle.vol_inode.specs.declared.entry.Kind.TheVariants.{File};
-ghost use Rattle.vol_inode.specs.declared.version.Version.{Version};
-ghost use Rattle.vol_inode.specs.Spelling.{spelling};
-ghost use Rattle.vol_body.specs.Body.{part, named, part_bytes, NamesTaken, IsBody, bytes_of};
-ghost use Rattle.vol_body.specs.Change.{written, used_of, OthersStay, TakesAndGives};
+ghost use Rattle.vol_inode.specs.Space.{need_of};
+ghost use Rattle.vol_inode.specs.Entry.{HasWidths};
+ghost use Rattle.vol_body.specs.Body.{part, named, part_bytes, NamesTaken, bytes_of};
+ghost use Rattle.vol_body.specs.Change.{written, used_of, IfSound, FileBecomes, LosesNoSector, EntryBecomes};
 ghost use Rattle.vol_log.specs.Reading.{OnlyReads};
-ghost use Rattle.vol_body.specs.Reading.{OnlyStages};
-ghost use Rattle.vol_body.specs.internal.Writing.{SameRange, WriteLeaves};
+ghost use Rattle.vol_body.specs.Reading.{StagesAtMost};
+ghost use Rattle.vol_body.specs.internal.Writing.{WriteLeaves};
 
 use crate::lists::load_lists;
 use crate::locate::read_part;
@@ -44,52 +41,22 @@ pub fn write_at<D: Device>(
     requires small_before { entry.old.size ≤ 8483840 }
     requires small { offset + length bytes.now ≤ 8483840 }
     requires few { length bytes.now ≤ 16384 }
-    requires space { D.honest (device_of log.old)
-        → NamesTaken (taken_of sectors.old) (view log.old) entry.old
-        → IsBody (view log.old) entry.old
-        → need_of (max entry.old.size (offset + length bytes.now))
-        ≤ free_of sectors.old + used_of (view log.old) entry.old }
-    ensures bytes { D.honest (device_of log.old)
-        → NamesTaken (taken_of sectors.old) (view log.old) entry.old
-        → IsBody (view log.old) entry.old
-        → OnOk result (bytes_of (view log.new) entry.new
-        ≡ written (bytes_of (view log.old) entry.old) offset bytes.now) }
-    ensures rules { D.honest (device_of log.old)
-        → NamesTaken (taken_of sectors.old) (view log.old) entry.old
-        → IsBody (view log.old) entry.old → OnOk result (IsBody (view log.new) entry.new) }
-    ensures others { D.honest (device_of log.old)
-        → NamesTaken (taken_of sectors.old) (view log.old) entry.old
-        → IsBody (view log.old) entry.old
-        → OnOk result (OthersStay place (first_of sectors.old) (end_of sectors.old)
-        (taken_of sectors.old) (view log.old) (view log.new) entry.old) }
-    ensures taken { D.honest (device_of log.old)
-        → NamesTaken (taken_of sectors.old) (view log.old) entry.old
-        → IsBody (view log.old) entry.old
-        → OnOk result (TakesAndGives (taken_of sectors.old) (taken_of sectors.new)
-        (view log.old) (view log.new) entry.old entry.new) }
-    // No free sector is lost.
-    ensures count { D.honest (device_of log.old)
-        → NamesTaken (taken_of sectors.old) (view log.old) entry.old
-        → IsBody (view log.old) entry.old
-        → OnOk result (free_of sectors.old + used_of (view log.old) entry.old
-        ≤ free_of sectors.new + used_of (view log.new) entry.new) }
-    ensures entry { 0 < length bytes.now → OnOk result (entry.new
-        ≡ record entry.old { size = max entry.old.size (offset + length bytes.now); pointers = entry.new.pointers }) }
-    // The entry keeps the rules that its own sector shows.
-    ensures right { (version : Version) → D.honest (device_of log.old)
-        → NamesTaken (taken_of sectors.old) (view log.old) entry.old
-        → IsBody (view log.old) entry.old → IsEntry version entry.old → entry.old.kind ≡ File
-        → offset + length bytes.now ≤ size_limit version → OnOk result (IsEntry version entry.new) }
-    ensures staged { 0 < length bytes.now → OnOk result (view log.new place ≡ spelling entry.new) }
+    requires space { IfSound log.old sectors.old entry.old
+        (need_of (max entry.old.size (offset + length bytes.now))
+        ≤ free_of sectors.old + used_of (view log.old) entry.old) }
+    // The bytes stand in the file, and no free sector is lost.
+    ensures file { IfSound log.old sectors.old entry.old (OnOk result
+        (FileBecomes place sectors.old sectors.new (view log.old) (view log.new) entry.old
+        entry.new (written (bytes_of (view log.old) entry.old) offset bytes.now)
+        × LosesNoSector sectors.old sectors.new (view log.old) (view log.new) entry.old
+        entry.new)) }
+    ensures entry { 0 < length bytes.now → OnOk result (EntryBecomes place
+        (max entry.old.size (offset + length bytes.now)) (view log.new) entry.old entry.new) }
     ensures nothing { length bytes.now ≡ 0 → (log.new ≡ log.old) × (sectors.new ≡ sectors.old)
         × (entry.new ≡ entry.old) }
-    ensures range { (first_of sectors.new ≡ first_of sectors.old)
-        × (end_of sectors.new ≡ end_of sectors.old) }
-    ensures room { room_of log.old ≤ room_of log.new + 37 }
-    ensures log { OnlyStages log.old log.new }
+    ensures steps { StagesAtMost 37 log.old log.new sectors.old sectors.new (is_err result) }
     ensures refused { OnErr result ((OnlyReads log.old log.new) × (entry.new ≡ entry.old)
         × (sectors.new ≡ sectors.old)) }
-    ensures failed { has_failed log.new ≡ is_err result }
     ensures idle { has_failed log.old ≡ true → (log.new ≡ log.old) × IsErr result }
 {
     if log.failed() {
@@ -120,23 +87,17 @@ fn write_some<D: Device>(
     requires small { offset + length bytes.now ≤ 8483840 }
     requires few { length bytes.now ≤ 16384 }
     requires some { 0 < length bytes.now }
-    ensures done { D.honest (device_of log.old)
-        → NamesTaken (taken_of sectors.old) (view log.old) entry.old
-        → IsBody (view log.old) entry.old
-        → need_of (max entry.old.size (offset + length bytes.now))
+    ensures done { IfSound log.old sectors.old entry.old
+        (need_of (max entry.old.size (offset + length bytes.now))
         ≤ free_of sectors.old + used_of (view log.old) entry.old
         → OnOk result (WriteLeaves place sectors.old sectors.new (view log.old) (view log.new)
-        entry.old entry.new offset bytes.now) }
-    ensures entry { OnOk result (entry.new
-        ≡ record entry.old { size = max entry.old.size (offset + length bytes.now); pointers = entry.new.pointers }) }
+        entry.old entry.new offset bytes.now)) }
+    ensures entry { OnOk result (EntryBecomes place
+        (max entry.old.size (offset + length bytes.now)) (view log.new) entry.old entry.new) }
     ensures widths { OnOk result (HasWidths entry.new) }
-    ensures staged { OnOk result (view log.new place ≡ spelling entry.new) }
-    ensures range { SameRange sectors.old sectors.new }
-    ensures room { room_of log.old ≤ room_of log.new + 37 }
-    ensures log { OnlyStages log.old log.new }
+    ensures steps { StagesAtMost 37 log.old log.new sectors.old sectors.new (is_err result) }
     ensures refused { OnErr result ((OnlyReads log.old log.new) × (entry.new ≡ entry.old)
         × (sectors.new ≡ sectors.old)) }
-    ensures failed { has_failed log.new ≡ is_err result }
 {
     let end = offset + bytes.len() as u32;
     let first = offset / 512;

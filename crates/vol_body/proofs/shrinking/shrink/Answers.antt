@@ -1,4 +1,4 @@
-use Rattle.std.proofs.Common.{◌≡◌, ◌∙◌, ℕ, nat_lt, if◌then◌else◌, get_or, OnErr, Ok, Err, Result, sym, ap, subst, arith}
+use Rattle.std.proofs.Common.{◌≡◌, ◌∙◌, ℕ, nat_lt, if◌then◌else◌, get_or, OnErr, Ok, Err, Result, sym, ap, subst, arith, rules}
 use Rattle.vol_sector.specs.Disk.{Image, put}
 use Rattle.vol_sector.specs.declared.device.DeviceFault.{DeviceFault}
 use Rattle.vol_log.specs.Log.{view, device_of}
@@ -9,6 +9,7 @@ use Rattle.vol_body.specs.Body.{NamesTaken, IsBody, bytes_of}
 use Rattle.vol_body.specs.Change.{OthersStay, TakesAndGives}
 use Rattle.vol_body.specs.internal.Shorter.{first_of_pointer, with_cuts, Gives, Goes}
 use Rattle.vol_log.proofs.Readings.{reads_then}
+use Rattle.vol_body.proofs.Rights.{right_file}
 use Rattle.vol_body.proofs.Stagings.{stages_then}
 use Rattle.vol_body.proofs.Cuts.{put_there, in_range}
 use Rattle.vol_body.proofs.Shrunk.{Shrinks, shrunk_bytes, shrunk_rules, shrunk_others, shrunk_taken}
@@ -23,18 +24,25 @@ pub returns-in_err-give_back-clause-refused : goal.returns-in_err-give_back-clau
 returns-in_err-give_back-clause-refused g c =
     on_err c.from_residual-in_err-give_back.result _ (reads_then c.args.log.now c.read_cuts.new.log c.give_back.new.log c.in_ok-cuts.ensures.failed c.in_ok-cuts.ensures.reads c.in_err-give_back.ensures.reads, λ i. c.args.entry.now)
 
-pub returns-clause-log : goal.returns-clause-log
-returns-clause-log g c =
-    let reads = reads_then c.args.log.now c.read_cuts.new.log c.give_back.new.log c.in_ok-cuts.ensures.failed c.in_ok-cuts.ensures.reads c.in_ok-give_back.ensures.reads in
-    stages_then c.args.log.now c.give_back.new.log c.stage.new.self reads c.in_ok-give_back.ensures.failed (c.stage.ensures.device ∙ c.stage_cuts.ensures.device) (c.stage.ensures.sectors ∙ c.stage_cuts.ensures.sectors) c.stage.ensures.failed
-
-pub returns-clause-staged : goal.returns-clause-staged
-returns-clause-staged g c =
-    ap (λ (m : Image). m c.args.place) c.stage.ensures.view ∙ put_there c.args.place c.write_entry.result (view c.stage_cuts.new.log) ∙ c.write_entry.ensures.bytes
-
 -- the entry as it is written
 abbrev changed_of : (g : Over) → goal.After-stage g → Entry
 changed_of g c = record c.args.entry.now { size = c.args.size; pointers = c.kept_pointers-entry.result }
+
+pub returns-clause-entry : goal.returns-clause-entry
+returns-clause-entry g c = record {
+  entry = λ i. changed_of g c;
+  staged = ap (λ (m : Image). m c.args.place) c.stage.ensures.view ∙ put_there c.args.place c.write_entry.result (view c.stage_cuts.new.log) ∙ c.write_entry.ensures.bytes;
+}
+
+pub returns-clause-steps : goal.returns-clause-steps
+returns-clause-steps g c =
+    let reads = reads_then c.args.log.now c.read_cuts.new.log c.give_back.new.log c.in_ok-cuts.ensures.failed c.in_ok-cuts.ensures.reads c.in_ok-give_back.ensures.reads in
+    record {
+      room = search rules;
+      log = stages_then c.args.log.now c.give_back.new.log c.stage.new.self reads c.in_ok-give_back.ensures.failed (c.stage.ensures.device ∙ c.stage_cuts.ensures.device) (c.stage.ensures.sectors ∙ c.stage_cuts.ensures.sectors) c.stage.ensures.failed;
+      failed = c.stage.ensures.failed;
+      range = search rules;
+    }
 
 given_back : (g : Over) (c : goal.After-stage g) → g.D.Device.honest (device_of c.args.log.now) → NamesTaken (taken_of c.args.sectors.now) (view c.args.log.now) c.args.entry.now
     → Gives (taken_of c.args.sectors.now) (taken_of c.give_back.new.sectors) (Goes (view c.args.log.now) c.args.entry.now (sectors_of c.args.size))
@@ -71,22 +79,27 @@ after_is g c h =
     let same : view c.give_back.new.log ≡ view c.args.log.now = c.in_ok-give_back.ensures.reads.view (first.honest.0 h) ∙ first.view h in
     c.stage.ensures.view ∙ ap (put c.args.place c.write_entry.result) (c.stage_cuts.ensures.view ∙ ap (with_cuts c.in_ok-cuts.cuts) same)
 
-pub returns-clause-bytes : goal.returns-clause-bytes
-returns-clause-bytes g c h names body =
-    ap (λ (m : Image). bytes_of m (changed_of g c)) (after_is g c h)
-    ∙ shrunk_bytes c.args.size c.args.place (first_of c.args.sectors.now) (end_of c.args.sectors.now) (view c.args.log.now) c.args.entry.now (changed_of g c) c.in_ok-cuts.cuts (taken_of c.args.sectors.now) (taken_of c.give_back.new.sectors) (made g c h names body) c.write_entry.result
-
-pub returns-clause-rules : goal.returns-clause-rules
-returns-clause-rules g c h names body =
-    subst (λ (m : Image). IsBody m (changed_of g c)) (sym (after_is g c h))
-    (shrunk_rules c.args.size c.args.place (first_of c.args.sectors.now) (end_of c.args.sectors.now) (view c.args.log.now) c.args.entry.now (changed_of g c) c.in_ok-cuts.cuts (taken_of c.args.sectors.now) (taken_of c.give_back.new.sectors) (made g c h names body) c.write_entry.result)
-
-pub returns-clause-others : goal.returns-clause-others
-returns-clause-others g c h names body =
-    subst (λ (m : Image). OthersStay c.args.place (first_of c.args.sectors.now) (end_of c.args.sectors.now) (taken_of c.args.sectors.now) (view c.args.log.now) m c.args.entry.now) (sym (after_is g c h))
-    (shrunk_others c.args.size c.args.place (first_of c.args.sectors.now) (end_of c.args.sectors.now) (view c.args.log.now) c.args.entry.now (changed_of g c) c.in_ok-cuts.cuts (taken_of c.args.sectors.now) (taken_of c.give_back.new.sectors) (made g c h names body) c.write_entry.result)
-
-pub returns-clause-taken : goal.returns-clause-taken
-returns-clause-taken g c h names body =
-    subst (λ (m : Image). TakesAndGives (taken_of c.args.sectors.now) (taken_of c.give_back.new.sectors) (view c.args.log.now) m c.args.entry.now (changed_of g c)) (sym (after_is g c h))
-    (shrunk_taken c.args.size c.args.place (first_of c.args.sectors.now) (end_of c.args.sectors.now) (view c.args.log.now) c.args.entry.now (changed_of g c) c.in_ok-cuts.cuts (taken_of c.args.sectors.now) (taken_of c.give_back.new.sectors) (made g c h names body) c.write_entry.result)
+pub returns-clause-file : goal.returns-clause-file
+returns-clause-file g c h names body =
+    let place = c.args.place in
+    let size = c.args.size in
+    let first = first_of c.args.sectors.now in
+    let end = end_of c.args.sectors.now in
+    let content = view c.args.log.now in
+    let e = c.args.entry.now in
+    let changed = changed_of g c in
+    let cuts = c.in_ok-cuts.cuts in
+    let taken = taken_of c.args.sectors.now in
+    let still = taken_of c.give_back.new.sectors in
+    let shrinks = made g c h names body in
+    let spelled = c.write_entry.result in
+    let after = view c.stage.new.self in
+    let is = after_is g c h in
+    let rules : IsBody after changed = subst (λ (m : Image). IsBody m changed) (sym is) (shrunk_rules size place first end content e changed cuts taken still shrinks spelled) in
+    record {
+      bytes = ap (λ (m : Image). bytes_of m changed) is ∙ shrunk_bytes size place first end content e changed cuts taken still shrinks spelled;
+      rules = rules;
+      others = subst (λ (m : Image). OthersStay place first end taken content m e) (sym is) (shrunk_others size place first end content e changed cuts taken still shrinks spelled);
+      taken = subst (λ (m : Image). TakesAndGives taken still content m e changed) (sym is) (shrunk_taken size place first end content e changed cuts taken still shrinks spelled);
+      right = λ version right none small. right_file version after e changed size right none small (λ i. changed) (search rules) rules;
+    }

@@ -18,11 +18,16 @@ returns-in_err-behind-clause-refused g c =
     on_err c.from_residual-in_err-behind.result
     (reads_then c.args.log.now c.read_edge.new.log c.read_edge-2.new.log c.in_ok-before.ensures.failed c.in_ok-before.ensures.reads c.in_err-behind.ensures.reads, refl, refl)
 
-pub returns-in_err-all-clause-log : goal.returns-in_err-all-clause-log
-returns-in_err-all-clause-log g c =
+pub returns-in_err-all-clause-steps : goal.returns-in_err-all-clause-steps
+returns-in_err-all-clause-steps g c =
     let edges = reads_then c.args.log.now c.read_edge.new.log c.read_edge-2.new.log c.in_ok-before.ensures.failed c.in_ok-before.ensures.reads c.in_ok-behind.ensures.reads in
     let reads = reads_then c.args.log.now c.read_edge-2.new.log c.load_lists.new.log c.in_ok-behind.ensures.failed edges c.in_err-all.ensures.reads in
-    record { seen = reads.seen; crash = reads.crash; sectors = reads.sectors; honest = reads.honest; size = reads.size; failures = reads.failures }
+    record {
+      room = let same : room_of c.load_lists.new.log ≡ room_of c.args.log.now = ap (λ l. 120 - length l) reads.staged in omega (arith, same);
+      log = record { seen = reads.seen; crash = reads.crash; sectors = reads.sectors; honest = reads.honest; size = reads.size; failures = reads.failures };
+      failed = search rules;
+      range = (refl, refl);
+    }
 
 pub returns-in_err-all-clause-refused : goal.returns-in_err-all-clause-refused
 returns-in_err-all-clause-refused g c =
@@ -30,25 +35,26 @@ returns-in_err-all-clause-refused g c =
     on_err c.from_residual-in_err-all.result
     (reads_then c.args.log.now c.read_edge-2.new.log c.load_lists.new.log c.in_ok-behind.ensures.failed edges c.in_err-all.ensures.reads, refl, refl)
 
-pub returns-clause-staged : goal.returns-clause-staged
-returns-clause-staged g c =
-    ap (λ (m : Image). m c.args.place) c.stage.ensures.view ∙ put_here c.args.place c.write_entry.result (view c.write_parts.new.log) ∙ c.write_entry.ensures.bytes
+pub returns-clause-entry : goal.returns-clause-entry
+returns-clause-entry g c = record {
+  entry = search rules;
+  staged = ap (λ (m : Image). m c.args.place) c.stage.ensures.view ∙ put_here c.args.place c.write_entry.result (view c.write_parts.new.log) ∙ c.write_entry.ensures.bytes;
+}
 
-pub returns-clause-room : goal.returns-clause-room
-returns-clause-room g c =
+pub returns-clause-steps : goal.returns-clause-steps
+returns-clause-steps g c =
     let edges = reads_then c.args.log.now c.read_edge.new.log c.read_edge-2.new.log c.in_ok-before.ensures.failed c.in_ok-before.ensures.reads c.in_ok-behind.ensures.reads in
     let reads = reads_then c.args.log.now c.read_edge-2.new.log c.load_lists.new.log c.in_ok-behind.ensures.failed edges c.in_ok-all.ensures.reads in
     let same : room_of c.load_lists.new.log ≡ room_of c.args.log.now = ap (λ l. 120 - length l) reads.staged in
     let last = room_left (is_staged c.write_parts.new.log c.args.place) (room_of c.write_parts.new.log) (room_of c.stage.new.self) c.stage.ensures.room in
-    omega (arith, same, last, c.write_parts.ensures.room)
-
-pub returns-clause-log : goal.returns-clause-log
-returns-clause-log g c =
-    let edges = reads_then c.args.log.now c.read_edge.new.log c.read_edge-2.new.log c.in_ok-before.ensures.failed c.in_ok-before.ensures.reads c.in_ok-behind.ensures.reads in
-    let reads = reads_then c.args.log.now c.read_edge-2.new.log c.load_lists.new.log c.in_ok-behind.ensures.failed edges c.in_ok-all.ensures.reads in
     let puts = c.write_parts.ensures.puts in
-    stages_then c.args.log.now c.load_lists.new.log c.stage.new.self reads c.in_ok-all.ensures.failed
-    (c.stage.ensures.device ∙ puts.device) (c.stage.ensures.sectors ∙ puts.sectors) c.stage.ensures.failed
+    record {
+      room = omega (arith, same, last, c.write_parts.ensures.room);
+      log = stages_then c.args.log.now c.load_lists.new.log c.stage.new.self reads c.in_ok-all.ensures.failed
+          (c.stage.ensures.device ∙ puts.device) (c.stage.ensures.sectors ∙ puts.sectors) c.stage.ensures.failed;
+      failed = c.stage.ensures.failed;
+      range = (c.write_parts.ensures.range.first, c.write_parts.ensures.range.end);
+    }
 
 pub returns-clause-done : goal.returns-clause-done
 returns-clause-done g c h names body space =

@@ -62,7 +62,7 @@ returns-in_err-set_size g c =
     let commits = commits_then old c.entry.new.self mid false c.in_ok-entry.ensures.commits c.in_ok-make_room.ensures.commits in
     let refused_at = c.in_err-set_size.ensures.refused in
     fails_io _ old _ c.from_residual-in_err-set_size.result c.from_residual-in_err-set_size.ensures.1
-    (fails_after old mid c.set_size.new.log c.set_size.new.sectors commits refused_at.0 c.in_err-set_size.ensures.failed c.set_size.ensures.range.0 c.set_size.ensures.range.1)
+    (fails_after old mid c.set_size.new.log c.set_size.new.sectors commits refused_at.0 c.in_err-set_size.ensures.steps.failed c.set_size.ensures.steps.range.0 c.set_size.ensures.steps.range.1)
 
 pub returns : goal.returns
 returns g c =
@@ -80,7 +80,7 @@ returns g c =
     let place : 121 + n ≡ 122 + (n - 1) = omega (arith, c.requires.first) in
     let same_v : v ≡ c.entry.new.self.numbers = c.in_ok-make_room.ensures.commits.kept.numbers in
     let same_r : mid.reserved ≡ c.entry.new.self.reserved = c.in_ok-make_room.ensures.commits.reserved in
-    let entry_is = done.entry in
+    let entry_is = done.entry.entry in
     let limit : size ≤ size_limit v.version = subst (λ (w : Superblock). size ≤ size_limit w.version) (sym same_v) c.in-Some.ensures.1 in
     let slot = λ (h : g.D.Device.honest (device_of old.log)).
     ap (λ (s : Slots). get_or s (n - 1) None) (commits.slots h) ∙ c.in_ok-entry.ensures.found h (file_used (tree_in (view old.log) old.numbers) n (c.requires.used h)) in
@@ -93,7 +93,7 @@ returns g c =
     let room_is : data_sectors v ≡ data_sectors c.entry.new.self.numbers = ap data_sectors same_v in
     let size_is : size ≡ e.size = sym (ap (λ (x : Entry). x.size) entry_is) in
     fills _ old mid c.set_size.new.log c.set_size.new.sectors c.in-Some-reserved_with.reserved n d e (take c.args.size (extended c.args.size (bytes_at (tree_in a v) n)))
-    commits c.set_size.ensures.log done.failed c.set_size.ensures.range.0 c.set_size.ensures.range.1 c.requires.first
+    commits c.set_size.ensures.steps.log done.steps.failed c.set_size.ensures.steps.range.0 c.set_size.ensures.steps.range.1 c.requires.first
     (λ h.
     let h1 = commits.kept.honest.0 h in
     let working = commits.is_open.working h1 commits.kept.failed in
@@ -101,22 +101,23 @@ returns g c =
     let body = (content h).volume.sectors.bodies (n - 1) d (slot h) in
     let file = is_file a v (content h) n c.requires.first d (slot h) (file1 h) in
     let s = space_for h in
+    let becomes = done.file h1 names body in
     record {
       slot = slot h;
       kind = file;
       same_kind = ap (λ (x : Entry). x.kind) entry_is;
       rewrites = record {
-        entry = done.right v.version h1 names body ((content h).volume.holds.entries (n - 1) d (slot h)) (λ is. absurd (not_both d file is)) limit;
+        entry = becomes.right v.version ((content h).volume.holds.entries (n - 1) d (slot h)) (λ is. absurd (not_both d file is)) (omega (arith, limit, size_is));
         parent = ap (λ (x : Entry). x.parent) entry_is;
         name = ap name_of entry_is;
-        body = done.rules h1 names body;
-        staged = ap b (sym place) ∙ done.staged;
-        others = subst (λ (k : ℕ). OthersStay k (first_of mid.sectors) (end_of mid.sectors) (taken_of mid.sectors) a b d) place (done.others h1 names body);
-        taken = done.taken h1 names body;
-        first = c.set_size.ensures.range.0;
-        end = c.set_size.ensures.range.1;
+        body = becomes.rules;
+        staged = ap b (sym place) ∙ done.entry.staged;
+        others = subst (λ (k : ℕ). OthersStay k (first_of mid.sectors) (end_of mid.sectors) (taken_of mid.sectors) a b d) place becomes.others;
+        taken = becomes.taken;
+        first = c.set_size.ensures.steps.range.0;
+        end = c.set_size.ensures.steps.range.1;
       };
-      content = done.bytes h1 names body ∙ ap (λ (k : ℕ). body_resized k (bytes_of a d)) c.in-Some.ensures.0
+      content = becomes.bytes ∙ ap (λ (k : ℕ). body_resized k (bytes_of a d)) c.in-Some.ensures.0
           ∙ ap (λ (l : List ℕ). take c.args.size (extended c.args.size l)) (sym (old_bytes a v (content h) n c.requires.first d (slot h) (file1 h)));
       reserved = let needs : need_of size ≡ need_of e.size = ap need_of size_is in omega (arith, s.0, needs, same_r);
       fits = omega (arith, s.1, room_is);

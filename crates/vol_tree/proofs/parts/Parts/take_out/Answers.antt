@@ -27,7 +27,7 @@ returns-in_err-set_size g c =
     let is : _ = err_is c.from_residual.result c.from_residual.ensures.0 in
     record {
       gone = λ ok. absurd (let both : true ≡ false = sym is ∙ ok in cc);
-      fails = λ io. fails_after old old c.set_size.new.log c.set_size.new.sectors (no_commit old false c.requires.is_open c.requires.working) c.in_err-set_size.ensures.refused.0 c.in_err-set_size.ensures.failed c.set_size.ensures.range.0 c.set_size.ensures.range.1;
+      fails = λ io. fails_after old old c.set_size.new.log c.set_size.new.sectors (no_commit old false c.requires.is_open c.requires.working) c.in_err-set_size.ensures.refused.0 c.in_err-set_size.ensures.steps.failed c.set_size.ensures.steps.range.0 c.set_size.ensures.steps.range.1;
     }
 
 pub returns : goal.returns
@@ -48,8 +48,8 @@ returns g c =
     let new = record one { log = c.remove.new.log; dirs = c.remove.new.self } in
     let here : suc s ≡ n = omega (arith, c.requires.first) in
     let place : 121 + n ≡ 122 + s = omega (arith, c.requires.first) in
-    let entry_is = done.entry in
-    let first_stages = file_stages old c.set_size.new.log sectors c.saturating_sub-self.result c.set_size.ensures.log c.requires.working done.failed c.set_size.ensures.range.0 c.set_size.ensures.range.1 in
+    let entry_is = done.entry.entry in
+    let first_stages = file_stages old c.set_size.new.log sectors c.saturating_sub-self.result c.set_size.ensures.steps.log c.requires.working done.steps.failed c.set_size.ensures.steps.range.0 c.set_size.ensures.steps.range.1 in
     let second_stages = stages one new c.remove.ensures.device c.remove.ensures.failed c.remove.ensures.sectors refl refl c.remove.ensures.slots in
     let all_stages = stages_then old one new first_stages second_stages in
     let put_is : z ≡ put (122 + s) unused b = c.remove.ensures.view ∙ ap (λ (k : ℕ). put k unused b) place in
@@ -60,16 +60,17 @@ returns g c =
     let slot = (removes h).slot in
     let names = working.taken.named s d slot in
     let body = (is.content h).volume.sectors.bodies s d slot in
+    let file = done.file h names body in
     let r : Rewrites a b v s d e old.sectors sectors = record {
-      entry = done.right v.version h names body c.requires.right (λ directory. refl) (omega arith);
+      entry = file.right v.version c.requires.right (λ directory. empty) (omega (arith, empty));
       parent = ap (λ (x : Entry). x.parent) entry_is;
       name = ap name_of entry_is;
-      body = done.rules h names body;
-      staged = ap b (sym place) ∙ done.staged;
-      others = subst (λ (k : ℕ). OthersStay k (first_of old.sectors) (end_of old.sectors) (taken_of old.sectors) a b d) place (done.others h names body);
-      taken = done.taken h names body;
-      first = c.set_size.ensures.range.0;
-      end = c.set_size.ensures.range.1;
+      body = file.rules;
+      staged = ap b (sym place) ∙ done.entry.staged;
+      others = subst (λ (k : ℕ). OthersStay k (first_of old.sectors) (end_of old.sectors) (taken_of old.sectors) a b d) place file.others;
+      taken = file.taken;
+      first = c.set_size.ensures.steps.range.0;
+      end = c.set_size.ensures.steps.range.1;
     } in
     r in
     let tree_is = λ (h : g.D.Device.honest (device_of old.log)).
@@ -101,7 +102,7 @@ returns g c =
         stages = all_stages;
         tree = λ h. tree_is h ∙ ap (λ (m : ℕ). changed (tree_in a v) m None) here;
         slots = λ h. removed_slots a b z v s d e old.sectors sectors (is.content h) (removes h).slot is.first is.end is.ranges.room (is.working h c.requires.working).taken (rewrites h) empty put_is;
-        room = let less = room_left _ (room_of c.set_size.new.log) (room_of c.remove.new.log) c.remove.ensures.room in omega (arith, less, c.set_size.ensures.room);
+        room = let less = room_left _ (room_of c.set_size.new.log) (room_of c.remove.new.log) c.remove.ensures.room in omega (arith, less, c.set_size.ensures.steps.room);
         names = c.remove.ensures.names;
       };
       fails = λ io. absurd (cc);

@@ -17,6 +17,7 @@ use Rattle.vol_tree.proofs.Writes.{same_written}
 use Rattle.vol_tree.proofs.Filling.{fails_after, fails_io, fills}
 use Rattle.vol_tree.specs.Space.{space}
 use Rattle.vol_tree.specs.Tree.{Tree}
+use Rattle.vol_body.proofs.Rights.{not_both}
 use Rattle.vol_inode.specs.Entry.{name_of}
 use Rattle.vol_tree.proofs.parts.Parts.write_some.Goals as goal
 
@@ -93,7 +94,7 @@ returns-in_err-write_at g c =
     let commits = commits_then old c.entry.new.self mid false c.in_ok-entry.ensures.commits c.in_ok-make_room.ensures.commits in
     let refused_at = c.in_err-write_at.ensures.refused in
     fails_io _ old _ c.from_residual-in_err-write_at.result c.from_residual-in_err-write_at.ensures.1
-    (fails_after old mid c.write_at.new.log c.write_at.new.sectors commits refused_at.0 c.in_err-write_at.ensures.failed c.write_at.ensures.range.0 c.write_at.ensures.range.1)
+    (fails_after old mid c.write_at.new.log c.write_at.new.sectors commits refused_at.0 c.in_err-write_at.ensures.steps.failed c.write_at.ensures.steps.range.0 c.write_at.ensures.steps.range.1)
 
 pub returns : goal.returns
 returns g c =
@@ -113,7 +114,8 @@ returns g c =
     let at : c.in-Some.end - length bytes ≡ offset = omega (arith, c.in-Some.ensures.0) in
     let same_v : v ≡ c.entry.new.self.numbers = c.in_ok-make_room.ensures.commits.kept.numbers in
     let same_r : mid.reserved ≡ c.entry.new.self.reserved = c.in_ok-make_room.ensures.commits.reserved in
-    let entry_is = done.entry c.requires.some in
+    let becomes_entry = done.entry c.requires.some in
+    let entry_is = becomes_entry.entry in
     let limit : c.in-Some.end ≤ size_limit v.version = subst (λ (w : Superblock). c.in-Some.end ≤ size_limit w.version) (sym same_v) c.in-Some.ensures.1 in
     let slot = λ (h : g.D.Device.honest (device_of old.log)).
     ap (λ (s : Slots). get_or s (n - 1) None) (commits.slots h) ∙ c.in_ok-entry.ensures.found h (file_used (tree_in (view old.log) old.numbers) n (c.requires.used h)) in
@@ -126,7 +128,7 @@ returns g c =
     let room_is : data_sectors v ≡ data_sectors c.entry.new.self.numbers = ap data_sectors same_v in
     let size_is : c.max-size.result ≡ e.size = c.max-size.ensures ∙ ap (max d.size) (omega (arith, c.in-Some.ensures.0)) ∙ sym (ap (λ (x : Entry). x.size) entry_is) in
     fills _ old mid c.write_at.new.log c.write_at.new.sectors c.in-Some-reserved_with.reserved n d e (overwritten (bytes_at (tree_in a v) n) offset bytes)
-    commits c.write_at.ensures.log done.failed c.write_at.ensures.range.0 c.write_at.ensures.range.1 c.requires.first
+    commits c.write_at.ensures.steps.log done.steps.failed c.write_at.ensures.steps.range.0 c.write_at.ensures.steps.range.1 c.requires.first
     (λ h.
     let h1 = commits.kept.honest.0 h in
     let working = commits.is_open.working h1 commits.kept.failed in
@@ -134,22 +136,24 @@ returns g c =
     let body = (content h).volume.sectors.bodies (n - 1) d (slot h) in
     let file = is_file a v (content h) n c.requires.first d (slot h) (file1 h) in
     let s = space_for h in
+    let becomes = (done.file h1 names body).0 in
+    let entries = (content h).volume.holds.entries (n - 1) d (slot h) in
     record {
       slot = slot h;
       kind = file;
       same_kind = ap (λ (x : Entry). x.kind) entry_is;
       rewrites = record {
-        entry = done.right v.version h1 names body ((content h).volume.holds.entries (n - 1) d (slot h)) file (omega (arith, limit, c.in-Some.ensures.0));
+        entry = becomes.right v.version entries (λ is. absurd (not_both d file is)) (omega (arith, limit, c.max-size.ensures, size_is, entries.rules.size.small));
         parent = ap (λ (x : Entry). x.parent) entry_is;
         name = ap name_of entry_is;
-        body = done.rules h1 names body;
-        staged = ap b (sym place) ∙ done.staged c.requires.some;
-        others = subst (λ (k : ℕ). OthersStay k (first_of mid.sectors) (end_of mid.sectors) (taken_of mid.sectors) a b d) place (done.others h1 names body);
-        taken = done.taken h1 names body;
-        first = c.write_at.ensures.range.0;
-        end = c.write_at.ensures.range.1;
+        body = becomes.rules;
+        staged = ap b (sym place) ∙ becomes_entry.staged;
+        others = subst (λ (k : ℕ). OthersStay k (first_of mid.sectors) (end_of mid.sectors) (taken_of mid.sectors) a b d) place becomes.others;
+        taken = becomes.taken;
+        first = c.write_at.ensures.steps.range.0;
+        end = c.write_at.ensures.steps.range.1;
       };
-      content = done.bytes h1 names body ∙ ap (λ (k : ℕ). body_written (bytes_of a d) k bytes) at ∙ same_written (bytes_of a d) offset bytes c.requires.some
+      content = becomes.bytes ∙ ap (λ (k : ℕ). body_written (bytes_of a d) k bytes) at ∙ same_written (bytes_of a d) offset bytes c.requires.some
           ∙ ap (λ (l : List ℕ). overwritten l offset bytes) (sym (old_bytes a v (content h) n c.requires.first d (slot h) (file1 h)));
       reserved = let needs : need_of c.max-size.result ≡ need_of e.size = ap need_of size_is in omega (arith, s.0, needs, same_r);
       fits = omega (arith, s.1, room_is);
