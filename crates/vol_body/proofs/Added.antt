@@ -6,7 +6,7 @@ use Rattle.vol_alloc.specs.Alloc.{first_of, end_of, taken_of, free_of}
 use Rattle.vol_alloc.specs.declared.sectors.Alloc.{Alloc}
 use Rattle.vol_inode.specs.declared.entry.Entry.{Entry}
 use Rattle.vol_inode.specs.Space.{sectors_of, need_of}
-use Rattle.vol_body.specs.Body.{Place, part, list, lists, later_list, IsPlace, first_served, named, part_bytes, NamesTaken, NamesOthers}
+use Rattle.vol_body.specs.Body.{BlockPosition, data_block, indirect_block, double_indirect_block, inner_block, IsPosition, first_served, named, block_bytes, NamesTaken, NamesOthers}
 use Rattle.vol_body.specs.Change.{OthersStay}
 use Rattle.vol_body.specs.internal.Naming.{IsNaming, NamesOneMore, SetsPointer, ListsOneMore}
 use Rattle.vol_body.specs.internal.Writing.{PointedAt, ListedAt, IsBlank, Mirrors, IsReady, SamePlace, Changes}
@@ -28,17 +28,17 @@ pub record TakesSector (a b : Alloc) (n : ℕ) : Type 0 where
 pub free_is_others : (taken : ℕ → Bool) (content : Image) (e : Entry) (n : ℕ) → NamesTaken taken content e → n ≢ 0 → taken n ≡ false → NamesOthers content e n
 free_is_others taken content e n names some free p there is = both_ways (taken n) free (sym (ap taken is) ∙ names p there (λ none. some (sym is ∙ none)))
 
--- a place that serves a part of a file that isn't too long
-place_of : (p : Place) (size : ℕ) → size ≤ 8483840 → first_served p < sectors_of size → IsPlace p
-place_of (part j) size small serves = omega arith
-place_of list size small serves = tt
-place_of lists size small serves = tt
-place_of (later_list i) size small serves = omega arith
+-- a position that serves a data block of a file that isn't too long
+place_of : (p : BlockPosition) (size : ℕ) → size ≤ 8483840 → first_served p < sectors_of size → IsPosition p
+place_of (data_block j) size small serves = omega arith
+place_of indirect_block size small serves = tt
+place_of double_indirect_block size small serves = tt
+place_of (inner_block i) size small serves = omega arith
 
 -- a change by which the file names one more sector
-changes_one : (a b : Alloc) (content after : Image) (e changed : Entry) (p : Place) (n : ℕ) (Touched : Place → Type 0) → NamesOneMore content after e changed p n → TakesSector a b n → IsReady a content e → e.size ≤ 8483840
+changes_one : (a b : Alloc) (content after : Image) (e changed : Entry) (p : BlockPosition) (n : ℕ) (Touched : BlockPosition → Type 0) → NamesOneMore content after e changed p n → TakesSector a b n → IsReady a content e → e.size ≤ 8483840
     → named content e p ≡ 0 → first_served p < sectors_of e.size → ((place : ℕ) → OthersStay place (first_of a) (end_of a) (taken_of a) content after e)
-    → ((q : Place) → IsPlace q → (Touched q → ⊥) → SamePlace content after e changed q) → Changes a b content after e changed Touched
+    → ((q : BlockPosition) → IsPosition q → (Touched q → ⊥) → SamePlace content after e changed q) → Changes a b content after e changed Touched
 changes_one a b content after e changed p n Touched more takes ready small none serves others stays =
     let fresh = free_is_others (taken_of a) content e n ready.taken takes.some takes.free in
     let there = place_of p e.size small serves in
@@ -59,14 +59,14 @@ changes_one a b content after e changed p n Touched more takes ready small none 
     }
 
 -- by a pointer of the entry
-pointed_more : (content after : Image) (e changed : Entry) (s n : ℕ) (p : Place) (image : List ℕ) → NamesOthers content e n → ((x : ℕ) → x ≢ n → after x ≡ content x) → SetsPointer e changed s n → after n ≡ image
+pointed_more : (content after : Image) (e changed : Entry) (s n : ℕ) (p : BlockPosition) (image : List ℕ) → NamesOthers content e n → ((x : ℕ) → x ≢ n → after x ≡ content x) → SetsPointer e changed s n → after n ≡ image
     → PointedAt s p → IsBlank p image → named content e p ≡ 0 → NamesOneMore content after e changed p n
-pointed_more content after e changed s n (part j) image others stays sets is at blank none = one_direct content after e changed n others stays j at.1 (subst (λ (k : ℕ). SetsPointer e changed k n) at.0 sets)
-pointed_more content after e changed s n list image others stays sets is at blank none = one_list content after e changed n others stays (subst (λ (k : ℕ). SetsPointer e changed k n) at sets) none (is ∙ blank)
-pointed_more content after e changed s n lists image others stays sets is at blank none = one_lists content after e changed n others stays (subst (λ (k : ℕ). SetsPointer e changed k n) at sets) none (is ∙ blank)
-pointed_more content after e changed s n (later_list i) image others stays sets is at blank none = absurd at
+pointed_more content after e changed s n (data_block j) image others stays sets is at blank none = one_direct content after e changed n others stays j at.1 (subst (λ (k : ℕ). SetsPointer e changed k n) at.0 sets)
+pointed_more content after e changed s n indirect_block image others stays sets is at blank none = one_list content after e changed n others stays (subst (λ (k : ℕ). SetsPointer e changed k n) at sets) none (is ∙ blank)
+pointed_more content after e changed s n double_indirect_block image others stays sets is at blank none = one_lists content after e changed n others stays (subst (λ (k : ℕ). SetsPointer e changed k n) at sets) none (is ∙ blank)
+pointed_more content after e changed s n (inner_block i) image others stays sets is at blank none = absurd at
 
-pub adds_pointer : (a b : Alloc) (content after : Image) (e changed : Entry) (s n : ℕ) (p : Place) (image : List ℕ) → TakesSector a b n → IsReady a content e → e.size ≤ 8483840
+pub adds_pointer : (a b : Alloc) (content after : Image) (e changed : Entry) (s n : ℕ) (p : BlockPosition) (image : List ℕ) → TakesSector a b n → IsReady a content e → e.size ≤ 8483840
     → ((x : ℕ) → x ≢ n → after x ≡ content x) → SetsPointer e changed s n → after n ≡ image → PointedAt s p → IsBlank p image → named content e p ≡ 0 → first_served p < sectors_of e.size
     → Changes a b content after e changed (λ q. q ≡ p) × Mirrors after changed p n image
 adds_pointer a b content after e changed s n p image takes ready small stays sets is at blank none serves =
@@ -78,20 +78,20 @@ adds_pointer a b content after e changed s n p image takes ready small stays set
       record { names = sym more.one; bytes = sym is ∙ sym (bytes_there after n takes.some) },
     )
 
--- by a number in a pointer sector
-listed_more : (content after : Image) (e : Entry) (n m i : ℕ) (q p : Place) (image : List ℕ) → IsNaming content e → NamesOthers content e n → m ≢ 0 → ListsOneMore content after m i n → after n ≡ image → i < 128
-    → ListedAt q i p → IsPlace p → named content e q ≡ m → IsBlank p image → named content e p ≡ 0 → NamesOneMore content after e e p n
-listed_more content after e n m i list (part j) image naming others some more is lt at there names blank none =
+-- by a number in a pointer block
+listed_more : (content after : Image) (e : Entry) (n m i : ℕ) (q p : BlockPosition) (image : List ℕ) → IsNaming content e → NamesOthers content e n → m ≢ 0 → ListsOneMore content after m i n → after n ≡ image → i < 128
+    → ListedAt q i p → IsPosition p → named content e q ≡ m → IsBlank p image → named content e p ≡ 0 → NamesOneMore content after e e p n
+listed_more content after e n m i indirect_block (data_block j) image naming others some more is lt at there names blank none =
     one_listed content after e n m i naming others some more j (omega arith) (omega arith) (omega arith) names
-listed_more content after e n m i (later_list k) (part j) image naming others some more is lt at there names blank none =
+listed_more content after e n m i (inner_block k) (data_block j) image naming others some more is lt at there names blank none =
     let group : (j - 186) / 128 ≡ k = omega arith in
-    one_later content after e n m i naming others some more j (omega arith) there (omega arith) (ap (λ (x : ℕ). named content e (later_list x)) group ∙ names)
-listed_more content after e n m i lists (later_list k) image naming others some more is lt at there names blank none =
+    one_later content after e n m i naming others some more j (omega arith) there (omega arith) (ap (λ (x : ℕ). named content e (inner_block x)) group ∙ names)
+listed_more content after e n m i double_indirect_block (inner_block k) image naming others some more is lt at there names blank none =
     one_later_list content after e n m i naming others some more k there at names none (is ∙ blank)
 listed_more content after e n m i q p image naming others some more is lt at there names blank none = absurd at
 
-pub adds_number : (a b : Alloc) (content after : Image) (e : Entry) (n m i : ℕ) (q p : Place) (image : List ℕ) → TakesSector a b n → IsReady a content e → e.size ≤ 8483840
-    → m ≢ 0 → first_of a ≤ m → m < end_of a → ListsOneMore content after m i n → after n ≡ image → i < 128 → ListedAt q i p → IsPlace q → m ≡ named content e q
+pub adds_number : (a b : Alloc) (content after : Image) (e : Entry) (n m i : ℕ) (q p : BlockPosition) (image : List ℕ) → TakesSector a b n → IsReady a content e → e.size ≤ 8483840
+    → m ≢ 0 → first_of a ≤ m → m < end_of a → ListsOneMore content after m i n → after n ≡ image → i < 128 → ListedAt q i p → IsPosition q → m ≡ named content e q
     → IsBlank p image → named content e p ≡ 0 → first_served p < sectors_of e.size → Changes a b content after e e (λ x. (x ≡ p) ⊎ (x ≡ q)) × Mirrors after e p n image
 adds_number a b content after e n m i q p image takes ready small some from below lists_it is lt at q_there names blank none serves =
     let fresh = free_is_others (taken_of a) content e n ready.taken takes.some takes.free in
@@ -103,35 +103,35 @@ adds_number a b content after e n m i q p image takes ready small some from belo
       record { names = sym more.one; bytes = sym is ∙ sym (bytes_there after n takes.some) },
     )
 
--- a sector that a part names is written over
-pub writes_over : (a : Alloc) (content after : Image) (e : Entry) (j n : ℕ) → IsReady a content e → e.size ≤ 8483840 → j < 16570 → named content e (part j) ≡ n → n ≢ 0 → first_of a ≤ n → n < end_of a
-    → ((x : ℕ) → x ≢ n → after x ≡ content x) → Changes a a content after e e (λ q. q ≡ part j)
+-- a sector that a data block names is written over
+pub writes_over : (a : Alloc) (content after : Image) (e : Entry) (j n : ℕ) → IsReady a content e → e.size ≤ 8483840 → j < 16570 → named content e (data_block j) ≡ n → n ≢ 0 → first_of a ≤ n → n < end_of a
+    → ((x : ℕ) → x ≢ n → after x ≡ content x) → Changes a a content after e e (λ q. q ≡ data_block j)
 writes_over a content after e j n ready small lt is some from below stays =
     let more = write_named content after e j n ready.naming lt is some stays in
-    let names = names_stay content after e e (part j) n more is in record {
+    let names = names_stay content after e e (data_block j) n more is in record {
       ready = record {
         naming = naming_by content after e e ready.naming (omega arith) names;
         taken = λ p there found. ap (taken_of a) (names p there) ∙ ready.taken p there (λ none. found (names p there ∙ none));
         space = used_same content after e e (free_of a) small refl names ready.space;
         small = small;
       };
-      others = λ place. others_stay_one place (first_of a) (end_of a) (taken_of a) content after e n stays from below (λ taken others. others (part j) lt is);
+      others = λ place. others_stay_one place (first_of a) (end_of a) (taken_of a) content after e n stays from below (λ taken others. others (data_block j) lt is);
       takes = takes_same (taken_of a) content after e e ready.taken names;
-      stays = λ q there not. record { name = names q there; bytes = places_stay_by content after e e (part j) n more ready.naming lt is stays q there not };
+      stays = λ q there not. record { name = names q there; bytes = places_stay_by content after e e (data_block j) n more ready.naming lt is stays q there not };
       size = refl;
       count = let kept = used_kept content after e e small refl names in omega arith;
     }
 
--- a pointer sector that isn't touched stands as it did
-pub mirror_stays : (content after : Image) (e changed : Entry) (p : Place) (number : ℕ) (image : List ℕ) → SamePlace content after e changed p → Mirrors content e p number image → Mirrors after changed p number image
+-- a pointer block that isn't touched stands as it did
+pub mirror_stays : (content after : Image) (e changed : Entry) (p : BlockPosition) (number : ℕ) (image : List ℕ) → SamePlace content after e changed p → Mirrors content e p number image → Mirrors after changed p number image
 mirror_stays content after e changed p number image same mirror = record {
   names = mirror.names ∙ sym same.name;
-  bytes = mirror.bytes ∙ ap (part_bytes content) mirror.names ∙ sym same.bytes ∙ ap (part_bytes after) (same.name ∙ sym mirror.names);
+  bytes = mirror.bytes ∙ ap (block_bytes content) mirror.names ∙ sym same.bytes ∙ ap (block_bytes after) (same.name ∙ sym mirror.names);
 }
 
 -- one change after another
-pub changes_twice : (a b c : Alloc) (c0 c1 c2 : Image) (e0 e1 e2 : Entry) (One Other Both : Place → Type 0) → taken_of a 0 ≡ false → taken_of c 0 ≡ false → first_of b ≡ first_of a → end_of b ≡ end_of a
-    → ((p : Place) → One p → Both p) → ((p : Place) → Other p → Both p) → Changes a b c0 c1 e0 e1 One → Changes b c c1 c2 e1 e2 Other → Changes a c c0 c2 e0 e2 Both
+pub changes_twice : (a b c : Alloc) (c0 c1 c2 : Image) (e0 e1 e2 : Entry) (One Other Both : BlockPosition → Type 0) → taken_of a 0 ≡ false → taken_of c 0 ≡ false → first_of b ≡ first_of a → end_of b ≡ end_of a
+    → ((p : BlockPosition) → One p → Both p) → ((p : BlockPosition) → Other p → Both p) → Changes a b c0 c1 e0 e1 One → Changes b c c1 c2 e1 e2 Other → Changes a c c0 c2 e0 e2 Both
 changes_twice a b c c0 c1 c2 e0 e1 e2 One Other Both none still first_is end_is one_in other_in one other = record {
   ready = other.ready;
   others = λ place. stays_twice (taken_of a) (taken_of b) c0 c1 e0 e1 none one.takes place (first_of a) (end_of a) c2 (one.others place)

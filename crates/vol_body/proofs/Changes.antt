@@ -3,7 +3,7 @@ use Rattle.std.proofs.Common.{◌≡◌, ◌≢◌, inl, inr, ℕ, Bool, true, f
 use Rattle.std.proofs.lemmas.Bool.{cases_Bool, both_ways}
 use Rattle.vol_sector.specs.Disk.{Image}
 use Rattle.vol_inode.specs.declared.entry.Entry.{Entry}
-use Rattle.vol_body.specs.Body.{Place, IsPlace, named, NamesTaken, NamesOthers}
+use Rattle.vol_body.specs.Body.{BlockPosition, IsPosition, named, NamesTaken, NamesOthers}
 use Rattle.vol_body.specs.Change.{Names, OthersStay, TakesAndGives}
 
 -- a number that is taken is some sector's
@@ -11,7 +11,7 @@ some_of : (taken : ℕ → Bool) (n : ℕ) → taken 0 ≡ false → taken n ≡
 some_of taken n none is zero = both_ways (taken n) (ap taken zero ∙ none) is
 
 -- a file that names the same sectors names no others
-pub others_same : (content after : Image) (e changed : Entry) (n : ℕ) → ((p : Place) → IsPlace p → named after changed p ≡ named content e p) → NamesOthers content e n → NamesOthers after changed n
+pub others_same : (content after : Image) (e changed : Entry) (n : ℕ) → ((p : BlockPosition) → IsPosition p → named after changed p ≡ named content e p) → NamesOthers content e n → NamesOthers after changed n
 others_same content after e changed n names others p there is = others p there (sym (names p there) ∙ is)
 
 pub stays_same : (place first end : ℕ) (taken : ℕ → Bool) (content : Image) (e : Entry) → OthersStay place first end taken content content e
@@ -19,16 +19,16 @@ stays_same place first end taken content e = record { outside = λ n not out. re
 
 -- nothing changes but what the file's sectors hold
 pub takes_same : (taken : ℕ → Bool) (content after : Image) (e changed : Entry) → NamesTaken taken content e
-    → ((p : Place) → IsPlace p → named after changed p ≡ named content e p) → TakesAndGives taken taken content after e changed
+    → ((p : BlockPosition) → IsPosition p → named after changed p ≡ named content e p) → TakesAndGives taken taken content after e changed
 takes_same taken content after e changed names_taken names = record {
   taken = λ p there some. ap taken (names p there) ∙ names_taken p there (λ none. some (names p there ∙ none));
-  fresh = λ n one others. absurd (others one.place.0 one.place.1 (sym (names one.place.0 one.place.1) ∙ one.place.2));
-  given = λ n one others. absurd (others one.place.0 one.place.1 (names one.place.0 one.place.1 ∙ one.place.2));
+  fresh = λ n one others. absurd (others one.position.0 one.position.1 (sym (names one.position.0 one.position.1) ∙ one.position.2));
+  given = λ n one others. absurd (others one.position.0 one.position.1 (names one.position.0 one.position.1 ∙ one.position.2));
   others = λ n before now. refl;
 }
 
 -- the sectors that the file names may be told by another entry
-pub stays_by : (place first end : ℕ) (taken : ℕ → Bool) (content after : Image) (e f : Entry) → ((p : Place) → IsPlace p → named content f p ≡ named content e p)
+pub stays_by : (place first end : ℕ) (taken : ℕ → Bool) (content after : Image) (e f : Entry) → ((p : BlockPosition) → IsPosition p → named content f p ≡ named content e p)
     → OthersStay place first end taken content after e → OthersStay place first end taken content after f
 stays_by place first end taken content after e f names stays = record {
   outside = stays.outside;
@@ -39,7 +39,7 @@ module _ (t0 t1 : ℕ → Bool) (c0 c1 : Image) (e0 e1 : Entry) (none : t0 0 ≡
   -- what is taken before and not the file's doesn't become the file's
   stays_others : (n : ℕ) → t0 n ≡ true → NamesOthers c0 e0 n → NamesOthers c1 e1 n
   stays_others n is others p there names =
-      let one : Names c1 e1 n = record { some = some_of t0 n none is; place = (p, there, names) } in
+      let one : Names c1 e1 n = record { some = some_of t0 n none is; position = (p, there, names) } in
       both_ways (t0 n) (takes.fresh n one others) is
 
   pub stays_twice : (place first end : ℕ) (c2 : Image) → OthersStay place first end t0 c0 c1 e0 → OthersStay place first end t1 c1 c2 e1 → OthersStay place first end t0 c0 c2 e0
@@ -63,7 +63,7 @@ module _ (t0 t1 t2 : ℕ → Bool) (c0 c1 c2 : Image) (e0 e1 e2 : Entry) (none :
   -- what is taken at the end and not the file's wasn't the file's before
   were_others : (n : ℕ) → t2 n ≡ true → NamesOthers c2 e2 n → NamesOthers c1 e1 n
   were_others n is others p there names =
-      let one : Names c1 e1 n = record { some = some_of t2 n still is; place = (p, there, names) } in
+      let one : Names c1 e1 n = record { some = some_of t2 n still is; position = (p, there, names) } in
       both_ways (t2 n) (then.given n one others) is
 
   given_twice : (n : ℕ) → Names c0 e0 n → NamesOthers c2 e2 n → t2 n ≡ false

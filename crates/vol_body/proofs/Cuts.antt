@@ -9,7 +9,7 @@ use Rattle.vol_alloc.specs.declared.sectors.Alloc.{Alloc}
 use Rattle.vol_alloc.specs.Alloc.{first_of, end_of, taken_of}
 use Rattle.vol_inode.specs.declared.entry.Entry.{Entry}
 use Rattle.vol_body.specs.declared.cutting.Cut.{Cut}
-use Rattle.vol_body.specs.Body.{Place, named, NamesTaken}
+use Rattle.vol_body.specs.Body.{BlockPosition, named, NamesTaken}
 use Rattle.vol_body.specs.internal.Shorter.{IsCut, cut, with_cut}
 
 -- the same cut in other words
@@ -18,7 +18,7 @@ cut_is r one other n m k l same is kept ok =
     subst (λ (x : ℕ). IfOk r (IsCut other m x)) kept (subst (λ (x : ℕ). IfOk r (IsCut other x k)) is (subst (λ (x : Image). IfOk r (IsCut x n k)) same ok))
 
 -- a cut that was read after others
-pub cut_after : (taken : ℕ → Bool) (one other : Image) (e : Entry) (p : Place) (kept : ℕ) (c : Cut) → one ≡ other → NamesTaken taken other e
+pub cut_after : (taken : ℕ → Bool) (one other : Image) (e : Entry) (p : BlockPosition) (kept : ℕ) (c : Cut) → one ≡ other → NamesTaken taken other e
     → (NamesTaken taken one e → IsCut one (named one e p) kept c) → IsCut other (named other e p) kept c
 cut_after taken one other e p kept c same names is =
     subst (λ (m : Image). IsCut m (named m e p) kept c) same (is (subst (λ (m : Image). NamesTaken taken m e) (sym same) names))

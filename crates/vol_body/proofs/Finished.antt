@@ -1,14 +1,14 @@
--- What a write leaves, once its parts and the entry are staged.
+-- What a write leaves, once its data blocks and the entry are staged.
 use Rattle.std.proofs.Common.{◌≡◌, ◌⊎◌, inl, inr, ◌≤◌, ◌<◌, ◌+◌, ◌-◌, ◌*◌, ◌/◌, ℕ, List, length, max, refl, sym, ◌∙◌, ap, arith}
 use Rattle.vol_sector.specs.Disk.{Image, put}
 use Rattle.vol_alloc.specs.Alloc.{first_of, end_of, taken_of, free_of}
 use Rattle.vol_alloc.specs.declared.sectors.Alloc.{Alloc}
 use Rattle.vol_inode.specs.declared.entry.Entry.{Entry}
 use Rattle.vol_inode.specs.Space.{need_of}
-use Rattle.vol_body.specs.declared.lists.Lists.{Lists}
-use Rattle.vol_body.specs.Body.{Place, part, lists, named, part_bytes, NamesTaken, IsBody, SameSectors, IsSameFile}
+use Rattle.vol_body.specs.declared.pointer_blocks.PointerBlocks.{PointerBlocks}
+use Rattle.vol_body.specs.Body.{BlockPosition, data_block, double_indirect_block, named, block_bytes, NamesTaken, IsBody, SameSectors, IsSameFile}
 use Rattle.vol_body.specs.Change.{used_of, OthersStay, TakesAndGives}
-use Rattle.vol_body.specs.internal.Writing.{Mirrors, MirrorsAll, IsReady, SameRange, Changes, HasParts, IsPartIn, IsPointer, WriteLeaves, segment, segment_of, image_of}
+use Rattle.vol_body.specs.internal.Writing.{Mirrors, MirrorsAll, IsReady, SameRange, Changes, HasBlocks, IsBlockIn, IsPointer, WriteLeaves, segment, segment_of, image_of}
 use Rattle.vol_body.proofs.Same.{same_file, same_bytes}
 use Rattle.vol_body.proofs.Changes.{stays_by, takes_same, takes_twice}
 use Rattle.vol_body.proofs.OneMore.{naming_of, naming_by, body_of, names_by_pointers}
@@ -21,7 +21,7 @@ pub ready_to_write : (a : Alloc) (content : Image) (e : Entry) (size : ℕ) → 
     → need_of size ≤ free_of a + used_of content e → IsReady a content (record e { size = size })
 ready_to_write a content e size body names longer small space =
     let longer_e : Entry = record e { size = size } in
-    let same = λ (p : Place). names_by_pointers content e longer_e p refl in
+    let same = λ (p : BlockPosition). names_by_pointers content e longer_e p refl in
     record {
       naming = naming_by content content e longer_e (naming_of content e body) longer (λ p there. same p);
       taken = λ p there some. ap (taken_of a) (same p) ∙ names p there (λ none. some (same p ∙ none));
@@ -29,12 +29,12 @@ ready_to_write a content e size body names longer small space =
       small = small;
     }
 
-mirrors_by : (content : Image) (e f : Entry) (p : Place) (number : ℕ) (image : List ℕ) → f.pointers ≡ e.pointers → Mirrors content e p number image → Mirrors content f p number image
+mirrors_by : (content : Image) (e f : Entry) (p : BlockPosition) (number : ℕ) (image : List ℕ) → f.pointers ≡ e.pointers → Mirrors content e p number image → Mirrors content f p number image
 mirrors_by content e f p number image same mirror = record { names = mirror.names ∙ sym (names_by_pointers content e f p same); bytes = mirror.bytes }
 
-pub mirrors_all_by : (content : Image) (e f : Entry) (all : Lists) (first last : ℕ) → f.pointers ≡ e.pointers → MirrorsAll content e all first last → MirrorsAll content f all first last
+pub mirrors_all_by : (content : Image) (e f : Entry) (all : PointerBlocks) (first last : ℕ) → f.pointers ≡ e.pointers → MirrorsAll content e all first last → MirrorsAll content f all first last
 mirrors_all_by content e f all first last same mirrors = record {
-  lists = λ reaches. mirrors_by content e f lists all.lists.number all.lists.image same (mirrors.lists reaches);
+  double_indirect_block = λ reaches. mirrors_by content e f double_indirect_block all.double_indirect_block.number all.double_indirect_block.image same (mirrors.double_indirect_block reaches);
   early = λ reaches. mirrors_by content e f (segment (segment_of first)) all.early.number all.early.image same (mirrors.early reaches);
   late = λ reaches. mirrors_by content e f (segment (segment_of first + 1)) all.late.number all.late.image same (mirrors.late reaches);
 }
@@ -49,8 +49,8 @@ entry_elsewhere b content after changed place bytes names lt is p there some =
 module _ (place offset : ℕ) (bytes first last spelled : List ℕ) (a b : Alloc) (content between after : Image) (e changed : Entry) (size : ℕ)
     (behind : 122 ≤ place) (slot : place < first_of a) (range : SameRange a b) (small_before : e.size ≤ 8483840) (small : offset + length bytes ≤ 8483840) (some : 0 < length bytes)
     (size_is : size ≡ max e.size (offset + length bytes)) (body : IsBody content e) (names : NamesTaken (taken_of a) content e)
-    (changes : Changes a b content between (record e { size = size }) changed (λ p. IsPartIn (offset / 512) ((offset + length bytes - 1) / 512 + 1) p ⊎ IsPointer p))
-    (parts : HasParts between changed (offset / 512) ((offset + length bytes - 1) / 512 + 1) (image_of offset bytes first last))
+    (changes : Changes a b content between (record e { size = size }) changed (λ p. IsBlockIn (offset / 512) ((offset + length bytes - 1) / 512 + 1) p ⊎ IsPointer p))
+    (parts : HasBlocks between changed (offset / 512) ((offset + length bytes - 1) / 512 + 1) (image_of offset bytes first last))
     (is : after ≡ put place spelled between) where
   longer : Entry
   longer = record e { size = size }
@@ -61,10 +61,10 @@ module _ (place offset : ℕ) (bytes first last spelled : List ℕ) (a b : Alloc
   same : IsSameFile between after changed
   same = same_file between after changed (entry_elsewhere b between after changed place spelled changes.ready.taken slot_now is)
 
-  part_stays : (j : ℕ) → j < 16570 → part_bytes after (named after changed (part j)) ≡ part_bytes between (named between changed (part j))
+  part_stays : (j : ℕ) → j < 16570 → block_bytes after (named after changed (data_block j)) ≡ block_bytes between (named between changed (data_block j))
   part_stays j lt =
-      ap (part_bytes after) (same.names (part j) lt)
-      ∙ same_bytes between after (named between changed (part j)) (entry_elsewhere b between after changed place spelled changes.ready.taken slot_now is (part j) lt)
+      ap (block_bytes after) (same.names (data_block j) lt)
+      ∙ same_bytes between after (named between changed (data_block j)) (entry_elsewhere b between after changed place spelled changes.ready.taken slot_now is (data_block j) lt)
 
   pub others_leave : OthersStay place (first_of a) (end_of a) (taken_of a) content after e
   unfolding longer
@@ -93,8 +93,8 @@ module _ (place offset : ℕ) (bytes first last spelled : List ℕ) (a b : Alloc
       omega (arith, grown, kept, changes.count)
 
   module _ (first_long : length first ≡ 512) (last_long : length last ≡ 512)
-      (first_is : (offset ≤ 512 * (offset / 512) → 512 * (offset / 512) + 512 ≤ offset + length bytes → ⊥) → first ≡ part_bytes content (named content e (part (offset / 512))))
-      (last_is : (offset ≤ 512 * ((offset + length bytes - 1) / 512) → 512 * ((offset + length bytes - 1) / 512) + 512 ≤ offset + length bytes → ⊥) → last ≡ part_bytes content (named content e (part ((offset + length bytes - 1) / 512)))) where
+      (first_is : (offset ≤ 512 * (offset / 512) → 512 * (offset / 512) + 512 ≤ offset + length bytes → ⊥) → first ≡ block_bytes content (named content e (data_block (offset / 512))))
+      (last_is : (offset ≤ 512 * ((offset + length bytes - 1) / 512) → 512 * ((offset + length bytes - 1) / 512) + 512 ≤ offset + length bytes → ⊥) → last ≡ block_bytes content (named content e (data_block ((offset + length bytes - 1) / 512)))) where
     write : IsWrite content after e changed offset bytes first last
     write = record {
       some = some;
@@ -104,10 +104,10 @@ module _ (place offset : ℕ) (bytes first last spelled : List ℕ) (a b : Alloc
       first_is = first_is;
       last_is = last_is;
       touched = λ j from to. part_stays j (omega (arith, to, small, some)) ∙ parts j from (omega (arith, to));
-      others = λ j lt not. part_stays j lt ∙ (changes.stays (part j) lt (λ touched. apart j not touched)).bytes;
+      others = λ j lt not. part_stays j lt ∙ (changes.stays (data_block j) lt (λ touched. apart j not touched)).bytes;
     }
       where
-        apart : (j : ℕ) → (offset / 512 ≤ j → j ≤ (offset + length bytes - 1) / 512 → ⊥) → IsPartIn (offset / 512) ((offset + length bytes - 1) / 512 + 1) (part j) ⊎ IsPointer (part j) → ⊥
+        apart : (j : ℕ) → (offset / 512 ≤ j → j ≤ (offset + length bytes - 1) / 512 → ⊥) → IsBlockIn (offset / 512) ((offset + length bytes - 1) / 512 + 1) (data_block j) ⊎ IsPointer (data_block j) → ⊥
         apart j not (inl there) = not there.0 (omega (arith, there.1))
         apart j not (inr pointer) = pointer
 

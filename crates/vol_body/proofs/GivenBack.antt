@@ -8,7 +8,7 @@ use Rattle.vol_sector.specs.Disk.{Image}
 use Rattle.vol_alloc.specs.declared.sectors.Alloc.{Alloc}
 use Rattle.vol_alloc.specs.Alloc.{end_of, taken_of}
 use Rattle.vol_inode.specs.declared.entry.Entry.{Entry}
-use Rattle.vol_body.specs.Body.{Place, part, list, lists, later_list, IsPlace, first_served, named, number_in}
+use Rattle.vol_body.specs.Body.{BlockPosition, data_block, indirect_block, double_indirect_block, inner_block, IsPosition, first_served, named, number_in}
 use Rattle.vol_body.specs.internal.Shorter.{Gives, StandsFrom, GoesWithList, GoesWithLater, Goes}
 use Rattle.vol_body.proofs.Places.{number_there, part_direct, part_listed, part_later}
 
@@ -46,7 +46,7 @@ gives_next a b c numbers from end le first second =
       | inr ge ↦ inr (let at : s.0 ≡ end = omega (arith, s.2, ge) in sym s.3 ∙ ap numbers at)
     ])
 
--- one more later list
+-- one more inner block
 pub gives_next_list : (a b c : ℕ → Bool) (content : Image) (numbers : ℕ → ℕ) (count i : ℕ)
     → Gives a b (GoesWithLater content numbers count i) → Gives b c (GoesWithList content (numbers i) (count - (186 + 128 * i))) → Gives a c (GoesWithLater content numbers count (i + 1))
 gives_next_list a b c content numbers count i first second =
@@ -121,12 +121,12 @@ short_list content of_list from n le goes = ⊎_elim (λ s. omega (arith, s.1, s
 module _ (content : Image) (e : Entry) (count : ℕ) where
   -- what goes, list by list
   abbrev pub GoesLater : ℕ → Type 0
-  GoesLater n = GoesWithLater content (number_in content (named content e lists)) count 128 n ⊎ ((count ≤ 186) × (named content e lists ≡ n))
+  GoesLater n = GoesWithLater content (number_in content (named content e double_indirect_block)) count 128 n ⊎ ((count ≤ 186) × (named content e double_indirect_block ≡ n))
 
   abbrev pub GoesByLists : ℕ → Type 0
-  GoesByLists n = (GoesLater n ⊎ GoesWithList content (named content e list) (count - 58) n) ⊎ StandsFrom (slice_index e.pointers) count 58 n
+  GoesByLists n = (GoesLater n ⊎ GoesWithList content (named content e indirect_block) (count - 58) n) ⊎ StandsFrom (slice_index e.pointers) count 58 n
 
-  from_part : (j n : ℕ) → j < 16570 → count ≤ j → named content e (part j) ≡ n → GoesByLists n
+  from_part : (j n : ℕ) → j < 16570 → count ≤ j → named content e (data_block j) ≡ n → GoesByLists n
   from_part j n there le is = elim (cases_lt j 58) [
     | inl direct ↦ inr (j, le, direct, sym (part_direct content e j direct) ∙ is)
     | inr past ↦ elim (cases_lt j 186) [
@@ -135,40 +135,40 @@ module _ (content : Image) (e : Entry) (count : ℕ) where
     ]
   ]
 
-  from_place : (p : Place) (n : ℕ) → IsPlace p → count ≤ first_served p → named content e p ≡ n → GoesByLists n
-  from_place (part j) n there le is = from_part j n there le is
-  from_place list n there le is = inl (inr (inr (omega arith, is)))
-  from_place lists n there le is = inl (inl (inr (le, is)))
-  from_place (later_list i) n there le is = inl (inl (inl (i, there, inr (omega arith, is))))
+  from_place : (p : BlockPosition) (n : ℕ) → IsPosition p → count ≤ first_served p → named content e p ≡ n → GoesByLists n
+  from_place (data_block j) n there le is = from_part j n there le is
+  from_place indirect_block n there le is = inl (inr (inr (omega arith, is)))
+  from_place double_indirect_block n there le is = inl (inl (inr (le, is)))
+  from_place (inner_block i) n there le is = inl (inl (inl (i, there, inr (omega arith, is))))
 
-  to_later_part : (i m n : ℕ) → i < 128 → m < 128 → count - (186 + 128 * i) ≤ m → number_in content (named content e (later_list i)) m ≡ n → Goes content e count n
+  to_later_part : (i m n : ℕ) → i < 128 → m < 128 → count - (186 + 128 * i) ≤ m → number_in content (named content e (inner_block i)) m ≡ n → Goes content e count n
   to_later_part i m n a b le is =
       let j = 186 + 128 * i + m in
       let at_list : (j - 186) / 128 ≡ i = omega arith in
       let at : (j - 186) % 128 ≡ m = omega arith in (
-        part j,
+        data_block j,
         omega arith,
         omega arith,
         part_later content e j (omega arith)
-            ∙ ap (λ (k : ℕ). number_in content (named content e (later_list k)) ((j - 186) % 128)) at_list
-            ∙ ap (number_in content (named content e (later_list i))) at ∙ is,
+            ∙ ap (λ (k : ℕ). number_in content (named content e (inner_block k)) ((j - 186) % 128)) at_list
+            ∙ ap (number_in content (named content e (inner_block i))) at ∙ is,
       )
 
-  to_later : (n : ℕ) → GoesWithLater content (number_in content (named content e lists)) count 128 n → Goes content e count n
-  to_later n s = ⊎_elim (λ r. to_later_part s.0 r.0 n s.1 r.2 r.1 r.3) (λ r. (later_list s.0, s.1, omega (arith, r.0), r.1)) s.2
+  to_later : (n : ℕ) → GoesWithLater content (number_in content (named content e double_indirect_block)) count 128 n → Goes content e count n
+  to_later n s = ⊎_elim (λ r. to_later_part s.0 r.0 n s.1 r.2 r.1 r.3) (λ r. (inner_block s.0, s.1, omega (arith, r.0), r.1)) s.2
 
-  to_list : (n : ℕ) → GoesWithList content (named content e list) (count - 58) n → Goes content e count n
+  to_list : (n : ℕ) → GoesWithList content (named content e indirect_block) (count - 58) n → Goes content e count n
   to_list n goes = ⊎_elim (λ s.
       let back : s.0 + 58 - 58 ≡ s.0 = omega arith in (
-        part (s.0 + 58),
+        data_block (s.0 + 58),
         omega (arith, s.2),
         omega (arith, s.1),
-        part_listed content e (s.0 + 58) (omega arith) (omega (arith, s.2)) ∙ ap (number_in content (named content e list)) back ∙ s.3,
+        part_listed content e (s.0 + 58) (omega arith) (omega (arith, s.2)) ∙ ap (number_in content (named content e indirect_block)) back ∙ s.3,
       ))
-      (λ s. (list, tt, omega (arith, s.0), s.1)) goes
+      (λ s. (indirect_block, tt, omega (arith, s.0), s.1)) goes
 
   pub gives_all : (a b : ℕ → Bool) → Gives a b GoesByLists → Gives a b (Goes content e count)
   gives_all a b gives = gives_these a b GoesByLists (Goes content e count) gives
-      (λ n either. ⊎_elim (λ listed. ⊎_elim (λ later. ⊎_elim (to_later n) (λ s. (lists, tt, s.0, s.1)) later) (to_list n) listed)
-      (λ s. (part s.0, omega (arith, s.2), s.1, part_direct content e s.0 s.2 ∙ s.3)) either)
+      (λ n either. ⊎_elim (λ listed. ⊎_elim (λ later. ⊎_elim (to_later n) (λ s. (double_indirect_block, tt, s.0, s.1)) later) (to_list n) listed)
+      (λ s. (data_block s.0, omega (arith, s.2), s.1, part_direct content e s.0 s.2 ∙ s.3)) either)
       (λ n s. from_place s.0 n s.1 s.2 s.3)

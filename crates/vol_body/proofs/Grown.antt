@@ -6,18 +6,18 @@ use Rattle.vol_sector.specs.Disk.{Image, put}
 use Rattle.vol_alloc.specs.declared.sectors.Alloc.{Alloc}
 use Rattle.vol_alloc.specs.Alloc.{first_of, taken_of}
 use Rattle.vol_inode.specs.declared.entry.Entry.{Entry}
-use Rattle.vol_body.specs.Body.{Place, part, list, lists, later_list, IsPlace, named, bytes_of, IsBody, NamesTaken, NamesOthers, SameSectors}
+use Rattle.vol_body.specs.Body.{BlockPosition, data_block, indirect_block, double_indirect_block, inner_block, IsPosition, named, bytes_of, IsBody, NamesTaken, NamesOthers, SameSectors}
 use Rattle.vol_body.specs.Change.{resized, OthersStay, TakesAndGives}
 use Rattle.vol_body.proofs.Parts.{length-bytes_of, get_or-bytes_of}
 use Rattle.vol_body.proofs.Same.{same_file}
 use Rattle.vol_body.proofs.Cuts.{put_past, in_range}
 
 -- a file's names don't go by its size
-same_named : (content : Image) (e : Entry) (size : ℕ) (p : Place) → named content (record e { size = size }) p ≡ named content e p
-same_named content e size (part j) = refl
-same_named content e size list = refl
-same_named content e size lists = refl
-same_named content e size (later_list i) = refl
+same_named : (content : Image) (e : Entry) (size : ℕ) (p : BlockPosition) → named content (record e { size = size }) p ≡ named content e p
+same_named content e size (data_block j) = refl
+same_named content e size indirect_block = refl
+same_named content e size double_indirect_block = refl
+same_named content e size (inner_block i) = refl
 
 pub grown_bytes : (content : Image) (e : Entry) (size : ℕ) → IsBody content e → e.size ≤ size → size ≤ 8483840
     → bytes_of content (record e { size = size }) ≡ bytes_of content e ++ replicate (size - e.size) 0
@@ -45,7 +45,7 @@ put_elsewhere content e size n bytes others p there some = put_past n (named con
 
 -- a write to a slot's sector, for a file that grew
 module _ (content : Image) (e : Entry) (size place : ℕ) (bytes : List ℕ) (others : NamesOthers content e place) where
-  grown_names : (p : Place) → IsPlace p → named (put place bytes content) (record e { size = size }) p ≡ named content e p
+  grown_names : (p : BlockPosition) → IsPosition p → named (put place bytes content) (record e { size = size }) p ≡ named content e p
   grown_names p there = (same_file content (put place bytes content) (record e { size = size }) (put_elsewhere content e size place bytes others)).names p there ∙ same_named content e size p
 
   pub grown_others : (first end : ℕ) (taken : ℕ → Bool) → OthersStay place first end taken content (put place bytes content) e
@@ -57,8 +57,8 @@ module _ (content : Image) (e : Entry) (size place : ℕ) (bytes : List ℕ) (ot
   pub grown_taken : (taken : ℕ → Bool) → NamesTaken taken content e → TakesAndGives taken taken content (put place bytes content) e (record e { size = size })
   grown_taken taken names = record {
     taken = λ p there some. ap taken (grown_names p there) ∙ names p there (λ none. some (grown_names p there ∙ none));
-    fresh = λ n is foreign. absurd (foreign is.place.0 is.place.1 (sym (grown_names is.place.0 is.place.1) ∙ is.place.2));
-    given = λ n was foreign. absurd (foreign was.place.0 was.place.1 (grown_names was.place.0 was.place.1 ∙ was.place.2));
+    fresh = λ n is foreign. absurd (foreign is.position.0 is.position.1 (sym (grown_names is.position.0 is.position.1) ∙ is.position.2));
+    given = λ n was foreign. absurd (foreign was.position.0 was.position.1 (grown_names was.position.0 was.position.1 ∙ was.position.2));
     others = λ n foreign foreign_now. refl;
   }
 

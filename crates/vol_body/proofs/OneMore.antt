@@ -5,25 +5,25 @@ use Rattle.std.proofs.lemmas.Bool.Decides.{nat_tests}
 use Rattle.vol_sector.specs.Disk.{Image}
 use Rattle.vol_inode.specs.declared.entry.Entry.{Entry}
 use Rattle.vol_inode.specs.Space.{sectors_of}
-use Rattle.vol_body.specs.Body.{Place, part, list, lists, later_list, IsPlace, first_served, named, number_in, part_bytes, byte_at, IsBody, NamesTaken, NamesOthers}
+use Rattle.vol_body.specs.Body.{BlockPosition, data_block, indirect_block, double_indirect_block, inner_block, IsPosition, first_served, named, number_in, block_bytes, byte_at, IsBody, NamesTaken, NamesOthers}
 use Rattle.vol_body.specs.Change.{Names, OthersStay, TakesAndGives}
 use Rattle.vol_body.specs.internal.Naming.{IsNaming, NamesOneMore, SetsPointer, ListsOneMore}
 use Rattle.vol_body.proofs.Places.{number_there, bytes_there, part_direct, part_listed, part_later}
 use Rattle.vol_body.proofs.Same.{same_number, same_bytes}
 use Rattle.vol_body.proofs.Listed.{none_in_zeros}
 
--- what the numbers of the file's places are read from stays, but for the number of one place
-record KeepsNumbers (content after : Image) (e changed : Entry) (p : Place) : Type 0 where
-  direct : (j : ℕ) → j < 58 → (part j ≡ p → ⊥) → get_or changed.pointers j 0 ≡ get_or e.pointers j 0
-  first : (list ≡ p → ⊥) → get_or changed.pointers 58 0 ≡ get_or e.pointers 58 0
-  second : (lists ≡ p → ⊥) → get_or changed.pointers 59 0 ≡ get_or e.pointers 59 0
-  listed : (j : ℕ) → 58 ≤ j → j < 186 → (part j ≡ p → ⊥) → number_in after (named after changed list) (j - 58) ≡ number_in content (named content e list) (j - 58)
-  in_lists : (i : ℕ) → i < 128 → (later_list i ≡ p → ⊥) → number_in after (named after changed lists) i ≡ number_in content (named content e lists) i
-  later : (j : ℕ) → 186 ≤ j → j < 16570 → (part j ≡ p → ⊥)
-      → number_in after (named after changed (later_list ((j - 186) / 128))) ((j - 186) % 128) ≡ number_in content (named content e (later_list ((j - 186) / 128))) ((j - 186) % 128)
+-- what the numbers of the file's positions are read from stays, but for the number of one position
+record KeepsNumbers (content after : Image) (e changed : Entry) (p : BlockPosition) : Type 0 where
+  direct : (j : ℕ) → j < 58 → (data_block j ≡ p → ⊥) → get_or changed.pointers j 0 ≡ get_or e.pointers j 0
+  first : (indirect_block ≡ p → ⊥) → get_or changed.pointers 58 0 ≡ get_or e.pointers 58 0
+  second : (double_indirect_block ≡ p → ⊥) → get_or changed.pointers 59 0 ≡ get_or e.pointers 59 0
+  listed : (j : ℕ) → 58 ≤ j → j < 186 → (data_block j ≡ p → ⊥) → number_in after (named after changed indirect_block) (j - 58) ≡ number_in content (named content e indirect_block) (j - 58)
+  in_lists : (i : ℕ) → i < 128 → (inner_block i ≡ p → ⊥) → number_in after (named after changed double_indirect_block) i ≡ number_in content (named content e double_indirect_block) i
+  later : (j : ℕ) → 186 ≤ j → j < 16570 → (data_block j ≡ p → ⊥)
+      → number_in after (named after changed (inner_block ((j - 186) / 128))) ((j - 186) % 128) ≡ number_in content (named content e (inner_block ((j - 186) / 128))) ((j - 186) % 128)
 
--- then the other places name what they named
-same_part : (content after : Image) (e changed : Entry) (p : Place) (j : ℕ) → KeepsNumbers content after e changed p → j < 16570 → (part j ≡ p → ⊥) → named after changed (part j) ≡ named content e (part j)
+-- then the other positions name what they named
+same_part : (content after : Image) (e changed : Entry) (p : BlockPosition) (j : ℕ) → KeepsNumbers content after e changed p → j < 16570 → (data_block j ≡ p → ⊥) → named after changed (data_block j) ≡ named content e (data_block j)
 same_part content after e changed p j keeps there not = elim (cases_lt j 58) [
   | inl direct ↦ part_direct after changed j direct ∙ keeps.direct j direct not ∙ sym (part_direct content e j direct)
   | inr le ↦ elim (cases_lt j 186) [
@@ -32,19 +32,19 @@ same_part content after e changed p j keeps there not = elim (cases_lt j 58) [
   ]
 ]
 
-same_names : (content after : Image) (e changed : Entry) (p q : Place) → KeepsNumbers content after e changed p → IsPlace q → (q ≡ p → ⊥) → named after changed q ≡ named content e q
-same_names content after e changed p (part j) keeps there not = same_part content after e changed p j keeps there not
-same_names content after e changed p list keeps there not = keeps.first not
-same_names content after e changed p lists keeps there not = keeps.second not
-same_names content after e changed p (later_list i) keeps there not = keeps.in_lists i there not
+same_names : (content after : Image) (e changed : Entry) (p q : BlockPosition) → KeepsNumbers content after e changed p → IsPosition q → (q ≡ p → ⊥) → named after changed q ≡ named content e q
+same_names content after e changed p (data_block j) keeps there not = same_part content after e changed p j keeps there not
+same_names content after e changed p indirect_block keeps there not = keeps.first not
+same_names content after e changed p double_indirect_block keeps there not = keeps.second not
+same_names content after e changed p (inner_block i) keeps there not = keeps.in_lists i there not
 
-one_more : (content after : Image) (e changed : Entry) (p : Place) (n : ℕ) → KeepsNumbers content after e changed p → named after changed p ≡ n → changed.size ≡ e.size
-    → ((j : ℕ) → j < 16570 → named content e (part j) ≢ 0 → after (named content e (part j)) ≡ content (named content e (part j))) → NamesOneMore content after e changed p n
+one_more : (content after : Image) (e changed : Entry) (p : BlockPosition) (n : ℕ) → KeepsNumbers content after e changed p → named after changed p ≡ n → changed.size ≡ e.size
+    → ((j : ℕ) → j < 16570 → named content e (data_block j) ≢ 0 → after (named content e (data_block j)) ≡ content (named content e (data_block j))) → NamesOneMore content after e changed p n
 one_more content after e changed p n keeps one size stays = record {
   one = one;
   rest = λ q there not. same_names content after e changed p q keeps there not;
   size = size;
-  bytes = λ j there not. ap (part_bytes after) (same_part content after e changed p j keeps there not) ∙ same_bytes content after (named content e (part j)) (stays j there);
+  bytes = λ j there not. ap (block_bytes after) (same_part content after e changed p j keeps there not) ∙ same_bytes content after (named content e (data_block j)) (stays j there);
 }
 
 quotient_below : (j : ℕ) → j < 16570 → (j - 186) / 128 < 128
@@ -52,142 +52,142 @@ quotient_below j lt = omega arith
 
 -- The entry names the new sector: its pointer is set, and no other sector is written.
 module _ (content after : Image) (e changed : Entry) (n : ℕ) (others : NamesOthers content e n) (stays : (x : ℕ) → x ≢ n → after x ≡ content x) where
-  -- a pointer sector that stays
-  numbers_stay : (h : Place) (i : ℕ) → IsPlace h → named after changed h ≡ named content e h → number_in after (named after changed h) i ≡ number_in content (named content e h) i
+  -- a pointer block that stays
+  numbers_stay : (h : BlockPosition) (i : ℕ) → IsPosition h → named after changed h ≡ named content e h → number_in after (named after changed h) i ≡ number_in content (named content e h) i
   numbers_stay h i there same = ap (λ (m : ℕ). number_in after m i) same ∙ same_number content after (named content e h) i (λ some. stays (named content e h) (others h there))
 
-  -- a new pointer sector, of zeros
-  none_listed : (h : Place) (i : ℕ) → named after changed h ≡ n → named content e h ≡ 0 → after n ≡ replicate 512 0 → number_in after (named after changed h) i ≡ number_in content (named content e h) i
+  -- a new pointer block, of zeros
+  none_listed : (h : BlockPosition) (i : ℕ) → named after changed h ≡ n → named content e h ≡ 0 → after n ≡ replicate 512 0 → number_in after (named after changed h) i ≡ number_in content (named content e h) i
   none_listed h i one none zeros = ap (λ (m : ℕ). number_in after m i) one ∙ none_in_zeros after n i zeros ∙ sym (ap (λ (m : ℕ). number_in content m i) none)
 
-  parts_stay : (j : ℕ) → j < 16570 → named content e (part j) ≢ 0 → after (named content e (part j)) ≡ content (named content e (part j))
-  parts_stay j there some = stays (named content e (part j)) (others (part j) there)
+  parts_stay : (j : ℕ) → j < 16570 → named content e (data_block j) ≢ 0 → after (named content e (data_block j)) ≡ content (named content e (data_block j))
+  parts_stay j there some = stays (named content e (data_block j)) (others (data_block j) there)
 
-  pub one_direct : (k : ℕ) → k < 58 → SetsPointer e changed k n → NamesOneMore content after e changed (part k) n
+  pub one_direct : (k : ℕ) → k < 58 → SetsPointer e changed k n → NamesOneMore content after e changed (data_block k) n
   one_direct k lt sets =
       let first : get_or changed.pointers 58 0 ≡ get_or e.pointers 58 0 = sets.rest 58 (omega arith) (λ is. omega arith) in
       let second : get_or changed.pointers 59 0 ≡ get_or e.pointers 59 0 = sets.rest 59 (omega arith) (λ is. omega arith) in
-      let keeps : KeepsNumbers content after e changed (part k) = record {
-        direct = λ j below not. sets.rest j (omega arith) (λ is. not (ap part is));
+      let keeps : KeepsNumbers content after e changed (data_block k) = record {
+        direct = λ j below not. sets.rest j (omega arith) (λ is. not (ap data_block is));
         first = λ not. first;
         second = λ not. second;
-        listed = λ j le below not. numbers_stay list (j - 58) tt first;
-        in_lists = λ i below not. numbers_stay lists i tt second;
-        later = λ j le below not. numbers_stay (later_list ((j - 186) / 128)) ((j - 186) % 128) (quotient_below j below) (numbers_stay lists ((j - 186) / 128) tt second);
+        listed = λ j le below not. numbers_stay indirect_block (j - 58) tt first;
+        in_lists = λ i below not. numbers_stay double_indirect_block i tt second;
+        later = λ j le below not. numbers_stay (inner_block ((j - 186) / 128)) ((j - 186) % 128) (quotient_below j below) (numbers_stay double_indirect_block ((j - 186) / 128) tt second);
       } in
-      one_more content after e changed (part k) n keeps (part_direct after changed k lt ∙ sets.one) sets.size parts_stay
+      one_more content after e changed (data_block k) n keeps (part_direct after changed k lt ∙ sets.one) sets.size parts_stay
 
-  pub one_list : SetsPointer e changed 58 n → named content e list ≡ 0 → after n ≡ replicate 512 0 → NamesOneMore content after e changed list n
+  pub one_list : SetsPointer e changed 58 n → named content e indirect_block ≡ 0 → after n ≡ replicate 512 0 → NamesOneMore content after e changed indirect_block n
   one_list sets none zeros =
       let second : get_or changed.pointers 59 0 ≡ get_or e.pointers 59 0 = sets.rest 59 (omega arith) (λ is. omega arith) in
-      let keeps : KeepsNumbers content after e changed list = record {
+      let keeps : KeepsNumbers content after e changed indirect_block = record {
         direct = λ j below not. sets.rest j (omega arith) (λ is. omega arith);
         first = λ not. absurd (not refl);
         second = λ not. second;
-        listed = λ j le below not. none_listed list (j - 58) sets.one none zeros;
-        in_lists = λ i below not. numbers_stay lists i tt second;
-        later = λ j le below not. numbers_stay (later_list ((j - 186) / 128)) ((j - 186) % 128) (quotient_below j below) (numbers_stay lists ((j - 186) / 128) tt second);
+        listed = λ j le below not. none_listed indirect_block (j - 58) sets.one none zeros;
+        in_lists = λ i below not. numbers_stay double_indirect_block i tt second;
+        later = λ j le below not. numbers_stay (inner_block ((j - 186) / 128)) ((j - 186) % 128) (quotient_below j below) (numbers_stay double_indirect_block ((j - 186) / 128) tt second);
       } in
-      one_more content after e changed list n keeps sets.one sets.size parts_stay
+      one_more content after e changed indirect_block n keeps sets.one sets.size parts_stay
 
-  pub one_lists : SetsPointer e changed 59 n → named content e lists ≡ 0 → after n ≡ replicate 512 0 → NamesOneMore content after e changed lists n
+  pub one_lists : SetsPointer e changed 59 n → named content e double_indirect_block ≡ 0 → after n ≡ replicate 512 0 → NamesOneMore content after e changed double_indirect_block n
   one_lists sets none zeros =
       let first : get_or changed.pointers 58 0 ≡ get_or e.pointers 58 0 = sets.rest 58 (omega arith) (λ is. omega arith) in
-      let keeps : KeepsNumbers content after e changed lists = record {
+      let keeps : KeepsNumbers content after e changed double_indirect_block = record {
         direct = λ j below not. sets.rest j (omega arith) (λ is. omega arith);
         first = λ not. first;
         second = λ not. absurd (not refl);
-        listed = λ j le below not. numbers_stay list (j - 58) tt first;
-        in_lists = λ i below not. none_listed lists i sets.one none zeros;
-        later = λ j le below not. numbers_stay (later_list ((j - 186) / 128)) ((j - 186) % 128) (quotient_below j below) (none_listed lists ((j - 186) / 128) sets.one none zeros);
+        listed = λ j le below not. numbers_stay indirect_block (j - 58) tt first;
+        in_lists = λ i below not. none_listed double_indirect_block i sets.one none zeros;
+        later = λ j le below not. numbers_stay (inner_block ((j - 186) / 128)) ((j - 186) % 128) (quotient_below j below) (none_listed double_indirect_block ((j - 186) / 128) sets.one none zeros);
       } in
-      one_more content after e changed lists n keeps sets.one sets.size parts_stay
+      one_more content after e changed double_indirect_block n keeps sets.one sets.size parts_stay
 
--- A pointer sector of the file, m, lists the new sector.
+-- A pointer block of the file, m, lists the new sector.
 module _ (content after : Image) (e : Entry) (n m r : ℕ) (naming : IsNaming content e) (others : NamesOthers content e n) (some : m ≢ 0) (lists_it : ListsOneMore content after m r n) where
   -- other sectors of the file stay
-  sector_stays : (h g : Place) → IsPlace h → IsPlace g → named content e h ≡ m → (g ≡ h → ⊥) → named content e g ≢ 0 → after (named content e g) ≡ content (named content e g)
+  sector_stays : (h g : BlockPosition) → IsPosition h → IsPosition g → named content e h ≡ m → (g ≡ h → ⊥) → named content e g ≢ 0 → after (named content e g) ≡ content (named content e g)
   sector_stays h g h_there there is not names = lists_it.stays (named content e g) (others g there) (λ same. not (naming.distinct g h there h_there names (same ∙ sym is)))
 
-  other_numbers : (h g : Place) (i : ℕ) → IsPlace h → IsPlace g → named content e h ≡ m → (g ≡ h → ⊥) → named after e g ≡ named content e g → number_in after (named after e g) i ≡ number_in content (named content e g) i
+  other_numbers : (h g : BlockPosition) (i : ℕ) → IsPosition h → IsPosition g → named content e h ≡ m → (g ≡ h → ⊥) → named after e g ≡ named content e g → number_in after (named after e g) i ≡ number_in content (named content e g) i
   other_numbers h g i h_there there is not same = ap (λ (x : ℕ). number_in after x i) same ∙ same_number content after (named content e g) i (sector_stays h g h_there there is not)
 
-  new_number : (h : Place) (i : ℕ) → named after e h ≡ m → i ≡ r → number_in after (named after e h) i ≡ n
+  new_number : (h : BlockPosition) (i : ℕ) → named after e h ≡ m → i ≡ r → number_in after (named after e h) i ≡ n
   new_number h i is at = ap (λ (x : ℕ). number_in after x i) is ∙ ap (λ (x : ℕ). number_in after m x) at ∙ number_there after m r some ∙ lists_it.one
 
-  old_numbers : (h : Place) (i : ℕ) → named content e h ≡ m → named after e h ≡ named content e h → i < 128 → i ≢ r → number_in after (named after e h) i ≡ number_in content (named content e h) i
+  old_numbers : (h : BlockPosition) (i : ℕ) → named content e h ≡ m → named after e h ≡ named content e h → i < 128 → i ≢ r → number_in after (named after e h) i ≡ number_in content (named content e h) i
   old_numbers h i is same lt other =
       ap (λ (x : ℕ). number_in after x i) (same ∙ is)
       ∙ number_there after m i some ∙ lists_it.rest i lt other ∙ sym (number_there content m i some)
       ∙ sym (ap (λ (x : ℕ). number_in content x i) is)
 
-  parts_kept : (h : Place) → IsPlace h → named content e h ≡ m → ((j : ℕ) → part j ≡ h → ⊥) → (j : ℕ) → j < 16570 → named content e (part j) ≢ 0 → after (named content e (part j)) ≡ content (named content e (part j))
-  parts_kept h h_there is not j there names = sector_stays h (part j) h_there there is (not j) names
+  parts_kept : (h : BlockPosition) → IsPosition h → named content e h ≡ m → ((j : ℕ) → data_block j ≡ h → ⊥) → (j : ℕ) → j < 16570 → named content e (data_block j) ≢ 0 → after (named content e (data_block j)) ≡ content (named content e (data_block j))
+  parts_kept h h_there is not j there names = sector_stays h (data_block j) h_there there is (not j) names
 
-  pub one_listed : (j : ℕ) → 58 ≤ j → j < 186 → r ≡ j - 58 → named content e list ≡ m → NamesOneMore content after e e (part j) n
+  pub one_listed : (j : ℕ) → 58 ≤ j → j < 186 → r ≡ j - 58 → named content e indirect_block ≡ m → NamesOneMore content after e e (data_block j) n
   one_listed j le lt at is =
-      let in_lists = λ (i : ℕ). other_numbers list lists i tt tt is (λ equal. cc) refl in
-      let keeps : KeepsNumbers content after e e (part j) = record {
+      let in_lists = λ (i : ℕ). other_numbers indirect_block double_indirect_block i tt tt is (λ equal. cc) refl in
+      let keeps : KeepsNumbers content after e e (data_block j) = record {
         direct = λ k below not. refl;
         first = λ not. refl;
         second = λ not. refl;
-        listed = λ k from below not. old_numbers list (k - 58) is refl (omega arith) (λ equal. not (ap part (omega arith)));
+        listed = λ k from below not. old_numbers indirect_block (k - 58) is refl (omega arith) (λ equal. not (ap data_block (omega arith)));
         in_lists = λ i below not. in_lists i;
-        later = λ k from below not. other_numbers list (later_list ((k - 186) / 128)) ((k - 186) % 128) tt (quotient_below k below) is (λ equal. cc) (in_lists ((k - 186) / 128));
+        later = λ k from below not. other_numbers indirect_block (inner_block ((k - 186) / 128)) ((k - 186) % 128) tt (quotient_below k below) is (λ equal. cc) (in_lists ((k - 186) / 128));
       } in
-      one_more content after e e (part j) n keeps (part_listed after e j le lt ∙ new_number list (j - 58) is (sym at)) refl (parts_kept list tt is (λ k equal. cc))
+      one_more content after e e (data_block j) n keeps (part_listed after e j le lt ∙ new_number indirect_block (j - 58) is (sym at)) refl (parts_kept indirect_block tt is (λ k equal. cc))
 
-  pub one_later_list : (i : ℕ) → i < 128 → r ≡ i → named content e lists ≡ m → named content e (later_list i) ≡ 0 → after n ≡ replicate 512 0 → NamesOneMore content after e e (later_list i) n
+  pub one_later_list : (i : ℕ) → i < 128 → r ≡ i → named content e double_indirect_block ≡ m → named content e (inner_block i) ≡ 0 → after n ≡ replicate 512 0 → NamesOneMore content after e e (inner_block i) n
   one_later_list i lt at is none zeros =
-      let one : named after e (later_list i) ≡ n = new_number lists i is (sym at) in
-      let in_lists = λ (k : ℕ) (below : k < 128) (not : later_list k ≡ later_list i → ⊥). old_numbers lists k is refl below (λ equal. not (ap later_list (equal ∙ at))) in
-      let keeps : KeepsNumbers content after e e (later_list i) = record {
+      let one : named after e (inner_block i) ≡ n = new_number double_indirect_block i is (sym at) in
+      let in_lists = λ (k : ℕ) (below : k < 128) (not : inner_block k ≡ inner_block i → ⊥). old_numbers double_indirect_block k is refl below (λ equal. not (ap inner_block (equal ∙ at))) in
+      let keeps : KeepsNumbers content after e e (inner_block i) = record {
         direct = λ k below not. refl;
         first = λ not. refl;
         second = λ not. refl;
-        listed = λ k from below not. other_numbers lists list (k - 58) tt tt is (λ equal. cc) refl;
+        listed = λ k from below not. other_numbers double_indirect_block indirect_block (k - 58) tt tt is (λ equal. cc) refl;
         in_lists = in_lists;
         later = λ k from below not. elim (cases_eq ((k - 186) / 128) i) [
           | inl equal ↦
-              ap (λ (x : ℕ). number_in after (named after e (later_list x)) ((k - 186) % 128)) equal
+              ap (λ (x : ℕ). number_in after (named after e (inner_block x)) ((k - 186) % 128)) equal
               ∙ ap (λ (x : ℕ). number_in after x ((k - 186) % 128)) one ∙ none_in_zeros after n ((k - 186) % 128) zeros
               ∙ sym (ap (λ (x : ℕ). number_in content x ((k - 186) % 128)) none)
-              ∙ sym (ap (λ (x : ℕ). number_in content (named content e (later_list x)) ((k - 186) % 128)) equal)
-          | inr other ↦ other_numbers lists (later_list ((k - 186) / 128)) ((k - 186) % 128) tt (quotient_below k below) is (λ equal. cc) (in_lists ((k - 186) / 128) (quotient_below k below) (λ equal. other (cc)))
+              ∙ sym (ap (λ (x : ℕ). number_in content (named content e (inner_block x)) ((k - 186) % 128)) equal)
+          | inr other ↦ other_numbers double_indirect_block (inner_block ((k - 186) / 128)) ((k - 186) % 128) tt (quotient_below k below) is (λ equal. cc) (in_lists ((k - 186) / 128) (quotient_below k below) (λ equal. other (cc)))
         ];
       } in
-      one_more content after e e (later_list i) n keeps one refl (parts_kept lists tt is (λ k equal. cc))
+      one_more content after e e (inner_block i) n keeps one refl (parts_kept double_indirect_block tt is (λ k equal. cc))
 
-  pub one_later : (j : ℕ) → 186 ≤ j → j < 16570 → r ≡ (j - 186) % 128 → named content e (later_list ((j - 186) / 128)) ≡ m → NamesOneMore content after e e (part j) n
+  pub one_later : (j : ℕ) → 186 ≤ j → j < 16570 → r ≡ (j - 186) % 128 → named content e (inner_block ((j - 186) / 128)) ≡ m → NamesOneMore content after e e (data_block j) n
   one_later j le lt at is =
-      let holder = later_list ((j - 186) / 128) in
+      let holder = inner_block ((j - 186) / 128) in
       let below_it = quotient_below j lt in
-      let in_lists = λ (i : ℕ). other_numbers holder lists i below_it tt is (λ equal. cc) refl in
-      let keeps : KeepsNumbers content after e e (part j) = record {
+      let in_lists = λ (i : ℕ). other_numbers holder double_indirect_block i below_it tt is (λ equal. cc) refl in
+      let keeps : KeepsNumbers content after e e (data_block j) = record {
         direct = λ k below not. refl;
         first = λ not. refl;
         second = λ not. refl;
-        listed = λ k from below not. other_numbers holder list (k - 58) below_it tt is (λ equal. cc) refl;
+        listed = λ k from below not. other_numbers holder indirect_block (k - 58) below_it tt is (λ equal. cc) refl;
         in_lists = λ i below not. in_lists i;
         later = λ k from below not. elim (cases_eq ((k - 186) / 128) ((j - 186) / 128)) [
           | inl equal ↦
-              let here : named content e (later_list ((k - 186) / 128)) ≡ m = ap (λ (x : ℕ). named content e (later_list x)) equal ∙ is in
-              old_numbers (later_list ((k - 186) / 128)) ((k - 186) % 128) here (in_lists ((k - 186) / 128)) (omega arith) (λ same. not (ap part (omega arith)))
-          | inr other ↦ other_numbers holder (later_list ((k - 186) / 128)) ((k - 186) % 128) below_it (quotient_below k below) is (λ equal. other (cc)) (in_lists ((k - 186) / 128))
+              let here : named content e (inner_block ((k - 186) / 128)) ≡ m = ap (λ (x : ℕ). named content e (inner_block x)) equal ∙ is in
+              old_numbers (inner_block ((k - 186) / 128)) ((k - 186) % 128) here (in_lists ((k - 186) / 128)) (omega arith) (λ same. not (ap data_block (omega arith)))
+          | inr other ↦ other_numbers holder (inner_block ((k - 186) / 128)) ((k - 186) % 128) below_it (quotient_below k below) is (λ equal. other (cc)) (in_lists ((k - 186) / 128))
         ];
       } in
-      one_more content after e e (part j) n keeps (part_later after e j le ∙ new_number holder ((j - 186) % 128) (in_lists ((j - 186) / 128) ∙ is) (sym at)) refl (parts_kept holder below_it is (λ k equal. cc))
+      one_more content after e e (data_block j) n keeps (part_later after e j le ∙ new_number holder ((j - 186) % 128) (in_lists ((j - 186) / 128) ∙ is) (sym at)) refl (parts_kept holder below_it is (λ k equal. cc))
 
--- A sector that the file names for a part is written over: it names the same sectors, and other parts have the same bytes.
-pub write_named : (content after : Image) (e : Entry) (j n : ℕ) → IsNaming content e → j < 16570 → named content e (part j) ≡ n → n ≢ 0 → ((x : ℕ) → x ≢ n → after x ≡ content x) → NamesOneMore content after e e (part j) n
+-- A sector that the file names for a data block is written over: it names the same sectors, and other data blocks have the same bytes.
+pub write_named : (content after : Image) (e : Entry) (j n : ℕ) → IsNaming content e → j < 16570 → named content e (data_block j) ≡ n → n ≢ 0 → ((x : ℕ) → x ≢ n → after x ≡ content x) → NamesOneMore content after e e (data_block j) n
 write_named content after e j n naming lt is some stays =
-    let stays_by = λ (g : Place) (there : IsPlace g) (not : g ≡ part j → ⊥) (names : named content e g ≢ 0). stays (named content e g) (λ same. not (naming.distinct g (part j) there lt names (same ∙ sym is))) in
-    let in_lists = λ (i : ℕ). same_number content after (named content e lists) i (stays_by lists tt (λ equal. cc)) in
-    let listed = λ (i : ℕ). same_number content after (named content e list) i (stays_by list tt (λ equal. cc)) in
+    let stays_by = λ (g : BlockPosition) (there : IsPosition g) (not : g ≡ data_block j → ⊥) (names : named content e g ≢ 0). stays (named content e g) (λ same. not (naming.distinct g (data_block j) there lt names (same ∙ sym is))) in
+    let in_lists = λ (i : ℕ). same_number content after (named content e double_indirect_block) i (stays_by double_indirect_block tt (λ equal. cc)) in
+    let listed = λ (i : ℕ). same_number content after (named content e indirect_block) i (stays_by indirect_block tt (λ equal. cc)) in
     let later = λ (k : ℕ) (below : k < 16570).
     ap (λ (x : ℕ). number_in after x ((k - 186) % 128)) (in_lists ((k - 186) / 128))
-    ∙ same_number content after (named content e (later_list ((k - 186) / 128))) ((k - 186) % 128) (stays_by (later_list ((k - 186) / 128)) (quotient_below k below) (λ equal. cc)) in
-    let keeps : KeepsNumbers content after e e list = record {
+    ∙ same_number content after (named content e (inner_block ((k - 186) / 128))) ((k - 186) % 128) (stays_by (inner_block ((k - 186) / 128)) (quotient_below k below) (λ equal. cc)) in
+    let keeps : KeepsNumbers content after e e indirect_block = record {
       direct = λ k below not. refl;
       first = λ not. refl;
       second = λ not. refl;
@@ -195,41 +195,41 @@ write_named content after e j n naming lt is some stays =
       in_lists = λ i below not. in_lists i;
       later = λ k from below not. later k below;
     } in
-    let same = λ (k : ℕ) (below : k < 16570). same_part content after e e list k keeps below (λ equal. cc) in
+    let same = λ (k : ℕ) (below : k < 16570). same_part content after e e indirect_block k keeps below (λ equal. cc) in
     record {
       one = same j lt ∙ is;
       rest = λ q there not. kept keeps q there;
       size = refl;
-      bytes = λ k below not. ap (part_bytes after) (same k below) ∙ same_bytes content after (named content e (part k)) (stays_by (part k) below not);
+      bytes = λ k below not. ap (block_bytes after) (same k below) ∙ same_bytes content after (named content e (data_block k)) (stays_by (data_block k) below not);
     }
   where
-    kept : KeepsNumbers content after e e list → (q : Place) → IsPlace q → named after e q ≡ named content e q
-    kept keeps (part k) there = same_part content after e e list k keeps there (λ equal. cc)
-    kept keeps list there = refl
-    kept keeps lists there = refl
-    kept keeps (later_list i) there = keeps.in_lists i there (λ equal. cc)
+    kept : KeepsNumbers content after e e indirect_block → (q : BlockPosition) → IsPosition q → named after e q ≡ named content e q
+    kept keeps (data_block k) there = same_part content after e e indirect_block k keeps there (λ equal. cc)
+    kept keeps indirect_block there = refl
+    kept keeps double_indirect_block there = refl
+    kept keeps (inner_block i) there = keeps.in_lists i there (λ equal. cc)
 
-pub same_place : (a b : Place) → (a ≡ b) ⊎ (a ≡ b → ⊥)
-same_place (part i) (part j) = elim (cases_eq i j) [
-  | inl same ↦ inl (ap part same)
+pub same_place : (a b : BlockPosition) → (a ≡ b) ⊎ (a ≡ b → ⊥)
+same_place (data_block i) (data_block j) = elim (cases_eq i j) [
+  | inl same ↦ inl (ap data_block same)
   | inr other ↦ inr (λ equal. other cc)
 ]
-same_place (part i) list = inr (λ equal. cc)
-same_place (part i) lists = inr (λ equal. cc)
-same_place (part i) (later_list j) = inr (λ equal. cc)
-same_place list (part j) = inr (λ equal. cc)
-same_place list list = inl refl
-same_place list lists = inr (λ equal. cc)
-same_place list (later_list j) = inr (λ equal. cc)
-same_place lists (part j) = inr (λ equal. cc)
-same_place lists list = inr (λ equal. cc)
-same_place lists lists = inl refl
-same_place lists (later_list j) = inr (λ equal. cc)
-same_place (later_list i) (part j) = inr (λ equal. cc)
-same_place (later_list i) list = inr (λ equal. cc)
-same_place (later_list i) lists = inr (λ equal. cc)
-same_place (later_list i) (later_list j) = elim (cases_eq i j) [
-  | inl same ↦ inl (ap later_list same)
+same_place (data_block i) indirect_block = inr (λ equal. cc)
+same_place (data_block i) double_indirect_block = inr (λ equal. cc)
+same_place (data_block i) (inner_block j) = inr (λ equal. cc)
+same_place indirect_block (data_block j) = inr (λ equal. cc)
+same_place indirect_block indirect_block = inl refl
+same_place indirect_block double_indirect_block = inr (λ equal. cc)
+same_place indirect_block (inner_block j) = inr (λ equal. cc)
+same_place double_indirect_block (data_block j) = inr (λ equal. cc)
+same_place double_indirect_block indirect_block = inr (λ equal. cc)
+same_place double_indirect_block double_indirect_block = inl refl
+same_place double_indirect_block (inner_block j) = inr (λ equal. cc)
+same_place (inner_block i) (data_block j) = inr (λ equal. cc)
+same_place (inner_block i) indirect_block = inr (λ equal. cc)
+same_place (inner_block i) double_indirect_block = inr (λ equal. cc)
+same_place (inner_block i) (inner_block j) = elim (cases_eq i j) [
+  | inl same ↦ inl (ap inner_block same)
   | inr other ↦ inr (λ equal. other cc)
 ]
 
@@ -241,46 +241,46 @@ pub body_of : (content : Image) (e : Entry) → IsNaming content e → ((k : ℕ
 body_of content e naming zeros = record { distinct = naming.distinct; past = naming.past; zeros = zeros }
 
 -- a file that names the same sectors, and is no shorter
-pub naming_by : (content after : Image) (e changed : Entry) → IsNaming content e → e.size ≤ changed.size → ((p : Place) → IsPlace p → named after changed p ≡ named content e p) → IsNaming after changed
+pub naming_by : (content after : Image) (e changed : Entry) → IsNaming content e → e.size ≤ changed.size → ((p : BlockPosition) → IsPosition p → named after changed p ≡ named content e p) → IsNaming after changed
 naming_by content after e changed naming longer names = record {
   distinct = λ p q a b some equal. naming.distinct p q a b (λ none. some (names p a ∙ none)) (sym (names p a) ∙ equal ∙ names q b);
   past = λ p a le. names p a ∙ naming.past p a (omega arith);
 }
 
-module _ (content after : Image) (e changed : Entry) (p : Place) (n : ℕ) (more : NamesOneMore content after e changed p n) where
-  -- a part that stays has the same bytes
-  pub byte_stays : (k : ℕ) → k < 8483840 → (part (k / 512) ≡ p → ⊥) → byte_at after changed k ≡ byte_at content e k
+module _ (content after : Image) (e changed : Entry) (p : BlockPosition) (n : ℕ) (more : NamesOneMore content after e changed p n) where
+  -- a data block that stays has the same bytes
+  pub byte_stays : (k : ℕ) → k < 8483840 → (data_block (k / 512) ≡ p → ⊥) → byte_at after changed k ≡ byte_at content e k
   byte_stays k lt not = ap (λ (l : List ℕ). get_or l (k % 512) 0) (more.bytes (k / 512) (omega arith) not)
 
-  -- the bytes of the part that names the sector
-  pub byte_there : (k : ℕ) → n ≢ 0 → part (k / 512) ≡ p → byte_at after changed k ≡ get_or (after n) (k % 512) 0
+  -- the bytes of the data block that names the sector
+  pub byte_there : (k : ℕ) → n ≢ 0 → data_block (k / 512) ≡ p → byte_at after changed k ≡ get_or (after n) (k % 512) 0
   byte_there k some is =
-      let one : named after changed (part (k / 512)) ≡ n = ap (named after changed) is ∙ more.one in
-      ap (λ (x : ℕ). get_or (part_bytes after x) (k % 512) 0) one ∙ ap (λ (l : List ℕ). get_or l (k % 512) 0) (bytes_there after n some)
+      let one : named after changed (data_block (k / 512)) ≡ n = ap (named after changed) is ∙ more.one in
+      ap (λ (x : ℕ). get_or (block_bytes after x) (k % 512) 0) one ∙ ap (λ (l : List ℕ). get_or l (k % 512) 0) (bytes_there after n some)
 
-  -- a pointer sector more changes no byte
-  pub all_bytes_stay : ((j : ℕ) → part j ≡ p → ⊥) → (k : ℕ) → k < 8483840 → byte_at after changed k ≡ byte_at content e k
+  -- a pointer block more changes no byte
+  pub all_bytes_stay : ((j : ℕ) → data_block j ≡ p → ⊥) → (k : ℕ) → k < 8483840 → byte_at after changed k ≡ byte_at content e k
   all_bytes_stay not k lt = byte_stays k lt (not (k / 512))
 
   -- where it named the sector before, it names the same ones
-  pub names_stay : named content e p ≡ n → (q : Place) → IsPlace q → named after changed q ≡ named content e q
+  pub names_stay : named content e p ≡ n → (q : BlockPosition) → IsPosition q → named after changed q ≡ named content e q
   names_stay is q there = elim (same_place q p) [
     | inl same ↦ ap (named after changed) same ∙ more.one ∙ sym is ∙ sym (ap (named content e) same)
     | inr not ↦ more.rest q there not
   ]
 
   -- what it names now
-  pub named_now : (q : Place) → IsPlace q → (named after changed q ≡ n) ⊎ (named after changed q ≡ named content e q)
+  pub named_now : (q : BlockPosition) → IsPosition q → (named after changed q ≡ n) ⊎ (named after changed q ≡ named content e q)
   named_now q there = elim (same_place q p) [
     | inl same ↦ inl (ap (named after changed) same ∙ more.one)
     | inr not ↦ inr (more.rest q there not)
   ]
 
   -- the rules on the sectors hold still
-  pub naming_more : IsNaming content e → NamesOthers content e n → n ≢ 0 → IsPlace p → first_served p < sectors_of e.size → IsNaming after changed
+  pub naming_more : IsNaming content e → NamesOthers content e n → n ≢ 0 → IsPosition p → first_served p < sectors_of e.size → IsNaming after changed
   naming_more naming others some p_there serves = record { distinct = distinct; past = past }
     where
-      distinct : (a b : Place) → IsPlace a → IsPlace b → named after changed a ≢ 0 → named after changed a ≡ named after changed b → a ≡ b
+      distinct : (a b : BlockPosition) → IsPosition a → IsPosition b → named after changed a ≢ 0 → named after changed a ≡ named after changed b → a ≡ b
       distinct a b a_there b_there names equal = elim (same_place a p) [
         | inl a_is ↦ elim (same_place b p) [
           | inl b_is ↦ a_is ∙ sym b_is
@@ -292,7 +292,7 @@ module _ (content after : Image) (e changed : Entry) (p : Place) (n : ℕ) (more
         ]
       ]
 
-      past : (a : Place) → IsPlace a → sectors_of changed.size ≤ first_served a → named after changed a ≡ 0
+      past : (a : BlockPosition) → IsPosition a → sectors_of changed.size ≤ first_served a → named after changed a ≡ 0
       past a a_there le = elim (same_place a p) [
         | inl is ↦ absurd (out (first_served a) (first_served p) (ap first_served is) (ap sectors_of more.size) le serves)
         | inr not ↦ more.rest a a_there not ∙ naming.past a a_there (fits (ap sectors_of more.size) le)
@@ -331,19 +331,19 @@ module _ (content after : Image) (e changed : Entry) (p : Place) (n : ℕ) (more
     ]
 
     -- one more sector is taken, and no other
-    pub takes_one : NamesTaken taken content e → taken n ≡ false → named content e p ≡ 0 → IsPlace p → TakesAndGives taken now content after e changed
+    pub takes_one : NamesTaken taken content e → taken n ≡ false → named content e p ≡ 0 → IsPosition p → TakesAndGives taken now content after e changed
     takes_one names free none p_there = record { taken = names_taken_more names; fresh = fresh; given = given; others = others }
       where
         fresh : (x : ℕ) → Names after changed x → NamesOthers content e x → taken x ≡ false
-        fresh x one others = elim (named_now one.place.0 one.place.1) [
-          | inl is ↦ ap taken (sym one.place.2 ∙ is) ∙ free
-          | inr same ↦ absurd (others one.place.0 one.place.1 (sym same ∙ one.place.2))
+        fresh x one others = elim (named_now one.position.0 one.position.1) [
+          | inl is ↦ ap taken (sym one.position.2 ∙ is) ∙ free
+          | inr same ↦ absurd (others one.position.0 one.position.1 (sym same ∙ one.position.2))
         ]
 
         given : (x : ℕ) → Names content e x → NamesOthers after changed x → now x ≡ false
-        given x one others = elim (same_place one.place.0 p) [
-          | inl is ↦ absurd (one.some (sym one.place.2 ∙ ap (named content e) is ∙ none))
-          | inr not ↦ absurd (others one.place.0 one.place.1 (more.rest one.place.0 one.place.1 not ∙ one.place.2))
+        given x one others = elim (same_place one.position.0 p) [
+          | inl is ↦ absurd (one.some (sym one.position.2 ∙ ap (named content e) is ∙ none))
+          | inr not ↦ absurd (others one.position.0 one.position.1 (more.rest one.position.0 one.position.1 not ∙ one.position.2))
         ]
 
         others : (x : ℕ) → NamesOthers content e x → NamesOthers after changed x → now x ≡ taken x
@@ -377,28 +377,28 @@ others_stay_two place first end taken content after e n m stays n_from n_below n
     mine x y own same is others = own (sym (ap taken same) ∙ is) (λ p there names. others p there (names ∙ sym same))
 
 -- what a file names goes by its pointers alone
-pub names_by_pointers : (content : Image) (e f : Entry) (p : Place) → f.pointers ≡ e.pointers → named content f p ≡ named content e p
-names_by_pointers content e f (part j) same = ap (λ (ps : List ℕ). named content (record e { pointers = ps }) (part j)) same
-names_by_pointers content e f list same = ap (λ (ps : List ℕ). named content (record e { pointers = ps }) list) same
-names_by_pointers content e f lists same = ap (λ (ps : List ℕ). named content (record e { pointers = ps }) lists) same
-names_by_pointers content e f (later_list i) same = ap (λ (ps : List ℕ). named content (record e { pointers = ps }) (later_list i)) same
+pub names_by_pointers : (content : Image) (e f : Entry) (p : BlockPosition) → f.pointers ≡ e.pointers → named content f p ≡ named content e p
+names_by_pointers content e f (data_block j) same = ap (λ (ps : List ℕ). named content (record e { pointers = ps }) (data_block j)) same
+names_by_pointers content e f indirect_block same = ap (λ (ps : List ℕ). named content (record e { pointers = ps }) indirect_block) same
+names_by_pointers content e f double_indirect_block same = ap (λ (ps : List ℕ). named content (record e { pointers = ps }) double_indirect_block) same
+names_by_pointers content e f (inner_block i) same = ap (λ (ps : List ℕ). named content (record e { pointers = ps }) (inner_block i)) same
 
--- The bytes of the other places' sectors stay, those of pointer sectors too: where the new sector alone is written,
-pub places_stay : (content after : Image) (e changed : Entry) (p : Place) (n : ℕ) → NamesOneMore content after e changed p n → NamesOthers content e n → ((x : ℕ) → x ≢ n → after x ≡ content x)
-    → (g : Place) → IsPlace g → (g ≡ p → ⊥) → part_bytes after (named after changed g) ≡ part_bytes content (named content e g)
+-- The bytes of the other positions' sectors stay, those of pointer blocks too: where the new sector alone is written,
+pub places_stay : (content after : Image) (e changed : Entry) (p : BlockPosition) (n : ℕ) → NamesOneMore content after e changed p n → NamesOthers content e n → ((x : ℕ) → x ≢ n → after x ≡ content x)
+    → (g : BlockPosition) → IsPosition g → (g ≡ p → ⊥) → block_bytes after (named after changed g) ≡ block_bytes content (named content e g)
 places_stay content after e changed p n more others stays g there not =
-    ap (part_bytes after) (more.rest g there not) ∙ same_bytes content after (named content e g) (λ some. stays (named content e g) (others g there))
+    ap (block_bytes after) (more.rest g there not) ∙ same_bytes content after (named content e g) (λ some. stays (named content e g) (others g there))
 
--- where a pointer sector is written too, those of all but this one,
-pub places_stay_but : (content after : Image) (e changed : Entry) (p h : Place) (n m : ℕ) → NamesOneMore content after e changed p n → IsNaming content e → NamesOthers content e n → IsPlace h → named content e h ≡ m
-    → ((x : ℕ) → x ≢ n → x ≢ m → after x ≡ content x) → (g : Place) → IsPlace g → (g ≡ p → ⊥) → (g ≡ h → ⊥) → part_bytes after (named after changed g) ≡ part_bytes content (named content e g)
+-- where a pointer block is written too, those of all but this one,
+pub places_stay_but : (content after : Image) (e changed : Entry) (p h : BlockPosition) (n m : ℕ) → NamesOneMore content after e changed p n → IsNaming content e → NamesOthers content e n → IsPosition h → named content e h ≡ m
+    → ((x : ℕ) → x ≢ n → x ≢ m → after x ≡ content x) → (g : BlockPosition) → IsPosition g → (g ≡ p → ⊥) → (g ≡ h → ⊥) → block_bytes after (named after changed g) ≡ block_bytes content (named content e g)
 places_stay_but content after e changed p h n m more naming others h_there is stays g there not apart =
-    ap (part_bytes after) (more.rest g there not)
+    ap (block_bytes after) (more.rest g there not)
     ∙ same_bytes content after (named content e g) (λ some. stays (named content e g) (others g there) (λ same. apart (naming.distinct g h there h_there some (same ∙ sym is))))
 
--- and where the sector that a place names is written over.
-pub places_stay_by : (content after : Image) (e changed : Entry) (p : Place) (n : ℕ) → NamesOneMore content after e changed p n → IsNaming content e → IsPlace p → named content e p ≡ n
-    → ((x : ℕ) → x ≢ n → after x ≡ content x) → (g : Place) → IsPlace g → (g ≡ p → ⊥) → part_bytes after (named after changed g) ≡ part_bytes content (named content e g)
+-- and where the sector that a position names is written over.
+pub places_stay_by : (content after : Image) (e changed : Entry) (p : BlockPosition) (n : ℕ) → NamesOneMore content after e changed p n → IsNaming content e → IsPosition p → named content e p ≡ n
+    → ((x : ℕ) → x ≢ n → after x ≡ content x) → (g : BlockPosition) → IsPosition g → (g ≡ p → ⊥) → block_bytes after (named after changed g) ≡ block_bytes content (named content e g)
 places_stay_by content after e changed p n more naming p_there is stays g there not =
-    ap (part_bytes after) (more.rest g there not)
+    ap (block_bytes after) (more.rest g there not)
     ∙ same_bytes content after (named content e g) (λ some. stays (named content e g) (λ same. not (naming.distinct g p there p_there some (same ∙ sym is))))

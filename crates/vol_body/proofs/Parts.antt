@@ -1,11 +1,11 @@
--- The bytes of a file, part by part.
+-- The bytes of a file, data block by data block.
 use Rattle.std.proofs.Common.{◌≡◌, ◌≤◌, ◌<◌, ◌+◌, ◌/◌, ◌%◌, ℕ, zero, suc, List, [], ◌∷◌, ◌++◌, length, take, drop, get_or, sym, ◌∙◌, ap, arith}
 use Rattle.std.proofs.lemmas.List.{ext_get_or, length-take-le, length-drop, length-map, get_or-take, get_or-drop, drop-drop, take_at, drop_at}
 use Rattle.std.proofs.lemmas.List.FromFn.{get_or-map-range_with_len, length-range_with_len}
 use Rattle.std.specs.List.{range_with_len}
 use Rattle.vol_sector.specs.Disk.{Image}
 use Rattle.vol_inode.specs.declared.entry.Entry.{Entry}
-use Rattle.vol_body.specs.Body.{part, named, part_bytes, byte_at, bytes_of}
+use Rattle.vol_body.specs.Body.{data_block, named, block_bytes, byte_at, bytes_of}
 
 pub length-bytes_of : (content : Image) (e : Entry) → length (bytes_of content e) ≡ e.size
 length-bytes_of content e = length-map (range_with_len 0 e.size) (byte_at content e) ∙ length-range_with_len 0 e.size
@@ -13,8 +13,8 @@ length-bytes_of content e = length-map (range_with_len 0 e.size) (byte_at conten
 pub get_or-bytes_of : (content : Image) (e : Entry) (k : ℕ) → k < e.size → get_or (bytes_of content e) k 0 ≡ byte_at content e k
 get_or-bytes_of content e k lt = get_or-map-range_with_len (byte_at content e) 0 e.size k k 0 lt (omega arith)
 
--- bytes within one part are the file's
-pub part_of_bytes : (content : Image) (e : Entry) (image : List ℕ) (at n : ℕ) → length image ≡ 512 → image ≡ part_bytes content (named content e (part (at / 512)))
+-- bytes within one data block are the file's
+pub part_of_bytes : (content : Image) (e : Entry) (image : List ℕ) (at n : ℕ) → length image ≡ 512 → image ≡ block_bytes content (named content e (data_block (at / 512)))
     → at % 512 + n ≤ 512 → at + n ≤ e.size → take n (drop (at % 512) image) ≡ take n (drop at (bytes_of content e))
 part_of_bytes content e image at n long is fits within =
     ext_get_or 0 (take n (drop (at % 512) image)) (take n (drop at (bytes_of content e))) (left ∙ sym right) (λ k lt. each k (omega (arith, left)))
@@ -36,8 +36,8 @@ part_of_bytes content e image at n long is fits within =
         get_or-take n (drop (at % 512) image) k 0 lt
         ∙ get_or-drop (at % 512) image k 0
         ∙ ap (λ (l : List ℕ). get_or l (at % 512 + k) 0) is
-        ∙ sym (ap (λ (j : ℕ). get_or (part_bytes content (named content e (part j))) ((at + k) % 512) 0) (same_part k lt)
-        ∙ ap (λ (p : ℕ). get_or (part_bytes content (named content e (part (at / 512)))) p 0) (same_place k lt))
+        ∙ sym (ap (λ (j : ℕ). get_or (block_bytes content (named content e (data_block j))) ((at + k) % 512) 0) (same_part k lt)
+        ∙ ap (λ (p : ℕ). get_or (block_bytes content (named content e (data_block (at / 512)))) p 0) (same_place k lt))
         ∙ sym (get_or-bytes_of content e (at + k) (omega arith))
         ∙ sym (get_or-take n (drop at (bytes_of content e)) k 0 lt ∙ get_or-drop at (bytes_of content e) k 0)
 

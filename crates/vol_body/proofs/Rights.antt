@@ -10,7 +10,7 @@ use Rattle.vol_inode.specs.declared.version.Version.{Version}
 use Rattle.vol_inode.specs.declared.version.Version.TheVariants.{One, Two}
 use Rattle.vol_inode.specs.Entry.{IsEntry, HasWidths, first_part}
 use Rattle.vol_inode.specs.Space.{size_limit, sectors_of}
-use Rattle.vol_body.specs.Body.{part, list, lists, IsBody}
+use Rattle.vol_body.specs.Body.{data_block, indirect_block, double_indirect_block, IsBody}
 use Rattle.vol_body.proofs.Places.{part_direct}
 
 small_limit : (version : Version) → size_limit version ≤ 8483840
@@ -23,11 +23,11 @@ first_direct k lt = grind (arith, nat_tests)
 -- a pointer past the size is zero
 pointer_past : (content : Image) (e : Entry) → IsBody content e → (k : ℕ) → k < 60 → sectors_of e.size ≤ first_part k → get_or e.pointers k 0 ≡ 0
 pointer_past content e body k lt le = elim (cases_lt k 58) [
-  | inl direct ↦ sym (part_direct content e k direct) ∙ body.past (part k) (omega arith) (omega (arith, first_direct k (omega arith)))
+  | inl direct ↦ sym (part_direct content e k direct) ∙ body.past (data_block k) (omega arith) (omega (arith, first_direct k (omega arith)))
   | inr past ↦ elim (cases_eq k 58) [
-    | inl is ↦ ap (λ (j : ℕ). get_or e.pointers j 0) is ∙ body.past list tt (let one : first_part k ≡ 58 = ap first_part is in omega arith)
+    | inl is ↦ ap (λ (j : ℕ). get_or e.pointers j 0) is ∙ body.past indirect_block tt (let one : first_part k ≡ 58 = ap first_part is in omega arith)
     | inr other ↦ let last : k ≡ 59 = omega arith in
-        ap (λ (j : ℕ). get_or e.pointers j 0) last ∙ body.past lists tt (let one : first_part k ≡ 186 = ap first_part last in omega arith)
+        ap (λ (j : ℕ). get_or e.pointers j 0) last ∙ body.past double_indirect_block tt (let one : first_part k ≡ 186 = ap first_part last in omega arith)
   ]
 ]
 

@@ -5,7 +5,7 @@ use Rattle.std.proofs.lemmas.List.{ext_get_or}
 use Rattle.byteorder.specs.Endian.{little_number}
 use Rattle.vol_sector.specs.Disk.{Image}
 use Rattle.vol_inode.specs.declared.entry.Entry.{Entry}
-use Rattle.vol_body.specs.Body.{Place, part, list, lists, later_list, IsPlace, named, number_in, part_bytes, byte_at, bytes_of, IsBody, SameSectors, IsSameFile}
+use Rattle.vol_body.specs.Body.{BlockPosition, data_block, indirect_block, double_indirect_block, inner_block, IsPosition, named, number_in, block_bytes, byte_at, bytes_of, IsBody, SameSectors, IsSameFile}
 use Rattle.vol_body.proofs.Places.{number_there, bytes_there, part_direct, part_listed, part_later}
 use Rattle.vol_body.proofs.Parts.{length-bytes_of, get_or-bytes_of}
 
@@ -19,44 +19,44 @@ same_number one other n i stays = elim (cases_eq n 0) [
   | inr there ↦ number_there other n i there ∙ ap (λ (bytes : List ℕ). little_number 4 (drop (4 * i) bytes)) (stays there) ∙ sym (number_there one n i there)
 ]
 
-pub same_bytes : (one other : Image) (n : ℕ) → (n ≢ 0 → other n ≡ one n) → part_bytes other n ≡ part_bytes one n
+pub same_bytes : (one other : Image) (n : ℕ) → (n ≢ 0 → other n ≡ one n) → block_bytes other n ≡ block_bytes one n
 same_bytes one other n stays = elim (cases_eq n 0) [
-  | inl none ↦ ap (part_bytes other) none ∙ sym (ap (part_bytes one) none)
+  | inl none ↦ ap (block_bytes other) none ∙ sym (ap (block_bytes one) none)
   | inr there ↦ bytes_there other n there ∙ stays there ∙ sym (bytes_there one n there)
 ]
 
 module _ (one other : Image) (e : Entry) (stays : SameSectors one other e) where
-  same_later : (i : ℕ) → i < 128 → named other e (later_list i) ≡ named one e (later_list i)
-  same_later i lt = same_number one other (named one e lists) i (stays lists tt)
+  same_later : (i : ℕ) → i < 128 → named other e (inner_block i) ≡ named one e (inner_block i)
+  same_later i lt = same_number one other (named one e double_indirect_block) i (stays double_indirect_block tt)
 
-  same_part : (j : ℕ) → j < 16570 → named other e (part j) ≡ named one e (part j)
+  same_part : (j : ℕ) → j < 16570 → named other e (data_block j) ≡ named one e (data_block j)
   same_part j lt = elim (cases_lt j 58) [
     | inl direct ↦ part_direct other e j direct ∙ sym (part_direct one e j direct)
     | inr le ↦ elim (cases_lt j 186) [
-      | inl listed ↦ part_listed other e j le listed ∙ same_number one other (named one e list) (j - 58) (stays list tt) ∙ sym (part_listed one e j le listed)
+      | inl listed ↦ part_listed other e j le listed ∙ same_number one other (named one e indirect_block) (j - 58) (stays indirect_block tt) ∙ sym (part_listed one e j le listed)
       | inr later ↦
           let q = (j - 186) / 128 in
           let below : q < 128 = omega arith in
           part_later other e j later
           ∙ ap (λ (n : ℕ). number_in other n ((j - 186) % 128)) (same_later q below)
-          ∙ same_number one other (named one e (later_list q)) ((j - 186) % 128) (stays (later_list q) below)
+          ∙ same_number one other (named one e (inner_block q)) ((j - 186) % 128) (stays (inner_block q) below)
           ∙ sym (part_later one e j later)
     ]
   ]
 
-  same_names : (p : Place) → IsPlace p → named other e p ≡ named one e p
-  same_names (part j) there = same_part j there
-  same_names list there = refl
-  same_names lists there = refl
-  same_names (later_list i) there = same_later i there
+  same_names : (p : BlockPosition) → IsPosition p → named other e p ≡ named one e p
+  same_names (data_block j) there = same_part j there
+  same_names indirect_block there = refl
+  same_names double_indirect_block there = refl
+  same_names (inner_block i) there = same_later i there
 
   same_byte : (k : ℕ) → k < 8483840 → byte_at other e k ≡ byte_at one e k
   same_byte k lt =
       let j = k / 512 in
       let there : j < 16570 = omega arith in
-      let n = named one e (part j) in
-      ap (λ (m : ℕ). get_or (part_bytes other m) (k % 512) 0) (same_part j there)
-      ∙ ap (λ (bytes : List ℕ). get_or bytes (k % 512) 0) (same_bytes one other n (stays (part j) there))
+      let n = named one e (data_block j) in
+      ap (λ (m : ℕ). get_or (block_bytes other m) (k % 512) 0) (same_part j there)
+      ∙ ap (λ (bytes : List ℕ). get_or bytes (k % 512) 0) (same_bytes one other n (stays (data_block j) there))
 
   pub same_file : IsSameFile one other e
   same_file = record { names = same_names; bytes = same_byte }

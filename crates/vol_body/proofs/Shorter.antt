@@ -6,7 +6,7 @@ use Rattle.byteorder.specs.Endian.{little_number}
 use Rattle.vol_sector.specs.Disk.{Image}
 use Rattle.vol_inode.specs.declared.entry.Entry.{Entry}
 use Rattle.vol_inode.specs.Space.{sectors_of, lists_of}
-use Rattle.vol_body.specs.Body.{Place, part, list, lists, later_list, IsPlace, first_served, named, number_in, part_bytes, byte_at}
+use Rattle.vol_body.specs.Body.{BlockPosition, data_block, indirect_block, double_indirect_block, inner_block, IsPosition, first_served, named, number_in, block_bytes, byte_at}
 use Rattle.vol_body.specs.internal.Shorter.{kept_bytes, first_of_pointer, cut}
 use Rattle.vol_body.proofs.Places.{number_there, bytes_there, part_direct, part_listed, part_later}
 use Rattle.vol_body.proofs.Zeros.{get_or-zeros, get_or-cut, get_or-cut_past, number-cut, number-cut_past}
@@ -14,8 +14,8 @@ use Rattle.vol_body.proofs.Zeros.{get_or-zeros, get_or-cut, get_or-cut_past, num
 -- what is written where a file is made shorter
 pub record IsShorter (size : ℕ) (content after : Image) (e changed : Entry) : Type 0 where
   pub pointers : (j : ℕ) → j < 60 → get_or changed.pointers j 0 ≡ (if nat_lt (first_of_pointer j) (sectors_of size) then get_or e.pointers j 0 else 0)
-  pub whole : (p : Place) → IsPlace p → named content e p ≢ 0 → kept_bytes size p ≡ 512 → after (named content e p) ≡ content (named content e p)
-  pub cut : (p : Place) → IsPlace p → named content e p ≢ 0 → 0 < kept_bytes size p → kept_bytes size p < 512
+  pub whole : (p : BlockPosition) → IsPosition p → named content e p ≢ 0 → kept_bytes size p ≡ 512 → after (named content e p) ≡ content (named content e p)
+  pub cut : (p : BlockPosition) → IsPosition p → named content e p ≢ 0 → 0 < kept_bytes size p → kept_bytes size p < 512
       → after (named content e p) ≡ cut (kept_bytes size p) (content (named content e p))
 
 take_first : (a b x y : ℕ) → a < b → (if nat_lt a b then x else y) ≡ x
@@ -35,7 +35,7 @@ module _ (size : ℕ) (content after : Image) (e changed : Entry) (s : IsShorter
   pointer_lost j first lt is past = s.pointers j lt ∙ take_second (first_of_pointer j) (sectors_of size) _ _ (omega (arith, is, past))
 
   -- the numbers that a list keeps, and those that it loses
-  kept_number : (p : Place) (m i : ℕ) → IsPlace p → kept_bytes size p ≡ 4 * min 128 m → i < 128 → i < m → number_in after (named content e p) i ≡ number_in content (named content e p) i
+  kept_number : (p : BlockPosition) (m i : ℕ) → IsPosition p → kept_bytes size p ≡ 4 * min 128 m → i < 128 → i < m → number_in after (named content e p) i ≡ number_in content (named content e p) i
   kept_number p m i there keeps small lt =
       let n = named content e p in
       elim (cases_eq n 0) [
@@ -47,7 +47,7 @@ module _ (size : ℕ) (content after : Image) (e changed : Entry) (s : IsShorter
         ] ∙ sym (number_there content n i some)
       ]
 
-  lost_number : (p : Place) (m i : ℕ) → IsPlace p → kept_bytes size p ≡ 4 * min 128 m → i < 128 → 0 < m → m ≤ i → number_in after (named content e p) i ≡ 0
+  lost_number : (p : BlockPosition) (m i : ℕ) → IsPosition p → kept_bytes size p ≡ 4 * min 128 m → i < 128 → 0 < m → m ≤ i → number_in after (named content e p) i ≡ 0
   lost_number p m i there keeps small some_kept le =
       let n = named content e p in
       elim (cases_eq n 0) [
@@ -57,104 +57,104 @@ module _ (size : ℕ) (content after : Image) (e changed : Entry) (s : IsShorter
             ∙ number-cut_past (kept_bytes size p) (content n) i (omega (arith, keeps))
       ]
 
-  keeps_later : (i : ℕ) → i < 128 → 186 + 128 * i < sectors_of size → named after changed (later_list i) ≡ named content e (later_list i)
+  keeps_later : (i : ℕ) → i < 128 → 186 + 128 * i < sectors_of size → named after changed (inner_block i) ≡ named content e (inner_block i)
   keeps_later i lt kept =
       ap (λ (n : ℕ). number_in after n i) (pointer_kept 59 186 (omega arith) refl (omega arith))
-      ∙ kept_number lists (lists_of (sectors_of size - 186)) i tt refl lt (omega arith)
+      ∙ kept_number double_indirect_block (lists_of (sectors_of size - 186)) i tt refl lt (omega arith)
 
-  loses_later : (i : ℕ) → i < 128 → sectors_of size ≤ 186 + 128 * i → named after changed (later_list i) ≡ 0
+  loses_later : (i : ℕ) → i < 128 → sectors_of size ≤ 186 + 128 * i → named after changed (inner_block i) ≡ 0
   loses_later i lt past = elim (cases_lt 186 (sectors_of size)) [
     | inl more ↦ ap (λ (n : ℕ). number_in after n i) (pointer_kept 59 186 (omega arith) refl more)
-        ∙ lost_number lists (lists_of (sectors_of size - 186)) i tt refl lt (omega arith) (omega arith)
+        ∙ lost_number double_indirect_block (lists_of (sectors_of size - 186)) i tt refl lt (omega arith) (omega arith)
     | inr few ↦ ap (λ (n : ℕ). number_in after n i) (pointer_lost 59 186 (omega arith) refl few)
   ]
 
-  keeps_part : (j : ℕ) → j < 16570 → j < sectors_of size → named after changed (part j) ≡ named content e (part j)
+  keeps_part : (j : ℕ) → j < 16570 → j < sectors_of size → named after changed (data_block j) ≡ named content e (data_block j)
   keeps_part j there kept = elim (cases_lt j 58) [
     | inl direct ↦ part_direct after changed j direct ∙ pointer_kept j j (omega arith) (direct_first j direct) kept ∙ sym (part_direct content e j direct)
     | inr past ↦ elim (cases_lt j 186) [
       | inl listed ↦ part_listed after changed j past listed
           ∙ ap (λ (n : ℕ). number_in after n (j - 58)) (pointer_kept 58 58 (omega arith) refl (omega arith))
-          ∙ kept_number list (sectors_of size - 58) (j - 58) tt refl (omega arith) (omega arith)
+          ∙ kept_number indirect_block (sectors_of size - 58) (j - 58) tt refl (omega arith) (omega arith)
           ∙ sym (part_listed content e j past listed)
       | inr later ↦
           let q = (j - 186) / 128 in
           let below : q < 128 = omega arith in
           part_later after changed j later
           ∙ ap (λ (n : ℕ). number_in after n ((j - 186) % 128)) (keeps_later q below (omega arith))
-          ∙ kept_number (later_list q) (sectors_of size - (186 + 128 * q)) ((j - 186) % 128) below refl (omega arith) (omega arith)
+          ∙ kept_number (inner_block q) (sectors_of size - (186 + 128 * q)) ((j - 186) % 128) below refl (omega arith) (omega arith)
           ∙ sym (part_later content e j later)
     ]
   ]
 
-  loses_part : (j : ℕ) → j < 16570 → sectors_of size ≤ j → named after changed (part j) ≡ 0
+  loses_part : (j : ℕ) → j < 16570 → sectors_of size ≤ j → named after changed (data_block j) ≡ 0
   loses_part j there lost = elim (cases_lt j 58) [
     | inl direct ↦ part_direct after changed j direct ∙ pointer_lost j j (omega arith) (direct_first j direct) lost
     | inr past ↦ elim (cases_lt j 186) [
       | inl listed ↦ part_listed after changed j past listed ∙ elim (cases_lt 58 (sectors_of size)) [
         | inl more ↦ ap (λ (n : ℕ). number_in after n (j - 58)) (pointer_kept 58 58 (omega arith) refl more)
-            ∙ lost_number list (sectors_of size - 58) (j - 58) tt refl (omega arith) (omega arith) (omega arith)
+            ∙ lost_number indirect_block (sectors_of size - 58) (j - 58) tt refl (omega arith) (omega arith) (omega arith)
         | inr few ↦ ap (λ (n : ℕ). number_in after n (j - 58)) (pointer_lost 58 58 (omega arith) refl few)
       ]
       | inr later ↦ loses_later_part j there later lost
     ]
   ]
     where
-      loses_later_part : (j : ℕ) → j < 16570 → 186 ≤ j → sectors_of size ≤ j → named after changed (part j) ≡ 0
+      loses_later_part : (j : ℕ) → j < 16570 → 186 ≤ j → sectors_of size ≤ j → named after changed (data_block j) ≡ 0
       loses_later_part j there later lost =
           let q = (j - 186) / 128 in
           let below : q < 128 = omega arith in
           part_later after changed j later ∙ elim (cases_lt (186 + 128 * q) (sectors_of size)) [
             | inl kept ↦ ap (λ (n : ℕ). number_in after n ((j - 186) % 128)) (keeps_later q below kept)
-                ∙ lost_number (later_list q) (sectors_of size - (186 + 128 * q)) ((j - 186) % 128) below refl (omega arith) (omega arith) (omega arith)
+                ∙ lost_number (inner_block q) (sectors_of size - (186 + 128 * q)) ((j - 186) % 128) below refl (omega arith) (omega arith) (omega arith)
             | inr gone ↦ ap (λ (n : ℕ). number_in after n ((j - 186) % 128)) (loses_later q below gone)
           ]
 
-  pub keeps : (p : Place) → IsPlace p → first_served p < sectors_of size → named after changed p ≡ named content e p
-  keeps (part j) there kept = keeps_part j there kept
-  keeps list there kept = pointer_kept 58 58 (omega arith) refl kept
-  keeps lists there kept = pointer_kept 59 186 (omega arith) refl kept
-  keeps (later_list i) there kept = keeps_later i there kept
+  pub keeps : (p : BlockPosition) → IsPosition p → first_served p < sectors_of size → named after changed p ≡ named content e p
+  keeps (data_block j) there kept = keeps_part j there kept
+  keeps indirect_block there kept = pointer_kept 58 58 (omega arith) refl kept
+  keeps double_indirect_block there kept = pointer_kept 59 186 (omega arith) refl kept
+  keeps (inner_block i) there kept = keeps_later i there kept
 
-  pub loses : (p : Place) → IsPlace p → sectors_of size ≤ first_served p → named after changed p ≡ 0
-  loses (part j) there lost = loses_part j there lost
-  loses list there lost = pointer_lost 58 58 (omega arith) refl lost
-  loses lists there lost = pointer_lost 59 186 (omega arith) refl lost
-  loses (later_list i) there lost = loses_later i there lost
+  pub loses : (p : BlockPosition) → IsPosition p → sectors_of size ≤ first_served p → named after changed p ≡ 0
+  loses (data_block j) there lost = loses_part j there lost
+  loses indirect_block there lost = pointer_lost 58 58 (omega arith) refl lost
+  loses double_indirect_block there lost = pointer_lost 59 186 (omega arith) refl lost
+  loses (inner_block i) there lost = loses_later i there lost
 
-  -- a part that is there has its first bytes, and then zeros
-  kept_byte : (j i : ℕ) → j < 16570 → i < 512 → 512 * j + i < size → get_or (part_bytes after (named content e (part j))) i 0 ≡ get_or (part_bytes content (named content e (part j))) i 0
+  -- a data block that is there has its first bytes, and then zeros
+  kept_byte : (j i : ℕ) → j < 16570 → i < 512 → 512 * j + i < size → get_or (block_bytes after (named content e (data_block j))) i 0 ≡ get_or (block_bytes content (named content e (data_block j))) i 0
   kept_byte j i there small lt =
-      let n = named content e (part j) in
+      let n = named content e (data_block j) in
       elim (cases_eq n 0) [
-        | inl none ↦ ap (λ (x : ℕ). get_or (part_bytes after x) i 0) none ∙ sym (ap (λ (x : ℕ). get_or (part_bytes content x) i 0) none)
-        | inr some ↦ ap (λ (bytes : List ℕ). get_or bytes i 0) (bytes_there after n some) ∙ elim (cases_lt (kept_bytes size (part j)) 512) [
-          | inl short ↦ ap (λ (bytes : List ℕ). get_or bytes i 0) (s.cut (part j) there some (omega arith) short)
-              ∙ get_or-cut (kept_bytes size (part j)) (content n) i (omega arith)
-          | inr long ↦ ap (λ (bytes : List ℕ). get_or bytes i 0) (s.whole (part j) there some (omega arith))
+        | inl none ↦ ap (λ (x : ℕ). get_or (block_bytes after x) i 0) none ∙ sym (ap (λ (x : ℕ). get_or (block_bytes content x) i 0) none)
+        | inr some ↦ ap (λ (bytes : List ℕ). get_or bytes i 0) (bytes_there after n some) ∙ elim (cases_lt (kept_bytes size (data_block j)) 512) [
+          | inl short ↦ ap (λ (bytes : List ℕ). get_or bytes i 0) (s.cut (data_block j) there some (omega arith) short)
+              ∙ get_or-cut (kept_bytes size (data_block j)) (content n) i (omega arith)
+          | inr long ↦ ap (λ (bytes : List ℕ). get_or bytes i 0) (s.whole (data_block j) there some (omega arith))
         ] ∙ sym (ap (λ (bytes : List ℕ). get_or bytes i 0) (bytes_there content n some))
       ]
 
-  lost_byte : (j i : ℕ) → j < 16570 → i < 512 → j < sectors_of size → size ≤ 512 * j + i → get_or (part_bytes after (named content e (part j))) i 0 ≡ 0
+  lost_byte : (j i : ℕ) → j < 16570 → i < 512 → j < sectors_of size → size ≤ 512 * j + i → get_or (block_bytes after (named content e (data_block j))) i 0 ≡ 0
   lost_byte j i there small kept le =
-      let n = named content e (part j) in
+      let n = named content e (data_block j) in
       elim (cases_eq n 0) [
-        | inl none ↦ ap (λ (x : ℕ). get_or (part_bytes after x) i 0) none ∙ get_or-zeros 512 i
-        | inr some ↦ ap (λ (bytes : List ℕ). get_or bytes i 0) (bytes_there after n some ∙ s.cut (part j) there some (omega arith) (omega arith))
-            ∙ get_or-cut_past (kept_bytes size (part j)) (content n) i (omega arith)
+        | inl none ↦ ap (λ (x : ℕ). get_or (block_bytes after x) i 0) none ∙ get_or-zeros 512 i
+        | inr some ↦ ap (λ (bytes : List ℕ). get_or bytes i 0) (bytes_there after n some ∙ s.cut (data_block j) there some (omega arith) (omega arith))
+            ∙ get_or-cut_past (kept_bytes size (data_block j)) (content n) i (omega arith)
       ]
 
   pub kept_byte_at : (k : ℕ) → k < 8483840 → k < size → byte_at after changed k ≡ byte_at content e k
   kept_byte_at k small lt =
       let j = k / 512 in
       let there : j < 16570 = omega arith in
-      ap (λ (n : ℕ). get_or (part_bytes after n) (k % 512) 0) (keeps_part j there (omega arith)) ∙ kept_byte j (k % 512) there (omega arith) (omega arith)
+      ap (λ (n : ℕ). get_or (block_bytes after n) (k % 512) 0) (keeps_part j there (omega arith)) ∙ kept_byte j (k % 512) there (omega arith) (omega arith)
 
   pub lost_byte_at : (k : ℕ) → k < 8483840 → size ≤ k → byte_at after changed k ≡ 0
   lost_byte_at k small le =
       let j = k / 512 in
       let there : j < 16570 = omega arith in
       elim (cases_lt j (sectors_of size)) [
-        | inl kept ↦ ap (λ (n : ℕ). get_or (part_bytes after n) (k % 512) 0) (keeps_part j there kept) ∙ lost_byte j (k % 512) there (omega arith) kept (omega arith)
-        | inr lost ↦ ap (λ (n : ℕ). get_or (part_bytes after n) (k % 512) 0) (loses_part j there lost) ∙ get_or-zeros 512 (k % 512)
+        | inl kept ↦ ap (λ (n : ℕ). get_or (block_bytes after n) (k % 512) 0) (keeps_part j there kept) ∙ lost_byte j (k % 512) there (omega arith) kept (omega arith)
+        | inr lost ↦ ap (λ (n : ℕ). get_or (block_bytes after n) (k % 512) 0) (loses_part j there lost) ∙ get_or-zeros 512 (k % 512)
       ]

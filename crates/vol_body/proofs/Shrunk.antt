@@ -8,9 +8,9 @@ use Rattle.vol_inode.specs.declared.entry.Entry.{Entry}
 use Rattle.vol_inode.specs.Space.{sectors_of}
 use Rattle.vol_body.specs.declared.cutting.Cut.{Cut}
 use Rattle.vol_body.specs.declared.cutting.Cuts.{Cuts}
-use Rattle.vol_body.specs.Body.{Place, part, list, lists, later_list, IsPlace, first_served, named, bytes_of, IsBody, NamesTaken}
+use Rattle.vol_body.specs.Body.{BlockPosition, data_block, indirect_block, double_indirect_block, inner_block, IsPosition, first_served, named, bytes_of, IsBody, NamesTaken}
 use Rattle.vol_body.specs.Change.{resized, OthersStay, TakesAndGives}
-use Rattle.vol_body.specs.internal.Shorter.{kept_bytes, first_of_pointer, last_part, cut_list, last_list, cut, IsCut, AreCuts, AreWithin, with_cut, with_cuts, Gives, Goes}
+use Rattle.vol_body.specs.internal.Shorter.{kept_bytes, first_of_pointer, last_data_block, cut_indirect_block, last_inner_block, cut, IsCut, AreCuts, AreWithin, with_cut, with_cuts, Gives, Goes}
 use Rattle.vol_body.proofs.Parts.{length-bytes_of, get_or-bytes_of}
 use Rattle.vol_body.proofs.Cuts.{put_past, cut_elsewhere, cut_there}
 use Rattle.vol_body.proofs.Shorter.{IsShorter, keeps, loses, kept_byte_at, lost_byte_at}
@@ -28,31 +28,31 @@ pub record Shrinks (size place first end : ℕ) (content : Image) (e changed : E
   pub small : e.size ≤ 8483840
   pub slot : (n : ℕ) → was n ≡ true → n ≢ place
 
-many_lists : (count : ℕ) → 186 < count → (if nat_lt 186 count then lists else list) ≡ lists
+many_lists : (count : ℕ) → 186 < count → (if nat_lt 186 count then double_indirect_block else indirect_block) ≡ double_indirect_block
 many_lists count lt = grind (arith, nat_tests)
 
-one_list : (count : ℕ) → count ≤ 186 → (if nat_lt 186 count then lists else list) ≡ list
+one_list : (count : ℕ) → count ≤ 186 → (if nat_lt 186 count then double_indirect_block else indirect_block) ≡ indirect_block
 one_list count le = grind (arith, nat_tests)
 
--- a place of which a beginning alone is kept
-one_of_three : (size : ℕ) (p : Place) → 0 < kept_bytes size p → kept_bytes size p < 512 → (p ≡ last_part size) ⊎ ((p ≡ cut_list size) ⊎ (p ≡ last_list size))
-one_of_three size (part j) some short = inl (let at : j ≡ sectors_of size - 1 = omega arith in ap part at)
-one_of_three size list some short = inr (inl (sym (one_list (sectors_of size) (omega arith))))
-one_of_three size lists some short = inr (inl (sym (many_lists (sectors_of size) (omega arith))))
-one_of_three size (later_list i) some short = inr (inr (let at : i ≡ (sectors_of size - 187) / 128 = omega arith in ap later_list at))
+-- a position of which a beginning alone is kept
+one_of_three : (size : ℕ) (p : BlockPosition) → 0 < kept_bytes size p → kept_bytes size p < 512 → (p ≡ last_data_block size) ⊎ ((p ≡ cut_indirect_block size) ⊎ (p ≡ last_inner_block size))
+one_of_three size (data_block j) some short = inl (let at : j ≡ sectors_of size - 1 = omega arith in ap data_block at)
+one_of_three size indirect_block some short = inr (inl (sym (one_list (sectors_of size) (omega arith))))
+one_of_three size double_indirect_block some short = inr (inl (sym (many_lists (sectors_of size) (omega arith))))
+one_of_three size (inner_block i) some short = inr (inr (let at : i ≡ (sectors_of size - 187) / 128 = omega arith in ap inner_block at))
 
-part_no_list : (b : Bool) (j : ℕ) → part j ≡ (if b then lists else list) → ⊥
+part_no_list : (b : Bool) (j : ℕ) → data_block j ≡ (if b then double_indirect_block else indirect_block) → ⊥
 part_no_list true j is = cc
 part_no_list false j is = cc
 
-later_no_list : (b : Bool) (i : ℕ) → later_list i ≡ (if b then lists else list) → ⊥
+later_no_list : (b : Bool) (i : ℕ) → inner_block i ≡ (if b then double_indirect_block else indirect_block) → ⊥
 later_no_list true i is = cc
 later_no_list false i is = cc
 
-part_no_later : (i j : ℕ) → part j ≡ later_list i → ⊥
+part_no_later : (i j : ℕ) → data_block j ≡ inner_block i → ⊥
 part_no_later i j is = cc
 
-list_there : (b : Bool) → IsPlace (if b then lists else list)
+list_there : (b : Bool) → IsPosition (if b then double_indirect_block else indirect_block)
 list_there true = tt
 list_there false = tt
 
@@ -68,69 +68,69 @@ module _ (size place first end : ℕ) (content : Image) (e changed : Entry) (cut
   abbrev pub after : Image
   after = put place bytes (with_cuts cuts content)
 
-  part_there : IsPlace (last_part size)
+  part_there : IsPosition (last_data_block size)
   part_there = omega (arith, s.shorter, s.small)
 
-  last_there : IsPlace (last_list size)
+  last_there : IsPosition (last_inner_block size)
   last_there = omega (arith, s.shorter, s.small)
 
-  -- what is written for one place isn't the sector of another
-  apart : (p q : Place) (kept : ℕ) (c : Cut) → IsPlace p → IsPlace q → (p ≡ q → ⊥) → named content e p ≢ 0 → IsCut content (named content e q) kept c → c.sector ≢ 0 → c.sector ≢ named content e p
+  -- what is written for one position isn't the sector of another
+  apart : (p q : BlockPosition) (kept : ℕ) (c : Cut) → IsPosition p → IsPosition q → (p ≡ q → ⊥) → named content e p ≢ 0 → IsCut content (named content e q) kept c → c.sector ≢ 0 → c.sector ≢ named content e p
   apart p q kept c a b other some is set same = other (s.body.distinct p q a b some (sym same ∙ is.sector set))
 
-  untouched : (n : ℕ) → (cuts.part.sector ≢ 0 → cuts.part.sector ≢ n) → (cuts.list.sector ≢ 0 → cuts.list.sector ≢ n) → (cuts.last.sector ≢ 0 → cuts.last.sector ≢ n) → with_cuts cuts content n ≡ content n
+  untouched : (n : ℕ) → (cuts.data_block.sector ≢ 0 → cuts.data_block.sector ≢ n) → (cuts.indirect_block.sector ≢ 0 → cuts.indirect_block.sector ≢ n) → (cuts.last.sector ≢ 0 → cuts.last.sector ≢ n) → with_cuts cuts content n ≡ content n
   untouched n a b c =
-      cut_elsewhere cuts.last (with_cut cuts.list (with_cut cuts.part content)) n c ∙ cut_elsewhere cuts.list (with_cut cuts.part content) n b ∙ cut_elsewhere cuts.part content n a
+      cut_elsewhere cuts.last (with_cut cuts.indirect_block (with_cut cuts.data_block content)) n c ∙ cut_elsewhere cuts.indirect_block (with_cut cuts.data_block content) n b ∙ cut_elsewhere cuts.data_block content n a
 
   elsewhere : (n : ℕ) → n ≢ place → after n ≡ with_cuts cuts content n
   elsewhere n other = put_past place n bytes (with_cuts cuts content) other
 
-  named_elsewhere : (p : Place) → IsPlace p → named content e p ≢ 0 → after (named content e p) ≡ with_cuts cuts content (named content e p)
+  named_elsewhere : (p : BlockPosition) → IsPosition p → named content e p ≢ 0 → after (named content e p) ≡ with_cuts cuts content (named content e p)
   named_elsewhere p there some = elsewhere (named content e p) (s.slot (named content e p) (s.names p there some))
 
-  whole_stays : (p : Place) → IsPlace p → named content e p ≢ 0 → kept_bytes size p ≡ 512 → after (named content e p) ≡ content (named content e p)
+  whole_stays : (p : BlockPosition) → IsPosition p → named content e p ≢ 0 → kept_bytes size p ≡ 512 → after (named content e p) ≡ content (named content e p)
   whole_stays p there some whole =
-      let long : (q : Place) (c : Cut) → IsCut content (named content e q) (kept_bytes size q) c → c.sector ≢ 0 → p ≡ q → ⊥ = λ q c is set same.
+      let long : (q : BlockPosition) (c : Cut) → IsCut content (named content e q) (kept_bytes size q) c → c.sector ≢ 0 → p ≡ q → ⊥ = λ q c is set same.
       let kept : kept_bytes size p ≡ kept_bytes size q = ap (kept_bytes size) same in omega (arith, is.short set, kept, whole) in
       named_elsewhere p there some
       ∙ untouched (named content e p)
-      (λ set. apart p (last_part size) (kept_bytes size (last_part size)) cuts.part there part_there (long (last_part size) cuts.part s.are_cut.part set) some s.are_cut.part set)
-      (λ set. apart p (cut_list size) (kept_bytes size (cut_list size)) cuts.list there (list_there (nat_lt 186 (sectors_of size))) (long (cut_list size) cuts.list s.are_cut.list set) some s.are_cut.list set)
-      (λ set. apart p (last_list size) (kept_bytes size (last_list size)) cuts.last there last_there (long (last_list size) cuts.last s.are_cut.last set) some s.are_cut.last set)
+      (λ set. apart p (last_data_block size) (kept_bytes size (last_data_block size)) cuts.data_block there part_there (long (last_data_block size) cuts.data_block s.are_cut.data_block set) some s.are_cut.data_block set)
+      (λ set. apart p (cut_indirect_block size) (kept_bytes size (cut_indirect_block size)) cuts.indirect_block there (list_there (nat_lt 186 (sectors_of size))) (long (cut_indirect_block size) cuts.indirect_block s.are_cut.indirect_block set) some s.are_cut.indirect_block set)
+      (λ set. apart p (last_inner_block size) (kept_bytes size (last_inner_block size)) cuts.last there last_there (long (last_inner_block size) cuts.last s.are_cut.last set) some s.are_cut.last set)
 
   -- each of the three sectors is cut
-  abbrev IsCutAt : Place → Type 0
+  abbrev IsCutAt : BlockPosition → Type 0
   IsCutAt p = named content e p ≢ 0 → 0 < kept_bytes size p → kept_bytes size p < 512 → with_cuts cuts content (named content e p) ≡ cut (kept_bytes size p) (content (named content e p))
 
-  cuts_part : IsCutAt (last_part size)
+  cuts_part : IsCutAt (last_data_block size)
   cuts_part some kept short =
-      let p = last_part size in
+      let p = last_data_block size in
       let n = named content e p in
-      let two = λ (set : cuts.list.sector ≢ 0). apart p (cut_list size) (kept_bytes size (cut_list size)) cuts.list part_there (list_there (nat_lt 186 (sectors_of size))) (part_no_list (nat_lt 186 (sectors_of size)) (sectors_of size - 1)) some s.are_cut.list set in
-      let three = λ (set : cuts.last.sector ≢ 0). apart p (last_list size) (kept_bytes size (last_list size)) cuts.last part_there last_there (part_no_later ((sectors_of size - 187) / 128) (sectors_of size - 1)) some s.are_cut.last set in
-      cut_elsewhere cuts.last (with_cut cuts.list (with_cut cuts.part content)) n three
-      ∙ cut_elsewhere cuts.list (with_cut cuts.part content) n two
-      ∙ cut_there content n (kept_bytes size p) cuts.part content s.are_cut.part some kept short refl
+      let two = λ (set : cuts.indirect_block.sector ≢ 0). apart p (cut_indirect_block size) (kept_bytes size (cut_indirect_block size)) cuts.indirect_block part_there (list_there (nat_lt 186 (sectors_of size))) (part_no_list (nat_lt 186 (sectors_of size)) (sectors_of size - 1)) some s.are_cut.indirect_block set in
+      let three = λ (set : cuts.last.sector ≢ 0). apart p (last_inner_block size) (kept_bytes size (last_inner_block size)) cuts.last part_there last_there (part_no_later ((sectors_of size - 187) / 128) (sectors_of size - 1)) some s.are_cut.last set in
+      cut_elsewhere cuts.last (with_cut cuts.indirect_block (with_cut cuts.data_block content)) n three
+      ∙ cut_elsewhere cuts.indirect_block (with_cut cuts.data_block content) n two
+      ∙ cut_there content n (kept_bytes size p) cuts.data_block content s.are_cut.data_block some kept short refl
 
-  cuts_list : IsCutAt (cut_list size)
+  cuts_list : IsCutAt (cut_indirect_block size)
   cuts_list some kept short =
-      let p = cut_list size in
+      let p = cut_indirect_block size in
       let n = named content e p in
       let there = list_there (nat_lt 186 (sectors_of size)) in
-      let one = λ (set : cuts.part.sector ≢ 0). apart p (last_part size) (kept_bytes size (last_part size)) cuts.part there part_there (λ is. part_no_list (nat_lt 186 (sectors_of size)) (sectors_of size - 1) (sym is)) some s.are_cut.part set in
-      let three = λ (set : cuts.last.sector ≢ 0). apart p (last_list size) (kept_bytes size (last_list size)) cuts.last there last_there (λ is. later_no_list (nat_lt 186 (sectors_of size)) ((sectors_of size - 187) / 128) (sym is)) some s.are_cut.last set in
-      cut_elsewhere cuts.last (with_cut cuts.list (with_cut cuts.part content)) n three
-      ∙ cut_there content n (kept_bytes size p) cuts.list (with_cut cuts.part content) s.are_cut.list some kept short (cut_elsewhere cuts.part content n one)
+      let one = λ (set : cuts.data_block.sector ≢ 0). apart p (last_data_block size) (kept_bytes size (last_data_block size)) cuts.data_block there part_there (λ is. part_no_list (nat_lt 186 (sectors_of size)) (sectors_of size - 1) (sym is)) some s.are_cut.data_block set in
+      let three = λ (set : cuts.last.sector ≢ 0). apart p (last_inner_block size) (kept_bytes size (last_inner_block size)) cuts.last there last_there (λ is. later_no_list (nat_lt 186 (sectors_of size)) ((sectors_of size - 187) / 128) (sym is)) some s.are_cut.last set in
+      cut_elsewhere cuts.last (with_cut cuts.indirect_block (with_cut cuts.data_block content)) n three
+      ∙ cut_there content n (kept_bytes size p) cuts.indirect_block (with_cut cuts.data_block content) s.are_cut.indirect_block some kept short (cut_elsewhere cuts.data_block content n one)
 
-  cuts_last : IsCutAt (last_list size)
+  cuts_last : IsCutAt (last_inner_block size)
   cuts_last some kept short =
-      let p = last_list size in
+      let p = last_inner_block size in
       let n = named content e p in
-      let one = λ (set : cuts.part.sector ≢ 0). apart p (last_part size) (kept_bytes size (last_part size)) cuts.part last_there part_there (λ is. part_no_later ((sectors_of size - 187) / 128) (sectors_of size - 1) (sym is)) some s.are_cut.part set in
-      let two = λ (set : cuts.list.sector ≢ 0). apart p (cut_list size) (kept_bytes size (cut_list size)) cuts.list last_there (list_there (nat_lt 186 (sectors_of size))) (later_no_list (nat_lt 186 (sectors_of size)) ((sectors_of size - 187) / 128)) some s.are_cut.list set in
-      cut_there content n (kept_bytes size p) cuts.last (with_cut cuts.list (with_cut cuts.part content)) s.are_cut.last some kept short (cut_elsewhere cuts.list (with_cut cuts.part content) n two ∙ cut_elsewhere cuts.part content n one)
+      let one = λ (set : cuts.data_block.sector ≢ 0). apart p (last_data_block size) (kept_bytes size (last_data_block size)) cuts.data_block last_there part_there (λ is. part_no_later ((sectors_of size - 187) / 128) (sectors_of size - 1) (sym is)) some s.are_cut.data_block set in
+      let two = λ (set : cuts.indirect_block.sector ≢ 0). apart p (cut_indirect_block size) (kept_bytes size (cut_indirect_block size)) cuts.indirect_block last_there (list_there (nat_lt 186 (sectors_of size))) (later_no_list (nat_lt 186 (sectors_of size)) ((sectors_of size - 187) / 128)) some s.are_cut.indirect_block set in
+      cut_there content n (kept_bytes size p) cuts.last (with_cut cuts.indirect_block (with_cut cuts.data_block content)) s.are_cut.last some kept short (cut_elsewhere cuts.indirect_block (with_cut cuts.data_block content) n two ∙ cut_elsewhere cuts.data_block content n one)
 
-  cuts_place : (p : Place) → IsCutAt p
+  cuts_place : (p : BlockPosition) → IsCutAt p
   cuts_place p some kept short = ⊎_elim (λ is. subst IsCutAt (sym is) cuts_part some kept short)
       (λ either. ⊎_elim (λ is. subst IsCutAt (sym is) cuts_list some kept short) (λ is. subst IsCutAt (sym is) cuts_last some kept short) either)
       (one_of_three size p kept short)
@@ -146,15 +146,15 @@ module _ (size place first end : ℕ) (content : Image) (e changed : Entry) (cut
   shrunk_others = record {
     outside = λ n other out.
         let out_of = out_of_range first end n out in
-        elsewhere n other ∙ untouched n (λ set. out_of cuts.part.sector (s.within.part set)) (λ set. out_of cuts.list.sector (s.within.list set)) (λ set. out_of cuts.last.sector (s.within.last set));
+        elsewhere n other ∙ untouched n (λ set. out_of cuts.data_block.sector (s.within.data_block set)) (λ set. out_of cuts.indirect_block.sector (s.within.indirect_block set)) (λ set. out_of cuts.last.sector (s.within.last set));
     taken = λ n other is_taken foreign. elsewhere n other ∙ untouched n
-        (λ set is. foreign (last_part size) part_there (sym (s.are_cut.part.sector set) ∙ is))
-        (λ set is. foreign (cut_list size) (list_there (nat_lt 186 (sectors_of size))) (sym (s.are_cut.list.sector set) ∙ is))
-        (λ set is. foreign (last_list size) last_there (sym (s.are_cut.last.sector set) ∙ is));
+        (λ set is. foreign (last_data_block size) part_there (sym (s.are_cut.data_block.sector set) ∙ is))
+        (λ set is. foreign (cut_indirect_block size) (list_there (nat_lt 186 (sectors_of size))) (sym (s.are_cut.indirect_block.sector set) ∙ is))
+        (λ set is. foreign (last_inner_block size) last_there (sym (s.are_cut.last.sector set) ∙ is));
   }
 
-  -- what the file names now it named before, at a place that is kept
-  named_before : (p : Place) → IsPlace p → named after changed p ≢ 0 → (first_served p < sectors_of size) × (named after changed p ≡ named content e p)
+  -- what the file names now it named before, at a position that is kept
+  named_before : (p : BlockPosition) → IsPosition p → named after changed p ≢ 0 → (first_served p < sectors_of size) × (named after changed p ≡ named content e p)
   named_before p there some = elim (cases_lt (first_served p) (sectors_of size)) [
     | inl kept ↦ (kept, keeps size content after e changed shorter p there kept)
     | inr lost ↦ absurd (some (loses size content after e changed shorter p there lost))
@@ -182,13 +182,13 @@ module _ (size place first end : ℕ) (content : Image) (e changed : Entry) (cut
       ∙ sym (get_or-take size (old ++ more) k 0 below ∙ get_or_append_left old more 0 k (omega (arith, below, length-bytes_of content e, s.shorter)) ∙ get_or-bytes_of content e k (omega (arith, below, s.shorter))))
 
   -- what goes isn't named any more
-  kept_stays : (p : Place) → IsPlace p → first_served p < sectors_of size → named content e p ≢ 0 → Goes content e (sectors_of size) (named content e p) → ⊥
+  kept_stays : (p : BlockPosition) → IsPosition p → first_served p < sectors_of size → named content e p ≢ 0 → Goes content e (sectors_of size) (named content e p) → ⊥
   kept_stays p there kept some goes =
       let same : p ≡ goes.0 = s.body.distinct p goes.0 there goes.1 some (sym goes.3) in
       let at : first_served p ≡ first_served goes.0 = ap first_served same in
       omega (arith, kept, goes.2, at)
 
-  now_taken : (p : Place) → IsPlace p → named after changed p ≢ 0 → now (named after changed p) ≡ true
+  now_taken : (p : BlockPosition) → IsPosition p → named after changed p ≢ 0 → now (named after changed p) ≡ true
   now_taken p there some =
       let before = named_before p there some in
       let was_some : named content e p ≢ 0 = λ none. some (before.1 ∙ none) in
@@ -198,14 +198,14 @@ module _ (size place first end : ℕ) (content : Image) (e changed : Entry) (cut
   shrunk_taken = record {
     taken = now_taken;
     fresh = λ n is foreign.
-        let p = is.place.0 in
-        let before = named_before p is.place.1 (λ none. is.some (sym is.place.2 ∙ none)) in
-        absurd (foreign p is.place.1 (sym before.1 ∙ is.place.2));
+        let p = is.position.0 in
+        let before = named_before p is.position.1 (λ none. is.some (sym is.position.2 ∙ none)) in
+        absurd (foreign p is.position.1 (sym before.1 ∙ is.position.2));
     given = λ n was_named foreign.
-        let p = was_named.place.0 in
+        let p = was_named.position.0 in
         elim (cases_lt (first_served p) (sectors_of size)) [
-          | inl kept ↦ absurd (foreign p was_named.place.1 (keeps size content after e changed shorter p was_named.place.1 kept ∙ was_named.place.2))
-          | inr lost ↦ false_if (now n) (s.gives.given n (p, was_named.place.1, lost, was_named.place.2))
+          | inl kept ↦ absurd (foreign p was_named.position.1 (keeps size content after e changed shorter p was_named.position.1 kept ∙ was_named.position.2))
+          | inr lost ↦ false_if (now n) (s.gives.given n (p, was_named.position.1, lost, was_named.position.2))
         ];
     others = λ n foreign foreign_now. s.gives.others n (λ goes. foreign goes.0 goes.1 goes.3);
   }

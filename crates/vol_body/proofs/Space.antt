@@ -10,10 +10,10 @@ use Rattle.std.proofs.lemmas.List.FromFn.{take-map-range_with_len, length-range_
 use Rattle.vol_sector.specs.Disk.{Image}
 use Rattle.vol_inode.specs.declared.entry.Entry.{Entry}
 use Rattle.vol_inode.specs.Space.{sectors_of, lists_of, need_of}
-use Rattle.vol_body.specs.Body.{Place, part, list, lists, later_list, IsPlace, first_served, named, places_of}
+use Rattle.vol_body.specs.Body.{BlockPosition, data_block, indirect_block, double_indirect_block, inner_block, IsPosition, first_served, named, positions_of}
 use Rattle.vol_body.specs.Change.{used_of}
 use Rattle.vol_body.specs.internal.Naming.{NamesOneMore}
-use Rattle.vol_body.proofs.Needed.{place_there, length-places_of}
+use Rattle.vol_body.proofs.Needed.{place_there, length-positions_of}
 use Rattle.vol_body.proofs.OneMore.{named_now, names_by_pointers}
 
 -- what a test counts, one more element in front
@@ -47,25 +47,25 @@ module _ {X : Type 0} (f g : X → Bool) where
       let rest = count_more xs (All-tail (λ z. f z ≡ true → g z ≡ true) y xs all) x (k, omega arith, is) fails passes in
       omega (arith, count_cons f y xs, count_cons g y xs)
 
--- the places of a file that isn't too long are such
+-- the positions of a file that isn't too long are such
 range_below : (count bound : ℕ) → count ≤ bound → All (λ (j : ℕ). j < bound) (range_with_len 0 count)
 range_below count bound le = All-from_get_or (λ (j : ℕ). j < bound) (range_with_len 0 count) 0 (λ i lt.
     let short : i < count = omega (arith, length-range_with_len 0 count) in
     omega (arith, get_or-range_with_len 0 count i 0 short))
 
-pub are_places : (size : ℕ) → size ≤ 8483840 → All IsPlace (places_of size)
+pub are_places : (size : ℕ) → size ≤ 8483840 → All IsPosition (positions_of size)
 are_places size small =
     let count = sectors_of size in
     let n = lists_of (count - 186) in
-    let parts : All IsPlace (map part (range_with_len 0 count)) = All-map IsPlace part (range_with_len 0 count) (range_below count 16570 (omega arith)) in
-    let later : All IsPlace (map later_list (range_with_len 0 n)) = All-map IsPlace later_list (range_with_len 0 n) (range_below n 128 (omega arith)) in
-    let first : All IsPlace (if nat_lt 58 count then list ∷ [] else []) = either (nat_lt 58 count) (list ∷ []) (All-cons IsPlace list [] tt (All-nil IsPlace)) in
-    let second : All IsPlace (if nat_lt 186 count then lists ∷ map later_list (range_with_len 0 n) else []) = either (nat_lt 186 count) (lists ∷ map later_list (range_with_len 0 n)) (All-cons IsPlace lists (map later_list (range_with_len 0 n)) tt later) in
-    All-append IsPlace (map part (range_with_len 0 count) ++ (if nat_lt 58 count then list ∷ [] else [])) (if nat_lt 186 count then lists ∷ map later_list (range_with_len 0 n) else []) (All-append IsPlace (map part (range_with_len 0 count)) (if nat_lt 58 count then list ∷ [] else []) parts first) second
+    let parts : All IsPosition (map data_block (range_with_len 0 count)) = All-map IsPosition data_block (range_with_len 0 count) (range_below count 16570 (omega arith)) in
+    let later : All IsPosition (map inner_block (range_with_len 0 n)) = All-map IsPosition inner_block (range_with_len 0 n) (range_below n 128 (omega arith)) in
+    let first : All IsPosition (if nat_lt 58 count then indirect_block ∷ [] else []) = either (nat_lt 58 count) (indirect_block ∷ []) (All-cons IsPosition indirect_block [] tt (All-nil IsPosition)) in
+    let second : All IsPosition (if nat_lt 186 count then double_indirect_block ∷ map inner_block (range_with_len 0 n) else []) = either (nat_lt 186 count) (double_indirect_block ∷ map inner_block (range_with_len 0 n)) (All-cons IsPosition double_indirect_block (map inner_block (range_with_len 0 n)) tt later) in
+    All-append IsPosition (map data_block (range_with_len 0 count) ++ (if nat_lt 58 count then indirect_block ∷ [] else [])) (if nat_lt 186 count then double_indirect_block ∷ map inner_block (range_with_len 0 n) else []) (All-append IsPosition (map data_block (range_with_len 0 count)) (if nat_lt 58 count then indirect_block ∷ [] else []) parts first) second
   where
-    either : (b : Bool) (xs : List Place) → All IsPlace xs → All IsPlace (if b then xs else [])
+    either : (b : Bool) (xs : List BlockPosition) → All IsPosition xs → All IsPosition (if b then xs else [])
     either true xs all = all
-    either false xs all = All-nil IsPlace
+    either false xs all = All-nil IsPosition
 
 -- the test of `used_of`
 names_one : (n : ℕ) → n ≢ 0 → not (n == 0) ≡ true
@@ -75,32 +75,32 @@ names_none : (n : ℕ) → n ≡ 0 → not (n == 0) ≡ false
 names_none n none = ap not (eq-eqb n 0 none)
 
 -- it names at least one more
-pub used_more : (content after : Image) (e changed : Entry) (p : Place) (n : ℕ) → NamesOneMore content after e changed p n → named content e p ≡ 0 → n ≢ 0 → first_served p < sectors_of e.size → e.size ≤ 8483840
+pub used_more : (content after : Image) (e changed : Entry) (p : BlockPosition) (n : ℕ) → NamesOneMore content after e changed p n → named content e p ≡ 0 → n ≢ 0 → first_served p < sectors_of e.size → e.size ≤ 8483840
     → used_of content e + 1 ≤ used_of after changed
 used_more content after e changed p n more none some serves small =
-    let f = λ (q : Place). not (named content e q == 0) in
-    let g = λ (q : Place). not (named after changed q == 0) in
-    let all : All (λ q. f q ≡ true → g q ≡ true) (places_of e.size) = All-weaker IsPlace (λ q. f q ≡ true → g q ≡ true) keeps (places_of e.size) (are_places e.size small) in
-    let size : used_of after changed ≡ count_by g (places_of e.size) = ap (λ (k : ℕ). count_by g (places_of k)) more.size in
-    let more_count = count_more f g (places_of e.size) all p (place_there e.size p serves) (names_none (named content e p) none) (names_one (named after changed p) (λ is. some (sym more.one ∙ is))) in
+    let f = λ (q : BlockPosition). not (named content e q == 0) in
+    let g = λ (q : BlockPosition). not (named after changed q == 0) in
+    let all : All (λ q. f q ≡ true → g q ≡ true) (positions_of e.size) = All-weaker IsPosition (λ q. f q ≡ true → g q ≡ true) keeps (positions_of e.size) (are_places e.size small) in
+    let size : used_of after changed ≡ count_by g (positions_of e.size) = ap (λ (k : ℕ). count_by g (positions_of k)) more.size in
+    let more_count = count_more f g (positions_of e.size) all p (place_there e.size p serves) (names_none (named content e p) none) (names_one (named after changed p) (λ is. some (sym more.one ∙ is))) in
     omega (arith, size, more_count)
   where
-    keeps : (q : Place) → IsPlace q → not (named content e q == 0) ≡ true → not (named after changed q == 0) ≡ true
+    keeps : (q : BlockPosition) → IsPosition q → not (named content e q == 0) ≡ true → not (named after changed q == 0) ≡ true
     keeps q there is = names_one (named after changed q) (λ zero. elim (named_now content after e changed p n more q there) [
       | inl one ↦ some (sym one ∙ zero)
       | inr same ↦ both_ways (not (named content e q == 0)) (names_none (named content e q) (sym same ∙ zero)) is
     ])
 
--- it names fewer than it needs, where a place names none
-pub some_place : (content : Image) (e : Entry) (p : Place) → named content e p ≡ 0 → first_served p < sectors_of e.size → used_of content e + 1 ≤ need_of e.size
+-- it names fewer than it needs, where a position names none
+pub some_place : (content : Image) (e : Entry) (p : BlockPosition) → named content e p ≡ 0 → first_served p < sectors_of e.size → used_of content e + 1 ≤ need_of e.size
 some_place content e p none serves =
-    let f = λ (q : Place). not (named content e q == 0) in
-    let all : All (λ q. f q ≡ true → true ≡ true) (places_of e.size) = All-from_get_or (λ q. f q ≡ true → true ≡ true) (places_of e.size) list (λ i lt is. refl) in
-    let more = count_more f (λ q. true) (places_of e.size) all p (place_there e.size p serves) (names_none (named content e p) none) refl in
-    omega (arith, more, count_by-le-length (λ q. true) (places_of e.size), length-places_of e.size)
+    let f = λ (q : BlockPosition). not (named content e q == 0) in
+    let all : All (λ q. f q ≡ true → true ≡ true) (positions_of e.size) = All-from_get_or (λ q. f q ≡ true → true ≡ true) (positions_of e.size) indirect_block (λ i lt is. refl) in
+    let more = count_more f (λ q. true) (positions_of e.size) all p (place_there e.size p serves) (names_none (named content e p) none) refl in
+    omega (arith, more, count_by-le-length (λ q. true) (positions_of e.size), length-positions_of e.size)
 
--- where the space is reserved, a sector is free for such a place
-pub some_free : (content : Image) (e : Entry) (p : Place) (free : ℕ) → need_of e.size ≤ free + used_of content e → named content e p ≡ 0 → first_served p < sectors_of e.size → 0 < free
+-- where the space is reserved, a sector is free for such a position
+pub some_free : (content : Image) (e : Entry) (p : BlockPosition) (free : ℕ) → need_of e.size ≤ free + used_of content e → named content e p ≡ 0 → first_served p < sectors_of e.size → 0 < free
 some_free content e p free reserved none serves = omega (arith, some_place content e p none serves)
 
 -- A longer file names as many, or more.
@@ -114,21 +114,21 @@ count_part f g a b le =
 count_append : {X : Type 0} (f : X → Bool) (xs ys : List X) → count_by f (xs ++ ys) ≡ count_by f xs + count_by f ys
 count_append f xs ys = sum_by-append (λ x. cond (f x) 1 0) xs ys
 
-pub count_grown : (f : Place → Bool) (a b : ℕ) → a ≤ b
-    → count_by f (map part (range_with_len 0 a) ++ (if nat_lt 58 a then list ∷ [] else []) ++ (if nat_lt 186 a then lists ∷ map later_list (range_with_len 0 (lists_of (a - 186))) else []))
-    ≤ count_by f (map part (range_with_len 0 b) ++ (if nat_lt 58 b then list ∷ [] else []) ++ (if nat_lt 186 b then lists ∷ map later_list (range_with_len 0 (lists_of (b - 186))) else []))
+pub count_grown : (f : BlockPosition → Bool) (a b : ℕ) → a ≤ b
+    → count_by f (map data_block (range_with_len 0 a) ++ (if nat_lt 58 a then indirect_block ∷ [] else []) ++ (if nat_lt 186 a then double_indirect_block ∷ map inner_block (range_with_len 0 (lists_of (a - 186))) else []))
+    ≤ count_by f (map data_block (range_with_len 0 b) ++ (if nat_lt 58 b then indirect_block ∷ [] else []) ++ (if nat_lt 186 b then double_indirect_block ∷ map inner_block (range_with_len 0 (lists_of (b - 186))) else []))
 count_grown f a b le =
-    let parts = λ (c : ℕ). map part (range_with_len 0 c) in
-    let first = λ (c : ℕ). if nat_lt 58 c then list ∷ [] else [] in
-    let later = λ (c : ℕ). lists ∷ map later_list (range_with_len 0 (lists_of (c - 186))) in
+    let parts = λ (c : ℕ). map data_block (range_with_len 0 c) in
+    let first = λ (c : ℕ). if nat_lt 58 c then indirect_block ∷ [] else [] in
+    let later = λ (c : ℕ). double_indirect_block ∷ map inner_block (range_with_len 0 (lists_of (c - 186))) in
     let second = λ (c : ℕ). if nat_lt 186 c then later c else [] in
-    let in_parts = count_part f part a b le in
-    let in_first : count_by f (first a) ≤ count_by f (first b) = either f 58 a b (list ∷ []) (list ∷ []) le (omega arith) in
-    let in_later : count_by f (later a) ≤ count_by f (later b) = omega (arith, count_cons f lists (map later_list (range_with_len 0 (lists_of (a - 186)))), count_cons f lists (map later_list (range_with_len 0 (lists_of (b - 186)))), count_part f later_list (lists_of (a - 186)) (lists_of (b - 186)) (omega arith)) in
+    let in_parts = count_part f data_block a b le in
+    let in_first : count_by f (first a) ≤ count_by f (first b) = either f 58 a b (indirect_block ∷ []) (indirect_block ∷ []) le (omega arith) in
+    let in_later : count_by f (later a) ≤ count_by f (later b) = omega (arith, count_cons f double_indirect_block (map inner_block (range_with_len 0 (lists_of (a - 186)))), count_cons f double_indirect_block (map inner_block (range_with_len 0 (lists_of (b - 186)))), count_part f inner_block (lists_of (a - 186)) (lists_of (b - 186)) (omega arith)) in
     let in_second : count_by f (second a) ≤ count_by f (second b) = either f 186 a b (later a) (later b) le in_later in
     omega (arith, in_parts, in_first, in_second, count_append f (parts a ++ first a) (second a), count_append f (parts a) (first a), count_append f (parts b ++ first b) (second b), count_append f (parts b) (first b))
   where
-    either : (f : Place → Bool) (n a b : ℕ) (xs ys : List Place) → a ≤ b → count_by f xs ≤ count_by f ys → count_by f (if nat_lt n a then xs else []) ≤ count_by f (if nat_lt n b then ys else [])
+    either : (f : BlockPosition → Bool) (n a b : ℕ) (xs ys : List BlockPosition) → a ≤ b → count_by f xs ≤ count_by f ys → count_by f (if nat_lt n a then xs else []) ≤ count_by f (if nat_lt n b then ys else [])
     either f n a b xs ys le fewer = elim (cases_lt n a) [
       | inl lt ↦
           let e : count_by f (if nat_lt n a then xs else []) ≡ count_by f xs = ap (count_by f) (taken n a xs lt) in
@@ -139,21 +139,21 @@ count_grown f a b le =
           omega (arith, e)
     ]
       where
-        taken : (n c : ℕ) (xs : List Place) → n < c → (if nat_lt n c then xs else []) ≡ xs
+        taken : (n c : ℕ) (xs : List BlockPosition) → n < c → (if nat_lt n c then xs else []) ≡ xs
         taken n c xs lt = grind (arith, nat_tests)
 
-        left : (n c : ℕ) (xs : List Place) → c ≤ n → (if nat_lt n c then xs else []) ≡ []
+        left : (n c : ℕ) (xs : List BlockPosition) → c ≤ n → (if nat_lt n c then xs else []) ≡ []
         left n c xs le = grind (arith, nat_tests)
 
 pub used_grown : (content : Image) (e : Entry) (size : ℕ) → e.size ≤ size → used_of content e ≤ used_of content (record e { size = size })
 used_grown content e size le =
-    let f = λ (p : Place). not (named content e p == 0) in
-    let g = λ (p : Place). not (named content (record e { size = size }) p == 0) in
+    let f = λ (p : BlockPosition). not (named content e p == 0) in
+    let g = λ (p : BlockPosition). not (named content (record e { size = size }) p == 0) in
     let grown = count_grown f (sectors_of e.size) (sectors_of size) (omega arith) in
-    let same : count_by g (places_of size) ≡ count_by f (places_of size) = same_count g f (λ p. ap (λ (n : ℕ). not (n == 0)) (names_by_pointers content e (record e { size = size }) p refl)) (places_of size) in
+    let same : count_by g (positions_of size) ≡ count_by f (positions_of size) = same_count g f (λ p. ap (λ (n : ℕ). not (n == 0)) (names_by_pointers content e (record e { size = size }) p refl)) (positions_of size) in
     omega (arith, grown, same)
   where
-    same_count : (g f : Place → Bool) → ((p : Place) → g p ≡ f p) → (ps : List Place) → count_by g ps ≡ count_by f ps
+    same_count : (g f : BlockPosition → Bool) → ((p : BlockPosition) → g p ≡ f p) → (ps : List BlockPosition) → count_by g ps ≡ count_by f ps
     same_count g f same [] = refl
     same_count g f same (p ∷ ps) =
         let here : cond {A = ℕ} (g p) 1 0 ≡ cond {A = ℕ} (f p) 1 0 = ap (λ (b : Bool). cond {A = ℕ} b 1 0) (same p) in
@@ -161,27 +161,27 @@ used_grown content e size le =
         omega (arith, here, rest, count_cons g p ps, count_cons f p ps)
 
 -- a file of the same size that names the same sectors has the same space
-pub used_same : (content after : Image) (e changed : Entry) (free : ℕ) → e.size ≤ 8483840 → changed.size ≡ e.size → ((p : Place) → IsPlace p → named after changed p ≡ named content e p)
+pub used_same : (content after : Image) (e changed : Entry) (free : ℕ) → e.size ≤ 8483840 → changed.size ≡ e.size → ((p : BlockPosition) → IsPosition p → named after changed p ≡ named content e p)
     → need_of e.size ≤ free + used_of content e → need_of changed.size ≤ free + used_of after changed
 used_same content after e changed free small size names reserved =
-    let f = λ (q : Place). not (named content e q == 0) in
-    let g = λ (q : Place). not (named after changed q == 0) in
-    let fewer = count_le f g (places_of e.size) (All-weaker IsPlace (λ q. f q ≡ true → g q ≡ true) keeps (places_of e.size) (are_places e.size small)) in
-    let used : used_of after changed ≡ count_by g (places_of e.size) = ap (λ (k : ℕ). count_by g (places_of k)) size in
+    let f = λ (q : BlockPosition). not (named content e q == 0) in
+    let g = λ (q : BlockPosition). not (named after changed q == 0) in
+    let fewer = count_le f g (positions_of e.size) (All-weaker IsPosition (λ q. f q ≡ true → g q ≡ true) keeps (positions_of e.size) (are_places e.size small)) in
+    let used : used_of after changed ≡ count_by g (positions_of e.size) = ap (λ (k : ℕ). count_by g (positions_of k)) size in
     let need : need_of changed.size ≡ need_of e.size = ap need_of size in
     omega (arith, fewer, used, need, reserved)
   where
-    keeps : (q : Place) → IsPlace q → not (named content e q == 0) ≡ true → not (named after changed q == 0) ≡ true
+    keeps : (q : BlockPosition) → IsPosition q → not (named content e q == 0) ≡ true → not (named after changed q == 0) ≡ true
     keeps q there is = ap (λ (n : ℕ). not (n == 0)) (names q there) ∙ is
 
 -- a file of the same size that names the same sectors uses as many
-pub used_kept : (content after : Image) (e changed : Entry) → e.size ≤ 8483840 → changed.size ≡ e.size → ((p : Place) → IsPlace p → named after changed p ≡ named content e p) → used_of content e ≤ used_of after changed
+pub used_kept : (content after : Image) (e changed : Entry) → e.size ≤ 8483840 → changed.size ≡ e.size → ((p : BlockPosition) → IsPosition p → named after changed p ≡ named content e p) → used_of content e ≤ used_of after changed
 used_kept content after e changed small size names =
-    let f = λ (q : Place). not (named content e q == 0) in
-    let g = λ (q : Place). not (named after changed q == 0) in
-    let fewer = count_le f g (places_of e.size) (All-weaker IsPlace (λ q. f q ≡ true → g q ≡ true) keeps (places_of e.size) (are_places e.size small)) in
-    let used : used_of after changed ≡ count_by g (places_of e.size) = ap (λ (k : ℕ). count_by g (places_of k)) size in
+    let f = λ (q : BlockPosition). not (named content e q == 0) in
+    let g = λ (q : BlockPosition). not (named after changed q == 0) in
+    let fewer = count_le f g (positions_of e.size) (All-weaker IsPosition (λ q. f q ≡ true → g q ≡ true) keeps (positions_of e.size) (are_places e.size small)) in
+    let used : used_of after changed ≡ count_by g (positions_of e.size) = ap (λ (k : ℕ). count_by g (positions_of k)) size in
     omega (arith, fewer, used)
   where
-    keeps : (q : Place) → IsPlace q → not (named content e q == 0) ≡ true → not (named after changed q == 0) ≡ true
+    keeps : (q : BlockPosition) → IsPosition q → not (named content e q == 0) ≡ true → not (named after changed q == 0) ≡ true
     keeps q there is = ap (λ (n : ℕ). not (n == 0)) (names q there) ∙ is

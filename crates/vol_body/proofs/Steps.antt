@@ -11,8 +11,8 @@ use Rattle.vol_log.specs.declared.log.Log.{Log}
 use Rattle.vol_alloc.specs.Alloc.{first_of, end_of, taken_of}
 use Rattle.vol_alloc.specs.declared.sectors.Alloc.{Alloc}
 use Rattle.vol_inode.specs.declared.entry.Entry.{Entry}
-use Rattle.vol_body.specs.Body.{Place, part, list, lists, later_list, IsPlace, named, number_in, part_bytes}
-use Rattle.vol_body.specs.internal.Writing.{ListedAt, IsBlank, Mirrors, IsReady, SamePlace, Changes, IsPartIn, IsPointer, HasParts, OnlyPuts, SameRange, segment, placed}
+use Rattle.vol_body.specs.Body.{BlockPosition, data_block, indirect_block, double_indirect_block, inner_block, IsPosition, named, number_in, block_bytes}
+use Rattle.vol_body.specs.internal.Writing.{ListedAt, IsBlank, Mirrors, IsReady, SamePlace, Changes, IsBlockIn, IsPointer, HasBlocks, OnlyPuts, SameRange, segment, placed}
 use Rattle.vol_body.proofs.Listed.{number_of_bytes}
 use Rattle.vol_body.proofs.Changes.{takes_same, stays_same}
 use Rattle.vol_body.proofs.Places.{part_listed, part_later, bytes_there}
@@ -50,21 +50,21 @@ taken_range a n is = elim (cases_lt n a.first) [
     second_one : (n m : ℕ) (b : Bool) → m ≤ n → (if nat_lt n m then false else b) ≡ b
     second_one n m b le = grind (arith, nat_tests)
 
--- the sector that another place is listed in keeps its place
-pub holder_stays : (a b : Alloc) (content after : Image) (e : Entry) (q p : Place) (i : ℕ) → ListedAt q i p → Changes a b content after e e (λ x. (x ≡ p) ⊎ (x ≡ q)) → named after e q ≡ named content e q
-holder_stays a b content after e list p i at changes = refl
-holder_stays a b content after e lists p i at changes = refl
-holder_stays a b content after e (part j) p i at changes = absurd at
-holder_stays a b content after e (later_list k) list i at changes = absurd at
-holder_stays a b content after e (later_list k) lists i at changes = absurd at
-holder_stays a b content after e (later_list k) (later_list j) i at changes = absurd at
-holder_stays a b content after e (later_list k) (part j) i at changes =
-    let top : SamePlace content after e e lists = changes.stays lists tt (λ touched. not_these touched) in
-    number_of_bytes after (named content e lists) k
+-- the sector that another position is listed in keeps its position
+pub holder_stays : (a b : Alloc) (content after : Image) (e : Entry) (q p : BlockPosition) (i : ℕ) → ListedAt q i p → Changes a b content after e e (λ x. (x ≡ p) ⊎ (x ≡ q)) → named after e q ≡ named content e q
+holder_stays a b content after e indirect_block p i at changes = refl
+holder_stays a b content after e double_indirect_block p i at changes = refl
+holder_stays a b content after e (data_block j) p i at changes = absurd at
+holder_stays a b content after e (inner_block k) indirect_block i at changes = absurd at
+holder_stays a b content after e (inner_block k) double_indirect_block i at changes = absurd at
+holder_stays a b content after e (inner_block k) (inner_block j) i at changes = absurd at
+holder_stays a b content after e (inner_block k) (data_block j) i at changes =
+    let top : SamePlace content after e e double_indirect_block = changes.stays double_indirect_block tt (λ touched. not_these touched) in
+    number_of_bytes after (named content e double_indirect_block) k
     ∙ ap (λ (l : List ℕ). little_number 4 (drop (4 * k) l)) top.bytes
-    ∙ sym (number_of_bytes content (named content e lists) k)
+    ∙ sym (number_of_bytes content (named content e double_indirect_block) k)
   where
-    not_these : (lists ≡ part j) ⊎ (lists ≡ later_list k) → ⊥
+    not_these : (double_indirect_block ≡ data_block j) ⊎ (double_indirect_block ≡ inner_block k) → ⊥
     not_these (inl is) = cc
     not_these (inr is) = cc
 
@@ -106,7 +106,7 @@ module _ {D : Type 0} {g : Ghosts D} where
       pick : (n : ℕ) (b : Bool) → n ≢ 0 → b ≡ true → ◌≡◌ {A = ℕ} (if n == 0 then 0 else (if b then 1 else 0)) 1
       pick n b some is = grind (arith, nat_tests)
 
-  -- what has a place keeps it
+  -- what has a position keeps it
   pub placed_stays : (old new : Log D g) (n : ℕ) → (is_staged old n ≡ true → is_staged new n ≡ true) → placed old n ≤ placed new n
   placed_stays old new n stays = pick (n == 0) (is_staged old n) (is_staged new n) stays
     where
@@ -116,7 +116,7 @@ module _ {D : Type 0} {g : Ghosts D} where
       pick false true true stays = omega arith
       pick false true false stays = absurd (false≢true (stays refl))
 
-  -- a sector that is staged takes a place, or had one
+  -- a sector that is staged takes a position, or had one
   pub room_placed : (old new : Log D g) (n room now : ℕ) → n ≢ 0 → is_staged new n ≡ true → now ≡ (if is_staged old n then room else room - 1) → room + placed old n ≤ now + placed new n
   room_placed old new n room now some is left =
       let one = placed_one new n some is in
@@ -126,12 +126,12 @@ module _ {D : Type 0} {g : Ghosts D} where
       count : (n : ℕ) (b : Bool) (room now : ℕ) → n ≢ 0 → now ≡ (if b then room else room - 1) → room + (if n == 0 then 0 else (if b then 1 else 0)) ≤ now + 1
       count n b room now some left = grind (arith, nat_tests)
 
--- the bytes of a place, from what is held of it in memory
-pub bytes_mirrored : (content : Image) (e : Entry) (p : Place) (number : ℕ) (image : List ℕ) → Mirrors content e p number image → part_bytes content (named content e p) ≡ image
-bytes_mirrored content e p number image mirror = ap (part_bytes content) (sym mirror.names) ∙ sym mirror.bytes
+-- the bytes of a position, from what is held of it in memory
+pub bytes_mirrored : (content : Image) (e : Entry) (p : BlockPosition) (number : ℕ) (image : List ℕ) → Mirrors content e p number image → block_bytes content (named content e p) ≡ image
+bytes_mirrored content e p number image mirror = ap (block_bytes content) (sym mirror.names) ∙ sym mirror.bytes
 
--- a change at fewer places
-pub changes_wider : (a b : Alloc) (content after : Image) (e changed : Entry) (One Other : Place → Type 0) → ((p : Place) → One p → Other p) → Changes a b content after e changed One → Changes a b content after e changed Other
+-- a change at fewer positions
+pub changes_wider : (a b : Alloc) (content after : Image) (e changed : Entry) (One Other : BlockPosition → Type 0) → ((p : BlockPosition) → One p → Other p) → Changes a b content after e changed One → Changes a b content after e changed Other
 changes_wider a b content after e changed One Other inside changes = record {
   ready = changes.ready;
   others = changes.others;
@@ -141,41 +141,41 @@ changes_wider a b content after e changed One Other inside changes = record {
   count = changes.count;
 }
 
--- a pointer sector that lists parts
-pub not_a_part : (q : Place) (i j k : ℕ) → ListedAt q i (part j) → q ≡ part k → ⊥
-not_a_part list i j k at is = cc
-not_a_part lists i j k at is = at
-not_a_part (later_list l) i j k at is = cc
-not_a_part (part l) i j k at is = at
+-- a pointer block that lists data blocks
+pub not_a_part : (q : BlockPosition) (i j k : ℕ) → ListedAt q i (data_block j) → q ≡ data_block k → ⊥
+not_a_part indirect_block i j k at is = cc
+not_a_part double_indirect_block i j k at is = at
+not_a_part (inner_block l) i j k at is = cc
+not_a_part (data_block l) i j k at is = at
 
--- the number of a part stands in the pointer sector that lists it
-pub part_mirrored : (content : Image) (e : Entry) (q : Place) (i j number : ℕ) (image : List ℕ) → ListedAt q i (part j) → i < 128 → Mirrors content e q number image → little_number 4 (drop (4 * i) image) ≡ named content e (part j)
+-- the number of a data block stands in the pointer block that lists it
+pub part_mirrored : (content : Image) (e : Entry) (q : BlockPosition) (i j number : ℕ) (image : List ℕ) → ListedAt q i (data_block j) → i < 128 → Mirrors content e q number image → little_number 4 (drop (4 * i) image) ≡ named content e (data_block j)
 part_mirrored content e q i j number image at lt mirror =
-    ap (λ (l : List ℕ). little_number 4 (drop (4 * i) l)) (mirror.bytes ∙ ap (part_bytes content) mirror.names)
+    ap (λ (l : List ℕ). little_number 4 (drop (4 * i) l)) (mirror.bytes ∙ ap (block_bytes content) mirror.names)
     ∙ sym (number_of_bytes content (named content e q) i) ∙ sym (by_place q at)
   where
-    by_place : (q : Place) → ListedAt q i (part j) → named content e (part j) ≡ number_in content (named content e q) i
-    by_place list at =
+    by_place : (q : BlockPosition) → ListedAt q i (data_block j) → named content e (data_block j) ≡ number_in content (named content e q) i
+    by_place indirect_block at =
         let place : j - 58 ≡ i = omega arith in
-        part_listed content e j (omega arith) (omega arith) ∙ ap (number_in content (named content e list)) place
-    by_place (later_list k) at =
+        part_listed content e j (omega arith) (omega arith) ∙ ap (number_in content (named content e indirect_block)) place
+    by_place (inner_block k) at =
         let group : (j - 186) / 128 ≡ k = omega arith in
         let place : (j - 186) % 128 ≡ i = omega arith in
         part_later content e j (omega arith)
-        ∙ ap (λ (x : ℕ). number_in content (named content e (later_list x)) ((j - 186) % 128)) group
-        ∙ ap (number_in content (named content e (later_list k))) place
-    by_place lists at = absurd at
-    by_place (part k) at = absurd at
+        ∙ ap (λ (x : ℕ). number_in content (named content e (inner_block x)) ((j - 186) % 128)) group
+        ∙ ap (number_in content (named content e (inner_block k))) place
+    by_place double_indirect_block at = absurd at
+    by_place (data_block k) at = absurd at
 
--- a part's sector is written over
-pub part_over : (a : Alloc) (content after : Image) (e : Entry) (j n : ℕ) (image : List ℕ) → IsReady a content e → j < 16570 → n ≡ named content e (part j) → n ≢ 0 → taken_of a n ≡ true → after ≡ put n image content
-    → Changes a a content after e e (λ q. q ≡ part j) × (part_bytes after (named after e (part j)) ≡ image)
+-- a data block's sector is written over
+pub part_over : (a : Alloc) (content after : Image) (e : Entry) (j n : ℕ) (image : List ℕ) → IsReady a content e → j < 16570 → n ≡ named content e (data_block j) → n ≢ 0 → taken_of a n ≡ true → after ≡ put n image content
+    → Changes a a content after e e (λ q. q ≡ data_block j) × (block_bytes after (named after e (data_block j)) ≡ image)
 part_over a content after e j n image ready lt is some taken writes =
     let stays = λ (x : ℕ) (other : x ≢ n). ap (λ (m : Image). m x) writes ∙ put_other n x image content other in
     let range = taken_range a n taken in
     let more = write_named content after e j n ready.naming lt (sym is) some stays in (
       writes_over a content after e j n ready ready.small lt (sym is) some range.0 range.1 stays,
-      ap (part_bytes after) more.one ∙ bytes_there after n some ∙ ap (λ (m : Image). m n) writes ∙ put_here n image content,
+      ap (block_bytes after) more.one ∙ bytes_there after n some ∙ ap (λ (m : Image). m n) writes ∙ put_here n image content,
     )
 
 -- sector 0 is no data sector
@@ -185,45 +185,45 @@ none_taken a behind = elim (cases_Bool (taken_of a 0)) [
   | inr free ↦ free
 ]
 
-pub part_in_more : (from to : ℕ) (p : Place) → IsPartIn from to p → IsPartIn from (to + 1) p
-part_in_more from to (part j) there = (there.0, omega (arith, there.1))
-part_in_more from to list there = there
-part_in_more from to lists there = there
-part_in_more from to (later_list i) there = there
+pub part_in_more : (from to : ℕ) (p : BlockPosition) → IsBlockIn from to p → IsBlockIn from (to + 1) p
+part_in_more from to (data_block j) there = (there.0, omega (arith, there.1))
+part_in_more from to indirect_block there = there
+part_in_more from to double_indirect_block there = there
+part_in_more from to (inner_block i) there = there
 
-pub part_in_here : (from j : ℕ) (p : Place) → from ≤ j → p ≡ part j → IsPartIn from (j + 1) p
-part_in_here from j p le is = let here : IsPartIn from (j + 1) (part j) = (le, omega arith) in subst (IsPartIn from (j + 1)) (sym is) here
+pub part_in_here : (from j : ℕ) (p : BlockPosition) → from ≤ j → p ≡ data_block j → IsBlockIn from (j + 1) p
+part_in_here from j p le is = let here : IsBlockIn from (j + 1) (data_block j) = (le, omega arith) in subst (IsBlockIn from (j + 1)) (sym is) here
 
--- a loop ends behind the last part
-pub part_in_all : (from to j : ℕ) (p : Place) → j - from ≤ to - from → IsPartIn from j p → IsPartIn from to p
-part_in_all from to j (part k) few there = (there.0, omega (arith, there.0, there.1))
-part_in_all from to j list few there = there
-part_in_all from to j lists few there = there
-part_in_all from to j (later_list i) few there = there
+-- a loop ends behind the last data block
+pub part_in_all : (from to j : ℕ) (p : BlockPosition) → j - from ≤ to - from → IsBlockIn from j p → IsBlockIn from to p
+part_in_all from to j (data_block k) few there = (there.0, omega (arith, there.0, there.1))
+part_in_all from to j indirect_block few there = there
+part_in_all from to j double_indirect_block few there = there
+part_in_all from to j (inner_block i) few there = there
 
--- one more part has its bytes
-pub parts_more : (b c : Alloc) (c1 c2 : Image) (e1 e2 : Entry) (Touched : Place → Type 0) (from j : ℕ) (image : ℕ → List ℕ) → Changes b c c1 c2 e1 e2 Touched → ((k : ℕ) → k < j → Touched (part k) → ⊥) → j < 16570
-    → HasParts c1 e1 from j image → part_bytes c2 (named c2 e2 (part j)) ≡ image j → HasParts c2 e2 from (j + 1) image
+-- one more data block has its bytes
+pub parts_more : (b c : Alloc) (c1 c2 : Image) (e1 e2 : Entry) (Touched : BlockPosition → Type 0) (from j : ℕ) (image : ℕ → List ℕ) → Changes b c c1 c2 e1 e2 Touched → ((k : ℕ) → k < j → Touched (data_block k) → ⊥) → j < 16570
+    → HasBlocks c1 e1 from j image → block_bytes c2 (named c2 e2 (data_block j)) ≡ image j → HasBlocks c2 e2 from (j + 1) image
 parts_more b c c1 c2 e1 e2 Touched from j image changes apart small so_far here k le lt = elim (cases_lt k j) [
-  | inl before ↦ (changes.stays (part k) (omega arith) (apart k before)).bytes ∙ so_far k le before
+  | inl before ↦ (changes.stays (data_block k) (omega arith) (apart k before)).bytes ∙ so_far k le before
   | inr same ↦
       let is : k ≡ j = omega arith in
-      ap (λ (x : ℕ). part_bytes c2 (named c2 e2 (part x))) is ∙ here ∙ sym (ap image is)
+      ap (λ (x : ℕ). block_bytes c2 (named c2 e2 (data_block x))) is ∙ here ∙ sym (ap image is)
 ]
 
-pub parts_shorter : (content : Image) (e : Entry) (from to j : ℕ) (image : ℕ → List ℕ) → to ≤ j → HasParts content e from j image → HasParts content e from to image
+pub parts_shorter : (content : Image) (e : Entry) (from to j : ℕ) (image : ℕ → List ℕ) → to ≤ j → HasBlocks content e from j image → HasBlocks content e from to image
 parts_shorter content e from to j image le parts k from_k lt = parts k from_k (omega arith)
 
--- the pointer sector of a segment lists its parts
-pub segment_lists : (g start j : ℕ) → start ≡ 58 + 128 * g → start ≤ j → ListedAt (segment g) (j - start) (part j)
+-- the pointer block of a segment lists its data blocks
+pub segment_lists : (g start j : ℕ) → start ≡ 58 + 128 * g → start ≤ j → ListedAt (segment g) (j - start) (data_block j)
 segment_lists zero start j is le = omega arith
 segment_lists (suc k) start j is le = omega arith
 
-pub segment_place : (g start to j : ℕ) → start ≡ 58 + 128 * g → start ≤ j → j < 16570 → IsPlace (segment g)
+pub segment_place : (g start to j : ℕ) → start ≡ 58 + 128 * g → start ≤ j → j < 16570 → IsPosition (segment g)
 segment_place zero start to j is le lt = tt
 segment_place (suc k) start to j is le lt = omega arith
 
-pub segment_other : (g j : ℕ) → segment g ≡ part j → ⊥
+pub segment_other : (g j : ℕ) → segment g ≡ data_block j → ⊥
 segment_other zero j is = cc
 segment_other (suc k) j is = cc
 
@@ -231,14 +231,14 @@ pub range_then : (a b c : Alloc) → SameRange a b → SameRange b c → SameRan
 range_then a b c one two = record { first = two.first ∙ one.first; end = two.end ∙ one.end }
 
 -- one change after another, over the same range of sectors
-pub changes_then : (a b c : Alloc) (c0 c1 c2 : Image) (e0 e1 e2 : Entry) (One Other Both : Place → Type 0) → 122 ≤ first_of a → SameRange a b → SameRange b c
-    → ((p : Place) → One p → Both p) → ((p : Place) → Other p → Both p) → Changes a b c0 c1 e0 e1 One → Changes b c c1 c2 e1 e2 Other → Changes a c c0 c2 e0 e2 Both
+pub changes_then : (a b c : Alloc) (c0 c1 c2 : Image) (e0 e1 e2 : Entry) (One Other Both : BlockPosition → Type 0) → 122 ≤ first_of a → SameRange a b → SameRange b c
+    → ((p : BlockPosition) → One p → Both p) → ((p : BlockPosition) → Other p → Both p) → Changes a b c0 c1 e0 e1 One → Changes b c c1 c2 e1 e2 Other → Changes a c c0 c2 e0 e2 Both
 changes_then a b c c0 c1 c2 e0 e1 e2 One Other Both behind range further one_in other_in one other =
     let still : 122 ≤ first_of c = omega (arith, behind, range.first, further.first) in
     changes_twice a b c c0 c1 c2 e0 e1 e2 One Other Both (none_taken a behind) (none_taken c still) range.first range.end one_in other_in one other
 
 -- nothing changes
-pub changes_none : (a : Alloc) (content : Image) (e : Entry) (Touched : Place → Type 0) → IsReady a content e → Changes a a content content e e Touched
+pub changes_none : (a : Alloc) (content : Image) (e : Entry) (Touched : BlockPosition → Type 0) → IsReady a content e → Changes a a content content e e Touched
 changes_none a content e Touched ready = record {
   ready = ready;
   others = λ place. stays_same place (first_of a) (end_of a) (taken_of a) content e;
@@ -248,51 +248,51 @@ changes_none a content e Touched ready = record {
   count = omega arith;
 }
 
-pub blank_zeros : (p : Place) → IsBlank p (replicate 512 0)
-blank_zeros (part j) = tt
-blank_zeros list = refl
-blank_zeros lists = refl
-blank_zeros (later_list i) = refl
+pub blank_zeros : (p : BlockPosition) → IsBlank p (replicate 512 0)
+blank_zeros (data_block j) = tt
+blank_zeros indirect_block = refl
+blank_zeros double_indirect_block = refl
+blank_zeros (inner_block i) = refl
 
--- of a place that names none zeros are held
-pub held_zeros : (content : Image) (e : Entry) (p : Place) (number : ℕ) (image : List ℕ) → Mirrors content e p number image → number ≡ 0 → image ≡ replicate 512 0
-held_zeros content e p number image mirror none = mirror.bytes ∙ ap (part_bytes content) none
+-- of a position that names none zeros are held
+pub held_zeros : (content : Image) (e : Entry) (p : BlockPosition) (number : ℕ) (image : List ℕ) → Mirrors content e p number image → number ≡ 0 → image ≡ replicate 512 0
+held_zeros content e p number image mirror none = mirror.bytes ∙ ap (block_bytes content) none
 
--- a pointer sector is none of the parts, nor another one
-pub segment_no_part : (from to g : ℕ) → IsPartIn from to (segment g) → ⊥
+-- a pointer block is none of the data blocks, nor another one
+pub segment_no_part : (from to g : ℕ) → IsBlockIn from to (segment g) → ⊥
 segment_no_part from to zero there = there
 segment_no_part from to (suc k) there = there
 
-pub segment_not_lists : (g : ℕ) → lists ≡ segment g → ⊥
+pub segment_not_lists : (g : ℕ) → double_indirect_block ≡ segment g → ⊥
 segment_not_lists zero is = cc
 segment_not_lists (suc k) is = cc
 
 pub segments_differ : (g : ℕ) → segment (g + 1) ≡ segment g → ⊥
 segments_differ zero is = let one : 0 + 1 ≡ suc 0 = omega arith in clash (sym (ap segment one) ∙ is)
   where
-    clash : later_list 0 ≡ list → ⊥
+    clash : inner_block 0 ≡ indirect_block → ⊥
     clash is = cc
 segments_differ (suc k) is = let one : suc k + 1 ≡ suc (suc k) = omega arith in clash k (sym (ap segment one) ∙ is)
   where
-    clash : (k : ℕ) → later_list (suc k) ≡ later_list k → ⊥
+    clash : (k : ℕ) → inner_block (suc k) ≡ inner_block k → ⊥
     clash k is = let same : suc k ≡ k = cc in omega arith
 
-pub segment_is_place : (g last : ℕ) → 58 + 128 * g ≤ last → last < 16570 → IsPlace (segment g)
+pub segment_is_place : (g last : ℕ) → 58 + 128 * g ≤ last → last < 16570 → IsPosition (segment g)
 segment_is_place zero last le lt = tt
 segment_is_place (suc k) last le lt = omega arith
 
-pub segment_is_pointer : (g : ℕ) (p : Place) → p ≡ segment g → IsPointer p
+pub segment_is_pointer : (g : ℕ) (p : BlockPosition) → p ≡ segment g → IsPointer p
 segment_is_pointer zero p is = subst IsPointer (sym is) tt
 segment_is_pointer (suc k) p is = subst IsPointer (sym is) tt
 
-pub lists_is_pointer : (p : Place) → p ≡ lists → IsPointer p
+pub lists_is_pointer : (p : BlockPosition) → p ≡ double_indirect_block → IsPointer p
 lists_is_pointer p is = subst IsPointer (sym is) tt
 
-pub part_in_span : (from to first last : ℕ) (p : Place) → first ≤ from → to ≤ last + 1 → IsPartIn from to p → IsPartIn first (last + 1) p
-part_in_span from to first last (part j) starts ends there = (omega (arith, there.0), omega (arith, there.1))
-part_in_span from to first last list starts ends there = there
-part_in_span from to first last lists starts ends there = there
-part_in_span from to first last (later_list i) starts ends there = there
+pub part_in_span : (from to first last : ℕ) (p : BlockPosition) → first ≤ from → to ≤ last + 1 → IsBlockIn from to p → IsBlockIn first (last + 1) p
+part_in_span from to first last (data_block j) starts ends there = (omega (arith, there.0), omega (arith, there.1))
+part_in_span from to first last indirect_block starts ends there = there
+part_in_span from to first last double_indirect_block starts ends there = there
+part_in_span from to first last (inner_block i) starts ends there = there
 
 pub room_left : (staged : Bool) (room now : ℕ) → now ≡ (if staged then room else room - 1) → room ≤ now + 1
 room_left true room now is = omega arith

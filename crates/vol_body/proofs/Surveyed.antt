@@ -1,4 +1,4 @@
--- The places of a file in the order of a survey, and what its steps say of them.
+-- The positions of a file in the order of a survey, and what its steps say of them.
 use Rattle.std.proofs.Common.{◌≡◌, ◌≢◌, inl, inr, ◌≤◌, ◌<◌, ◌+◌, ◌-◌, ◌*◌, ◌/◌, ◌%◌, ℕ, zero, suc, List, [], ◌∷◌, ◌++◌, length, take, drop, map, get_or, nat_lt, if◌then◌else◌, refl, sym, ◌∙◌, ap, subst, arith}
 use Rattle.std.proofs.lemmas.Bool.{cases_eq, cases_lt}
 use Rattle.std.proofs.lemmas.Bool.Decides.{nat_tests}
@@ -11,54 +11,54 @@ use Rattle.vol_alloc.specs.Numbers.{AreDistinct}
 use Rattle.vol_inode.specs.declared.entry.Entry.{Entry}
 use Rattle.vol_inode.specs.Entry.{HasPointers}
 use Rattle.vol_inode.specs.Space.{sectors_of}
-use Rattle.vol_body.specs.Body.{Place, part, list, lists, later_list, IsPlace, named, number_in, part_bytes, byte_at, IsBody}
+use Rattle.vol_body.specs.Body.{BlockPosition, data_block, indirect_block, double_indirect_block, inner_block, IsPosition, named, number_in, block_bytes, byte_at, IsBody}
 use Rattle.vol_body.specs.Change.{Names}
-use Rattle.vol_body.specs.Survey.{parts_from, later_places, all_later, every_place, nonzero, sectors_named, AreInside, IsTrimmed}
+use Rattle.vol_body.specs.Survey.{data_blocks_from, inner_positions, all_inner_positions, every_position, nonzero, sectors_named, AreInside, IsTrimmed}
 use Rattle.vol_body.specs.internal.Surveying.{listed, with_listed, all_listed, ListsNoneFrom, LaterNone, NamesNonePast, NamesBelow, EndsInZeros}
 use Rattle.vol_body.proofs.Places.{part_direct, part_listed, part_later}
 use Rattle.vol_body.proofs.Surveys.{nonzero-append, one_number, number_listed, length-listed}
 
--- ---- every place stands in the list
+-- ---- every position stands in the list
 
-in_parts : (first count j : ℕ) → first ≤ j → j < first + count → Contains (parts_from first count) (part j)
-unfolding parts_from
+in_parts : (first count j : ℕ) → first ≤ j → j < first + count → Contains (data_blocks_from first count) (data_block j)
+unfolding data_blocks_from
 in_parts first count j le lt = (
   j - first,
-  omega (arith, le, lt, length-map-range_with_len part first count),
-  get_or-map-range_with_len part first count (j - first) j (part j) (omega (arith, le, lt)) (omega (arith, le)),
+  omega (arith, le, lt, length-map-range_with_len data_block first count),
+  get_or-map-range_with_len data_block first count (j - first) j (data_block j) (omega (arith, le, lt)) (omega (arith, le)),
 )
 
-in_flat : (f : ℕ → List Place) (a n i : ℕ) (p : Place) → a ≤ i → i < a + n → Contains (f i) p → Contains (flat_map f (range_with_len a n)) p
+in_flat : (f : ℕ → List BlockPosition) (a n i : ℕ) (p : BlockPosition) → a ≤ i → i < a + n → Contains (f i) p → Contains (flat_map f (range_with_len a n)) p
 in_flat f a zero i p le lt has = absurd (omega (arith, le, lt))
 in_flat f a (suc n) i p le lt has = elim (cases_eq a i) [
   | inl same ↦ Contains-append_left (f a) (flat_map f (range_with_len (a + 1) n)) p (subst (λ (k : ℕ). Contains (f k) p) (sym same) has)
   | inr other ↦ Contains-append_right (f a) (flat_map f (range_with_len (a + 1) n)) p (in_flat f (a + 1) n i p (omega (arith, le, other)) (omega (arith, lt)) has)
 ]
 
-in_later : (i : ℕ) (p : Place) → i < 128 → Contains (later_places i) p → Contains all_later p
-unfolding all_later
-in_later i p lt has = in_flat later_places 0 128 i p (omega arith) (omega (arith, lt)) has
+in_later : (i : ℕ) (p : BlockPosition) → i < 128 → Contains (inner_positions i) p → Contains all_inner_positions p
+unfolding all_inner_positions
+in_later i p lt has = in_flat inner_positions 0 128 i p (omega arith) (omega (arith, lt)) has
 
-first_two : List Place
-first_two = parts_from 0 58 ++ (list ∷ parts_from 58 128)
+first_two : List BlockPosition
+first_two = data_blocks_from 0 58 ++ (indirect_block ∷ data_blocks_from 58 128)
 
-pub in_every : (p : Place) → IsPlace p → Contains every_place p
+pub in_every : (p : BlockPosition) → IsPosition p → Contains every_position p
 unfolding first_two
-in_every (part j) there = elim (cases_lt j 58) [
-  | inl lt ↦ Contains-append_left first_two (lists ∷ all_later) (part j) (Contains-append_left (parts_from 0 58) (list ∷ parts_from 58 128) (part j) (in_parts 0 58 j (omega arith) lt))
+in_every (data_block j) there = elim (cases_lt j 58) [
+  | inl lt ↦ Contains-append_left first_two (double_indirect_block ∷ all_inner_positions) (data_block j) (Contains-append_left (data_blocks_from 0 58) (indirect_block ∷ data_blocks_from 58 128) (data_block j) (in_parts 0 58 j (omega arith) lt))
   | inr le ↦ elim (cases_lt j 186) [
-    | inl below ↦ Contains-append_left first_two (lists ∷ all_later) (part j) (Contains-append_right (parts_from 0 58) (list ∷ parts_from 58 128) (part j) (Contains-append_right (list ∷ []) (parts_from 58 128) (part j) (in_parts 58 128 j le (omega (arith, below)))))
+    | inl below ↦ Contains-append_left first_two (double_indirect_block ∷ all_inner_positions) (data_block j) (Contains-append_right (data_blocks_from 0 58) (indirect_block ∷ data_blocks_from 58 128) (data_block j) (Contains-append_right (indirect_block ∷ []) (data_blocks_from 58 128) (data_block j) (in_parts 58 128 j le (omega (arith, below)))))
     | inr past ↦
         let i = (j - 186) / 128 in
-        Contains-append_right first_two (lists ∷ all_later) (part j) (Contains-append_right (lists ∷ []) all_later (part j)
-        (in_later i (part j) (omega (arith, there)) (Contains-append_right (later_list i ∷ []) (parts_from (186 + 128 * i) 128) (part j) (in_parts (186 + 128 * i) 128 j (omega (arith, past)) (omega (arith, past))))))
+        Contains-append_right first_two (double_indirect_block ∷ all_inner_positions) (data_block j) (Contains-append_right (double_indirect_block ∷ []) all_inner_positions (data_block j)
+        (in_later i (data_block j) (omega (arith, there)) (Contains-append_right (inner_block i ∷ []) (data_blocks_from (186 + 128 * i) 128) (data_block j) (in_parts (186 + 128 * i) 128 j (omega (arith, past)) (omega (arith, past))))))
   ]
 ]
-in_every list there = Contains-append_left first_two (lists ∷ all_later) list (Contains-append_right (parts_from 0 58) (list ∷ parts_from 58 128) list (0, omega arith, refl))
-in_every lists there = Contains-append_right first_two (lists ∷ all_later) lists (0, omega arith, refl)
-in_every (later_list i) there = Contains-append_right first_two (lists ∷ all_later) (later_list i) (Contains-append_right (lists ∷ []) all_later (later_list i) (in_later i (later_list i) there (0, omega arith, refl)))
+in_every indirect_block there = Contains-append_left first_two (double_indirect_block ∷ all_inner_positions) indirect_block (Contains-append_right (data_blocks_from 0 58) (indirect_block ∷ data_blocks_from 58 128) indirect_block (0, omega arith, refl))
+in_every double_indirect_block there = Contains-append_right first_two (double_indirect_block ∷ all_inner_positions) double_indirect_block (0, omega arith, refl)
+in_every (inner_block i) there = Contains-append_right first_two (double_indirect_block ∷ all_inner_positions) (inner_block i) (Contains-append_right (double_indirect_block ∷ []) all_inner_positions (inner_block i) (in_later i (inner_block i) there (0, omega arith, refl)))
 
-in_map : (g : Place → ℕ) (xs : List Place) (p : Place) → Contains xs p → Contains (map g xs) (g p)
+in_map : (g : BlockPosition → ℕ) (xs : List BlockPosition) (p : BlockPosition) → Contains xs p → Contains (map g xs) (g p)
 in_map g xs p has = (has.0, omega (arith, has.1, length-map xs g), get_or-map g xs has.0 p (g p) has.1 ∙ ap g has.2)
 
 only : (x n k : ℕ) → k < 1 → get_or (x ∷ []) k n ≡ n → x ≡ n
@@ -74,76 +74,76 @@ in_nonzero (x ∷ xs) n some has = subst (λ (l : List ℕ). Contains l n) (sym 
   | inr rest ↦ Contains-append_right (nonzero (x ∷ [])) (nonzero xs) n (in_nonzero xs n some rest)
 ])
 
-pub named_stands : (content : Image) (e : Entry) (p : Place) → IsPlace p → named content e p ≢ 0 → Contains (sectors_named content e) (named content e p)
-named_stands content e p there some = in_nonzero (map (named content e) every_place) (named content e p) some (in_map (named content e) every_place p (in_every p there))
+pub named_stands : (content : Image) (e : Entry) (p : BlockPosition) → IsPosition p → named content e p ≢ 0 → Contains (sectors_named content e) (named content e p)
+named_stands content e p there some = in_nonzero (map (named content e) every_position) (named content e p) some (in_map (named content e) every_position p (in_every p there))
 
 pub names_below : (content : Image) (e : Entry) (first end : ℕ) (a : List ℕ) → AreInside first end (a ++ sectors_named content e) → NamesBelow content e end
 names_below content e first end a all p there some =
     let both = all.inside (named content e p) (Contains-append_right a (sectors_named content e) (named content e p) (named_stands content e p there some)) in
     both.1
 
--- ---- the numbers at these places are those that the steps push
+-- ---- the numbers at these positions are those that the steps push
 
-at_parts : (g : Place → ℕ) (first count : ℕ) (numbers : List ℕ) → length numbers ≡ count → ((i : ℕ) → i < count → get_or numbers i 0 ≡ g (part (first + i))) → map g (parts_from first count) ≡ numbers
-unfolding parts_from
+at_parts : (g : BlockPosition → ℕ) (first count : ℕ) (numbers : List ℕ) → length numbers ≡ count → ((i : ℕ) → i < count → get_or numbers i 0 ≡ g (data_block (first + i))) → map g (data_blocks_from first count) ≡ numbers
+unfolding data_blocks_from
 at_parts g first count numbers long same =
-    let parts = map part (range_with_len first count) in
-    let many : length parts ≡ count = length-map-range_with_len part first count in
+    let parts = map data_block (range_with_len first count) in
+    let many : length parts ≡ count = length-map-range_with_len data_block first count in
     ext_get_or 0 (map g parts) numbers (length-map parts g ∙ many ∙ sym long) (λ i lt.
     let within : i < count = omega (arith, lt, length-map parts g, many) in
-    get_or-map g parts i list 0 (omega (arith, within, many)) ∙ ap g (get_or-map-range_with_len part first count i (first + i) list within (omega arith)) ∙ sym (same i within))
+    get_or-map g parts i indirect_block 0 (omega (arith, within, many)) ∙ ap g (get_or-map-range_with_len data_block first count i (first + i) indirect_block within (omega arith)) ∙ sym (same i within))
 
-at_flat : (g : Place → ℕ) (f : ℕ → List Place) (h : ℕ → List ℕ) (k : ℕ → ℕ) (a n : ℕ) → ((i : ℕ) → a ≤ i → i < a + n → map g (f i) ≡ h (k i)) → map g (flat_map f (range_with_len a n)) ≡ flat_map h (map k (range_with_len a n))
+at_flat : (g : BlockPosition → ℕ) (f : ℕ → List BlockPosition) (h : ℕ → List ℕ) (k : ℕ → ℕ) (a n : ℕ) → ((i : ℕ) → a ≤ i → i < a + n → map g (f i) ≡ h (k i)) → map g (flat_map f (range_with_len a n)) ≡ flat_map h (map k (range_with_len a n))
 at_flat g f h k a zero same = refl
 at_flat g f h k a (suc n) same =
     let one = same a (omega arith) (omega arith) in
     let rest = at_flat g f h k (a + 1) n (λ i le lt. same i (omega (arith, le)) (omega (arith, lt))) in
     map-append g (f a) (flat_map f (range_with_len (a + 1) n)) ∙ (λ i. one i ++ rest i)
 
-at_list : (content : Image) (e : Entry) → map (named content e) (parts_from 58 128) ≡ listed content (named content e list)
-at_list content e = at_parts (named content e) 58 128 (listed content (named content e list)) (length-listed content (named content e list)) (λ i lt.
+at_list : (content : Image) (e : Entry) → map (named content e) (data_blocks_from 58 128) ≡ listed content (named content e indirect_block)
+at_list content e = at_parts (named content e) 58 128 (listed content (named content e indirect_block)) (length-listed content (named content e indirect_block)) (λ i lt.
     let same : 58 + i - 58 ≡ i = omega arith in
-    number_listed content (named content e list) i lt ∙ sym (part_listed content e (58 + i) (omega arith) (omega (arith, lt)) ∙ ap (number_in content (named content e list)) same))
+    number_listed content (named content e indirect_block) i lt ∙ sym (part_listed content e (58 + i) (omega arith) (omega (arith, lt)) ∙ ap (number_in content (named content e indirect_block)) same))
 
--- the number of a part that a later list has
-pub later_part : (content : Image) (e : Entry) (q i : ℕ) → i < 128 → named content e (part (186 + 128 * q + i)) ≡ number_in content (named content e (later_list q)) i
+-- the number of a data block that an inner block has
+pub later_part : (content : Image) (e : Entry) (q i : ℕ) → i < 128 → named content e (data_block (186 + 128 * q + i)) ≡ number_in content (named content e (inner_block q)) i
 later_part content e q i lt =
     let j = 186 + 128 * q + i in
     let which : (j - 186) / 128 ≡ q = omega (arith, lt) in
     let place : (j - 186) % 128 ≡ i = omega (arith, lt) in
-    part_later content e j (omega arith) ∙ ap (λ (k : ℕ). number_in content (named content e (later_list k)) ((j - 186) % 128)) which ∙ ap (number_in content (named content e (later_list q))) place
+    part_later content e j (omega arith) ∙ ap (λ (k : ℕ). number_in content (named content e (inner_block k)) ((j - 186) % 128)) which ∙ ap (number_in content (named content e (inner_block q))) place
 
-at_later : (content : Image) (e : Entry) (q : ℕ) → map (named content e) (later_places q) ≡ with_listed content (named content e (later_list q))
+at_later : (content : Image) (e : Entry) (q : ℕ) → map (named content e) (inner_positions q) ≡ with_listed content (named content e (inner_block q))
 at_later content e q =
-    let n = named content e (later_list q) in
+    let n = named content e (inner_block q) in
     ap (λ (l : List ℕ). n ∷ l) (at_parts (named content e) (186 + 128 * q) 128 (listed content n) (length-listed content n) (λ i lt. number_listed content n i lt ∙ sym (later_part content e q i lt)))
 
-at_all_later : (content : Image) (e : Entry) → map (named content e) all_later ≡ all_listed content (listed content (named content e lists))
-unfolding all_later listed
-at_all_later content e = at_flat (named content e) later_places (with_listed content) (number_in content (named content e lists)) 0 128 (λ i le lt. at_later content e i)
+at_all_later : (content : Image) (e : Entry) → map (named content e) all_inner_positions ≡ all_listed content (listed content (named content e double_indirect_block))
+unfolding all_inner_positions listed
+at_all_later content e = at_flat (named content e) inner_positions (with_listed content) (number_in content (named content e double_indirect_block)) 0 128 (λ i le lt. at_later content e i)
 
-at_direct : (content : Image) (e : Entry) → length e.pointers ≡ 60 → map (named content e) (parts_from 0 58) ≡ take 58 e.pointers
+at_direct : (content : Image) (e : Entry) → length e.pointers ≡ 60 → map (named content e) (data_blocks_from 0 58) ≡ take 58 e.pointers
 at_direct content e long = at_parts (named content e) 0 58 (take 58 e.pointers) (length-take-le 58 e.pointers (omega (arith, long))) (λ i lt.
     let same : i ≡ 0 + i = omega arith in
-    get_or-take 58 e.pointers i 0 lt ∙ sym (part_direct content e i lt) ∙ ap (λ (j : ℕ). named content e (part j)) same)
+    get_or-take 58 e.pointers i 0 lt ∙ sym (part_direct content e i lt) ∙ ap (λ (j : ℕ). named content e (data_block j)) same)
 
 pub at_every : (content : Image) (e : Entry) → length e.pointers ≡ 60
-    → (take 58 e.pointers ++ with_listed content (named content e list)) ++ (named content e lists ∷ all_listed content (listed content (named content e lists))) ≡ map (named content e) every_place
+    → (take 58 e.pointers ++ with_listed content (named content e indirect_block)) ++ (named content e double_indirect_block ∷ all_listed content (listed content (named content e double_indirect_block))) ≡ map (named content e) every_position
 at_every content e long =
     let g = named content e in
     let a = sym (at_direct content e long) in
     let b = sym (at_list content e) in
     let c = sym (at_all_later content e) in
-    (λ i. (a i ++ (g list ∷ b i)) ++ (g lists ∷ c i))
-    ∙ sym (map-append g (parts_from 0 58 ++ (list ∷ parts_from 58 128)) (lists ∷ all_later) ∙ ap (λ (l : List ℕ). l ++ map g (lists ∷ all_later)) (map-append g (parts_from 0 58) (list ∷ parts_from 58 128)))
+    (λ i. (a i ++ (g indirect_block ∷ b i)) ++ (g double_indirect_block ∷ c i))
+    ∙ sym (map-append g (data_blocks_from 0 58 ++ (indirect_block ∷ data_blocks_from 58 128)) (double_indirect_block ∷ all_inner_positions) ∙ ap (λ (l : List ℕ). l ++ map g (double_indirect_block ∷ all_inner_positions)) (map-append g (data_blocks_from 0 58) (indirect_block ∷ data_blocks_from 58 128)))
 
--- ---- no number stands for a part at or past the size
+-- ---- no number stands for a data block at or past the size
 
 serves_first : (k : ℕ) → k < 59 → (if nat_lt k 59 then k else 186) ≡ k
 serves_first k lt = grind (arith, nat_tests)
 
-pub none_past : (content : Image) (e : Entry) → HasPointers e → ListsNoneFrom content (named content e list) (sectors_of e.size - 58) → LaterNone content (named content e lists) (sectors_of e.size) → NamesNonePast content e
-none_past content e pointers own none (part j) there le = elim (cases_lt j 58) [
+pub none_past : (content : Image) (e : Entry) → HasPointers e → ListsNoneFrom content (named content e indirect_block) (sectors_of e.size - 58) → LaterNone content (named content e double_indirect_block) (sectors_of e.size) → NamesNonePast content e
+none_past content e pointers own none (data_block j) there le = elim (cases_lt j 58) [
   | inl lt ↦ part_direct content e j lt ∙ pointers j (omega (arith, lt)) (subst (λ (k : ℕ). sectors_of e.size ≤ k) (sym (serves_first j (omega (arith, lt)))) le)
   | inr past ↦ elim (cases_lt j 186) [
     | inl lt ↦ part_listed content e j past lt ∙ own (j - 58) (omega (arith, le)) (omega (arith, lt))
@@ -151,22 +151,22 @@ none_past content e pointers own none (part j) there le = elim (cases_lt j 58) [
         let q = (j - 186) / 128 in
         let i = (j - 186) % 128 in
         let below : q < 128 = omega (arith, there) in
-        part_later content e j later ∙ ap (λ (n : ℕ). number_in content n i) (sym (number_listed content (named content e lists) q below)) ∙ none.later q below i (omega (arith, le, later)) (omega arith)
+        part_later content e j later ∙ ap (λ (n : ℕ). number_in content n i) (sym (number_listed content (named content e double_indirect_block) q below)) ∙ none.later q below i (omega (arith, le, later)) (omega arith)
   ]
 ]
-none_past content e pointers own none list there le = pointers 58 (omega arith) le
-none_past content e pointers own none lists there le = pointers 59 (omega arith) le
-none_past content e pointers own none (later_list i) there le = none.own i (omega (arith, le)) there
+none_past content e pointers own none indirect_block there le = pointers 58 (omega arith) le
+none_past content e pointers own none double_indirect_block there le = pointers 59 (omega arith) le
+none_past content e pointers own none (inner_block i) there le = none.own i (omega (arith, le)) there
 
-pub past_list : (content : Image) (e : Entry) → NamesNonePast content e → ListsNoneFrom content (named content e list) (sectors_of e.size - 58)
+pub past_list : (content : Image) (e : Entry) → NamesNonePast content e → ListsNoneFrom content (named content e indirect_block) (sectors_of e.size - 58)
 past_list content e past i le lt =
     let same : i ≡ 58 + i - 58 = omega arith in
-    ap (number_in content (named content e list)) same ∙ sym (part_listed content e (58 + i) (omega arith) (omega (arith, lt))) ∙ past (part (58 + i)) (omega (arith, lt)) (omega (arith, le))
+    ap (number_in content (named content e indirect_block)) same ∙ sym (part_listed content e (58 + i) (omega arith) (omega (arith, lt))) ∙ past (data_block (58 + i)) (omega (arith, lt)) (omega (arith, le))
 
-pub past_later : (content : Image) (e : Entry) → NamesNonePast content e → LaterNone content (named content e lists) (sectors_of e.size)
+pub past_later : (content : Image) (e : Entry) → NamesNonePast content e → LaterNone content (named content e double_indirect_block) (sectors_of e.size)
 past_later content e past = record {
-  own = λ i le lt. past (later_list i) lt (omega (arith, le));
-  later = λ q below i le lt. ap (λ (n : ℕ). number_in content n i) (number_listed content (named content e lists) q below) ∙ sym (later_part content e q i lt) ∙ past (part (186 + 128 * q + i)) (omega (arith, below, lt)) (omega (arith, le));
+  own = λ i le lt. past (inner_block i) lt (omega (arith, le));
+  later = λ q below i le lt. ap (λ (n : ℕ). number_in content n i) (number_listed content (named content e double_indirect_block) q below) ∙ sym (later_part content e q i lt) ∙ past (data_block (186 + 128 * q + i)) (omega (arith, below, lt)) (omega (arith, le));
 }
 
 -- ---- the bytes past the size
@@ -175,8 +175,8 @@ pub zeros_past : (content : Image) (e : Entry) → NamesNonePast content e → E
 zeros_past content e past ends k le lt = elim (cases_lt (k / 512) (sectors_of e.size)) [
   | inl last ↦
       let same : k / 512 ≡ e.size / 512 = omega (arith, le, last) in
-      ap (λ (j : ℕ). get_or (part_bytes content (named content e (part j))) (k % 512) 0) same ∙ ends (k % 512) (omega (arith, le, last)) (omega (arith, le, last)) (omega arith)
-  | inr behind ↦ ap (λ (n : ℕ). get_or (part_bytes content n) (k % 512) 0) (past (part (k / 512)) (omega (arith, lt)) behind) ∙ get_or-replicate 512 (k % 512) 0 0 (omega arith)
+      ap (λ (j : ℕ). get_or (block_bytes content (named content e (data_block j))) (k % 512) 0) same ∙ ends (k % 512) (omega (arith, le, last)) (omega (arith, le, last)) (omega arith)
+  | inr behind ↦ ap (λ (n : ℕ). get_or (block_bytes content n) (k % 512) 0) (past (data_block (k / 512)) (omega (arith, lt)) behind) ∙ get_or-replicate 512 (k % 512) 0 0 (omega arith)
 ]
 
 pub ends_trimmed : (content : Image) (e : Entry) → e.size ≤ 8483840 → IsTrimmed content e → EndsInZeros content e
@@ -184,45 +184,45 @@ ends_trimmed content e small trimmed k some le lt =
     let at = 512 * (e.size / 512) + k in
     let same : e.size / 512 ≡ at / 512 = omega (arith, lt) in
     let place : k ≡ at % 512 = omega (arith, lt) in
-    ap (λ (j : ℕ). get_or (part_bytes content (named content e (part j))) k 0) same ∙ ap (λ (i : ℕ). get_or (part_bytes content (named content e (part (at / 512)))) i 0) place
+    ap (λ (j : ℕ). get_or (block_bytes content (named content e (data_block j))) k 0) same ∙ ap (λ (i : ℕ). get_or (block_bytes content (named content e (data_block (at / 512)))) i 0) place
     ∙ trimmed.zeros at (omega (arith, le)) (omega (arith, small, some, lt))
 
--- ---- each number of a survey is named at some place
+-- ---- each number of a survey is named at some position
 
-flat_are : (f : ℕ → List Place) (a n m : ℕ) → a + n ≤ m → ((i : ℕ) → i < m → (p : Place) → Contains (f i) p → IsPlace p) → (p : Place) → Contains (flat_map f (range_with_len a n)) p → IsPlace p
+flat_are : (f : ℕ → List BlockPosition) (a n m : ℕ) → a + n ≤ m → ((i : ℕ) → i < m → (p : BlockPosition) → Contains (f i) p → IsPosition p) → (p : BlockPosition) → Contains (flat_map f (range_with_len a n)) p → IsPosition p
 flat_are f a zero m le each p has = absurd (omega (arith, has.1))
 flat_are f a (suc n) m le each p has = elim (Contains-append_cases (f a) (flat_map f (range_with_len (a + 1) n)) p has) [
   | inl one ↦ each a (omega (arith, le)) p one
   | inr rest ↦ flat_are f (a + 1) n m (omega (arith, le)) each p rest
 ]
 
-parts_are : (first count : ℕ) → first + count ≤ 16570 → (p : Place) → Contains (parts_from first count) p → IsPlace p
-unfolding parts_from
+parts_are : (first count : ℕ) → first + count ≤ 16570 → (p : BlockPosition) → Contains (data_blocks_from first count) p → IsPosition p
+unfolding data_blocks_from
 parts_are first count le p has =
-    let many : has.0 < count = omega (arith, has.1, length-map-range_with_len part first count) in
-    subst IsPlace (sym (get_or-map-range_with_len part first count has.0 (first + has.0) p many (omega arith)) ∙ has.2) (omega (arith, le, many))
+    let many : has.0 < count = omega (arith, has.1, length-map-range_with_len data_block first count) in
+    subst IsPosition (sym (get_or-map-range_with_len data_block first count has.0 (first + has.0) p many (omega arith)) ∙ has.2) (omega (arith, le, many))
 
-head_or : (x p : Place) (xs : List Place) → IsPlace x → ((q : Place) → Contains xs q → IsPlace q) → Contains (x ∷ xs) p → IsPlace p
+head_or : (x p : BlockPosition) (xs : List BlockPosition) → IsPosition x → ((q : BlockPosition) → Contains xs q → IsPosition q) → Contains (x ∷ xs) p → IsPosition p
 head_or x p xs there rest has = elim (Contains-append_cases (x ∷ []) xs p has) [
-  | inl one ↦ subst IsPlace (sole x p one.0 one.1 one.2) there
+  | inl one ↦ subst IsPosition (sole x p one.0 one.1 one.2) there
   | inr later ↦ rest p later
 ]
   where
-    sole : (x p : Place) (k : ℕ) → k < 1 → get_or (x ∷ []) k p ≡ p → x ≡ p
+    sole : (x p : BlockPosition) (k : ℕ) → k < 1 → get_or (x ∷ []) k p ≡ p → x ≡ p
     sole x p zero lt is = is
     sole x p (suc k) lt is = absurd (omega (arith, lt))
 
-later_are : (p : Place) → Contains all_later p → IsPlace p
-unfolding all_later
-later_are p has = flat_are later_places 0 128 128 (omega arith) (λ i lt q stands. head_or (later_list i) q (parts_from (186 + 128 * i) 128) lt (parts_are (186 + 128 * i) 128 (omega (arith, lt))) stands) p has
+later_are : (p : BlockPosition) → Contains all_inner_positions p → IsPosition p
+unfolding all_inner_positions
+later_are p has = flat_are inner_positions 0 128 128 (omega arith) (λ i lt q stands. head_or (inner_block i) q (data_blocks_from (186 + 128 * i) 128) lt (parts_are (186 + 128 * i) 128 (omega (arith, lt))) stands) p has
 
-pub every_is : (p : Place) → Contains every_place p → IsPlace p
-every_is p has = elim (Contains-append_cases (parts_from 0 58 ++ (list ∷ parts_from 58 128)) (lists ∷ all_later) p has) [
-  | inl front ↦ elim (Contains-append_cases (parts_from 0 58) (list ∷ parts_from 58 128) p front) [
+pub every_is : (p : BlockPosition) → Contains every_position p → IsPosition p
+every_is p has = elim (Contains-append_cases (data_blocks_from 0 58 ++ (indirect_block ∷ data_blocks_from 58 128)) (double_indirect_block ∷ all_inner_positions) p has) [
+  | inl front ↦ elim (Contains-append_cases (data_blocks_from 0 58) (indirect_block ∷ data_blocks_from 58 128) p front) [
     | inl direct ↦ parts_are 0 58 (omega arith) p direct
-    | inr next ↦ head_or list p (parts_from 58 128) tt (parts_are 58 128 (omega arith)) next
+    | inr next ↦ head_or indirect_block p (data_blocks_from 58 128) tt (parts_are 58 128 (omega arith)) next
   ]
-  | inr later ↦ head_or lists p all_later tt later_are later
+  | inr later ↦ head_or double_indirect_block p all_inner_positions tt later_are later
 ]
 
 -- what is left of numbers stood among them, and isn't 0
@@ -249,17 +249,17 @@ was_there (x ∷ xs) n has = elim (Contains-append_cases (nonzero (x ∷ [])) (n
 pub stands_named : (content : Image) (e : Entry) (n : ℕ) → Contains (sectors_named content e) n → Names content e n
 stands_named content e n has =
     let g = named content e in
-    let there = was_there (map g every_place) n has in
+    let there = was_there (map g every_position) n has in
     let at = there.0 in
     let k = at.0 in
-    let below : k < length every_place = omega (arith, at.1, length-map every_place g) in
-    let p = get_or every_place k list in
+    let below : k < length every_position = omega (arith, at.1, length-map every_position g) in
+    let p = get_or every_position k indirect_block in
     record {
       some = there.1;
-      place = (p, every_is p (Contains-get_or every_place k list below), sym (get_or-map g every_place k list n below) ∙ at.2);
+      position = (p, every_is p (Contains-get_or every_position k indirect_block below), sym (get_or-map g every_position k indirect_block n below) ∙ at.2);
     }
 
--- ---- where no number stands twice, no two places name the same sector
+-- ---- where no number stands twice, no two positions name the same sector
 
 pub not_in_both : (xs ys : List ℕ) (n : ℕ) → AreDistinct (xs ++ ys) → Contains xs n → Contains ys n → ⊥
 not_in_both xs ys n distinct left right =
@@ -283,25 +283,25 @@ not_twice xs n i k distinct some lt below first second =
     (in_nonzero front n some (i, omega (arith, short), get_or-take (i + 1) xs i n (omega arith) ∙ first))
     (in_nonzero back n some (k - (i + 1), omega (arith, lt, below, length-drop (i + 1) xs), get_or-drop (i + 1) xs (k - (i + 1)) n ∙ ap (λ (m : ℕ). get_or xs m n) place ∙ second))
 
-one_place : (content : Image) (e : Entry) → AreDistinct (sectors_named content e) → (p q : Place) → IsPlace p → IsPlace q → named content e p ≢ 0 → named content e p ≡ named content e q → p ≡ q
+one_place : (content : Image) (e : Entry) → AreDistinct (sectors_named content e) → (p q : BlockPosition) → IsPosition p → IsPosition q → named content e p ≢ 0 → named content e p ≡ named content e q → p ≡ q
 one_place content e distinct p q there_p there_q some same =
     let g = named content e in
     let n = g p in
     let at_p = in_every p there_p in
     let at_q = in_every q there_q in
-    let numbers = map g every_place in
+    let numbers = map g every_position in
     let i = at_p.0 in
     let k = at_q.0 in
-    let long = length-map every_place g in
-    let first : get_or numbers i n ≡ n = get_or-map g every_place i p n at_p.1 ∙ ap g at_p.2 in
-    let second : get_or numbers k n ≡ n = get_or-map g every_place k q n at_q.1 ∙ ap g at_q.2 ∙ sym same in
+    let long = length-map every_position g in
+    let first : get_or numbers i n ≡ n = get_or-map g every_position i p n at_p.1 ∙ ap g at_p.2 in
+    let second : get_or numbers k n ≡ n = get_or-map g every_position k q n at_q.1 ∙ ap g at_q.2 ∙ sym same in
     elim (cases_lt i k) [
       | inl lt ↦ absurd (not_twice numbers n i k distinct some lt (omega (arith, at_q.1, long)) first second)
       | inr le ↦ elim (cases_lt k i) [
         | inl lt ↦ absurd (not_twice numbers n k i distinct some lt (omega (arith, at_p.1, long)) second first)
         | inr ge ↦
             let one : i ≡ k = omega (arith, le, ge) in
-            sym at_p.2 ∙ get_or_default every_place i p q at_p.1 ∙ ap (λ (m : ℕ). get_or every_place m q) one ∙ at_q.2
+            sym at_p.2 ∙ get_or_default every_position i p q at_p.1 ∙ ap (λ (m : ℕ). get_or every_position m q) one ∙ at_q.2
       ]
     ]
 

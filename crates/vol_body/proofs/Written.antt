@@ -5,12 +5,12 @@ use Rattle.std.proofs.lemmas.Bool.Decides.{nat_tests}
 use Rattle.std.proofs.lemmas.List.{ext_get_or, length-append, length-take-le, length-drop, length-replicate, get_or_append_left, get_or-append_right, get_or-take, get_or-drop, get_or-replicate}
 use Rattle.vol_sector.specs.Disk.{Image}
 use Rattle.vol_inode.specs.declared.entry.Entry.{Entry}
-use Rattle.vol_body.specs.Body.{part, named, part_bytes, byte_at, bytes_of, IsBody}
+use Rattle.vol_body.specs.Body.{data_block, named, block_bytes, byte_at, bytes_of, IsBody}
 use Rattle.vol_body.specs.Change.{extended, written}
 use Rattle.vol_body.specs.internal.Writing.{image_of}
 use Rattle.vol_body.proofs.Parts.{length-bytes_of, get_or-bytes_of}
 
--- a list with a part of another put into it
+-- a list with a data block of another put into it
 module _ (old new : List ℕ) (a b n skip : ℕ) (sum : a + n ≡ b) (within : b ≤ length old) (there : skip + n ≤ length new) where
   front_long : length (take a old) ≡ a
   front_long = length-take-le a old (omega arith)
@@ -41,7 +41,7 @@ module _ (old new : List ℕ) (a b n skip : ℕ) (sum : a + n ≡ b) (within : b
       ∙ get_or-drop b old (r - b) 0
       ∙ ap (λ (x : ℕ). get_or old x 0) back
 
--- The bytes that a write leaves in a part that it touches.
+-- The bytes that a write leaves in a data block that it touches.
 module _ (offset : ℕ) (bytes first last : List ℕ) (first_long : length first ≡ 512) (last_long : length last ≡ 512) where
   old_long : (b c : Bool) → length (if b then first else (if c then last else replicate 512 0)) ≡ 512
   old_long true c = first_long
@@ -92,24 +92,24 @@ module _ (offset : ℕ) (bytes first last : List ℕ) (first_long : length first
         splice_behind old bytes (from - 512 * j) (to - 512 * j) (to - from) (from - offset) (omega arith) (omega arith) (omega arith) r (omega arith)
         ∙ ap (λ (l : List ℕ). get_or l r 0) (old_last j (replicate 512 0) starts (omega arith))
 
--- What a write leaves: the parts that it touches have the new bytes, with the old ones around them, and others stay.
+-- What a write leaves: the data blocks that it touches have the new bytes, with the old ones around them, and others stay.
 pub record IsWrite (content after : Image) (e changed : Entry) (offset : ℕ) (bytes first last : List ℕ) : Type 0 where
   pub some : 0 < length bytes
   pub small : offset + length bytes ≤ 8483840
   pub first_long : length first ≡ 512
   pub last_long : length last ≡ 512
-  -- the old bytes of the first part and of the last one, where it isn't written whole
-  pub first_is : (offset ≤ 512 * (offset / 512) → 512 * (offset / 512) + 512 ≤ offset + length bytes → ⊥) → first ≡ part_bytes content (named content e (part (offset / 512)))
+  -- the old bytes of the first data block and of the last one, where it isn't written whole
+  pub first_is : (offset ≤ 512 * (offset / 512) → 512 * (offset / 512) + 512 ≤ offset + length bytes → ⊥) → first ≡ block_bytes content (named content e (data_block (offset / 512)))
   pub last_is : (offset ≤ 512 * ((offset + length bytes - 1) / 512) → 512 * ((offset + length bytes - 1) / 512) + 512 ≤ offset + length bytes → ⊥)
-      → last ≡ part_bytes content (named content e (part ((offset + length bytes - 1) / 512)))
-  pub touched : (j : ℕ) → offset / 512 ≤ j → j ≤ (offset + length bytes - 1) / 512 → part_bytes after (named after changed (part j)) ≡ image_of offset bytes first last j
-  pub others : (j : ℕ) → j < 16570 → (offset / 512 ≤ j → j ≤ (offset + length bytes - 1) / 512 → ⊥) → part_bytes after (named after changed (part j)) ≡ part_bytes content (named content e (part j))
+      → last ≡ block_bytes content (named content e (data_block ((offset + length bytes - 1) / 512)))
+  pub touched : (j : ℕ) → offset / 512 ≤ j → j ≤ (offset + length bytes - 1) / 512 → block_bytes after (named after changed (data_block j)) ≡ image_of offset bytes first last j
+  pub others : (j : ℕ) → j < 16570 → (offset / 512 ≤ j → j ≤ (offset + length bytes - 1) / 512 → ⊥) → block_bytes after (named after changed (data_block j)) ≡ block_bytes content (named content e (data_block j))
 
 module _ (content after : Image) (e changed : Entry) (offset : ℕ) (bytes first last : List ℕ) (write : IsWrite content after e changed offset bytes first last) where
   whole : (k : ℕ) → 512 * (k / 512) + k % 512 ≡ k
   whole k = omega arith
 
-  -- a byte of a part that is touched
+  -- a byte of a data block that is touched
   byte_of_image : (k : ℕ) → offset / 512 ≤ k / 512 → k / 512 ≤ (offset + length bytes - 1) / 512 → byte_at after changed k ≡ get_or (image_of offset bytes first last (k / 512)) (k % 512) 0
   byte_of_image k from to = ap (λ (l : List ℕ). get_or l (k % 512) 0) (write.touched (k / 512) from to)
 
@@ -120,18 +120,18 @@ module _ (content after : Image) (e changed : Entry) (offset : ℕ) (bytes first
       ∙ image_in offset bytes first last write.first_long write.last_long (k / 512) (omega arith) (omega arith) (k % 512) (omega arith) (omega arith) (omega arith)
       ∙ ap (λ (x : ℕ). get_or bytes x 0) at
 
-  -- where the first part that is touched has old bytes, they are there
+  -- where the first data block that is touched has old bytes, they are there
   byte_of_first : (k : ℕ) → k / 512 ≡ offset / 512 → (offset ≤ 512 * (offset / 512) → 512 * (offset / 512) + 512 ≤ offset + length bytes → ⊥) → get_or first (k % 512) 0 ≡ byte_at content e k
   byte_of_first k same old =
       ap (λ (l : List ℕ). get_or l (k % 512) 0) (write.first_is old)
-      ∙ sym (ap (λ (j : ℕ). get_or (part_bytes content (named content e (part j))) (k % 512) 0) same)
+      ∙ sym (ap (λ (j : ℕ). get_or (block_bytes content (named content e (data_block j))) (k % 512) 0) same)
 
   byte_of_last : (k : ℕ) → k / 512 ≡ (offset + length bytes - 1) / 512 → (offset ≤ 512 * ((offset + length bytes - 1) / 512) → 512 * ((offset + length bytes - 1) / 512) + 512 ≤ offset + length bytes → ⊥) → get_or last (k % 512) 0 ≡ byte_at content e k
   byte_of_last k same old =
       ap (λ (l : List ℕ). get_or l (k % 512) 0) (write.last_is old)
-      ∙ sym (ap (λ (j : ℕ). get_or (part_bytes content (named content e (part j))) (k % 512) 0) same)
+      ∙ sym (ap (λ (j : ℕ). get_or (block_bytes content (named content e (data_block j))) (k % 512) 0) same)
 
-  -- a byte of a part that isn't touched
+  -- a byte of a data block that isn't touched
   byte_elsewhere : (k : ℕ) → k < 8483840 → (offset / 512 ≤ k / 512 → k / 512 ≤ (offset + length bytes - 1) / 512 → ⊥) → byte_at after changed k ≡ byte_at content e k
   byte_elsewhere k lt not = ap (λ (l : List ℕ). get_or l (k % 512) 0) (write.others (k / 512) (omega arith) not)
 

@@ -12,7 +12,7 @@ use Rattle.vol_inode.specs.declared.version.Version.{Version}
 use Rattle.vol_inode.specs.Entry.{IsEntry}
 use Rattle.vol_inode.specs.Space.{size_limit}
 use Rattle.vol_inode.specs.Spelling.{spelling}
-use Rattle.vol_body.specs.Body.{Place, IsPlace, named, places_of, bytes_of, NamesTaken, NamesOthers, IsBody}
+use Rattle.vol_body.specs.Body.{BlockPosition, IsPosition, named, positions_of, bytes_of, NamesTaken, NamesOthers, IsBody}
 
 -- the bytes with zeros behind them, up to a length
 abbrev pub extended : ℕ → List ℕ → List ℕ
@@ -30,17 +30,17 @@ written old offset (byte ∷ bytes) = take offset (extended offset old) ++ (byte
 -- the file names this sector
 pub record Names (content : Image) (e : Entry) (n : ℕ) : Type 0 where
   pub some : n ≢ 0
-  pub place : (p : Place) × IsPlace p × (named content e p ≡ n)
+  pub position : (p : BlockPosition) × IsPosition p × (named content e p ≡ n)
 
 -- how many sectors the file names
 abbrev pub used_of : Image → Entry → ℕ
-used_of content e = count_by (λ p. not (named content e p == 0)) (places_of e.size)
+used_of content e = count_by (λ p. not (named content e p == 0)) (positions_of e.size)
 
 -- Other sectors stay: those out of the range of data sectors, but for the file's entry, and those that are taken and not
 -- the file's.
-pub record OthersStay (place first end : ℕ) (is_taken : ℕ → Bool) (content after : Image) (e : Entry) : Type 0 where
-  pub outside : (n : ℕ) → n ≢ place → (n < first) ⊎ (end ≤ n) → after n ≡ content n
-  pub taken : (n : ℕ) → n ≢ place → is_taken n ≡ true → NamesOthers content e n → after n ≡ content n
+pub record OthersStay (inode_sector first end : ℕ) (is_taken : ℕ → Bool) (content after : Image) (e : Entry) : Type 0 where
+  pub outside : (n : ℕ) → n ≢ inode_sector → (n < first) ⊎ (end ≤ n) → after n ≡ content n
+  pub taken : (n : ℕ) → n ≢ inode_sector → is_taken n ≡ true → NamesOthers content e n → after n ≡ content n
 
 -- The taken sectors change with the names of the file.
 pub record TakesAndGives (before now : ℕ → Bool) (content after : Image) (e changed : Entry) : Type 0 where
@@ -56,12 +56,12 @@ pub record TakesAndGives (before now : ℕ → Bool) (content after : Image) (e 
 abbrev pub IfSound : {D : Type 0} {g : Ghosts D} → Log D g → Alloc → Entry → Type 0 → Type 0
 IfSound {D} {g} log sectors e Fact = g.honest (device_of log) → NamesTaken (taken_of sectors) (view log) e → IsBody (view log) e → Fact
 
--- A file becomes one with these bytes. Its entry is in the sector `place`.
-pub record FileBecomes (place : ℕ) (a b : Alloc) (content after : Image) (e changed : Entry) (new : List ℕ) : Type 0 where
+-- A file becomes one with these bytes. Its entry is in the sector `inode_sector`.
+pub record FileBecomes (inode_sector : ℕ) (a b : Alloc) (content after : Image) (e changed : Entry) (new : List ℕ) : Type 0 where
   pub bytes : bytes_of after changed ≡ new
   -- it keeps the rules on its sectors
   pub rules : IsBody after changed
-  pub others : OthersStay place (first_of a) (end_of a) (taken_of a) content after e
+  pub others : OthersStay inode_sector (first_of a) (end_of a) (taken_of a) content after e
   pub taken : TakesAndGives (taken_of a) (taken_of b) content after e changed
   -- its entry keeps the rules of a version, where the size is within that version's limit, and 0 for a directory
   pub right : (version : Version) → IsEntry version e → (e.kind ≡ Directory → changed.size ≡ 0) → changed.size ≤ size_limit version → IsEntry version changed
@@ -71,6 +71,6 @@ abbrev pub LosesNoSector : Alloc → Alloc → Image → Image → Entry → Ent
 LosesNoSector a b content after e changed = free_of a + used_of content e ≤ free_of b + used_of after changed
 
 -- the entry has this size, and else only other pointers; its sector spells it
-pub record EntryBecomes (place size : ℕ) (after : Image) (e changed : Entry) : Type 0 where
+pub record EntryBecomes (inode_sector size : ℕ) (after : Image) (e changed : Entry) : Type 0 where
   pub entry : changed ≡ record e { size = size; pointers = changed.pointers }
-  pub staged : after place ≡ spelling changed
+  pub staged : after inode_sector ≡ spelling changed

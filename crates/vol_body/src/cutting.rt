@@ -6,10 +6,10 @@ ghost use Rattle.vol_log.specs.Log.{view, sectors_of, room_of, has_failed, devic
 ghost use Rattle.vol_alloc.specs.Alloc.{first_of, end_of, taken_of};
 ghost use Rattle.vol_body.specs.Body.{NamesTaken, named};
 ghost use Rattle.vol_log.specs.Reading.{OnlyReads};
-ghost use Rattle.vol_body.specs.internal.Shorter.{kept_bytes, cut, IsCut, with_cut, last_part, cut_list, last_list};
+ghost use Rattle.vol_body.specs.internal.Shorter.{kept_bytes, cut, IsCut, with_cut, last_data_block, cut_indirect_block, last_inner_block};
 ghost use Rattle.vol_body.specs.internal.Shorter.{AreCuts, AreWithin, with_cuts};
 
-use crate::locate::{known, read_number, sector_of_part};
+use crate::locate::{read_number, sector_of_block, taken_or_zero};
 use vol_alloc::Alloc;
 use vol_inode::Entry;
 use vol_log::Log;
@@ -22,12 +22,12 @@ pub struct Cut {
     pub image: [u8; 512],
 }
 
-/// What is to be written for a file that is made shorter: for its last part, for its list or the
-/// list of its lists, and for the last of these.
+/// What is to be written for a file that is made shorter: for its last data block, for its
+/// indirect or double-indirect block, and for the last of the inner blocks.
 #[derive(Drop)]
 pub struct Cuts {
-    pub part: Cut,
-    pub list: Cut,
+    pub data_block: Cut,
+    pub indirect_block: Cut,
     pub last: Cut,
 }
 
@@ -71,8 +71,8 @@ fn read_cut<D: Device>(
     Ok(Cut { sector, image })
 }
 
-/// What is to be written for the last part of a file of this size.
-fn cut_of_part<D: Device>(
+/// What is to be written for the last data block of a file of this size.
+fn cut_of_data_block<D: Device>(
     log: &mut Log<D>,
     sectors: &Alloc,
     entry: &Entry,
@@ -83,21 +83,21 @@ fn cut_of_part<D: Device>(
     requires small { size ≤ 8483840 }
     ensures cut { D.honest (device_of log.old)
         → NamesTaken (taken_of sectors.now) (view log.old) entry.now
-        → IfOk result (IsCut (view log.old) (named (view log.old) entry.now (last_part size))
-        (kept_bytes size (last_part size))) }
+        → IfOk result (IsCut (view log.old) (named (view log.old) entry.now (last_data_block size))
+        (kept_bytes size (last_data_block size))) }
     ensures taken { IfOk result (λ cut. cut.sector ≢ 0
         → taken_of sectors.now cut.sector ≡ true) }
     ensures reads { OnlyReads log.old log.new }
     ensures failed { has_failed log.new ≡ is_err result }
 {
     let j = size.div_ceil(512).saturating_sub(1);
-    let n = sector_of_part(log, sectors, entry, j)?;
+    let n = sector_of_block(log, sectors, entry, j)?;
     let kept = (size - 512 * j).min(512);
     read_cut(log, sectors, n, kept)
 }
 
-/// What is to be written for the list of a file of this size, or for the list of its lists.
-fn cut_of_list<D: Device>(
+/// What is to be written for the indirect or the double-indirect block of a file of this size.
+fn cut_of_indirect_block<D: Device>(
     log: &mut Log<D>,
     sectors: &Alloc,
     entry: &Entry,
@@ -108,8 +108,8 @@ fn cut_of_list<D: Device>(
     requires small { size ≤ 8483840 }
     ensures cut { D.honest (device_of log.old)
         → NamesTaken (taken_of sectors.now) (view log.old) entry.now
-        → IfOk result (IsCut (view log.old) (named (view log.old) entry.now (cut_list size))
-        (kept_bytes size (cut_list size))) }
+        → IfOk result (IsCut (view log.old) (named (view log.old) entry.now (cut_indirect_block size))
+        (kept_bytes size (cut_indirect_block size))) }
     ensures taken { IfOk result (λ cut. cut.sector ≢ 0
         → taken_of sectors.now cut.sector ≡ true) }
     ensures reads { OnlyReads log.old log.new }
@@ -118,16 +118,16 @@ fn cut_of_list<D: Device>(
     let count = size.div_ceil(512);
     if count > 186 {
         let kept = 4 * (count - 186).div_ceil(128).min(128);
-        let lists = known(sectors, entry.pointers[59]);
-        return read_cut(log, sectors, lists, kept);
+        let double_indirect_block = taken_or_zero(sectors, entry.pointers[59]);
+        return read_cut(log, sectors, double_indirect_block, kept);
     }
     let kept = 4 * count.saturating_sub(58).min(128);
-    let list = known(sectors, entry.pointers[58]);
-    read_cut(log, sectors, list, kept)
+    let indirect_block = taken_or_zero(sectors, entry.pointers[58]);
+    read_cut(log, sectors, indirect_block, kept)
 }
 
-/// What is to be written for the last of the later lists of a file of this size.
-fn cut_of_last_list<D: Device>(
+/// What is to be written for the last of the inner blocks of a file of this size.
+fn cut_of_inner_block<D: Device>(
     log: &mut Log<D>,
     sectors: &Alloc,
     entry: &Entry,
@@ -138,8 +138,8 @@ fn cut_of_last_list<D: Device>(
     requires small { size ≤ 8483840 }
     ensures cut { D.honest (device_of log.old)
         → NamesTaken (taken_of sectors.now) (view log.old) entry.now
-        → IfOk result (IsCut (view log.old) (named (view log.old) entry.now (last_list size))
-        (kept_bytes size (last_list size))) }
+        → IfOk result (IsCut (view log.old) (named (view log.old) entry.now (last_inner_block size))
+        (kept_bytes size (last_inner_block size))) }
     ensures taken { IfOk result (λ cut. cut.sector ≢ 0
         → taken_of sectors.now cut.sector ≡ true) }
     ensures reads { OnlyReads log.old log.new }
@@ -148,8 +148,8 @@ fn cut_of_last_list<D: Device>(
     let count = size.div_ceil(512);
     let i = count.saturating_sub(187) / 128;
     let kept = 4 * count.saturating_sub(186 + 128 * i).min(128);
-    let lists = known(sectors, entry.pointers[59]);
-    let n = read_number(log, sectors, lists, i)?;
+    let double_indirect_block = taken_or_zero(sectors, entry.pointers[59]);
+    let n = read_number(log, sectors, double_indirect_block, i)?;
     read_cut(log, sectors, n, kept)
 }
 
@@ -187,10 +187,14 @@ pub fn read_cuts<D: Device>(
     ensures reads { OnlyReads log.old log.new }
     ensures failed { has_failed log.new ≡ is_err result }
 {
-    let part = cut_of_part(log, sectors, entry, size)?;
-    let list = cut_of_list(log, sectors, entry, size)?;
-    let last = cut_of_last_list(log, sectors, entry, size)?;
-    Ok(Cuts { part, list, last })
+    let data_block = cut_of_data_block(log, sectors, entry, size)?;
+    let indirect_block = cut_of_indirect_block(log, sectors, entry, size)?;
+    let last = cut_of_inner_block(log, sectors, entry, size)?;
+    Ok(Cuts {
+        data_block,
+        indirect_block,
+        last,
+    })
 }
 
 /// Stages what is to be written, in three places at most.
@@ -204,7 +208,7 @@ pub fn stage_cuts<D: Device>(log: &mut Log<D>, cuts: &Cuts)
     ensures failed { has_failed log.new ≡ false }
     ensures sectors { sectors_of log.new ≡ sectors_of log.old }
 {
-    stage_cut(log, &cuts.part);
-    stage_cut(log, &cuts.list);
+    stage_cut(log, &cuts.data_block);
+    stage_cut(log, &cuts.indirect_block);
     stage_cut(log, &cuts.last);
 }

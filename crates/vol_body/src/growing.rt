@@ -5,7 +5,7 @@ ghost use Rattle.std.specs.Prelude.{replicate, if◌then◌else◌};
 ghost use Rattle.vol_sector.specs.Disk.{put};
 ghost use Rattle.vol_log.specs.Log.{view, sectors_of, room_of, is_staged, has_failed, device_of};
 ghost use Rattle.vol_inode.specs.Spelling.{spelling};
-ghost use Rattle.vol_body.specs.Body.{Place, IsPlace, named, bytes_of, IsBody, NamesOthers};
+ghost use Rattle.vol_body.specs.Body.{BlockPosition, IsPosition, named, bytes_of, IsBody, NamesOthers};
 
 use vol_inode::{Entry, write_entry};
 use vol_log::Log;
@@ -16,25 +16,25 @@ use vol_sector::{Device, DeviceFault};
 /// It is refused where the log has failed before, and then nothing was staged.
 pub fn grow<D: Device>(
     log: &mut Log<D>,
-    place: u32,
+    inode_sector: u32,
     entry: &mut Entry,
     size: u32,
 ) -> Result<(), DeviceFault>
-    requires behind { 122 ≤ place }
-    requires there { place < sectors_of log.old }
+    requires behind { 122 ≤ inode_sector }
+    requires there { inode_sector < sectors_of log.old }
     requires room { 0 < room_of log.old }
     requires grows { entry.old.size ≤ size }
     requires small { size ≤ 8483840 }
-    ensures bytes { IsBody (view log.old) entry.old → NamesOthers (view log.old) entry.old place
+    ensures bytes { IsBody (view log.old) entry.old → NamesOthers (view log.old) entry.old inode_sector
         → OnOk result (bytes_of (view log.new) entry.new
         ≡ bytes_of (view log.old) entry.old ++ replicate (size - entry.old.size) 0) }
-    ensures rules { IsBody (view log.old) entry.old → NamesOthers (view log.old) entry.old place
+    ensures rules { IsBody (view log.old) entry.old → NamesOthers (view log.old) entry.old inode_sector
         → OnOk result (IsBody (view log.new) entry.new) }
     ensures entry { OnOk result (entry.new ≡ record entry.old { size = size }) }
     ensures staged { OnOk result
-        (view log.new ≡ put place (spelling entry.new) (view log.old)) }
+        (view log.new ≡ put inode_sector (spelling entry.new) (view log.old)) }
     ensures room { OnOk result (room_of log.new
-        ≡ (if is_staged log.old place then room_of log.old else room_of log.old - 1)) }
+        ≡ (if is_staged log.old inode_sector then room_of log.old else room_of log.old - 1)) }
     ensures device { device_of log.new ≡ device_of log.old }
     ensures sectors { sectors_of log.new ≡ sectors_of log.old }
     ensures failed { has_failed log.new ≡ has_failed log.old }
@@ -45,6 +45,6 @@ pub fn grow<D: Device>(
         return Err(DeviceFault);
     }
     entry.size = size;
-    log.stage(place, &write_entry(entry));
+    log.stage(inode_sector, &write_entry(entry));
     Ok(())
 }

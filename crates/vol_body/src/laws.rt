@@ -5,7 +5,7 @@ ghost use Rattle.std.specs.List.{Contains};
 ghost use Rattle.vol_sector.specs.Disk.{Image};
 ghost use Rattle.vol_inode.specs.Space.{need_of};
 ghost use Rattle.vol_inode.specs.declared.entry.Entry.{Entry};
-ghost use Rattle.vol_body.specs.Body.{Place, IsPlace, named, places_of, bytes_of};
+ghost use Rattle.vol_body.specs.Body.{BlockPosition, IsPosition, named, positions_of, bytes_of};
 ghost use Rattle.vol_body.specs.Body.{IsBody, SameSectors, IsSameFile};
 ghost use Rattle.vol_body.specs.Change.{Names};
 ghost use Rattle.vol_alloc.specs.Numbers.{AreDistinct};
@@ -22,17 +22,17 @@ pub fn other_files_stay()
         → IsBody other e }
 {}
 
-/// A law: a file names no more sectors than it needs by its size. All places where it names one
+/// A law: a file names no more sectors than it needs by its size. All positions where it names one
 /// stand in a list of that length.
 pub fn names_at_most_what_it_needs()
-    ensures length { (size : ℕ) → length (places_of size) ≡ need_of size }
-    ensures places { (content : Image) (e : Entry) (p : Place) → IsBody content e → IsPlace p
-        → named content e p ≢ 0 → Contains (places_of e.size) p }
+    ensures length { (size : ℕ) → length (positions_of size) ≡ need_of size }
+    ensures places { (content : Image) (e : Entry) (p : BlockPosition) → IsBody content e → IsPosition p
+        → named content e p ≢ 0 → Contains (positions_of e.size) p }
 {}
 
 /// A law: a survey has the number of each sector that the file names, and no others.
 pub fn survey_has_what_is_named()
-    ensures each { (content : Image) (e : Entry) (p : Place) → IsPlace p → named content e p ≢ 0
+    ensures each { (content : Image) (e : Entry) (p : BlockPosition) → IsPosition p → named content e p ≢ 0
         → Contains (sectors_named content e) (named content e p) }
     ensures only { (content : Image) (e : Entry) (n : ℕ) → Contains (sectors_named content e) n
         → Names content e n }

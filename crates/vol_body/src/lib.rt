@@ -2,18 +2,18 @@
 #![tactic(auto)]
 
 mod cutting;
-mod giving;
+mod freeing;
 mod growing;
 mod laws;
-mod lists;
 mod locate;
+mod pointer_blocks;
 mod reading;
 mod resizing;
 mod shrinking;
 mod surveying;
 mod writing;
+mod writing_blocks;
 mod writing_image;
-mod writing_parts;
 mod writing_spans;
 
 pub use laws::{

@@ -5,7 +5,7 @@ ghost use Rattle.std.specs.Prelude.{IsErr, length, drop, ◌*◌};
 ghost use Rattle.byteorder.specs.Endian.{little_number};
 ghost use Rattle.vol_log.specs.Log.{view, sectors_of, has_failed, device_of};
 ghost use Rattle.vol_alloc.specs.Alloc.{end_of, taken_of};
-ghost use Rattle.vol_body.specs.Body.{NamesTaken, named, number_in, part, part_bytes};
+ghost use Rattle.vol_body.specs.Body.{NamesTaken, named, number_in, data_block, block_bytes};
 ghost use Rattle.vol_log.specs.Reading.{OnlyReads};
 
 use byteorder::{ByteOrder, LittleEndian};
@@ -14,23 +14,23 @@ use vol_inode::Entry;
 use vol_log::Log;
 use vol_sector::{Device, DeviceFault};
 
-/// How many parts of a file the entry itself names.
+/// How many data blocks of a file the entry itself names.
 pub const DIRECT: u32 = 58;
 
-/// How many parts are named by the entry and by the list of pointer 58.
+/// How many data blocks are named by the entry and by the indirect block.
 pub const LISTED: u32 = 186;
 
-/// How many numbers a pointer sector has.
+/// How many numbers a pointer block has.
 pub const NUMBERS: u32 = 128;
 
 /// The number, if it is that of a taken sector, else 0. A device that isn't honest may give any.
-pub fn known(sectors: &Alloc, n: u32) -> u32
+pub fn taken_or_zero(sectors: &Alloc, n: u32) -> u32
     ensures { result ≡ (if taken_of sectors.now n then n else 0) }
 {
     if sectors.is_taken(n) { n } else { 0 }
 }
 
-/// The `i`-th number of a pointer sector.
+/// The `i`-th number of a pointer block.
 pub fn number_at(image: &[u8; 512], i: u32) -> u32
     requires { i < 128 }
     ensures { result ≡ little_number 4 (drop (4 * i) image.now) }
@@ -38,34 +38,34 @@ pub fn number_at(image: &[u8; 512], i: u32) -> u32
     LittleEndian::read_u32(&image[4 * i as usize..])
 }
 
-/// The `i`-th number of a pointer sector, where it is that of a taken sector. Sector 0 stands for
+/// The `i`-th number of a pointer block, where it is that of a taken sector. Sector 0 stands for
 /// none.
 pub fn read_number<D: Device>(
     log: &mut Log<D>,
     sectors: &Alloc,
-    list: u32,
+    indirect_block: u32,
     i: u32,
 ) -> Result<u32, DeviceFault>
     requires place { i < 128 }
-    requires taken { list ≢ 0 → taken_of sectors.now list ≡ true }
+    requires taken { indirect_block ≢ 0 → taken_of sectors.now indirect_block ≡ true }
     requires there { end_of sectors.now ≤ sectors_of log.old }
     requires working { has_failed log.old ≡ false }
     ensures number { D.honest (device_of log.old) → IfOk result (λ n.
-        let m = number_in (view log.old) list i in
+        let m = number_in (view log.old) indirect_block i in
         n ≡ (if taken_of sectors.now m then m else 0)) }
     ensures taken { IfOk result (λ n. n ≢ 0 → taken_of sectors.now n ≡ true) }
     ensures reads { OnlyReads log.old log.new }
     ensures failed { has_failed log.new ≡ is_err result }
 {
-    if list == 0 {
+    if indirect_block == 0 {
         return Ok(0);
     }
-    let image = log.read(list)?;
-    Ok(known(sectors, number_at(&image, i)))
+    let image = log.read(indirect_block)?;
+    Ok(taken_or_zero(sectors, number_at(&image, i)))
 }
 
-/// The sector of a part of the file, or 0 where it was never written.
-pub fn sector_of_part<D: Device>(
+/// The sector of a data block of the file, or 0 where it was never written.
+pub fn sector_of_block<D: Device>(
     log: &mut Log<D>,
     sectors: &Alloc,
     entry: &Entry,
@@ -76,25 +76,25 @@ pub fn sector_of_part<D: Device>(
     requires working { has_failed log.old ≡ false }
     ensures sector { D.honest (device_of log.old)
         → NamesTaken (taken_of sectors.now) (view log.old) entry.now
-        → IfOk result (λ n. n ≡ named (view log.old) entry.now (part j)) }
+        → IfOk result (λ n. n ≡ named (view log.old) entry.now (data_block j)) }
     ensures taken { IfOk result (λ n. n ≢ 0 → taken_of sectors.now n ≡ true) }
     ensures reads { OnlyReads log.old log.new }
     ensures failed { has_failed log.new ≡ is_err result }
 {
     if j < DIRECT {
-        return Ok(known(sectors, entry.pointers[j as usize]));
+        return Ok(taken_or_zero(sectors, entry.pointers[j as usize]));
     }
     if j < LISTED {
-        let list = known(sectors, entry.pointers[58]);
-        return read_number(log, sectors, list, j - DIRECT);
+        let indirect_block = taken_or_zero(sectors, entry.pointers[58]);
+        return read_number(log, sectors, indirect_block, j - DIRECT);
     }
-    let lists = known(sectors, entry.pointers[59]);
-    let list = read_number(log, sectors, lists, (j - LISTED) / NUMBERS)?;
-    read_number(log, sectors, list, (j - LISTED) % NUMBERS)
+    let double_indirect_block = taken_or_zero(sectors, entry.pointers[59]);
+    let indirect_block = read_number(log, sectors, double_indirect_block, (j - LISTED) / NUMBERS)?;
+    read_number(log, sectors, indirect_block, (j - LISTED) % NUMBERS)
 }
 
-/// The bytes of a part of the file, zeros where it was never written.
-pub fn read_part<D: Device>(
+/// The bytes of a data block of the file, zeros where it was never written.
+pub fn read_block<D: Device>(
     log: &mut Log<D>,
     sectors: &Alloc,
     entry: &Entry,
@@ -106,11 +106,11 @@ pub fn read_part<D: Device>(
     ensures bytes { D.honest (device_of log.old)
         → NamesTaken (taken_of sectors.now) (view log.old) entry.now
         → IfOk result (λ image. image
-        ≡ part_bytes (view log.old) (named (view log.old) entry.now (part j))) }
+        ≡ block_bytes (view log.old) (named (view log.old) entry.now (data_block j))) }
     ensures reads { OnlyReads log.old log.new }
     ensures failed { has_failed log.new ≡ is_err result }
 {
-    let n = sector_of_part(log, sectors, entry, j)?;
+    let n = sector_of_block(log, sectors, entry, j)?;
     if n == 0 {
         return Ok([0; 512]);
     }

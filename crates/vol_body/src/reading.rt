@@ -7,7 +7,7 @@ ghost use Rattle.vol_alloc.specs.Alloc.{end_of, taken_of};
 ghost use Rattle.vol_body.specs.Body.{NamesTaken, byte_at, bytes_of};
 ghost use Rattle.vol_log.specs.Reading.{OnlyReads};
 
-use crate::locate::read_part;
+use crate::locate::read_block;
 use vol_alloc::Alloc;
 use vol_inode::Entry;
 use vol_log::Log;
@@ -17,7 +17,7 @@ use vol_sector::{Device, DeviceFault};
 /// says how many.
 ///
 /// It is refused where a device operation failed, or had failed before; then the buffer may hold
-/// a beginning of what was to be read. A part that was never written reads as zeros.
+/// a beginning of what was to be read. A data block that was never written reads as zeros.
 pub fn read_at<D: Device>(
     log: &mut Log<D>,
     sectors: &Alloc,
@@ -48,7 +48,7 @@ pub fn read_at<D: Device>(
     let mut done: usize = 0;
     while done < count {
         let at = offset as usize + done;
-        let image = read_part(log, sectors, entry, (at / 512) as u32)?;
+        let image = read_block(log, sectors, entry, (at / 512) as u32)?;
         done += fill(buffer, done, count, &image, at % 512);
     }
     Ok(count)

@@ -24,28 +24,28 @@ use vol_sector::{Device, DeviceFault};
 pub fn set_size<D: Device>(
     log: &mut Log<D>,
     sectors: &mut Alloc,
-    place: u32,
+    inode_sector: u32,
     entry: &mut Entry,
     size: u32,
 ) -> Result<(), DeviceFault>
-    requires behind { 122 ≤ place }
-    requires slot { place < first_of sectors.old }
-    requires within { place < sectors_of log.old }
+    requires behind { 122 ≤ inode_sector }
+    requires slot { inode_sector < first_of sectors.old }
+    requires within { inode_sector < sectors_of log.old }
     requires there { end_of sectors.old ≤ sectors_of log.old }
     requires room { 4 ≤ room_of log.old }
     requires small_before { entry.old.size ≤ 8483840 }
     requires small { size ≤ 8483840 }
     // Read as a list, the file is cut or has zeros behind it.
     ensures file { IfSound log.old sectors.old entry.old (OnOk result
-        (FileBecomes place sectors.old sectors.new (view log.old) (view log.new) entry.old
+        (FileBecomes inode_sector sectors.old sectors.new (view log.old) (view log.new) entry.old
         entry.new (resized size (bytes_of (view log.old) entry.old)))) }
-    ensures entry { OnOk result (EntryBecomes place size (view log.new) entry.old entry.new) }
+    ensures entry { OnOk result (EntryBecomes inode_sector size (view log.new) entry.old entry.new) }
     ensures steps { StagesAtMost 4 log.old log.new sectors.old sectors.new (is_err result) }
     ensures refused { OnErr result ((OnlyReads log.old log.new) × (entry.new ≡ entry.old)) }
     ensures idle { has_failed log.old ≡ true → (log.new ≡ log.old) × IsErr result }
 {
     if size < entry.size {
-        return shrink(log, sectors, place, entry, size);
+        return shrink(log, sectors, inode_sector, entry, size);
     }
-    grow(log, place, entry, size)
+    grow(log, inode_sector, entry, size)
 }

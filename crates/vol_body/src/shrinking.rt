@@ -12,13 +12,13 @@ ghost use Rattle.vol_log.specs.Reading.{OnlyReads};
 ghost use Rattle.vol_body.specs.Reading.{StagesAtMost};
 
 use crate::cutting::{read_cuts, stage_cuts};
-use crate::giving::give_back;
+use crate::freeing::free_unkept;
 use vol_alloc::Alloc;
 use vol_inode::{Entry, write_entry};
 use vol_log::Log;
 use vol_sector::{Device, DeviceFault};
 
-/// The pointers of a file that keeps so many parts.
+/// The pointers of a file that keeps so many data blocks.
 fn kept_pointers(pointers: &[u32; 60], count: u32) -> [u32; 60]
     ensures { (j : ℕ) → j < 60 → slice_index result j
         ≡ (if nat_lt (first_of_pointer j) count then slice_index pointers.now j else 0) }
@@ -42,21 +42,21 @@ fn kept_pointers(pointers: &[u32; 60], count: u32) -> [u32; 60]
 pub fn shrink<D: Device>(
     log: &mut Log<D>,
     sectors: &mut Alloc,
-    place: u32,
+    inode_sector: u32,
     entry: &mut Entry,
     size: u32,
 ) -> Result<(), DeviceFault>
-    requires behind { 122 ≤ place }
-    requires slot { place < first_of sectors.old }
-    requires within { place < sectors_of log.old }
+    requires behind { 122 ≤ inode_sector }
+    requires slot { inode_sector < first_of sectors.old }
+    requires within { inode_sector < sectors_of log.old }
     requires there { end_of sectors.old ≤ sectors_of log.old }
     requires room { 4 ≤ room_of log.old }
     requires shorter { size < entry.old.size }
     requires small_before { entry.old.size ≤ 8483840 }
     ensures file { IfSound log.old sectors.old entry.old (OnOk result
-        (FileBecomes place sectors.old sectors.new (view log.old) (view log.new) entry.old
+        (FileBecomes inode_sector sectors.old sectors.new (view log.old) (view log.new) entry.old
         entry.new (resized size (bytes_of (view log.old) entry.old)))) }
-    ensures entry { OnOk result (EntryBecomes place size (view log.new) entry.old entry.new) }
+    ensures entry { OnOk result (EntryBecomes inode_sector size (view log.new) entry.old entry.new) }
     ensures steps { StagesAtMost 4 log.old log.new sectors.old sectors.new (is_err result) }
     ensures refused { OnErr result ((OnlyReads log.old log.new) × (entry.new ≡ entry.old)) }
     ensures idle { has_failed log.old ≡ true → (log.new ≡ log.old) × IsErr result }
@@ -66,10 +66,10 @@ pub fn shrink<D: Device>(
     }
     let cuts = read_cuts(log, sectors, entry, size)?;
     let count = size.div_ceil(512);
-    give_back(log, sectors, entry, count)?;
+    free_unkept(log, sectors, entry, count)?;
     stage_cuts(log, &cuts);
     entry.size = size;
     entry.pointers = kept_pointers(&entry.pointers, count);
-    log.stage(place, &write_entry(entry));
+    log.stage(inode_sector, &write_entry(entry));
     Ok(())
 }

@@ -7,8 +7,8 @@ ghost use Rattle.vol_sector.specs.Fault.{device_failed};
 ghost use Rattle.vol_log.specs.Log.{view, sectors_of, has_failed, device_of};
 ghost use Rattle.vol_log.specs.Reading.{OnlyReads};
 ghost use Rattle.vol_inode.specs.Entry.{HasPointers};
-ghost use Rattle.vol_body.specs.Body.{part, named as named_at, number_in};
-ghost use Rattle.vol_body.specs.Survey.{every_place, sectors_named, AreInside, IsTrimmed};
+ghost use Rattle.vol_body.specs.Body.{data_block, named as named_at, number_in};
+ghost use Rattle.vol_body.specs.Survey.{every_position, sectors_named, AreInside, IsTrimmed};
 ghost use Rattle.vol_body.specs.internal.Surveying.{listed, with_listed, all_listed, Pushes, Overflows};
 ghost use Rattle.vol_body.specs.internal.Surveying.{ListsNoneFrom, LaterListNone, LaterNone};
 ghost use Rattle.vol_body.specs.internal.Surveying.{NamesNonePast, NamesBelow, EndsInZeros};
@@ -57,7 +57,7 @@ fn push_all(named: &mut Vec<u32>, numbers: &[u32], first: u32, end: u32) -> Resu
     Ok(())
 }
 
-/// The numbers of a pointer sector.
+/// The numbers of a pointer block.
 fn numbers_in(image: &[u8; 512]) -> [u32; 128]
     ensures { (i : ℕ) → i < 128
         → slice_index result i ≡ little_number 4 (drop (4 * i) image.now) }
@@ -84,31 +84,31 @@ fn none_from(numbers: &[u32; 128], from: u32) -> bool
     true
 }
 
-/// The numbers that a pointer sector lists, zeros where there is no such sector. It is refused as
+/// The numbers that a pointer block lists, zeros where there is no such sector. It is refused as
 /// `Damaged` where one from the place `from` on isn't 0.
 fn read_numbers<D: Device>(
     log: &mut Log<D>,
-    list: u32,
+    indirect_block: u32,
     from: u32,
 ) -> Result<[u32; 128], VolumeFault>
-    requires there { list ≢ 0 → list < sectors_of log.old }
+    requires there { indirect_block ≢ 0 → indirect_block < sectors_of log.old }
     requires working { has_failed log.old ≡ false }
     ensures numbers { D.honest (device_of log.old)
-        → IfOk result (λ numbers. numbers ≡ listed (view log.old) list) }
+        → IfOk result (λ numbers. numbers ≡ listed (view log.old) indirect_block) }
     ensures past { D.honest (device_of log.old)
-        → OnOk result (ListsNoneFrom (view log.old) list from) }
+        → OnOk result (ListsNoneFrom (view log.old) indirect_block from) }
     ensures damaged { D.honest (device_of log.old)
         → IfErr result (λ fault. fault ≡ VolumeFault.Damaged
-        → ListsNoneFrom (view log.old) list from → ⊥) }
+        → ListsNoneFrom (view log.old) indirect_block from → ⊥) }
     ensures refused { IfErr result (λ fault. (fault ≡ VolumeFault.Damaged)
         ⊎ (fault ≡ VolumeFault.Device)) }
     ensures reads { OnlyReads log.old log.new }
     ensures failed { has_failed log.new ≡ device_failed result }
 {
-    if list == 0 {
+    if indirect_block == 0 {
         return Ok([0; 128]);
     }
-    let image = log.read(list)?;
+    let image = log.read(indirect_block)?;
     let numbers = numbers_in(&image);
     if !none_from(&numbers, from) {
         return Err(VolumeFault::Damaged);
@@ -116,11 +116,11 @@ fn read_numbers<D: Device>(
     Ok(numbers)
 }
 
-/// Pushes the number of a pointer sector and those that it lists. None may stand from the place
+/// Pushes the number of a pointer block and those that it lists. None may stand from the place
 /// `from` on.
-fn survey_list<D: Device>(
+fn survey_indirect_block<D: Device>(
     log: &mut Log<D>,
-    list: u32,
+    indirect_block: u32,
     from: u32,
     first: u32,
     end: u32,
@@ -130,31 +130,31 @@ fn survey_list<D: Device>(
     requires working { has_failed log.old ≡ false }
     requires inside { AreInside first end named.old.items }
     ensures pushes { D.honest (device_of log.old) → OnOk result (Pushes first end
-        named.old.items named.new.items (with_listed (view log.old) list)) }
+        named.old.items named.new.items (with_listed (view log.old) indirect_block)) }
     ensures past { D.honest (device_of log.old)
-        → OnOk result (ListsNoneFrom (view log.old) list from) }
+        → OnOk result (ListsNoneFrom (view log.old) indirect_block from) }
     ensures inside { OnOk result (AreInside first end named.new.items) }
     ensures damaged { D.honest (device_of log.old)
         → IfErr result (λ fault. fault ≡ VolumeFault.Damaged
-        → ListsNoneFrom (view log.old) list from
-        → Overflows first end named.old.items (with_listed (view log.old) list)) }
+        → ListsNoneFrom (view log.old) indirect_block from
+        → Overflows first end named.old.items (with_listed (view log.old) indirect_block)) }
     ensures refused { IfErr result (λ fault. (fault ≡ VolumeFault.Damaged)
         ⊎ ((fault ≡ VolumeFault.Device) ⊎ (fault ≡ VolumeFault.Memory))) }
     ensures reads { OnlyReads log.old log.new }
     ensures failed { has_failed log.new ≡ device_failed result }
 {
-    if list == 0 {
+    if indirect_block == 0 {
         return Ok(()); // no numbers are listed
     }
-    push_number(named, list, first, end)?;
-    let numbers = read_numbers(log, list, from)?;
+    push_number(named, indirect_block, first, end)?;
+    let numbers = read_numbers(log, indirect_block, from)?;
     push_all(named, &numbers, first, end)
 }
 
-/// Pushes the numbers of the later lists and those that they list.
-fn survey_lists<D: Device>(
+/// Pushes the numbers of the inner blocks and those that they list.
+fn survey_inner_blocks<D: Device>(
     log: &mut Log<D>,
-    lists: &[u32; 128],
+    inner_blocks: &[u32; 128],
     count: u32,
     first: u32,
     end: u32,
@@ -164,14 +164,14 @@ fn survey_lists<D: Device>(
     requires working { has_failed log.old ≡ false }
     requires inside { AreInside first end named.old.items }
     ensures pushes { D.honest (device_of log.old) → OnOk result (Pushes first end
-        named.old.items named.new.items (all_listed (view log.old) lists.now)) }
+        named.old.items named.new.items (all_listed (view log.old) inner_blocks.now)) }
     ensures past { D.honest (device_of log.old)
-        → OnOk result (LaterListNone (view log.old) lists.now count) }
+        → OnOk result (LaterListNone (view log.old) inner_blocks.now count) }
     ensures inside { OnOk result (AreInside first end named.new.items) }
     ensures damaged { D.honest (device_of log.old)
         → IfErr result (λ fault. fault ≡ VolumeFault.Damaged
-        → LaterListNone (view log.old) lists.now count
-        → Overflows first end named.old.items (all_listed (view log.old) lists.now)) }
+        → LaterListNone (view log.old) inner_blocks.now count
+        → Overflows first end named.old.items (all_listed (view log.old) inner_blocks.now)) }
     ensures refused { IfErr result (λ fault. (fault ≡ VolumeFault.Damaged)
         ⊎ ((fault ≡ VolumeFault.Device) ⊎ (fault ≡ VolumeFault.Memory))) }
     ensures reads { OnlyReads log.old log.new }
@@ -179,16 +179,16 @@ fn survey_lists<D: Device>(
 {
     for i in 0..128u32 {
         let from = count.saturating_sub(186 + 128 * i);
-        survey_list(log, lists[i as usize], from, first, end, named)?;
+        survey_indirect_block(log, inner_blocks[i as usize], from, first, end, named)?;
     }
     Ok(())
 }
 
-/// Pushes the number of the pointer sector that lists the later lists, their numbers, and those
-/// that they list. None may stand for a part from `count` on.
-fn survey_later<D: Device>(
+/// Pushes the number of the pointer block that lists the inner blocks, their numbers, and those
+/// that they list. None may stand for a data block from `count` on.
+fn survey_double_indirect_block<D: Device>(
     log: &mut Log<D>,
-    lists: u32,
+    double_indirect_block: u32,
     count: u32,
     first: u32,
     end: u32,
@@ -199,29 +199,29 @@ fn survey_later<D: Device>(
     requires inside { AreInside first end named.old.items }
     ensures pushes { D.honest (device_of log.old) → OnOk result (Pushes first end
         named.old.items named.new.items
-        (lists ∷ all_listed (view log.old) (listed (view log.old) lists))) }
+        (double_indirect_block ∷ all_listed (view log.old) (listed (view log.old) double_indirect_block))) }
     ensures past { D.honest (device_of log.old)
-        → OnOk result (LaterNone (view log.old) lists count) }
+        → OnOk result (LaterNone (view log.old) double_indirect_block count) }
     ensures inside { OnOk result (AreInside first end named.new.items) }
     ensures damaged { D.honest (device_of log.old)
         → IfErr result (λ fault. fault ≡ VolumeFault.Damaged
-        → LaterNone (view log.old) lists count → Overflows first end named.old.items
-        (lists ∷ all_listed (view log.old) (listed (view log.old) lists))) }
+        → LaterNone (view log.old) double_indirect_block count → Overflows first end named.old.items
+        (double_indirect_block ∷ all_listed (view log.old) (listed (view log.old) double_indirect_block))) }
     ensures refused { IfErr result (λ fault. (fault ≡ VolumeFault.Damaged)
         ⊎ ((fault ≡ VolumeFault.Device) ⊎ (fault ≡ VolumeFault.Memory))) }
     ensures reads { OnlyReads log.old log.new }
     ensures failed { has_failed log.new ≡ device_failed result }
 {
-    if lists == 0 {
-        return Ok(()); // nor are there any later lists
+    if double_indirect_block == 0 {
+        return Ok(()); // nor are there any inner blocks
     }
-    push_number(named, lists, first, end)?;
+    push_number(named, double_indirect_block, first, end)?;
     let kept = count.saturating_sub(186).div_ceil(128);
-    let numbers = read_numbers(log, lists, kept)?;
-    survey_lists(log, &numbers, count, first, end, named)
+    let numbers = read_numbers(log, double_indirect_block, kept)?;
+    survey_inner_blocks(log, &numbers, count, first, end, named)
 }
 
-/// Pushes all numbers that the file names. None may stand for a part at or past its size.
+/// Pushes all numbers that the file names. None may stand for a data block at or past its size.
 fn survey_sectors<D: Device>(
     log: &mut Log<D>,
     entry: &Entry,
@@ -234,14 +234,14 @@ fn survey_sectors<D: Device>(
     requires pointers { HasPointers entry.now }
     requires inside { AreInside first end named.old.items }
     ensures pushes { D.honest (device_of log.old) → OnOk result (Pushes first end
-        named.old.items named.new.items (map (named_at (view log.old) entry.now) every_place)) }
+        named.old.items named.new.items (map (named_at (view log.old) entry.now) every_position)) }
     ensures past { D.honest (device_of log.old)
         → OnOk result (NamesNonePast (view log.old) entry.now) }
     ensures inside { OnOk result (AreInside first end named.new.items) }
     ensures damaged { D.honest (device_of log.old)
         → IfErr result (λ fault. fault ≡ VolumeFault.Damaged
         → NamesNonePast (view log.old) entry.now → Overflows first end named.old.items
-        (map (named_at (view log.old) entry.now) every_place)) }
+        (map (named_at (view log.old) entry.now) every_position)) }
     ensures refused { IfErr result (λ fault. (fault ≡ VolumeFault.Damaged)
         ⊎ ((fault ≡ VolumeFault.Device) ⊎ (fault ≡ VolumeFault.Memory))) }
     ensures reads { OnlyReads log.old log.new }
@@ -250,8 +250,8 @@ fn survey_sectors<D: Device>(
     let count = entry.size.div_ceil(512);
     push_all(named, &entry.pointers[..58], first, end)?;
     let from = count.saturating_sub(58);
-    survey_list(log, entry.pointers[58], from, first, end, named)?;
-    survey_later(log, entry.pointers[59], count, first, end, named)
+    survey_indirect_block(log, entry.pointers[58], from, first, end, named)?;
+    survey_double_indirect_block(log, entry.pointers[59], count, first, end, named)
 }
 
 /// Whether the bytes from one place on are all 0.
@@ -268,28 +268,33 @@ fn zeros_from(image: &[u8; 512], from: u32) -> bool
     true
 }
 
-/// The `i`-th number of a pointer sector. Sector 0 stands for none.
-fn number_of<D: Device>(log: &mut Log<D>, list: u32, i: u32, end: u32) -> Result<u32, DeviceFault>
+/// The `i`-th number of a pointer block. Sector 0 stands for none.
+fn number_of<D: Device>(
+    log: &mut Log<D>,
+    indirect_block: u32,
+    i: u32,
+    end: u32,
+) -> Result<u32, DeviceFault>
     requires place { i < 128 }
     requires there { end ≤ sectors_of log.old }
     requires working { has_failed log.old ≡ false }
-    ensures number { D.honest (device_of log.old) → (list ≢ 0 → list < end)
-        → IfOk result (λ n. n ≡ number_in (view log.old) list i) }
+    ensures number { D.honest (device_of log.old) → (indirect_block ≢ 0 → indirect_block < end)
+        → IfOk result (λ n. n ≡ number_in (view log.old) indirect_block i) }
     ensures reads { OnlyReads log.old log.new }
     ensures failed { has_failed log.new ≡ is_err result }
 {
-    if list == 0 {
+    if indirect_block == 0 {
         return Ok(0);
     }
-    if end <= list {
+    if end <= indirect_block {
         return Ok(0);
     }
-    let image = log.read(list)?;
+    let image = log.read(indirect_block)?;
     Ok(number_at(&image, i))
 }
 
-/// The sector of a part of the file, or 0 where it was never written.
-fn part_sector<D: Device>(
+/// The sector of a data block of the file, or 0 where it was never written.
+fn block_sector<D: Device>(
     log: &mut Log<D>,
     entry: &Entry,
     j: u32,
@@ -299,7 +304,7 @@ fn part_sector<D: Device>(
     requires there { end ≤ sectors_of log.old }
     requires working { has_failed log.old ≡ false }
     ensures sector { D.honest (device_of log.old) → NamesBelow (view log.old) entry.now end
-        → IfOk result (λ n. n ≡ named_at (view log.old) entry.now (part j)) }
+        → IfOk result (λ n. n ≡ named_at (view log.old) entry.now (data_block j)) }
     ensures reads { OnlyReads log.old log.new }
     ensures failed { has_failed log.new ≡ is_err result }
 {
@@ -309,11 +314,11 @@ fn part_sector<D: Device>(
     if j < LISTED {
         return number_of(log, entry.pointers[58], j - DIRECT, end);
     }
-    let list = number_of(log, entry.pointers[59], (j - LISTED) / NUMBERS, end)?;
-    number_of(log, list, (j - LISTED) % NUMBERS, end)
+    let indirect_block = number_of(log, entry.pointers[59], (j - LISTED) / NUMBERS, end)?;
+    number_of(log, indirect_block, (j - LISTED) % NUMBERS, end)
 }
 
-/// Whether the bytes past the file's size are zeros in the part that the size ends in.
+/// Whether the bytes past the file's size are zeros in the data block that the size ends in.
 fn ends_in_zeros<D: Device>(log: &mut Log<D>, entry: &Entry, end: u32) -> Result<bool, DeviceFault>
     requires there { end ≤ sectors_of log.old }
     requires working { has_failed log.old ≡ false }
@@ -329,7 +334,7 @@ fn ends_in_zeros<D: Device>(log: &mut Log<D>, entry: &Entry, end: u32) -> Result
     if from == 0 {
         return Ok(true);
     }
-    let n = part_sector(log, entry, entry.size / 512, end)?;
+    let n = block_sector(log, entry, entry.size / 512, end)?;
     if n == 0 {
         return Ok(true);
     }
@@ -340,11 +345,11 @@ fn ends_in_zeros<D: Device>(log: &mut Log<D>, entry: &Entry, end: u32) -> Result
     Ok(zeros_from(&image, from))
 }
 
-/// Pushes the number of each sector that the file names, in the order of its places, behind the
+/// Pushes the number of each sector that the file names, in the order of its positions, behind the
 /// numbers that were pushed before.
 ///
 /// It is refused as `Damaged` where a number is out of the data sectors from `first` to the one
-/// before `end`, where there are more numbers than data sectors, where a number stands for a part
+/// before `end`, where there are more numbers than data sectors, where a number stands for a data block
 /// at or past the size, or where a byte past the size is not 0; then some numbers may have been
 /// pushed. It is refused as `Device` where the log has failed, before or now, and as `Memory`.
 pub fn survey<D: Device>(

@@ -5,37 +5,37 @@ ghost use Rattle.vol_log.specs.Log.{view, sectors_of, room_of, has_failed, devic
 ghost use Rattle.vol_alloc.specs.Alloc.{first_of, end_of, taken_of, free_of};
 ghost use Rattle.vol_inode.specs.Space.{need_of};
 ghost use Rattle.vol_inode.specs.Entry.{HasWidths};
-ghost use Rattle.vol_body.specs.Body.{part, named, part_bytes, NamesTaken, bytes_of};
+ghost use Rattle.vol_body.specs.Body.{data_block, named, block_bytes, NamesTaken, bytes_of};
 ghost use Rattle.vol_body.specs.Change.{written, used_of, IfSound, FileBecomes, LosesNoSector, EntryBecomes};
 ghost use Rattle.vol_log.specs.Reading.{OnlyReads};
 ghost use Rattle.vol_body.specs.Reading.{StagesAtMost};
 ghost use Rattle.vol_body.specs.internal.Writing.{WriteLeaves};
 
-use crate::lists::load_lists;
-use crate::locate::read_part;
+use crate::locate::read_block;
+use crate::pointer_blocks::load_pointer_blocks;
 use crate::writing_image::Piece;
-use crate::writing_spans::write_parts;
+use crate::writing_spans::write_blocks;
 use vol_alloc::Alloc;
 use vol_inode::{Entry, write_entry};
 use vol_log::Log;
 use vol_sector::{Device, DeviceFault};
 
 /// Writes the bytes, at most 16,384, at the offset of the file whose entry is in the sector
-/// `place`. A gap before them reads as zeros. Of no bytes nothing changes.
+/// `inode_sector`. A gap before them reads as zeros. Of no bytes nothing changes.
 ///
 /// It is refused where a device operation failed, or had failed before, and then nothing was
 /// staged. All reads come before the first sector is staged.
 pub fn write_at<D: Device>(
     log: &mut Log<D>,
     sectors: &mut Alloc,
-    place: u32,
+    inode_sector: u32,
     entry: &mut Entry,
     offset: u32,
     bytes: &[u8],
 ) -> Result<(), DeviceFault>
-    requires behind { 122 ≤ place }
-    requires slot { place < first_of sectors.old }
-    requires within { place < sectors_of log.old }
+    requires behind { 122 ≤ inode_sector }
+    requires slot { inode_sector < first_of sectors.old }
+    requires within { inode_sector < sectors_of log.old }
     requires there { end_of sectors.old ≤ sectors_of log.old }
     requires room { 37 ≤ room_of log.old }
     requires small_before { entry.old.size ≤ 8483840 }
@@ -46,11 +46,11 @@ pub fn write_at<D: Device>(
         ≤ free_of sectors.old + used_of (view log.old) entry.old) }
     // The bytes stand in the file, and no free sector is lost.
     ensures file { IfSound log.old sectors.old entry.old (OnOk result
-        (FileBecomes place sectors.old sectors.new (view log.old) (view log.new) entry.old
+        (FileBecomes inode_sector sectors.old sectors.new (view log.old) (view log.new) entry.old
         entry.new (written (bytes_of (view log.old) entry.old) offset bytes.now)
         × LosesNoSector sectors.old sectors.new (view log.old) (view log.new) entry.old
         entry.new)) }
-    ensures entry { 0 < length bytes.now → OnOk result (EntryBecomes place
+    ensures entry { 0 < length bytes.now → OnOk result (EntryBecomes inode_sector
         (max entry.old.size (offset + length bytes.now)) (view log.new) entry.old entry.new) }
     ensures nothing { length bytes.now ≡ 0 → (log.new ≡ log.old) × (sectors.new ≡ sectors.old)
         × (entry.new ≡ entry.old) }
@@ -65,21 +65,21 @@ pub fn write_at<D: Device>(
     if bytes.is_empty() {
         return Ok(());
     }
-    write_some(log, sectors, place, entry, offset, bytes)
+    write_some(log, sectors, inode_sector, entry, offset, bytes)
 }
 
 /// Writes some bytes.
 fn write_some<D: Device>(
     log: &mut Log<D>,
     sectors: &mut Alloc,
-    place: u32,
+    inode_sector: u32,
     entry: &mut Entry,
     offset: u32,
     bytes: &[u8],
 ) -> Result<(), DeviceFault>
-    requires behind { 122 ≤ place }
-    requires slot { place < first_of sectors.old }
-    requires within { place < sectors_of log.old }
+    requires behind { 122 ≤ inode_sector }
+    requires slot { inode_sector < first_of sectors.old }
+    requires within { inode_sector < sectors_of log.old }
     requires there { end_of sectors.old ≤ sectors_of log.old }
     requires room { 37 ≤ room_of log.old }
     requires working { has_failed log.old ≡ false }
@@ -90,9 +90,9 @@ fn write_some<D: Device>(
     ensures done { IfSound log.old sectors.old entry.old
         (need_of (max entry.old.size (offset + length bytes.now))
         ≤ free_of sectors.old + used_of (view log.old) entry.old
-        → OnOk result (WriteLeaves place sectors.old sectors.new (view log.old) (view log.new)
+        → OnOk result (WriteLeaves inode_sector sectors.old sectors.new (view log.old) (view log.new)
         entry.old entry.new offset bytes.now)) }
-    ensures entry { OnOk result (EntryBecomes place
+    ensures entry { OnOk result (EntryBecomes inode_sector
         (max entry.old.size (offset + length bytes.now)) (view log.new) entry.old entry.new) }
     ensures widths { OnOk result (HasWidths entry.new) }
     ensures steps { StagesAtMost 37 log.old log.new sectors.old sectors.new (is_err result) }
@@ -104,7 +104,7 @@ fn write_some<D: Device>(
     let last = (end - 1) / 512;
     let before = read_edge(log, sectors, entry, offset, end, first)?;
     let behind = read_edge(log, sectors, entry, offset, end, last)?;
-    let mut all = load_lists(log, sectors, entry, first, last)?;
+    let mut all = load_pointer_blocks(log, sectors, entry, first, last)?;
     let piece = Piece {
         offset: offset as usize,
         bytes,
@@ -112,12 +112,12 @@ fn write_some<D: Device>(
         last: behind,
     };
     entry.size = entry.size.max(end);
-    write_parts(log, sectors, entry, &mut all, &piece, first, last);
-    log.stage(place, &write_entry(entry));
+    write_blocks(log, sectors, entry, &mut all, &piece, first, last);
+    log.stage(inode_sector, &write_entry(entry));
     Ok(())
 }
 
-/// Reads a part, unless it will be written whole.
+/// Reads a data block, unless it will be written whole.
 fn read_edge<D: Device>(
     log: &mut Log<D>,
     sectors: &Alloc,
@@ -133,7 +133,7 @@ fn read_edge<D: Device>(
         → NamesTaken (taken_of sectors.now) (view log.old) entry.now
         → (offset ≤ 512 * j → 512 * j + 512 ≤ end → ⊥)
         → IfOk result (λ image. image
-        ≡ part_bytes (view log.old) (named (view log.old) entry.now (part j))) }
+        ≡ block_bytes (view log.old) (named (view log.old) entry.now (data_block j))) }
     ensures whole { offset ≤ 512 * j → 512 * j + 512 ≤ end → log.new ≡ log.old }
     ensures reads { OnlyReads log.old log.new }
     ensures failed { has_failed log.new ≡ is_err result }
@@ -141,5 +141,5 @@ fn read_edge<D: Device>(
     if offset <= 512 * j && 512 * j + 512 <= end {
         return Ok([0; 512]);
     }
-    read_part(log, sectors, entry, j)
+    read_block(log, sectors, entry, j)
 }

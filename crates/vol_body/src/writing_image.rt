@@ -1,4 +1,4 @@
-//! The new bytes of the parts that a write touches.
+//! The new bytes of the data blocks that a write touches.
 
 ghost use Rattle.std.specs.Prelude.{◌≡◌, ◌≤◌, ◌<◌, ◌+◌, ◌*◌, ℕ, length};
 ghost use Rattle.vol_body.specs.internal.Writing.{image_of};
@@ -9,14 +9,14 @@ pub struct Piece<'a> {
     /// The first byte of the file that is written.
     pub offset: usize,
     pub bytes: &'a [u8],
-    /// The old bytes of the first part that is touched.
+    /// The old bytes of the first data block that is touched.
     pub first: [u8; 512],
-    /// The old bytes of the last part that is touched.
+    /// The old bytes of the last data block that is touched.
     pub last: [u8; 512],
 }
 
-/// The new bytes of a part that is touched.
-pub fn image_of_part(piece: &Piece<'_>, j: u32) -> [u8; 512]
+/// The new bytes of a data block that is touched.
+pub fn image_of_block(piece: &Piece<'_>, j: u32) -> [u8; 512]
     requires before { 512 * j < piece.now.offset + length piece.now.bytes.now }
     requires behind { piece.now.offset < 512 * j + 512 }
     requires small { piece.now.offset + length piece.now.bytes.now ≤ 8483840 }

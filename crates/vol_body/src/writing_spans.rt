@@ -1,4 +1,4 @@
-//! Writing all the parts that a write touches.
+//! Writing all the data blocks that a write touches.
 
 ghost use Rattle.std.specs.Prelude.{◌≡◌, ◌≢◌, ◌⊎◌, ◌≤◌, ◌<◌, ◌+◌, ◌-◌, ◌*◌, ℕ, true, false, length, slice_index};
 ghost use Rattle.std.specs.Prelude.{if◌then◌else◌};
@@ -6,26 +6,26 @@ ghost use Rattle.vol_log.specs.Log.{view, sectors_of, room_of, has_failed};
 ghost use Rattle.vol_alloc.specs.Alloc.{first_of, end_of, taken_of};
 ghost use Rattle.vol_inode.specs.Space.{sectors_of as count_of};
 ghost use Rattle.vol_inode.specs.declared.entry.Entry.{Entry};
-ghost use Rattle.vol_body.specs.Body.{Place, list, lists, later_list, IsPlace, first_served};
-ghost use Rattle.vol_body.specs.internal.Writing.{Mirrors, IsReady, Changes, Adds, IsPartIn, HasParts};
+ghost use Rattle.vol_body.specs.Body.{BlockPosition, indirect_block, double_indirect_block, inner_block, IsPosition, first_served};
+ghost use Rattle.vol_body.specs.internal.Writing.{Mirrors, IsReady, Changes, Adds, IsBlockIn, HasBlocks};
 ghost use Rattle.vol_body.specs.internal.Writing.{OnlyPuts, SameRange, segment, placed, image_of};
 ghost use Rattle.vol_body.specs.internal.Writing.{MirrorsAll, KnowsAll, IsPointer, PointedAt};
 
-use crate::lists::{Lists, PointerSector};
 use crate::locate::{DIRECT, LISTED, NUMBERS};
-use crate::writing_image::{Piece, image_of_part};
-use crate::writing_parts::{add_number, add_pointer, write_direct_part, write_listed_part};
+use crate::pointer_blocks::{PointerBlock, PointerBlocks};
+use crate::writing_blocks::{add_number, add_pointer, write_direct_block, write_listed_block};
+use crate::writing_image::{Piece, image_of_block};
 use vol_alloc::Alloc;
 use vol_inode::Entry;
 use vol_log::Log;
 use vol_sector::Device;
 
-/// Writes all the parts that are touched, from `first` to `last`.
-pub fn write_parts<D: Device>(
+/// Writes all the data blocks that are touched, from `first` to `last`.
+pub fn write_blocks<D: Device>(
     log: &mut Log<D>,
     sectors: &mut Alloc,
     entry: &mut Entry,
-    all: &mut Lists,
+    all: &mut PointerBlocks,
     piece: &Piece<'_>,
     first: u32,
     last: u32,
@@ -44,8 +44,8 @@ pub fn write_parts<D: Device>(
     ensures written { IsReady sectors.old (view log.old) entry.old → last < count_of entry.old.size
         → MirrorsAll (view log.old) entry.old all.old first last
         → Changes sectors.old sectors.new (view log.old) (view log.new) entry.old entry.new
-        (λ p. IsPartIn first (last + 1) p ⊎ IsPointer p)
-        × HasParts (view log.new) entry.new first (last + 1)
+        (λ p. IsBlockIn first (last + 1) p ⊎ IsPointer p)
+        × HasBlocks (view log.new) entry.new first (last + 1)
         (image_of piece.now.offset piece.now.bytes.now piece.now.first piece.now.last) }
     ensures entry { entry.new ≡ record entry.old { pointers = entry.new.pointers } }
     ensures room { room_of log.old ≤ room_of log.new + 36 }
@@ -59,7 +59,7 @@ pub fn write_parts<D: Device>(
         log,
         sectors,
         entry,
-        &mut all.lists,
+        &mut all.double_indirect_block,
         &mut all.early,
         group,
         piece,
@@ -70,7 +70,7 @@ pub fn write_parts<D: Device>(
         log,
         sectors,
         entry,
-        &mut all.lists,
+        &mut all.double_indirect_block,
         &mut all.late,
         group + 1,
         piece,
@@ -79,7 +79,7 @@ pub fn write_parts<D: Device>(
     );
 }
 
-/// Writes the parts between two that the entry itself names.
+/// Writes the data blocks between two that the entry itself names.
 fn write_direct<D: Device>(
     log: &mut Log<D>,
     sectors: &mut Alloc,
@@ -98,8 +98,8 @@ fn write_direct<D: Device>(
     requires small { piece.now.offset + length piece.now.bytes.now ≤ 8483840 }
     ensures written { IsReady sectors.old (view log.old) entry.old → to ≤ count_of entry.old.size
         → Changes sectors.old sectors.new (view log.old) (view log.new) entry.old entry.new
-        (IsPartIn from to)
-        × HasParts (view log.new) entry.new from to
+        (IsBlockIn from to)
+        × HasBlocks (view log.new) entry.new from to
         (image_of piece.now.offset piece.now.bytes.now piece.now.first piece.now.last) }
     ensures keeps { (n : ℕ) → taken_of sectors.old n ≡ true → taken_of sectors.new n ≡ true }
     ensures entry { entry.new ≡ record entry.old { pointers = entry.new.pointers } }
@@ -108,18 +108,18 @@ fn write_direct<D: Device>(
     ensures range { SameRange sectors.old sectors.new }
 {
     for j in from..to {
-        let image = image_of_part(piece, j);
-        write_direct_part(log, sectors, entry, j, &image);
+        let image = image_of_block(piece, j);
+        write_direct_block(log, sectors, entry, j, &image);
     }
 }
 
-/// Writes parts between two that the pointer sector of the group lists.
+/// Writes data blocks between two that the pointer block of the group lists.
 fn write_segment<D: Device>(
     log: &mut Log<D>,
     sectors: &mut Alloc,
     entry: &mut Entry,
-    all: &mut PointerSector,
-    above: &mut PointerSector,
+    all: &mut PointerBlock,
+    above: &mut PointerBlock,
     group: u32,
     piece: &Piece<'_>,
     from: u32,
@@ -139,13 +139,13 @@ fn write_segment<D: Device>(
     requires known_all { all.old.number ≢ 0 → taken_of sectors.old all.old.number ≡ true }
     ensures written { IsReady sectors.old (view log.old) entry.old → to ≤ count_of entry.old.size
         → (from < to → Mirrors (view log.old) entry.old (segment group) above.old.number above.old.image)
-        → (186 < to → Mirrors (view log.old) entry.old lists all.old.number all.old.image)
+        → (186 < to → Mirrors (view log.old) entry.old double_indirect_block all.old.number all.old.image)
         → Changes sectors.old sectors.new (view log.old) (view log.new) entry.old entry.new
-        (λ p. IsPartIn from to p ⊎ ((p ≡ segment group) ⊎ (p ≡ lists)))
-        × HasParts (view log.new) entry.new from to
+        (λ p. IsBlockIn from to p ⊎ ((p ≡ segment group) ⊎ (p ≡ double_indirect_block)))
+        × HasBlocks (view log.new) entry.new from to
         (image_of piece.now.offset piece.now.bytes.now piece.now.first piece.now.last)
-        × (Mirrors (view log.old) entry.old lists all.old.number all.old.image
-        → Mirrors (view log.new) entry.new lists all.new.number all.new.image) }
+        × (Mirrors (view log.old) entry.old double_indirect_block all.old.number all.old.image
+        → Mirrors (view log.new) entry.new double_indirect_block all.new.number all.new.image) }
     ensures keeps { (n : ℕ) → taken_of sectors.old n ≡ true → taken_of sectors.new n ≡ true }
     ensures known_all { all.new.number ≢ 0 → taken_of sectors.new all.new.number ≡ true }
     ensures entry { entry.new ≡ record entry.old { pointers = entry.new.pointers } }
@@ -171,12 +171,12 @@ fn write_segment<D: Device>(
     }
 }
 
-/// Writes parts between two that one pointer sector lists, which has the number of part `start`
+/// Writes data blocks between two that one pointer block lists, which has the number of data block `start`
 /// first.
 fn write_listed<D: Device>(
     log: &mut Log<D>,
     sectors: &mut Alloc,
-    above: &mut PointerSector,
+    above: &mut PointerBlock,
     start: u32,
     piece: &Piece<'_>,
     from: u32,
@@ -197,8 +197,8 @@ fn write_listed<D: Device>(
         → IsReady sectors.old (view log.old) e
         → Mirrors (view log.old) e (segment g) above.old.number above.old.image
         → Changes sectors.old sectors.new (view log.old) (view log.new) e e
-        (λ p. IsPartIn from to p ⊎ (p ≡ segment g))
-        × HasParts (view log.new) e from to
+        (λ p. IsBlockIn from to p ⊎ (p ≡ segment g))
+        × HasBlocks (view log.new) e from to
         (image_of piece.now.offset piece.now.bytes.now piece.now.first piece.now.last) }
     ensures keeps { (n : ℕ) → taken_of sectors.old n ≡ true → taken_of sectors.new n ≡ true }
     ensures room { room_of log.old + placed log.old above.old.number
@@ -207,18 +207,18 @@ fn write_listed<D: Device>(
     ensures range { SameRange sectors.old sectors.new }
 {
     for j in from..to {
-        let image = image_of_part(piece, j);
-        write_listed_part(log, sectors, above, j - start, &image);
+        let image = image_of_block(piece, j);
+        write_listed_block(log, sectors, above, j - start, &image);
     }
 }
 
-/// Makes the pointer sector of a group, and the one that lists it, where there is none.
+/// Makes the pointer block of a group, and the one that lists it, where there is none.
 fn open_segment<D: Device>(
     log: &mut Log<D>,
     sectors: &mut Alloc,
     entry: &mut Entry,
-    all: &mut PointerSector,
-    above: &mut PointerSector,
+    all: &mut PointerBlock,
+    above: &mut PointerBlock,
     group: u32,
 )
     requires place { group < 129 }
@@ -231,11 +231,11 @@ fn open_segment<D: Device>(
     ensures opened { IsReady sectors.old (view log.old) entry.old
         → 58 + 128 * group < count_of entry.old.size
         → Mirrors (view log.old) entry.old (segment group) above.old.number above.old.image
-        → (1 ≤ group → Mirrors (view log.old) entry.old lists all.old.number all.old.image)
+        → (1 ≤ group → Mirrors (view log.old) entry.old double_indirect_block all.old.number all.old.image)
         → Adds sectors.old sectors.new (view log.old) (view log.new) entry.old entry.new
-        (λ p. (p ≡ segment group) ⊎ (p ≡ lists)) (segment group) above.new.number above.new.image
-        × (Mirrors (view log.old) entry.old lists all.old.number all.old.image
-        → Mirrors (view log.new) entry.new lists all.new.number all.new.image) }
+        (λ p. (p ≡ segment group) ⊎ (p ≡ double_indirect_block)) (segment group) above.new.number above.new.image
+        × (Mirrors (view log.old) entry.old double_indirect_block all.old.number all.old.image
+        → Mirrors (view log.new) entry.new double_indirect_block all.new.number all.new.image) }
     ensures known { above.new.number ≢ 0 → taken_of sectors.new above.new.number ≡ true }
     ensures known_all { all.new.number ≢ 0 → taken_of sectors.new all.new.number ≡ true }
     ensures keeps { (n : ℕ) → taken_of sectors.old n ≡ true → taken_of sectors.new n ≡ true }
@@ -255,13 +255,13 @@ fn open_segment<D: Device>(
     }
 }
 
-/// Makes the pointer sector that pointer 58 or 59 of the entry names, where there is none.
+/// Makes the pointer block that pointer 58 or 59 of the entry names, where there is none.
 fn open_pointer<D: Device>(
     log: &mut Log<D>,
     sectors: &mut Alloc,
     entry: &mut Entry,
     slot: u32,
-    above: &mut PointerSector,
+    above: &mut PointerBlock,
 )
     requires pointer { slot < 60 }
     requires behind { 122 ≤ first_of sectors.old }
@@ -269,7 +269,7 @@ fn open_pointer<D: Device>(
     requires room { 0 < room_of log.old }
     requires working { has_failed log.old ≡ false }
     requires known { above.old.number ≢ 0 → taken_of sectors.old above.old.number ≡ true }
-    ensures opened { (p : Place) → PointedAt slot p → 58 ≤ slot
+    ensures opened { (p : BlockPosition) → PointedAt slot p → 58 ≤ slot
         → IsReady sectors.old (view log.old) entry.old → first_served p < count_of entry.old.size
         → Mirrors (view log.old) entry.old p above.old.number above.old.image
         → Adds sectors.old sectors.new (view log.old) (view log.new) entry.old entry.new

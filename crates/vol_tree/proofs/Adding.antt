@@ -12,7 +12,7 @@ use Rattle.vol_inode.specs.declared.entry.Kind.TheVariants as kinds
 use Rattle.vol_inode.specs.Entry.{IsEntry, name_of}
 use Rattle.vol_inode.specs.Spelling.{spelling}
 use Rattle.vol_inode.specs.Space.{need_of}
-use Rattle.vol_body.specs.Body.{Place, part, list, lists, later_list, named, number_in, part_bytes, byte_at, bytes_of, IsBody}
+use Rattle.vol_body.specs.Body.{BlockPosition, data_block, indirect_block, double_indirect_block, inner_block, named, number_in, block_bytes, byte_at, bytes_of, IsBody}
 use Rattle.vol_alloc.specs.declared.sectors.Alloc.{Alloc}
 use Rattle.vol_tree.specs.declared.superblock.Superblock.{Superblock}
 use Rattle.vol_tree.specs.declared.errno.Errno.{Errno}
@@ -64,17 +64,17 @@ pick_part : (b : Bool) (x y : ℕ) → x ≡ 0 → y ≡ 0 → (if b then x else
 pick_part true x y one other = one
 pick_part false x y one other = other
 
-pub names_none : (content : Image) (e : Entry) → ((k : ℕ) → get_or e.pointers k 0 ≡ 0) → (p : Place) → named content e p ≡ 0
-names_none content e none (part j) = pick_part (nat_lt j 58) _ _ (none j) (pick_list content (nat_lt j 186) (get_or e.pointers 58 0) (get_or e.pointers 59 0) _ _ _ (none 58) (none 59))
-names_none content e none list = none 58
-names_none content e none lists = none 59
-names_none content e none (later_list i) = ap (λ (n : ℕ). number_in content n i) (none 59)
+pub names_none : (content : Image) (e : Entry) → ((k : ℕ) → get_or e.pointers k 0 ≡ 0) → (p : BlockPosition) → named content e p ≡ 0
+names_none content e none (data_block j) = pick_part (nat_lt j 58) _ _ (none j) (pick_list content (nat_lt j 186) (get_or e.pointers 58 0) (get_or e.pointers 59 0) _ _ _ (none 58) (none 59))
+names_none content e none indirect_block = none 58
+names_none content e none double_indirect_block = none 59
+names_none content e none (inner_block i) = ap (λ (n : ℕ). number_in content n i) (none 59)
 
 pub body_of_none : (content : Image) (e : Entry) → ((k : ℕ) → get_or e.pointers k 0 ≡ 0) → IsBody content e
 body_of_none content e none = record {
   distinct = λ p q a b some same. absurd (some (names_none content e none p));
   past = λ p a le. names_none content e none p;
-  zeros = λ k le lt. ap (λ (n : ℕ). get_or (part_bytes content n) (k % 512) 0) (names_none content e none (part (k / 512))) ∙ zero_at 512 (k % 512);
+  zeros = λ k le lt. ap (λ (n : ℕ). get_or (block_bytes content n) (k % 512) 0) (names_none content e none (data_block (k / 512))) ∙ zero_at 512 (k % 512);
 }
 
 bytes_none : (content : Image) (e : Entry) → e.size ≡ 0 → bytes_of content e ≡ []

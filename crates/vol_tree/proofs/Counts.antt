@@ -7,7 +7,7 @@ use Rattle.std.proofs.lemmas.List.Elements.{Contains-append_left, Contains-appen
 use Rattle.std.proofs.lemmas.List.Sums.{sum_by-cons}
 use Rattle.vol_sector.specs.Disk.{Image}
 use Rattle.vol_inode.specs.declared.entry.Entry.{Entry}
-use Rattle.vol_body.specs.Body.{Place, named, places_of}
+use Rattle.vol_body.specs.Body.{BlockPosition, named, positions_of}
 use Rattle.vol_body.specs.Change.{used_of}
 use Rattle.vol_body.proofs.Needed.{place_is_there}
 use Rattle.vol_body.proofs.Steps.{taken_range}
@@ -25,16 +25,16 @@ used_in content None = 0
 used_in content (Some e) = used_of content e
 
 -- the sectors named at these places
-names_at : Image → Entry → List Place → List ℕ
+names_at : Image → Entry → List BlockPosition → List ℕ
 names_at content e [] = []
 names_at content e (p ∷ places) = if named content e p == 0 then names_at content e places else named content e p ∷ names_at content e places
 
-long_at : (content : Image) (e : Entry) (places : List Place) → length (names_at content e places) ≡ count_by (λ p. not (named content e p == 0)) places
+long_at : (content : Image) (e : Entry) (places : List BlockPosition) → length (names_at content e places) ≡ count_by (λ p. not (named content e p == 0)) places
 unfolding names_at
 long_at content e [] = refl
 long_at content e (p ∷ places) =
     let rest = long_at content e places in
-    let more = sum_by-cons (λ (q : Place). cond {A = ℕ} (not (named content e q == 0)) 1 0) p places in
+    let more = sum_by-cons (λ (q : BlockPosition). cond {A = ℕ} (not (named content e q == 0)) 1 0) p places in
     elim (cases_Bool (named content e p == 0)) [
       | inl none ↦
           let here : length (names_at content e (p ∷ places)) ≡ length (names_at content e places) = ap length (cond-true (named content e p == 0) _ _ none) in
@@ -49,7 +49,7 @@ long_at content e (p ∷ places) =
 later : (n m : ℕ) (ns : List ℕ) → Contains ns n → Contains (m ∷ ns) n
 later n m ns (k, lt, is) = (suc k, omega arith, is)
 
-is_at : (content : Image) (e : Entry) (places : List Place) (p : Place) (n : ℕ) → Contains places p → named content e p ≡ n → n ≢ 0 → Contains (names_at content e places) n
+is_at : (content : Image) (e : Entry) (places : List BlockPosition) (p : BlockPosition) (n : ℕ) → Contains places p → named content e p ≡ n → n ≢ 0 → Contains (names_at content e places) n
 unfolding names_at
 is_at content e [] p n (k, lt, is) name some = absurd (omega arith)
 is_at content e (q ∷ places) p n (zero, lt, is) name some =
@@ -65,7 +65,7 @@ is_at content e (q ∷ places) p n (suc k, lt, is) name some =
 
 names_in : Image → Option Entry → List ℕ
 names_in content None = []
-names_in content (Some e) = names_at content e (places_of e.size)
+names_in content (Some e) = names_at content e (positions_of e.size)
 
 all_names : Image → Slots → List ℕ
 all_names content [] = []
@@ -74,7 +74,7 @@ all_names content (o ∷ slots) = names_in content o ++ all_names content slots
 long_in : (content : Image) (o : Option Entry) → length (names_in content o) ≡ used_in content o
 unfolding names_in
 long_in content None = refl
-long_in content (Some e) = long_at content e (places_of e.size)
+long_in content (Some e) = long_at content e (positions_of e.size)
 
 long_all : (content : Image) (slots : Slots) → length (all_names content slots) ≡ sum_by (used_in content) slots
 unfolding all_names
@@ -117,7 +117,7 @@ free_and_used content v sectors is taken first end =
       | inr hasnt ↦ absurd (taken.only n is_taken (λ s e at p place name.
           let some : n ≢ 0 = λ none. omega (arith, (taken_range sectors n is_taken).0) in
           let there = place_is_there content e p (is.volume.sectors.bodies s e at) place (λ none. some (sym name ∙ none)) in
-          let own : Contains (names_in content (get_or slots s None)) n = subst (λ (o : Option Entry). Contains (names_in content o) n) (sym at) (is_at content e (places_of e.size) p n there name some) in
+          let own : Contains (names_in content (get_or slots s None)) n = subst (λ (o : Option Entry). Contains (names_in content o) n) (sym at) (is_at content e (positions_of e.size) p n there name some) in
           hasnt (is_in_all content slots s n (within slots s e at) own)))
     ]) in
     omega (arith, le, long_all content slots)

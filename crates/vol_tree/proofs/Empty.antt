@@ -14,7 +14,7 @@ use Rattle.vol_inode.specs.declared.version.Version.TheVariants.{One, Two}
 use Rattle.vol_inode.specs.Entry.{IsEntry}
 use Rattle.vol_inode.specs.Space.{size_limit}
 use Rattle.vol_inode.specs.Spelling.{spelling, unused}
-use Rattle.vol_body.specs.Body.{Place, part, list, lists, later_list, named, part_bytes, IsBody}
+use Rattle.vol_body.specs.Body.{BlockPosition, data_block, indirect_block, double_indirect_block, inner_block, named, block_bytes, IsBody}
 use Rattle.vol_tree.specs.declared.superblock.Superblock.{Superblock}
 use Rattle.vol_tree.specs.Superblock.{superblock, HasRanges}
 use Rattle.vol_tree.specs.Tree as tree
@@ -79,17 +79,17 @@ pick true c x none = none
 pick false true x none = refl
 pick false false x none = refl
 
-names_none : (content : Image) (p : Place) → named content root_entry p ≡ 0
-names_none content (part j) = pick (nat_lt j 58) (nat_lt j 186) (get_or (replicate 60 0) j 0) (zero_at 60 j)
-names_none content list = refl
-names_none content lists = refl
-names_none content (later_list i) = refl
+names_none : (content : Image) (p : BlockPosition) → named content root_entry p ≡ 0
+names_none content (data_block j) = pick (nat_lt j 58) (nat_lt j 186) (get_or (replicate 60 0) j 0) (zero_at 60 j)
+names_none content indirect_block = refl
+names_none content double_indirect_block = refl
+names_none content (inner_block i) = refl
 
 root_is_body : (content : Image) → IsBody content root_entry
 root_is_body content = record {
   distinct = λ p q a b some same. absurd (some (names_none content p));
   past = λ p a le. names_none content p;
-  zeros = λ k le lt. ap (λ (n : ℕ). get_or (part_bytes content n) (k % 512) 0) (names_none content (part (k / 512))) ∙ zero_at 512 (k % 512);
+  zeros = λ k le lt. ap (λ (n : ℕ). get_or (block_bytes content n) (k % 512) 0) (names_none content (data_block (k / 512))) ∙ zero_at 512 (k % 512);
 }
 
 -- ---- the slots
@@ -116,7 +116,7 @@ keep_apart content v ranges = record {
   apart = λ s t d e p q is too a b some same. absurd (some (nothing s d p is));
 }
   where
-    nothing : (s : ℕ) (e : Entry) (p : Place) → get_or (fresh_slots v.slots) s None ≡ Some e → named content e p ≡ 0
+    nothing : (s : ℕ) (e : Entry) (p : BlockPosition) → get_or (fresh_slots v.slots) s None ≡ Some e → named content e p ≡ 0
     nothing s e p is = ap (λ (e : Entry). named content e p) (only_entry v.slots s e is).1 ∙ names_none content p
 
 -- ---- the tree

@@ -287,4 +287,4 @@ module _ (content : Image) (v : Superblock) (dirs : Dirs) (found : Entries) (p :
     where
       whose : (n s : ℕ) (o : Option Entry) → get_or slots s None ≡ o → Contains (named_in content o) n → ((t : ℕ) (e : Entry) → get_or slots t None ≡ Some e → NamesOthers content e n) → ⊥
       whose n s None at has none = omega (arith, has.1)
-      whose n s (Some e) at has none = let q = stands_named content e n has in none s e at q.place.0 q.place.1 q.place.2
+      whose n s (Some e) at has none = let q = stands_named content e n has in none s e at q.position.0 q.position.1 q.position.2

@@ -109,16 +109,16 @@ module _ (content : Image) (v : Superblock) (dirs : Dirs) (is : IsContent conten
       let e = named_at t n (get_or slots t None) refl other in
       let p = stands_named content d.0 n d.2 in
       let q = stands_named content e.0 n e.2 in
-      is.volume.sectors.apart s t d.0 e.0 p.place.0 q.place.0 d.1 e.1 p.place.1 q.place.1 (λ none. p.some (sym p.place.2 ∙ none)) (p.place.2 ∙ sym q.place.2))
+      is.volume.sectors.apart s t d.0 e.0 p.position.0 q.position.0 d.1 e.1 p.position.1 q.position.1 (λ none. p.some (sym p.position.2 ∙ none)) (p.position.2 ∙ sym q.position.2))
 
   inside : (n : ℕ) → Contains (flat_map (named_in content) slots) n → (122 + v.slots ≤ n) × (n < v.sectors)
   inside n has =
       let at = from_flat (named_in content) None slots n has in
       let e = named_at at.0 n (get_or slots at.0 None) refl at.2 in
       let p = stands_named content e.0 n e.2 in
-      let behind = is.volume.sectors.behind at.0 e.0 p.place.0 e.1 p.place.1 (λ none. p.some (sym p.place.2 ∙ none)) in
-      let below = is.volume.sectors.there at.0 e.0 p.place.0 e.1 p.place.1 in
-      (omega (arith, behind, p.place.2), omega (arith, below, p.place.2))
+      let behind = is.volume.sectors.behind at.0 e.0 p.position.0 e.1 p.position.1 (λ none. p.some (sym p.position.2 ∙ none)) in
+      let below = is.volume.sectors.there at.0 e.0 p.position.0 e.1 p.position.1 in
+      (omega (arith, behind, p.position.2), omega (arith, below, p.position.2))
 
   pub fits : (s : ℕ) (found : Entries) → s < v.slots → HaveRead content v dirs s found → FitIn content v (held_at content v s) found
   fits s found lt read =

@@ -11,7 +11,7 @@ use Rattle.vol_inode.specs.Entry.{IsEntry, name_of}
 use Rattle.vol_inode.specs.Name.{IsName}
 use Rattle.vol_inode.specs.Spelling.{spelling}
 use Rattle.vol_inode.specs.Space.{need_of}
-use Rattle.vol_body.specs.Body.{Place, part, list, lists, later_list, IsPlace, named, part_bytes, byte_at, bytes_of, IsBody, SameSectors, IsSameFile}
+use Rattle.vol_body.specs.Body.{BlockPosition, data_block, indirect_block, double_indirect_block, inner_block, IsPosition, named, block_bytes, byte_at, bytes_of, IsBody, SameSectors, IsSameFile}
 use Rattle.vol_body.proofs.Same.{same_file, same_rules}
 use Rattle.vol_alloc.specs.declared.sectors.Alloc.{Alloc}
 use Rattle.vol_alloc.specs.Alloc.{taken_of}
@@ -32,17 +32,17 @@ use Rattle.vol_tree.proofs.Finding.{slot_within, entry_at, length_tree}
 use Rattle.vol_tree.proofs.Trees.{moved_is_tree}
 
 -- entries with the same pointers name the same sectors
-named_by : (content : Image) (d e : Entry) → e.pointers ≡ d.pointers → (p : Place) → named content e p ≡ named content d p
-named_by content d e same (part j) = ap (λ (l : List ℕ). named content (record d { pointers = l }) (part j)) same
-named_by content d e same list = ap (λ (l : List ℕ). named content (record d { pointers = l }) list) same
-named_by content d e same lists = ap (λ (l : List ℕ). named content (record d { pointers = l }) lists) same
-named_by content d e same (later_list i) = ap (λ (l : List ℕ). named content (record d { pointers = l }) (later_list i)) same
+named_by : (content : Image) (d e : Entry) → e.pointers ≡ d.pointers → (p : BlockPosition) → named content e p ≡ named content d p
+named_by content d e same (data_block j) = ap (λ (l : List ℕ). named content (record d { pointers = l }) (data_block j)) same
+named_by content d e same indirect_block = ap (λ (l : List ℕ). named content (record d { pointers = l }) indirect_block) same
+named_by content d e same double_indirect_block = ap (λ (l : List ℕ). named content (record d { pointers = l }) double_indirect_block) same
+named_by content d e same (inner_block i) = ap (λ (l : List ℕ). named content (record d { pointers = l }) (inner_block i)) same
 
 body_by : (content : Image) (d e : Entry) → e.pointers ≡ d.pointers → e.size ≡ d.size → IsBody content d → IsBody content e
 body_by content d e same size body = record {
   distinct = λ p q a b some eq. body.distinct p q a b (λ none. some (named_by content d e same p ∙ none)) (sym (named_by content d e same p) ∙ eq ∙ named_by content d e same q);
   past = λ p there le. named_by content d e same p ∙ body.past p there (omega (arith, size, le));
-  zeros = λ k le lt. ap (λ (n : ℕ). get_or (part_bytes content n) (k % 512) 0) (named_by content d e same (part (k / 512))) ∙ body.zeros k (omega (arith, size, le)) lt;
+  zeros = λ k le lt. ap (λ (n : ℕ). get_or (block_bytes content n) (k % 512) 0) (named_by content d e same (data_block (k / 512))) ∙ body.zeros k (omega (arith, size, le)) lt;
 }
 
 -- the tree's entry gets another place and name
@@ -80,10 +80,10 @@ module _ (a c : Image) (v : Superblock) (s : ℕ) (d to : Entry) (is : IsContent
   same_d : IsSameFile a c d
   same_d = same_file a c d (sectors_stay s d at)
 
-  names : (p : Place) → IsPlace p → named c to p ≡ named a d p
+  names : (p : BlockPosition) → IsPosition p → named c to p ≡ named a d p
   names p place = named_by c d to pointers p ∙ same_d.names p place
 
-  named_as : (e : Entry) → Some to ≡ Some e → (p : Place) → IsPlace p → named c e p ≡ named a d p
+  named_as : (e : Entry) → Some to ≡ Some e → (p : BlockPosition) → IsPosition p → named c e p ≡ named a d p
   named_as e same p place = ap (λ (x : Entry). named c x p) (sym (own e same)) ∙ names p place
 
   fits : FitsIn a c v slots s (Some to)

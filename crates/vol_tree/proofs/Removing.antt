@@ -10,7 +10,7 @@ use Rattle.vol_log.proofs.Images.{put_same, put_other, at_once}
 use Rattle.vol_inode.specs.declared.entry.Entry.{Entry}
 use Rattle.vol_inode.specs.Spelling.{unused}
 use Rattle.vol_inode.specs.Space.{need_of}
-use Rattle.vol_body.specs.Body.{Place, IsPlace, named, NamesOthers, bytes_of, byte_at}
+use Rattle.vol_body.specs.Body.{BlockPosition, IsPosition, named, NamesOthers, bytes_of, byte_at}
 use Rattle.vol_body.proofs.Steps.{taken_range}
 use Rattle.vol_alloc.specs.declared.sectors.Alloc.{Alloc}
 use Rattle.vol_alloc.specs.Alloc.{first_of, end_of, taken_of}
@@ -59,7 +59,7 @@ module _ (a b c : Image) (v : Superblock) (s : ℕ) (d e : Entry) (old new : All
     apart = λ t x y p q at_x differ none. absurd (cc);
   }
 
-  names_none : (p : Place) → IsPlace p → named b e p ≡ 0
+  names_none : (p : BlockPosition) → IsPosition p → named b e p ≡ 0
   names_none p place = r.body.past p place (omega (arith, empty))
 
   range : (n : ℕ) → taken_of new n ≡ true → n ≢ 0

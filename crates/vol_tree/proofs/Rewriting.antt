@@ -7,7 +7,7 @@ use Rattle.vol_inode.specs.declared.entry.Entry.{Entry}
 use Rattle.vol_inode.specs.Entry.{IsEntry, name_of}
 use Rattle.vol_inode.specs.Name.{IsName}
 use Rattle.vol_inode.specs.Spelling.{spelling}
-use Rattle.vol_body.specs.Body.{Place, IsPlace, named, NamesTaken, NamesOthers, IsBody}
+use Rattle.vol_body.specs.Body.{BlockPosition, IsPosition, named, NamesTaken, NamesOthers, IsBody}
 use Rattle.vol_body.specs.Change.{OthersStay, TakesAndGives}
 use Rattle.vol_body.proofs.Steps.{taken_range}
 use Rattle.vol_alloc.specs.declared.sectors.Alloc.{Alloc}
@@ -114,7 +114,7 @@ module _ (a b : Image) (v : Superblock) (s : ℕ) (d e : Entry) (old new : Alloc
   lt = slot_within a v.slots s d at
 
   -- a sector of another slot's file isn't this one's
-  not_own : (t : ℕ) (f : Entry) (p : Place) → get_or slots t None ≡ Some f → t ≢ s → IsPlace p → named a f p ≢ 0 → NamesOthers a d (named a f p)
+  not_own : (t : ℕ) (f : Entry) (p : BlockPosition) → get_or slots t None ≡ Some f → t ≢ s → IsPosition p → named a f p ≢ 0 → NamesOthers a d (named a f p)
   not_own t f p is_f differ place some q place2 same = differ (is.volume.sectors.apart t s f d p q is_f at place place2 some (sym same))
 
   pub rewritten_others : OtherSlots a b v slots s
@@ -131,10 +131,10 @@ module _ (a b : Image) (v : Superblock) (s : ℕ) (d e : Entry) (old new : Alloc
   range : (n : ℕ) → taken_of new n ≡ true → (122 + v.slots ≤ n) × (n < v.sectors)
   range n is_taken = let within = taken_range new n is_taken in (omega (arith, within.0, r.first, first), omega (arith, within.1, r.end, end))
 
-  names_taken : (p : Place) → IsPlace p → named b e p ≢ 0 → taken_of new (named b e p) ≡ true
+  names_taken : (p : BlockPosition) → IsPosition p → named b e p ≢ 0 → taken_of new (named b e p) ≡ true
   names_taken p place some = r.taken.taken p place some
 
-  below : (p : Place) → IsPlace p → named b e p < v.sectors
+  below : (p : BlockPosition) → IsPosition p → named b e p < v.sectors
   below p place = elim (cases_eq (named b e p) 0) [
     | inl none ↦ omega (arith, lt)
     | inr some ↦ (range (named b e p) (names_taken p place some)).1

@@ -4,7 +4,7 @@ use Rattle.std.proofs.lemmas.Bool.{cases_eq, false≢true}
 use Rattle.std.proofs.lemmas.List.{get_or-set_same, get_or-set_other}
 use Rattle.vol_sector.specs.Disk.{Image}
 use Rattle.vol_inode.specs.declared.entry.Entry.{Entry}
-use Rattle.vol_body.specs.Body.{named, IsPlace, NamesTaken, NamesOthers}
+use Rattle.vol_body.specs.Body.{named, IsPosition, NamesTaken, NamesOthers}
 use Rattle.vol_body.proofs.Same.{same_file}
 use Rattle.vol_alloc.specs.declared.sectors.Alloc.{Alloc}
 use Rattle.vol_alloc.specs.Alloc.{taken_of}
@@ -25,7 +25,7 @@ pub record TakenFollows (a b : Image) (x o : Option Entry) (old new : Alloc) : T
 
 module _ (a b : Image) (v : Superblock) (slots : Slots) (s : ℕ) (lt : s < length slots) (o : Option Entry) (holds : Holds a v.version slots) (apart : KeepApart a v slots)
     (others : OtherSlots a b v slots s) (fits : FitsIn a b v slots s o) (old new : Alloc) (follows : TakenFollows a b (get_or slots s None) o old new) (taken : AreTaken a v slots old) where
-  same_name : (t : ℕ) (e : Entry) → get_or slots t None ≡ Some e → t ≢ s → (p : _) → IsPlace p → named b e p ≡ named a e p
+  same_name : (t : ℕ) (e : Entry) → get_or slots t None ≡ Some e → t ≢ s → (p : _) → IsPosition p → named b e p ≡ named a e p
   same_name t e is differ p place = (same_file a b e (others.files t e is differ)).names p place
 
   still_taken : (t : ℕ) (e : Entry) → get_or slots t None ≡ Some e → t ≢ s → NamesTaken (taken_of new) b e

@@ -11,9 +11,9 @@ use Rattle.vol_inode.specs.declared.entry.Entry.{Entry}
 use Rattle.vol_inode.specs.declared.entry.Kind.{Kind}
 use Rattle.vol_inode.specs.declared.entry.Kind.TheVariants as kinds
 use Rattle.vol_inode.specs.Space.{size_limit, need_of}
-use Rattle.vol_body.specs.Body.{named, bytes_of, byte_at, places_of}
+use Rattle.vol_body.specs.Body.{named, bytes_of, byte_at, positions_of}
 use Rattle.vol_body.specs.Change.{used_of}
-use Rattle.vol_body.proofs.Needed.{length-places_of}
+use Rattle.vol_body.proofs.Needed.{length-positions_of}
 use Rattle.vol_alloc.specs.declared.sectors.Alloc.{Alloc}
 use Rattle.vol_alloc.specs.Alloc.{first_of, end_of, free_of}
 use Rattle.vol_tree.specs.declared.superblock.Superblock.{Superblock}
@@ -39,8 +39,8 @@ used_needs content v is s (Some d) at =
     let right = is.volume.holds.entries s d at in
     let size : d.size ≡ size_of (node_by d.kind (bytes_of content d)) = size_back d.kind d.size (bytes_of content d) right.rules.size.directory (length-map-range_with_len (byte_at content d) 0 d.size) in
     let needs : need_of d.size ≡ need_of (size_of (node_by d.kind (bytes_of content d))) = ap need_of size in
-    let few : used_of content d ≤ length (places_of d.size) = count_by-le-length (λ p. not (named content d p == 0)) (places_of d.size) in
-    omega (arith, few, length-places_of d.size, needs)
+    let few : used_of content d ≤ length (positions_of d.size) = count_by-le-length (λ p. not (named content d p == 0)) (positions_of d.size) in
+    omega (arith, few, length-positions_of d.size, needs)
 
 -- two sums of which one is no greater, but for one place
 sum_le_but_one : {X Y : Type 0} (f : X → ℕ) (g : Y → ℕ) (d : X) (h : X → Y) (xs : List X) (s : ℕ) → s < length xs → ((t : ℕ) → t < length xs → f (get_or xs t d) ≤ g (h (get_or xs t d)))

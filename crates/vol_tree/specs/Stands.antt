@@ -9,7 +9,7 @@ use Rattle.vol_inode.specs.declared.entry.Kind.TheVariants as kinds
 use Rattle.vol_inode.specs.declared.version.Version.{Version}
 use Rattle.vol_inode.specs.Entry.{IsEntry, name_of}
 use Rattle.vol_inode.specs.Spelling.{spelling, unused}
-use Rattle.vol_body.specs.Body.{Place, IsPlace, named, bytes_of, IsBody}
+use Rattle.vol_body.specs.Body.{BlockPosition, IsPosition, named, bytes_of, IsBody}
 use Rattle.vol_tree.specs.declared.superblock.Superblock.{Superblock}
 use Rattle.vol_tree.specs.Superblock.{superblock, HasRanges, magic}
 use Rattle.vol_tree.specs.Tree as tree
@@ -49,9 +49,9 @@ tree_of content slots = map (option_map (entry_of content)) slots
 -- the same one.
 pub record KeepApart (content : Image) (v : Superblock) (slots : Slots) : Type 0 where
   pub bodies : (s : ℕ) (e : Entry) → get_or slots s None ≡ Some e → IsBody content e
-  pub behind : (s : ℕ) (e : Entry) (p : Place) → get_or slots s None ≡ Some e → IsPlace p → named content e p ≢ 0 → 122 + v.slots ≤ named content e p
-  pub there : (s : ℕ) (e : Entry) (p : Place) → get_or slots s None ≡ Some e → IsPlace p → named content e p < v.sectors
-  pub apart : (s t : ℕ) (d e : Entry) (p q : Place) → get_or slots s None ≡ Some d → get_or slots t None ≡ Some e → IsPlace p → IsPlace q
+  pub behind : (s : ℕ) (e : Entry) (p : BlockPosition) → get_or slots s None ≡ Some e → IsPosition p → named content e p ≢ 0 → 122 + v.slots ≤ named content e p
+  pub there : (s : ℕ) (e : Entry) (p : BlockPosition) → get_or slots s None ≡ Some e → IsPosition p → named content e p < v.sectors
+  pub apart : (s t : ℕ) (d e : Entry) (p q : BlockPosition) → get_or slots s None ≡ Some d → get_or slots t None ≡ Some e → IsPosition p → IsPosition q
       → named content d p ≢ 0 → named content d p ≡ named content e q → s ≡ t
 
 -- With the log's images in their places, the content has these entries in its slots, and they make a tree whose files

@@ -4,14 +4,14 @@ use Rattle.std.specs.List.{range_with_len, flat_map}
 use Rattle.vol_sector.specs.Disk.{Image}
 use Rattle.vol_inode.specs.declared.entry.Entry.{Entry}
 use Rattle.vol_inode.specs.Space.{sectors_of, lists_of}
-use Rattle.vol_body.specs.Body.{Place, part, IsPlace, first_served, named, number_in, part_bytes}
+use Rattle.vol_body.specs.Body.{BlockPosition, data_block, IsPosition, first_served, named, number_in, block_bytes}
 use Rattle.vol_body.specs.Survey.{nonzero, AreInside}
 
--- the numbers that a pointer sector lists
+-- the numbers that a pointer block lists
 unfoldable pub listed : Image → ℕ → List ℕ
 listed content n = map (number_in content n) (range_with_len 0 128)
 
--- the number of a pointer sector, and those that it lists
+-- the number of a pointer block, and those that it lists
 abbrev pub with_listed : Image → ℕ → List ℕ
 with_listed content n = n ∷ listed content n
 
@@ -28,27 +28,27 @@ pub record Pushes (first end : ℕ) (old new numbers : List ℕ) : Type 0 where
 abbrev pub Overflows : ℕ → ℕ → List ℕ → List ℕ → Type 0
 Overflows first end old numbers = AreInside first end (old ++ nonzero numbers) → ⊥
 
--- a pointer sector lists none from one place on
+-- a pointer block lists none from one position on
 abbrev pub ListsNoneFrom : Image → ℕ → ℕ → Type 0
 ListsNoneFrom content n from = (i : ℕ) → from ≤ i → i < 128 → number_in content n i ≡ 0
 
--- the same of these pointer sectors, which list the parts from 186 on
+-- the same of these pointer blocks, which list the data blocks from 186 on
 abbrev pub LaterListNone : Image → List ℕ → ℕ → Type 0
 LaterListNone content numbers count = (i : ℕ) → i < 128 → ListsNoneFrom content (slice_index numbers i) (count - (186 + 128 * i))
 
--- the pointer sector of pointer 59 lists no later list for parts from so many on, and neither do these
-pub record LaterNone (content : Image) (lists count : ℕ) : Type 0 where
-  pub own : ListsNoneFrom content lists (lists_of (count - 186))
-  pub later : LaterListNone content (listed content lists) count
+-- the pointer block of pointer 59 lists no inner block for data blocks from a number on, and neither do these
+pub record LaterNone (content : Image) (double_indirect_block count : ℕ) : Type 0 where
+  pub own : ListsNoneFrom content double_indirect_block (lists_of (count - 186))
+  pub later : LaterListNone content (listed content double_indirect_block) count
 
--- a place that serves only parts at or past the size names no sector
+-- a position that serves only data blocks at or past the size names no sector
 abbrev pub NamesNonePast : Image → Entry → Type 0
-NamesNonePast content e = (p : Place) → IsPlace p → sectors_of e.size ≤ first_served p → named content e p ≡ 0
+NamesNonePast content e = (p : BlockPosition) → IsPosition p → sectors_of e.size ≤ first_served p → named content e p ≡ 0
 
 -- what the file names is before the end
 abbrev pub NamesBelow : Image → Entry → ℕ → Type 0
-NamesBelow content e end = (p : Place) → IsPlace p → named content e p ≢ 0 → named content e p < end
+NamesBelow content e end = (p : BlockPosition) → IsPosition p → named content e p ≢ 0 → named content e p < end
 
--- the bytes past the size are zeros in the part that the size ends in
+-- the bytes past the size are zeros in the data block that the size ends in
 abbrev pub EndsInZeros : Image → Entry → Type 0
-EndsInZeros content e = (k : ℕ) → e.size % 512 ≢ 0 → e.size % 512 ≤ k → k < 512 → slice_index (part_bytes content (named content e (part (e.size / 512)))) k ≡ 0
+EndsInZeros content e = (k : ℕ) → e.size % 512 ≢ 0 → e.size % 512 ≤ k → k < 512 → slice_index (block_bytes content (named content e (data_block (e.size / 512)))) k ≡ 0

@@ -9,7 +9,7 @@ use Rattle.vol_body.proofs.Grown.{grown_bytes, grown_rules, put_elsewhere}
 use Rattle.vol_body.proofs.growing.grow.Goals as goal
 
 pub returns-clause-staged : goal.returns-clause-staged
-returns-clause-staged g c = c.stage.ensures.view ∙ ap (λ (bytes : List ℕ). put c.args.place bytes (view c.args.log.now)) c.write_entry.ensures.bytes
+returns-clause-staged g c = c.stage.ensures.view ∙ ap (λ (bytes : List ℕ). put c.args.inode_sector bytes (view c.args.log.now)) c.write_entry.ensures.bytes
 
 pub returns-clause-bytes : goal.returns-clause-bytes
 returns-clause-bytes g c body others =
@@ -17,8 +17,8 @@ returns-clause-bytes g c body others =
     let e = c.args.entry.now in
     let size = c.args.size in
     let longer : Entry = record e { size = size } in
-    let after = put c.args.place (spelling longer) content in
-    let same = same_file content after longer (put_elsewhere content e size c.args.place (spelling longer) others) in
+    let after = put c.args.inode_sector (spelling longer) content in
+    let same = same_file content after longer (put_elsewhere content e size c.args.inode_sector (spelling longer) others) in
     ap (λ (m : Image). bytes_of m longer) (returns-clause-staged g c)
     ∙ same_list content after longer same c.requires.small
     ∙ grown_bytes content e size body c.requires.grows c.requires.small
@@ -29,7 +29,7 @@ returns-clause-rules g c body others =
     let e = c.args.entry.now in
     let size = c.args.size in
     let longer : Entry = record e { size = size } in
-    let after = put c.args.place (spelling longer) content in
-    let same = same_file content after longer (put_elsewhere content e size c.args.place (spelling longer) others) in
+    let after = put c.args.inode_sector (spelling longer) content in
+    let same = same_file content after longer (put_elsewhere content e size c.args.inode_sector (spelling longer) others) in
     subst (λ (m : Image). IsBody m longer) (sym (returns-clause-staged g c))
     (same_rules content after longer same (grown_rules content e size body c.requires.grows))

@@ -11,7 +11,7 @@ returns-clause-number g c h =
     let i = c.args.i in
     let content = view c.args.log.now in
     let image = c.in_ok-image.image in
-    let read : c.number_at.result ≡ number_in content c.args.list i = c.number_at.ensures
+    let read : c.number_at.result ≡ number_in content c.args.indirect_block i = c.number_at.ensures
     ∙ ap (λ (l : List ℕ). little_number 4 (drop (4 * i) l)) (c.in_ok-image.ensures.value h)
-    ∙ sym (number_there content c.args.list i c.if-list-eq0.false) in
-    c.known.ensures ∙ ap (λ (n : ℕ). if taken_of c.args.sectors.now n then n else 0) read
+    ∙ sym (number_there content c.args.indirect_block i c.if-indirect_block-eq0.false) in
+    c.taken_or_zero.ensures ∙ ap (λ (n : ℕ). if taken_of c.args.sectors.now n then n else 0) read

@@ -3,7 +3,7 @@ use Rattle.std.proofs.lemmas.List.{drop-drop, length-drop}
 use Rattle.vol_sector.specs.Disk.{Image}
 use Rattle.vol_log.specs.Log.{view}
 use Rattle.vol_alloc.specs.Alloc.{taken_of}
-use Rattle.vol_body.specs.Body.{part, named, part_bytes, bytes_of, NamesTaken}
+use Rattle.vol_body.specs.Body.{data_block, named, block_bytes, bytes_of, NamesTaken}
 use Rattle.vol_log.proofs.Readings.{reads_then}
 use Rattle.vol_body.proofs.Parts.{length-bytes_of, part_of_bytes, filled_more}
 use Rattle.vol_body.proofs.reading.read_at.Goals as goal
@@ -24,12 +24,12 @@ loop-done-preserved g c =
     record {
       within = omega arith;
       working = c.in_ok-image.ensures.failed;
-      reads = reads_then c.args.log.now c.loop-done.log c.read_part.new.log so_far.working so_far.reads c.in_ok-image.ensures.reads;
+      reads = reads_then c.args.log.now c.loop-done.log c.read_block.new.log so_far.working so_far.reads c.in_ok-image.ensures.reads;
       filled = λ h names.
           let same : view c.loop-done.log ≡ content = so_far.reads.view h in
           let there : NamesTaken taken (view c.loop-done.log) e = subst (λ (m : Image). NamesTaken taken m e) (sym same) names in
-          let bytes : image ≡ part_bytes content (named content e (part (at / 512))) =
-          c.in_ok-image.ensures.bytes (so_far.reads.honest.0 h) there ∙ ap (λ (m : Image). part_bytes m (named m e (part (at / 512)))) same in
+          let bytes : image ≡ block_bytes content (named content e (data_block (at / 512))) =
+          c.in_ok-image.ensures.bytes (so_far.reads.honest.0 h) there ∙ ap (λ (m : Image). block_bytes m (named m e (data_block (at / 512)))) same in
           let file = bytes_of content e in
           let piece : take n (drop (at % 512) image) ≡ take n (drop done (drop c.args.offset file)) =
           part_of_bytes content e image at n (search rules) bytes (omega arith) within ∙ ap (take n) (sym (drop-drop done c.args.offset file)) in

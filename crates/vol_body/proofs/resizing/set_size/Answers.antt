@@ -19,7 +19,7 @@ returns-clause-entry g c =
     let e = c.args.entry.now in
     both c.grow.result _ _ _ (λ is longer. record {
       entry = longer ∙ sym (ap (λ (x : Entry). record e { size = c.args.size; pointers = x.pointers }) longer);
-      staged = ap (λ (m : Image). m c.args.place) is ∙ put_there c.args.place (spelling c.grow.new.entry) (view c.args.log.now);
+      staged = ap (λ (m : Image). m c.args.inode_sector) is ∙ put_there c.args.inode_sector (spelling c.grow.new.entry) (view c.args.log.now);
     }) c.grow.ensures.staged c.grow.ensures.entry
 
 pub returns-clause-file : goal.returns-clause-file
@@ -27,7 +27,7 @@ returns-clause-file g c h names body =
     let content = view c.args.log.now in
     let e = c.args.entry.now in
     let size = c.args.size in
-    let place = c.args.place in
+    let place = c.args.inode_sector in
     let after = view c.grow.new.log in
     let changed = c.grow.new.entry in
     let others = slot_is_other c.args.sectors.now content e place (omega (arith, c.requires.behind)) c.requires.slot names in

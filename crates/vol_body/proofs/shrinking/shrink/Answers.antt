@@ -20,9 +20,9 @@ on_err : (r : Result (Unit {0}) DeviceFault) (P : Type 0) → P → OnErr r P
 on_err (Ok x) P p = tt
 on_err (Err x) P p = p
 
-pub returns-in_err-give_back-clause-refused : goal.returns-in_err-give_back-clause-refused
-returns-in_err-give_back-clause-refused g c =
-    on_err c.from_residual-in_err-give_back.result _ (reads_then c.args.log.now c.read_cuts.new.log c.give_back.new.log c.in_ok-cuts.ensures.failed c.in_ok-cuts.ensures.reads c.in_err-give_back.ensures.reads, λ i. c.args.entry.now)
+pub returns-in_err-free_unkept-clause-refused : goal.returns-in_err-free_unkept-clause-refused
+returns-in_err-free_unkept-clause-refused g c =
+    on_err c.from_residual-in_err-free_unkept.result _ (reads_then c.args.log.now c.read_cuts.new.log c.free_unkept.new.log c.in_ok-cuts.ensures.failed c.in_ok-cuts.ensures.reads c.in_err-free_unkept.ensures.reads, λ i. c.args.entry.now)
 
 -- the entry as it is written
 abbrev changed_of : (g : Over) → goal.After-stage g → Entry
@@ -31,33 +31,33 @@ changed_of g c = record c.args.entry.now { size = c.args.size; pointers = c.kept
 pub returns-clause-entry : goal.returns-clause-entry
 returns-clause-entry g c = record {
   entry = λ i. changed_of g c;
-  staged = ap (λ (m : Image). m c.args.place) c.stage.ensures.view ∙ put_there c.args.place c.write_entry.result (view c.stage_cuts.new.log) ∙ c.write_entry.ensures.bytes;
+  staged = ap (λ (m : Image). m c.args.inode_sector) c.stage.ensures.view ∙ put_there c.args.inode_sector c.write_entry.result (view c.stage_cuts.new.log) ∙ c.write_entry.ensures.bytes;
 }
 
 pub returns-clause-steps : goal.returns-clause-steps
 returns-clause-steps g c =
-    let reads = reads_then c.args.log.now c.read_cuts.new.log c.give_back.new.log c.in_ok-cuts.ensures.failed c.in_ok-cuts.ensures.reads c.in_ok-give_back.ensures.reads in
+    let reads = reads_then c.args.log.now c.read_cuts.new.log c.free_unkept.new.log c.in_ok-cuts.ensures.failed c.in_ok-cuts.ensures.reads c.in_ok-free_unkept.ensures.reads in
     record {
       room = search rules;
-      log = stages_then c.args.log.now c.give_back.new.log c.stage.new.self reads c.in_ok-give_back.ensures.failed (c.stage.ensures.device ∙ c.stage_cuts.ensures.device) (c.stage.ensures.sectors ∙ c.stage_cuts.ensures.sectors) c.stage.ensures.failed;
+      log = stages_then c.args.log.now c.free_unkept.new.log c.stage.new.self reads c.in_ok-free_unkept.ensures.failed (c.stage.ensures.device ∙ c.stage_cuts.ensures.device) (c.stage.ensures.sectors ∙ c.stage_cuts.ensures.sectors) c.stage.ensures.failed;
       failed = c.stage.ensures.failed;
       range = search rules;
     }
 
 given_back : (g : Over) (c : goal.After-stage g) → g.D.Device.honest (device_of c.args.log.now) → NamesTaken (taken_of c.args.sectors.now) (view c.args.log.now) c.args.entry.now
-    → Gives (taken_of c.args.sectors.now) (taken_of c.give_back.new.sectors) (Goes (view c.args.log.now) c.args.entry.now (sectors_of c.args.size))
+    → Gives (taken_of c.args.sectors.now) (taken_of c.free_unkept.new.sectors) (Goes (view c.args.log.now) c.args.entry.now (sectors_of c.args.size))
 given_back g c h names =
     let content = view c.args.log.now in
     let e = c.args.entry.now in
     let was = taken_of c.args.sectors.now in
-    let now_taken = taken_of c.give_back.new.sectors in
+    let now_taken = taken_of c.free_unkept.new.sectors in
     let reads = c.in_ok-cuts.ensures.reads in
     let there : NamesTaken was (view c.read_cuts.new.log) e = subst (λ (m : Image). NamesTaken was m e) (sym (reads.view h)) names in
     let count : c.div_ceil-count.result ≡ sectors_of c.args.size = omega (arith, c.div_ceil-count.ensures) in
-    subst (λ (k : ℕ). Gives was now_taken (Goes content e k)) count (subst (λ (m : Image). Gives was now_taken (Goes m e c.div_ceil-count.result)) (reads.view h) (c.in_ok-give_back.ensures.gives (reads.honest.0 h) there))
+    subst (λ (k : ℕ). Gives was now_taken (Goes content e k)) count (subst (λ (m : Image). Gives was now_taken (Goes m e c.div_ceil-count.result)) (reads.view h) (c.in_ok-free_unkept.ensures.gives (reads.honest.0 h) there))
 
 made : (g : Over) (c : goal.After-stage g) → g.D.Device.honest (device_of c.args.log.now) → NamesTaken (taken_of c.args.sectors.now) (view c.args.log.now) c.args.entry.now → IsBody (view c.args.log.now) c.args.entry.now
-    → Shrinks c.args.size c.args.place (first_of c.args.sectors.now) (end_of c.args.sectors.now) (view c.args.log.now) c.args.entry.now (changed_of g c) c.in_ok-cuts.cuts (taken_of c.args.sectors.now) (taken_of c.give_back.new.sectors)
+    → Shrinks c.args.size c.args.inode_sector (first_of c.args.sectors.now) (end_of c.args.sectors.now) (view c.args.log.now) c.args.entry.now (changed_of g c) c.in_ok-cuts.cuts (taken_of c.args.sectors.now) (taken_of c.free_unkept.new.sectors)
 made g c h names body =
     let count : c.div_ceil-count.result ≡ sectors_of c.args.size = omega (arith, c.div_ceil-count.ensures) in
     record {
@@ -73,15 +73,15 @@ made g c h names body =
       slot = λ n is same. let within = in_range c.args.sectors.now n is in omega (arith, within.0, same, c.requires.slot);
     }
 
-after_is : (g : Over) (c : goal.After-stage g) → g.D.Device.honest (device_of c.args.log.now) → view c.stage.new.self ≡ put c.args.place c.write_entry.result (with_cuts c.in_ok-cuts.cuts (view c.args.log.now))
+after_is : (g : Over) (c : goal.After-stage g) → g.D.Device.honest (device_of c.args.log.now) → view c.stage.new.self ≡ put c.args.inode_sector c.write_entry.result (with_cuts c.in_ok-cuts.cuts (view c.args.log.now))
 after_is g c h =
     let first = c.in_ok-cuts.ensures.reads in
-    let same : view c.give_back.new.log ≡ view c.args.log.now = c.in_ok-give_back.ensures.reads.view (first.honest.0 h) ∙ first.view h in
-    c.stage.ensures.view ∙ ap (put c.args.place c.write_entry.result) (c.stage_cuts.ensures.view ∙ ap (with_cuts c.in_ok-cuts.cuts) same)
+    let same : view c.free_unkept.new.log ≡ view c.args.log.now = c.in_ok-free_unkept.ensures.reads.view (first.honest.0 h) ∙ first.view h in
+    c.stage.ensures.view ∙ ap (put c.args.inode_sector c.write_entry.result) (c.stage_cuts.ensures.view ∙ ap (with_cuts c.in_ok-cuts.cuts) same)
 
 pub returns-clause-file : goal.returns-clause-file
 returns-clause-file g c h names body =
-    let place = c.args.place in
+    let place = c.args.inode_sector in
     let size = c.args.size in
     let first = first_of c.args.sectors.now in
     let end = end_of c.args.sectors.now in
@@ -90,7 +90,7 @@ returns-clause-file g c h names body =
     let changed = changed_of g c in
     let cuts = c.in_ok-cuts.cuts in
     let taken = taken_of c.args.sectors.now in
-    let still = taken_of c.give_back.new.sectors in
+    let still = taken_of c.free_unkept.new.sectors in
     let shrinks = made g c h names body in
     let spelled = c.write_entry.result in
     let after = view c.stage.new.self in

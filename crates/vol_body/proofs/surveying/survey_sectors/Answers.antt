@@ -4,8 +4,8 @@ use Rattle.vol_sector.specs.Disk.{Image}
 use Rattle.vol_sector.specs.declared.fault.VolumeFault.TheVariants as faults
 use Rattle.vol_inode.specs.Space.{sectors_of}
 use Rattle.vol_log.specs.Log.{view}
-use Rattle.vol_body.specs.Body.{list, lists, named}
-use Rattle.vol_body.specs.Survey.{every_place}
+use Rattle.vol_body.specs.Body.{indirect_block, double_indirect_block, named}
+use Rattle.vol_body.specs.Survey.{every_position}
 use Rattle.vol_body.specs.internal.Surveying.{listed, with_listed, all_listed, Pushes, Overflows, ListsNoneFrom, LaterNone, NamesNonePast}
 use Rattle.vol_body.proofs.Surveys.{pushes_then, overflows_before, overflows_then, handed_on}
 use Rattle.vol_body.proofs.Surveyed.{at_every, none_past, past_list, past_later}
@@ -21,88 +21,88 @@ returns-in_err-push_all-clause-damaged g c h =
     let e = c.args.entry.now in
     let a = c.args.named.now.items in
     let front = take 58 e.pointers in
-    let next = with_listed content (named content e list) in
-    let last = named content e lists ∷ all_listed content (listed content (named content e lists)) in
+    let next = with_listed content (named content e indirect_block) in
+    let last = named content e double_indirect_block ∷ all_listed content (listed content (named content e double_indirect_block)) in
     let long : length e.pointers ≡ 60 = omega arith in
     handed_on c.from_residual.result _ c.in_err-push_all.field-0.0 c.from_residual.ensures.1
     (λ is past. subst (Overflows c.args.first c.args.end a) (at_every content e long)
     (overflows_before c.args.first c.args.end a (front ++ next) last (overflows_before c.args.first c.args.end a front next (c.in_err-push_all.ensures.damaged is))))
 
-pub returns-in_err-survey_list-clause-damaged : goal.returns-in_err-survey_list-clause-damaged
-returns-in_err-survey_list-clause-damaged g c h =
+pub returns-in_err-survey_indirect_block-clause-damaged : goal.returns-in_err-survey_indirect_block-clause-damaged
+returns-in_err-survey_indirect_block-clause-damaged g c h =
     let content = view c.args.log.now in
     let e = c.args.entry.now in
     let a = c.args.named.now.items in
     let b = c.push_all.new.named.items in
     let front = take 58 e.pointers in
-    let next = with_listed content (named content e list) in
-    let last = named content e lists ∷ all_listed content (listed content (named content e lists)) in
+    let next = with_listed content (named content e indirect_block) in
+    let last = named content e double_indirect_block ∷ all_listed content (listed content (named content e double_indirect_block)) in
     let long : length e.pointers ≡ 60 = omega arith in
     let from : c.saturating_sub-from.result ≡ sectors_of e.size - 58 = omega (arith, c.saturating_sub-from.ensures, c.div_ceil-count.ensures) in
-    handed_on c.from_residual-in_err-survey_list.result _ c.in_err-survey_list.field-0.0 c.from_residual-in_err-survey_list.ensures.1
+    handed_on c.from_residual-in_err-survey_indirect_block.result _ c.in_err-survey_indirect_block.field-0.0 c.from_residual-in_err-survey_indirect_block.ensures.1
     (λ is past. subst (Overflows c.args.first c.args.end a) (at_every content e long)
     (overflows_before c.args.first c.args.end a (front ++ next) last (overflows_then c.args.first c.args.end a b front next c.in_ok-push_all.ensures.pushes
-    (c.in_err-survey_list.ensures.damaged h is (subst (λ (k : ℕ). ListsNoneFrom content (named content e list) k) (sym from) (past_list content e past))))))
+    (c.in_err-survey_indirect_block.ensures.damaged h is (subst (λ (k : ℕ). ListsNoneFrom content (named content e indirect_block) k) (sym from) (past_list content e past))))))
 
 pub returns-clause-pushes : goal.returns-clause-pushes
 returns-clause-pushes g c h =
     let content = view c.args.log.now in
-    let now = view c.survey_list.new.log in
+    let now = view c.survey_indirect_block.new.log in
     let e = c.args.entry.now in
     let a = c.args.named.now.items in
     let b = c.push_all.new.named.items in
-    let d = c.survey_list.new.named.items in
-    let z = c.survey_later.new.named.items in
+    let d = c.survey_indirect_block.new.named.items in
+    let z = c.survey_double_indirect_block.new.named.items in
     let first = c.args.first in
     let end = c.args.end in
     let front = take 58 e.pointers in
-    let next = with_listed content (named content e list) in
-    let n = named content e lists in
+    let next = with_listed content (named content e indirect_block) in
+    let n = named content e double_indirect_block in
     let long : length e.pointers ≡ 60 = omega arith in
-    let reads = c.in_ok-survey_list.ensures.reads in
-    on_ok (Pushes first end d z (n ∷ all_listed now (listed now n))) (Pushes first end a z (map (named content e) every_place)) c.survey_later.result
+    let reads = c.in_ok-survey_indirect_block.ensures.reads in
+    on_ok (Pushes first end d z (n ∷ all_listed now (listed now n))) (Pushes first end a z (map (named content e) every_position)) c.survey_double_indirect_block.result
     (λ p. subst (Pushes first end a z) (at_every content e long)
-    (pushes_then first end a d z (front ++ next) (n ∷ all_listed content (listed content n)) (pushes_then first end a b d front next c.in_ok-push_all.ensures.pushes (c.in_ok-survey_list.ensures.pushes h))
+    (pushes_then first end a d z (front ++ next) (n ∷ all_listed content (listed content n)) (pushes_then first end a b d front next c.in_ok-push_all.ensures.pushes (c.in_ok-survey_indirect_block.ensures.pushes h))
     (subst (λ (m : Image). Pushes first end d z (n ∷ all_listed m (listed m n))) (reads.view h) p)))
-    (c.survey_later.ensures.pushes (reads.honest.0 h))
+    (c.survey_double_indirect_block.ensures.pushes (reads.honest.0 h))
 
 pub returns-clause-past : goal.returns-clause-past
 returns-clause-past g c h =
     let content = view c.args.log.now in
-    let now = view c.survey_list.new.log in
+    let now = view c.survey_indirect_block.new.log in
     let e = c.args.entry.now in
-    let n = named content e lists in
+    let n = named content e double_indirect_block in
     let count = c.div_ceil-count.result in
     let is : count ≡ sectors_of e.size = omega (arith, c.div_ceil-count.ensures) in
     let from : c.saturating_sub-from.result ≡ sectors_of e.size - 58 = omega (arith, c.saturating_sub-from.ensures, c.div_ceil-count.ensures) in
-    let reads = c.in_ok-survey_list.ensures.reads in
-    on_ok (LaterNone now n count) (NamesNonePast content e) c.survey_later.result
-    (λ p. none_past content e c.requires.pointers (subst (λ (k : ℕ). ListsNoneFrom content (named content e list) k) from (c.in_ok-survey_list.ensures.past h))
+    let reads = c.in_ok-survey_indirect_block.ensures.reads in
+    on_ok (LaterNone now n count) (NamesNonePast content e) c.survey_double_indirect_block.result
+    (λ p. none_past content e c.requires.pointers (subst (λ (k : ℕ). ListsNoneFrom content (named content e indirect_block) k) from (c.in_ok-survey_indirect_block.ensures.past h))
     (subst (λ (k : ℕ). LaterNone content n k) is (subst (λ (m : Image). LaterNone m n count) (reads.view h) p)))
-    (c.survey_later.ensures.past (reads.honest.0 h))
+    (c.survey_double_indirect_block.ensures.past (reads.honest.0 h))
 
 pub returns-clause-damaged : goal.returns-clause-damaged
 returns-clause-damaged g c h =
     let content = view c.args.log.now in
-    let now = view c.survey_list.new.log in
+    let now = view c.survey_indirect_block.new.log in
     let e = c.args.entry.now in
     let a = c.args.named.now.items in
     let b = c.push_all.new.named.items in
-    let d = c.survey_list.new.named.items in
+    let d = c.survey_indirect_block.new.named.items in
     let first = c.args.first in
     let end = c.args.end in
     let front = take 58 e.pointers in
-    let next = with_listed content (named content e list) in
-    let n = named content e lists in
+    let next = with_listed content (named content e indirect_block) in
+    let n = named content e double_indirect_block in
     let count = c.div_ceil-count.result in
     let is_count : count ≡ sectors_of e.size = omega (arith, c.div_ceil-count.ensures) in
     let long : length e.pointers ≡ 60 = omega arith in
-    let reads = c.in_ok-survey_list.ensures.reads in
-    IfErr-weaker c.survey_later.result
+    let reads = c.in_ok-survey_indirect_block.ensures.reads in
+    IfErr-weaker c.survey_double_indirect_block.result
     (λ fault. fault ≡ faults.Damaged → LaterNone now n count → Overflows first end d (n ∷ all_listed now (listed now n)))
-    (λ fault. fault ≡ faults.Damaged → NamesNonePast content e → Overflows first end a (map (named content e) every_place))
+    (λ fault. fault ≡ faults.Damaged → NamesNonePast content e → Overflows first end a (map (named content e) every_position))
     (λ fault holds is past. subst (Overflows first end a) (at_every content e long)
-    (overflows_then first end a d (front ++ next) (n ∷ all_listed content (listed content n)) (pushes_then first end a b d front next c.in_ok-push_all.ensures.pushes (c.in_ok-survey_list.ensures.pushes h))
+    (overflows_then first end a d (front ++ next) (n ∷ all_listed content (listed content n)) (pushes_then first end a b d front next c.in_ok-push_all.ensures.pushes (c.in_ok-survey_indirect_block.ensures.pushes h))
     (subst (λ (m : Image). LaterNone m n count → Overflows first end d (n ∷ all_listed m (listed m n))) (reads.view h) (holds is)
     (subst (λ (k : ℕ). LaterNone content n k) (sym is_count) (past_later content e past)))))
-    (c.survey_later.ensures.damaged (reads.honest.0 h))
+    (c.survey_double_indirect_block.ensures.damaged (reads.honest.0 h))

@@ -4,9 +4,9 @@ use Rattle.vol_log.specs.Log.{view, room_of, is_staged}
 use Rattle.vol_alloc.specs.Alloc.{taken_of, free_of}
 use Rattle.vol_inode.specs.Space.{need_of}
 use Rattle.vol_inode.specs.declared.entry.Entry.{Entry}
-use Rattle.vol_body.specs.Body.{part, named, part_bytes, NamesTaken}
+use Rattle.vol_body.specs.Body.{data_block, named, block_bytes, NamesTaken}
 use Rattle.vol_body.specs.Change.{used_of}
-use Rattle.vol_body.specs.internal.Writing.{IsReady, MirrorsAll, Changes, IsPartIn, IsPointer}
+use Rattle.vol_body.specs.internal.Writing.{IsReady, MirrorsAll, Changes, IsBlockIn, IsPointer}
 use Rattle.vol_log.proofs.Readings.{reads_then}
 use Rattle.vol_body.proofs.Stagings.{stages_then}
 use Rattle.vol_body.proofs.Steps.{put_here, room_left, on_err}
@@ -21,9 +21,9 @@ returns-in_err-behind-clause-refused g c =
 pub returns-in_err-all-clause-steps : goal.returns-in_err-all-clause-steps
 returns-in_err-all-clause-steps g c =
     let edges = reads_then c.args.log.now c.read_edge.new.log c.read_edge-2.new.log c.in_ok-before.ensures.failed c.in_ok-before.ensures.reads c.in_ok-behind.ensures.reads in
-    let reads = reads_then c.args.log.now c.read_edge-2.new.log c.load_lists.new.log c.in_ok-behind.ensures.failed edges c.in_err-all.ensures.reads in
+    let reads = reads_then c.args.log.now c.read_edge-2.new.log c.load_pointer_blocks.new.log c.in_ok-behind.ensures.failed edges c.in_err-all.ensures.reads in
     record {
-      room = let same : room_of c.load_lists.new.log ≡ room_of c.args.log.now = ap (λ l. 120 - length l) reads.staged in omega (arith, same);
+      room = let same : room_of c.load_pointer_blocks.new.log ≡ room_of c.args.log.now = ap (λ l. 120 - length l) reads.staged in omega (arith, same);
       log = record { seen = reads.seen; crash = reads.crash; sectors = reads.sectors; honest = reads.honest; size = reads.size; failures = reads.failures };
       failed = search rules;
       range = (refl, refl);
@@ -33,27 +33,27 @@ pub returns-in_err-all-clause-refused : goal.returns-in_err-all-clause-refused
 returns-in_err-all-clause-refused g c =
     let edges = reads_then c.args.log.now c.read_edge.new.log c.read_edge-2.new.log c.in_ok-before.ensures.failed c.in_ok-before.ensures.reads c.in_ok-behind.ensures.reads in
     on_err c.from_residual-in_err-all.result
-    (reads_then c.args.log.now c.read_edge-2.new.log c.load_lists.new.log c.in_ok-behind.ensures.failed edges c.in_err-all.ensures.reads, refl, refl)
+    (reads_then c.args.log.now c.read_edge-2.new.log c.load_pointer_blocks.new.log c.in_ok-behind.ensures.failed edges c.in_err-all.ensures.reads, refl, refl)
 
 pub returns-clause-entry : goal.returns-clause-entry
 returns-clause-entry g c = record {
   entry = search rules;
-  staged = ap (λ (m : Image). m c.args.place) c.stage.ensures.view ∙ put_here c.args.place c.write_entry.result (view c.write_parts.new.log) ∙ c.write_entry.ensures.bytes;
+  staged = ap (λ (m : Image). m c.args.inode_sector) c.stage.ensures.view ∙ put_here c.args.inode_sector c.write_entry.result (view c.write_blocks.new.log) ∙ c.write_entry.ensures.bytes;
 }
 
 pub returns-clause-steps : goal.returns-clause-steps
 returns-clause-steps g c =
     let edges = reads_then c.args.log.now c.read_edge.new.log c.read_edge-2.new.log c.in_ok-before.ensures.failed c.in_ok-before.ensures.reads c.in_ok-behind.ensures.reads in
-    let reads = reads_then c.args.log.now c.read_edge-2.new.log c.load_lists.new.log c.in_ok-behind.ensures.failed edges c.in_ok-all.ensures.reads in
-    let same : room_of c.load_lists.new.log ≡ room_of c.args.log.now = ap (λ l. 120 - length l) reads.staged in
-    let last = room_left (is_staged c.write_parts.new.log c.args.place) (room_of c.write_parts.new.log) (room_of c.stage.new.self) c.stage.ensures.room in
-    let puts = c.write_parts.ensures.puts in
+    let reads = reads_then c.args.log.now c.read_edge-2.new.log c.load_pointer_blocks.new.log c.in_ok-behind.ensures.failed edges c.in_ok-all.ensures.reads in
+    let same : room_of c.load_pointer_blocks.new.log ≡ room_of c.args.log.now = ap (λ l. 120 - length l) reads.staged in
+    let last = room_left (is_staged c.write_blocks.new.log c.args.inode_sector) (room_of c.write_blocks.new.log) (room_of c.stage.new.self) c.stage.ensures.room in
+    let puts = c.write_blocks.ensures.puts in
     record {
-      room = omega (arith, same, last, c.write_parts.ensures.room);
-      log = stages_then c.args.log.now c.load_lists.new.log c.stage.new.self reads c.in_ok-all.ensures.failed
+      room = omega (arith, same, last, c.write_blocks.ensures.room);
+      log = stages_then c.args.log.now c.load_pointer_blocks.new.log c.stage.new.self reads c.in_ok-all.ensures.failed
           (c.stage.ensures.device ∙ puts.device) (c.stage.ensures.sectors ∙ puts.sectors) c.stage.ensures.failed;
       failed = c.stage.ensures.failed;
-      range = (c.write_parts.ensures.range.first, c.write_parts.ensures.range.end);
+      range = (c.write_blocks.ensures.range.first, c.write_blocks.ensures.range.end);
     }
 
 pub returns-clause-done : goal.returns-clause-done
@@ -63,14 +63,14 @@ returns-clause-done g c h names body space =
     let offset = c.args.offset in
     let bytes = c.args.bytes.now in
     let a = c.args.sectors.now in
-    let b = c.write_parts.new.sectors in
+    let b = c.write_blocks.new.sectors in
     let first = offset / 512 in
     let last = (offset + length bytes - 1) / 512 in
     let size = c.max-entry.result in
     let longer : Entry = record e { size = size } in
-    let changed = c.write_parts.new.entry in
-    let between = view c.write_parts.new.log in
-    let start = view c.load_lists.new.log in
+    let changed = c.write_blocks.new.entry in
+    let between = view c.write_blocks.new.log in
+    let start = view c.load_pointer_blocks.new.log in
     let all = c.in_ok-all.all in
     let one : view c.read_edge.new.log ≡ content = c.in_ok-before.ensures.reads.view h in
     let h1 = c.in_ok-before.ensures.reads.honest.0 h in
@@ -82,12 +82,12 @@ returns-clause-done g c h names body space =
     let small : size ≤ 8483840 = omega (arith, size_is, c.requires.small, c.requires.small_before) in
     let ready : IsReady a content longer = ready_to_write a content e size body names (omega (arith, size_is)) small (subst (λ (s : ℕ). need_of s ≤ free_of a + used_of content e) (sym size_is) space) in
     let mirrors : MirrorsAll content longer all first last = mirrors_all_by content e longer all first last refl (subst (λ (k : Image). MirrorsAll k e all first last) two (c.in_ok-all.ensures.right h2 (names_in (view c.read_edge-2.new.log) two))) in
-    let written = c.write_parts.ensures.written (subst (λ (k : Image). IsReady a k longer) (sym three) ready) (omega (arith, size_is, c.requires.some))
+    let written = c.write_blocks.ensures.written (subst (λ (k : Image). IsReady a k longer) (sym three) ready) (omega (arith, size_is, c.requires.some))
     (subst (λ (k : Image). MirrorsAll k longer all first last) (sym three) mirrors) in
-    let changes : Changes a b content between longer changed (λ p. IsPartIn first (last + 1) p ⊎ IsPointer p) =
-    subst (λ (k : Image). Changes a b k between longer changed (λ p. IsPartIn first (last + 1) p ⊎ IsPointer p)) three written.0 in
-    write_leaves c.args.place offset bytes c.in_ok-before.before c.in_ok-behind.behind c.write_entry.result a b content between (view c.stage.new.self) e changed size
-    c.requires.behind c.requires.slot c.write_parts.ensures.range c.requires.small_before c.requires.small c.requires.some size_is body names changes written.1 c.stage.ensures.view
+    let changes : Changes a b content between longer changed (λ p. IsBlockIn first (last + 1) p ⊎ IsPointer p) =
+    subst (λ (k : Image). Changes a b k between longer changed (λ p. IsBlockIn first (last + 1) p ⊎ IsPointer p)) three written.0 in
+    write_leaves c.args.inode_sector offset bytes c.in_ok-before.before c.in_ok-behind.behind c.write_entry.result a b content between (view c.stage.new.self) e changed size
+    c.requires.behind c.requires.slot c.write_blocks.ensures.range c.requires.small_before c.requires.small c.requires.some size_is body names changes written.1 c.stage.ensures.view
     (search rules) (search rules)
     (λ partly. c.in_ok-before.ensures.bytes h names partly)
-    (λ partly. c.in_ok-behind.ensures.bytes h1 (names_in (view c.read_edge.new.log) one) partly ∙ ap (λ (m : Image). part_bytes m (named m e (part last))) one)
+    (λ partly. c.in_ok-behind.ensures.bytes h1 (names_in (view c.read_edge.new.log) one) partly ∙ ap (λ (m : Image). block_bytes m (named m e (data_block last))) one)

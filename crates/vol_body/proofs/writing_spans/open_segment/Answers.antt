@@ -1,7 +1,7 @@
 use Rattle.std.proofs.Common.{◌≡◌, ◌≢◌, ◌⊎◌, inl, inr, ◌<◌, ◌-◌, ℕ, List, replicate, refl, ◌∙◌, sym, ap, subst, arith}
 use Rattle.vol_log.specs.Log.{view}
 use Rattle.vol_inode.specs.Space.{sectors_of}
-use Rattle.vol_body.specs.Body.{Place, list, lists, later_list}
+use Rattle.vol_body.specs.Body.{BlockPosition, indirect_block, double_indirect_block, inner_block}
 use Rattle.vol_body.specs.internal.Writing.{Adds, IsMissing, Mirrors, segment}
 use Rattle.vol_body.proofs.Added.{mirror_stays}
 use Rattle.vol_body.proofs.Loads.{segment_later}
@@ -25,12 +25,12 @@ returns-then-group-eq0-clause-opened g c ready serves mirror mirror_all =
     let above = c.args.above.now in
     let new = c.open_pointer.new.above in
     let all = c.args.all.now in
-    let is : segment c.args.group ≡ list = ap segment c.if-group-eq0.true in
-    let adds = c.open_pointer.ensures.opened list refl (omega arith) ready (omega (arith, serves, c.if-group-eq0.true)) (subst (λ (p : Place). Mirrors c0 e0 p above.number above.image) is mirror) in
-    let B = λ (p : Place). Adds a b c0 c1 e0 e1 (λ x. (x ≡ p) ⊎ (x ≡ lists)) p new.number new.image × (Mirrors c0 e0 lists all.number all.image → Mirrors c1 e1 lists all.number all.image) in
+    let is : segment c.args.group ≡ indirect_block = ap segment c.if-group-eq0.true in
+    let adds = c.open_pointer.ensures.opened indirect_block refl (omega arith) ready (omega (arith, serves, c.if-group-eq0.true)) (subst (λ (p : BlockPosition). Mirrors c0 e0 p above.number above.image) is mirror) in
+    let B = λ (p : BlockPosition). Adds a b c0 c1 e0 e1 (λ x. (x ≡ p) ⊎ (x ≡ double_indirect_block)) p new.number new.image × (Mirrors c0 e0 double_indirect_block all.number all.image → Mirrors c1 e1 double_indirect_block all.number all.image) in
     subst B (sym is) (
-      record { changes = changes_wider a b c0 c1 e0 e1 (λ x. x ≡ list) (λ x. (x ≡ list) ⊎ (x ≡ lists)) (λ x same. inl same) adds.changes; mirror = adds.mirror; some = adds.some },
-      λ held. mirror_stays c0 c1 e0 e1 lists all.number all.image (adds.changes.stays lists tt (λ same. cc)) held,
+      record { changes = changes_wider a b c0 c1 e0 e1 (λ x. x ≡ indirect_block) (λ x. (x ≡ indirect_block) ⊎ (x ≡ double_indirect_block)) (λ x same. inl same) adds.changes; mirror = adds.mirror; some = adds.some },
+      λ held. mirror_stays c0 c1 e0 e1 double_indirect_block all.number all.image (adds.changes.stays double_indirect_block tt (λ same. cc)) held,
     )
 
 pub returns-then-all-ne0-clause-opened : goal.returns-then-all-ne0-clause-opened
@@ -47,19 +47,19 @@ returns-then-all-ne0-clause-opened g c ready serves mirror mirror_all =
     let all = c.args.all.now in
     let new_all = c.add_number-above.new.above in
     let i = c.args.group - 1 in
-    let p = later_list i in
+    let p = inner_block i in
     let below : i < 128 = omega (arith, c.requires.place, c.if-group-eq0.false) in
     let is : segment c.args.group ≡ p = segment_later c.args.group c.if-group-eq0.false in
-    let here : Mirrors c0 e0 p above.number above.image = subst (λ (q : Place). Mirrors c0 e0 q above.number above.image) is mirror in
-    let top = c.open_pointer-2.ensures.opened lists refl (omega arith) ready (omega (arith, serves, c.if-group-eq0.false)) (mirror_all (omega (arith, c.if-group-eq0.false))) in
+    let here : Mirrors c0 e0 p above.number above.image = subst (λ (q : BlockPosition). Mirrors c0 e0 q above.number above.image) is mirror in
+    let top = c.open_pointer-2.ensures.opened double_indirect_block refl (omega arith) ready (omega (arith, serves, c.if-group-eq0.false)) (mirror_all (omega (arith, c.if-group-eq0.false))) in
     let still : Mirrors c1 e1 p above.number above.image = mirror_stays c0 c1 e0 e1 p above.number above.image (top.changes.stays p below (λ same. cc)) here in
     let size : sectors_of e1.size ≡ sectors_of e0.size = ap sectors_of top.changes.size in
     let missing : IsMissing b c1 e1 p = record { ready = top.changes.ready; none = sym still.names ∙ c.if-above-eq0.true; serves = omega (arith, serves, size, c.if-group-eq0.false) } in
     let zeros : above.image ≡ replicate 512 0 = held_zeros c1 e1 p above.number above.image still c.if-above-eq0.true in
-    let added = c.add_number-above.ensures.added e1 lists p refl tt below (blank_zeros p) missing top.mirror in
-    let changes = changes_then a b d c0 c1 c2 e0 e1 e1 (λ x. x ≡ lists) (λ x. (x ≡ p) ⊎ (x ≡ lists)) (λ x. (x ≡ p) ⊎ (x ≡ lists)) c.requires.behind c.open_pointer-2.ensures.range c.add_number-above.ensures.range
+    let added = c.add_number-above.ensures.added e1 double_indirect_block p refl tt below (blank_zeros p) missing top.mirror in
+    let changes = changes_then a b d c0 c1 c2 e0 e1 e1 (λ x. x ≡ double_indirect_block) (λ x. (x ≡ p) ⊎ (x ≡ double_indirect_block)) (λ x. (x ≡ p) ⊎ (x ≡ double_indirect_block)) c.requires.behind c.open_pointer-2.ensures.range c.add_number-above.ensures.range
     (λ x same. inr same) (λ x touched. touched) top.changes added.0.changes in
-    let B = λ (q : Place). Adds a d c0 c2 e0 e1 (λ x. (x ≡ q) ⊎ (x ≡ lists)) q c.add_number-above.result above.image × (Mirrors c0 e0 lists all.number all.image → Mirrors c2 e1 lists new_all.number new_all.image) in
+    let B = λ (q : BlockPosition). Adds a d c0 c2 e0 e1 (λ x. (x ≡ q) ⊎ (x ≡ double_indirect_block)) q c.add_number-above.result above.image × (Mirrors c0 e0 double_indirect_block all.number all.image → Mirrors c2 e1 double_indirect_block new_all.number new_all.image) in
     subst B (sym is) (
       record { changes = changes; mirror = subst (λ (image : List ℕ). Mirrors c2 e1 p c.add_number-above.result image) (sym zeros) added.0.mirror; some = added.0.some },
       λ held. added.1,
@@ -77,18 +77,18 @@ returns-else-above-eq0-clause-opened g c ready serves mirror mirror_all =
     let all = c.args.all.now in
     let new_all = c.open_pointer-2.new.above in
     let i = c.args.group - 1 in
-    let p = later_list i in
+    let p = inner_block i in
     let below : i < 128 = omega (arith, c.requires.place, c.if-group-eq0.false) in
     let is : segment c.args.group ≡ p = segment_later c.args.group c.if-group-eq0.false in
-    let here : Mirrors c0 e0 p above.number above.image = subst (λ (q : Place). Mirrors c0 e0 q above.number above.image) is mirror in
-    let top = c.open_pointer-2.ensures.opened lists refl (omega arith) ready (omega (arith, serves, c.if-group-eq0.false)) (mirror_all (omega (arith, c.if-group-eq0.false))) in
+    let here : Mirrors c0 e0 p above.number above.image = subst (λ (q : BlockPosition). Mirrors c0 e0 q above.number above.image) is mirror in
+    let top = c.open_pointer-2.ensures.opened double_indirect_block refl (omega arith) ready (omega (arith, serves, c.if-group-eq0.false)) (mirror_all (omega (arith, c.if-group-eq0.false))) in
     let still : Mirrors c1 e1 p above.number above.image = mirror_stays c0 c1 e0 e1 p above.number above.image (top.changes.stays p below (λ same. cc)) here in
     let some : above.number ≢ 0 = λ zero. elim c.else-above-eq0.branch [
       | else-above-eq0-via-then-above-eq0+else-all-ne0 w ↦ top.some w.if-all-ne0.false
       | else-above-eq0-via-else-above-eq0 w ↦ w.if-above-eq0.false zero
     ] in
-    let B = λ (q : Place). Adds a b c0 c1 e0 e1 (λ x. (x ≡ q) ⊎ (x ≡ lists)) q above.number above.image × (Mirrors c0 e0 lists all.number all.image → Mirrors c1 e1 lists new_all.number new_all.image) in
+    let B = λ (q : BlockPosition). Adds a b c0 c1 e0 e1 (λ x. (x ≡ q) ⊎ (x ≡ double_indirect_block)) q above.number above.image × (Mirrors c0 e0 double_indirect_block all.number all.image → Mirrors c1 e1 double_indirect_block new_all.number new_all.image) in
     subst B (sym is) (
-      record { changes = changes_wider a b c0 c1 e0 e1 (λ x. x ≡ lists) (λ x. (x ≡ p) ⊎ (x ≡ lists)) (λ x same. inr same) top.changes; mirror = still; some = some },
+      record { changes = changes_wider a b c0 c1 e0 e1 (λ x. x ≡ double_indirect_block) (λ x. (x ≡ p) ⊎ (x ≡ double_indirect_block)) (λ x same. inr same) top.changes; mirror = still; some = some },
       λ held. top.mirror,
     )

@@ -1,8 +1,8 @@
 use Rattle.std.proofs.Common.{◌≡◌, ◌⊎◌, inl, inr, ◌<◌, ℕ, refl, ap, arith}
 use Rattle.vol_log.specs.Log.{view}
 use Rattle.vol_inode.specs.Space.{sectors_of}
-use Rattle.vol_body.specs.Body.{Place, lists}
-use Rattle.vol_body.specs.internal.Writing.{IsPartIn, segment}
+use Rattle.vol_body.specs.Body.{BlockPosition, double_indirect_block}
+use Rattle.vol_body.specs.internal.Writing.{IsBlockIn, segment}
 use Rattle.vol_body.proofs.Added.{mirror_stays}
 use Rattle.vol_body.proofs.Steps.{changes_then, segment_not_lists}
 use Rattle.vol_body.proofs.writing_spans.write_segment.Goals as goal
@@ -26,16 +26,16 @@ returns-then-above-ne0-clause-written g c ready fits mirror mirror_all =
     let opened = c.open_segment.ensures.opened ready (omega (arith, some, c.requires.starts, fits)) (mirror some) (λ later. mirror_all (omega (arith, some, c.requires.starts, later))) in
     let size : sectors_of e1.size ≡ sectors_of e0.size = ap sectors_of opened.0.changes.size in
     let listed = c.write_listed.ensures.written e1 s refl (omega (arith, size, fits)) opened.0.changes.ready opened.0.mirror in (
-      changes_then a b d c0 c1 c2 e0 e1 e1 (λ p. (p ≡ q) ⊎ (p ≡ lists)) (λ p. IsPartIn from to p ⊎ (p ≡ q)) (λ p. IsPartIn from to p ⊎ ((p ≡ q) ⊎ (p ≡ lists))) c.requires.behind c.open_segment.ensures.range c.write_listed.ensures.range
+      changes_then a b d c0 c1 c2 e0 e1 e1 (λ p. (p ≡ q) ⊎ (p ≡ double_indirect_block)) (λ p. IsBlockIn from to p ⊎ (p ≡ q)) (λ p. IsBlockIn from to p ⊎ ((p ≡ q) ⊎ (p ≡ double_indirect_block))) c.requires.behind c.open_segment.ensures.range c.write_listed.ensures.range
           (λ p touched. inr touched) (λ p touched. parts_or from to q p touched) opened.0.changes listed.0,
       listed.1,
-      λ held. mirror_stays c1 c2 e1 e1 lists new_all.number new_all.image (listed.0.stays lists tt (λ touched. apart from to s touched)) (opened.1 held),
+      λ held. mirror_stays c1 c2 e1 e1 double_indirect_block new_all.number new_all.image (listed.0.stays double_indirect_block tt (λ touched. apart from to s touched)) (opened.1 held),
     )
   where
-    parts_or : (from to : ℕ) (q p : Place) → IsPartIn from to p ⊎ (p ≡ q) → IsPartIn from to p ⊎ ((p ≡ q) ⊎ (p ≡ lists))
+    parts_or : (from to : ℕ) (q p : BlockPosition) → IsBlockIn from to p ⊎ (p ≡ q) → IsBlockIn from to p ⊎ ((p ≡ q) ⊎ (p ≡ double_indirect_block))
     parts_or from to q p (inl there) = inl there
     parts_or from to q p (inr is) = inr (inl is)
 
-    apart : (from to s : ℕ) → IsPartIn from to lists ⊎ (lists ≡ segment s) → ⊥
+    apart : (from to s : ℕ) → IsBlockIn from to double_indirect_block ⊎ (double_indirect_block ≡ segment s) → ⊥
     apart from to s (inl there) = there
     apart from to s (inr is) = segment_not_lists s is

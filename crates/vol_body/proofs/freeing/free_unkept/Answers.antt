@@ -1,0 +1,44 @@
+use Rattle.std.proofs.Common.{◌≡◌, ◌≢◌, ◌∙◌, ◌-◌, ◌≤◌, ◌<◌, ◌⊎◌, ℕ, true, get_or, slice_index, sym, subst}
+use Rattle.vol_log.specs.Log.{view, sectors_of}
+use Rattle.vol_alloc.specs.Alloc.{taken_of}
+use Rattle.vol_body.specs.Body.{indirect_block, double_indirect_block, inner_block, named, number_in}
+use Rattle.vol_body.specs.internal.Shorter.{Gives, StandsFrom, GoesWithList, GoesWithLater}
+use Rattle.vol_body.proofs.Places.{known_at}
+use Rattle.vol_log.proofs.Readings.{reads_then}
+use Rattle.vol_body.proofs.GivenBack.{gives_then, gives_at, gives_all, known_there, GoesLater}
+use Rattle.vol_body.proofs.freeing.free_unkept.Goals as goal
+
+pub free_double_indirect_block-requires-clause-there : goal.free_double_indirect_block-requires-clause-there
+free_double_indirect_block-requires-clause-there g c some = known_there c.args.sectors.now (get_or c.args.entry.now.pointers 59 0) c.taken_or_zero-double_indirect_block.result (sectors_of c.args.log.now) c.taken_or_zero-double_indirect_block.ensures c.requires.there some
+
+pub free_indirect_block-requires-clause-there : goal.free_indirect_block-requires-clause-there
+free_indirect_block-requires-clause-there g c some = subst (λ (m : ℕ). c.taken_or_zero-indirect_block.result < m) (sym c.in_ok-free_double_indirect_block.ensures.reads.sectors)
+    (known_there c.args.sectors.now (get_or c.args.entry.now.pointers 58 0) c.taken_or_zero-indirect_block.result (sectors_of c.args.log.now) c.taken_or_zero-indirect_block.ensures c.requires.there some)
+
+pub returns-in_err-free_indirect_block-clause-reads : goal.returns-in_err-free_indirect_block-clause-reads
+returns-in_err-free_indirect_block-clause-reads g c = reads_then c.args.log.now c.free_double_indirect_block.new.log c.free_indirect_block.new.log c.in_ok-free_double_indirect_block.ensures.failed c.in_ok-free_double_indirect_block.ensures.reads c.in_err-free_indirect_block.ensures.reads
+
+pub returns-clause-reads : goal.returns-clause-reads
+returns-clause-reads g c = reads_then c.args.log.now c.free_double_indirect_block.new.log c.free_indirect_block.new.log c.in_ok-free_double_indirect_block.ensures.failed c.in_ok-free_double_indirect_block.ensures.reads c.in_ok-free_indirect_block.ensures.reads
+
+pub returns-clause-gives : goal.returns-clause-gives
+returns-clause-gives g c h names =
+    let content = view c.args.log.now in
+    let e = c.args.entry.now in
+    let count = c.args.count in
+    let t0 = taken_of c.args.sectors.now in
+    let t1 = taken_of c.free_double_indirect_block.new.sectors in
+    let t2 = taken_of c.free_indirect_block.new.sectors in
+    let t3 = taken_of c.free_direct.new.sectors in
+    let of_list : c.taken_or_zero-indirect_block.result ≡ named content e indirect_block = c.taken_or_zero-indirect_block.ensures ∙ known_at t0 content e names indirect_block tt (get_or e.pointers 58 0) (λ i. get_or e.pointers 58 0) in
+    let of_lists : c.taken_or_zero-double_indirect_block.result ≡ named content e double_indirect_block = c.taken_or_zero-double_indirect_block.ensures ∙ known_at t0 content e names double_indirect_block tt (get_or e.pointers 59 0) (λ i. get_or e.pointers 59 0) in
+    let there : (i : ℕ) → i < 128 → number_in content c.taken_or_zero-double_indirect_block.result i ≢ 0 → t0 (number_in content c.taken_or_zero-double_indirect_block.result i) ≡ true =
+    subst (λ (n : ℕ). (i : ℕ) → i < 128 → number_in content n i ≢ 0 → t0 (number_in content n i) ≡ true) (sym of_lists) (λ i lt. names (inner_block i) lt) in
+    let later : Gives t0 t1 (GoesLater content e count) =
+    subst (λ (n : ℕ). Gives t0 t1 (λ m. GoesWithLater content (number_in content n) count 128 m ⊎ ((count ≤ 186) × (n ≡ m)))) of_lists (c.in_ok-free_double_indirect_block.ensures.gives h there) in
+    let listed : Gives t1 t2 (GoesWithList content (named content e indirect_block) (count - 58)) =
+    subst (λ (n : ℕ). Gives t1 t2 (GoesWithList content n (count - 58))) of_list
+    (gives_at t1 t2 (view c.free_double_indirect_block.new.log) content c.taken_or_zero-indirect_block.result c.saturating_sub.result (count - 58) (c.in_ok-free_double_indirect_block.ensures.reads.view h) c.saturating_sub.ensures
+    (c.in_ok-free_indirect_block.ensures.gives (c.in_ok-free_double_indirect_block.ensures.reads.honest.0 h))) in
+    gives_all content e count t0 t3
+    (gives_then t0 t2 t3 _ (StandsFrom (slice_index e.pointers) count 58) (gives_then t0 t1 t2 (GoesLater content e count) (GoesWithList content (named content e indirect_block) (count - 58)) later listed) c.free_direct.ensures.gives)

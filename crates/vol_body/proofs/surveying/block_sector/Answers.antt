@@ -1,0 +1,28 @@
+use Rattle.std.proofs.Common.{◌≡◌, ◌≢◌, ◌∙◌, ◌-◌, ◌/◌, ◌%◌, ◌<◌, ℕ, sym, ap, subst, arith}
+use Rattle.std.proofs.lemmas.Result.{IfOk-weaker}
+use Rattle.vol_sector.specs.Disk.{Image}
+use Rattle.vol_log.specs.Log.{view}
+use Rattle.vol_body.specs.Body.{data_block, indirect_block, double_indirect_block, inner_block, named, number_in}
+use Rattle.vol_body.proofs.Places.{part_listed, part_later}
+use Rattle.vol_body.proofs.surveying.block_sector.Goals as goal
+
+pub returns-then-j-lt-LISTED-clause-sector : goal.returns-then-j-lt-LISTED-clause-sector
+returns-then-j-lt-LISTED-clause-sector g c h below =
+    let content = view c.args.log.now in
+    let e = c.args.entry.now in
+    let j = c.args.j in
+    IfOk-weaker c.number_of.result (λ n. n ≡ number_in content (named content e indirect_block) (j - 58)) (λ n. n ≡ named content e (data_block j)) (λ n is. is ∙ sym (part_listed content e j c.if-j-lt-DIRECT.false c.if-j-lt-LISTED.true)) (c.number_of.ensures.number h (below indirect_block tt))
+
+pub returns-clause-sector : goal.returns-clause-sector
+returns-clause-sector g c h below =
+    let content = view c.args.log.now in
+    let e = c.args.entry.now in
+    let j = c.args.j in
+    let q = (j - 186) / 128 in
+    let few : q < 128 = omega (arith, c.requires.place) in
+    let same : view c.number_of-2.new.log ≡ content = c.number_of-2.ensures.reads.view h in
+    let second : c.in_ok-indirect_block.indirect_block ≡ named content e (inner_block q) = c.in_ok-indirect_block.ensures.number h (below double_indirect_block tt) in
+    let there : c.in_ok-indirect_block.indirect_block ≢ 0 → c.in_ok-indirect_block.indirect_block < c.args.end = subst (λ (n : ℕ). n ≢ 0 → n < c.args.end) (sym second) (below (inner_block q) few) in
+    let third : number_in (view c.number_of-2.new.log) c.in_ok-indirect_block.indirect_block ((j - 186) % 128) ≡ named content e (data_block j) =
+    ap (λ (m : Image). number_in m c.in_ok-indirect_block.indirect_block ((j - 186) % 128)) same ∙ ap (λ (n : ℕ). number_in content n ((j - 186) % 128)) second ∙ sym (part_later content e j c.if-j-lt-LISTED.false) in
+    IfOk-weaker c.number_of-3.result (λ n. n ≡ number_in (view c.number_of-2.new.log) c.in_ok-indirect_block.indirect_block ((j - 186) % 128)) (λ n. n ≡ named content e (data_block j)) (λ n is. is ∙ third) (c.number_of-3.ensures.number (c.number_of-2.ensures.reads.honest.0 h) there)

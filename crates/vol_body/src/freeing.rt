@@ -1,0 +1,182 @@
+//! Freeing the sectors that a shorter file no longer names.
+
+ghost use Rattle.std.specs.Prelude.{◌≡◌, ◌≢◌, ◌≤◌, ◌<◌, ◌+◌, ◌-◌, ◌*◌, ◌⊎◌, ℕ, false, true, IfOk, OnOk, is_err, if◌then◌else◌};
+ghost use Rattle.std.specs.Prelude.{drop, slice_index};
+ghost use Rattle.byteorder.specs.Endian.{little_number};
+ghost use Rattle.vol_log.specs.Log.{view, sectors_of, has_failed, device_of};
+ghost use Rattle.vol_alloc.specs.Alloc.{first_of, end_of, taken_of};
+ghost use Rattle.vol_body.specs.Body.{NamesTaken, number_in};
+ghost use Rattle.vol_log.specs.Reading.{OnlyReads};
+ghost use Rattle.vol_body.specs.internal.Shorter.{Gives, StandsFrom, GoesWithList, GoesWithLater, Goes};
+
+use crate::locate::{number_at, taken_or_zero};
+use vol_alloc::Alloc;
+use vol_inode::Entry;
+use vol_log::Log;
+use vol_sector::{Device, DeviceFault};
+
+/// Frees the sector if it is taken.
+fn free_taken(sectors: &mut Alloc, n: u32)
+    ensures gives { Gives (taken_of sectors.old) (taken_of sectors.new) (λ k. k ≡ n) }
+    ensures range { (first_of sectors.new ≡ first_of sectors.old)
+        × (end_of sectors.new ≡ end_of sectors.old) }
+{
+    if sectors.is_taken(n) {
+        sectors.give(n);
+    }
+}
+
+/// Frees the sectors that the entry itself names for data blocks from one on.
+fn free_direct(sectors: &mut Alloc, entry: &Entry, from: u32)
+    ensures gives { Gives (taken_of sectors.old) (taken_of sectors.new)
+        (StandsFrom (slice_index entry.now.pointers) from 58) }
+    ensures range { (first_of sectors.new ≡ first_of sectors.old)
+        × (end_of sectors.new ≡ end_of sectors.old) }
+{
+    for j in from.min(58)..58 {
+        free_taken(sectors, entry.pointers[j as usize]);
+    }
+}
+
+/// Frees the sectors whose numbers a pointer block has from one on.
+fn free_listed(sectors: &mut Alloc, image: &[u8; 512], from: u32)
+    ensures gives { Gives (taken_of sectors.old) (taken_of sectors.new)
+        (StandsFrom (λ i. little_number 4 (drop (4 * i) image.now)) from 128) }
+    ensures range { (first_of sectors.new ≡ first_of sectors.old)
+        × (end_of sectors.new ≡ end_of sectors.old) }
+{
+    for i in from.min(128)..128 {
+        free_taken(sectors, number_at(image, i));
+    }
+}
+
+/// Frees the sectors that a pointer block names from one on, and the block itself where it keeps no
+/// number.
+fn free_indirect_block<D: Device>(
+    log: &mut Log<D>,
+    sectors: &mut Alloc,
+    indirect_block: u32,
+    from: u32,
+) -> Result<(), DeviceFault>
+    requires there { indirect_block ≢ 0 → indirect_block < sectors_of log.old }
+    requires working { has_failed log.old ≡ false }
+    requires data { 0 < first_of sectors.old }
+    ensures gives { D.honest (device_of log.old) → OnOk result (Gives (taken_of sectors.old)
+        (taken_of sectors.new) (GoesWithList (view log.old) indirect_block from)) }
+    ensures range { (first_of sectors.new ≡ first_of sectors.old)
+        × (end_of sectors.new ≡ end_of sectors.old) }
+    ensures reads { OnlyReads log.old log.new }
+    ensures failed { has_failed log.new ≡ is_err result }
+{
+    if indirect_block == 0 {
+        return Ok(());
+    }
+    if from >= 128 {
+        return Ok(());
+    }
+    let image = log.read(indirect_block)?;
+    free_listed(sectors, &image, from);
+    if from == 0 {
+        free_taken(sectors, indirect_block);
+    }
+    Ok(())
+}
+
+/// The numbers of a pointer block, those of taken sectors; the others are 0.
+fn known_numbers(sectors: &Alloc, image: &[u8; 512]) -> [u32; 128]
+    ensures { (i : ℕ) → i < 128 → let m = little_number 4 (drop (4 * i) image.now) in
+        slice_index result i ≡ (if taken_of sectors.now m then m else 0) }
+{
+    let mut numbers = [0; 128];
+    for i in 0..128u32 {
+        numbers[i as usize] = taken_or_zero(sectors, number_at(image, i));
+    }
+    numbers
+}
+
+/// Frees what the inner blocks name after the data blocks that are kept, and those of the inner blocks that
+/// keep no number.
+fn free_inner_blocks<D: Device>(
+    log: &mut Log<D>,
+    sectors: &mut Alloc,
+    inner_blocks: &[u32; 128],
+    count: u32,
+) -> Result<(), DeviceFault>
+    requires there { (i : ℕ) → i < 128 → slice_index inner_blocks.now i ≢ 0
+        → slice_index inner_blocks.now i < sectors_of log.old }
+    requires working { has_failed log.old ≡ false }
+    requires data { 0 < first_of sectors.old }
+    ensures gives { D.honest (device_of log.old) → OnOk result (Gives (taken_of sectors.old)
+        (taken_of sectors.new) (GoesWithLater (view log.old) (slice_index inner_blocks.now) count 128)) }
+    ensures range { (first_of sectors.new ≡ first_of sectors.old)
+        × (end_of sectors.new ≡ end_of sectors.old) }
+    ensures reads { OnlyReads log.old log.new }
+    ensures failed { has_failed log.new ≡ is_err result }
+{
+    for i in 0..128u32 {
+        let from = count.saturating_sub(186 + 128 * i);
+        free_indirect_block(log, sectors, inner_blocks[i as usize], from)?;
+    }
+    Ok(())
+}
+
+/// Frees what the file names for data blocks from 186 on that it doesn't keep.
+fn free_double_indirect_block<D: Device>(
+    log: &mut Log<D>,
+    sectors: &mut Alloc,
+    double_indirect_block: u32,
+    count: u32,
+) -> Result<(), DeviceFault>
+    requires there { double_indirect_block ≢ 0 → double_indirect_block < sectors_of log.old }
+    requires range { end_of sectors.old ≤ sectors_of log.old }
+    requires working { has_failed log.old ≡ false }
+    requires data { 0 < first_of sectors.old }
+    ensures gives { D.honest (device_of log.old)
+        → ((i : ℕ) → i < 128 → number_in (view log.old) double_indirect_block i ≢ 0
+        → taken_of sectors.old (number_in (view log.old) double_indirect_block i) ≡ true)
+        → OnOk result (Gives (taken_of sectors.old) (taken_of sectors.new)
+        (λ n. GoesWithLater (view log.old) (number_in (view log.old) double_indirect_block) count 128 n
+        ⊎ ((count ≤ 186) × (double_indirect_block ≡ n)))) }
+    ensures range { (first_of sectors.new ≡ first_of sectors.old)
+        × (end_of sectors.new ≡ end_of sectors.old) }
+    ensures reads { OnlyReads log.old log.new }
+    ensures failed { has_failed log.new ≡ is_err result }
+{
+    if double_indirect_block == 0 {
+        return Ok(());
+    }
+    let image = log.read(double_indirect_block)?;
+    let numbers = known_numbers(sectors, &image);
+    free_inner_blocks(log, sectors, &numbers, count)?;
+    if count <= 186 {
+        free_taken(sectors, double_indirect_block);
+    }
+    Ok(())
+}
+
+/// Frees each sector that the file names for data blocks from `count` on alone.
+pub fn free_unkept<D: Device>(
+    log: &mut Log<D>,
+    sectors: &mut Alloc,
+    entry: &Entry,
+    count: u32,
+) -> Result<(), DeviceFault>
+    requires there { end_of sectors.old ≤ sectors_of log.old }
+    requires working { has_failed log.old ≡ false }
+    requires data { 0 < first_of sectors.old }
+    ensures gives { D.honest (device_of log.old)
+        → NamesTaken (taken_of sectors.old) (view log.old) entry.now
+        → OnOk result (Gives (taken_of sectors.old) (taken_of sectors.new)
+        (Goes (view log.old) entry.now count)) }
+    ensures range { (first_of sectors.new ≡ first_of sectors.old)
+        × (end_of sectors.new ≡ end_of sectors.old) }
+    ensures reads { OnlyReads log.old log.new }
+    ensures failed { has_failed log.new ≡ is_err result }
+{
+    let indirect_block = taken_or_zero(sectors, entry.pointers[58]);
+    let double_indirect_block = taken_or_zero(sectors, entry.pointers[59]);
+    free_double_indirect_block(log, sectors, double_indirect_block, count)?;
+    free_indirect_block(log, sectors, indirect_block, count.saturating_sub(58))?;
+    free_direct(sectors, entry, count);
+    Ok(())
+}

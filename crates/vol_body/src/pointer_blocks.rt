@@ -1,0 +1,157 @@
+//! The pointer blocks of a file, in memory.
+
+ghost use Rattle.std.specs.Prelude.{◌≡◌, ◌≢◌, ◌≤◌, ◌<◌, ◌+◌, ◌*◌, ◌^◌, ℕ, true, false, drop, IfOk, is_err};
+ghost use Rattle.std.specs.Prelude.{if◌then◌else◌};
+ghost use Rattle.byteorder.specs.Endian.{little_number};
+ghost use Rattle.vol_log.specs.Log.{view, sectors_of, has_failed, device_of};
+ghost use Rattle.vol_alloc.specs.Alloc.{end_of, taken_of};
+ghost use Rattle.vol_body.specs.Body.{NamesTaken, double_indirect_block, block_bytes};
+ghost use Rattle.vol_log.specs.Reading.{OnlyReads};
+ghost use Rattle.vol_body.specs.internal.Writing.{Mirrors, MirrorsAll, KnowsAll, segment};
+
+use crate::locate::{DIRECT, LISTED, NUMBERS, number_at, taken_or_zero};
+use byteorder::{ByteOrder, LittleEndian};
+use vol_alloc::Alloc;
+use vol_inode::Entry;
+use vol_log::Log;
+use vol_sector::{Device, DeviceFault};
+
+/// A pointer block: its number, and its bytes. Where the file has none the number is 0, and the
+/// bytes are zeros.
+#[derive(Drop)]
+pub struct PointerBlock {
+    pub number: u32,
+    pub image: [u8; 512],
+}
+
+/// The pointer blocks that a write uses.
+#[derive(Drop)]
+pub struct PointerBlocks {
+    /// The one that pointer 59 names.
+    pub double_indirect_block: PointerBlock,
+    /// The one that lists the first data block past the first 58 that is written.
+    pub early: PointerBlock,
+    /// The one that lists the 128 data blocks behind those of `early`.
+    pub late: PointerBlock,
+}
+
+/// The pointer block with another `i`-th number.
+pub fn with_number(image: &[u8; 512], i: u32, n: u32) -> [u8; 512]
+    requires { i < 128 }
+    ensures one { little_number 4 (drop (4 * i) result) ≡ n }
+    ensures rest { (k : ℕ) → k < 128 → k ≢ i
+        → little_number 4 (drop (4 * k) result) ≡ little_number 4 (drop (4 * k) image.now) }
+{
+    let mut image = *image;
+    LittleEndian::write_u32(&mut image[4 * i as usize..], n);
+    image
+}
+
+/// Reads the pointer blocks that a write of the data blocks from `first` to `last` uses.
+pub fn load_pointer_blocks<D: Device>(
+    log: &mut Log<D>,
+    sectors: &Alloc,
+    entry: &Entry,
+    first: u32,
+    last: u32,
+) -> Result<PointerBlocks, DeviceFault>
+    requires some { first ≤ last }
+    requires small { last < 16570 }
+    requires there { end_of sectors.now ≤ sectors_of log.old }
+    requires working { has_failed log.old ≡ false }
+    ensures right { D.honest (device_of log.old)
+        → NamesTaken (taken_of sectors.now) (view log.old) entry.now
+        → IfOk result (λ all. MirrorsAll (view log.old) entry.now all first last) }
+    ensures known { IfOk result (λ all. KnowsAll sectors.now all) }
+    ensures reads { OnlyReads log.old log.new }
+    ensures failed { has_failed log.new ≡ is_err result }
+{
+    let group = first.saturating_sub(DIRECT) / NUMBERS;
+    let double_indirect_block = load_top(log, sectors, entry, last)?;
+    let early = load_segment(log, sectors, entry, &double_indirect_block, group, last)?;
+    let late = load_segment(log, sectors, entry, &double_indirect_block, group + 1, last)?;
+    Ok(PointerBlocks {
+        double_indirect_block,
+        early,
+        late,
+    })
+}
+
+/// Reads a pointer block.
+fn load<D: Device>(
+    log: &mut Log<D>,
+    sectors: &Alloc,
+    number: u32,
+) -> Result<PointerBlock, DeviceFault>
+    requires taken { number ≢ 0 → taken_of sectors.now number ≡ true }
+    requires there { end_of sectors.now ≤ sectors_of log.old }
+    requires working { has_failed log.old ≡ false }
+    ensures image { D.honest (device_of log.old) → IfOk result (λ s.
+        s.image ≡ block_bytes (view log.old) number) }
+    ensures number { IfOk result (λ s. s.number ≡ number) }
+    ensures known { IfOk result (λ s. s.number ≢ 0 → taken_of sectors.now s.number ≡ true) }
+    ensures reads { OnlyReads log.old log.new }
+    ensures failed { has_failed log.new ≡ is_err result }
+{
+    let image = if number == 0 {
+        [0; 512]
+    } else {
+        log.read(number)?
+    };
+    Ok(PointerBlock { number, image })
+}
+
+/// Reads the pointer block of pointer 59, if the write reaches the data blocks that it serves.
+fn load_top<D: Device>(
+    log: &mut Log<D>,
+    sectors: &Alloc,
+    entry: &Entry,
+    last: u32,
+) -> Result<PointerBlock, DeviceFault>
+    requires there { end_of sectors.now ≤ sectors_of log.old }
+    requires working { has_failed log.old ≡ false }
+    ensures right { D.honest (device_of log.old)
+        → NamesTaken (taken_of sectors.now) (view log.old) entry.now → 186 ≤ last
+        → IfOk result (λ s. Mirrors (view log.old) entry.now double_indirect_block s.number s.image) }
+    ensures known { IfOk result (λ s. s.number ≢ 0 → taken_of sectors.now s.number ≡ true) }
+    ensures reads { OnlyReads log.old log.new }
+    ensures failed { has_failed log.new ≡ is_err result }
+{
+    if last < LISTED {
+        return load(log, sectors, 0);
+    }
+    let number = taken_or_zero(sectors, entry.pointers[59]);
+    load(log, sectors, number)
+}
+
+/// Reads the pointer block that lists the 128 data blocks from 58 + 128 * `group` on, if the write reaches
+/// them.
+fn load_segment<D: Device>(
+    log: &mut Log<D>,
+    sectors: &Alloc,
+    entry: &Entry,
+    above: &PointerBlock,
+    group: u32,
+    last: u32,
+) -> Result<PointerBlock, DeviceFault>
+    requires small { last < 16570 }
+    requires there { end_of sectors.now ≤ sectors_of log.old }
+    requires working { has_failed log.old ≡ false }
+    ensures right { D.honest (device_of log.old)
+        → NamesTaken (taken_of sectors.now) (view log.old) entry.now → 58 + 128 * group ≤ last
+        → (186 ≤ last → Mirrors (view log.old) entry.now double_indirect_block above.now.number above.now.image)
+        → IfOk result (λ s. Mirrors (view log.old) entry.now (segment group) s.number s.image) }
+    ensures known { IfOk result (λ s. s.number ≢ 0 → taken_of sectors.now s.number ≡ true) }
+    ensures reads { OnlyReads log.old log.new }
+    ensures failed { has_failed log.new ≡ is_err result }
+{
+    if last < DIRECT || group > (last - DIRECT) / NUMBERS {
+        return load(log, sectors, 0);
+    }
+    if group == 0 {
+        let first = taken_or_zero(sectors, entry.pointers[58]);
+        return load(log, sectors, first);
+    }
+    let number = taken_or_zero(sectors, number_at(&above.image, group - 1));
+    load(log, sectors, number)
+}
