@@ -92,7 +92,7 @@ module _ (a b c : Image) (v : Superblock) (s : ℕ) (d e : Entry) (old new : All
           let is_d : d ≡ x = same_Some d x (sym at ∙ at_x) in
           let eq_d : named a d p ≡ n = ap (λ (y : Entry). named a y p) is_d ∙ eq in
           let some : n ≢ 0 = range n still in
-          let gone : taken_of new n ≡ false = r.taken.given n (record { some = some; place = (p, place, eq_d) }) (others_than n some) in
+          let gone : taken_of new n ≡ false = r.taken.given n (record { some = some; position = (p, place, eq_d) }) (others_than n some) in
           false≢true (sym gone ∙ still)))
       | inr free ↦ free
     ];

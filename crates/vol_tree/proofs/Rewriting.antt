@@ -149,7 +149,7 @@ module _ (a b : Image) (v : Superblock) (s : ℕ) (d e : Entry) (old new : Alloc
     there = λ c p same place. subst (λ (x : Entry). named b x p < v.sectors) (own c same) (below p place);
     apart = λ t f c p q is_f differ same place other some eq.
         let eq_e : named a f p ≡ named b e q = eq ∙ ap (λ (x : Entry). named b x q) (sym (own c same)) in
-        let free : taken_of old (named a f p) ≡ false = r.taken.fresh (named a f p) (record { some = some; place = (q, other, sym eq_e) }) (not_own t f p is_f differ place some) in
+        let free : taken_of old (named a f p) ≡ false = r.taken.fresh (named a f p) (record { some = some; position = (q, other, sym eq_e) }) (not_own t f p is_f differ place some) in
         false≢true (sym free ∙ taken.named t f is_f p place some);
   }
 
@@ -162,7 +162,7 @@ module _ (a b : Image) (v : Superblock) (s : ℕ) (d e : Entry) (old new : Alloc
           let is_d : d ≡ c = same_Some d c (sym at ∙ at_c) in
           let eq_d : named a d p ≡ n = ap (λ (x : Entry). named a x p) is_d ∙ eq in
           let some : n ≢ 0 = λ none. omega (arith, (range n still).0) in
-          let gone : taken_of new n ≡ false = r.taken.given n (record { some = some; place = (p, place, eq_d) }) (not_new e refl) in
+          let gone : taken_of new n ≡ false = r.taken.given n (record { some = some; position = (p, place, eq_d) }) (not_new e refl) in
           false≢true (sym gone ∙ still)))
       | inr free ↦ free
     ];
