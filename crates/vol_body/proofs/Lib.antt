@@ -6,6 +6,7 @@ pub mod Grown
 pub mod Changes
 pub mod Listed
 pub mod OneMore
+pub mod Sources
 pub mod Space
 pub mod Added
 pub mod Steps

@@ -2,5 +2,6 @@
 pub mod Body
 pub mod Survey
 pub mod Reading
+pub mod Source
 pub mod Change
 pub mod internal

@@ -10,6 +10,7 @@ mod pointer_blocks;
 mod reading;
 mod resizing;
 mod shrinking;
+mod source;
 mod surveying;
 mod writing;
 mod writing_blocks;
@@ -22,5 +23,6 @@ pub use laws::{
 };
 pub use reading::read_at;
 pub use resizing::set_size;
+pub use source::{Source, Span};
 pub use surveying::survey;
 pub use writing::write_at;

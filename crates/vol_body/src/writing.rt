@@ -13,6 +13,7 @@ ghost use Rattle.vol_body.specs.internal.Writing.{WriteLeaves};
 
 use crate::locate::read_block;
 use crate::pointer_blocks::load_pointer_blocks;
+use crate::source::Source;
 use crate::writing_image::Piece;
 use crate::writing_spans::write_blocks;
 use vol_alloc::Alloc;
@@ -31,7 +32,7 @@ pub fn write_at<D: Device>(
     inode_sector: u32,
     entry: &mut Entry,
     offset: u32,
-    bytes: &[u8],
+    bytes: &Source<'_>,
 ) -> Result<(), DeviceFault>
     requires behind { 122 ≤ inode_sector }
     requires slot { inode_sector < first_of sectors.old }
@@ -75,7 +76,7 @@ fn write_some<D: Device>(
     inode_sector: u32,
     entry: &mut Entry,
     offset: u32,
-    bytes: &[u8],
+    bytes: &Source<'_>,
 ) -> Result<(), DeviceFault>
     requires behind { 122 ≤ inode_sector }
     requires slot { inode_sector < first_of sectors.old }

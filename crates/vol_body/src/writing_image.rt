@@ -1,26 +1,39 @@
 //! The new bytes of the data blocks that a write touches.
 
-ghost use Rattle.std.specs.Prelude.{◌≡◌, ◌≤◌, ◌<◌, ◌+◌, ◌*◌, ℕ, length};
+ghost use Rattle.std.specs.Prelude.{◌≡◌, ◌≤◌, ◌<◌, ◌+◌, ◌-◌, ◌*◌, ℕ, length, drop};
 ghost use Rattle.vol_body.specs.internal.Writing.{image_of};
+
+use crate::source::Source;
 
 /// Bytes that are to be written, and what stands around them.
 #[derive(Drop)]
-pub struct Piece<'a> {
+pub struct Piece<'a, 'm> {
     /// The first byte of the file that is written.
     pub offset: usize,
-    pub bytes: &'a [u8],
+    pub bytes: &'a Source<'m>,
     /// The old bytes of the first data block that is touched.
     pub first: [u8; 512],
     /// The old bytes of the last data block that is touched.
     pub last: [u8; 512],
 }
 
-/// The new bytes of a data block that is touched.
-pub fn image_of_block(piece: &Piece<'_>, j: u32) -> [u8; 512]
+/// The bytes that are to be written to a data block, and to those after it.
+pub fn bytes_from<'m>(piece: &Piece<'_, 'm>, j: u32) -> Source<'m>
+    ensures { result ≡ drop (512 * j - piece.now.offset) piece.now.bytes.now }
+{
+    let start = 512 * j as usize;
+    piece.bytes.after(start.saturating_sub(piece.offset))
+}
+
+/// The new bytes of a data block that is touched. What is left to be written stands at its bytes,
+/// and then after them.
+pub fn image_of_block(piece: &Piece<'_, '_>, rest: &mut Source<'_>, j: u32) -> [u8; 512]
     requires before { 512 * j < piece.now.offset + length piece.now.bytes.now }
     requires behind { piece.now.offset < 512 * j + 512 }
     requires small { piece.now.offset + length piece.now.bytes.now ≤ 8483840 }
-    ensures { result ≡ image_of piece.now.offset piece.now.bytes.now piece.now.first piece.now.last j }
+    requires rest { rest.old ≡ drop (512 * j - piece.now.offset) piece.now.bytes.now }
+    ensures image { result ≡ image_of piece.now.offset piece.now.bytes.now piece.now.first piece.now.last j }
+    ensures rest { rest.new ≡ drop (512 * (j + 1) - piece.now.offset) piece.now.bytes.now }
 {
     let start = 512 * j as usize;
     let end = piece.offset + piece.bytes.len();
@@ -33,8 +46,6 @@ pub fn image_of_block(piece: &Piece<'_>, j: u32) -> [u8; 512]
     };
     let from = piece.offset.max(start);
     let to = end.min(start + 512);
-    image[from - start..to - start].copy_from_slice(
-        &piece.bytes[from - piece.offset..to - piece.offset],
-    );
+    rest.read(&mut image[from - start..to - start]);
     image
 }

@@ -14,7 +14,7 @@ ghost use Rattle.vol_body.specs.internal.Writing.{MirrorsAll, KnowsAll, IsPointe
 use crate::locate::{DIRECT, LISTED, NUMBERS};
 use crate::pointer_blocks::{PointerBlock, PointerBlocks};
 use crate::writing_blocks::{add_number, add_pointer, write_direct_block, write_listed_block};
-use crate::writing_image::{Piece, image_of_block};
+use crate::writing_image::{Piece, bytes_from, image_of_block};
 use vol_alloc::Alloc;
 use vol_inode::Entry;
 use vol_log::Log;
@@ -26,7 +26,7 @@ pub fn write_blocks<D: Device>(
     sectors: &mut Alloc,
     entry: &mut Entry,
     all: &mut PointerBlocks,
-    piece: &Piece<'_>,
+    piece: &Piece<'_, '_>,
     first: u32,
     last: u32,
 )
@@ -84,7 +84,7 @@ fn write_direct<D: Device>(
     log: &mut Log<D>,
     sectors: &mut Alloc,
     entry: &mut Entry,
-    piece: &Piece<'_>,
+    piece: &Piece<'_, '_>,
     from: u32,
     to: u32,
 )
@@ -107,8 +107,9 @@ fn write_direct<D: Device>(
     ensures puts { OnlyPuts log.old log.new }
     ensures range { SameRange sectors.old sectors.new }
 {
+    let mut rest = bytes_from(piece, from);
     for j in from..to {
-        let image = image_of_block(piece, j);
+        let image = image_of_block(piece, &mut rest, j);
         write_direct_block(log, sectors, entry, j, &image);
     }
 }
@@ -121,7 +122,7 @@ fn write_segment<D: Device>(
     all: &mut PointerBlock,
     above: &mut PointerBlock,
     group: u32,
-    piece: &Piece<'_>,
+    piece: &Piece<'_, '_>,
     from: u32,
     to: u32,
 )
@@ -178,7 +179,7 @@ fn write_listed<D: Device>(
     sectors: &mut Alloc,
     above: &mut PointerBlock,
     start: u32,
-    piece: &Piece<'_>,
+    piece: &Piece<'_, '_>,
     from: u32,
     to: u32,
 )
@@ -206,8 +207,9 @@ fn write_listed<D: Device>(
     ensures puts { OnlyPuts log.old log.new }
     ensures range { SameRange sectors.old sectors.new }
 {
+    let mut rest = bytes_from(piece, from);
     for j in from..to {
-        let image = image_of_block(piece, j);
+        let image = image_of_block(piece, &mut rest, j);
         write_listed_block(log, sectors, above, j - start, &image);
     }
 }

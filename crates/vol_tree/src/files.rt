@@ -10,7 +10,7 @@ ghost use Rattle.vol_tree.specs.Opened.{data_sectors, geometry, is_io, TellsByte
 
 use crate::Errno;
 use crate::parts::Parts;
-use vol_body::{read_at, set_size, write_at};
+use vol_body::{Source, read_at, set_size, write_at};
 use vol_inode::{Version, need};
 use vol_sector::Device;
 
@@ -20,7 +20,7 @@ impl<D: Device> Parts<D> {
     ghost use Rattle.vol_tree.specs.Parts.{opened, IsOpen};
 
     /// Writes bytes into a file. Of no bytes nothing changes.
-    pub fn write(&mut self, file: u32, offset: u64, bytes: &[u8]) -> Result<(), Errno>
+    pub fn write(&mut self, file: u32, offset: u64, bytes: &Source<'_>) -> Result<(), Errno>
         requires is_open { IsOpen self.old }
         requires first { 1 ≤ file }
         requires last { file ≤ self.old.numbers.slots }
@@ -40,7 +40,7 @@ impl<D: Device> Parts<D> {
     }
 
     /// Writes some bytes into a file.
-    fn write_some(&mut self, file: u32, offset: u64, bytes: &[u8]) -> Result<(), Errno>
+    fn write_some(&mut self, file: u32, offset: u64, bytes: &Source<'_>) -> Result<(), Errno>
         requires is_open { IsOpen self.old }
         requires first { 1 ≤ file }
         requires last { file ≤ self.old.numbers.slots }
@@ -52,7 +52,8 @@ impl<D: Device> Parts<D> {
             file offset bytes.now)) self.old self.new result }
     {
         let mut entry = self.entry(file)?;
-        let Some(end) = end_of_write(self.numbers.version, offset, bytes.len()) else {
+        let count = bytes.len();
+        let Some(end) = end_of_write(self.numbers.version, offset, count) else {
             return Err(Errno::TooBig);
         };
         let size = entry.size.max(end);
@@ -65,7 +66,7 @@ impl<D: Device> Parts<D> {
             &mut self.sectors,
             121 + file,
             &mut entry,
-            end - bytes.len() as u32,
+            end - count as u32,
             bytes,
         )?;
         self.reserved = reserved;

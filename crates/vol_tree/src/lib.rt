@@ -27,4 +27,5 @@ pub use laws::{
 };
 pub use stat::Stat;
 pub use stats::Stats;
+pub use vol_body::{Source, Span};
 pub use volume::Volume;

@@ -25,6 +25,7 @@ use crate::{Errno, Stat, Stats};
 use std::alloc::Global;
 use std::marker::Model;
 use vol_inode::{Kind, Version};
+use vol_body::Source;
 use vol_log::Log;
 use vol_sector::{Device, Refused, VolumeFault};
 
@@ -239,6 +240,24 @@ impl<D: Device> Volume<D> {
     /// Writes at most 16,384 bytes into a file. A gap before them reads as zeros; of no bytes
     /// nothing changes.
     pub fn write(&mut self, file: u32, offset: u64, bytes: &[u8]) -> Result<(), Errno>
+        requires first { 1 ≤ file }
+        requires last { file ≤ self.old.numbers.slots }
+        requires piece { length bytes.now ≤ 16384 }
+        requires used { D.honest self.old.device → IsTrue (is_file_at self.old.tree file) }
+        ensures answer { D.honest self.old.device
+            → Answers (with_unit (written (geometry self.old.numbers) self.old.tree file offset
+            bytes.now)) self.old.tree self.new.tree result }
+        ensures crash { D.honest self.old.device
+            → Leaves (D.disk self.old.device) (D.disk self.new.device)
+            (ReflectsOr (D.disk self.old.device) self.old.tree) }
+        ensures kept { Keeps D.honest D.size D.failures self.old self.new (is_io result) }
+    {
+        self.parts.write(file, offset, &Source::of(bytes))
+    }
+
+    /// Writes at most 16,384 bytes, which stand in one slice or in several, into a file, as `write`
+    /// does.
+    pub fn write_from(&mut self, file: u32, offset: u64, bytes: &Source<'_>) -> Result<(), Errno>
         requires first { 1 ≤ file }
         requires last { file ≤ self.old.numbers.slots }
         requires piece { length bytes.now ≤ 16384 }

@@ -55,6 +55,13 @@ impl Memory {
         (self.bytes.len() / PAGE_SIZE) as u32
     }
 
+    /// All bytes.
+    pub fn as_slice(&self) -> &[u8]
+        ensures { result.now ≡ self.now }
+    {
+        self.bytes.as_slice()
+    }
+
     /// So many bytes from an address, where they are in memory.
     pub fn slice(&self, address: u32, len: u32) -> Option<&[u8]>
         ensures inside { IfSome result (λ s. (address + len ≤ length self.now) × (s.now ≡ bytes_at self.now address len)) }

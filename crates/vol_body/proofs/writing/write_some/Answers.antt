@@ -1,4 +1,4 @@
-use Rattle.std.proofs.Common.{◌≡◌, ◌≤◌, ◌+◌, ◌-◌, ◌/◌, ◌⊎◌, ℕ, length, max, refl, sym, ◌∙◌, ap, subst, arith, rules}
+use Rattle.std.proofs.Common.{◌≡◌, ◌≤◌, ◌+◌, ◌-◌, ◌*◌, ◌/◌, ◌⊎◌, ℕ, length, max, refl, sym, ◌∙◌, ap, subst, arith, rules}
 use Rattle.vol_sector.specs.Disk.{Image}
 use Rattle.vol_log.specs.Log.{view, room_of, is_staged}
 use Rattle.vol_alloc.specs.Alloc.{taken_of, free_of}
@@ -6,7 +6,7 @@ use Rattle.vol_inode.specs.Space.{need_of}
 use Rattle.vol_inode.specs.declared.entry.Entry.{Entry}
 use Rattle.vol_body.specs.Body.{data_block, named, block_bytes, NamesTaken}
 use Rattle.vol_body.specs.Change.{used_of}
-use Rattle.vol_body.specs.internal.Writing.{IsReady, MirrorsAll, Changes, IsBlockIn, IsPointer}
+use Rattle.vol_body.specs.internal.Writing.{IsReady, MirrorsAll, Changes, IsBlockIn, IsPointer, HasBlocks, image_of}
 use Rattle.vol_log.proofs.Readings.{reads_then}
 use Rattle.vol_body.proofs.Stagings.{stages_then}
 use Rattle.vol_body.proofs.Steps.{put_here, room_left, on_err}
@@ -65,7 +65,9 @@ returns-clause-done g c h names body space =
     let a = c.args.sectors.now in
     let b = c.write_blocks.new.sectors in
     let first = offset / 512 in
-    let last = (offset + length bytes - 1) / 512 in
+    let last = (offset + c.len.result - 1) / 512 in
+    let len_is : c.len.result ≡ length bytes = c.len.ensures in
+    let is_last : last ≡ (offset + length bytes - 1) / 512 = ap (λ (n : ℕ). (offset + n - 1) / 512) len_is in
     let size = c.max-entry.result in
     let longer : Entry = record e { size = size } in
     let changed = c.write_blocks.new.entry in
@@ -78,16 +80,22 @@ returns-clause-done g c h names body space =
     let h2 = c.in_ok-behind.ensures.reads.honest.0 h1 in
     let three : start ≡ content = c.in_ok-all.ensures.reads.view h2 ∙ two in
     let names_in = λ (m : Image) (same : m ≡ content). subst (λ (k : Image). NamesTaken (taken_of a) k e) (sym same) names in
-    let size_is : size ≡ max e.size (offset + length bytes) = c.max-entry.ensures in
+    let size_is : size ≡ max e.size (offset + length bytes) = c.max-entry.ensures ∙ ap (λ (n : ℕ). max e.size (offset + n)) len_is in
     let small : size ≤ 8483840 = omega (arith, size_is, c.requires.small, c.requires.small_before) in
     let ready : IsReady a content longer = ready_to_write a content e size body names (omega (arith, size_is)) small (subst (λ (s : ℕ). need_of s ≤ free_of a + used_of content e) (sym size_is) space) in
     let mirrors : MirrorsAll content longer all first last = mirrors_all_by content e longer all first last refl (subst (λ (k : Image). MirrorsAll k e all first last) two (c.in_ok-all.ensures.right h2 (names_in (view c.read_edge-2.new.log) two))) in
-    let written = c.write_blocks.ensures.written (subst (λ (k : Image). IsReady a k longer) (sym three) ready) (omega (arith, size_is, c.requires.some))
+    let written = c.write_blocks.ensures.written (subst (λ (k : Image). IsReady a k longer) (sym three) ready) (omega (arith, size_is, len_is, c.requires.some))
     (subst (λ (k : Image). MirrorsAll k longer all first last) (sym three) mirrors) in
     let changes : Changes a b content between longer changed (λ p. IsBlockIn first (last + 1) p ⊎ IsPointer p) =
     subst (λ (k : Image). Changes a b k between longer changed (λ p. IsBlockIn first (last + 1) p ⊎ IsPointer p)) three written.0 in
+    let image = image_of offset bytes c.in_ok-before.before c.in_ok-behind.behind in
+    let edge : (n : ℕ) → Type 0 = λ n. (offset ≤ 512 * ((offset + n - 1) / 512) → 512 * ((offset + n - 1) / 512) + 512 ≤ offset + n → ⊥)
+    → c.in_ok-behind.behind ≡ block_bytes content (named content e (data_block ((offset + n - 1) / 512))) in
+    let read : edge c.len.result = λ partly. c.in_ok-behind.ensures.bytes h1 (names_in (view c.read_edge.new.log) one) partly ∙ ap (λ (m : Image). block_bytes m (named m e (data_block last))) one in
     write_leaves c.args.inode_sector offset bytes c.in_ok-before.before c.in_ok-behind.behind c.write_entry.result a b content between (view c.stage.new.self) e changed size
-    c.requires.behind c.requires.slot c.write_blocks.ensures.range c.requires.small_before c.requires.small c.requires.some size_is body names changes written.1 c.stage.ensures.view
+    c.requires.behind c.requires.slot c.write_blocks.ensures.range c.requires.small_before c.requires.small c.requires.some size_is body names
+    (subst (λ (k : ℕ). Changes a b content between longer changed (λ p. IsBlockIn first (k + 1) p ⊎ IsPointer p)) is_last changes)
+    (subst (λ (k : ℕ). HasBlocks between changed first (k + 1) image) is_last written.1) c.stage.ensures.view
     (search rules) (search rules)
-    (λ partly. c.in_ok-before.ensures.bytes h names partly)
-    (λ partly. c.in_ok-behind.ensures.bytes h1 (names_in (view c.read_edge.new.log) one) partly ∙ ap (λ (m : Image). block_bytes m (named m e (data_block last))) one)
+    (λ partly. c.in_ok-before.ensures.bytes h names (λ le fits. partly le (omega (arith, fits, len_is))))
+    (subst edge len_is read)

@@ -27,6 +27,7 @@ loop-j-preserved g c =
     let e1 = c.loop-j.entry in
     let e2 = c.write_direct_block.new.entry in
     record {
+      rest = c.image_of_block-image.ensures.rest;
       few = omega arith;
       working = step.puts.failed ∙ so_far.working;
       room = omega (arith, so_far.room, step.room);
@@ -40,7 +41,7 @@ loop-j-preserved g c =
           let now = step.written before.0.ready (omega (arith, size)) in (
             changes_then a b d c0 c1 c2 e0 e1 e2 (IsBlockIn from j) (λ q. q ≡ data_block j) (IsBlockIn from (j + 1)) c.requires.behind so_far.range step.range
                 (part_in_more from j) (λ q is. part_in_here from j q from_j is) before.0 now.0,
-            parts_more b d c1 c2 e1 e2 (λ q. q ≡ data_block j) from j image now.0 (λ k below is. different k j below is) (omega (arith, c.requires.direct)) before.1 (now.1 ∙ c.image_of_block-image.ensures),
+            parts_more b d c1 c2 e1 e2 (λ q. q ≡ data_block j) from j image now.0 (λ k below is. different k j below is) (omega (arith, c.requires.direct)) before.1 (now.1 ∙ c.image_of_block-image.ensures.image),
           );
     }
   where

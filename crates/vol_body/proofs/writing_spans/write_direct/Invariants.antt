@@ -1,4 +1,4 @@
-use Rattle.std.proofs.Common.{◌≡◌, ◌≤◌, ◌+◌, ◌-◌, ℕ, true, false}
+use Rattle.std.proofs.Common.{◌≡◌, ◌≤◌, ◌+◌, ◌-◌, ℕ, true, false, ◌*◌, drop}
 use Rattle.vol_log.specs.Log.{view, room_of, has_failed}
 use Rattle.vol_alloc.specs.Alloc.{taken_of}
 use Rattle.vol_inode.specs.Space.{sectors_of}
@@ -7,6 +7,7 @@ use Rattle.vol_body.proofs.writing_spans.write_direct.Given as goal
 
 abbrev pub invariant-loop-j : goal.invariant-loop-j
 invariant-loop-j g l = record {
+  rest : l.rest ≡ drop (512 * l.j - l.piece.offset) l.piece.bytes.now;
   few : l.j - l.from ≤ l.to - l.from;
   working : has_failed l.log ≡ false;
   room : room_of l.fn.log ≤ room_of l.log + (l.j - l.from);

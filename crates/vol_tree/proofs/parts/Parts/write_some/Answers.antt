@@ -29,7 +29,8 @@ returns-in_default g c =
     let file = c.requires.used h in
     let T = tree_in (view old.log) old.numbers in
     let found = c.in_ok-entry.ensures.found h (file_used T c.args.file file) in
-    let over = subst (λ (w : Superblock). size_limit w.version < c.args.offset + length c.args.bytes.now) commits.kept.numbers c.in_default.ensures in
+    let over = subst (λ (w : Superblock). size_limit w.version < c.args.offset + length c.args.bytes.now) commits.kept.numbers
+    (subst (λ (k : ℕ). size_limit c.entry.new.self.numbers.version < c.args.offset + k) c.len-count.ensures c.in_default.ensures) in
     inl (is_too_big (view old.log) old.numbers (c.requires.is_open.content h) c.args.file c.requires.first c.in_ok-entry.entry found file c.args.offset c.args.bytes.now c.requires.some over))
 
 pub returns-in_default-reserved_with : goal.returns-in_default-reserved_with
@@ -42,7 +43,7 @@ returns-in_default-reserved_with g c =
     let found = c.in_ok-entry.ensures.found h (file_used T c.args.file file) in
     let content = c.requires.is_open.content h in
     let d = c.in_ok-entry.entry in
-    let end_is : c.in-Some.end ≡ c.args.offset + length c.args.bytes.now = c.in-Some.ensures.0 in
+    let end_is : c.in-Some.end ≡ c.args.offset + length c.args.bytes.now = c.in-Some.ensures.0 ∙ ap (λ (k : ℕ). c.args.offset + k) c.len-count.ensures in
     let fits = subst (λ (w : Superblock). c.in-Some.end ≤ size_limit w.version) commits.kept.numbers c.in-Some.ensures.1 in
     let reserved : c.entry.new.self.reserved ≡ space T = commits.reserved ∙ c.requires.is_open.reserved h in
     let size_is : c.max-size.result ≡ max d.size (c.args.offset + length c.args.bytes.now) = c.max-size.ensures ∙ ap (max d.size) end_is in
@@ -80,9 +81,10 @@ write_at-requires-clause-space g c h1 names body =
     let le : need_of d.size ≤ c.entry.new.self.reserved = omega (arith, need_le (view mid.log) v content n c.requires.first d slot file1, total, same_r) in
     let space_for = c.in-Some-reserved_with.ensures le in
     let room_is : data_sectors v ≡ data_sectors c.entry.new.self.numbers = ap data_sectors same_v in
-    let end_is : c.in-Some.end ≡ c.args.offset + length c.args.bytes.now = c.in-Some.ensures.0 in
-    let back : c.in-Some.end - length c.args.bytes.now + length c.args.bytes.now ≡ c.in-Some.end = omega arith in
-    let size_is : max d.size (c.in-Some.end - length c.args.bytes.now + length c.args.bytes.now) ≡ c.max-size.result = ap (max d.size) back ∙ sym c.max-size.ensures in
+    let end_is : c.in-Some.end ≡ c.args.offset + length c.args.bytes.now = c.in-Some.ensures.0 ∙ ap (λ (k : ℕ). c.args.offset + k) c.len-count.ensures in
+    let count = c.len-count.result in
+    let back : c.in-Some.end - count + length c.args.bytes.now ≡ c.in-Some.end = omega (arith, end_is, c.len-count.ensures) in
+    let size_is : max d.size (c.in-Some.end - count + length c.args.bytes.now) ≡ c.max-size.result = ap (max d.size) back ∙ sym c.max-size.ensures in
     subst (λ (size : ℕ). need_of size ≤ free_of mid.sectors + used_of (view mid.log) d) (sym size_is)
     (enough (view mid.log) v content n c.requires.first d slot file1 mid.sectors c.max-size.result working.taken commits.is_open.first commits.is_open.end
     (omega (arith, space_for.0, space_for.1, room_is, total, same_r)))
@@ -111,7 +113,9 @@ returns g c =
     let b = view c.write_at.new.log in
     let done = c.in_ok-write_at.ensures in
     let place : 121 + n ≡ 122 + (n - 1) = omega (arith, c.requires.first) in
-    let at : c.in-Some.end - length bytes ≡ offset = omega (arith, c.in-Some.ensures.0) in
+    let len_is = c.len-count.ensures in
+    let end_is : c.in-Some.end ≡ offset + length bytes = c.in-Some.ensures.0 ∙ ap (λ (k : ℕ). offset + k) len_is in
+    let at : c.in-Some.end - c.len-count.result ≡ offset = omega (arith, c.in-Some.ensures.0) in
     let same_v : v ≡ c.entry.new.self.numbers = c.in_ok-make_room.ensures.commits.kept.numbers in
     let same_r : mid.reserved ≡ c.entry.new.self.reserved = c.in_ok-make_room.ensures.commits.reserved in
     let becomes_entry = done.entry c.requires.some in
@@ -126,7 +130,7 @@ returns g c =
     let le : need_of d.size ≤ c.entry.new.self.reserved = omega (arith, need_le a v (content h) n c.requires.first d (slot h) (file1 h), total, same_r) in
     c.in-Some-reserved_with.ensures le in
     let room_is : data_sectors v ≡ data_sectors c.entry.new.self.numbers = ap data_sectors same_v in
-    let size_is : c.max-size.result ≡ e.size = c.max-size.ensures ∙ ap (max d.size) (omega (arith, c.in-Some.ensures.0)) ∙ sym (ap (λ (x : Entry). x.size) entry_is) in
+    let size_is : c.max-size.result ≡ e.size = c.max-size.ensures ∙ ap (max d.size) (omega (arith, end_is, len_is)) ∙ sym (ap (λ (x : Entry). x.size) entry_is) in
     fills _ old mid c.write_at.new.log c.write_at.new.sectors c.in-Some-reserved_with.reserved n d e (overwritten (bytes_at (tree_in a v) n) offset bytes)
     commits c.write_at.ensures.steps.log done.steps.failed c.write_at.ensures.steps.range.0 c.write_at.ensures.steps.range.1 c.requires.first
     (λ h.
@@ -163,8 +167,8 @@ returns g c =
     let s = space_for h in
     let total = commits.is_open.reserved h1 in
     let T = tree_in a v in
-    let size_same : c.max-size.result ≡ max d.size (offset + length bytes) = c.max-size.ensures ∙ ap (max d.size) c.in-Some.ensures.0 in
+    let size_same : c.max-size.result ≡ max d.size (offset + length bytes) = c.max-size.ensures ∙ ap (max d.size) end_is in
     let needs : need_of c.max-size.result ≡ need_of (max d.size (offset + length bytes)) = ap need_of size_same in
     let sums = space_after a v (content h) n c.requires.first d (slot h) (file1 h) offset bytes in
     ap (λ (x : Superblock × Tree). with_unit (written (geometry x.0) x.1 n offset bytes)) (λ i. (sym commits.kept.numbers i, sym (commits.tree h) i))
-    ∙ is_written a v (content h) n c.requires.first d (slot h) (file1 h) offset bytes c.requires.some (omega (arith, limit, c.in-Some.ensures.0)) (omega (arith, sums, s.0, s.1, needs, total, same_r, room_is)))
+    ∙ is_written a v (content h) n c.requires.first d (slot h) (file1 h) offset bytes c.requires.some (omega (arith, limit, end_is)) (omega (arith, sums, s.0, s.1, needs, total, same_r, room_is)))

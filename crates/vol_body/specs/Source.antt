@@ -1,0 +1,17 @@
+-- Bytes that stand in spans of a memory.
+use Rattle.std.specs.Prelude.{ℕ, ◌+◌, ◌≤◌, List, [], ◌∷◌, ◌++◌, length, take, drop}
+use Rattle.vol_body.specs.declared.source.Span.{Span}
+
+-- the bytes of a span
+abbrev pub span_bytes : List ℕ → Span → List ℕ
+span_bytes memory s = take s.len (drop s.pointer memory)
+
+-- those of all spans, one after the other
+abbrev pub gathered : List ℕ → List Span → List ℕ
+gathered memory [] = []
+gathered memory (s ∷ spans) = span_bytes memory s ++ gathered memory spans
+
+-- each span lies in memory
+abbrev pub AreInside : List ℕ → List Span → Type 0
+AreInside memory [] = Unit {0}
+AreInside memory (s ∷ spans) = (s.pointer + s.len ≤ length memory) × AreInside memory spans
