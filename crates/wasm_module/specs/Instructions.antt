@@ -30,6 +30,16 @@ pub data Instructions : Type 0 where
   -- a function that is to be entered: no bytes spell it, a call is rewritten to it
   invoke : ℕ → Instructions → Instructions
 
+-- one list of instructions after another
+abbrev pub append : Instructions → Instructions → Instructions
+append done more = more
+append (plain i rest) more = plain i (append rest more)
+append (block t body rest) more = block t body (append rest more)
+append (loop t body rest) more = loop t body (append rest more)
+append (if_then t body rest) more = if_then t body (append rest more)
+append (if_else t body other rest) more = if_else t body other (append rest more)
+append (invoke x rest) more = invoke x (append rest more)
+
 -- an instruction that is no part of a block
 abbrev pub IsPlain : Instruction → Type 0
 IsPlain (op.Block t) = ⊥

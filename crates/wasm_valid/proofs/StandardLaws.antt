@@ -5,9 +5,9 @@ use Rattle.wasm_module.specs.declared.instruction.ValueType.TheVariants.{I32, I6
 use Rattle.wasm_module.specs.declared.instruction.BlockType.{BlockType}
 use Rattle.wasm_module.specs.declared.instruction.Instruction.{Instruction}
 use Rattle.wasm_module.specs.declared.instruction.Instruction.TheVariants as op
-use Rattle.wasm_module.specs.Instructions.{Instructions, done, plain, block, loop, if_then, if_else, invoke}
+use Rattle.wasm_module.specs.Instructions.{Instructions, done, plain, block, loop, if_then, if_else, invoke, append}
 use Rattle.wasm_valid.specs.Typing.{Context, Labels, Moves, Leaves, OpTyped, Typed, results_of}
-use Rattle.wasm_valid.specs.Standard.{followed, HasType, none, one, a_block, a_loop, an_if, an_if_else, a_call, sequence, widened}
+use Rattle.wasm_valid.specs.Standard.{HasType, none, one, a_block, a_loop, an_if, an_if_else, a_call, sequence, widened}
 
 -- ---- widening
 
@@ -83,7 +83,7 @@ typed_wide c (invoke x rest) ls a b w h = (h.0, h.1, h.2 ++ w, moves_wide (rever
 
 -- ---- one part after another
 
-typed_more : (c : Context) (code more : Instructions) (ls : Labels) (a m b : List ValueType) → Typed c ls code a m → Typed c ls more m b → Typed c ls (followed code more) a b
+typed_more : (c : Context) (code more : Instructions) (ls : Labels) (a m b : List ValueType) → Typed c ls code a m → Typed c ls more m b → Typed c ls (append code more) a b
 typed_more c done more ls a m b h k = subst (λ (l : List ValueType). Typed c ls more l b) (sym h) k
 typed_more c (plain i rest) more ls a m b h k = (h.0, h.1, typed_more c rest more ls h.0 m b h.2 k)
 typed_more c (block t body rest) more ls a m b h k = (h.0, typed_more c rest more ls (results_of t ++ a) m b h.1 k)

@@ -6,18 +6,8 @@ use Rattle.wasm_module.specs.declared.instruction.BlockType.{BlockType}
 use Rattle.wasm_module.specs.declared.instruction.BlockType.TheVariants.{Empty}
 use Rattle.wasm_module.specs.declared.instruction.Instruction.{Instruction}
 use Rattle.wasm_module.specs.declared.module.FuncType.{FuncType}
-use Rattle.wasm_module.specs.Instructions.{Instructions, done, plain, block, loop, if_then, if_else, invoke}
+use Rattle.wasm_module.specs.Instructions.{Instructions, done, plain, block, loop, if_then, if_else, invoke, append}
 use Rattle.wasm_valid.specs.Typing.{Context, Labels, OpTyped, results_of}
-
--- one list of instructions, and then another
-abbrev pub followed : Instructions → Instructions → Instructions
-followed done more = more
-followed (plain i rest) more = plain i (followed rest more)
-followed (block t body rest) more = block t body (followed rest more)
-followed (loop t body rest) more = loop t body (followed rest more)
-followed (if_then t body rest) more = if_then t body (followed rest more)
-followed (if_else t body other rest) more = if_else t body other (followed rest more)
-followed (invoke x rest) more = invoke x (followed rest more)
 
 pub data HasType (c : Context) : Labels → Instructions → List ValueType → List ValueType → Type 0 where
   -- no instruction has type [] -> []
@@ -30,6 +20,6 @@ pub data HasType (c : Context) : Labels → Instructions → List ValueType → 
   an_if_else : (ls : Labels) (t : BlockType) (body other : Instructions) → HasType c (results_of t ∷ ls) body [] (results_of t) → HasType c (results_of t ∷ ls) other [] (results_of t) → HasType c ls (if_else t body other done) (I32 ∷ []) (results_of t)
   a_call : (ls : Labels) (x : ℕ) (f : FuncType) → slice_get c.functions x ≡ Some f → HasType c ls (invoke x done) (reverse f.params) f.results
   -- a first part, and then the rest
-  sequence : (ls : Labels) (first rest whole : Instructions) (a m b : List ValueType) → whole ≡ followed first rest → HasType c ls first a m → HasType c ls rest m b → HasType c ls whole a b
+  sequence : (ls : Labels) (first rest whole : Instructions) (a m b : List ValueType) → whole ≡ append first rest → HasType c ls first a m → HasType c ls rest m b → HasType c ls whole a b
   -- the same types below on both sides
   widened : (ls : Labels) (code : Instructions) (a b below wide_a wide_b : List ValueType) → wide_a ≡ a ++ below → wide_b ≡ b ++ below → HasType c ls code a b → HasType c ls code wide_a wide_b

@@ -1,5 +1,5 @@
 -- Which instructions take which types from the stack, and leave which (section 3.3). The type on top comes first.
-use Rattle.std.specs.Prelude.{◌≡◌, ℕ, ◌^◌, ◌≤◌, List, [], ◌∷◌, ◌++◌, Some, Bool, true, slice_get, reverse}
+use Rattle.std.specs.Prelude.{◌≡◌, ℕ, ◌^◌, ◌≤◌, List, [], ◌∷◌, ◌++◌, Some, Bool, true, slice_get, reverse, length}
 use Rattle.std.specs.List.{AllByRecursion}
 use Rattle.wasm_module.specs.declared.instruction.ValueType.{ValueType}
 use Rattle.wasm_module.specs.declared.instruction.ValueType.TheVariants.{I32, I64}
@@ -33,6 +33,10 @@ Labels = List (List ValueType)
 abbrev pub results_of : BlockType → List ValueType
 results_of Empty = []
 results_of (Value t) = t ∷ []
+
+-- how many values a block leaves
+abbrev pub arity : BlockType → ℕ
+arity t = length (results_of t)
 
 -- takes and leaves these types, above any others
 abbrev pub Moves : List ValueType → List ValueType → List ValueType → List ValueType → Type 0
