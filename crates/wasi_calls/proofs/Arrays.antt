@@ -5,12 +5,13 @@ use Rattle.std.proofs.Math.Seq.{take-suc, take-append-add, drop-cons}
 use Rattle.std.proofs.lemmas.List.Folds.{list_all_at, list_all-map}
 use Rattle.wasi_calls.specs.internal.Buffers.{fit, usable}
 use Rattle.wasi_calls.proofs.Yields.{goes_on}
-use Rattle.std.proofs.lemmas.List.{drop-drop, take_more_set, map-append, take_all, length-append, length-take, length-drop, take-append-le}
+use Rattle.std.proofs.lemmas.List.{drop-drop, take_more_set, map-append, take_all, length-append, length-take, length-drop, take-append-le, take_min}
 use Rattle.std.proofs.lemmas.List.Sums.{sum_by-cons, sum_by-append}
 use Rattle.std.specs.List.{list_all}
 use Rattle.byteorder.specs.Endian.{little_number}
 use Rattle.wasm_store.specs.Bytes.{bytes_at}
-use Rattle.wasi_calls.specs.declared.inner.Buffer.{Buffer as BufferValue}
+use Rattle.vol_body.specs.Source as source
+use Rattle.vol_body.specs.declared.source.Span.{Span}
 use Rattle.wasi_calls.specs.Checks.{Checked, Buffer, buffers, and_then, guard, range, buffers_in, total, is_inside, gathered}
 use Rattle.wasi_calls.specs.internal.Buffers.{pair_of, list_of}
 
@@ -26,11 +27,11 @@ buffers_from array count i h =
     rw one_more (ap (λ (bytes : List ℕ). buffer_at (drop (8 * i) array) ∷ buffers_in (count - (i + 1)) bytes) moved)
 
 -- one more is read
-pub read_more : (room : List BufferValue) (array : List ℕ) (count i : ℕ) (b : BufferValue) → i < length room → i < count → pair_of b ≡ buffer_at (drop (8 * i) array)
+pub read_more : (room : List Span) (array : List ℕ) (count i : ℕ) (b : Span) → i < length room → i < count → pair_of b ≡ buffer_at (drop (8 * i) array)
     → list_of (take (i + 1) (set room i b)) ++ buffers_in (count - (i + 1)) (drop (8 * (i + 1)) array) ≡ list_of (take i room) ++ buffers_in (count - i) (drop (8 * i) array)
 read_more room array count i b inside below is =
     let rest : List Buffer = buffers_in (count - (i + 1)) (drop (8 * (i + 1)) array) in
-    ap (λ (l : List BufferValue). list_of l ++ rest) (take_more_set room i b inside)
+    ap (λ (l : List Span). list_of l ++ rest) (take_more_set room i b inside)
     ∙ (ap (λ (l : List Buffer). l ++ rest) (map-append pair_of (take i room) (b ∷ []))
     ∙ (append_assoc (list_of (take i room)) (pair_of b ∷ []) rest
     ∙ (ap (λ (x : Buffer). list_of (take i room) ++ (x ∷ rest)) is ∙ ap (λ (l : List Buffer). list_of (take i room) ++ l) (sym (buffers_from array count i below)))))
@@ -39,20 +40,20 @@ bool_or : (b : Bool) → (b ≡ true) ⊎ (b ≡ false)
 bool_or true = inl refl
 bool_or false = inr refl
 
-listed_more : (bs : List BufferValue) (i : ℕ) (d : BufferValue) → i < length bs → list_of (take (i + 1) bs) ≡ list_of (take i bs) ++ pair_of (get_or bs i d) ∷ []
+listed_more : (bs : List Span) (i : ℕ) (d : Span) → i < length bs → list_of (take (i + 1) bs) ≡ list_of (take i bs) ++ pair_of (get_or bs i d) ∷ []
 listed_more bs i d h = ap list_of (rw add-one (take-suc bs i d h)) ∙ map-append pair_of (take i bs) (get_or bs i d ∷ [])
 
-pub total_more : (bs : List BufferValue) (i : ℕ) (d : BufferValue) → i < length bs → total (list_of (take (i + 1) bs)) ≡ total (list_of (take i bs)) + (get_or bs i d).len
+pub total_more : (bs : List Span) (i : ℕ) (d : Span) → i < length bs → total (list_of (take (i + 1) bs)) ≡ total (list_of (take i bs)) + (get_or bs i d).len
 total_more bs i d h =
     let f : Buffer → ℕ = λ b. b.1 in
     ap total (listed_more bs i d h) ∙ (sum_by-append f (list_of (take i bs)) (pair_of (get_or bs i d) ∷ []) ∙ ap (λ (n : ℕ). total (list_of (take i bs)) + n) (sum_by-cons f (pair_of (get_or bs i d)) [] ∙ add-zero _))
 
-pub all_inside : (memory : List ℕ) (bs : List BufferValue) → list_all (is_inside memory) (list_of bs) ≡ list_all (λ b. is_inside memory (pair_of b)) bs
+pub all_inside : (memory : List ℕ) (bs : List Span) → list_all (is_inside memory) (list_of bs) ≡ list_all (λ b. is_inside memory (pair_of b)) bs
 all_inside memory bs = list_all-map (is_inside memory) pair_of bs
 
-pub inside_at : (memory : List ℕ) (bs : List BufferValue) (i : ℕ) (d : BufferValue) → list_all (is_inside memory) (list_of bs) ≡ true → i < length bs → (get_or bs i d).pointer + (get_or bs i d).len ≤ length memory
+pub inside_at : (memory : List ℕ) (bs : List Span) (i : ℕ) (d : Span) → list_all (is_inside memory) (list_of bs) ≡ true → i < length bs → (get_or bs i d).pointer + (get_or bs i d).len ≤ length memory
 inside_at memory bs i d all h =
-    let p : BufferValue → Bool = λ b. is_inside memory (pair_of b) in
+    let p : Span → Bool = λ b. is_inside memory (pair_of b) in
     elim (bool_or (p (get_or bs i d))) [
       | inl is ↦ leb-true _ _ is
       | inr not_so ↦ absurd (false≢true (sym (list_all_at p bs i d h not_so) ∙ (sym (all_inside memory bs) ∙ all)))
@@ -64,39 +65,6 @@ pub gathered_push : (memory : List ℕ) (bs : List Buffer) (b : Buffer) → gath
 gathered_push memory [] b = append-nil _
 gathered_push memory (x ∷ bs) b =
     ap (λ (l : List ℕ). bytes_at memory x.0 x.1 ++ l) (gathered_push memory bs b) ∙ sym (append_assoc (bytes_at memory x.0 x.1) (gathered memory bs) _)
-
-take_min : (k : ℕ) (xs : List ℕ) → take (min (length xs) k) xs ≡ take k xs
-take_min k xs = elim (cases_lt (length xs) k) [
-  | inr le ↦ ap (λ (n : ℕ). take n xs) (let e : min (length xs) k ≡ k = omega arith in e)
-  | inl lt ↦ take_all (min (length xs) k) xs (omega arith) ∙ sym (take_all k xs (omega arith))
-]
-
-take_both : (n : ℕ) (xs ys : List ℕ) → take n (xs ++ ys) ≡ take n xs ++ take (n - length xs) ys
-take_both n xs ys = elim (cases_lt (length xs) n) [
-  | inr le ↦
-      let none : n - length xs ≡ 0 = omega arith in
-      take-append-le n xs ys le ∙ (sym (append-nil (take n xs)) ∙ ap (λ (k : ℕ). take n xs ++ take k ys) (sym none))
-  | inl lt ↦
-      let split : n ≡ length xs + (n - length xs) = omega arith in
-      ap (λ (k : ℕ). take k (xs ++ ys)) split ∙ (take-append-add xs ys (n - length xs) ∙ ap (λ (l : List ℕ). l ++ take (n - length xs) ys) (sym (take_all n xs (omega arith))))
-]
-
--- one buffer more
-pub gathered_more : (memory piece piece' bytes : List ℕ) (bs : List BufferValue) (i filled taken : ℕ) (d : BufferValue) → i < length bs
-    → bytes ≡ bytes_at memory (get_or bs i d).pointer (get_or bs i d).len → filled ≤ length piece → length piece' ≡ length piece → taken ≡ min (length bytes) (length piece - filled)
-    → take filled piece ≡ take (length piece) (gathered memory (list_of (take i bs))) → take (filled + taken) piece' ≡ take filled piece ++ take taken bytes
-    → take (filled + taken) piece' ≡ take (length piece') (gathered memory (list_of (take (i + 1) bs)))
-gathered_more memory piece piece' bytes bs i filled taken d h read room same count before more =
-    let G = gathered memory (list_of (take i bs)) in
-    let cap = length piece in
-    let pushed : gathered memory (list_of (take (i + 1) bs)) ≡ G ++ bytes =
-    ap (gathered memory) (listed_more bs i d h) ∙ (gathered_push memory (list_of (take i bs)) (pair_of (get_or bs i d)) ∙ ap (λ (l : List ℕ). G ++ l) (sym read)) in
-    let one = length-take filled piece in
-    let two = length-take cap G in
-    let both : length (take filled piece) ≡ length (take cap G) = ap length before in
-    let so_many : taken ≡ min (length bytes) (cap - length G) = omega (arith, one, two, both) in
-    more ∙ ((λ j. before j ++ take (so_many j) bytes) ∙ (ap (λ (l : List ℕ). take cap G ++ l) (take_min (cap - length G) bytes)
-    ∙ (sym (take_both cap G bytes) ∙ λ j. take (sym same j) (sym pushed j))))
 
 -- ---- the row
 
@@ -111,11 +79,11 @@ found_row m iovs count result all few inside is =
 
 -- ---- from one buffer on
 
-pub gathered_from : (memory bytes : List ℕ) (bs : List BufferValue) (i : ℕ) (d : BufferValue) → i < length bs → bytes ≡ bytes_at memory (get_or bs i d).pointer (get_or bs i d).len
+pub gathered_from : (memory bytes : List ℕ) (bs : List Span) (i : ℕ) (d : Span) → i < length bs → bytes ≡ bytes_at memory (get_or bs i d).pointer (get_or bs i d).len
     → gathered memory (list_of (drop i bs)) ≡ bytes ++ gathered memory (list_of (drop (i + 1) bs))
 gathered_from memory bytes bs i d h read =
     let next : drop i bs ≡ get_or bs i d ∷ drop (i + 1) bs = rw add-one (drop-cons bs i d h) in
-    ap (λ (l : List BufferValue). gathered memory (list_of l)) next
+    ap (λ (l : List Span). gathered memory (list_of l)) next
     ∙ ap (λ (l : List ℕ). l ++ gathered memory (list_of (drop (i + 1) bs))) (sym read)
 
 pub gathered_length : (memory : List ℕ) (bs : List Buffer) → list_all (is_inside memory) bs ≡ true → length (gathered memory bs) ≡ total bs
@@ -129,3 +97,28 @@ gathered_length memory (b ∷ bs) h =
     let three = length-drop b.0 memory in
     let sum = sum_by-cons (λ (x : Buffer). x.1) b bs in
     omega (arith, inside, rest, one, two, three, sum)
+
+-- ---- as a volume sees them
+
+pub source_bytes : (memory : List ℕ) (bs : List Span) → source.gathered memory bs ≡ gathered memory (list_of bs)
+source_bytes memory [] = refl
+source_bytes memory (b ∷ bs) = ap (λ (l : List ℕ). bytes_at memory b.pointer b.len ++ l) (source_bytes memory bs)
+
+pub source_inside : (memory : List ℕ) (bs : List Span) → list_all (is_inside memory) (list_of bs) ≡ true → source.AreInside memory bs
+source_inside memory [] h = tt
+source_inside memory (b ∷ bs) h =
+    let both = and_parts (is_inside memory (pair_of b)) (list_all (is_inside memory) (list_of bs)) h in
+    (leb-true _ _ both.0, source_inside memory bs both.1)
+
+-- the bytes that are written at once
+pub source_taken : (memory : List ℕ) (bs : List Span) (len : ℕ) → list_all (is_inside memory) (list_of bs) ≡ true → len ≡ min (total (list_of bs)) 16384
+    → (len ≤ length (source.gathered memory bs)) × (take len (source.gathered memory bs) ≡ take 16384 (gathered memory (list_of bs))) × (len ≡ length (take 16384 (gathered memory (list_of bs))))
+source_taken memory bs len inside is =
+    let all : List ℕ = gathered memory (list_of bs) in
+    let long : length all ≡ total (list_of bs) = gathered_length memory (list_of bs) inside in
+    let same : length (source.gathered memory bs) ≡ length all = ap length (source_bytes memory bs) in
+    let least : len ≡ min 16384 (length all) = omega (arith, is, long) in (
+      omega (arith, same, least),
+      (λ i. take (least i) (source_bytes memory bs i)) ∙ take_min 16384 all,
+      least ∙ sym (length-take 16384 all),
+    )

@@ -9,8 +9,8 @@ ghost use Rattle.wasi_calls.specs.internal.Buffers.{pair_of, list_of, fit};
 
 use crate::arguments::word;
 use crate::checks::{check_range, check_that};
-use crate::inner::Buffer;
 use byteorder::{ByteOrder, LittleEndian};
+use vol_tree::Span;
 use wasm_store::{Errno, Memory};
 
 /// How many buffers a call can name.
@@ -20,18 +20,18 @@ const MOST_BUFFERS: u32 = 1_024;
 const ENTRY_BYTES: u32 = 8;
 
 /// The buffer that an array begins with.
-fn buffer_in(array: &[u8]) -> Buffer
+fn buffer_in(array: &[u8]) -> Span
     requires { 8 ≤ length array.now }
     ensures { pair_of result ≡ (little_number 4 array.now, little_number 4 (drop 4 array.now)) }
 {
-    Buffer {
+    Span {
         pointer: LittleEndian::read_u32(array),
         len: LittleEndian::read_u32(&array[4..]),
     }
 }
 
 /// Reads as many buffers of an array as there is room for.
-fn read_buffers(room: &mut [Buffer], array: &[u8])
+fn read_buffers(room: &mut [Span], array: &[u8])
     requires { length array.now ≡ 8 * length room.old }
     ensures { list_of room.new ≡ buffers_in (length room.old) array.now }
 {
@@ -41,7 +41,7 @@ fn read_buffers(room: &mut [Buffer], array: &[u8])
 }
 
 /// How many bytes all of them have.
-pub(crate) fn total_len(buffers: &[Buffer]) -> u64
+pub(crate) fn total_len(buffers: &[Span]) -> u64
     requires { length buffers.now ≤ 1024 }
     ensures { result ≡ total (list_of buffers.now) }
 {
@@ -53,21 +53,21 @@ pub(crate) fn total_len(buffers: &[Buffer]) -> u64
 }
 
 /// Whether all of them end in so many bytes.
-fn end_within(buffers: &[Buffer], len: usize) -> bool
+fn end_within(buffers: &[Span], len: usize) -> bool
     ensures { result ≡ list_all (λ b. nat_le (b.pointer + b.len) len) buffers.now }
 {
     buffers.iter().all(|buffer| buffer.pointer as usize + buffer.len as usize <= len)
 }
 
 /// Whether all of them lie in memory.
-fn are_inside(buffers: &[Buffer], memory: &Memory) -> bool
+fn are_inside(buffers: &[Span], memory: &Memory) -> bool
     ensures { result ≡ list_all (is_inside memory.now) (list_of buffers.now) }
 {
     end_within(buffers, memory.len())
 }
 
 /// Reads the buffers of the array of so many at an address.
-fn read_array(room: &mut [Buffer], memory: &Memory, iovs: u32, count: u32)
+fn read_array(room: &mut [Span], memory: &Memory, iovs: u32, count: u32)
     requires room { length room.old ≡ 1024 }
     requires few { count ≤ 1024 }
     requires inside { iovs + 8 * count ≤ length memory.now }
@@ -81,7 +81,7 @@ fn read_array(room: &mut [Buffer], memory: &Memory, iovs: u32, count: u32)
 
 /// Whether the buffers have few enough bytes and lie in memory.
 #[tactic(auto, using(crate::proofs::Yields::goes_on, crate::proofs::Yields::stops))]
-fn check_buffers(buffers: &[Buffer], memory: &Memory) -> Result<(), Errno>
+fn check_buffers(buffers: &[Span], memory: &Memory) -> Result<(), Errno>
     requires { length buffers.now ≤ 1024 }
     ensures fit { MatchResult result (λ _. fit memory.now (list_of buffers.now) ≡ Ok (list_of buffers.now))
         (λ e. fit memory.now (list_of buffers.now) ≡ Err e.0) }
@@ -125,7 +125,7 @@ impl Request {
 
     /// Reads the buffers into the room, where all of them and the place of the result lie in memory.
     #[tactic(auto, using(crate::proofs::Yields::goes_on, crate::proofs::Yields::stops))]
-    pub fn find_buffers(&self, room: &mut [Buffer], memory: &Memory) -> Result<(), Errno>
+    pub fn find_buffers(&self, room: &mut [Span], memory: &Memory) -> Result<(), Errno>
         requires { length room.old ≡ 1024 }
         ensures found { MatchResult result
             (λ _. usable memory.now self.now.iovs self.now.count self.now.result_at ≡ Ok (list_of (take self.now.count room.new)))
@@ -150,37 +150,10 @@ impl Request {
     }
 
     /// The buffers of the call, once they are in the room.
-    pub fn buffers_in<'a>(&self, room: &'a [Buffer]) -> &'a [Buffer]
+    pub fn buffers_in<'a>(&self, room: &'a [Span]) -> &'a [Span]
         requires { self.now.count ≤ length room.now }
         ensures { result.now ≡ take self.now.count room.now }
     {
         &room[..self.count as usize]
     }
-}
-
-/// Copies as many of the bytes as there is room for into the piece, from a place on, and says how many.
-fn append_some(piece: &mut [u8], place: usize, bytes: &[u8]) -> usize
-    requires { place ≤ length piece.old }
-    ensures count { result ≡ min (length bytes.now) (length piece.old - place) }
-    ensures bytes { take (place + result) piece.new ≡ take place piece.old ++ take result bytes.now }
-{
-    let count = bytes.len().min(piece.len() - place);
-    piece[place..place + count].copy_from_slice(&bytes[..count]);
-    count
-}
-
-/// Copies what stands in the buffers into the piece, as far as there is room, and says how many bytes that is.
-pub(crate) fn gather(piece: &mut [u8], memory: &Memory, buffers: &[Buffer]) -> usize
-    requires { list_all (is_inside memory.now) (list_of buffers.now) ≡ true }
-    ensures room { result ≤ length piece.old }
-    ensures bytes { take result piece.new ≡ take (length piece.old) (gathered memory.now (list_of buffers.now)) }
-{
-    let mut filled: usize = 0;
-    for buffer in buffers {
-        let Some(bytes) = memory.slice(buffer.pointer, buffer.len) else {
-            unreachable!()
-        };
-        filled += append_some(piece, filled, bytes);
-    }
-    filled
 }

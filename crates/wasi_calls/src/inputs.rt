@@ -9,10 +9,10 @@ ghost use Rattle.wasi_calls.specs.internal.Buffers.{list_of, AreUsable};
 ghost use Rattle.wasi_calls.specs.internal.Inputs.{Came, SomeCame, Dealt, SomeDealt, IsRead};
 
 use crate::checks::write_bytes;
-use crate::inner::Buffer;
 use crate::numbers::le32;
 use crate::streams::Input;
 use std::io::Read;
+use vol_tree::Span;
 use wasm_store::{Errno, Memory};
 
 /// A reader has failed.
@@ -111,7 +111,7 @@ fn fill_next<R: Read>(
     input: &mut Input<R>,
     piece: &mut [u8],
     memory: &mut Memory,
-    buffer: Buffer,
+    buffer: Span,
 ) -> Result<usize, ReaderFailed>
     requires room { 0 < length piece.old }
     requires inside { buffer.pointer + buffer.len ≤ length memory.old }
@@ -137,7 +137,7 @@ fn fill_buffers<R: Read>(
     input: &mut Input<R>,
     piece: &mut [u8],
     memory: &mut Memory,
-    buffers: &[Buffer],
+    buffers: &[Span],
 ) -> Result<usize, ReaderFailed>
     requires room { 0 < length piece.old }
     requires few { length buffers.now ≤ 1024 }
@@ -166,7 +166,7 @@ pub(crate) fn read_stream<R: Read>(
     input: &mut Input<R>,
     piece: &mut [u8],
     memory: &mut Memory,
-    buffers: &[Buffer],
+    buffers: &[Span],
     result_at: u32,
 ) -> Result<(), Errno>
     requires room { 0 < length piece.old }

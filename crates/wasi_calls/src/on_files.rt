@@ -65,17 +65,8 @@ impl<'s, 't, D: Device, R: Read, W1: Write, W2: Write> Inner<'s, 't, D, R, W1, W
             return Err(errno);
         }
         let buffers = request.buffers_in(self.buffers.as_slice());
-        let piece = self.piece.as_mut_slice();
         let volume = &mut self.volume;
-        writing::write_at(
-            volume,
-            piece,
-            memory,
-            &opened,
-            offset,
-            buffers,
-            request.result_at,
-        )
+        writing::write_at(volume, memory, &opened, offset, buffers, request.result_at)
     }
     /// `fd_read(fd, iovs, count, result)`.
     pub fn fd_read(&mut self, memory: &mut Memory, arguments: &[u64]) -> Result<(), Errno>
@@ -133,16 +124,7 @@ impl<'s, 't, D: Device, R: Read, W1: Write, W2: Write> Inner<'s, 't, D, R, W1, W
             }
             Descriptor::Entry(opened) => {
                 let (volume, descriptors) = (&mut self.volume, &mut self.descriptors);
-                let piece = self.piece.as_mut_slice();
-                writing::write_file(
-                    volume,
-                    descriptors,
-                    piece,
-                    memory,
-                    &opened,
-                    &request,
-                    buffers,
-                )
+                writing::write_file(volume, descriptors, memory, &opened, &request, buffers)
             }
         }
     }

@@ -11,10 +11,10 @@ ghost use Rattle.wasi_calls.specs.internal.Outputs.{AppendsSome};
 
 use crate::buffers::total_len;
 use crate::checks::write_bytes;
-use crate::inner::Buffer;
 use crate::numbers::le32;
 use crate::streams::Output;
 use std::io::Write;
+use vol_tree::Span;
 use wasm_store::{Errno, Memory};
 
 /// A writer has failed.
@@ -42,7 +42,7 @@ fn hand<W: Write>(writer: &mut W, bytes: &[u8]) -> Result<(), WriterFailed>
 fn hand_buffers<W: Write>(
     writer: &mut W,
     memory: &Memory,
-    buffers: &[Buffer],
+    buffers: &[Span],
 ) -> Result<(), WriterFailed>
     requires { list_all (is_inside memory.now) (list_of buffers.now) ≡ true }
     ensures all { OnOk result (Appends (W.contents writer.old) (W.contents writer.new) (gathered memory.now (list_of buffers.now))) }
@@ -63,7 +63,7 @@ fn hand_buffers<W: Write>(
 pub(crate) fn write_stream<W: Write>(
     output: &mut Output<W>,
     memory: &mut Memory,
-    buffers: &[Buffer],
+    buffers: &[Span],
     result_at: u32,
 ) -> Result<(), Errno>
     requires few { length buffers.now ≤ 1024 }

@@ -19,17 +19,16 @@ ghost use Rattle.wasi_calls.specs.internal.Reading.{cut, IsStretch, IsBegun, Buf
 use crate::buffers::{Request, total_len};
 use crate::checks::{Takes, entry_at, write_bytes};
 use crate::files::refused;
-use crate::inner::Buffer;
 use crate::numbers::le32;
 use crate::seeking::{move_to, size_of};
 use bitflags::Flags;
 use vol_sector::Device;
-use vol_tree::Volume;
+use vol_tree::{Span, Volume};
 use wasi_fd::{Descriptor, Descriptors, Opened, Rights};
 use wasm_store::{Errno, Memory};
 
 /// Cuts the buffers to so many bytes in all.
-pub(crate) fn cut_to(buffers: &mut [Buffer], len: u32)
+pub(crate) fn cut_to(buffers: &mut [Span], len: u32)
     ensures { list_of buffers.new ≡ cut len (list_of buffers.old) }
 {
     let mut left = len;
@@ -50,7 +49,7 @@ enum Stretch {
 }
 
 /// How far the places from one on are all in later buffers, or none of them is.
-fn stretch_from(at: usize, end: usize, later: &[Buffer]) -> Stretch
+fn stretch_from(at: usize, end: usize, later: &[Span]) -> Stretch
     requires { at < end }
     ensures { IsStretch at end (list_of later.now) result }
 {
@@ -103,7 +102,7 @@ fn fill_stretch<D: Device>(
     memory: &mut Memory,
     place: usize,
     end: usize,
-    later: &[Buffer],
+    later: &[Span],
 ) -> Result<usize, vol_tree::Errno>
     requires file { IsFileOf D.honest volume.old serial }
     requires works { volume.old.failed ≡ false }
@@ -135,8 +134,8 @@ fn fill_buffer<D: Device>(
     serial: u32,
     from: u64,
     memory: &mut Memory,
-    buffer: Buffer,
-    later: &[Buffer],
+    buffer: Span,
+    later: &[Span],
 ) -> Result<(), vol_tree::Errno>
     requires file { IsFileOf D.honest volume.old serial }
     requires works { volume.old.failed ≡ false }
@@ -169,7 +168,7 @@ fn fill_buffers<D: Device>(
     serial: u32,
     from: u64,
     memory: &mut Memory,
-    buffers: &[Buffer],
+    buffers: &[Span],
 ) -> Result<(), vol_tree::Errno>
     requires file { IsFileOf D.honest volume.old serial }
     requires works { volume.old.failed ≡ false }
@@ -212,7 +211,7 @@ pub(crate) fn read_at<D: Device>(
     serial: u32,
     from: u64,
     memory: &mut Memory,
-    buffers: &mut [Buffer],
+    buffers: &mut [Span],
 ) -> Result<u32, vol_tree::Errno>
     requires file { IsFileOf D.honest volume.old serial }
     requires few { length buffers.old ≤ 1024 }
@@ -260,7 +259,7 @@ pub(crate) fn read_placed<D: Device>(
     opened: &Opened<'_>,
     from: u64,
     request: &Request,
-    room: &mut [Buffer],
+    room: &mut [Span],
 ) -> Result<(), Errno>
     requires file { IsFileOf D.honest volume.old opened.now.serial }
     requires room { length room.old ≡ 1024 }
@@ -288,7 +287,7 @@ pub(crate) fn read_file<'t, D: Device>(
     memory: &mut Memory,
     opened: &Opened<'t>,
     request: &Request,
-    room: &mut [Buffer],
+    room: &mut [Span],
 ) -> Result<(), Errno>
     requires file { IsFileOf D.honest volume.old opened.now.serial }
     requires open { table_of descriptors.old request.now.fd ≡ Some (Descriptor.Entry opened.now) }

@@ -6,7 +6,7 @@ ghost use Rattle.wasi_calls.specs.internal.Serving.{errno_of};
 use crate::arguments::word;
 use crate::fault::HostFault;
 use crate::host::VolumeHost;
-use crate::inner::{Buffer, Inner};
+use crate::inner::Inner;
 use crate::linking;
 use crate::settings::Settings;
 use crate::streams::{Input, Output};
@@ -14,7 +14,7 @@ use std::alloc::Global;
 use std::io::{Read, Write};
 use std::marker::Model;
 use vol_sector::Device;
-use vol_tree::Volume;
+use vol_tree::{Span, Volume};
 use wasi_fd::Descriptors;
 use wasm_interp::Host;
 use wasm_module::FuncType;
@@ -95,7 +95,7 @@ impl<'s, 't, D: Device, R: Read + Drop, W1: Write + Drop, W2: Write + Drop> Wasi
                 fault: HostFault::Memory,
             });
         };
-        let Ok(buffers) = vec![in alloc; Buffer { pointer: 0, len: 0 }; MOST_BUFFERS] else {
+        let Ok(buffers) = vec![in alloc; Span { pointer: 0, len: 0 }; MOST_BUFFERS] else {
             return Err(RefusedHost {
                 parts,
                 fault: HostFault::Memory,

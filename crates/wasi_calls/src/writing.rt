@@ -17,69 +17,30 @@ ghost use Rattle.wasi_calls.specs.internal.Buffers.{list_of, pair_of, AreUsable}
 ghost use Rattle.wasi_calls.specs.internal.Writing.{placed, written_on, written_to};
 ghost use Rattle.wasi_calls.specs.internal.Seeking.{StandsFor};
 
-use crate::buffers::{Request, gather};
+use crate::buffers::{Request, total_len};
 use crate::checks::{Takes, entry_at, write_bytes};
 use crate::files::refused;
-use crate::inner::Buffer;
 use crate::numbers::le32;
 use crate::seeking::{move_to, size_of};
 use bitflags::Flags;
 use vol_sector::Device;
-use vol_tree::Volume;
+use vol_tree::{Source, Span, Volume};
 use wasi_fd::{Descriptor, Descriptors, Opened, Rights};
 use wasm_store::{Errno, Memory};
 
 /// How many bytes a call writes to a file at most.
-const MOST_WRITTEN: usize = 16_384;
+const MOST_WRITTEN: u64 = 16_384;
 
-/// The first bytes of a piece.
-fn first(piece: &[u8], len: usize) -> &[u8]
-    requires { len ≤ length piece.now }
-    ensures { result.now ≡ take len piece.now }
-{
-    &piece[..len]
-}
-
-/// The bytes of a buffer in memory, or the first of them that may be written at once.
-fn bytes_in<'m>(memory: &'m Memory, buffer: &Buffer) -> &'m [u8]
-    requires { is_inside memory.now (pair_of buffer.now) ≡ true }
-    ensures bytes { result.now ≡ take 16384 (part memory.now buffer.now.pointer buffer.now.len) }
-    ensures most { length result.now ≤ 16384 }
-{
-    let Some(bytes) = memory.slice(buffer.pointer, buffer.len) else {
-        unreachable!()
-    };
-    first(bytes, MOST_WRITTEN.min(bytes.len()))
-}
-
-/// The bytes in the buffers, or the first of them that may be written at once: those of one buffer where they stand,
-/// those of more in the piece.
-fn bytes_to_write<'m>(piece: &'m mut [u8], memory: &'m Memory, buffers: &[Buffer]) -> &'m [u8]
-    requires inside { list_all (is_inside memory.now) (list_of buffers.now) ≡ true }
-    requires room { length piece.old ≡ 16384 }
-    ensures bytes { result.now ≡ take 16384 (gathered memory.now (list_of buffers.now)) }
-    ensures most { length result.now ≤ 16384 }
-{
-    match buffers {
-        [only] => bytes_in(memory, only),
-        _ => {
-            let len = gather(piece, memory, buffers);
-            first(piece, len)
-        }
-    }
-}
-
-/// Writes what stands in the buffers to a file, as far as it fits in the piece, and says how many bytes that is.
+/// Writes what stands in the buffers to a file, or as much of it as is written at once, and says how many bytes that is.
 fn put_bytes<D: Device>(
     volume: &mut Volume<D>,
     serial: u32,
     at: u64,
-    piece: &mut [u8],
     memory: &Memory,
-    buffers: &[Buffer],
+    buffers: &[Span],
 ) -> Result<u32, vol_tree::Errno>
     requires file { IsFileOf D.honest volume.old serial }
-    requires room { length piece.old ≡ 16384 }
+    requires few { length buffers.now ≤ 1024 }
     requires inside { list_all (is_inside memory.now) (list_of buffers.now) ≡ true }
     ensures written { D.honest volume.old.device → IfOk result (λ n. (n ≡ length (take 16384 (gathered memory.now (list_of buffers.now))))
         × (tree_with (geometry volume.old.numbers) volume.old.tree serial at (take 16384 (gathered memory.now (list_of buffers.now))) ≡ Ok volume.new.tree)) }
@@ -90,9 +51,10 @@ fn put_bytes<D: Device>(
         (ReflectsOr (D.disk volume.old.device) volume.old.tree) }
     ensures kept { Keeps D.honest D.size D.failures volume.old volume.new (is_io result) }
 {
-    let bytes = bytes_to_write(piece, memory, buffers);
-    match volume.write(serial, at, bytes) {
-        Ok(()) => Ok(bytes.len() as u32),
+    let len = total_len(buffers).min(MOST_WRITTEN) as u32;
+    let bytes = Source::gather(memory.as_slice(), buffers, len as usize);
+    match volume.write_from(serial, at, &bytes) {
+        Ok(()) => Ok(len),
         Err(errno) => Err(errno),
     }
 }
@@ -110,21 +72,20 @@ pub(crate) fn file_to_write<'t>(descriptors: &Descriptors<'t>, fd: u32) -> Resul
 /// Writes what stands in the buffers to an open file at a place, and then how many bytes that is.
 pub(crate) fn write_at<D: Device>(
     volume: &mut Volume<D>,
-    piece: &mut [u8],
     memory: &mut Memory,
     opened: &Opened<'_>,
     at: u64,
-    buffers: &[Buffer],
+    buffers: &[Span],
     result_at: u32,
 ) -> Result<(), Errno>
     requires file { IsFileOf D.honest volume.old opened.now.serial }
-    requires room { length piece.old ≡ 16384 }
+    requires few { length buffers.now ≤ 1024 }
     requires usable { AreUsable memory.old (list_of buffers.now) result_at }
     ensures step { VolumeStep D.honest D.disk D.size D.failures volume.old volume.new }
     ensures answered { D.honest volume.old.device → (w : World) → w ≡ with_volume volume.old w
         → Answered (λ v. placed v opened.now at (gathered memory.old (list_of buffers.now)) result_at) w memory.old (with_volume volume.new w) memory.new (errno_of result) }
 {
-    match put_bytes(volume, opened.serial, at, piece, memory, buffers) {
+    match put_bytes(volume, opened.serial, at, memory, buffers) {
         Ok(len) => {
             write_bytes(memory, result_at, &le32(len));
             Ok(())
@@ -164,29 +125,21 @@ fn where_it_writes<'t, D: Device>(
 fn write_on<'t, D: Device>(
     volume: &mut Volume<D>,
     descriptors: &mut Descriptors<'t>,
-    piece: &mut [u8],
     memory: &mut Memory,
     opened: &Opened<'t>,
     request: &Request,
-    buffers: &[Buffer],
+    buffers: &[Span],
 ) -> Result<(), Errno>
     requires file { IsFileOf D.honest volume.old opened.now.serial }
     requires open { StandsFor (table_of descriptors.old) request.now.fd opened.now }
-    requires room { length piece.old ≡ 16384 }
+    requires few { length buffers.now ≤ 1024 }
     requires usable { AreUsable memory.old (list_of buffers.now) request.now.result_at }
     ensures step { VolumeStep D.honest D.disk D.size D.failures volume.old volume.new }
     ensures entries { NoMoreEntries (table_of descriptors.old) (table_of descriptors.new) }
     ensures answered { D.honest volume.old.device → (w : World) → w.table ≡ table_of descriptors.old → w ≡ with_volume volume.old w
         → Answered (λ v. written_on v request.now.fd opened.now (gathered memory.old (list_of buffers.now)) request.now.result_at) w memory.old (with_table (table_of descriptors.new) (with_volume volume.new w)) memory.new (errno_of result) }
 {
-    match put_bytes(
-        volume,
-        opened.serial,
-        opened.position,
-        piece,
-        memory,
-        buffers,
-    ) {
+    match put_bytes(volume, opened.serial, opened.position, memory, buffers) {
         Ok(len) => {
             if len > 0 {
                 let behind = opened.position.saturating_add(u64::from(len));
@@ -203,15 +156,14 @@ fn write_on<'t, D: Device>(
 pub(crate) fn write_file<'t, D: Device>(
     volume: &mut Volume<D>,
     descriptors: &mut Descriptors<'t>,
-    piece: &mut [u8],
     memory: &mut Memory,
     opened: &Opened<'t>,
     request: &Request,
-    buffers: &[Buffer],
+    buffers: &[Span],
 ) -> Result<(), Errno>
     requires file { IsFileOf D.honest volume.old opened.now.serial }
     requires open { table_of descriptors.old request.now.fd ≡ Some (Descriptor.Entry opened.now) }
-    requires room { length piece.old ≡ 16384 }
+    requires few { length buffers.now ≤ 1024 }
     requires usable { AreUsable memory.old (list_of buffers.now) request.now.result_at }
     ensures step { VolumeStep D.honest D.disk D.size D.failures volume.old volume.new }
     ensures entries { NoMoreEntries (table_of descriptors.old) (table_of descriptors.new) }
@@ -219,15 +171,7 @@ pub(crate) fn write_file<'t, D: Device>(
         → Answered (λ v. written_to v request.now.fd (Descriptor.Entry opened.now) (gathered memory.old (list_of buffers.now)) request.now.result_at) w memory.old (with_table (table_of descriptors.new) (with_volume volume.new w)) memory.new (errno_of result) }
 {
     match where_it_writes(volume, opened) {
-        Ok(standing) => write_on(
-            volume,
-            descriptors,
-            piece,
-            memory,
-            &standing,
-            request,
-            buffers,
-        ),
+        Ok(standing) => write_on(volume, descriptors, memory, &standing, request, buffers),
         Err(errno) => Err(refused(errno)),
     }
 }

@@ -1,13 +1,13 @@
 -- Buffers of a call, as the code has them.
 use Rattle.std.specs.Prelude.{◌≡◌, ℕ, ◌+◌, ◌^◌, ◌<◌, ◌≤◌, nat_lt, true, List, length, map, Ok}
 use Rattle.std.specs.List.{list_all}
-use Rattle.wasi_calls.specs.declared.inner.Buffer.{Buffer as BufferValue}
+use Rattle.vol_body.specs.declared.source.Span.{Span}
 use Rattle.wasi_calls.specs.Checks.{Checked, Buffer, ◌>>=◌, ◌>>◌, guard, buffers, range, total, is_inside}
 
-abbrev pub pair_of : BufferValue → Buffer
+abbrev pub pair_of : Span → Buffer
 pair_of b = (b.pointer, b.len)
 
-abbrev pub list_of : List BufferValue → List Buffer
+abbrev pub list_of : List Span → List Buffer
 list_of bs = map pair_of bs
 
 -- few enough bytes, all of them in memory

@@ -1,13 +1,13 @@
 use Rattle.std.proofs.Common.{◌≡◌, ◌⊎◌, take, inl, inr, sym, ◌∙◌, arith}
 use Rattle.std.proofs.lemmas.Bool.{false≢true}
-use Rattle.wasi_calls.specs.declared.inner.Buffer.{Buffer}
+use Rattle.vol_body.specs.declared.source.Span.{Span}
 use Rattle.wasi_calls.specs.Checks.{total}
 use Rattle.wasi_calls.specs.internal.Buffers.{list_of}
 use Rattle.wasi_calls.proofs.Arrays.{inside_at, total_more}
 use Rattle.wasi_calls.proofs.Incoming.{dealt_more, dealt_fails, ended_or, same_count, no_count}
 use Rattle.wasi_calls.proofs.inputs.fill_buffers.Goals as goal
 
-abbrev no_buffer : Buffer
+abbrev no_buffer : Span
 no_buffer = record { pointer = 0; len = 0 }
 
 pub fill_next-requires-clause-inside : goal.fill_next-requires-clause-inside

@@ -1,11 +1,11 @@
 use Rattle.std.proofs.Common.{arith}
-use Rattle.wasi_calls.specs.declared.inner.Buffer.{Buffer}
+use Rattle.vol_body.specs.declared.source.Span.{Span}
 use Rattle.wasi_calls.proofs.Overlaps.{covered_by}
 use Rattle.wasi_calls.proofs.reading.stretch_from.Goals as goal
 
 pub returns-then-at-behind : goal.returns-then-at-behind
 returns-then-at-behind c =
-    let d : Buffer = record { pointer = 0; len = 0 } in
+    let d : Span = record { pointer = 0; len = 0 } in
     record {
       some = omega (arith, c.min.ensures);
       within = omega (arith, c.min.ensures);

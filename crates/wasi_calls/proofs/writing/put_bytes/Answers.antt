@@ -1,21 +1,35 @@
-use Rattle.std.proofs.Common.{◌≡◌, ℕ, length, take, sym, ap, ◌∙◌, inl, inr}
+use Rattle.std.proofs.Common.{◌≡◌, ◌≤◌, ℕ, List, length, take, sym, ap, ◌∙◌, inl, inr, subst, arith}
+use Rattle.vol_body.specs.Source as source
 use Rattle.vol_tree.specs.Opened.{geometry}
 use Rattle.vol_tree.specs.Calls.{written}
+use Rattle.wasi_calls.specs.Checks.{gathered}
+use Rattle.wasi_calls.specs.internal.Buffers.{list_of}
+use Rattle.wasi_calls.proofs.Arrays.{source_inside, source_taken}
 use Rattle.wasi_calls.proofs.Written.{unit_gives, unit_refuses}
 use Rattle.wasi_calls.proofs.writing.put_bytes.Goals as goal
+
+pub gather-bytes-requires-clause-inside : goal.gather-bytes-requires-clause-inside
+gather-bytes-requires-clause-inside g c = subst (λ (m : List ℕ). source.AreInside m c.args.buffers.now) (sym c.as_slice.ensures) (source_inside c.args.memory.now c.args.buffers.now c.requires.inside)
+
+pub gather-bytes-requires-clause-enough : goal.gather-bytes-requires-clause-enough
+gather-bytes-requires-clause-enough g c =
+    let taken = source_taken c.args.memory.now c.args.buffers.now c.min-len.result c.requires.inside (omega (arith, c.min-len.ensures, c.total_len.ensures)) in
+    subst (λ (m : List ℕ). c.min-len.result ≤ length (source.gathered m c.args.buffers.now)) (sym c.as_slice.ensures) taken.0
 
 pub returns-in-Ok-clause-written : goal.returns-in-Ok-clause-written
 returns-in-Ok-clause-written g c = λ h.
     let old = c.args.volume.now in
-    let same = c.bytes_to_write-bytes.ensures.bytes in (
-      ap length same,
+    let taken = source_taken c.args.memory.now c.args.buffers.now c.min-len.result c.requires.inside (omega (arith, c.min-len.ensures, c.total_len.ensures)) in
+    let same = c.gather-bytes.ensures ∙ (ap (λ (m : List ℕ). take c.min-len.result (source.gathered m c.args.buffers.now)) c.as_slice.ensures ∙ taken.1) in (
+      taken.2,
       ap (written (geometry old.numbers) old.tree c.args.serial c.args.at) (sym same) ∙ unit_gives _ _ (c.in-Ok.ensures.answer h),
     )
 
 pub returns-in-Err-clause-refused : goal.returns-in-Err-clause-refused
 returns-in-Err-clause-refused g c = λ h.
     let old = c.args.volume.now in
-    let same = c.bytes_to_write-bytes.ensures.bytes in
+    let taken = source_taken c.args.memory.now c.args.buffers.now c.min-len.result c.requires.inside (omega (arith, c.min-len.ensures, c.total_len.ensures)) in
+    let same = c.gather-bytes.ensures ∙ (ap (λ (m : List ℕ). take c.min-len.result (source.gathered m c.args.buffers.now)) c.as_slice.ensures ∙ taken.1) in
     let (tree, meant) = c.in-Err.ensures.answer h in (
       tree,
       elim meant [

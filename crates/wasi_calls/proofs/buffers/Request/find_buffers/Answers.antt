@@ -1,5 +1,5 @@
 use Rattle.std.proofs.Common.{List, Ok, sym, ap, ◌∙◌, take}
-use Rattle.wasi_calls.specs.declared.inner.Buffer.{Buffer}
+use Rattle.vol_body.specs.declared.source.Span.{Span}
 use Rattle.wasi_calls.specs.internal.Buffers.{list_of, fit}
 use Rattle.wasi_calls.proofs.Yields.{goes_on, stops}
 use Rattle.wasi_calls.proofs.Arrays.{found_row}
@@ -11,7 +11,7 @@ returns-in-Err-check_buffers-clause-found c =
     let m = c.args.memory.now in
     let all = list_of (take q.count c.read_array.new.room) in
     found_row m q.iovs q.count q.result_at all c.in_default.ensures.meaning c.in_default-check_range.ensures.range c.read_array.ensures
-    ∙ stops _ _ _ (ap (λ (bs : List Buffer). fit m (list_of bs)) (sym c.buffers_in.ensures) ∙ c.in-Err-check_buffers.ensures.fit)
+    ∙ stops _ _ _ (ap (λ (bs : List Span). fit m (list_of bs)) (sym c.buffers_in.ensures) ∙ c.in-Err-check_buffers.ensures.fit)
 
 pub returns-in-Ok-clause-found : goal.returns-in-Ok-clause-found
 returns-in-Ok-clause-found c =
@@ -19,8 +19,8 @@ returns-in-Ok-clause-found c =
     let m = c.args.memory.now in
     let all = list_of (take q.count c.read_array.new.room) in
     found_row m q.iovs q.count q.result_at all c.in_default.ensures.meaning c.in_default-check_range.ensures.range c.read_array.ensures
-    ∙ (goes_on _ _ all (ap (λ (bs : List Buffer). fit m (list_of bs)) (sym c.buffers_in.ensures)
-    ∙ (c.in_default-check_buffers.ensures.fit ∙ ap (λ (bs : List Buffer). Ok (list_of bs)) c.buffers_in.ensures))
+    ∙ (goes_on _ _ all (ap (λ (bs : List Span). fit m (list_of bs)) (sym c.buffers_in.ensures)
+    ∙ (c.in_default-check_buffers.ensures.fit ∙ ap (λ (bs : List Span). Ok (list_of bs)) c.buffers_in.ensures))
     ∙ goes_on _ _ tt c.in-Ok.ensures.range)
 
 pub returns-in-Err-check_range-2-clause-found : goal.returns-in-Err-check_range-2-clause-found
@@ -29,6 +29,6 @@ returns-in-Err-check_range-2-clause-found c =
     let m = c.args.memory.now in
     let all = list_of (take q.count c.read_array.new.room) in
     found_row m q.iovs q.count q.result_at all c.in_default.ensures.meaning c.in_default-check_range.ensures.range c.read_array.ensures
-    ∙ (goes_on _ _ all (ap (λ (bs : List Buffer). fit m (list_of bs)) (sym c.buffers_in.ensures)
-    ∙ (c.in_default-check_buffers.ensures.fit ∙ ap (λ (bs : List Buffer). Ok (list_of bs)) c.buffers_in.ensures))
+    ∙ (goes_on _ _ all (ap (λ (bs : List Span). fit m (list_of bs)) (sym c.buffers_in.ensures)
+    ∙ (c.in_default-check_buffers.ensures.fit ∙ ap (λ (bs : List Span). Ok (list_of bs)) c.buffers_in.ensures))
     ∙ stops _ _ _ c.in-Err-check_range-2.ensures.range)

@@ -1,7 +1,7 @@
 use Rattle.std.proofs.Common.{◌≡◌, ◌+◌, ◌^◌, List, Ok, take, refl, sym, ap, ◌∙◌, subst}
 use Rattle.std.specs.Vec.{with_items}
 use Rattle.wasi_fd.specs.Table.{table_of}
-use Rattle.wasi_calls.specs.declared.inner.Buffer.{Buffer}
+use Rattle.vol_body.specs.declared.source.Span.{Span}
 use Rattle.wasi_calls.specs.World.{World}
 use Rattle.wasi_calls.specs.Checks.{Checked, Done, only_files}
 use Rattle.wasi_calls.specs.Files.{fd_pread}
@@ -63,7 +63,7 @@ pub read_placed-requires-clause-usable : goal.read_placed-requires-clause-usable
 read_placed-requires-clause-usable g c =
     let q = c.new-request.result in
     let whole : c.as_mut_slice-room.result.now ≡ c.find_buffers.new.room = c.as_mut_slice-room.ensures.value ∙ refilled _ c.find_buffers.new.room _ (c.find_buffers.auto.room ∙ c.as_mut_slice.ensures.len) in
-    subst (λ (bs : List Buffer). AreUsable c.args.memory.now (list_of (take q.count bs)) q.result_at) (sym whole) c.in_default.ensures.usable
+    subst (λ (bs : List Span). AreUsable c.args.memory.now (list_of (take q.count bs)) q.result_at) (sym whole) c.in_default.ensures.usable
 
 pub returns : goal.returns
 returns g c = λ used.
@@ -81,7 +81,7 @@ returns g c = λ used.
       buffers = with_items (with_items s.buffers c.find_buffers.new.room) c.read_placed.new.room;
     } in
     let whole : c.as_mut_slice-room.result.now ≡ c.find_buffers.new.room = c.as_mut_slice-room.ensures.value ∙ refilled _ c.find_buffers.new.room _ (c.find_buffers.auto.room ∙ c.as_mut_slice.ensures.len) in
-    let found : list_of (take q.count c.find_buffers.new.room) ≡ bs = ap (λ (bs : List Buffer). list_of (take q.count bs)) (sym whole) in
+    let found : list_of (take q.count c.find_buffers.new.room) ≡ bs = ap (λ (bs : List Span). list_of (take q.count bs)) (sym whole) in
     let same : (w : World) → w.table ≡ table_of s.descriptors → run w ≡ read_into w o offset bs q.result_at = λ w table.
     (λ i. fd_pread w m (sym asked.fd i) (sym asked.iovs i) (sym asked.count i) (sym c.long-offset.ensures i) (sym asked.result_at i))
     ∙ (goes_on _ _ o (c.in-Ok.ensures w table)

@@ -1,7 +1,7 @@
 use Rattle.std.proofs.Common.{◌≡◌, ◌+◌, ◌^◌, List, Ok, take, refl, sym, ap, ◌∙◌, subst}
 use Rattle.std.specs.Vec.{with_items}
 use Rattle.wasi_fd.specs.Table.{table_of}
-use Rattle.wasi_calls.specs.declared.inner.Buffer.{Buffer}
+use Rattle.vol_body.specs.declared.source.Span.{Span}
 use Rattle.wasi_calls.specs.World.{World}
 use Rattle.wasi_calls.specs.Checks.{Checked, Done, only_files, gathered}
 use Rattle.wasi_calls.specs.Files.{fd_pwrite}
@@ -62,7 +62,7 @@ write_at-requires-clause-file g c =
 pub write_at-requires-clause-usable : goal.write_at-requires-clause-usable
 write_at-requires-clause-usable g c =
     let q = c.new-request.result in
-    subst (λ (bs : List Buffer). AreUsable c.args.memory.now (list_of bs) q.result_at) (sym (c.buffers_in-buffers.ensures ∙ ap (λ (bs : List Buffer). take q.count bs) (c.as_slice.ensures.value ∙ refilled _ c.find_buffers.new.room _ (c.find_buffers.auto.room ∙ c.as_mut_slice.ensures.len))))
+    subst (λ (bs : List Span). AreUsable c.args.memory.now (list_of bs) q.result_at) (sym (c.buffers_in-buffers.ensures ∙ ap (λ (bs : List Span). take q.count bs) (c.as_slice.ensures.value ∙ refilled _ c.find_buffers.new.room _ (c.find_buffers.auto.room ∙ c.as_mut_slice.ensures.len))))
     c.in_default.ensures.usable
 
 pub returns : goal.returns
@@ -79,10 +79,9 @@ returns g c = λ used.
     let new = record s {
       volume = c.write_at.new.volume;
       buffers = with_items s.buffers c.find_buffers.new.room;
-      piece = with_items s.piece c.write_at.new.piece;
     } in
     let found : list_of (take q.count c.find_buffers.new.room) ≡ bs =
-    ap list_of (sym (c.buffers_in-buffers.ensures ∙ ap (λ (bs : List Buffer). take q.count bs) (c.as_slice.ensures.value ∙ refilled _ c.find_buffers.new.room _ (c.find_buffers.auto.room ∙ c.as_mut_slice.ensures.len)))) in
+    ap list_of (sym (c.buffers_in-buffers.ensures ∙ ap (λ (bs : List Span). take q.count bs) (c.as_slice.ensures.value ∙ refilled _ c.find_buffers.new.room _ (c.find_buffers.auto.room ∙ c.as_mut_slice.ensures.len)))) in
     let same : (w : World) → w.table ≡ table_of s.descriptors → run w ≡ placed w o offset (gathered m bs) q.result_at = λ w table.
     (λ i. fd_pwrite w m (sym asked.fd i) (sym asked.iovs i) (sym asked.count i) (sym c.long-offset.ensures i) (sym asked.result_at i))
     ∙ (goes_on _ _ o (c.in-Ok.ensures w table)

@@ -5,7 +5,7 @@ use Rattle.wasi_fd.specs.declared.descriptor.Stream.TheVariants.{Input, Output, 
 use Rattle.wasi_fd.specs.declared.descriptor.Descriptor.{Descriptor}
 use Rattle.wasi_fd.specs.declared.descriptor.Descriptor.TheVariants.{Stream, Entry}
 use Rattle.wasi_fd.specs.Table.{table_of}
-use Rattle.wasi_calls.specs.declared.inner.Buffer.{Buffer}
+use Rattle.vol_body.specs.declared.source.Span.{Span}
 use Rattle.wasi_calls.specs.World.{World}
 use Rattle.wasi_calls.specs.Checks.{Checked, Done, no_directories, of_kind, has}
 use Rattle.wasi_calls.specs.Files.{fd_read}
@@ -62,13 +62,13 @@ pub read_stream-requires-clause-usable : goal.read_stream-requires-clause-usable
 read_stream-requires-clause-usable g c =
     let q = c.new-request.result in
     let whole : c.as_slice.result.now ≡ c.find_buffers.new.room = c.as_slice.ensures.value ∙ refilled _ c.find_buffers.new.room _ (c.find_buffers.auto.room ∙ c.as_mut_slice.ensures.len) in
-    subst (λ (bs : List Buffer). AreUsable c.args.memory.now (list_of bs) q.result_at) (sym (c.buffers_in-buffers.ensures ∙ ap (λ (bs : List Buffer). take q.count bs) whole)) c.in_default.ensures.usable
+    subst (λ (bs : List Span). AreUsable c.args.memory.now (list_of bs) q.result_at) (sym (c.buffers_in-buffers.ensures ∙ ap (λ (bs : List Span). take q.count bs) whole)) c.in_default.ensures.usable
 
 pub read_file-requires-clause-usable : goal.read_file-requires-clause-usable
 read_file-requires-clause-usable g c =
     let q = c.new-request.result in
     let whole : c.as_mut_slice-room.result.now ≡ c.find_buffers.new.room = c.as_mut_slice-room.ensures.value ∙ refilled _ c.find_buffers.new.room _ (c.find_buffers.auto.room ∙ c.as_mut_slice.ensures.len) in
-    subst (λ (bs : List Buffer). AreUsable c.args.memory.now (list_of (take q.count bs)) q.result_at) (sym whole) c.in_default.ensures.usable
+    subst (λ (bs : List Span). AreUsable c.args.memory.now (list_of (take q.count bs)) q.result_at) (sym whole) c.in_default.ensures.usable
 
 pub read_file-requires-clause-open : goal.read_file-requires-clause-open
 read_file-requires-clause-open g c =
@@ -97,7 +97,7 @@ returns-in-Stream-Input g c = λ used.
     let is : c.in-Ok.target ≡ Stream Input = c.in-Stream-Input.is ∙ ap Stream one in
     let bs = list_of c.buffers_in-buffers.result.now in
     let whole : c.as_slice.result.now ≡ c.find_buffers.new.room = c.as_slice.ensures.value ∙ refilled _ c.find_buffers.new.room _ (c.find_buffers.auto.room ∙ c.as_mut_slice.ensures.len) in
-    let found : list_of (take q.count c.find_buffers.new.room) ≡ bs = ap list_of (sym (c.buffers_in-buffers.ensures ∙ ap (λ (bs : List Buffer). take q.count bs) whole)) in
+    let found : list_of (take q.count c.find_buffers.new.room) ≡ bs = ap list_of (sym (c.buffers_in-buffers.ensures ∙ ap (λ (bs : List Span). take q.count bs) whole)) in
     let same : (w : World) → w.table ≡ table_of s.descriptors → run w ≡ read_to w q.fd (Stream Input) bs q.result_at = λ w table.
     same_call w ∙ (goes_on _ _ c.in-Ok.target (c.in-Ok.ensures w table)
     ∙ (usable_row m q.iovs q.count q.result_at (λ bs. read_to w q.fd c.in-Ok.target bs q.result_at)
@@ -143,7 +143,7 @@ returns-in-Entry g c = λ used.
     let is : c.in-Ok.target ≡ Entry o = cc in
     let bs = list_of (take q.count c.as_mut_slice-room.result.now) in
     let whole : c.as_mut_slice-room.result.now ≡ c.find_buffers.new.room = c.as_mut_slice-room.ensures.value ∙ refilled _ c.find_buffers.new.room _ (c.find_buffers.auto.room ∙ c.as_mut_slice.ensures.len) in
-    let found : list_of (take q.count c.find_buffers.new.room) ≡ bs = ap (λ (bs : List Buffer). list_of (take q.count bs)) (sym whole) in
+    let found : list_of (take q.count c.find_buffers.new.room) ≡ bs = ap (λ (bs : List Span). list_of (take q.count bs)) (sym whole) in
     let same : (w : World) → w.table ≡ table_of s.descriptors → run w ≡ read_to w q.fd (Entry o) bs q.result_at = λ w table.
     same_call w ∙ (goes_on _ _ c.in-Ok.target (c.in-Ok.ensures w table)
     ∙ (usable_row m q.iovs q.count q.result_at (λ bs. read_to w q.fd c.in-Ok.target bs q.result_at)

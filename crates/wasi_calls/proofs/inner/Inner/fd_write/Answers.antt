@@ -5,7 +5,7 @@ use Rattle.wasi_fd.specs.declared.descriptor.Stream.TheVariants.{Input, Output, 
 use Rattle.wasi_fd.specs.declared.descriptor.Descriptor.{Descriptor}
 use Rattle.wasi_fd.specs.declared.descriptor.Descriptor.TheVariants.{Stream, Entry}
 use Rattle.wasi_fd.specs.Table.{table_of}
-use Rattle.wasi_calls.specs.declared.inner.Buffer.{Buffer}
+use Rattle.vol_body.specs.declared.source.Span.{Span}
 use Rattle.wasi_calls.specs.World.{World}
 use Rattle.wasi_calls.specs.Checks.{Checked, Done, no_directories, of_kind, has, gathered}
 use Rattle.wasi_calls.specs.Files.{fd_write}
@@ -60,17 +60,17 @@ returns-in-Err-find_buffers g c = λ used.
 
 pub write_stream-requires-clause-usable : goal.write_stream-requires-clause-usable
 write_stream-requires-clause-usable g c =
-    subst (λ (bs : List Buffer). AreUsable c.args.memory.now (list_of bs) c.new-request.result.result_at) (sym (c.buffers_in-buffers.ensures ∙ ap (λ (bs : List Buffer). take c.new-request.result.count bs) (c.as_slice.ensures.value ∙ refilled _ c.find_buffers.new.room _ (c.find_buffers.auto.room ∙ c.as_mut_slice.ensures.len))))
+    subst (λ (bs : List Span). AreUsable c.args.memory.now (list_of bs) c.new-request.result.result_at) (sym (c.buffers_in-buffers.ensures ∙ ap (λ (bs : List Span). take c.new-request.result.count bs) (c.as_slice.ensures.value ∙ refilled _ c.find_buffers.new.room _ (c.find_buffers.auto.room ∙ c.as_mut_slice.ensures.len))))
     c.in_default.ensures.usable
 
 pub write_stream-requires-in-Stream-Error-clause-usable : goal.write_stream-requires-in-Stream-Error-clause-usable
 write_stream-requires-in-Stream-Error-clause-usable g c =
-    subst (λ (bs : List Buffer). AreUsable c.args.memory.now (list_of bs) c.new-request.result.result_at) (sym (c.buffers_in-buffers.ensures ∙ ap (λ (bs : List Buffer). take c.new-request.result.count bs) (c.as_slice.ensures.value ∙ refilled _ c.find_buffers.new.room _ (c.find_buffers.auto.room ∙ c.as_mut_slice.ensures.len))))
+    subst (λ (bs : List Span). AreUsable c.args.memory.now (list_of bs) c.new-request.result.result_at) (sym (c.buffers_in-buffers.ensures ∙ ap (λ (bs : List Span). take c.new-request.result.count bs) (c.as_slice.ensures.value ∙ refilled _ c.find_buffers.new.room _ (c.find_buffers.auto.room ∙ c.as_mut_slice.ensures.len))))
     c.in_default.ensures.usable
 
 pub write_file-requires-clause-usable : goal.write_file-requires-clause-usable
 write_file-requires-clause-usable g c =
-    subst (λ (bs : List Buffer). AreUsable c.args.memory.now (list_of bs) c.new-request.result.result_at) (sym (c.buffers_in-buffers.ensures ∙ ap (λ (bs : List Buffer). take c.new-request.result.count bs) (c.as_slice.ensures.value ∙ refilled _ c.find_buffers.new.room _ (c.find_buffers.auto.room ∙ c.as_mut_slice.ensures.len))))
+    subst (λ (bs : List Span). AreUsable c.args.memory.now (list_of bs) c.new-request.result.result_at) (sym (c.buffers_in-buffers.ensures ∙ ap (λ (bs : List Span). take c.new-request.result.count bs) (c.as_slice.ensures.value ∙ refilled _ c.find_buffers.new.room _ (c.find_buffers.auto.room ∙ c.as_mut_slice.ensures.len))))
     c.in_default.ensures.usable
 
 pub write_file-requires-clause-open : goal.write_file-requires-clause-open
@@ -109,7 +109,7 @@ returns-in-Stream-Output g c = λ used.
     let is : c.in-Ok.target ≡ Stream Output = c.in-Stream-Output.is ∙ ap Stream one in
     let bs = list_of c.buffers_in-buffers.result.now in
     let found : list_of (take q.count c.find_buffers.new.room) ≡ bs =
-    ap list_of (sym (c.buffers_in-buffers.ensures ∙ ap (λ (bs : List Buffer). take q.count bs) (c.as_slice.ensures.value ∙ refilled _ c.find_buffers.new.room _ (c.find_buffers.auto.room ∙ c.as_mut_slice.ensures.len)))) in
+    ap list_of (sym (c.buffers_in-buffers.ensures ∙ ap (λ (bs : List Span). take q.count bs) (c.as_slice.ensures.value ∙ refilled _ c.find_buffers.new.room _ (c.find_buffers.auto.room ∙ c.as_mut_slice.ensures.len)))) in
     let same : (w : World) → w.table ≡ table_of s.descriptors → run w ≡ written_to w q.fd (Stream Output) (gathered m bs) q.result_at = λ w table.
     same_call w ∙ (goes_on _ _ c.in-Ok.target (c.in-Ok.ensures w table)
     ∙ (usable_row m q.iovs q.count q.result_at (λ bs. written_to w q.fd c.in-Ok.target (gathered m bs) q.result_at)
@@ -132,7 +132,7 @@ returns-in-Stream-Error g c = λ used.
     let is : c.in-Ok.target ≡ Stream Error = c.in-Stream-Error.is ∙ ap Stream one in
     let bs = list_of c.buffers_in-buffers.result.now in
     let found : list_of (take q.count c.find_buffers.new.room) ≡ bs =
-    ap list_of (sym (c.buffers_in-buffers.ensures ∙ ap (λ (bs : List Buffer). take q.count bs) (c.as_slice.ensures.value ∙ refilled _ c.find_buffers.new.room _ (c.find_buffers.auto.room ∙ c.as_mut_slice.ensures.len)))) in
+    ap list_of (sym (c.buffers_in-buffers.ensures ∙ ap (λ (bs : List Span). take q.count bs) (c.as_slice.ensures.value ∙ refilled _ c.find_buffers.new.room _ (c.find_buffers.auto.room ∙ c.as_mut_slice.ensures.len)))) in
     let same : (w : World) → w.table ≡ table_of s.descriptors → run w ≡ written_to w q.fd (Stream Error) (gathered m bs) q.result_at = λ w table.
     same_call w ∙ (goes_on _ _ c.in-Ok.target (c.in-Ok.ensures w table)
     ∙ (usable_row m q.iovs q.count q.result_at (λ bs. written_to w q.fd c.in-Ok.target (gathered m bs) q.result_at)
@@ -155,7 +155,7 @@ returns-in-Entry g c = λ used.
     let is : c.in-Ok.target ≡ Entry o = cc in
     let bs = list_of c.buffers_in-buffers.result.now in
     let found : list_of (take q.count c.find_buffers.new.room) ≡ bs =
-    ap list_of (sym (c.buffers_in-buffers.ensures ∙ ap (λ (bs : List Buffer). take q.count bs) (c.as_slice.ensures.value ∙ refilled _ c.find_buffers.new.room _ (c.find_buffers.auto.room ∙ c.as_mut_slice.ensures.len)))) in
+    ap list_of (sym (c.buffers_in-buffers.ensures ∙ ap (λ (bs : List Span). take q.count bs) (c.as_slice.ensures.value ∙ refilled _ c.find_buffers.new.room _ (c.find_buffers.auto.room ∙ c.as_mut_slice.ensures.len)))) in
     let same : (w : World) → w.table ≡ table_of s.descriptors → run w ≡ written_to w q.fd (Entry o) (gathered m bs) q.result_at = λ w table.
     same_call w ∙ (goes_on _ _ c.in-Ok.target (c.in-Ok.ensures w table)
     ∙ (usable_row m q.iovs q.count q.result_at (λ bs. written_to w q.fd c.in-Ok.target (gathered m bs) q.result_at)
@@ -164,7 +164,6 @@ returns-in-Entry g c = λ used.
       volume = c.write_file.new.volume;
       descriptors = c.write_file.new.descriptors;
       buffers = with_items s.buffers c.find_buffers.new.room;
-      piece = with_items s.piece c.write_file.new.piece;
     } in
     serves_roomy g.D.Device.honest g.D.Device.disk g.D.Device.size g.D.Device.failures g.R.Read.remaining g.W1.Write.contents g.W2.Write.contents
     run s new m c.write_file.new.memory (errno_of c.write_file.result) c.requires.set_up c.requires.set_up.buffers c.requires.set_up.piece refl
