@@ -78,7 +78,7 @@ adds_pointer a b content after e changed s n p image takes ready small stays set
       record { names = sym more.one; bytes = sym is ∙ sym (bytes_there after n takes.some) },
     )
 
--- by a number in a pointer block
+-- by a number in a pointer sector
 listed_more : (content after : Image) (e : Entry) (n m i : ℕ) (q p : BlockPosition) (image : List ℕ) → IsNaming content e → NamesOthers content e n → m ≢ 0 → ListsOneMore content after m i n → after n ≡ image → i < 128
     → ListedAt q i p → IsPosition p → named content e q ≡ m → IsBlank p image → named content e p ≡ 0 → NamesOneMore content after e e p n
 listed_more content after e n m i indirect_block (data_block j) image naming others some more is lt at there names blank none =
@@ -122,7 +122,7 @@ writes_over a content after e j n ready small lt is some from below stays =
       count = let kept = used_kept content after e e small refl names in omega arith;
     }
 
--- a pointer block that isn't touched stands as it did
+-- a pointer sector that isn't touched stands as it did
 pub mirror_stays : (content after : Image) (e changed : Entry) (p : BlockPosition) (number : ℕ) (image : List ℕ) → SamePlace content after e changed p → Mirrors content e p number image → Mirrors after changed p number image
 mirror_stays content after e changed p number image same mirror = record {
   names = mirror.names ∙ sym same.name;

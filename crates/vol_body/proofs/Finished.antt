@@ -5,7 +5,7 @@ use Rattle.vol_alloc.specs.Alloc.{first_of, end_of, taken_of, free_of}
 use Rattle.vol_alloc.specs.declared.sectors.Alloc.{Alloc}
 use Rattle.vol_inode.specs.declared.entry.Entry.{Entry}
 use Rattle.vol_inode.specs.Space.{need_of}
-use Rattle.vol_body.specs.declared.pointer_blocks.PointerBlocks.{PointerBlocks}
+use Rattle.vol_body.specs.declared.pointer_sectors.PointerSectors.{PointerSectors}
 use Rattle.vol_body.specs.Body.{BlockPosition, data_block, double_indirect_block, named, block_bytes, NamesTaken, IsBody, SameSectors, IsSameFile}
 use Rattle.vol_body.specs.Change.{used_of, OthersStay, TakesAndGives}
 use Rattle.vol_body.specs.internal.Writing.{Mirrors, MirrorsAll, IsReady, SameRange, Changes, HasBlocks, IsBlockIn, IsPointer, WriteLeaves, segment, segment_of, image_of}
@@ -32,7 +32,7 @@ ready_to_write a content e size body names longer small space =
 mirrors_by : (content : Image) (e f : Entry) (p : BlockPosition) (number : ℕ) (image : List ℕ) → f.pointers ≡ e.pointers → Mirrors content e p number image → Mirrors content f p number image
 mirrors_by content e f p number image same mirror = record { names = mirror.names ∙ sym (names_by_pointers content e f p same); bytes = mirror.bytes }
 
-pub mirrors_all_by : (content : Image) (e f : Entry) (all : PointerBlocks) (first last : ℕ) → f.pointers ≡ e.pointers → MirrorsAll content e all first last → MirrorsAll content f all first last
+pub mirrors_all_by : (content : Image) (e f : Entry) (all : PointerSectors) (first last : ℕ) → f.pointers ≡ e.pointers → MirrorsAll content e all first last → MirrorsAll content f all first last
 mirrors_all_by content e f all first last same mirrors = record {
   double_indirect_block = λ reaches. mirrors_by content e f double_indirect_block all.double_indirect_block.number all.double_indirect_block.image same (mirrors.double_indirect_block reaches);
   early = λ reaches. mirrors_by content e f (segment (segment_of first)) all.early.number all.early.image same (mirrors.early reaches);

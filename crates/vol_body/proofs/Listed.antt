@@ -1,4 +1,4 @@
--- The numbers of a pointer block.
+-- The numbers of a pointer sector.
 use Rattle.std.proofs.Common.{◌≡◌, ◌≢◌, inl, inr, ◌≤◌, ◌<◌, ◌+◌, ◌-◌, ◌*◌, ◌^◌, ℕ, List, ◌++◌, length, take, drop, set, replicate, get_or, refl, sym, ◌∙◌, ap, arith}
 use Rattle.std.proofs.lemmas.Bool.{cases_eq, cases_lt}
 use Rattle.std.proofs.lemmas.List.{append_assoc, drop_at, length-append, length-take-le, length-drop, get_or-take, get_or-drop, get_or_append_left, get_or-append_right, get_or-replicate, get_or_past, length-replicate, get_or-set_same, get_or-set_other}
@@ -37,7 +37,7 @@ number_of_bytes content n i = elim (cases_eq n 0) [
   | inr some ↦ number_there content n i some ∙ sym (ap (λ (bytes : List ℕ). little_number 4 (drop (4 * i) bytes)) (bytes_there content n some))
 ]
 
--- a new pointer block lists nothing
+-- a new pointer sector lists nothing
 pub none_in_zeros : (content : Image) (n i : ℕ) → content n ≡ replicate 512 0 → number_in content n i ≡ 0
 none_in_zeros content n i zeros = elim (cases_eq n 0) [
   | inl none ↦ ap (λ (m : ℕ). number_in content m i) none
@@ -87,7 +87,7 @@ number_not_written old i n k fits other =
     ]
     ∙ sym (get_or-drop (4 * k) old x 0))
 
--- a pointer block with one more number written into it
+-- a pointer sector with one more number written into it
 pub lists_one_more : (content after : Image) (m i n : ℕ) → length (content m) ≡ 512 → i < 128 → n < 2 ^ 32 → after m ≡ overwritten (content m) (4 * i) (little_bytes 4 n)
     → ((x : ℕ) → x ≢ n → x ≢ m → after x ≡ content x) → ListsOneMore content after m i n
 lists_one_more content after m i n long lt small is stays = record {

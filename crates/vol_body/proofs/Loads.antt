@@ -1,14 +1,14 @@
--- Pointer blocks read into memory.
+-- Pointer sectors read into memory.
 use Rattle.std.proofs.Common.{◌≡◌, ◌≢◌, ◌-◌, ◌*◌, ℕ, zero, suc, List, drop, refl, sym, ◌∙◌, ap, subst, arith, Result, Ok, Err, IfOk}
 use Rattle.byteorder.specs.Endian.{little_number}
 use Rattle.vol_sector.specs.Disk.{Image}
 use Rattle.vol_inode.specs.declared.entry.Entry.{Entry}
-use Rattle.vol_body.specs.declared.pointer_blocks.PointerBlock.{PointerBlock}
+use Rattle.vol_body.specs.declared.pointer_sectors.PointerSector.{PointerSector}
 use Rattle.vol_body.specs.Body.{BlockPosition, double_indirect_block, inner_block, named, block_bytes}
 use Rattle.vol_body.specs.internal.Writing.{Mirrors, segment}
 use Rattle.vol_body.proofs.Listed.{number_of_bytes}
 
-pub loaded : {E : Type 0} (content : Image) (e : Entry) (p : BlockPosition) (n : ℕ) (r : Result PointerBlock E) → n ≡ named content e p → IfOk r (λ s. s.number ≡ n) → IfOk r (λ s. s.image ≡ block_bytes content n)
+pub loaded : {E : Type 0} (content : Image) (e : Entry) (p : BlockPosition) (n : ℕ) (r : Result PointerSector E) → n ≡ named content e p → IfOk r (λ s. s.number ≡ n) → IfOk r (λ s. s.image ≡ block_bytes content n)
     → IfOk r (λ s. Mirrors content e p s.number s.image)
 loaded content e p n (Ok s) is number image = record { names = number ∙ is; bytes = image ∙ ap (block_bytes content) (sym number) }
 loaded content e p n (Err fault) is number image = image
@@ -17,7 +17,7 @@ pub segment_later : (g : ℕ) → g ≢ 0 → segment g ≡ inner_block (g - 1)
 segment_later zero some = absurd (some refl)
 segment_later (suc i) some = let is : i ≡ suc i - 1 = omega arith in ap inner_block is
 
--- the number of an inner block stands in the pointer block of pointer 59
+-- the number of an inner block stands in the pointer sector of pointer 59
 pub number_mirrored : (content : Image) (e : Entry) (i number : ℕ) (image : List ℕ) → Mirrors content e double_indirect_block number image → little_number 4 (drop (4 * i) image) ≡ named content e (inner_block i)
 number_mirrored content e i number image mirror =
     ap (λ (l : List ℕ). little_number 4 (drop (4 * i) l)) (mirror.bytes ∙ ap (block_bytes content) mirror.names)

@@ -52,11 +52,11 @@ quotient_below j lt = omega arith
 
 -- The entry names the new sector: its pointer is set, and no other sector is written.
 module _ (content after : Image) (e changed : Entry) (n : ℕ) (others : NamesOthers content e n) (stays : (x : ℕ) → x ≢ n → after x ≡ content x) where
-  -- a pointer block that stays
+  -- a pointer sector that stays
   numbers_stay : (h : BlockPosition) (i : ℕ) → IsPosition h → named after changed h ≡ named content e h → number_in after (named after changed h) i ≡ number_in content (named content e h) i
   numbers_stay h i there same = ap (λ (m : ℕ). number_in after m i) same ∙ same_number content after (named content e h) i (λ some. stays (named content e h) (others h there))
 
-  -- a new pointer block, of zeros
+  -- a new pointer sector, of zeros
   none_listed : (h : BlockPosition) (i : ℕ) → named after changed h ≡ n → named content e h ≡ 0 → after n ≡ replicate 512 0 → number_in after (named after changed h) i ≡ number_in content (named content e h) i
   none_listed h i one none zeros = ap (λ (m : ℕ). number_in after m i) one ∙ none_in_zeros after n i zeros ∙ sym (ap (λ (m : ℕ). number_in content m i) none)
 
@@ -103,7 +103,7 @@ module _ (content after : Image) (e changed : Entry) (n : ℕ) (others : NamesOt
       } in
       one_more content after e changed double_indirect_block n keeps sets.one sets.size parts_stay
 
--- A pointer block of the file, m, lists the new sector.
+-- A pointer sector of the file, m, lists the new sector.
 module _ (content after : Image) (e : Entry) (n m r : ℕ) (naming : IsNaming content e) (others : NamesOthers content e n) (some : m ≢ 0) (lists_it : ListsOneMore content after m r n) where
   -- other sectors of the file stay
   sector_stays : (h g : BlockPosition) → IsPosition h → IsPosition g → named content e h ≡ m → (g ≡ h → ⊥) → named content e g ≢ 0 → after (named content e g) ≡ content (named content e g)
@@ -258,7 +258,7 @@ module _ (content after : Image) (e changed : Entry) (p : BlockPosition) (n : �
       let one : named after changed (data_block (k / 512)) ≡ n = ap (named after changed) is ∙ more.one in
       ap (λ (x : ℕ). get_or (block_bytes after x) (k % 512) 0) one ∙ ap (λ (l : List ℕ). get_or l (k % 512) 0) (bytes_there after n some)
 
-  -- a pointer block more changes no byte
+  -- a pointer sector more changes no byte
   pub all_bytes_stay : ((j : ℕ) → data_block j ≡ p → ⊥) → (k : ℕ) → k < 8483840 → byte_at after changed k ≡ byte_at content e k
   all_bytes_stay not k lt = byte_stays k lt (not (k / 512))
 
@@ -383,13 +383,13 @@ names_by_pointers content e f indirect_block same = ap (λ (ps : List ℕ). name
 names_by_pointers content e f double_indirect_block same = ap (λ (ps : List ℕ). named content (record e { pointers = ps }) double_indirect_block) same
 names_by_pointers content e f (inner_block i) same = ap (λ (ps : List ℕ). named content (record e { pointers = ps }) (inner_block i)) same
 
--- The bytes of the other positions' sectors stay, those of pointer blocks too: where the new sector alone is written,
+-- The bytes of the other positions' sectors stay, those of pointer sectors too: where the new sector alone is written,
 pub places_stay : (content after : Image) (e changed : Entry) (p : BlockPosition) (n : ℕ) → NamesOneMore content after e changed p n → NamesOthers content e n → ((x : ℕ) → x ≢ n → after x ≡ content x)
     → (g : BlockPosition) → IsPosition g → (g ≡ p → ⊥) → block_bytes after (named after changed g) ≡ block_bytes content (named content e g)
 places_stay content after e changed p n more others stays g there not =
     ap (block_bytes after) (more.rest g there not) ∙ same_bytes content after (named content e g) (λ some. stays (named content e g) (others g there))
 
--- where a pointer block is written too, those of all but this one,
+-- where a pointer sector is written too, those of all but this one,
 pub places_stay_but : (content after : Image) (e changed : Entry) (p h : BlockPosition) (n m : ℕ) → NamesOneMore content after e changed p n → IsNaming content e → NamesOthers content e n → IsPosition h → named content e h ≡ m
     → ((x : ℕ) → x ≢ n → x ≢ m → after x ≡ content x) → (g : BlockPosition) → IsPosition g → (g ≡ p → ⊥) → (g ≡ h → ⊥) → block_bytes after (named after changed g) ≡ block_bytes content (named content e g)
 places_stay_but content after e changed p h n m more naming others h_there is stays g there not apart =

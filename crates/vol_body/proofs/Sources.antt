@@ -1,6 +1,6 @@
 -- Bytes in spans of a memory.
 use Rattle.std.proofs.Common.{◌≡◌, ◌≤◌, ◌<◌, ◌-◌, ◌+◌, ◌++◌, ℕ, zero, suc, List, [], ◌∷◌, length, take, drop, min, sym, refl, ◌∙◌, ap, arith, length-append, length-drop}
-use Rattle.std.proofs.lemmas.List.{take_all, take_at, take-take, drop_all, drop-drop, drop_at, drop-append-le, take-append-le, drop-take, drop_min, length-take-le}
+use Rattle.std.proofs.lemmas.List.{take_all, drop_all, drop-drop, drop_at, drop-append-le, take-append-le, drop-take, drop_min, length-take-le}
 use Rattle.vol_body.specs.declared.source.Span.{Span}
 use Rattle.vol_body.specs.Source.{gathered}
 

@@ -141,14 +141,14 @@ changes_wider a b content after e changed One Other inside changes = record {
   count = changes.count;
 }
 
--- a pointer block that lists data blocks
+-- a pointer sector that lists data blocks
 pub not_a_part : (q : BlockPosition) (i j k : ℕ) → ListedAt q i (data_block j) → q ≡ data_block k → ⊥
 not_a_part indirect_block i j k at is = cc
 not_a_part double_indirect_block i j k at is = at
 not_a_part (inner_block l) i j k at is = cc
 not_a_part (data_block l) i j k at is = at
 
--- the number of a data block stands in the pointer block that lists it
+-- the number of a data block stands in the pointer sector that lists it
 pub part_mirrored : (content : Image) (e : Entry) (q : BlockPosition) (i j number : ℕ) (image : List ℕ) → ListedAt q i (data_block j) → i < 128 → Mirrors content e q number image → little_number 4 (drop (4 * i) image) ≡ named content e (data_block j)
 part_mirrored content e q i j number image at lt mirror =
     ap (λ (l : List ℕ). little_number 4 (drop (4 * i) l)) (mirror.bytes ∙ ap (block_bytes content) mirror.names)
@@ -214,7 +214,7 @@ parts_more b c c1 c2 e1 e2 Touched from j image changes apart small so_far here 
 pub parts_shorter : (content : Image) (e : Entry) (from to j : ℕ) (image : ℕ → List ℕ) → to ≤ j → HasBlocks content e from j image → HasBlocks content e from to image
 parts_shorter content e from to j image le parts k from_k lt = parts k from_k (omega arith)
 
--- the pointer block of a segment lists its data blocks
+-- the pointer sector of a segment lists its data blocks
 pub segment_lists : (g start j : ℕ) → start ≡ 58 + 128 * g → start ≤ j → ListedAt (segment g) (j - start) (data_block j)
 segment_lists zero start j is le = omega arith
 segment_lists (suc k) start j is le = omega arith
@@ -258,7 +258,7 @@ blank_zeros (inner_block i) = refl
 pub held_zeros : (content : Image) (e : Entry) (p : BlockPosition) (number : ℕ) (image : List ℕ) → Mirrors content e p number image → number ≡ 0 → image ≡ replicate 512 0
 held_zeros content e p number image mirror none = mirror.bytes ∙ ap (block_bytes content) none
 
--- a pointer block is none of the data blocks, nor another one
+-- a pointer sector is none of the data blocks, nor another one
 pub segment_no_part : (from to g : ℕ) → IsBlockIn from to (segment g) → ⊥
 segment_no_part from to zero there = there
 segment_no_part from to (suc k) there = there

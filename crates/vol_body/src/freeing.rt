@@ -38,7 +38,7 @@ fn free_direct(sectors: &mut Alloc, entry: &Entry, from: u32)
     }
 }
 
-/// Frees the sectors whose numbers a pointer block has from one on.
+/// Frees the sectors whose numbers a pointer sector has from one on.
 fn free_listed(sectors: &mut Alloc, image: &[u8; 512], from: u32)
     ensures gives { Gives (taken_of sectors.old) (taken_of sectors.new)
         (StandsFrom (λ i. little_number 4 (drop (4 * i) image.now)) from 128) }
@@ -50,7 +50,7 @@ fn free_listed(sectors: &mut Alloc, image: &[u8; 512], from: u32)
     }
 }
 
-/// Frees the sectors that a pointer block names from one on, and the block itself where it keeps no
+/// Frees the sectors that a pointer sector names from one on, and the block itself where it keeps no
 /// number.
 fn free_indirect_block<D: Device>(
     log: &mut Log<D>,
@@ -82,7 +82,7 @@ fn free_indirect_block<D: Device>(
     Ok(())
 }
 
-/// The numbers of a pointer block, those of taken sectors; the others are 0.
+/// The numbers of a pointer sector, those of taken sectors; the others are 0.
 fn known_numbers(sectors: &Alloc, image: &[u8; 512]) -> [u32; 128]
     ensures { (i : ℕ) → i < 128 → let m = little_number 4 (drop (4 * i) image.now) in
         slice_index result i ≡ (if taken_of sectors.now m then m else 0) }

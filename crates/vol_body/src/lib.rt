@@ -6,7 +6,7 @@ mod freeing;
 mod growing;
 mod laws;
 mod locate;
-mod pointer_blocks;
+mod pointer_sectors;
 mod reading;
 mod resizing;
 mod shrinking;

@@ -20,7 +20,7 @@ pub const DIRECT: u32 = 58;
 /// How many data blocks are named by the entry and by the indirect block.
 pub const LISTED: u32 = 186;
 
-/// How many numbers a pointer block has.
+/// How many numbers a pointer sector has.
 pub const NUMBERS: u32 = 128;
 
 /// The number, if it is that of a taken sector, else 0. A device that isn't honest may give any.
@@ -30,7 +30,7 @@ pub fn taken_or_zero(sectors: &Alloc, n: u32) -> u32
     if sectors.is_taken(n) { n } else { 0 }
 }
 
-/// The `i`-th number of a pointer block.
+/// The `i`-th number of a pointer sector.
 pub fn number_at(image: &[u8; 512], i: u32) -> u32
     requires { i < 128 }
     ensures { result ≡ little_number 4 (drop (4 * i) image.now) }
@@ -38,7 +38,7 @@ pub fn number_at(image: &[u8; 512], i: u32) -> u32
     LittleEndian::read_u32(&image[4 * i as usize..])
 }
 
-/// The `i`-th number of a pointer block, where it is that of a taken sector. Sector 0 stands for
+/// The `i`-th number of a pointer sector, where it is that of a taken sector. Sector 0 stands for
 /// none.
 pub fn read_number<D: Device>(
     log: &mut Log<D>,

@@ -57,7 +57,7 @@ fn push_all(named: &mut Vec<u32>, numbers: &[u32], first: u32, end: u32) -> Resu
     Ok(())
 }
 
-/// The numbers of a pointer block.
+/// The numbers of a pointer sector.
 fn numbers_in(image: &[u8; 512]) -> [u32; 128]
     ensures { (i : ℕ) → i < 128
         → slice_index result i ≡ little_number 4 (drop (4 * i) image.now) }
@@ -84,7 +84,7 @@ fn none_from(numbers: &[u32; 128], from: u32) -> bool
     true
 }
 
-/// The numbers that a pointer block lists, zeros where there is no such sector. It is refused as
+/// The numbers that a pointer sector lists, zeros where there is no such sector. It is refused as
 /// `Damaged` where one from the place `from` on isn't 0.
 fn read_numbers<D: Device>(
     log: &mut Log<D>,
@@ -116,7 +116,7 @@ fn read_numbers<D: Device>(
     Ok(numbers)
 }
 
-/// Pushes the number of a pointer block and those that it lists. None may stand from the place
+/// Pushes the number of a pointer sector and those that it lists. None may stand from the place
 /// `from` on.
 fn survey_indirect_block<D: Device>(
     log: &mut Log<D>,
@@ -184,7 +184,7 @@ fn survey_inner_blocks<D: Device>(
     Ok(())
 }
 
-/// Pushes the number of the pointer block that lists the inner blocks, their numbers, and those
+/// Pushes the number of the pointer sector that lists the inner blocks, their numbers, and those
 /// that they list. None may stand for a data block from `count` on.
 fn survey_double_indirect_block<D: Device>(
     log: &mut Log<D>,
@@ -268,7 +268,7 @@ fn zeros_from(image: &[u8; 512], from: u32) -> bool
     true
 }
 
-/// The `i`-th number of a pointer block. Sector 0 stands for none.
+/// The `i`-th number of a pointer sector. Sector 0 stands for none.
 fn number_of<D: Device>(
     log: &mut Log<D>,
     indirect_block: u32,

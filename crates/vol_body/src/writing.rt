@@ -12,7 +12,7 @@ ghost use Rattle.vol_body.specs.Reading.{StagesAtMost};
 ghost use Rattle.vol_body.specs.internal.Writing.{WriteLeaves};
 
 use crate::locate::read_block;
-use crate::pointer_blocks::load_pointer_blocks;
+use crate::pointer_sectors::load_pointer_sectors;
 use crate::source::Source;
 use crate::writing_image::Piece;
 use crate::writing_spans::write_blocks;
@@ -105,7 +105,7 @@ fn write_some<D: Device>(
     let last = (end - 1) / 512;
     let before = read_edge(log, sectors, entry, offset, end, first)?;
     let behind = read_edge(log, sectors, entry, offset, end, last)?;
-    let mut all = load_pointer_blocks(log, sectors, entry, first, last)?;
+    let mut all = load_pointer_sectors(log, sectors, entry, first, last)?;
     let piece = Piece {
         offset: offset as usize,
         bytes,

@@ -11,7 +11,7 @@ ghost use Rattle.vol_body.specs.internal.Writing.{Mirrors, IsReady, IsMissing, C
 ghost use Rattle.vol_body.specs.internal.Writing.{SameRange, PointedAt, ListedAt, IsBlank, placed};
 
 use crate::locate::{number_at, taken_or_zero};
-use crate::pointer_blocks::{PointerBlock, with_number};
+use crate::pointer_sectors::{PointerSector, with_number};
 use vol_alloc::Alloc;
 use vol_inode::Entry;
 use vol_log::Log;
@@ -51,12 +51,12 @@ pub fn add_pointer<D: Device>(
     n
 }
 
-/// Takes a sector for the image, and lists it in a pointer block. It says its number, and 0 where
+/// Takes a sector for the image, and lists it in a pointer sector. It says its number, and 0 where
 /// none is free; then nothing changes.
 pub fn add_number<D: Device>(
     log: &mut Log<D>,
     sectors: &mut Alloc,
-    above: &mut PointerBlock,
+    above: &mut PointerSector,
     i: u32,
     image: &[u8; 512],
 ) -> u32
@@ -122,11 +122,11 @@ pub fn write_direct_block<D: Device>(
     }
 }
 
-/// Writes a data block that a pointer block lists. Where no sector is free for it nothing changes.
+/// Writes a data block that a pointer sector lists. Where no sector is free for it nothing changes.
 pub fn write_listed_block<D: Device>(
     log: &mut Log<D>,
     sectors: &mut Alloc,
-    above: &mut PointerBlock,
+    above: &mut PointerSector,
     i: u32,
     image: &[u8; 512],
 )

@@ -12,7 +12,7 @@ ghost use Rattle.vol_body.specs.internal.Writing.{OnlyPuts, SameRange, segment, 
 ghost use Rattle.vol_body.specs.internal.Writing.{MirrorsAll, KnowsAll, IsPointer, PointedAt};
 
 use crate::locate::{DIRECT, LISTED, NUMBERS};
-use crate::pointer_blocks::{PointerBlock, PointerBlocks};
+use crate::pointer_sectors::{PointerSector, PointerSectors};
 use crate::writing_blocks::{add_number, add_pointer, write_direct_block, write_listed_block};
 use crate::writing_image::{Piece, bytes_from, image_of_block};
 use vol_alloc::Alloc;
@@ -25,7 +25,7 @@ pub fn write_blocks<D: Device>(
     log: &mut Log<D>,
     sectors: &mut Alloc,
     entry: &mut Entry,
-    all: &mut PointerBlocks,
+    all: &mut PointerSectors,
     piece: &Piece<'_, '_>,
     first: u32,
     last: u32,
@@ -114,13 +114,13 @@ fn write_direct<D: Device>(
     }
 }
 
-/// Writes data blocks between two that the pointer block of the group lists.
+/// Writes data blocks between two that the pointer sector of the group lists.
 fn write_segment<D: Device>(
     log: &mut Log<D>,
     sectors: &mut Alloc,
     entry: &mut Entry,
-    all: &mut PointerBlock,
-    above: &mut PointerBlock,
+    all: &mut PointerSector,
+    above: &mut PointerSector,
     group: u32,
     piece: &Piece<'_, '_>,
     from: u32,
@@ -172,12 +172,12 @@ fn write_segment<D: Device>(
     }
 }
 
-/// Writes data blocks between two that one pointer block lists, which has the number of data block `start`
+/// Writes data blocks between two that one pointer sector lists, which has the number of data block `start`
 /// first.
 fn write_listed<D: Device>(
     log: &mut Log<D>,
     sectors: &mut Alloc,
-    above: &mut PointerBlock,
+    above: &mut PointerSector,
     start: u32,
     piece: &Piece<'_, '_>,
     from: u32,
@@ -214,13 +214,13 @@ fn write_listed<D: Device>(
     }
 }
 
-/// Makes the pointer block of a group, and the one that lists it, where there is none.
+/// Makes the pointer sector of a group, and the one that lists it, where there is none.
 fn open_segment<D: Device>(
     log: &mut Log<D>,
     sectors: &mut Alloc,
     entry: &mut Entry,
-    all: &mut PointerBlock,
-    above: &mut PointerBlock,
+    all: &mut PointerSector,
+    above: &mut PointerSector,
     group: u32,
 )
     requires place { group < 129 }
@@ -257,13 +257,13 @@ fn open_segment<D: Device>(
     }
 }
 
-/// Makes the pointer block that pointer 58 or 59 of the entry names, where there is none.
+/// Makes the pointer sector that pointer 58 or 59 of the entry names, where there is none.
 fn open_pointer<D: Device>(
     log: &mut Log<D>,
     sectors: &mut Alloc,
     entry: &mut Entry,
     slot: u32,
-    above: &mut PointerBlock,
+    above: &mut PointerSector,
 )
     requires pointer { slot < 60 }
     requires behind { 122 ≤ first_of sectors.old }

@@ -24,8 +24,8 @@ use crate::parts::Parts;
 use crate::{Errno, Stat, Stats};
 use std::alloc::Global;
 use std::marker::Model;
-use vol_inode::{Kind, Version};
 use vol_body::Source;
+use vol_inode::{Kind, Version};
 use vol_log::Log;
 use vol_sector::{Device, Refused, VolumeFault};
 

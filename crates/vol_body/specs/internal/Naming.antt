@@ -25,7 +25,7 @@ pub record SetsPointer (e changed : Entry) (s n : ℕ) : Type 0 where
   pub rest : (k : ℕ) → k < 60 → k ≢ s → slice_index changed.pointers k ≡ slice_index e.pointers k
   pub size : changed.size ≡ e.size
 
--- The i-th number of the pointer block m becomes n. Other sectors stay but for the sector n.
+-- The i-th number of the pointer sector m becomes n. Other sectors stay but for the sector n.
 pub record ListsOneMore (content after : Image) (m i n : ℕ) : Type 0 where
   pub one : little_number 4 (drop (4 * i) (after m)) ≡ n
   pub rest : (k : ℕ) → k < 128 → k ≢ i → little_number 4 (drop (4 * k) (after m)) ≡ little_number 4 (drop (4 * k) (content m))

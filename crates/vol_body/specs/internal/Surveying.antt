@@ -7,11 +7,11 @@ use Rattle.vol_inode.specs.Space.{sectors_of, lists_of}
 use Rattle.vol_body.specs.Body.{BlockPosition, data_block, IsPosition, first_served, named, number_in, block_bytes}
 use Rattle.vol_body.specs.Survey.{nonzero, AreInside}
 
--- the numbers that a pointer block lists
+-- the numbers that a pointer sector lists
 unfoldable pub listed : Image → ℕ → List ℕ
 listed content n = map (number_in content n) (range_with_len 0 128)
 
--- the number of a pointer block, and those that it lists
+-- the number of a pointer sector, and those that it lists
 abbrev pub with_listed : Image → ℕ → List ℕ
 with_listed content n = n ∷ listed content n
 
@@ -28,15 +28,15 @@ pub record Pushes (first end : ℕ) (old new numbers : List ℕ) : Type 0 where
 abbrev pub Overflows : ℕ → ℕ → List ℕ → List ℕ → Type 0
 Overflows first end old numbers = AreInside first end (old ++ nonzero numbers) → ⊥
 
--- a pointer block lists none from one position on
+-- a pointer sector lists none from one position on
 abbrev pub ListsNoneFrom : Image → ℕ → ℕ → Type 0
 ListsNoneFrom content n from = (i : ℕ) → from ≤ i → i < 128 → number_in content n i ≡ 0
 
--- the same of these pointer blocks, which list the data blocks from 186 on
+-- the same of these pointer sectors, which list the data blocks from 186 on
 abbrev pub LaterListNone : Image → List ℕ → ℕ → Type 0
 LaterListNone content numbers count = (i : ℕ) → i < 128 → ListsNoneFrom content (slice_index numbers i) (count - (186 + 128 * i))
 
--- the pointer block of pointer 59 lists no inner block for data blocks from a number on, and neither do these
+-- the pointer sector of pointer 59 lists no inner block for data blocks from a number on, and neither do these
 pub record LaterNone (content : Image) (double_indirect_block count : ℕ) : Type 0 where
   pub own : ListsNoneFrom content double_indirect_block (lists_of (count - 186))
   pub later : LaterListNone content (listed content double_indirect_block) count

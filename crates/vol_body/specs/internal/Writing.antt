@@ -1,4 +1,4 @@
--- Steps of a write: what changes of a file, and how its pointer blocks stand in memory.
+-- Steps of a write: what changes of a file, and how its pointer sectors stand in memory.
 use Rattle.std.specs.Prelude.{◌≡◌, ◌≢◌, ◌≤◌, ◌<◌, ◌+◌, ◌-◌, ◌*◌, ◌/◌, ◌==◌, ◌++◌, ℕ, zero, suc, true, List, length, take, drop, replicate, nat_lt, min, max, if◌then◌else◌}
 use Rattle.vol_sector.specs.Disk.{Image}
 use Rattle.vol_sector.specs.declared.device.Device.{Ghosts}
@@ -8,12 +8,12 @@ use Rattle.vol_alloc.specs.Alloc.{first_of, end_of, taken_of, free_of}
 use Rattle.vol_alloc.specs.declared.sectors.Alloc.{Alloc}
 use Rattle.vol_inode.specs.declared.entry.Entry.{Entry}
 use Rattle.vol_inode.specs.Space.{sectors_of, need_of}
-use Rattle.vol_body.specs.declared.pointer_blocks.PointerBlocks.{PointerBlocks}
+use Rattle.vol_body.specs.declared.pointer_sectors.PointerSectors.{PointerSectors}
 use Rattle.vol_body.specs.Body.{BlockPosition, data_block, indirect_block, double_indirect_block, inner_block, IsPosition, first_served, named, block_bytes, bytes_of, NamesTaken, IsBody}
 use Rattle.vol_body.specs.Change.{written, used_of, OthersStay, TakesAndGives}
 use Rattle.vol_body.specs.internal.Naming.{IsNaming}
 
--- the position of the pointer block that lists the 128 data blocks from 58 + 128 * g on
+-- the position of the pointer sector that lists the 128 data blocks from 58 + 128 * g on
 abbrev pub segment : ℕ → BlockPosition
 segment zero = indirect_block
 segment (suc i) = inner_block i
@@ -25,14 +25,14 @@ PointedAt s indirect_block = s ≡ 58
 PointedAt s double_indirect_block = s ≡ 59
 PointedAt s (inner_block i) = ⊥
 
--- the pointer block of the first position has the number of the second one at i
+-- the pointer sector of the first position has the number of the second one at i
 abbrev pub ListedAt : BlockPosition → ℕ → BlockPosition → Type 0
 ListedAt indirect_block i (data_block j) = 58 + i ≡ j
 ListedAt (inner_block k) i (data_block j) = 186 + 128 * k + i ≡ j
 ListedAt double_indirect_block i (inner_block k) = i ≡ k
 ListedAt p i q = ⊥
 
--- a new pointer block lists nothing
+-- a new pointer sector lists nothing
 abbrev pub IsBlank : BlockPosition → List ℕ → Type 0
 IsBlank (data_block j) image = Unit {0}
 IsBlank indirect_block image = image ≡ replicate 512 0
@@ -111,7 +111,7 @@ image_of offset bytes first last j =
     let to = min (offset + length bytes) (512 * j + 512) in
     take (from - 512 * j) old ++ take (to - from) (drop (from - offset) bytes) ++ drop (to - 512 * j) old
 
--- the position is that of a pointer block
+-- the position is that of a pointer sector
 abbrev pub IsPointer : BlockPosition → Type 0
 IsPointer (data_block j) = ⊥
 IsPointer indirect_block = Unit {0}
@@ -122,14 +122,14 @@ IsPointer (inner_block i) = Unit {0}
 abbrev pub segment_of : ℕ → ℕ
 segment_of first = (first - 58) / 128
 
--- the pointer blocks that a write of the data blocks from one to another uses, in memory
-pub record MirrorsAll (content : Image) (e : Entry) (all : PointerBlocks) (first last : ℕ) : Type 0 where
+-- the pointer sectors that a write of the data blocks from one to another uses, in memory
+pub record MirrorsAll (content : Image) (e : Entry) (all : PointerSectors) (first last : ℕ) : Type 0 where
   pub double_indirect_block : 186 ≤ last → Mirrors content e double_indirect_block all.double_indirect_block.number all.double_indirect_block.image
   pub early : 58 + 128 * segment_of first ≤ last → Mirrors content e (segment (segment_of first)) all.early.number all.early.image
   pub late : 186 + 128 * segment_of first ≤ last → Mirrors content e (segment (segment_of first + 1)) all.late.number all.late.image
 
 -- those that are there are taken
-pub record KnowsAll (a : Alloc) (all : PointerBlocks) : Type 0 where
+pub record KnowsAll (a : Alloc) (all : PointerSectors) : Type 0 where
   pub double_indirect_block : all.double_indirect_block.number ≢ 0 → taken_of a all.double_indirect_block.number ≡ true
   pub early : all.early.number ≢ 0 → taken_of a all.early.number ≡ true
   pub late : all.late.number ≢ 0 → taken_of a all.late.number ≡ true

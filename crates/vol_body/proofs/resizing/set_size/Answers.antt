@@ -1,5 +1,4 @@
-use Rattle.std.proofs.Common.{◌∙◌, Result, Ok, Err, OnOk, sym, ap, subst, arith}
-use Rattle.std.proofs.lemmas.Result.{on_ok_weaker}
+use Rattle.std.proofs.Common.{◌∙◌, sym, ap, subst, arith}
 use Rattle.vol_sector.specs.Disk.{Image, put}
 use Rattle.vol_log.specs.Log.{view}
 use Rattle.vol_alloc.specs.Alloc.{first_of, end_of, taken_of}
@@ -11,7 +10,7 @@ use Rattle.vol_body.specs.Change.{OthersStay, TakesAndGives}
 use Rattle.vol_body.proofs.Parts.{length-bytes_of}
 use Rattle.vol_body.proofs.Cuts.{put_there}
 use Rattle.vol_body.proofs.Grown.{grown_others, grown_taken, grown_resized, slot_is_other}
-use Rattle.vol_body.proofs.Rights.{right_file, all_three, both, four}
+use Rattle.vol_body.proofs.Rights.{right_file, both, four}
 use Rattle.vol_body.proofs.resizing.set_size.Goals as goal
 
 pub returns-clause-entry : goal.returns-clause-entry

@@ -1,5 +1,5 @@
-use Rattle.std.proofs.Common.{◌≡◌, ◌∙◌, ◌-◌, ◌+◌, ◌++◌, ◌<◌, ◌≤◌, ℕ, List, [], length, take, drop, min, sym, refl, ap, subst, arith}
-use Rattle.std.proofs.lemmas.List.{length-drop, drop-append-le, take-append-le, take_all}
+use Rattle.std.proofs.Common.{◌≡◌, ◌∙◌, ◌-◌, ◌+◌, ◌++◌, ◌<◌, ◌≤◌, ℕ, List, length, take, drop, sym, ap, subst, arith}
+use Rattle.std.proofs.lemmas.List.{length-drop, drop-append-le, take-append-le}
 use Rattle.vol_body.specs.declared.source.Span.{Span}
 use Rattle.vol_body.specs.Source.{gathered, AreInside}
 use Rattle.vol_body.proofs.Sources.{tail_of, more_spans, filled_bytes, filled_rest}

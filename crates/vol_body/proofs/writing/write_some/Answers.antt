@@ -21,9 +21,9 @@ returns-in_err-behind-clause-refused g c =
 pub returns-in_err-all-clause-steps : goal.returns-in_err-all-clause-steps
 returns-in_err-all-clause-steps g c =
     let edges = reads_then c.args.log.now c.read_edge.new.log c.read_edge-2.new.log c.in_ok-before.ensures.failed c.in_ok-before.ensures.reads c.in_ok-behind.ensures.reads in
-    let reads = reads_then c.args.log.now c.read_edge-2.new.log c.load_pointer_blocks.new.log c.in_ok-behind.ensures.failed edges c.in_err-all.ensures.reads in
+    let reads = reads_then c.args.log.now c.read_edge-2.new.log c.load_pointer_sectors.new.log c.in_ok-behind.ensures.failed edges c.in_err-all.ensures.reads in
     record {
-      room = let same : room_of c.load_pointer_blocks.new.log ≡ room_of c.args.log.now = ap (λ l. 120 - length l) reads.staged in omega (arith, same);
+      room = let same : room_of c.load_pointer_sectors.new.log ≡ room_of c.args.log.now = ap (λ l. 120 - length l) reads.staged in omega (arith, same);
       log = record { seen = reads.seen; crash = reads.crash; sectors = reads.sectors; honest = reads.honest; size = reads.size; failures = reads.failures };
       failed = search rules;
       range = (refl, refl);
@@ -33,7 +33,7 @@ pub returns-in_err-all-clause-refused : goal.returns-in_err-all-clause-refused
 returns-in_err-all-clause-refused g c =
     let edges = reads_then c.args.log.now c.read_edge.new.log c.read_edge-2.new.log c.in_ok-before.ensures.failed c.in_ok-before.ensures.reads c.in_ok-behind.ensures.reads in
     on_err c.from_residual-in_err-all.result
-    (reads_then c.args.log.now c.read_edge-2.new.log c.load_pointer_blocks.new.log c.in_ok-behind.ensures.failed edges c.in_err-all.ensures.reads, refl, refl)
+    (reads_then c.args.log.now c.read_edge-2.new.log c.load_pointer_sectors.new.log c.in_ok-behind.ensures.failed edges c.in_err-all.ensures.reads, refl, refl)
 
 pub returns-clause-entry : goal.returns-clause-entry
 returns-clause-entry g c = record {
@@ -44,13 +44,13 @@ returns-clause-entry g c = record {
 pub returns-clause-steps : goal.returns-clause-steps
 returns-clause-steps g c =
     let edges = reads_then c.args.log.now c.read_edge.new.log c.read_edge-2.new.log c.in_ok-before.ensures.failed c.in_ok-before.ensures.reads c.in_ok-behind.ensures.reads in
-    let reads = reads_then c.args.log.now c.read_edge-2.new.log c.load_pointer_blocks.new.log c.in_ok-behind.ensures.failed edges c.in_ok-all.ensures.reads in
-    let same : room_of c.load_pointer_blocks.new.log ≡ room_of c.args.log.now = ap (λ l. 120 - length l) reads.staged in
+    let reads = reads_then c.args.log.now c.read_edge-2.new.log c.load_pointer_sectors.new.log c.in_ok-behind.ensures.failed edges c.in_ok-all.ensures.reads in
+    let same : room_of c.load_pointer_sectors.new.log ≡ room_of c.args.log.now = ap (λ l. 120 - length l) reads.staged in
     let last = room_left (is_staged c.write_blocks.new.log c.args.inode_sector) (room_of c.write_blocks.new.log) (room_of c.stage.new.self) c.stage.ensures.room in
     let puts = c.write_blocks.ensures.puts in
     record {
       room = omega (arith, same, last, c.write_blocks.ensures.room);
-      log = stages_then c.args.log.now c.load_pointer_blocks.new.log c.stage.new.self reads c.in_ok-all.ensures.failed
+      log = stages_then c.args.log.now c.load_pointer_sectors.new.log c.stage.new.self reads c.in_ok-all.ensures.failed
           (c.stage.ensures.device ∙ puts.device) (c.stage.ensures.sectors ∙ puts.sectors) c.stage.ensures.failed;
       failed = c.stage.ensures.failed;
       range = (c.write_blocks.ensures.range.first, c.write_blocks.ensures.range.end);
@@ -72,7 +72,7 @@ returns-clause-done g c h names body space =
     let longer : Entry = record e { size = size } in
     let changed = c.write_blocks.new.entry in
     let between = view c.write_blocks.new.log in
-    let start = view c.load_pointer_blocks.new.log in
+    let start = view c.load_pointer_sectors.new.log in
     let all = c.in_ok-all.all in
     let one : view c.read_edge.new.log ≡ content = c.in_ok-before.ensures.reads.view h in
     let h1 = c.in_ok-before.ensures.reads.honest.0 h in

@@ -13,7 +13,7 @@ returns-clause-puts g c =
     puts_then c.args.log.now c.write_segment.new.log c.write_segment-2.new.log
     (puts_then c.args.log.now c.write_direct.new.log c.write_segment.new.log c.write_direct.ensures.puts c.write_segment.ensures.puts) c.write_segment-2.ensures.puts
 
--- what each data block of a write touches is a data block or a pointer block
+-- what each data block of a write touches is a data block or a pointer sector
 span_touched : (from to first last s : ℕ) (p : BlockPosition) → first ≤ from → to ≤ last + 1 → IsBlockIn from to p ⊎ ((p ≡ segment s) ⊎ (p ≡ double_indirect_block)) → IsBlockIn first (last + 1) p ⊎ IsPointer p
 span_touched from to first last s p starts ends (inl there) = inl (part_in_span from to first last p starts ends there)
 span_touched from to first last s p starts ends (inr (inl is)) = inr (segment_is_pointer s p is)
@@ -25,7 +25,7 @@ part_apart from to s j lt (inl there) = omega (arith, there.0)
 part_apart from to s j lt (inr (inl is)) = segment_other s j (sym is)
 part_apart from to s j lt (inr (inr is)) = cc
 
--- nor is the next pointer block
+-- nor is the next pointer sector
 next_apart : (from to s : ℕ) → IsBlockIn from to (segment (s + 1)) ⊎ ((segment (s + 1) ≡ segment s) ⊎ (segment (s + 1) ≡ double_indirect_block)) → ⊥
 next_apart from to s (inl there) = segment_no_part from to (s + 1) there
 next_apart from to s (inr (inl is)) = segments_differ s is

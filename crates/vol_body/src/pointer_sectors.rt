@@ -1,4 +1,4 @@
-//! The pointer blocks of a file, in memory.
+//! The pointer sectors of a file, in memory.
 
 ghost use Rattle.std.specs.Prelude.{◌≡◌, ◌≢◌, ◌≤◌, ◌<◌, ◌+◌, ◌*◌, ◌^◌, ℕ, true, false, drop, IfOk, is_err};
 ghost use Rattle.std.specs.Prelude.{if◌then◌else◌};
@@ -16,26 +16,26 @@ use vol_inode::Entry;
 use vol_log::Log;
 use vol_sector::{Device, DeviceFault};
 
-/// A pointer block: its number, and its bytes. Where the file has none the number is 0, and the
+/// A pointer sector: its number, and its bytes. Where the file has none the number is 0, and the
 /// bytes are zeros.
 #[derive(Drop)]
-pub struct PointerBlock {
+pub struct PointerSector {
     pub number: u32,
     pub image: [u8; 512],
 }
 
-/// The pointer blocks that a write uses.
+/// The pointer sectors that a write uses.
 #[derive(Drop)]
-pub struct PointerBlocks {
+pub struct PointerSectors {
     /// The one that pointer 59 names.
-    pub double_indirect_block: PointerBlock,
+    pub double_indirect_block: PointerSector,
     /// The one that lists the first data block past the first 58 that is written.
-    pub early: PointerBlock,
+    pub early: PointerSector,
     /// The one that lists the 128 data blocks behind those of `early`.
-    pub late: PointerBlock,
+    pub late: PointerSector,
 }
 
-/// The pointer block with another `i`-th number.
+/// The pointer sector with another `i`-th number.
 pub fn with_number(image: &[u8; 512], i: u32, n: u32) -> [u8; 512]
     requires { i < 128 }
     ensures one { little_number 4 (drop (4 * i) result) ≡ n }
@@ -47,14 +47,14 @@ pub fn with_number(image: &[u8; 512], i: u32, n: u32) -> [u8; 512]
     image
 }
 
-/// Reads the pointer blocks that a write of the data blocks from `first` to `last` uses.
-pub fn load_pointer_blocks<D: Device>(
+/// Reads the pointer sectors that a write of the data blocks from `first` to `last` uses.
+pub fn load_pointer_sectors<D: Device>(
     log: &mut Log<D>,
     sectors: &Alloc,
     entry: &Entry,
     first: u32,
     last: u32,
-) -> Result<PointerBlocks, DeviceFault>
+) -> Result<PointerSectors, DeviceFault>
     requires some { first ≤ last }
     requires small { last < 16570 }
     requires there { end_of sectors.now ≤ sectors_of log.old }
@@ -70,19 +70,19 @@ pub fn load_pointer_blocks<D: Device>(
     let double_indirect_block = load_top(log, sectors, entry, last)?;
     let early = load_segment(log, sectors, entry, &double_indirect_block, group, last)?;
     let late = load_segment(log, sectors, entry, &double_indirect_block, group + 1, last)?;
-    Ok(PointerBlocks {
+    Ok(PointerSectors {
         double_indirect_block,
         early,
         late,
     })
 }
 
-/// Reads a pointer block.
+/// Reads a pointer sector.
 fn load<D: Device>(
     log: &mut Log<D>,
     sectors: &Alloc,
     number: u32,
-) -> Result<PointerBlock, DeviceFault>
+) -> Result<PointerSector, DeviceFault>
     requires taken { number ≢ 0 → taken_of sectors.now number ≡ true }
     requires there { end_of sectors.now ≤ sectors_of log.old }
     requires working { has_failed log.old ≡ false }
@@ -98,16 +98,16 @@ fn load<D: Device>(
     } else {
         log.read(number)?
     };
-    Ok(PointerBlock { number, image })
+    Ok(PointerSector { number, image })
 }
 
-/// Reads the pointer block of pointer 59, if the write reaches the data blocks that it serves.
+/// Reads the pointer sector of pointer 59, if the write reaches the data blocks that it serves.
 fn load_top<D: Device>(
     log: &mut Log<D>,
     sectors: &Alloc,
     entry: &Entry,
     last: u32,
-) -> Result<PointerBlock, DeviceFault>
+) -> Result<PointerSector, DeviceFault>
     requires there { end_of sectors.now ≤ sectors_of log.old }
     requires working { has_failed log.old ≡ false }
     ensures right { D.honest (device_of log.old)
@@ -124,16 +124,16 @@ fn load_top<D: Device>(
     load(log, sectors, number)
 }
 
-/// Reads the pointer block that lists the 128 data blocks from 58 + 128 * `group` on, if the write reaches
+/// Reads the pointer sector that lists the 128 data blocks from 58 + 128 * `group` on, if the write reaches
 /// them.
 fn load_segment<D: Device>(
     log: &mut Log<D>,
     sectors: &Alloc,
     entry: &Entry,
-    above: &PointerBlock,
+    above: &PointerSector,
     group: u32,
     last: u32,
-) -> Result<PointerBlock, DeviceFault>
+) -> Result<PointerSector, DeviceFault>
     requires small { last < 16570 }
     requires there { end_of sectors.now ≤ sectors_of log.old }
     requires working { has_failed log.old ≡ false }

@@ -5,7 +5,7 @@ use Rattle.vol_alloc.specs.Alloc.{taken_of}
 use Rattle.vol_body.specs.Body.{double_indirect_block, NamesTaken}
 use Rattle.vol_body.specs.internal.Writing.{Mirrors, segment, segment_of}
 use Rattle.vol_body.proofs.Loads.{mirrors_in}
-use Rattle.vol_body.proofs.pointer_blocks.load_pointer_blocks.Goals as goal
+use Rattle.vol_body.proofs.pointer_sectors.load_pointer_sectors.Goals as goal
 
 pub returns-clause-right : goal.returns-clause-right
 returns-clause-right g c h names =

@@ -4,7 +4,7 @@ use Rattle.vol_alloc.specs.Alloc.{taken_of}
 use Rattle.vol_body.specs.Body.{double_indirect_block}
 use Rattle.vol_body.proofs.Places.{known_at}
 use Rattle.vol_body.proofs.Loads.{loaded}
-use Rattle.vol_body.proofs.pointer_blocks.load_top.Goals as goal
+use Rattle.vol_body.proofs.pointer_sectors.load_top.Goals as goal
 
 pub returns-clause-right : goal.returns-clause-right
 returns-clause-right g c h names reaches =

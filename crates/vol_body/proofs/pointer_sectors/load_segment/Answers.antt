@@ -5,7 +5,7 @@ use Rattle.vol_body.specs.Body.{BlockPosition, inner_block, named}
 use Rattle.vol_body.specs.internal.Writing.{Mirrors}
 use Rattle.vol_body.proofs.Places.{known_at}
 use Rattle.vol_body.proofs.Loads.{loaded, segment_later, number_mirrored}
-use Rattle.vol_body.proofs.pointer_blocks.load_segment.Goals as goal
+use Rattle.vol_body.proofs.pointer_sectors.load_segment.Goals as goal
 
 pub returns-clause-right : goal.returns-clause-right
 returns-clause-right g c h names reaches mirror =

@@ -4,7 +4,7 @@ use borrow.Rule.Slice.PartMut.{put_mid}
 use Rattle.byteorder.specs.Endian.{little_number, little_bytes}
 use Rattle.vol_inode.specs.internal.Writes.{overwritten}
 use Rattle.vol_body.proofs.Listed.{number_not_written}
-use Rattle.vol_body.proofs.pointer_blocks.with_number.Goals as goal
+use Rattle.vol_body.proofs.pointer_sectors.with_number.Goals as goal
 
 -- a data block from a position to the end, whose first bytes are new
 put_to_end : (old now bytes : List ℕ) (at : ℕ) → at ≤ length old → now ≡ bytes ++ drop (length bytes) (take (length old - at) (drop at old)) → put_mid at (length old - at) old now ≡ overwritten old at bytes
