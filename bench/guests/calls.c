@@ -3,12 +3,14 @@
  *
  *     calls create COUNT     makes so many empty files
  *     calls write COUNT      writes 16,384 bytes into each
+ *     calls again COUNT      writes 16,384 other bytes into the first 200 in turn so many times, and reads them then
  *     calls touch COUNT      writes one byte into the first of them so many times
  *     calls read COUNT       reads one whole so many times, the first 200 in turn
  *     calls rename COUNT     gives each another name
  *     calls none 0           does nothing
  *
- * The status is 1 where a call fails or other bytes are read. Built by
+ * Files are opened by their names in the directory that the guest was given, and closed after each call. The status is 1
+ * where a call fails or other bytes are read, of which eight are looked at. Built by
  *
  *     clang --target=wasm32-wasi -mcpu=mvp -O2 -Wall -Wextra -Wl,--strip-all calls.c -o calls.wasm
  *
@@ -38,33 +40,33 @@ static const char *name_of(char letter, long number, char *name) {
   return name;
 }
 
-static int create(long number) {
+static int create(int directory, long number) {
   char name[24];
-  int file = open(name_of('f', number, name), O_WRONLY | O_CREAT | O_EXCL, 0666);
+  int file = openat(directory, name_of('f', number, name), O_WRONLY | O_CREAT | O_EXCL, 0666);
   return file < 0 || fsync(file) || close(file);
 }
 
-static int put(long number, long count) {
+static int put(int directory, long number, long value, long count) {
   char name[24];
-  int file = open(name_of('f', number, name), O_WRONLY);
-  memset(bytes, (int)(number & 127), count);
+  int file = openat(directory, name_of('f', number, name), O_WRONLY);
+  memset(bytes, (int)(value & 127), count);
   return file < 0 || pwrite(file, bytes, count, 0) != count || fsync(file) || close(file);
 }
 
-static int get(long number) {
+static int get(int directory, long number, long value) {
   char name[24];
-  int file = open(name_of('f', number, name), O_RDONLY);
+  int file = openat(directory, name_of('f', number, name), O_RDONLY);
   if (file < 0 || pread(file, bytes, PIECE, 0) != PIECE || close(file))
     return 1;
-  for (int i = 1; i < PIECE; i += 512)
-    if (bytes[i] != (char)(number & 127))
+  for (int i = 1; i < PIECE; i += PIECE / 8)
+    if (bytes[i] != (char)(value & 127))
       return 1;
   return 0;
 }
 
 static int give_name(int directory, long number) {
   char old[24], new[24];
-  return rename(name_of('f', number, old), name_of('g', number, new)) || fsync(directory);
+  return renameat(directory, name_of('f', number, old), directory, name_of('g', number, new)) || fsync(directory);
 }
 
 int main(int argc, char **argv) {
@@ -76,14 +78,16 @@ int main(int argc, char **argv) {
     return 1;
   for (long number = 0; number < count; number++) {
     int failed = 2;
-    if (!strcmp(argv[1], "create"))
-      failed = create(number);
+    if (!strcmp(argv[1], "read"))
+      failed = get(directory, number % FILES, number % FILES);
+    else if (!strcmp(argv[1], "create"))
+      failed = create(directory, number);
     else if (!strcmp(argv[1], "write"))
-      failed = put(number, PIECE);
+      failed = put(directory, number, number, PIECE);
+    else if (!strcmp(argv[1], "again"))
+      failed = put(directory, number % FILES, number + 1, PIECE) || get(directory, number % FILES, number + 1);
     else if (!strcmp(argv[1], "touch"))
-      failed = put(0, 1);
-    else if (!strcmp(argv[1], "read"))
-      failed = get(number % FILES);
+      failed = put(directory, 0, 0, 1);
     else if (!strcmp(argv[1], "rename"))
       failed = give_name(directory, number);
     if (failed)

@@ -1,4 +1,6 @@
 pub mod File
+pub mod Places
+pub mod Cache
 pub mod Ram
 pub mod Status
 pub mod Request
