@@ -10,6 +10,7 @@ mod groups;
 mod halt;
 mod hurry;
 mod least;
+mod load_arms;
 mod machine;
 mod operands;
 mod operators;
