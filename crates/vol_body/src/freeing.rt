@@ -1,6 +1,6 @@
 //! Freeing the sectors that a shorter file no longer names.
 
-ghost use Rattle.std.specs.Prelude.{◌≡◌, ◌≢◌, ◌≤◌, ◌<◌, ◌+◌, ◌-◌, ◌*◌, ◌⊎◌, ℕ, false, true, IfOk, OnOk, is_err, if◌then◌else◌};
+ghost use Rattle.std.specs.Prelude.{◌≡◌, ◌≢◌, ◌≤◌, ◌<◌, ◌+◌, ◌-◌, ◌*◌, ◌⊎◌, ℕ, false, true, OnOk, is_err, if◌then◌else◌};
 ghost use Rattle.std.specs.Prelude.{drop, slice_index};
 ghost use Rattle.byteorder.specs.Endian.{little_number};
 ghost use Rattle.vol_log.specs.Log.{view, sectors_of, has_failed, device_of};

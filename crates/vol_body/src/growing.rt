@@ -1,11 +1,11 @@
 //! Lengthening a file.
 
-ghost use Rattle.std.specs.Prelude.{◌≡◌, ◌≢◌, ◌≤◌, ◌<◌, ◌+◌, ◌-◌, ◌++◌, ℕ, true, false, OnOk, OnErr, is_err};
+ghost use Rattle.std.specs.Prelude.{◌≡◌, ◌≤◌, ◌<◌, ◌+◌, ◌-◌, ◌++◌, OnOk, OnErr, is_err};
 ghost use Rattle.std.specs.Prelude.{replicate, if◌then◌else◌};
 ghost use Rattle.vol_sector.specs.Disk.{put};
 ghost use Rattle.vol_log.specs.Log.{view, sectors_of, room_of, is_staged, has_failed, device_of};
 ghost use Rattle.vol_inode.specs.Spelling.{spelling};
-ghost use Rattle.vol_body.specs.Body.{BlockPosition, IsPosition, named, bytes_of, IsBody, NamesOthers};
+ghost use Rattle.vol_body.specs.Body.{bytes_of, IsBody, NamesOthers};
 
 use vol_inode::{Entry, write_entry};
 use vol_log::Log;

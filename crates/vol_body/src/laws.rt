@@ -1,6 +1,6 @@
 //! Laws on the sectors that files name.
 
-ghost use Rattle.std.specs.Prelude.{◌≡◌, ◌≢◌, ◌≤◌, ◌<◌, ℕ, length};
+ghost use Rattle.std.specs.Prelude.{◌≡◌, ◌≢◌, ◌≤◌, ℕ, length};
 ghost use Rattle.std.specs.List.{Contains};
 ghost use Rattle.vol_sector.specs.Disk.{Image};
 ghost use Rattle.vol_inode.specs.Space.{need_of};

@@ -1,7 +1,7 @@
 //! Where the sectors of a file are.
 
-ghost use Rattle.std.specs.Prelude.{◌≡◌, ◌≢◌, ◌≤◌, ◌<◌, ◌↔◌, ◌⊎◌, ℕ, true, false, IfOk, is_err, if◌then◌else◌};
-ghost use Rattle.std.specs.Prelude.{IsErr, length, drop, ◌*◌};
+ghost use Rattle.std.specs.Prelude.{◌≡◌, ◌≢◌, ◌≤◌, ◌<◌, true, false, IfOk, is_err, if◌then◌else◌};
+ghost use Rattle.std.specs.Prelude.{drop, ◌*◌};
 ghost use Rattle.byteorder.specs.Endian.{little_number};
 ghost use Rattle.vol_log.specs.Log.{view, sectors_of, has_failed, device_of};
 ghost use Rattle.vol_alloc.specs.Alloc.{end_of, taken_of};

@@ -1,10 +1,10 @@
 //! Reading the bytes of a file.
 
-ghost use Rattle.std.specs.Prelude.{◌≡◌, ◌≢◌, ◌≤◌, ◌<◌, ◌+◌, ◌-◌, ◌++◌, ◌⊎◌, ℕ, true, false, IfOk, OnErr, IsErr, is_err};
-ghost use Rattle.std.specs.Prelude.{length, min, take, drop, slice_index};
+ghost use Rattle.std.specs.Prelude.{◌≡◌, ◌≤◌, ◌<◌, ◌+◌, ◌-◌, ◌++◌, ℕ, true, IfOk, OnErr, IsErr, is_err};
+ghost use Rattle.std.specs.Prelude.{length, min, take, drop};
 ghost use Rattle.vol_log.specs.Log.{view, sectors_of, has_failed, device_of};
 ghost use Rattle.vol_alloc.specs.Alloc.{end_of, taken_of};
-ghost use Rattle.vol_body.specs.Body.{NamesTaken, byte_at, bytes_of};
+ghost use Rattle.vol_body.specs.Body.{NamesTaken, bytes_of};
 ghost use Rattle.vol_log.specs.Reading.{OnlyReads};
 
 use crate::locate::read_block;

@@ -1,6 +1,6 @@
 //! Setting the size of a file.
 
-ghost use Rattle.std.specs.Prelude.{◌≡◌, ◌≤◌, ◌<◌, ◌+◌, true, OnOk, OnErr, IsErr, is_err};
+ghost use Rattle.std.specs.Prelude.{◌≡◌, ◌≤◌, ◌<◌, true, OnOk, OnErr, IsErr, is_err};
 ghost use Rattle.vol_log.specs.Log.{view, sectors_of, room_of, has_failed};
 ghost use Rattle.vol_alloc.specs.Alloc.{first_of, end_of};
 ghost use Rattle.vol_body.specs.Body.{bytes_of};

@@ -1,10 +1,9 @@
 //! Shortening a file.
 
-ghost use Rattle.std.specs.Prelude.{◌≡◌, ◌≢◌, ◌≤◌, ◌<◌, ◌+◌, ◌-◌, ℕ, true, false, IfOk, OnOk, OnErr, IsErr, is_err};
-ghost use Rattle.std.specs.Prelude.{length, nat_lt, slice_index, if◌then◌else◌};
+ghost use Rattle.std.specs.Prelude.{◌≡◌, ◌≤◌, ◌<◌, ◌-◌, ℕ, true, OnOk, OnErr, IsErr, is_err};
+ghost use Rattle.std.specs.Prelude.{nat_lt, slice_index, if◌then◌else◌};
 ghost use Rattle.vol_log.specs.Log.{view, sectors_of, room_of, has_failed};
 ghost use Rattle.vol_alloc.specs.Alloc.{first_of, end_of};
-ghost use Rattle.vol_inode.specs.Space.{sectors_of as parts_of};
 ghost use Rattle.vol_body.specs.Body.{bytes_of};
 ghost use Rattle.vol_body.specs.Change.{resized, IfSound, FileBecomes, EntryBecomes};
 ghost use Rattle.vol_body.specs.internal.Shorter.{first_of_pointer};

@@ -1,6 +1,6 @@
 //! Writing the bytes of a file.
 
-ghost use Rattle.std.specs.Prelude.{◌≡◌, ◌≢◌, ◌≤◌, ◌<◌, ◌+◌, ◌*◌, ℕ, true, false, length, max, OnOk, OnErr, IfOk, IsErr, is_err};
+ghost use Rattle.std.specs.Prelude.{◌≡◌, ◌≤◌, ◌<◌, ◌+◌, ◌*◌, true, false, length, max, OnOk, OnErr, IfOk, IsErr, is_err};
 ghost use Rattle.vol_log.specs.Log.{view, sectors_of, room_of, has_failed, device_of};
 ghost use Rattle.vol_alloc.specs.Alloc.{first_of, end_of, taken_of, free_of};
 ghost use Rattle.vol_inode.specs.Space.{need_of};

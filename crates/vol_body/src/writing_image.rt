@@ -1,6 +1,6 @@
 //! The new bytes of the data blocks that a write touches.
 
-ghost use Rattle.std.specs.Prelude.{◌≡◌, ◌≤◌, ◌<◌, ◌+◌, ◌-◌, ◌*◌, ℕ, length, drop};
+ghost use Rattle.std.specs.Prelude.{◌≡◌, ◌≤◌, ◌<◌, ◌+◌, ◌-◌, ◌*◌, length, drop};
 ghost use Rattle.vol_body.specs.internal.Writing.{image_of};
 
 use crate::source::Source;

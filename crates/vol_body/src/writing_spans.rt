@@ -1,12 +1,11 @@
 //! Writing all the data blocks that a write touches.
 
-ghost use Rattle.std.specs.Prelude.{◌≡◌, ◌≢◌, ◌⊎◌, ◌≤◌, ◌<◌, ◌+◌, ◌-◌, ◌*◌, ℕ, true, false, length, slice_index};
-ghost use Rattle.std.specs.Prelude.{if◌then◌else◌};
+ghost use Rattle.std.specs.Prelude.{◌≡◌, ◌≢◌, ◌⊎◌, ◌≤◌, ◌<◌, ◌+◌, ◌-◌, ◌*◌, ℕ, true, false, length};
 ghost use Rattle.vol_log.specs.Log.{view, sectors_of, room_of, has_failed};
 ghost use Rattle.vol_alloc.specs.Alloc.{first_of, end_of, taken_of};
 ghost use Rattle.vol_inode.specs.Space.{sectors_of as count_of};
 ghost use Rattle.vol_inode.specs.declared.entry.Entry.{Entry};
-ghost use Rattle.vol_body.specs.Body.{BlockPosition, indirect_block, double_indirect_block, inner_block, IsPosition, first_served};
+ghost use Rattle.vol_body.specs.Body.{BlockPosition, double_indirect_block, first_served};
 ghost use Rattle.vol_body.specs.internal.Writing.{Mirrors, IsReady, Changes, Adds, IsBlockIn, HasBlocks};
 ghost use Rattle.vol_body.specs.internal.Writing.{OnlyPuts, SameRange, segment, placed, image_of};
 ghost use Rattle.vol_body.specs.internal.Writing.{MirrorsAll, KnowsAll, IsPointer, PointedAt};
