@@ -138,13 +138,17 @@ pub fn memory_of(disk: Disk) -> MemoryDevice {
     disk.into_inner().into_inner()
 }
 
-/// A device with a fresh volume of 202 sectors and 16 slots.
-pub fn formatted(alloc: Global) -> Option<MemoryDevice> {
-    let device = faulty(MemoryDevice::new(alloc, 202, 400).ok()?, 0, u64::MAX);
-    match Volume::format(device, 202, 16) {
+/// A device with a fresh volume of so many sectors and 16 slots.
+pub fn formatted_with(alloc: Global, sectors: u32) -> Option<MemoryDevice> {
+    let device = faulty(MemoryDevice::new(alloc, sectors, 400).ok()?, 0, u64::MAX);
+    match Volume::format(device, sectors, 16) {
         Ok(device) => Some(memory_of(device)),
         Err(_) => None,
     }
+}
+
+pub fn formatted(alloc: Global) -> Option<MemoryDevice> {
+    formatted_with(alloc, 202)
 }
 
 /// The volume on a device that works.

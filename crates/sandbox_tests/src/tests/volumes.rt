@@ -1,15 +1,20 @@
 //! Guests that use a volume: what they print, what stands in the next session, and what stands where the device fails.
 
-use super::guests::{APPEND, CUT, FILES, INPUT, LISTING, LONG};
-use super::sessions::{Disk, faulty, formatted, memory_of, over, working};
+use super::guests::{APPEND, CUT, FILES, INPUT, LARGE, LISTING, LONG};
+use super::sessions::{Disk, faulty, formatted, formatted_with, memory_of, over, working};
 use sandbox_core::{Outcome, Report, Volume, run};
 use std::alloc::Global;
 use std::process::Abort;
-use vol_inode::is_name;
+use vol_inode::{Version, is_name};
 use vol_sector::MemoryDevice;
 
 /// More than any guest here uses.
 const FUEL: u64 = 1_000;
+
+/// Whether a guest came to its end and printed exactly this.
+fn is_printed(outcome: Outcome, printed: &[u8], line: &[u8]) -> bool {
+    outcome == Outcome::Exited(0) && printed == line
+}
 
 /// Runs a guest to its end over a volume, and gives the volume back where the guest printed exactly this.
 fn printed(
@@ -24,10 +29,11 @@ fn printed(
         return None;
     }
     let report = run(session, FUEL);
-    if report.outcome != Outcome::Exited(0) || report.out.held.as_slice() != line {
-        return None;
+    if is_printed(report.outcome, report.out.held.as_slice(), line) {
+        report.volume.ok()
+    } else {
+        None
     }
-    report.volume.ok()
 }
 
 #[test]
@@ -49,19 +55,59 @@ fn guests_print_what_files_hold(rt: HostRuntime) {
     }
 }
 
-/// Three sessions one after another, each of which appends to the file.
-fn appended(alloc: Global) -> Option<()> {
-    let mut volume = working(alloc, formatted(alloc)?)?;
-    for line in [b"abc".as_slice(), b"abcabc", b"abcabcabc"] {
-        volume = printed(alloc, APPEND, volume, b"", line)?;
-        volume = working(alloc, memory_of(volume.into_device()))?;
+/// The device with a fresh volume of so many sectors, which is upgraded where it is to have version 2.
+fn of_version(alloc: Global, sectors: u32, version: Version) -> Option<MemoryDevice> {
+    let device = formatted_with(alloc, sectors)?;
+    if version == Version::One {
+        return Some(device);
+    }
+    let mut volume = working(alloc, device)?;
+    let done = volume.upgrade();
+    done.is_ok().then_some(memory_of(volume.into_device()))
+}
+
+/// Whether sessions of a guest, one after another on one device, print these lines.
+fn print_in_turn(
+    alloc: Global,
+    module: &[u8],
+    device: MemoryDevice,
+    lines: &[&[u8]],
+) -> Option<()> {
+    let mut device = device;
+    for line in lines {
+        let volume = printed(alloc, module, working(alloc, device)?, b"", line)?;
+        device = memory_of(volume.into_device());
     }
     Some(())
 }
 
 #[test]
 fn the_next_session_finds_the_files(rt: HostRuntime) {
-    assert!(rt; appended(rt.alloc()).is_some());
+    let alloc = rt.alloc();
+    let lines = [b"abc".as_slice(), b"abcabc", b"abcabcabc"];
+    for version in [Version::One, Version::Two] {
+        let ran = of_version(alloc, 202, version).and_then(|it| print_in_turn(
+            alloc, APPEND, it, &lines,
+        ));
+        assert!(rt; ran.is_some(), "{version:?}");
+    }
+}
+
+#[test]
+fn files_are_larger_on_an_upgraded_volume(rt: HostRuntime) {
+    let alloc = rt.alloc();
+    // the errno of each size and of the calls after them, and what was read
+    let small = b"\0\x16\x16\x16\x16\x16\0\0\0\0".as_slice();
+    let large = b"\0\0\0\x33\x16\0\0abc".as_slice();
+    for (version, line) in [(Version::One, small), (Version::Two, large)] {
+        let ran = of_version(alloc, 1_000, version).and_then(|it| print_in_turn(
+            alloc,
+            LARGE,
+            it,
+            &[line, line],
+        ));
+        assert!(rt; ran.is_some(), "{version:?}");
+    }
 }
 
 /// Whether a file is in the root.

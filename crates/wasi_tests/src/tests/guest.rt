@@ -194,15 +194,26 @@ pub fn assert_steps(
     Ok(())
 }
 
-/// Does the steps in turn over a fresh volume with these settings and preopened directories.
+/// Does the steps in turn over a fresh volume with these settings, preopened directories and input.
+pub fn assert_fed(
+    rt: &impl Abort,
+    alloc: Global,
+    settings: Settings<'_, '_>,
+    input: Feeding,
+    steps: &[Step<'_>],
+) -> Result<(), Fail> {
+    let mut guest = fresh(alloc, settings, input, 1_000)?;
+    assert_steps(rt, alloc, &mut guest, steps)
+}
+
+/// The same without input.
 pub fn assert_with(
     rt: &impl Abort,
     alloc: Global,
     settings: Settings<'_, '_>,
     steps: &[Step<'_>],
 ) -> Result<(), Fail> {
-    let mut guest = fresh(alloc, settings, Feeding::new(b"", 0), 1_000)?;
-    assert_steps(rt, alloc, &mut guest, steps)
+    assert_fed(rt, alloc, settings, Feeding::new(b"", 0), steps)
 }
 
 /// Does the steps in turn over a fresh volume, with the root as descriptor 3.

@@ -230,9 +230,18 @@ fn a_preopened_directory_is_all_there_is(rt: HostRuntime) -> Result<(), Fail> {
     Ok(())
 }
 
+/// Why a host over a fresh volume with this directory is refused.
+fn fault_of(alloc: Global, path: &[u8]) -> Result<Option<HostFault>, Fail> {
+    let preopens = [Preopen {
+        guest_name: b"/",
+        path,
+    }];
+    let volume = volume(alloc)?;
+    Ok(host(alloc, seeing(&preopens), volume, Feeding::new(b"", 0), 0).err())
+}
+
 #[test]
 fn directories_are_preopened(rt: HostRuntime) -> Result<(), Fail> {
-    let alloc = rt.alloc();
     let rows: [(&[u8], Option<HostFault>); 7] = [
         (b"/", None),
         (b"/.", None),
@@ -243,13 +252,7 @@ fn directories_are_preopened(rt: HostRuntime) -> Result<(), Fail> {
         (b"/..", Some(HostFault::Preopen)),
     ];
     for (path, fault) in rows {
-        let preopens = [Preopen {
-            guest_name: b"/",
-            path,
-        }];
-        let input = Feeding::new(b"", 0);
-        let made = host(alloc, seeing(&preopens), volume(alloc)?, input, 0);
-        assert_eq!(rt; made.err(), fault, "{path:?}");
+        assert_eq!(rt; fault_of(rt.alloc(), path)?, fault, "{path:?}");
     }
     Ok(())
 }

@@ -1,10 +1,11 @@
 //! A reader and a writer for all tests, and a guest's standard streams.
 
 use super::guest::Step::{Call, Has, Put};
-use super::guest::{PLAIN, assert_steps, fresh};
+use super::guest::{PLAIN, assert_fed, assert_steps, fresh};
 use std::alloc::Global;
 use std::io;
 use std::io::{ErrorKind, Read, Write};
+use std::process::Abort;
 use std::test::Fail;
 use wasi_calls::HostParts;
 use wasm_store::HostCall::{FdRead, FdWrite};
@@ -70,12 +71,11 @@ const BUFFERS: &[u8] = b"\x2C\x01\0\0\x03\0\0\0\x40\x01\0\0\0\0\0\0\x40\x01\0\0\
 
 #[test]
 fn input_is_read_to_its_end(rt: HostRuntime) -> Result<(), Fail> {
-    let alloc = rt.alloc();
-    let mut guest = fresh(alloc, PLAIN, Feeding::new(b"abcd", 4), 0)?;
-    assert_steps(
+    assert_fed(
         &rt,
-        alloc,
-        &mut guest,
+        rt.alloc(),
+        PLAIN,
+        Feeding::new(b"abcd", 4),
         &[
             Put(200, BUFFERS),
             Call(FdRead, &[0, 200, 1, 228], 0),
@@ -95,12 +95,11 @@ fn input_is_read_to_its_end(rt: HostRuntime) -> Result<(), Fail> {
 fn readers_that_fail(rt: HostRuntime) -> Result<(), Fail> {
     let alloc = rt.alloc();
     for (most, stands) in [(0, b"..."), (1, b"a.."), (2, b"ab.")] {
-        let input = Feeding::new(b"abcd", most);
-        let mut guest = fresh(alloc, PLAIN, input, 1_000)?;
-        assert_steps(
+        assert_fed(
             &rt,
             alloc,
-            &mut guest,
+            PLAIN,
+            Feeding::new(b"abcd", most),
             &[
                 Put(200, BUFFERS),
                 Put(300, b"..."),
@@ -116,30 +115,34 @@ fn readers_that_fail(rt: HostRuntime) -> Result<(), Fail> {
     Ok(())
 }
 
+/// Writes four bytes to an output that takes so many, and to the other, and says what each has then.
+fn written(rt: &impl Abort, alloc: Global, takes: usize) -> Result<(Taking, Taking), Fail> {
+    let mut guest = fresh(alloc, PLAIN, Feeding::new(b"", 0), takes)?;
+    assert_steps(
+        rt,
+        alloc,
+        &mut guest,
+        &[
+            Put(200, BUFFERS),
+            Put(300, b"abc"),
+            Put(320, b"d"),
+            Call(FdWrite, &[1, 200, 3, 228], 29),
+            Has(228, b"\0\0\0\0"),
+            Call(FdWrite, &[1, 200, 0, 228], 29),
+            Call(FdWrite, &[2, 200, 3, 228], 0),
+            Has(228, b"\x04\0\0\0"),
+        ],
+    )?;
+    let HostParts { out, err, .. } = guest.into_parts();
+    Ok((out, err))
+}
+
 #[test]
 fn writers_that_fail(rt: HostRuntime) -> Result<(), Fail> {
-    let alloc = rt.alloc();
     for (takes, stands) in [(0, b"".as_slice()), (1, b"a"), (2, b"ab"), (3, b"abc")] {
-        let input = Feeding::new(b"", 0);
-        let mut guest = fresh(alloc, PLAIN, input, takes)?;
-        assert_steps(
-            &rt,
-            alloc,
-            &mut guest,
-            &[
-                Put(200, BUFFERS),
-                Put(300, b"abc"),
-                Put(320, b"d"),
-                Call(FdWrite, &[1, 200, 3, 228], 29),
-                Has(228, b"\0\0\0\0"),
-                Call(FdWrite, &[1, 200, 0, 228], 29),
-                Call(FdWrite, &[2, 200, 3, 228], 0),
-                Has(228, b"\x04\0\0\0"),
-            ],
-        )?;
-        let HostParts { out, err, .. } = guest.into_parts();
-        assert_eq!(rt; out.held.as_slice(), stands);
-        assert_eq!(rt; err.held.as_slice(), b"abcd".as_slice());
+        let (out, err) = written(&rt, rt.alloc(), takes)?;
+        let is_right = out.held.as_slice() == stands && err.held.as_slice() == b"abcd".as_slice();
+        assert!(rt; is_right, "{takes}");
     }
     Ok(())
 }
