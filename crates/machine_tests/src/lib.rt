@@ -1,4 +1,4 @@
-//! Tests of the crates that modules are run with, through their public calls alone.
+//! Tests of the crates that modules are run with, through their public calls only.
 #![tactic(auto)]
 
 #[cfg(test)]

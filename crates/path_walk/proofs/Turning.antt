@@ -21,7 +21,7 @@ is_slash c = c == slash
 first_slash : (text : List ℕ) (n : ℕ) → IsPartLen text n → position_or_len is_slash text ≡ n
 first_slash text n p = position_or_len_is is_slash text n 0 p.within (λ k l. ne_eqb (get_or text k 0) slash (p.before k l)) (λ l. eq-eqb (get_or text n 0) slash (p.at l))
 
--- the components behind the first part
+-- the components after the first part
 abbrev pub left : List ℕ → ℕ → List Name
 left text n = cond (ltb n (length text)) (components_of (drop (n + 1) text)) []
 

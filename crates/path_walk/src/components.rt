@@ -31,7 +31,7 @@ pub(crate) fn goes_up(part: &[u8]) -> bool
     part == b"..".as_slice()
 }
 
-/// How many names stand behind one part more; none where a `..` has no name before it.
+/// How many names stand after one part more; none where a `..` has no name before it.
 pub(crate) fn deepen(depth: u64, part: &[u8]) -> Option<u64>
     requires { depth + length part.now < 2 ^ 64 }
     ensures meaning { (names : List Name) → MatchOption result

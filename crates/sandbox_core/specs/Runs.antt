@@ -54,7 +54,7 @@ module _ (H : Type 0) (Calls : CallsOf H) where
   StopsAs i (Trapped t) fuel used h c = EndsAs H Calls i (Trapped t) h c
   StopsAs i OutOfMemory fuel used h c = EndsAs H Calls i OutOfMemory h c
 
-  -- a run from one configuration to a last one, which has used so many units
+  -- a run from one configuration to a last one, which has used this many units
   pub record RunsWithin (i : Instance) (h : H) (c : Configuration) (fuel : ℕ) (h' : H) (outcome : Outcome) (used : ℕ) : Type 0 where
     pub last : Configuration
     pub answers : List (HostCall × Errno)

@@ -1,4 +1,4 @@
-//! Laws of runs, over the definitions alone.
+//! Laws of runs, over definitions only.
 
 ghost use Rattle.sandbox_core.specs.Headline.{Headline};
 ghost use Rattle.sandbox_core.specs.Runs.{PausesCompose, ResumesCompose};

@@ -22,7 +22,7 @@ pub struct Report<D: Device, R, W1, W2> {
     pub err: W2,
 }
 
-/// Runs a session that has used nothing with so many units of fuel: until it ends, or the fuel is used and the next step
+/// Runs a session that has used nothing with this many units of fuel: until it ends, or the fuel is used and the next step
 /// takes a unit. Then it commits all calls, whatever the outcome.
 pub fn run<D, R, W1, W2>(
     mut session: Session<'_, '_, '_, D, R, W1, W2>,

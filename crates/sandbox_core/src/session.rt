@@ -129,7 +129,7 @@ where
         }
     }
 
-    /// Goes on for at most so many units of fuel, until one host call is answered, the run ends, or the next step would
+    /// Goes on for at most this many units of fuel, until one host call is answered, the run ends, or the next step would
     /// take a unit that isn't left. A session that has ended answers the same again.
     pub fn resume(&mut self, units: u64) -> Pause
         requires { used_by self.old + units < 2 ^ 64 }

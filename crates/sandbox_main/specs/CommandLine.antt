@@ -100,7 +100,7 @@ program =
 abbrev pub is_numeral : Text → Bool
 is_numeral digits = nat_lt 0 (length digits) && list_all (λ d. nat_lt (digit_value d) 10) digits
 
--- the number of so many bits at most that digits write, before which a plus may stand
+-- the number of this many bits at most that digits write, before which a plus may stand
 abbrev pub number_of : ℕ → Text → Option ℕ
 number_of bits text =
     let digits = without_leading_plus text in

@@ -14,7 +14,7 @@ use Rattle.sandbox_main.specs.declared.failure.Failure.{Failure}
 use Rattle.sandbox_main.specs.declared.failure.Failure.TheVariants.{Volume}
 use Rattle.sandbox_main.specs.Tasks.{IsPartOfPut, Prints, Puts, ReflectsAny, printed_file, printed_listing, summary}
 
--- An upgrade is refused with 35 for version 2, and else with 33 alone.
+-- An upgrade is refused with 35 for version 2, and else only with 33.
 pub record Upgrades (v : Superblock) (done : Result (Unit {0}) Failure) : Type 0 where
   pub newest : v.version ≡ Two → done ≡ Err (Volume fault.Upgraded)
   pub refused : v.version ≡ One → IfErr done (λ f. f ≡ Volume fault.Device)

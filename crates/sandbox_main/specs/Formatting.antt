@@ -9,7 +9,7 @@ use Rattle.sandbox_main.specs.declared.failure.Failure.{Failure}
 use Rattle.sandbox_main.specs.declared.failure.Failure.TheVariants.{Volume}
 
 -- A device is made an empty volume with these numbers. It is refused with 36 where they are out of their ranges, then
--- with 34 where it has fewer sectors, and else with 33 alone. Where it isn't refused, each crash leaves the empty volume;
+-- with 34 where it has fewer sectors, and else only with 33. Where it isn't refused, each crash leaves the empty volume;
 -- at any moment a crash leaves what it could leave before, or no volume, or the empty one.
 pub record Formats {D : Type 0} (is_honest : D → Type 0) (disk : D → Disk) (sectors_on : D → ℕ) (device : D) (sectors slots : ℕ) (after : D) (done : Result (Unit {0}) Failure) : Type 0 where
   pub geometry : (HasRanges (fresh sectors slots) → ⊥) → (done ≡ Err (Volume fault.Geometry)) × (after ≡ device)

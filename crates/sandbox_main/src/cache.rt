@@ -90,7 +90,7 @@ impl Cache {
         }
     }
 
-    /// Reads the sector's run of a file that has so many sectors. Where that fails, the run isn't
+    /// Reads the sector's run of a file that has this many sectors. Where that fails, the run isn't
     /// kept.
     pub fn load(&mut self, file: &File, n: u32, sectors: u32)
         requires { n < sectors }

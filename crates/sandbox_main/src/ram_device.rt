@@ -19,7 +19,7 @@ pub struct RamDevice {
 impl RamDevice {
     ghost use Rattle.std.specs.Prelude.{◌∷◌};
 
-    /// A device of so many sectors of zeros. It fails only where memory is refused.
+    /// A device of this many sectors of zeros. It fails only where memory is refused.
     pub fn new(alloc: Global, sectors: u32) -> Result<RamDevice, AllocError>
         ensures { IfOk result (λ d. vec_len d.sectors ≡ sectors) }
     {

@@ -6,7 +6,7 @@ use Rattle.vol_alloc.specs.declared.sectors.Alloc.{Alloc}
 abbrev pub first_of : Alloc → ℕ
 first_of a = a.first
 
--- the sector behind the range
+-- the sector after the range
 abbrev pub end_of : Alloc → ℕ
 end_of a = a.end
 

@@ -376,14 +376,14 @@ others_stay_two place first end taken content after e n m stays n_from n_below n
     mine : (x y : ℕ) → (taken y ≡ true → NamesOthers content e y → ⊥) → x ≡ y → taken x ≡ true → NamesOthers content e x → ⊥
     mine x y own same is others = own (sym (ap taken same) ∙ is) (λ p there names. others p there (names ∙ sym same))
 
--- what a file names goes by its pointers alone
+-- what a file names goes only by its pointers
 pub names_by_pointers : (content : Image) (e f : Entry) (p : BlockPosition) → f.pointers ≡ e.pointers → named content f p ≡ named content e p
 names_by_pointers content e f (data_block j) same = ap (λ (ps : List ℕ). named content (record e { pointers = ps }) (data_block j)) same
 names_by_pointers content e f indirect_block same = ap (λ (ps : List ℕ). named content (record e { pointers = ps }) indirect_block) same
 names_by_pointers content e f double_indirect_block same = ap (λ (ps : List ℕ). named content (record e { pointers = ps }) double_indirect_block) same
 names_by_pointers content e f (inner_block i) same = ap (λ (ps : List ℕ). named content (record e { pointers = ps }) (inner_block i)) same
 
--- The bytes of the other positions' sectors stay, those of pointer sectors too: where the new sector alone is written,
+-- The bytes of the other positions' sectors stay, those of pointer sectors too: where only the new sector is written,
 pub places_stay : (content after : Image) (e changed : Entry) (p : BlockPosition) (n : ℕ) → NamesOneMore content after e changed p n → NamesOthers content e n → ((x : ℕ) → x ≢ n → after x ≡ content x)
     → (g : BlockPosition) → IsPosition g → (g ≡ p → ⊥) → block_bytes after (named after changed g) ≡ block_bytes content (named content e g)
 places_stay content after e changed p n more others stays g there not =

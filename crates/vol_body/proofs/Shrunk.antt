@@ -34,7 +34,7 @@ many_lists count lt = grind (arith, nat_tests)
 one_list : (count : ℕ) → count ≤ 186 → (if nat_lt 186 count then double_indirect_block else indirect_block) ≡ indirect_block
 one_list count le = grind (arith, nat_tests)
 
--- a position of which a beginning alone is kept
+-- a position of which only a beginning is kept
 one_of_three : (size : ℕ) (p : BlockPosition) → 0 < kept_bytes size p → kept_bytes size p < 512 → (p ≡ last_data_block size) ⊎ ((p ≡ cut_indirect_block size) ⊎ (p ≡ last_inner_block size))
 one_of_three size (data_block j) some short = inl (let at : j ≡ sectors_of size - 1 = omega arith in ap data_block at)
 one_of_three size indirect_block some short = inr (inl (sym (one_list (sectors_of size) (omega arith))))

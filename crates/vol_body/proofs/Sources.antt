@@ -4,7 +4,7 @@ use Rattle.std.proofs.lemmas.List.{take_all, drop_all, drop-drop, drop_at, drop-
 use Rattle.vol_body.specs.declared.source.Span.{Span}
 use Rattle.vol_body.specs.Source.{gathered}
 
--- `&spans[1..]` is what is left behind the first
+-- `&spans[1..]` is what is left after the first
 pub tail_of : {X : Type 0} (spans : List X) (n : ℕ) → take (length spans - n) (drop n spans) ≡ drop n spans
 tail_of spans n = take_all (length spans - n) (drop n spans) (omega (arith, length-drop n spans))
 

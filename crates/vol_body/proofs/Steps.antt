@@ -194,7 +194,7 @@ part_in_more from to (inner_block i) there = there
 pub part_in_here : (from j : ℕ) (p : BlockPosition) → from ≤ j → p ≡ data_block j → IsBlockIn from (j + 1) p
 part_in_here from j p le is = let here : IsBlockIn from (j + 1) (data_block j) = (le, omega arith) in subst (IsBlockIn from (j + 1)) (sym is) here
 
--- a loop ends behind the last data block
+-- a loop ends after the last data block
 pub part_in_all : (from to j : ℕ) (p : BlockPosition) → j - from ≤ to - from → IsBlockIn from j p → IsBlockIn from to p
 part_in_all from to j (data_block k) few there = (there.0, omega (arith, there.0, there.1))
 part_in_all from to j indirect_block few there = there

@@ -28,7 +28,7 @@ nonzero-append xs ys = filter-append (λ n. not (n == 0)) xs ys
 pushed_both : (old xs ys : List ℕ) → old ++ nonzero (xs ++ ys) ≡ (old ++ nonzero xs) ++ nonzero ys
 pushed_both old xs ys = ap (λ (l : List ℕ). old ++ l) (nonzero-append xs ys) ∙ sym (append_assoc old (nonzero xs) (nonzero ys))
 
--- numbers are pushed behind others
+-- numbers are pushed after others
 pub pushes_then : (first end : ℕ) (a b c xs ys : List ℕ) → Pushes first end a b xs → Pushes first end b c ys → Pushes first end a c (xs ++ ys)
 pushes_then first end a b c xs ys one two = record {
   named = two.named ∙ ap (λ (l : List ℕ). l ++ nonzero ys) one.named ∙ sym (pushed_both a xs ys);
@@ -67,7 +67,7 @@ pushes_one first end old new n all some from below room is = record {
 pub pushes_none : (first end : ℕ) (old : List ℕ) → AreInside first end old → Pushes first end old old []
 pushes_none first end old all = record { named = sym (append-nil old); inside = all }
 
--- the next number is pushed behind those before it
+-- the next number is pushed after those before it
 pub pushes_next : (first end : ℕ) (a b c xs : List ℕ) (i : ℕ) → i < length xs → Pushes first end a b (take i xs) → Pushes first end b c (get_or xs i 0 ∷ []) → Pushes first end a c (take (i + 1) xs)
 pushes_next first end a b c xs i lt one two = subst (Pushes first end a c) (sym (take_more xs i 0 lt)) (pushes_then first end a b c (take i xs) (get_or xs i 0 ∷ []) one two)
 

@@ -1,4 +1,4 @@
--- The bytes of a file, over the sectors of a volume.
+-- The bytes of a file, over the sectors of a volume (`docs/VOLUME.md`, "File").
 use Rattle.std.specs.Prelude.{◌≡◌, ◌≢◌, ◌≤◌, ◌<◌, ◌+◌, ◌-◌, ◌*◌, ◌/◌, ◌%◌, ◌==◌, ℕ, Bool, true, List, [], ◌++◌, ◌∷◌, map, drop, replicate, nat_lt, slice_index, if◌then◌else◌}
 use Rattle.std.specs.List.{range_with_len}
 use Rattle.byteorder.specs.Endian.{little_number}

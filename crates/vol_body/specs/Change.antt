@@ -14,11 +14,11 @@ use Rattle.vol_inode.specs.Space.{size_limit}
 use Rattle.vol_inode.specs.Spelling.{spelling}
 use Rattle.vol_body.specs.Body.{BlockPosition, IsPosition, named, positions_of, bytes_of, NamesTaken, NamesOthers, IsBody}
 
--- the bytes with zeros behind them, up to a length
+-- the bytes with zeros after them, up to a length
 abbrev pub extended : ℕ → List ℕ → List ℕ
 extended size bytes = bytes ++ replicate (size - length bytes) 0
 
--- the bytes, cut or with zeros behind them
+-- the bytes, cut or with zeros after them
 abbrev pub resized : ℕ → List ℕ → List ℕ
 resized size bytes = take size (extended size bytes)
 

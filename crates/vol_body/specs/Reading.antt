@@ -16,7 +16,7 @@ pub record OnlyStages {D : Type 0} {g : Ghosts D} (old new : Log D g) : Type 0 w
   pub size : g.size (device_of new) ≡ g.size (device_of old)
   pub failures : has_failed old ≡ false → g.failures (device_of new) ≡ counted (has_failed new) (g.failures (device_of old))
 
--- A change of a file stages so many sectors at most. The log has failed where the change is refused, and only there.
+-- A change of a file stages this many sectors at most. The log has failed where the change is refused, and only there.
 pub record StagesAtMost {D : Type 0} {g : Ghosts D} (most : ℕ) (old new : Log D g) (a b : Alloc) (refused : Bool) : Type 0 where
   pub room : room_of old ≤ room_of new + most
   pub log : OnlyStages old new

@@ -1,4 +1,5 @@
 -- The sectors that a file names, in the order of a survey, and the rules on them that one file shows.
+-- See `docs/VOLUME.md`, "File".
 use Rattle.std.specs.Prelude.{◌≡◌, ◌≤◌, ◌<◌, ◌+◌, ◌-◌, ◌*◌, ◌==◌, ℕ, not, List, ◌++◌, ◌∷◌, length, map, filter}
 use Rattle.std.specs.List.{range_with_len, flat_map, Contains}
 use Rattle.vol_sector.specs.Disk.{Image}
@@ -6,7 +7,7 @@ use Rattle.vol_inode.specs.declared.entry.Entry.{Entry}
 use Rattle.vol_inode.specs.Space.{sectors_of}
 use Rattle.vol_body.specs.Body.{BlockPosition, data_block, indirect_block, double_indirect_block, inner_block, IsPosition, first_served, named, byte_at}
 
--- so many data blocks, from one on
+-- this many data blocks, from one on
 unfoldable pub data_blocks_from : ℕ → ℕ → List BlockPosition
 data_blocks_from first count = map data_block (range_with_len first count)
 

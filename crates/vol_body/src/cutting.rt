@@ -1,4 +1,4 @@
-//! The sectors of which a shorter file keeps a beginning alone.
+//! The sectors of which a shorter file keeps only a beginning.
 
 ghost use Rattle.std.specs.Prelude.{◌≡◌, ◌≢◌, ◌≤◌, ◌<◌, ◌+◌, ◌-◌, ◌*◌, ◌/◌, true, false, IfOk, is_err};
 ghost use Rattle.vol_log.specs.Log.{view, sectors_of, room_of, has_failed, device_of};
@@ -40,8 +40,8 @@ fn cut_at(image: &[u8; 512], kept: usize) -> [u8; 512]
     cut
 }
 
-/// What is to be written for a sector of which so many bytes are kept: nothing where it is sector
-/// 0, is kept whole or not at all, or has zeros behind them already.
+/// What is to be written for a sector of which this many bytes are kept: nothing where it is sector
+/// 0, is kept whole or not at all, or has zeros after them already.
 fn read_cut<D: Device>(
     log: &mut Log<D>,
     sectors: &Alloc,
@@ -169,7 +169,7 @@ fn stage_cut<D: Device>(log: &mut Log<D>, cut: &Cut)
     }
 }
 
-/// What is to be written where the file keeps so many bytes.
+/// What is to be written where the file keeps this many bytes.
 pub fn read_cuts<D: Device>(
     log: &mut Log<D>,
     sectors: &Alloc,

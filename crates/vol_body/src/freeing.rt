@@ -154,7 +154,7 @@ fn free_double_indirect_block<D: Device>(
     Ok(())
 }
 
-/// Frees each sector that the file names for data blocks from `count` on alone.
+/// Frees each sector that the file names only for data blocks from `count` on.
 pub fn free_unkept<D: Device>(
     log: &mut Log<D>,
     sectors: &mut Alloc,

@@ -11,7 +11,7 @@ use vol_inode::{Entry, write_entry};
 use vol_log::Log;
 use vol_sector::{Device, DeviceFault};
 
-/// Lengthens the file, whose entry is in this sector, by zeros. It stages the entry alone.
+/// Lengthens the file, whose entry is in this sector, by zeros. It stages only the entry.
 ///
 /// It is refused where the log has failed before, and then nothing was staged.
 pub fn grow<D: Device>(

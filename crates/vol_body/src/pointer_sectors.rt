@@ -30,7 +30,7 @@ pub struct PointerSectors {
     pub double_indirect_block: PointerSector,
     /// The one that lists the first data block past the first 58 that is written.
     pub early: PointerSector,
-    /// The one that lists the 128 data blocks behind those of `early`.
+    /// The one that lists the 128 data blocks after those of `early`.
     pub late: PointerSector,
 }
 

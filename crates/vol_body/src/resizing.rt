@@ -35,7 +35,7 @@ pub fn set_size<D: Device>(
     requires room { 4 ≤ room_of log.old }
     requires small_before { entry.old.size ≤ 8483840 }
     requires small { size ≤ 8483840 }
-    // Read as a list, the file is cut or has zeros behind it.
+    // Read as a list, the file is cut or has zeros after it.
     ensures file { IfSound log.old sectors.old entry.old (OnOk result
         (FileBecomes inode_sector sectors.old sectors.new (view log.old) (view log.new) entry.old
         entry.new (resized size (bytes_of (view log.old) entry.old)))) }

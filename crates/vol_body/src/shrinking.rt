@@ -17,7 +17,7 @@ use vol_inode::{Entry, write_entry};
 use vol_log::Log;
 use vol_sector::{Device, DeviceFault};
 
-/// The pointers of a file that keeps so many data blocks.
+/// The pointers of a file that keeps this many data blocks.
 fn kept_pointers(pointers: &[u32; 60], count: u32) -> [u32; 60]
     ensures { (j : ℕ) → j < 60 → slice_index result j
         ≡ (if nat_lt (first_of_pointer j) count then slice_index pointers.now j else 0) }
@@ -33,7 +33,7 @@ fn kept_pointers(pointers: &[u32; 60], count: u32) -> [u32; 60]
 }
 
 /// Shortens the file, whose entry is in this sector. It stages the entry, and at most three
-/// sectors of which the file keeps a beginning, with zeros behind it; it gives back those that the
+/// sectors of which the file keeps a beginning, with zeros after it; it gives back those that the
 /// file names no more.
 ///
 /// It is refused where a device operation failed, or had failed before. Then nothing was staged, and

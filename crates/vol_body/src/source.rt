@@ -78,7 +78,7 @@ impl<'a> Source<'a> {
         self.len() == 0
     }
 
-    /// What is left after so many bytes.
+    /// What is left after this many bytes.
     pub(crate) fn after(&self, count: usize) -> Source<'a>
         ensures { result ≡ drop count self.now }
     {

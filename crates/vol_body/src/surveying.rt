@@ -345,7 +345,7 @@ fn ends_in_zeros<D: Device>(log: &mut Log<D>, entry: &Entry, end: u32) -> Result
     Ok(zeros_from(&image, from))
 }
 
-/// Pushes the number of each sector that the file names, in the order of its positions, behind the
+/// Pushes the number of each sector that the file names, in the order of its positions, after the
 /// numbers that were pushed before.
 ///
 /// It is refused as `Damaged` where a number is out of the data sectors from `first` to the one

@@ -19,7 +19,7 @@ use vol_inode::{Entry, Version, read_entry, write_entry};
 use vol_log::Log;
 use vol_sector::{Device, DeviceFault, VolumeFault};
 
-// As many slots as have sectors behind the log: no log has more sectors than 32 bits can number.
+// As many slots as have sectors after the log: no log has more sectors than 32 bits can number.
 const MOST_SLOTS: u32 = u32::MAX - 122;
 
 /// The names of a volume's entries.

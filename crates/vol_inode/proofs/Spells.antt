@@ -3,7 +3,7 @@ use Rattle.std.proofs.Common.{◌≡◌, ℕ, ◌+◌, List, [], ◌∷◌, ◌+
 use Rattle.std.proofs.lemmas.List.{take_at, drop_at, length-append}
 use Rattle.vol_inode.specs.internal.Writes.{overwritten}
 
--- a write that fills the part behind a front
+-- a write that fills the part after a front
 pub write_behind : (front part rest bytes : List ℕ) (at : ℕ) → length front ≡ at → length part ≡ length bytes
     → overwritten (front ++ part ++ rest) at bytes ≡ front ++ bytes ++ rest
 write_behind front part rest bytes at e f =

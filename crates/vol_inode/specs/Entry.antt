@@ -1,4 +1,4 @@
--- The rules on one entry that its own sector shows.
+-- The rules on one entry that its own sector shows (`docs/VOLUME.md`, "Entry").
 use Rattle.std.specs.Prelude.{◌≡◌, ◌≢◌, ◌≤◌, ◌<◌, ◌^◌, ℕ, List, All, length, take, drop, nat_lt, slice_index, if◌then◌else◌}
 use Rattle.vol_inode.specs.declared.entry.Entry.{Entry}
 use Rattle.vol_inode.specs.declared.entry.Kind.TheVariants.{Directory}
@@ -6,7 +6,7 @@ use Rattle.vol_inode.specs.declared.version.Version.{Version}
 use Rattle.vol_inode.specs.Name.{IsName}
 use Rattle.vol_inode.specs.Space.{sectors_of, size_limit}
 
--- the name of an entry, without the bytes behind it
+-- the name of an entry, without the bytes after it
 abbrev pub name_of : Entry → List ℕ
 name_of e = take e.name_length e.name
 
@@ -22,7 +22,7 @@ pub record HasWidths (e : Entry) : Type 0 where
   pub pointers : length e.pointers ≡ 60
   pub each : (k : ℕ) → slice_index e.pointers k < 2 ^ 32
 
--- The root alone has no parent, and it is a directory with no name. Each other entry has a name.
+-- Only the root has no parent, and it is a directory with no name. Each other entry has a name.
 pub record HasName (e : Entry) : Type 0 where
   pub root_kind : e.parent ≡ 0 → e.kind ≡ Directory
   pub root_name : e.parent ≡ 0 → e.name_length ≡ 0
@@ -40,7 +40,7 @@ HasPointers e = (k : ℕ) → k < 60 → sectors_of e.size ≤ first_part k → 
 -- the rules on the values of the fields
 pub record KeepsRules (version : Version) (e : Entry) : Type 0 where
   pub name : HasName e
-  -- zeros stand behind the name
+  -- zeros stand after the name
   pub padded : All (λ b. b ≡ 0) (drop e.name_length e.name)
   pub size : HasSize version e
   pub pointers : HasPointers e

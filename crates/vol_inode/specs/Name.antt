@@ -1,4 +1,4 @@
--- Names of entries.
+-- Names of entries (`docs/VOLUME.md`, "Entry").
 use Rattle.std.specs.Prelude.{◌≢◌, ◌≤◌, ◌<◌, ℕ, List, [], ◌∷◌, length, IsUtf8}
 use Rattle.std.specs.List.{Contains}
 

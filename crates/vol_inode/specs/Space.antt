@@ -1,4 +1,4 @@
--- The space that files take.
+-- The space that files take (`docs/VOLUME.md`, "Space").
 use Rattle.std.specs.Prelude.{◌+◌, ◌-◌, ◌/◌, ℕ, nat_le, if◌then◌else◌}
 use Rattle.vol_inode.specs.declared.version.Version.{Version}
 use Rattle.vol_inode.specs.declared.version.Version.TheVariants.{One, Two}
@@ -11,8 +11,8 @@ sectors_of size = (size + 511) / 512
 abbrev pub lists_of : ℕ → ℕ
 lists_of count = (count + 127) / 128
 
--- The sectors that a file of this size may take: those of its bytes; behind the first 58 one that lists the next 128;
--- behind these one that lists the lists of all others.
+-- The sectors that a file of this size may take: those of its bytes; after the first 58 one that lists the next 128;
+-- after these one that lists the lists of all others.
 abbrev pub need_of : ℕ → ℕ
 need_of size = let count = sectors_of size in
     if nat_le count 58 then count else (if nat_le count 186 then count + 1 else count + 2 + lists_of (count - 186))

@@ -1,4 +1,4 @@
--- The 512 bytes of an entry.
+-- The 512 bytes of an entry (`docs/VOLUME.md`, "Entry").
 use Rattle.std.specs.Prelude.{ℕ, List, [], ◌∷◌, ◌++◌, replicate}
 use Rattle.std.specs.List.{flat_map}
 use Rattle.byteorder.specs.Endian.{little_bytes}

@@ -27,7 +27,7 @@ impl Kind {
 #[derive(Clone, Copy, Debug, PartialEq, Eq)]
 pub struct Entry {
     pub kind: Kind,
-    /// The length of the name in bytes; 0 for the root alone.
+    /// The length of the name in bytes; 0 only for the root.
     pub name_length: u8,
     /// The serial of the directory that it is in; 0 for the root.
     pub parent: u32,

@@ -12,7 +12,7 @@ use Rattle.vol_log.proofs.Images.{at_once, put_same, put_other, wrote_other, ove
 past : {X : Type 0} (k n : ℕ) (x y : X) → k ≢ n → (if k == n then x else y) ≡ y
 past k n x y ne = grind (arith, nat_tests)
 
--- a batch behind the log leaves the sectors before it
+-- a batch after the log leaves the sectors before it
 over_low_at : (batch : List Staged) (k : ℕ) (m : Image) → ((j : ℕ) → j < length batch → 122 ≤ get_or (numbers batch) j 0) → k < 122 → over batch m k ≡ m k
 over_low_at [] k m behind low = refl
 over_low_at (s ∷ batch) k m behind low =

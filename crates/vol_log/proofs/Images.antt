@@ -22,7 +22,7 @@ put_other n k bytes m other = grind (arith, nat_tests)
 pub at_once : (k : ℕ) (x y : Image) → x ≡ y → x k ≡ y k
 at_once k x y same = ap (λ (m : Image). m k) same
 
--- a write touches its sector alone
+-- a write touches only its sector
 pub wrote_other : (n k : ℕ) (bytes : List ℕ) (x y : Image) → Wrote n bytes x y → k ≢ n → y k ≡ x k
 wrote_other n k bytes x y (inl same) other = at_once k y x same
 wrote_other n k bytes x y (inr written) other = at_once k y (put n bytes x) written ∙ put_other n k bytes x other
@@ -40,7 +40,7 @@ logged_push (k ∷ ns) n at m =
     let e : at + 1 + length ns ≡ at + suc (length ns) = omega arith in
     ap (λ (l : List Staged). (record { sector = k; image = m at }) ∷ l) (logged_push ns n (at + 1) m ∙ ap (λ (p : ℕ). logged ns (at + 1) m ++ (record { sector = n; image = m p }) ∷ []) e)
 
--- a write behind the log's images leaves them
+-- a write after the log's images leaves them
 pub logged_put : (ns : List ℕ) (at n : ℕ) (bytes : List ℕ) (m : Image) → at + length ns ≤ n → logged ns at (put n bytes m) ≡ logged ns at m
 logged_put [] at n bytes m le = refl
 logged_put (k ∷ ns) at n bytes m le =

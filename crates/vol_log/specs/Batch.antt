@@ -1,4 +1,4 @@
--- What a log stands for.
+-- What a log stands for (`docs/VOLUME.md`, "Log").
 use Rattle.std.specs.Prelude.{◌≡◌, ◌⊎◌, ◌+◌, ◌≤◌, ◌<◌, ◌==◌, ℕ, List, [], ◌∷◌, map, Bool, true, false, if◌then◌else◌}
 use Rattle.vol_sector.specs.Disk.{Image, Disk, Only}
 use Rattle.vol_log.specs.Header.{IsHeader}

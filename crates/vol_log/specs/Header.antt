@@ -1,4 +1,4 @@
--- The log header: which sectors the log's images are for.
+-- The log header: which sectors the log's images are for (`docs/VOLUME.md`, "Log").
 use Rattle.std.specs.Prelude.{◌≡◌, ◌≢◌, ◌-◌, ◌*◌, ◌≤◌, ◌<◌, ◌++◌, ℕ, List, length, replicate, slice_index}
 use Rattle.std.specs.List.{flat_map}
 use Rattle.byteorder.specs.Endian.{little_bytes}
@@ -7,7 +7,7 @@ use Rattle.byteorder.specs.Endian.{little_bytes}
 abbrev pub header_bytes : List ℕ → List ℕ
 header_bytes numbers = little_bytes 4 (length numbers) ++ flat_map (little_bytes 4) numbers ++ replicate (508 - 4 * length numbers) 0
 
--- sectors that a log may be for: at most 120, behind the log, on the disk, all different
+-- sectors that a log may be for: at most 120, after the log, on the disk, all different
 pub record Places (sectors : ℕ) (numbers : List ℕ) : Type 0 where
   pub few : length numbers ≤ 120
   pub behind : (k : ℕ) → k < length numbers → 122 ≤ slice_index numbers k

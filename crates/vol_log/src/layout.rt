@@ -12,5 +12,5 @@ pub const FIRST_IMAGE: u32 = 2;
 /// How many images the log has room for.
 pub const IMAGES: usize = 120;
 
-/// The first sector behind the log.
+/// The first sector after the log.
 pub const FIRST_BEHIND: u32 = 122;

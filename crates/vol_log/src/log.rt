@@ -162,7 +162,7 @@ impl<D: Device> Log<D> {
         }
     }
 
-    /// Stages a sector behind the log, in place of what was staged for it before. It takes one of
+    /// Stages a sector after the log, in place of what was staged for it before. It takes one of
     /// the 120 places, unless the sector has one already.
     pub fn stage(&mut self, n: u32, image: &[u8; 512])
         requires place { 122 ≤ n }

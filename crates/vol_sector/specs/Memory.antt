@@ -33,7 +33,7 @@ tried_of m = m.tried.operations
 abbrev pub disk_of : MemoryDevice → Disk
 disk_of m = counting (tried_of m) (recorded (first_of m) (record_of m))
 
--- a device of so many sectors with this image, on which nothing was done
+-- a device of this many sectors with this image, on which nothing was done
 pub record IsUnused (m : MemoryDevice) (sectors room : ℕ) (image : Image) : Type 0 where
   pub sectors_is : sectors_of m ≡ sectors
   pub room_is : room_of m ≡ room

@@ -39,7 +39,7 @@ impl MemoryDevice {
     ghost use Rattle.vol_sector.specs.Memory.{first_of, record_of, room_of, sectors_of, IsUnused};
     ghost use Rattle.vol_sector.specs.Memory.{tried_of, failures_of, disk_of};
 
-    /// A device of so many sectors of zeros, whose record has room for so many writes and syncs.
+    /// A device of this many sectors of zeros, whose record has room for this many writes and syncs.
     /// It fails only where memory is refused.
     pub fn new(alloc: Global, sectors: u32, room: usize) -> Result<MemoryDevice, AllocError>
         ensures { IfOk result (λ m. IsUnused m sectors room (λ n. replicate 512 0)) }

@@ -10,7 +10,7 @@ use Rattle.vol_tree.specs.Stands.{StandsAs, IsNoVolume, empty_tree}
 use Rattle.vol_tree.specs.Fresh.{fresh_slot, HasFreshSlots, IsFresh, BehindTheLog, BehindTheFirst, IsNoneOrEmpty}
 use Rattle.vol_tree.proofs.Empty.{stands_empty}
 
--- a write behind the log
+-- a write after the log
 pub wrote_behind : (n : ℕ) (bytes : List ℕ) → 122 ≤ n → (x y : Image) → Wrote n bytes x y → BehindTheLog x y
 wrote_behind n bytes behind x y wrote k low = let other : k ≢ n = omega arith in wrote_other n k bytes x y wrote other
 

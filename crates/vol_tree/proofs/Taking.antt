@@ -47,7 +47,7 @@ pub room_left : (b : Bool) (r n : ℕ) → n ≡ (if b then r else r - 1) → r 
 room_left true r n is = omega arith
 room_left false r n is = omega arith
 
--- whether a refusal is the device's hangs on its errno alone
+-- whether a refusal is the device's depends only on its errno
 pub same_io : (X Y : Type 0) (e : Errno) → is_io {X = X} (Err e) ≡ is_io {X = Y} (Err e)
 same_io X Y errno.Exist = refl
 same_io X Y errno.TooBig = refl

@@ -46,7 +46,7 @@ mark_set parents marks at are leads some below = record {
   count = length-set marks (at - 1) true ∙ are.count;
 }
 
--- the root's mark alone
+-- only the root's mark
 pub top_marked : (parents : List ℕ) (flags : List Bool) → length flags ≡ length parents → 0 < length parents → ((s : ℕ) → get_or flags s false ≡ false) → AreMarked parents (set flags 0 true)
 top_marked parents flags count some none = record {
   lead = λ s mark. elim (cases_eq s 0) [

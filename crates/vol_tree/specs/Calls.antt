@@ -66,7 +66,7 @@ renamed T serial parent name = unless
     ((serial == 1, errno.Invalid) ∷ (is_within (length T) T serial parent, errno.Invalid) ∷ [])
     (option_map_or (moved_onto T serial parent name) (lookup T parent name) (Ok (moved T serial parent name)))
 
--- the bytes with zeros behind them, up to a length
+-- the bytes with zeros after them, up to a length
 abbrev pub extended : ℕ → List ℕ → List ℕ
 extended size bytes = bytes ++ replicate (size - length bytes) 0
 

@@ -1,4 +1,4 @@
--- What formatting leaves.
+-- What formatting leaves (`docs/VOLUME.md`, "Formatting").
 use Rattle.std.specs.Prelude.{◌≡◌, ◌⊎◌, ◌+◌, ◌<◌, ◌==◌, ℕ, List, [], if◌then◌else◌, replicate}
 use Rattle.vol_sector.specs.Disk.{Image}
 use Rattle.vol_log.specs.Header.{header_bytes}
@@ -21,11 +21,11 @@ root_entry = record { kind = Directory; name_length = 0; parent = 0; size = 0; n
 abbrev pub fresh_slot : ℕ → List ℕ
 fresh_slot s = if s == 0 then spelling root_entry else unused
 
--- the slots hold the root alone
+-- the slots hold only the root
 abbrev pub HasFreshSlots : ℕ → Image → Type 0
 HasFreshSlots slots image = (s : ℕ) → s < slots → image (122 + s) ≡ fresh_slot s
 
--- the log is empty, and the slots hold the root alone
+-- the log is empty, and the slots hold only the root
 pub record IsFresh (slots : ℕ) (image : Image) : Type 0 where
   pub log : image 1 ≡ header_bytes []
   pub entries : HasFreshSlots slots image

@@ -1,4 +1,4 @@
--- Laws over the definitions of a tree alone.
+-- Laws over the definitions of a tree only.
 use Rattle.std.specs.Prelude.{◌≡◌, ◌≢◌, ◌<◌, ℕ, suc, ◌∷◌, Some, None, Ok, IsSome}
 use Rattle.std.specs.Option.{option_map}
 use Rattle.vol_tree.specs.Tree.{Tree, Path, Name, Node, Entry, entry, Leads, IsAt, IsTree, IsDirectory}

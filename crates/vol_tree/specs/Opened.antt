@@ -96,7 +96,7 @@ abbrev pub Tells : {X : Type 0} → X → Tree → Tree → Result X Errno → T
 Tells meant old new (Ok x) = (x ≡ meant) × (new ≡ old)
 Tells meant old new (Err e) = (e ≡ errno.Io) × (new ≡ old)
 
--- A call that reads bytes into a buffer: it says how many, and what stood behind them in the buffer stays; or 29, and a
+-- A call that reads bytes into a buffer: it says how many, and what stood after them in the buffer stays; or 29, and a
 -- beginning of them may stand there.
 abbrev pub TellsBytes : List ℕ → List ℕ → List ℕ → Tree → Tree → Result ℕ Errno → Type 0
 TellsBytes meant before after old new (Ok n) = (n ≡ length meant) × (after ≡ meant ++ drop n before) × (new ≡ old)

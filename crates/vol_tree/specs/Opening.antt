@@ -1,4 +1,4 @@
--- What opening says of an image, on a device with so many sectors.
+-- What opening says of an image, on a device with this many sectors (`docs/VOLUME.md`, "What opening refuses").
 use Rattle.std.specs.Prelude.{◌⊎◌, ◌≤◌, ◌<◌, ℕ, drop}
 use Rattle.byteorder.specs.Endian.{little_number}
 use Rattle.vol_sector.specs.Disk.{Image}

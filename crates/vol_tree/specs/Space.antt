@@ -1,4 +1,5 @@
 -- The space that a tree takes: sectors of 512 bytes for the bytes of its files, and for the sectors that list them.
+-- See `docs/VOLUME.md`, "Space".
 use Rattle.std.specs.Prelude.{ℕ, length, Option, Some, None}
 use Rattle.std.specs.List.{sum_by}
 use Rattle.vol_inode.specs.declared.version.Version.{Version}

@@ -1,4 +1,4 @@
--- The tree that an image of a disk stands for.
+-- The tree that an image of a disk stands for (`docs/VOLUME.md`, "Sectors").
 use Rattle.std.specs.Prelude.{◌≡◌, ◌≢◌, ◌+◌, ◌-◌, ◌≤◌, ◌<◌, ℕ, List, ◌∷◌, length, map, get_or, take, replicate, Option, Some, None}
 use Rattle.std.specs.Option.{option_map}
 use Rattle.vol_sector.specs.Disk.{Image}
@@ -81,6 +81,6 @@ Stands image T = (v : Superblock) × StandsAs image v T
 abbrev pub IsNoVolume : Image → Type 0
 IsNoVolume image = take 8 (image 0) ≢ magic
 
--- the root and nothing else, in so many slots
+-- the root and nothing else, in this many slots
 abbrev pub empty_tree : ℕ → Tree
 empty_tree slots = Some tree.root ∷ replicate (slots - 1) None

@@ -1,4 +1,4 @@
--- The first sector of a volume.
+-- The first sector of a volume (`docs/VOLUME.md`, "Superblock").
 use Rattle.std.specs.Prelude.{◌≢◌, ◌+◌, ◌≤◌, ◌<◌, ℕ, List, [], ◌∷◌, ◌++◌, replicate}
 use Rattle.byteorder.specs.Endian.{little_bytes}
 use Rattle.vol_inode.specs.declared.version.Version.{Version}

@@ -111,7 +111,7 @@ fn write_first<D: Device>(device: &mut D, image: &[u8; 512]) -> Result<(), Devic
     device.sync()
 }
 
-/// Writes an empty log and the root alone, and syncs.
+/// Writes an empty log and only the root, and syncs.
 fn write_behind<D: Device>(device: &mut D, slots: u32) -> Result<(), DeviceFault>
     requires few { slots ≤ 8192 }
     requires room { 122 + slots ≤ D.size device.old }
@@ -131,7 +131,7 @@ fn write_behind<D: Device>(device: &mut D, slots: u32) -> Result<(), DeviceFault
     device.sync() // the slots are on the disk before the superblock names them
 }
 
-/// Writes the slots: the root, and behind it slots that aren't used.
+/// Writes the slots: the root, and after it slots that aren't used.
 fn write_slots<D: Device>(device: &mut D, slots: u32) -> Result<(), DeviceFault>
     requires few { slots ≤ 8192 }
     requires room { 122 + slots ≤ D.size device.old }

@@ -62,7 +62,7 @@ pub fn written_changes_one_file()
     ensures { WrittenMap }
 {}
 
-/// A law: another size cuts the bytes of one file in the map from paths, or puts zeros behind them,
+/// A law: another size cuts the bytes of one file in the map from paths, or puts zeros after them,
 /// and nothing else changes.
 pub fn resized_changes_one_file()
     ensures { ResizedMap }

@@ -18,7 +18,7 @@ use Rattle.wasi_calls.specs.internal.Buffers.{pair_of, list_of}
 abbrev pub buffer_at : List ℕ → Buffer
 buffer_at bytes = (little_number 4 bytes, little_number 4 (drop 4 bytes))
 
--- the buffer at a place, and those behind it
+-- the buffer at a place, and those after it
 buffers_from : (array : List ℕ) (count i : ℕ) → i < count → buffers_in (count - i) (drop (8 * i) array) ≡ buffer_at (drop (8 * i) array) ∷ buffers_in (count - (i + 1)) (drop (8 * (i + 1)) array)
 buffers_from array count i h =
     let one_more : count - i ≡ suc (count - (i + 1)) = omega arith in

@@ -109,7 +109,7 @@ at_slot T cookie (suc slot) o low h =
     let place : cookie + (suc slot - (cookie + 1)) ≡ slot = omega arith in
     ap (λ (k : ℕ). get_or T k None) (sym place) ∙ (sym there ∙ h)
 
--- the next entry, and what is told behind it
+-- the next entry, and what is told after it
 pub record ListGoesOn (T : Tree) (directory cookie serial : ℕ) : Type 0 where
   pub e : Entry
   pub used : entry T serial ≡ Some e

@@ -43,7 +43,7 @@ split None after bytes h = record { had = bytes; left = []; tells = tt; parts = 
 split (Some xs) None bytes h = absurd h
 split (Some xs) (Some ys) bytes h = record { had = xs; left = ys; tells = (refl, refl); parts = h; none = λ end _. end; end = λ end. end }
 
--- so many are taken of them
+-- this many are taken of them
 record IsCut (had bytes left : List ℕ) (n : ℕ) : Type 0 where
   first : take n had ≡ bytes
   rest : drop n had ≡ left

@@ -15,7 +15,7 @@ pub none_long : (l : List ℕ) → length l ≡ 0 → l ≡ []
 none_long [] h = refl
 none_long (x ∷ l) h = absurd (omega (arith, h))
 
--- ---- bytes written behind others
+-- ---- bytes written after others
 
 written_none : (m : List ℕ) (p : ℕ) → written m p [] ≡ m
 written_none m p = ap (λ (n : ℕ). take p m ++ drop n m) (add-zero p) ∙ take-append-drop p m

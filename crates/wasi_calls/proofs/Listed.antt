@@ -59,7 +59,7 @@ next_used T directory after serial next =
     let on = list_goes_on T directory after serial next in
     subst (λ (o : Option TreeEntry). IsSome o) (sym on.used) refl
 
--- ---- behind the last serial nothing comes
+-- ---- after the last serial nothing comes
 
 pub none_behind : (T : Tree) (directory a b : ℕ) → length T ≤ a → length T ≤ b → dirents T directory a ≡ dirents T directory b
 none_behind T directory a b low high = none a low ∙ sym (none b high)

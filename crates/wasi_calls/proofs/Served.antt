@@ -114,7 +114,7 @@ module _ {D R W1 W2 : Type 0} (honest : D → Type 0) (disk : D → Disk) (secto
         volume = volume_rests honest disk sectors_on failures old.volume;
       }
 
-  -- A call that changes the volume alone.
+  -- A call that changes only the volume.
   pub serves_volume : (run r : World → Checked Done) (old : Inner D R W1 W2) (v : Opened D) (m m' : List ℕ) (e : ℕ)
       → IsSetUp remaining old → VolumeStep honest disk sectors_on failures old.volume v
       → ((w : World) → run w ≡ r w)

@@ -52,7 +52,7 @@ pub(crate) fn total_len(buffers: &[Span]) -> u64
     total
 }
 
-/// Whether all of them end in so many bytes.
+/// Whether all of them end in this many bytes.
 fn end_within(buffers: &[Span], len: usize) -> bool
     ensures { result ≡ list_all (λ b. nat_le (b.pointer + b.len) len) buffers.now }
 {
@@ -66,7 +66,7 @@ fn are_inside(buffers: &[Span], memory: &Memory) -> bool
     end_within(buffers, memory.len())
 }
 
-/// Reads the buffers of the array of so many at an address.
+/// Reads an array of buffers of this length and at this address.
 fn read_array(room: &mut [Span], memory: &Memory, iovs: u32, count: u32)
     requires room { length room.old ≡ 1024 }
     requires few { count ≤ 1024 }
@@ -95,7 +95,7 @@ fn check_buffers(buffers: &[Span], memory: &Memory) -> Result<(), Errno>
     }
 }
 
-/// What a call on buffers is asked: a descriptor, an array of so many buffers, and where its result is to stand.
+/// What a call on buffers is asked: a descriptor, an array of this many buffers, and where its result is to stand.
 #[derive(Clone, Copy)]
 pub(crate) struct Request {
     pub fd: u32,

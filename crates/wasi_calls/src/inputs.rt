@@ -19,7 +19,7 @@ use wasm_store::{Errno, Memory};
 #[derive(Clone, Copy)]
 struct ReaderFailed;
 
-/// Reads once into the piece, at most so many bytes, and says how many: none only at the reader's end. Any error of the
+/// Reads once into the piece, at most this many bytes, and says how many: none only at the reader's end. Any error of the
 /// reader counts as failure, an interruption too.
 fn read_piece<R: Read>(reader: &mut R, piece: &mut [u8], most: usize) -> Result<usize, ReaderFailed>
     requires room { 0 < length piece.old }
@@ -46,7 +46,7 @@ fn put_at(memory: &mut Memory, place: usize, bytes: &[u8])
     part.copy_from_slice(bytes);
 }
 
-/// Reads once into memory from a place on, at most so many bytes, and says how many: none only at the reader's end.
+/// Reads once into memory from a place on, at most this many bytes, and says how many: none only at the reader's end.
 fn read_some<R: Read>(
     reader: &mut R,
     piece: &mut [u8],
@@ -72,7 +72,7 @@ fn read_some<R: Read>(
     }
 }
 
-/// Reads into memory from a place on until so many bytes came or the input ends, and says how many came.
+/// Reads into memory from a place on until this many bytes came or the input ends, and says how many came.
 fn fill<R: Read>(
     input: &mut Input<R>,
     piece: &mut [u8],

@@ -97,7 +97,7 @@ fn describe(serial: u32, stat: &Stat) -> Told
     Told { serial, len, bytes }
 }
 
-/// The entry that a list goes on with behind a serial.
+/// The entry that a list goes on with after a serial.
 fn next_told<D: Device>(
     volume: &mut Volume<D>,
     directory: u32,
@@ -132,7 +132,7 @@ fn put_some(part: &mut [u8], place: usize, bytes: &[u8]) -> usize
     end
 }
 
-/// Puts the list behind a serial into the part, as far as there is room, and says how many bytes that is.
+/// Puts the list after a serial into the part, as far as there is room, and says how many bytes that is.
 fn list<D: Device>(
     volume: &mut Volume<D>,
     directory: u32,
@@ -160,7 +160,7 @@ fn list<D: Device>(
     Ok(filled)
 }
 
-/// Puts the list behind a serial into memory, from a place on, as far as there is room, and says how many bytes that is.
+/// Puts the list after a serial into memory, from a place on, as far as there is room, and says how many bytes that is.
 fn list_part<D: Device>(
     volume: &mut Volume<D>,
     directory: u32,
@@ -187,14 +187,14 @@ fn list_part<D: Device>(
     }
 }
 
-/// The cookie, or the last number that a serial can have where it is greater: no entry comes behind either.
+/// The cookie, or the last number that a serial can have where it is greater: no entry comes after either.
 fn last_told(cookie: u64) -> u32
     ensures { result ≡ min cookie (2 ^ 32 - 1) }
 {
     cookie.min(u64::from(u32::MAX)) as u32
 }
 
-/// Puts the list behind a cookie into memory, as far as there is room, and says how many bytes that is.
+/// Puts the list after a cookie into memory, as far as there is room, and says how many bytes that is.
 fn list_from<D: Device>(
     volume: &mut Volume<D>,
     directory: u32,

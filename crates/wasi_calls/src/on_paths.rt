@@ -1,4 +1,4 @@
-//! The calls on paths that change the volume alone.
+//! The calls on paths that change only the volume.
 
 ghost use Rattle.wasi_fd.specs.Table.{table_of};
 ghost use Rattle.wasm_store.specs.declared.call.HostCall.TheVariants as call;

@@ -1,4 +1,4 @@
-//! The calls that change the volume alone.
+//! The calls that change only the volume.
 
 ghost use Rattle.std.specs.Prelude.{◌≡◌};
 ghost use Rattle.vol_sector.specs.Disk.{Image};

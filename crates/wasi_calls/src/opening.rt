@@ -163,7 +163,7 @@ fn check_found(oflags: u32, is_directory: bool) -> Result<(), Errno>
     }
 }
 
-/// The checks on a name that isn't there, with a slash behind it or without.
+/// The checks on a name that isn't there, with a slash after it or without.
 #[tactic(auto, using(crate::proofs::Yields::goes_on, crate::proofs::Yields::stops))]
 fn check_missing(oflags: u32, slash: bool) -> Result<(), Errno>
     ensures { MatchResult result (λ u. missing_checked oflags slash ≡ Ok u)

@@ -27,7 +27,7 @@ use vol_tree::{Span, Volume};
 use wasi_fd::{Descriptor, Descriptors, Opened, Rights};
 use wasm_store::{Errno, Memory};
 
-/// Cuts the buffers to so many bytes in all.
+/// Cuts the buffers to this many bytes in all.
 pub(crate) fn cut_to(buffers: &mut [Span], len: u32)
     ensures { list_of buffers.new ≡ cut len (list_of buffers.old) }
 {
@@ -194,7 +194,7 @@ fn fill_buffers<D: Device>(
     Ok(())
 }
 
-/// How many bytes of a file of this size there are from a place on, at most so many.
+/// How many bytes of a file of this size there are from a place on, at most this many.
 fn count_from(size: u32, from: u64, most: u32) -> u32
     ensures count { result ≡ min most (size - from) }
     ensures near { from + result < 2 ^ 64 }
@@ -279,7 +279,7 @@ pub(crate) fn read_placed<D: Device>(
     }
 }
 
-/// Reads the bytes of an open file where it stands into the buffers of a call. The file moves behind them, and then it is
+/// Reads the bytes of an open file where it stands into the buffers of a call. The file moves after them, and then it is
 /// written how many. The buffers are in the room, which is cut to what was read.
 pub(crate) fn read_file<'t, D: Device>(
     volume: &mut Volume<D>,

@@ -74,7 +74,7 @@ struct Ends<'t, 'm> {
 struct Walked<'m> {
     source: u32,
     target: Reached<'m>,
-    /// A slash stands behind the second path.
+    /// A slash stands after the second path.
     slash: bool,
 }
 
@@ -265,7 +265,7 @@ fn rename_found<D: Device>(
     }
 }
 
-/// Whether a name with a slash behind it may be given to a directory, or a file.
+/// Whether a name with a slash after it may be given to a directory, or a file.
 fn check_slash(slash: bool, is_directory: bool) -> Result<(), Errno>
     ensures { MatchResult result (λ u. (not slash || is_directory) ≡ true)
         (λ e. ((not slash || is_directory) ≡ false) × (e.0 ≡ 54)) }
@@ -277,7 +277,7 @@ fn check_slash(slash: bool, is_directory: bool) -> Result<(), Errno>
     }
 }
 
-/// Renames to a name that isn't there, which may have a slash behind it.
+/// Renames to a name that isn't there, which may have a slash after it.
 fn rename_missing<D: Device>(
     volume: &mut Volume<D>,
     source: u32,

@@ -120,7 +120,7 @@ fn where_it_writes<'t, D: Device>(
     }
 }
 
-/// Writes what stands in the buffers to an open file where it stands, which moves behind it, and then how many bytes
+/// Writes what stands in the buffers to an open file where it stands, which moves after it, and then how many bytes
 /// that is.
 fn write_on<'t, D: Device>(
     volume: &mut Volume<D>,

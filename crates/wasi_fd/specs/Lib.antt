@@ -1,3 +1,4 @@
+-- What public contracts cite, in reading order.
 pub mod Fault
 pub mod Rights
 pub mod Table

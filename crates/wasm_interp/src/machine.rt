@@ -39,7 +39,7 @@ impl<'a> Model for Machine<'a> {
 }
 
 impl<'a> Machine<'a> {
-    /// Instantiates the module (section 4.5.4) over the calls that the host links, with at most so many pages of memory.
+    /// Instantiates the module (section 4.5.4) over the calls that the host links, with at most this many pages of memory.
     /// Room for 4,096 values and 256 functions at work is reserved. A refusal hands the module back.
     pub fn new<H: Host>(
         alloc: Global,
@@ -62,7 +62,7 @@ impl<'a> Machine<'a> {
         }
     }
 
-    /// Goes on for at most so many units, until one host call is answered, the run ends, or the next step would take a
+    /// Goes on for at most this many units, until one host call is answered, the run ends, or the next step would take a
     /// unit that isn't left.
     pub fn resume<H: Host>(&mut self, host: &mut H, units: u64) -> Pause
         requires { self.old.used + units < 2 ^ 64 }

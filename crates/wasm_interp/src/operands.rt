@@ -12,7 +12,7 @@ use crate::operators::{binary, compare, unary};
 use wasm_module::{BinaryOperator, Comparison, UnaryOperator, ValueType};
 use wasm_num::{Trap, i32_wrap_i64, i64_extend_i32_s};
 
-/// The value at so many places below the top.
+/// The value at this many places below the top.
 pub fn operand(values: &[u64], depth: usize) -> u64
     requires { depth < length values.now }
     ensures { result ≡ slice_index (reverse values.now) depth }
@@ -20,7 +20,7 @@ pub fn operand(values: &[u64], depth: usize) -> u64
     values[values.len() - 1 - depth]
 }
 
-/// Takes so many values off.
+/// Takes this many values off.
 pub fn remove(values: &mut Vec<u64>, taken: usize)
     requires there { taken ≤ vec_len values.old }
     ensures removed { reverse values.new.items ≡ drop taken (reverse values.old.items) }
@@ -29,7 +29,7 @@ pub fn remove(values: &mut Vec<u64>, taken: usize)
     values.truncate(values.len() - taken);
 }
 
-/// Takes so many values off, and puts one in their place.
+/// Takes this many values off, and puts one in their place.
 pub fn replace(values: &mut Vec<u64>, taken: usize, value: u64)
     requires some { 0 < taken }
     requires there { taken ≤ vec_len values.old }

@@ -60,7 +60,7 @@ reads_as X Y A a f g gf fg ra = record {
 
 -- ---- vectors
 
--- so many items that are read are spelled one after the other
+-- this many items that are read are spelled one after the other
 many_takes : (X : Type 0) (A : List ℕ → X → Type 0) (a : Reader X) → Reads X A a → (n : ℕ) (bytes : List ℕ) (xs : List X) (rest : List ℕ) → many_at a n bytes ≡ Some (xs, rest) → Front (List X) (Each A) bytes xs rest × (length xs ≡ n)
 unfolding many_at
 many_takes X A a ra zero bytes xs rest e =
@@ -120,7 +120,7 @@ reads_whole X A a ra = record {
       rw read refl;
 }
 
--- what is read behind its size
+-- what is read after its size
 pub reads_sized : (X : Type 0) (A : List ℕ → X → Type 0) (w : WholeReader X) → ReadsWhole X A w → Reads X (Sized A) (sized_at w)
 unfolding sized_at
 reads_sized X A w rw_ = record {
@@ -202,6 +202,6 @@ reread X Y A a f r code text operands y rest ra is text-is h =
 pub tagged : {Y : Type 0} (A : List ℕ → Y → Type 0) (code : ℕ) (text : List ℕ) (y : Y) → A text y → Then (Byte code) A (code ∷ text) (tt, y)
 tagged A code text y h = (code ∷ [], text, refl, h, refl)
 
--- what is spelled behind a byte begins with it
+-- what is spelled after a byte begins with it
 pub untagged : {Y : Type 0} (A : List ℕ → Y → Type 0) (code : ℕ) (text : List ℕ) (y : Y) → (h : Then (Byte code) A text (tt, y)) → text ≡ code ∷ h.1
 untagged A code text y h = rw (h.4, h.2) refl

@@ -58,7 +58,7 @@ reads_zeros = reads_then (Unit {0}) (Unit {0}) (Byte 0x00) (Byte 0x00) (byte_at 
 abbrev Said : ℕ → List ℕ → Instruction → List ℕ → Type 0
 Said b rest x after = Front Instruction SpellsInstruction (b ∷ rest) x after
 
--- an opcode with nothing behind it, or what is read otherwise
+-- an opcode with nothing after it, or what is read otherwise
 alone_then : (code b : ℕ) (y : Instruction) (g : Reader Instruction) (rest : List ℕ) (x : Instruction) (after : List ℕ) → SpellsInstruction (code ∷ []) y → (g rest ≡ Some (x, after) → Said b rest x after) → cond (eqb b code) (read_as y) g rest ≡ Some (x, after) → Said b rest x after
 alone_then code b y g rest x after spells = choice Instruction SpellsInstruction code b (read_as y) g rest x after (alone Instruction SpellsInstruction code b y rest x after spells)
 
@@ -143,7 +143,7 @@ numerics_take b rest x after e =
     let s = bind_some (numeric_of b) (λ i. Some (i, rest)) (x, after) e in
     subst (λ (q : Instruction × List ℕ). Said b rest q.0 q.1) (some_is (s.0, rest) (x, after) s.2) (record { text = b ∷ []; spells = numeric_takes b s.0 s.1; parts = refl })
 
--- an instruction behind FC and its number
+-- an instruction after FC and its number
 bulk_made : (Y : Type 0) (A : List ℕ → Y → Type 0) (a : Reader Y) (i : Instruction) (number : List ℕ) (rest : List ℕ) (x : Instruction) (after : List ℕ) → Reads Y A a → ((text : List ℕ) (y : Y) → A text y → SpellsInstruction (0xFC ∷ (number ++ text)) i) → map_at (λ (y : Y). i) a rest ≡ Some (x, after) → Said 0xFC (number ++ rest) x after
 bulk_made Y A a i number rest x after ra spells e =
     let s = bind_some (a rest) (λ u. Some (i, u.1)) (x, after) e in
@@ -151,7 +151,7 @@ bulk_made Y A a i number rest x after ra spells e =
     let made : Said 0xFC (number ++ rest) i s.0.1 = record { text = 0xFC ∷ (number ++ f.text); spells = spells f.text s.0.0 f.spells; parts = ap (λ (r : List ℕ). 0xFC ∷ r) (ap (λ (r : List ℕ). number ++ r) f.parts ∙ sym (append_assoc number f.text s.0.1)) } in
     subst (λ (q : Instruction × List ℕ). Said 0xFC (number ++ rest) q.0 q.1) (some_is (i, s.0.1) (x, after) s.2) made
 
--- the instructions behind FC, after their number
+-- the instructions after FC, after their number
 bulk_said : (n : ℕ) (number : List ℕ) (rest : List ℕ) (x : Instruction) (after : List ℕ) → U32 number n → bulk_after n rest ≡ Some (x, after) → Said 0xFC (number ++ rest) x after
 unfolding bulk_after
 bulk_said n number rest x after spells e = by_copy (eqb n 10) refl e where
@@ -163,7 +163,7 @@ bulk_said n number rest x after spells e = by_copy (eqb n 10) refl e where
   by_copy true is e = bulk_made (Unit {0} × Unit {0}) (Then (Byte 0x00) (Byte 0x00)) (then_at (byte_at 0x00) (byte_at 0x00)) op.MemoryCopy number rest x after reads_zeros (λ text y h. (number ++ text, (number, text, subst (U32 number) (eqb-true _ _ is) spells, h, refl), refl)) e
   by_copy false is e = by_fill (eqb n 11) refl e
 
--- the instructions behind FC
+-- the instructions after FC
 bulk_takes : (rest : List ℕ) (x : Instruction) (after : List ℕ) → bulk_at rest ≡ Some (x, after) → Said 0xFC rest x after
 unfolding bulk_at
 bulk_takes rest x after e =
@@ -192,7 +192,7 @@ takes (b ∷ bs) x rest e = after_takes b bs x rest e
 
 -- ---- what is spelled so is read
 
--- an instruction that has nothing behind its opcode
+-- an instruction that has nothing after its opcode
 read_bare : (code : ℕ) (i : Instruction) (text immediates rest : List ℕ) → ((r : List ℕ) → instruction_at (code ∷ r) ≡ Some (i, r)) → immediates ≡ [] → text ≡ code ∷ immediates → instruction_at (text ++ rest) ≡ Some (i, rest)
 read_bare code i text immediates rest is none text-is =
     let whole : text ++ rest ≡ code ∷ rest = rw (text-is, none) refl in

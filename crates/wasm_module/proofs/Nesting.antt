@@ -112,7 +112,7 @@ opened g f fs a o b os make q =
     let ops-are : (o ∷ q.first) ++ q.second ≡ o ∷ os = rw (q.ops-are) refl in
     subst (λ (t : List ℕ). Closes (f ∷ fs) t (o ∷ os)) text-is (subst (Closes (f ∷ fs) ((a ++ q.front) ++ q.back)) ops-are made)
 
--- an instruction that has nothing behind its opcode
+-- an instruction that has nothing after its opcode
 bare : (a : List ℕ) (code : ℕ) (immediates : List ℕ) → immediates ≡ [] → a ≡ code ∷ immediates → a ≡ code ∷ []
 bare a code immediates none is = is ∙ ap (λ (r : List ℕ). code ∷ r) none
 

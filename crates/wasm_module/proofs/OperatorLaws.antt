@@ -1,4 +1,4 @@
--- The laws of operators, which have nothing behind their opcode.
+-- The laws of operators, which have nothing after their opcode.
 use Rattle.std.proofs.Common.{◌≡◌, ℕ, ◌+◌, ◌-◌, ◌≤◌, Bool, true, false, cond, eqb, leb, ◌&&◌, List, [], ◌∷◌, Option, Some, refl, ap, subst, arith}
 use Rattle.std.proofs.lemmas.Bool.{eqb-true, leb-true}
 use Rattle.wasm_module.specs.declared.instruction.ValueType.{ValueType}
@@ -123,7 +123,7 @@ unaries_take b i e =
     let s = bind_some (unary_of b) (λ p. Some (op.Unary p.0 p.1)) i e in
     subst (SpelledBy b) (some_is (op.Unary s.0.0 s.0.1) i s.2) (unary_takes b s.0 s.1)
 
--- a byte alone
+-- only a byte
 bare : (b : ℕ) (code : ℕ) → b ≡ code → b ∷ [] ≡ code ∷ []
 bare b code is = ap (λ (c : ℕ). c ∷ []) is
 

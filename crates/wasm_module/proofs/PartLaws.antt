@@ -138,7 +138,7 @@ reads_body_content = record {
       rw (reads_content.again bytes (b.locals, b.code) h.1) (ap (λ (x : Body). Some x) same);
 }
 
--- bodies behind their size
+-- bodies after their size
 pub reads_body : Reads Body (Sized BodyContent) body_at
 unfolding body_at
 reads_body = reads_sized Body BodyContent body_of reads_body_content

@@ -28,7 +28,7 @@ reads_ignored = record {
       rw (whole, reads_name.again h.1.0 h.0.0 h.1.1 h.1.2) refl;
 }
 
--- a custom section behind its id
+-- a custom section after its id
 reads_custom : Reads (Unit {0}) (Sized Ignored) (sized_at custom_of)
 reads_custom = reads_sized (Unit {0}) Ignored custom_of reads_ignored
 
@@ -51,7 +51,7 @@ starts id (b ∷ bs) e = (bs, ap (λ (c : ℕ). c ∷ bs) (eqb-true _ _ e))
 does_start : (id : ℕ) (bytes : List ℕ) → begins id (id ∷ bytes) ≡ true
 does_start id bytes = eq-eqb id id refl
 
--- custom sections that are read, at most so many
+-- custom sections that are read, at most this many
 customs_takes : (n : ℕ) (bytes : List ℕ) (x : Unit {0}) (rest : List ℕ) → customs_from n bytes ≡ Some (x, rest) → (text : List ℕ) × Customs text × (bytes ≡ text ++ rest)
 unfolding customs_from
 customs_takes zero bytes x rest e = let p = some_is (tt, bytes) (x, rest) e in ([], ([], refl), ap (λ (q : Unit {0} × List ℕ). q.1) p)

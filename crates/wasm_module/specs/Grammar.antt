@@ -19,11 +19,11 @@ Each A text (x ∷ xs) = (front : List ℕ) × (back : List ℕ) × A front x ×
 abbrev pub U32 : List ℕ → ℕ → Type 0
 U32 = SpellsNumber Unsigned 32
 
--- a vector (section 5.1.3): a count, and so many
+-- a vector (section 5.1.3): a count, and this many
 abbrev pub Vector : {X : Type 0} → (List ℕ → X → Type 0) → List ℕ → List X → Type 0
 Vector A text xs = Then U32 (Each A) text (length xs, xs)
 
--- a size, and so many bytes, which spell the thing
+-- a size, and this many bytes, which spell the thing
 abbrev pub Sized : {X : Type 0} → (List ℕ → X → Type 0) → List ℕ → X → Type 0
 Sized A text x = (size : List ℕ) × (content : List ℕ) × U32 size (length content) × A content x × (text ≡ size ++ content)
 

@@ -87,7 +87,7 @@ fn unary_operator(byte: u8) -> Option<(ValueType, UnaryOperator)>
     }
 }
 
-/// The instruction of this opcode on numbers, which has nothing behind it.
+/// The instruction of this opcode on numbers, which has nothing after it.
 #[tactic(auto, unfolding(crate::specs::internal::CodeReading::numeric_of))]
 fn numeric(byte: u8) -> Option<Instruction>
     ensures { result ≡ numeric_of byte }
@@ -220,7 +220,7 @@ fn store(
     }
 }
 
-/// The instruction of this number, which stands behind the opcode FC.
+/// The instruction of this number, which stands after the opcode FC.
 #[tactic(auto, unfolding(crate::specs::internal::CodeReading::bulk_after))]
 fn bulk_instruction(
     cursor: &mut Cursor<'_>,

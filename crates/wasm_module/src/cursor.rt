@@ -47,7 +47,7 @@ impl<'a> Cursor<'a> {
         }
     }
 
-    /// The place in an input that is so many bytes from its first.
+    /// The place in an input that is this many bytes from its first.
     pub fn at(input: &'a [u8], offset: u32) -> Cursor<'a> {
         Cursor {
             rest: input.get(offset as usize..).unwrap_or(&[]),
@@ -189,7 +189,7 @@ impl<'a> Cursor<'a> {
         self.many(alloc, count, offset)
     }
 
-    /// An empty list with room for so many values. Each takes a byte at least, so where fewer bytes
+    /// An empty list with room for this many values. Each takes a byte at least, so where fewer bytes
     /// are left the count is wrong, and no room is made.
     pub fn room<T>(&self, alloc: Global, count: u32) -> Result<Vec<T>, LoadFault>
         ensures { MatchResult result (λ values. values.items ≡ []) (λ e. e ≡ LoadFault.Memory) }
@@ -201,7 +201,7 @@ impl<'a> Cursor<'a> {
         Ok(Vec::with_capacity(alloc, count)?)
     }
 
-    /// So many values.
+    /// This many values.
     #[tactic(auto, using(crate::proofs::Steps::many_more, crate::proofs::Steps::many_done))]
     fn many<T: Decode<'a>>(
         &mut self,
@@ -230,7 +230,7 @@ impl<'a> Cursor<'a> {
         }
     }
 
-    /// A value behind its size, in the part that begins at this offset.
+    /// A value after its size, in the part that begins at this offset.
     #[tactic(auto, unfolding(crate::specs::internal::Reading::sized_at))]
     pub fn sized<T: Decode<'a>>(&mut self, alloc: Global, part: u32) -> Result<T, LoadFault>
         ensures { Gives (λ x. (x, self.new)) result (sized_at (whole T.at) self.old) }
@@ -242,7 +242,7 @@ impl<'a> Cursor<'a> {
         }
     }
 
-    /// Bytes behind their count.
+    /// Bytes after their count.
     #[tactic(auto, unfolding(crate::specs::internal::Reading::sized_at, crate::specs::internal::Reading::raw_of))]
     pub fn sized_bytes(&mut self) -> Result<Bytes<'a>, LoadFault>
         ensures { Gives (λ x. (x, self.new)) result (sized_at raw_of self.old) }

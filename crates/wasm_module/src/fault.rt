@@ -22,7 +22,7 @@ pub enum LoadFault {
     /// A number is too long, or its unused bits are wrong.
     #[error("fault 4 at {offset}")]
     BadInteger { offset: u32 },
-    /// A section stands behind one of its own or a greater id.
+    /// A section stands after one of its own or a greater id.
     #[error("fault 5 at {offset}")]
     SectionOrder { offset: u32 },
     /// What has a size of its own doesn't fill it.

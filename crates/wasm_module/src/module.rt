@@ -73,7 +73,7 @@ pub struct ElementSegment {
     pub functions: Items<u32>,
 }
 
-/// So many locals of one type.
+/// This many locals of one type.
 #[derive(Clone, Copy, Debug, PartialEq, Eq)]
 pub struct Locals {
     pub count: u32,

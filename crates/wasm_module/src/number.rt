@@ -21,7 +21,7 @@ pub struct Span {
     pub end: u32,
 }
 
-/// The number of so many bits that ends in this byte.
+/// The number of this many bits that ends in this byte.
 #[tactic(auto, using(crate::proofs::Powers::double, crate::proofs::Powers::half_is))]
 fn last(sign: Sign, bits: u32, byte: u8, span: Span) -> Result<u64, LoadFault>
     requires byte { byte < 128 }
@@ -40,7 +40,7 @@ fn last(sign: Sign, bits: u32, byte: u8, span: Span) -> Result<u64, LoadFault>
     }
 }
 
-/// The number of so many bits at the front, modulo 2 to that power, and the bytes after it.
+/// The number of this many bits at the front, modulo 2 to that power, and the bytes after it.
 #[tactic(auto, using(crate::proofs::Powers::seven, crate::proofs::Powers::below_64))]
 pub fn number(sign: Sign, bits: u32, bytes: &[u8], span: Span) -> Result<(u64, &[u8]), LoadFault>
     requires some { 0 < bits }

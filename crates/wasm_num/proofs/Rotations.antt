@@ -26,7 +26,7 @@ parts_turned x m k h =
     let low : x / 2 ^ m < 2 ^ k = shr_lt k m (subst (λ (n : ℕ). x < 2 ^ n) swapped h) in
     rw (moved_up x m k) (or_shifted_r (x % 2 ^ m) k (x / 2 ^ m) low)
 
--- of n digits none is behind them
+-- of n digits none is after them
 no_more : (n x : ℕ) → x < 2 ^ n → x ≡ x + x / 2 ^ (n - 0)
 no_more n x h =
     let whole : n - 0 ≡ n = omega arith in

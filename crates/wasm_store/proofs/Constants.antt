@@ -48,7 +48,7 @@ start_nothing gs (i ∷ rest) e = cc
 
 -- ---- the globals' first values
 
--- functions alone are imported, so no globals are
+-- only functions are imported, so no globals are
 no_globals : (is : List Import) → AllByRecursion (λ i. IsFunction i.kind) is → filter_map imported_global (kinds_of is) ≡ []
 no_globals [] a = refl
 no_globals (i ∷ is) a =

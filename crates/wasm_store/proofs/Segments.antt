@@ -79,7 +79,7 @@ module _ (gs : List Val) (size : ℕ) where
 -- ---- writes
 
 module _ (gs : List Val) where
-  -- so many segments are set
+  -- this many segments are set
   pub record TableFilled (before : List (Option ℕ)) (es : List ElementSegment) (k : ℕ) (table : List (Option ℕ)) : Type 0 where
     pub same : with_elements gs table (drop k es) ≡ with_elements gs before es
     pub size : length table ≡ length before
@@ -98,7 +98,7 @@ module _ (gs : List Val) where
   pub table_all : (before table : List (Option ℕ)) (es : List ElementSegment) (k : ℕ) → length es ≤ k → TableFilled before es k table → table ≡ with_elements gs before es
   table_all before table es k l f = ap (with_elements gs table) (sym (nothing_left es k l)) ∙ f.same
 
-  -- so many segments are written
+  -- this many segments are written
   pub record MemoryFilled (before : List ℕ) (ds : List DataSegment) (k : ℕ) (memory : List ℕ) : Type 0 where
     pub same : with_data gs memory (drop k ds) ≡ with_data gs before ds
     pub size : length memory ≡ length before

@@ -6,7 +6,7 @@ abbrev pub from_bytes : List ℕ → ℕ
 from_bytes [] = 0
 from_bytes (b ∷ bs) = b + 256 * from_bytes bs
 
--- so many low bytes of a number, the lowest first
+-- this many low bytes of a number, the lowest first
 abbrev pub to_bytes : ℕ → ℕ → List ℕ
 to_bytes zero x = []
 to_bytes (suc k) x = x % 256 ∷ to_bytes k (x / 256)

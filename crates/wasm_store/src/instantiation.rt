@@ -35,7 +35,7 @@ pub struct Instantiated {
     pub main: u32,
 }
 
-/// Instantiates a module (section 4.5.4) over the calls that the host links, with at most so many pages of memory.
+/// Instantiates a module (section 4.5.4) over the calls that the host links, with at most this many pages of memory.
 ///
 /// The globals get their first values first, so that an offset may be one; nothing is written to the table and to
 /// memory before all segments are found to be inside.
@@ -212,7 +212,7 @@ fn constant(globals: &[u64], code: &[Instruction]) -> u64
     }
 }
 
-/// Whether so many elements or bytes from here on are inside, also where there are none.
+/// Whether this many elements or bytes from here on are inside, also where there are none.
 fn is_inside(start: u64, len: usize, size: usize) -> bool
     ensures inside { OnTrue result (start + len ≤ size) }
     ensures outside { OnFalse result (size < start + len) }
@@ -248,7 +248,7 @@ fn data_fits(guest: &Module, globals: &[u64], size: usize) -> bool
     true
 }
 
-/// A table of so many elements with the element segments in it.
+/// A table of this many elements with the element segments in it.
 fn first_table(
     alloc: Global,
     guest: &Module,
@@ -266,7 +266,7 @@ fn first_table(
     Ok(table)
 }
 
-/// Memory of so many pages with the data segments in it.
+/// Memory of this many pages with the data segments in it.
 fn first_memory(
     alloc: Global,
     guest: &Module,

@@ -32,7 +32,7 @@ impl Memory {
     ghost use Rattle.wasm_store.specs.Bytes.{from_bytes, to_bytes, bytes_at, written};
     ghost use Rattle.wasm_store.specs.Lending.{LendsPart, LendsPartIf};
 
-    /// Memory of so many pages of 65,536 bytes, all zeros.
+    /// Memory of this many pages of 65,536 bytes, all zeros.
     pub fn new(alloc: Global, pages: u32) -> Result<Memory, AllocError>
         ensures { IfOk result (λ m. m ≡ replicate (pages * 65536) 0) }
     {
@@ -62,7 +62,7 @@ impl Memory {
         self.bytes.as_slice()
     }
 
-    /// So many bytes from an address, where they are in memory.
+    /// This many bytes from an address, where they are in memory.
     pub fn slice(&self, address: u32, len: u32) -> Option<&[u8]>
         ensures inside { IfSome result (λ s. (address + len ≤ length self.now) × (s.now ≡ bytes_at self.now address len)) }
         ensures outside { IfNone result (length self.now < address + len) }
@@ -70,7 +70,7 @@ impl Memory {
         self.access(address, 0, len)
     }
 
-    /// So many bytes from an address, to be written, where they are in memory.
+    /// This many bytes from an address, to be written, where they are in memory.
     pub fn slice_mut(&mut self, address: u32, len: u32) -> Option<&mut [u8]>
         ensures* writes_back { sem 𝓛 (LendsPartIf self.entry address result) }
         ensures inside { IfSome result (λ s. (address + len ≤ length self.old) × (s.now ≡ bytes_at self.old address len)) }
@@ -83,14 +83,14 @@ impl Memory {
         }
     }
 
-    /// Whether so many bytes from an address are in memory, also where there are none of them.
+    /// Whether this many bytes from an address are in memory, also where there are none of them.
     fn has_range(&self, address: u32, len: u32) -> bool
         ensures { IsTrue result ↔ (address + len ≤ length self.now) }
     {
         address as usize + len as usize <= self.bytes.len()
     }
 
-    /// So many bytes from an address, to be written.
+    /// This many bytes from an address, to be written.
     fn range_mut(&mut self, address: u32, len: u32) -> &mut [u8]
         requires { address + len ≤ length self.old }
         ensures* writes_back { sem 𝓛 (LendsPart self.entry address result) }
@@ -99,7 +99,7 @@ impl Memory {
         self.part_mut(address as usize, len as usize)
     }
 
-    /// So many bytes from a place on, to be written. They have to be in memory.
+    /// This many bytes from a place on, to be written. They have to be in memory.
     pub fn part_mut(&mut self, start: usize, len: usize) -> &mut [u8]
         requires { start + len ≤ length self.old }
         ensures* writes_back { sem 𝓛 (LendsPart self.entry start result) }
@@ -129,7 +129,7 @@ impl Memory {
         true
     }
 
-    /// So many bytes from a base and an offset.
+    /// This many bytes from a base and an offset.
     fn access(&self, base: u32, offset: u32, len: u32) -> Option<&[u8]>
         ensures inside { IfSome result (λ s. (base + offset + len ≤ length self.now) × (s.now ≡ bytes_at self.now (base + offset) len)) }
         ensures outside { IfNone result (length self.now < base + offset + len) }
@@ -206,7 +206,7 @@ impl Memory {
         self.put(base as usize + offset as usize, &u64::to_le_bytes(value))
     }
 
-    /// Grows by so many pages of zeros, to at most `limit` pages, and gives the pages before (section 4.4.4). Past the
+    /// Grows by this many pages of zeros, to at most `limit` pages, and gives the pages before (section 4.4.4). Past the
     /// limit, or where memory is refused, nothing changes.
     pub fn grow(&mut self, pages: u32, limit: u32) -> Option<u32>
         ensures grown { IfSome result (λ before. (before ≡ length self.old / 65536) × (before + pages ≤ limit) × (self.new ≡ self.old ++ replicate (pages * 65536) 0)) }
@@ -227,7 +227,7 @@ impl Memory {
         Some(before as u32)
     }
 
-    /// Copies so many bytes from one address to another, as if all were read first (`memory.copy`), or nothing where
+    /// Copies this many bytes from one address to another, as if all were read first (`memory.copy`), or nothing where
     /// either range passes the end.
     pub fn copy(&mut self, target: u32, source: u32, len: u32) -> bool
         ensures inside { OnTrue result ((source + len ≤ length self.old) × (target + len ≤ length self.old) × (self.new ≡ written self.old target (bytes_at self.old source len))) }
@@ -241,7 +241,7 @@ impl Memory {
         true
     }
 
-    /// Writes a byte so many times from an address on (`memory.fill`), or nothing where they would pass the end.
+    /// Writes a byte this many times from an address on (`memory.fill`), or nothing where they would pass the end.
     pub fn fill(&mut self, target: u32, value: u8, len: u32) -> bool
         ensures inside { OnTrue result ((target + len ≤ length self.old) × (self.new ≡ written self.old target (replicate len value))) }
         ensures outside { OnFalse result ((length self.old < target + len) × (self.new ≡ self.old)) }

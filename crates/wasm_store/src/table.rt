@@ -25,7 +25,7 @@ impl Table {
     ghost use Rattle.std.specs.Bool.{OnTrue, OnFalse};
     ghost use Rattle.wasm_store.specs.Elements.{with_functions};
 
-    /// A table of so many elements that hold nothing.
+    /// A table of this many elements that hold nothing.
     pub fn new(alloc: Global, size: u32) -> Result<Table, AllocError>
         ensures { IfOk result (λ t. t ≡ replicate size None) }
     {

@@ -1,4 +1,4 @@
-//! Tests of the decoder and the validator, through their public calls alone.
+//! Tests of the decoder and the validator, through their public calls only.
 #![tactic(auto)]
 
 mod program;

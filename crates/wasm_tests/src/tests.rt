@@ -16,7 +16,7 @@ use wasm_module::{LoadFault, decode};
 /// Bytes, and what they are refused with.
 type Row<'a> = (&'a [u8], Option<LoadFault>);
 
-/// Decodes each row behind these bytes.
+/// Decodes each row after these bytes.
 fn assert_rows(
     rt: &impl Abort,
     alloc: Global,

@@ -46,14 +46,14 @@ Moves takes gives a b = (t : List ValueType) × (a ≡ takes ++ t) × (b ≡ giv
 abbrev pub Leaves : List ValueType → List ValueType → Type 0
 Leaves takes a = (t : List ValueType) × (a ≡ takes ++ t)
 
--- a load and a store of so many bytes (section 3.3.4): the alignment is not over the width
+-- a load and a store of this many bytes (section 3.3.4): the alignment is not over the width
 abbrev pub Loads : Context → ValueType → ℕ → MemArg → List ValueType → List ValueType → Type 0
 Loads c t n m a b = (c.has_memory ≡ true) × (2 ^ m.align ≤ n) × Moves (I32 ∷ []) (t ∷ []) a b
 
 abbrev pub Stores : Context → ValueType → ℕ → MemArg → List ValueType → List ValueType → Type 0
 Stores c t n m a b = (c.has_memory ≡ true) × (2 ^ m.align ≤ n) × Moves (t ∷ I32 ∷ []) [] a b
 
--- extend32_s is of i64 alone
+-- extend32_s is only of i64
 abbrev pub IsOperator : ValueType → UnaryOperator → Type 0
 IsOperator I32 Extend32S = ⊥
 IsOperator t o = Unit {0}

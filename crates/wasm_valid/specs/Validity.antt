@@ -137,7 +137,7 @@ pub record IsValid (m : Module) : Type 0 where
   pub one_memory : length (memories_of m) ≤ 1
   pub table_limits : AllByRecursion (LimitsFit (2 ^ 32)) (tables_of m)
   pub memory_limits : AllByRecursion (LimitsFit 65536) (memories_of m)
-  -- a global's first value may come from an imported global alone
+  -- a global's first value may come from no global but an imported one
   pub globals : AllByRecursion (λ g. IsConstant (filter_map imported_global (kinds_of m.imports)) g.global_type.value_type g.init) m.globals
   pub exports : AllByRecursion (λ e. ExportFits m e.kind) m.exports
   pub names_apart : AreApart (map (λ e. e.name) m.exports)

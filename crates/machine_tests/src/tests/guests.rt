@@ -66,7 +66,7 @@ fn resumed(machine: &mut Machine<'_>, host: &mut Recorder, units: u32) -> Option
     Some(machine.resume(host, u64::from(units)))
 }
 
-/// Resumes for so many units each, until the guest ends or that was done so often.
+/// Resumes for this many units each, until the guest ends or that was done as often as asked.
 fn paused(machine: &mut Machine<'_>, host: &mut Recorder, units: u32, times: u32) -> Option<Pause> {
     let mut last = None;
     for _ in 0..times {

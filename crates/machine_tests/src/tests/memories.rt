@@ -7,22 +7,22 @@ use wasm_store::Memory;
 /// What is done to a memory, and what it answers.
 #[derive(Clone, Copy)]
 enum Deed<'a> {
-    /// Loads so many bytes from a base and an offset.
+    /// Loads this many bytes from a base and an offset.
     Load(u8, u32, u32, Option<u64>),
-    /// Stores so many bytes of a number at a base and an offset.
+    /// Stores this many bytes of a number at a base and an offset.
     Store(u8, u32, u32, u64, bool),
     Write(u32, &'a [u8], bool),
-    /// Copies to an address from another one so many bytes.
+    /// Copies to an address from another one this many bytes.
     Copy(u32, u32, u32, bool),
-    /// Fills from an address on with a byte so many bytes.
+    /// Fills from an address on with a byte this many bytes.
     Fill(u32, u8, u32, bool),
     /// The same through a part that is lent.
     FillLent(u32, u8, u32, bool),
-    /// Grows by so many pages to a limit at most.
+    /// Grows by this many pages to a limit at most.
     Grow(u32, u32, Option<u32>),
     /// Looks at the bytes at an address.
     Holds(u32, &'a [u8], bool),
-    /// Asks whether so many bytes stand at an address.
+    /// Asks whether this many bytes stand at an address.
     HasPart(u32, u32, bool),
     Length(usize),
 }

@@ -129,7 +129,7 @@ pub type Disk = FlakyDevice<FuseDevice<MemoryDevice>>;
 /// A session over a volume on such a device.
 pub type Small<'a> = Session<'a, 'static, 'static, Disk, &'static [u8], Bounded, Bounded>;
 
-/// The device whose operation of this number fails, and all after so many.
+/// The device whose operation of this number fails, and all after this many.
 pub fn faulty(device: MemoryDevice, failing: u64, passes: u64) -> Disk {
     FlakyDevice::new(FuseDevice::new(device, passes), failing)
 }
@@ -138,7 +138,7 @@ pub fn memory_of(disk: Disk) -> MemoryDevice {
     disk.into_inner().into_inner()
 }
 
-/// A device with a fresh volume of so many sectors and 16 slots.
+/// A device with a fresh volume of this many sectors and 16 slots.
 pub fn formatted_with(alloc: Global, sectors: u32) -> Option<MemoryDevice> {
     let device = faulty(MemoryDevice::new(alloc, sectors, 400).ok()?, 0, u64::MAX);
     match Volume::format(device, sectors, 16) {
@@ -156,7 +156,7 @@ pub fn working(alloc: Global, device: MemoryDevice) -> Option<Volume<Disk>> {
     Volume::open(alloc, faulty(device, 0, u64::MAX)).ok()
 }
 
-/// A session over a volume, of whose output so many bytes are taken.
+/// A session over a volume, of whose output this many bytes are taken.
 pub fn over<'a>(
     alloc: Global,
     module: &'a [u8],

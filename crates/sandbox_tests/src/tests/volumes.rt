@@ -55,7 +55,7 @@ fn guests_print_what_files_hold(rt: HostRuntime) {
     }
 }
 
-/// The device with a fresh volume of so many sectors, which is upgraded where it is to have version 2.
+/// The device with a fresh volume of this many sectors, which is upgraded where it is to have version 2.
 fn of_version(alloc: Global, sectors: u32, version: Version) -> Option<MemoryDevice> {
     let device = formatted_with(alloc, sectors)?;
     if version == Version::One {
@@ -189,7 +189,7 @@ fn failed(alloc: Global, failing: u64) -> Option<(bool, bool)> {
     ))
 }
 
-/// The same for each of some images that a stop after so many operations may leave.
+/// The same for each of some images that a stop after this many operations may leave.
 fn stopped(alloc: Global, operations: u64) -> Option<(bool, bool)> {
     let device = faulty(formatted(alloc)?, 0, operations);
     let (count, whole, device) = ran(alloc, Volume::open(alloc, device).ok()?)?;

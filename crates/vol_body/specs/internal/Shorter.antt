@@ -18,7 +18,7 @@ kept_bytes size (inner_block i) = 4 * min 128 (sectors_of size - (186 + 128 * i)
 abbrev pub first_of_pointer : ℕ → ℕ
 first_of_pointer j = if nat_lt j 59 then j else 186
 
--- the only positions of which a file of this size keeps a beginning alone
+-- the only positions of which a file of this size keeps only a beginning
 abbrev pub last_data_block : ℕ → BlockPosition
 last_data_block size = data_block (sectors_of size - 1)
 
@@ -64,7 +64,7 @@ pub record Gives (before now : ℕ → Bool) (These : ℕ → Type 0) : Type 0 w
   pub given : (n : ℕ) → These n → now n ≡ true → ⊥
   pub others : (n : ℕ) → (These n → ⊥) → now n ≡ before n
 
--- the number stands among these, at this position or behind it
+-- the number stands among these, at this position or after it
 abbrev pub StandsFrom : (ℕ → ℕ) → ℕ → ℕ → ℕ → Type 0
 StandsFrom numbers from end n = (i : ℕ) × (from ≤ i) × (i < end) × (numbers i ≡ n)
 
@@ -72,7 +72,7 @@ StandsFrom numbers from end n = (i : ℕ) × (from ≤ i) × (i < end) × (numbe
 abbrev pub GoesWithList : Image → ℕ → ℕ → ℕ → Type 0
 GoesWithList content of_list from n = (StandsFrom (number_in content of_list) from 128 n) ⊎ ((from ≡ 0) × (of_list ≡ n))
 
--- the number goes with one of the inner blocks before one, where the file keeps so many data blocks
+-- the number goes with one of the inner blocks before one, where the file keeps this many data blocks
 abbrev pub GoesWithLater : Image → (ℕ → ℕ) → ℕ → ℕ → ℕ → Type 0
 GoesWithLater content numbers count end n = (i : ℕ) × (i < end) × GoesWithList content (numbers i) (count - (186 + 128 * i)) n
 

@@ -1,7 +1,7 @@
 -- Going up a table of parents, slot by slot.
 use Rattle.std.specs.Prelude.{◌≡◌, ◌≢◌, ◌+◌, ◌-◌, ◌≤◌, ◌<◌, ℕ, zero, suc, List, Bool, true, false, length, slice_index, slice_index_or}
 
--- The serial of the directory that an entry is in, so many steps up. The table has 0 for the root.
+-- The serial of the directory that an entry is in, this many steps up. The table has 0 for the root.
 abbrev pub climb : ℕ → List ℕ → ℕ → ℕ
 climb zero parents serial = serial
 climb (suc steps) parents serial = climb steps parents (slice_index parents (serial - 1))

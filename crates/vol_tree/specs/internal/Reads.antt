@@ -41,13 +41,13 @@ abbrev pub reserved_in : Option Entry → ℕ
 reserved_in None = 0
 reserved_in (Some e) = need_of e.size
 
--- The root alone has no parent; and of the entries with this name in its directory the entry has the least serial.
+-- Only the root has no parent; and of the entries with this name in its directory the entry has the least serial.
 pub record IsPlaced (dirs : Dirs) (serial : ℕ) (e : Entry) : Type 0 where
   pub top : serial ≡ 1 → e.parent ≡ 0
   pub below : serial ≢ 1 → e.parent ≢ 0
   pub least : e.parent ≢ 0 → IsLeastOf dirs e.parent (name_of e) serial
 
--- the slot keeps the rules that it shows, alone and with the names of the others
+-- the slot keeps the rules that it shows, by itself and with the names of the others
 pub record IsRight (content : Image) (v : Superblock) (dirs : Dirs) (s : ℕ) (o : Option Entry) : Type 0 where
   pub bytes : content (122 + s) ≡ slot o
   pub entry : (e : Entry) → o ≡ Some e → IsEntry v.version e

@@ -13,7 +13,7 @@ pub record IsAbove (T : Tree) (serial parent : ℕ) : Type 0 where
   pub at : entry T serial ≡ Some below
   pub is : below.parent ≡ parent
 
--- so many steps up from the beginning
+-- this many steps up from the beginning
 pub record ClimbsTo {D : Type 0} (honest : D → Type 0) (disk : D → Disk) (sectors_on failures : D → ℕ) (old new : Opened D) (top first slots step at : ℕ) : Type 0 where
   pub works : StillWorks honest disk sectors_on failures old new
   pub here : IsEntryOf honest new at

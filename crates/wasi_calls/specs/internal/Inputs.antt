@@ -9,7 +9,7 @@ use Rattle.wasi_calls.specs.World.{World}
 use Rattle.wasi_calls.specs.Checks.{Checked, Done, ◌>>=◌, Buffer, put, total, scattered}
 use Rattle.wasi_calls.specs.Files.{read_from}
 
--- so many bytes came, which stand in memory from a place on
+-- this many bytes came, which stand in memory from a place on
 pub record Came (before after : Option (List ℕ)) (old : List ℕ) (place most : ℕ) (memory : List ℕ) (count : ℕ) : Type 0 where
   pub bytes : List ℕ
   pub consumed : Consumes before after bytes
@@ -22,7 +22,7 @@ pub record SomeCame (before after : Option (List ℕ)) (old : List ℕ) (place m
   pub count : ℕ
   pub came : Came before after old place most memory count
 
--- so many bytes came, which stand in the buffers, one after another
+-- this many bytes came, which stand in the buffers, one after another
 pub record Dealt (before after : Option (List ℕ)) (old : List ℕ) (bs : List Buffer) (memory : List ℕ) (count : ℕ) : Type 0 where
   pub bytes : List ℕ
   pub consumed : Consumes before after bytes

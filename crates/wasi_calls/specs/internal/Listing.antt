@@ -49,7 +49,7 @@ abbrev pub TellsNext : Tree → ℕ → ℕ → Option Told → Type 0
 TellsNext T directory after None = dirents T directory after ≡ []
 TellsNext T directory after (Some t) = dirents T directory after ≡ told_bytes t ++ dirents T directory t.serial
 
--- The list was told up to an entry, and stands in a part as far as there is room; behind it is what stood there before.
+-- The list was told up to an entry, and stands in a part as far as there is room; after it is what stood there before.
 pub record HasTold (T : Tree) (directory cookie after filled : ℕ) (before part : List ℕ) : Type 0 where
   pub told : List ℕ
   pub parts : dirents T directory cookie ≡ told ++ dirents T directory after

@@ -37,7 +37,7 @@ Finds meant (Err Preopen) = meant ≡ None
 Finds meant (Err Device) = Unit {0}
 Finds meant (Err Memory) = ⊥
 
--- the serials of the first so many directories
+-- the serials of the first n directories
 abbrev pub AreFound : Tree → List PreopenValue → List ℕ → ℕ → Type 0
 AreFound T ps serials n = (k : ℕ) (p : PreopenValue) → k < n → slice_get ps k ≡ Some p → directory_named T p.path.now ≡ Some (slice_index serials k)
 
@@ -58,7 +58,7 @@ abbrev pub opened_from : ℕ → List PreopenValue → List ℕ → List Descrip
 opened_from n [] serials = []
 opened_from n (p ∷ ps) serials = preopened p (slice_index serials n) ∷ opened_from (suc n) ps serials
 
--- the table in which so many of them are open
+-- the table in which this many of them are open
 abbrev pub AreOpen : List PreopenValue → List ℕ → ℕ → Table → Type 0
 AreOpen ps serials count table = (n : ℕ) → table n ≡ (if nat_lt n (3 + count) then table_with (opened_from 0 ps serials) n else None)
 
@@ -73,7 +73,7 @@ Refuses honest old new ps Memory = ⊥
 abbrev pub ChangesVolume : {D R W1 W2 : Type 0} → Inner D R W1 W2 → Inner D R W1 W2 → Type 0
 ChangesVolume old new = new ≡ record old { volume = new.volume; descriptors = new.descriptors }
 
--- the serials of the first so many directories were found
+-- the serials of the first n directories were found
 pub record FoundSoFar {D : Type 0} (honest : D → Type 0) (disk : D → Disk) (sectors_on failures : D → ℕ) (old new : Opened D) (ps : List PreopenValue) (serials : List ℕ) (n : ℕ) : Type 0 where
   pub reads : OnlyReads honest disk sectors_on failures old new false
   pub found : honest old.device → AreFound old.tree ps serials n

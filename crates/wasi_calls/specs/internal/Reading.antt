@@ -13,7 +13,7 @@ use Rattle.wasi_calls.specs.World.{World}
 use Rattle.wasi_calls.specs.Checks.{Checked, Done, Buffer, ◌>>=◌, tree_call, total, scattered, put}
 use Rattle.wasi_calls.specs.internal.Inputs.{read_to}
 
--- the buffers cut to so many bytes in all
+-- the buffers cut to this many bytes in all
 abbrev pub cut : ℕ → List Buffer → List Buffer
 cut n [] = []
 cut n (b ∷ bs) = (b.0, min b.1 n) ∷ cut (n - b.1) bs
@@ -77,6 +77,6 @@ read_into w o at bs result = do
   bytes ← tree_call w (Ok (read_bytes w.tree o.serial at (total bs)))
   Ok (record { world = w; fills = scattered bytes bs; results = (result, little_bytes 4 (length bytes)) ∷ [] })
 
--- the bytes of a file where it stands, which moves behind them, into the buffers, and then how many
+-- the bytes of a file where it stands, which moves after them, into the buffers, and then how many
 abbrev pub read_file_to : World → ℕ → Opened → List Buffer → ℕ → Checked Done
 read_file_to w fd o bs result = read_to w fd (Entry o) bs result

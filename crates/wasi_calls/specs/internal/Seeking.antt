@@ -42,7 +42,7 @@ pub record TellsFrom {D : Type 0} (new : Opened D) (w : World) (o : OpenedEntry)
   pub told : seek_from w o whence ≡ Ok from
   pub same : with_volume new w ≡ w
 
--- The volume has failed, which alone keeps the place from being told.
+-- The volume has failed: only that keeps the place from being told.
 pub record FailsFrom {D : Type 0} (old new : Opened D) (w : World) (o : OpenedEntry) (whence : ℕ) (e : Errno) : Type 0 where
   pub io : e ≡ errno.Io
   pub numbers : new.numbers ≡ old.numbers

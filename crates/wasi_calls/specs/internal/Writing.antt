@@ -1,4 +1,4 @@
--- What calls that write bytes do behind their checks.
+-- What calls that write bytes do after their checks.
 use Rattle.std.specs.Prelude.{ℕ, ◌+◌, ◌==◌, List, Ok, if◌then◌else◌}
 use Rattle.byteorder.specs.Endian.{little_bytes}
 use Rattle.wasi_fd.specs.declared.descriptor.Descriptor.{Descriptor}
@@ -13,7 +13,7 @@ placed w o at bytes result = do
   r ← file_write w o at bytes
   Ok (with_result r.0 result (little_bytes 4 r.1))
 
--- the bytes where a file stands, which moves behind them
+-- the bytes where a file stands, which moves after them
 abbrev pub written_on : World → ℕ → Opened → List ℕ → ℕ → Checked Done
 written_on w fd o bytes result = do
   r ← file_write w o o.position bytes

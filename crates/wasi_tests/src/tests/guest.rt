@@ -75,7 +75,7 @@ pub fn volume(alloc: Global) -> Result<Flaky, Fail> {
     }
 }
 
-/// A host of these settings over a volume, whose outputs take so many bytes, with its directories open.
+/// A host of these settings over a volume, whose outputs take this many bytes, with its directories open.
 pub fn host<'s, 't>(
     alloc: Global,
     settings: Settings<'s, 't>,

@@ -21,7 +21,7 @@ fn entries_come_by_their_serials(rt: HostRuntime) -> Result<(), Fail> {
             Call(FdReaddir, &[3, 300, 30, 0, 200], 0),
             Has(200, b"\x1E\0\0\0"),
             Has(300, A),
-            // the last is cut, and nothing stands behind it
+            // the last is cut, and nothing stands after it
             Has(325, b"\x03\0\0\0\0\x09\x09\x09"),
             Call(FdReaddir, &[3, 300, 30, 2, 200], 0),
             Has(200, b"\x19\0\0\0"),
@@ -32,7 +32,7 @@ fn entries_come_by_their_serials(rt: HostRuntime) -> Result<(), Fail> {
             Call(FdReaddir, &[3, 300, 30, 2, 200], 0),
             Has(200, b"\x19\0\0\0"),
             Has(300, B),
-            // none is behind the last, and none has such a serial
+            // none is after the last, and none has such a serial
             Call(FdReaddir, &[3, 300, 30, 3, 200], 0),
             Has(200, b"\0\0\0\0"),
             Call(FdReaddir, &[3, 300, 30, 1 << 32, 200], 0),
@@ -51,7 +51,7 @@ fn a_listing_is_refused(rt: HostRuntime) -> Result<(), Fail> {
             Call(FdReaddir, &[4, 300, 30, 0, 200], 54),
             Call(FdReaddir, &[1, 300, 30, 0, 200], 54),
             Call(FdReaddir, &[5, 300, 30, 0, 200], 8),
-            // at the end of memory and behind it
+            // at the end of memory and after it
             Put(200, b"\x09\0\0\0"),
             Call(FdReaddir, &[3, 65_536, 0, 0, 200], 0),
             Has(200, b"\0\0\0\0"),

@@ -10,7 +10,7 @@ use std::test::Fail;
 use wasi_calls::HostParts;
 use wasm_store::HostCall::{FdRead, FdWrite};
 
-/// Gives its bytes two at a time, and fails once so many are given, where there are more.
+/// Gives its bytes two at a time, and fails once this many are given, where there are more.
 #[derive(Drop)]
 pub struct Feeding {
     bytes: &'static [u8],
@@ -37,7 +37,7 @@ impl Read for Feeding {
     }
 }
 
-/// Takes one byte at a time and so many in all, and then none.
+/// Takes one byte at a time and this many in all, and then none.
 #[derive(Drop)]
 pub struct Taking {
     pub held: Vec<u8>,
@@ -115,7 +115,7 @@ fn readers_that_fail(rt: HostRuntime) -> Result<(), Fail> {
     Ok(())
 }
 
-/// Writes four bytes to an output that takes so many, and to the other, and says what each has then.
+/// Writes four bytes to an output that takes this many, and to the other, and says what each has then.
 fn written(rt: &impl Abort, alloc: Global, takes: usize) -> Result<(Taking, Taking), Fail> {
     let mut guest = fresh(alloc, PLAIN, Feeding::new(b"", 0), takes)?;
     assert_steps(

@@ -85,7 +85,7 @@ compared t n = comparison_of n >>= λ o. Some (op.Compare t o)
 abbrev pub operated : ValueType → ℕ → Option Instruction
 operated t n = binary_operator_of n >>= λ o. Some (op.Binary t o)
 
--- the instruction of this opcode that has nothing behind it, of those on numbers
+-- the instruction of this opcode that has nothing after it, of those on numbers
 unfoldable pub numeric_of : ℕ → Option Instruction
 numeric_of b =
     if b == 0x45 then Some (op.Eqz I32) else (
@@ -161,7 +161,7 @@ store_after b =
     if b == 0x40 then map_at (λ x. op.MemoryGrow) (byte_at 0x00) else (
     (λ rest. None))))))))))
 
--- the instruction of this number behind FC
+-- the instruction of this number after FC
 unfoldable pub bulk_after : ℕ → Reader Instruction
 bulk_after n =
     if n == 10 then map_at (λ x. op.MemoryCopy) (then_at (byte_at 0x00) (byte_at 0x00)) else (

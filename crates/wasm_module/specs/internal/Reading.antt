@@ -73,7 +73,7 @@ WholeReader X = List ℕ → Option X
 abbrev pub whole : {X : Type 0} → Reader X → WholeReader X
 whole a bytes = a bytes >>= λ x. if length x.1 == 0 then Some x.0 else None
 
--- a size, and so many bytes, all of which are read
+-- a size, and this many bytes, all of which are read
 unfoldable pub sized_at : {X : Type 0} → WholeReader X → Reader X
 sized_at w bytes = u32_at bytes >>= λ n. piece_at n.0 n.1 >>= λ p. w p.0 >>= λ x. Some (x, p.1)
 

@@ -16,7 +16,7 @@ use Rattle.wasm_store.specs.Instances.{Callee}
 use Rattle.wasm_store.specs.Instantiation.{LinksOf, AreLinked, SomeUnlinked, AreFirst}
 use Rattle.wasm_store.specs.Instantiating.{AreCallees}
 
--- functions alone are imported
+-- only functions are imported
 abbrev pub IsFunction : ImportKind → Type 0
 IsFunction (imports.Function x) = Unit {0}
 IsFunction k = ⊥

@@ -54,7 +54,7 @@ fn data_counts(rt: HostRuntime) -> Result<(), Fail> {
     Ok(())
 }
 
-/// The fault of one type of 50,001 parameters, with these bytes behind it.
+/// The fault of one type of 50,001 parameters, with these bytes after it.
 fn fault_behind(alloc: Global, tail: &[u8]) -> Result<Option<LoadFault>, AllocError> {
     let mut bytes = Vec::from_slice(alloc, PREAMBLE)?;
     bytes.extend_from_slice(&[1, 0xD7, 0x86, 3, 1, 0x60, 0xD1, 0x86, 3])?;

@@ -67,7 +67,7 @@ access_of op.MemoryCopy = Some (access 0 0 (Three I32 I32 I32) Empty)
 access_of op.MemoryFill = Some (access 0 0 (Three I32 I32 I32) Empty)
 access_of i = None
 
--- extend32_s is of i64 alone
+-- extend32_s is only of i64
 abbrev pub is_operator : ValueType → UnaryOperator → Bool
 is_operator I32 Extend32S = false
 is_operator t o = true

@@ -18,7 +18,7 @@ operands b s = record { below = b; stack = s }
 abbrev pub stack_of : List (Option ValueType) → Bool → Stack
 stack_of types u = record { known = reverse types; unreachable = u }
 
--- so many of them lie below
+-- this many of them lie below
 abbrev pub split_at : ℕ → Bool → List (Option ValueType) → Operands
 split_at height u types = operands (take height types) (stack_of (drop height types) u)
 

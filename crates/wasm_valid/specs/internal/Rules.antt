@@ -37,7 +37,7 @@ pub record LimitsHold (m : Module) : Type 0 where
 abbrev pub GlobalsHold : Module → Type 0
 GlobalsHold m = All (λ g. IsConstant (filter_map imported_global (kinds_of m.imports)) g.global_type.value_type g.init) m.globals
 
--- what is exported is among so many
+-- what is exported is among this many
 abbrev pub IsWithin : Counts → ExportKind → Type 0
 IsWithin n (exported.Function x) = x < n.functions
 IsWithin n (exported.Table x) = x < n.tables

@@ -3,7 +3,7 @@ use Rattle.std.proofs.lemmas.List.{take_all, length-drop}
 use Rattle.wasi_calls.proofs.Arrays.{buffer_at, read_more}
 use Rattle.wasi_calls.proofs.buffers.read_buffers.Goals as goal
 
--- `&array[n..]` is what is left behind n bytes
+-- `&array[n..]` is what is left after n bytes
 tail_of : (array : List ℕ) (n : ℕ) → take (length array - n) (drop n array) ≡ drop n array
 tail_of array n = take_all (length array - n) (drop n array) (omega (arith, length-drop n array))
 

@@ -3,7 +3,7 @@ use Rattle.std.proofs.lemmas.List.{take_all, length-drop}
 use Rattle.wasi_calls.proofs.Handing.{Begun, begun_write}
 use Rattle.wasi_calls.proofs.outputs.hand.Goals as goal
 
--- `&rest[n..]` is what is left behind n bytes
+-- `&rest[n..]` is what is left after n bytes
 tail_of : (rest : List ℕ) (n : ℕ) → drop n rest ≡ take (length rest - n) (drop n rest)
 tail_of rest n = sym (take_all (length rest - n) (drop n rest) (omega (arith, length-drop n rest)))
 
