@@ -14,7 +14,7 @@ use wasm_store::{Host, InstanceFault};
 use wasm_valid::Valid;
 
 /// A refused module, handed back with the reason.
-#[derive(Debug, Drop)]
+#[derive(Drop)]
 pub struct RefusedInstance<'a> {
     pub valid: Valid<'a>,
     pub fault: InstanceFault,

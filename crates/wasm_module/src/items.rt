@@ -4,7 +4,7 @@ use std::alloc::Global;
 use std::marker::Model;
 
 /// Values in a row, as a vector of the binary format has them.
-#[derive(Debug, Drop)]
+#[derive(Drop)]
 pub struct Items<T> {
     items: Vec<T>,
     offset: u32,
@@ -63,7 +63,7 @@ impl<T> Items<T> {
 }
 
 /// A name (section 5.2.4), borrowed from the input.
-#[derive(Debug, Drop)]
+#[derive(Drop)]
 pub struct Name<'a> {
     text: &'a str,
 }
@@ -93,7 +93,7 @@ impl<'a> Name<'a> {
 }
 
 /// Bytes, borrowed from the input.
-#[derive(Debug, Drop)]
+#[derive(Drop)]
 pub struct Bytes<'a> {
     bytes: &'a [u8],
     offset: u32,

@@ -4,7 +4,7 @@ use crate::instruction::{Instruction, ValueType};
 use crate::items::{Bytes, Items, Name};
 
 /// A function's type (section 2.3.3).
-#[derive(Debug, Drop)]
+#[derive(Drop)]
 pub struct FuncType {
     pub params: Items<ValueType>,
     pub results: Items<ValueType>,
@@ -12,21 +12,21 @@ pub struct FuncType {
 
 /// How large a memory (in pages of 65,536 bytes) or a table (in elements) is and may get
 /// (section 2.3.4).
-#[derive(Clone, Copy, Debug, PartialEq, Eq)]
+#[derive(Clone, Copy, PartialEq, Eq)]
 pub struct Limits {
     pub min: u32,
     pub max: Option<u32>,
 }
 
 /// A global's type (section 2.3.7).
-#[derive(Clone, Copy, Debug, PartialEq, Eq)]
+#[derive(Clone, Copy, PartialEq, Eq)]
 pub struct GlobalType {
     pub value_type: ValueType,
     pub mutable: bool,
 }
 
 /// What is imported; a function by its type's index.
-#[derive(Clone, Copy, Debug, PartialEq, Eq)]
+#[derive(Clone, Copy, PartialEq, Eq)]
 pub enum ImportKind {
     Function(u32),
     Table(Limits),
@@ -35,7 +35,7 @@ pub enum ImportKind {
 }
 
 /// An import (section 2.5.11).
-#[derive(Debug, Drop)]
+#[derive(Drop)]
 pub struct Import<'a> {
     pub module_name: Name<'a>,
     pub name: Name<'a>,
@@ -43,7 +43,7 @@ pub struct Import<'a> {
 }
 
 /// What is exported, by its index.
-#[derive(Clone, Copy, Debug, PartialEq, Eq)]
+#[derive(Clone, Copy, PartialEq, Eq)]
 pub enum ExportKind {
     Function(u32),
     Table(u32),
@@ -52,21 +52,21 @@ pub enum ExportKind {
 }
 
 /// An export (section 2.5.10).
-#[derive(Debug, Drop)]
+#[derive(Drop)]
 pub struct Export<'a> {
     pub name: Name<'a>,
     pub kind: ExportKind,
 }
 
 /// A global of the module's own, with the expression of its first value (section 2.5.6).
-#[derive(Debug, Drop)]
+#[derive(Drop)]
 pub struct GlobalEntry {
     pub global_type: GlobalType,
     pub init: Items<Instruction>,
 }
 
 /// Functions that stand in a table from the start (section 2.5.7).
-#[derive(Debug, Drop)]
+#[derive(Drop)]
 pub struct ElementSegment {
     pub table: u32,
     pub offset: Items<Instruction>,
@@ -74,7 +74,7 @@ pub struct ElementSegment {
 }
 
 /// This many locals of one type.
-#[derive(Clone, Copy, Debug, PartialEq, Eq)]
+#[derive(Clone, Copy, PartialEq, Eq)]
 pub struct Locals {
     pub count: u32,
     pub value_type: ValueType,
@@ -82,7 +82,7 @@ pub struct Locals {
 
 /// The body of a function: its bytes, the locals and the instructions that they say
 /// (section 2.5.3).
-#[derive(Debug, Drop)]
+#[derive(Drop)]
 pub struct Body<'a> {
     pub bytes: Bytes<'a>,
     pub locals: Items<Locals>,
@@ -90,7 +90,7 @@ pub struct Body<'a> {
 }
 
 /// Bytes that stand in memory from the start (section 2.5.8).
-#[derive(Debug, Drop)]
+#[derive(Drop)]
 pub struct DataSegment<'a> {
     pub memory: u32,
     pub offset: Items<Instruction>,
@@ -98,7 +98,7 @@ pub struct DataSegment<'a> {
 }
 
 /// A module. Its functions have their types' indices in `functions` and their bodies in `bodies`.
-#[derive(Debug, Drop)]
+#[derive(Drop)]
 pub struct Module<'a> {
     pub types: Items<FuncType>,
     pub imports: Items<Import<'a>>,

@@ -6,7 +6,7 @@ ghost use Rattle.wasm_module.specs.internal.Reading.{Gives, last_at, number_at};
 use crate::fault::LoadFault;
 
 /// How a number's unused bits are to be.
-#[derive(Clone, Copy, Debug, PartialEq, Eq)]
+#[derive(Clone, Copy)]
 pub enum Sign {
     /// They are 0.
     Unsigned,
@@ -15,7 +15,7 @@ pub enum Sign {
 }
 
 /// Where a number begins in the input, and where the bytes that it may take end.
-#[derive(Clone, Copy, Debug, PartialEq, Eq)]
+#[derive(Clone, Copy)]
 pub struct Span {
     pub begin: u32,
     pub end: u32,

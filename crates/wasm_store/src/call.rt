@@ -53,7 +53,7 @@ impl Errno {
 }
 
 /// What a host makes of a call: its result, or the end of the run with a status.
-#[derive(Clone, Copy, Debug, PartialEq, Eq)]
+#[derive(Clone, Copy, PartialEq, Eq)]
 pub enum Answer {
     /// The result of the import, as i32 or i64; it is dropped where the import has none.
     Value(Errno),

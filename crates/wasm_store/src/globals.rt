@@ -4,7 +4,7 @@ use std::marker::Model;
 
 /// The values of globals (section 4.2.9), which every contract sees as a list of numbers: an i32 is below 2 ^ 32. What
 /// type a global has is said by its module.
-#[derive(Debug, Drop)]
+#[derive(Drop)]
 pub struct Globals {
     values: Vec<u64>,
 }

@@ -20,7 +20,7 @@ use wasm_module::{Export, ExportKind, FuncType, ImportKind, Instruction, Limits,
 use wasm_valid::Valid;
 
 /// What an instance begins with.
-#[derive(Debug, Drop)]
+#[derive(Drop)]
 pub struct Instantiated {
     /// The host's call of each import.
     pub calls: Vec<HostCall>,

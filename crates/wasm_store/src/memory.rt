@@ -10,7 +10,7 @@ pub const PAGE_SIZE: usize = 65_536;
 /// The bytes of a guest's memory (section 4.2.8), which every contract sees as a list.
 ///
 /// A load and a store have a base and an offset, whose sum doesn't wrap.
-#[derive(Debug, Drop)]
+#[derive(Drop)]
 pub struct Memory {
     bytes: Vec<u8>,
 }

@@ -7,7 +7,7 @@ use std::marker::Model;
 
 /// The elements of a table (section 4.2.7), which every contract sees as a list: each holds a function's index, or
 /// nothing yet.
-#[derive(Debug, Drop)]
+#[derive(Drop)]
 pub struct Table {
     elements: Vec<Option<u32>>,
 }

@@ -9,7 +9,7 @@ use std::marker::Model;
 use wasm_module::BlockType;
 
 /// How a block that is open began.
-#[derive(Clone, Copy, Debug, PartialEq, Eq)]
+#[derive(Clone, Copy)]
 pub enum BlockKind {
     /// With `block`, as the body of a function or with the `else` of an `if`.
     Block,
@@ -21,14 +21,14 @@ pub enum BlockKind {
 
 /// What is kept of the operands around a block while it is open: how many they are, and whether
 /// the code around it can't be reached.
-#[derive(Clone, Copy, Debug, PartialEq, Eq)]
+#[derive(Clone, Copy)]
 pub struct Mark {
     pub height: usize,
     pub unreachable: bool,
 }
 
 /// A block that is open.
-#[derive(Clone, Copy, Debug, PartialEq, Eq)]
+#[derive(Clone, Copy)]
 pub struct ControlFrame {
     pub kind: BlockKind,
     /// What it leaves.

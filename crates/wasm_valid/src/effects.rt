@@ -6,7 +6,7 @@ ghost use Rattle.wasm_valid.specs.internal.Effects.{effect, access, load, store,
 use wasm_module::{BlockType, Instruction, MemArg, UnaryOperator, ValueType};
 
 /// Types that are taken, the one on top first.
-#[derive(Clone, Copy, Debug, PartialEq, Eq)]
+#[derive(Clone, Copy)]
 pub enum Takes {
     Nothing,
     One(ValueType),
@@ -15,7 +15,7 @@ pub enum Takes {
 }
 
 /// The type of an instruction: what it takes, and then leaves.
-#[derive(Clone, Copy, Debug, PartialEq, Eq)]
+#[derive(Clone, Copy)]
 pub struct Effect {
     pub takes: Takes,
     pub gives: BlockType,
@@ -23,7 +23,7 @@ pub struct Effect {
 
 /// An instruction on memory: what its alignment is, as an exponent of 2, and what it may be at
 /// most.
-#[derive(Clone, Copy, Debug, PartialEq, Eq)]
+#[derive(Clone, Copy)]
 pub struct Access {
     pub align: u32,
     pub most: u32,

@@ -4,7 +4,7 @@ use std::marker::Model;
 use wasm_module::Module;
 
 /// A valid module (section 3.4.10). Only `validate` makes one.
-#[derive(Debug, Drop)]
+#[derive(Drop)]
 pub struct Valid<'a> {
     module: Module<'a>,
 }

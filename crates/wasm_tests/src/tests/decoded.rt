@@ -16,15 +16,12 @@ fn assert_type(rt: &impl Abort, found: &FuncType, params: usize, results: usize)
 
 fn assert_export(rt: &impl Abort, found: &Export<'_>, name: &str, kind: ExportKind) {
     assert_eq!(rt; found.name.as_str(), name);
-    assert_eq!(rt; found.kind, kind);
+    assert!(rt; found.kind == kind);
 }
 
 fn assert_program(rt: &impl Abort, module: &Module<'_>) {
     assert_eq!(rt; module.functions.as_slice(), [2].as_slice());
-    assert_eq!(rt;
-        module.memories.as_slice(),
-        [Limits { min: 1, max: None }].as_slice()
-    );
+    assert!(rt; module.memories.as_slice() == [Limits { min: 1, max: None }].as_slice());
     let [write, exit, start] = module.types.as_slice() else {
         panic!(rt; "three types");
     };
@@ -124,7 +121,7 @@ fn numbers(rt: HostRuntime) -> Result<(), Fail> {
 }
 
 fn assert_memories(rt: &impl Abort, module: &Module<'_>, want: Limits) {
-    assert_eq!(rt; module.memories.as_slice(), [want].as_slice());
+    assert!(rt; module.memories.as_slice() == [want].as_slice());
 }
 
 #[test]
