@@ -1,6 +1,6 @@
 -- What the getters of clap read, by the rows of its model.
 use Rattle.std.proofs.Common.{◌≡◌, ◌∙◌, ◌^◌, ◌&&◌, ◌||◌, ap₂, ℕ, Bool, true, false, List, [], ◌∷◌, length, Option, Some, None, Result, Ok, Err, refl, sym, ap, nat_lt, lt-ltb, ltb-true, true≢false}
-use Rattle.std.specs.Prelude.{option_and_then}
+use Rattle.std.specs.Prelude.{IfOk, IsOkAnd, option_and_then}
 use Rattle.std.specs.List.{list_all}
 use Rattle.std.specs.Char.{digit_value}
 use Rattle.std.specs.Str.Parse.{AllDigits, IsNumeral, ParsesUnsigned, digits_value, without_leading_plus}
@@ -87,6 +87,13 @@ subcommand_added old sub new app leaf added (is, local) (sub_is, own) = (
   added.shape own ∙ ap₂ with_subcommand is (ap (λ (a : App). a.top) sub_is),
   added.globals ∙ ap₂ (λ x y. x || y) local own,
 )
+
+-- the same where it is known that the subcommand could be made
+pub command_added : {E : Type 0} (old : Command) (r : Result Command E) (new : Command) (app : App) (leaf : App) → IsOkAnd r (λ s. AddsSubcommand old s new)
+    → (app_of old ≡ app) × ((fields_of old).has_globals ≡ false) → IfOk r (λ s. (app_of s ≡ leaf) × ((fields_of s).has_globals ≡ false))
+    → (app_of new ≡ with_subcommand app leaf.top) × ((fields_of new).has_globals ≡ false)
+command_added old (Ok sub) new app leaf added stood made = subcommand_added old sub new app leaf added stood made
+command_added old (Err e) new app leaf added stood made = elim added [ ]
 
 -- the program's command is one of which clap's model says all
 pub program_is_simple : is_simple program ≡ true

@@ -167,6 +167,22 @@ fn report<D: Device + Drop, R: Drop, W1: Write + Drop, W2: Write + Drop>(
     }
 }
 
+/// Ends a run that could not begin: its fault's line and status. Gives the device of the volume back.
+fn not_begun<D: Device + Drop, R: Drop, W1: Drop, W2: Write + Drop>(
+    refused: RefusedSession<'_, '_, '_, D, R, W1, W2>,
+) -> (u8, D)
+    ensures ends { result.0 ≡ session_status refused.entry.fault }
+    ensures device { result.1 ≡ refused.entry.parts.volume.device }
+{
+    let RefusedSession { parts, fault, .. } = refused;
+    let HostParts {
+        volume,
+        mut err,
+        ..
+    } = parts;
+    (session_refused(&mut err, fault), volume.into_device())
+}
+
 /// Runs a valid module with these settings on an open volume, whose device it gives back.
 fn launch<D: Device + Drop, R: Read + Drop, W1: Write + Drop, W2: Write + Drop>(
     alloc: Global,
@@ -186,14 +202,7 @@ fn launch<D: Device + Drop, R: Read + Drop, W1: Write + Drop, W2: Write + Drop>(
     } = parts;
     match Session::new(alloc, valid, settings, volume, input, out, err) {
         Ok(session) => report(sandbox_core::run(session, fuel)),
-        Err(RefusedSession { parts, fault, .. }) => {
-            let HostParts {
-                volume,
-                mut err,
-                ..
-            } = parts;
-            (session_refused(&mut err, fault), volume.into_device())
-        }
+        Err(refused) => not_begun(refused),
     }
 }
 

@@ -2,8 +2,8 @@
 
 ghost use Rattle.std.specs.Option.{MatchOption};
 ghost use Rattle.std.specs.List.{Contains};
-ghost use Rattle.std.specs.Prelude.{◌≡◌, IfOk, IsSomeAnd, Some, None, false, map, string_bytes, option_and_then};
-ghost use Rattle.clap.specs.Words.{FailsBy, app_of, fault_of, first_of, found_of, one_of, rows_of, rule_of, subcommand_of};
+ghost use Rattle.std.specs.Prelude.{◌≡◌, IfOk, IsOkAnd, IsSomeAnd, Some, None, false, map, string_bytes, option_and_then};
+ghost use Rattle.clap.specs.Words.{AddsSubcommand, FailsBy, app_of, fault_of, first_of, found_of, one_of, rows_of, rule_of, subcommand_of};
 ghost use Rattle.clap.specs.declared.builder.command.Command.TheViews.{out-Command as fields_of};
 ghost use Rattle.sandbox_main.specs.Request.{texts};
 ghost use Rattle.sandbox_main.specs.CommandLine.{AsksFor, AsksRun, AsksTask, number_of, number_rule, number_word_rule};
@@ -121,64 +121,58 @@ fn further_words<'a>(alloc: Global) -> Arg<'a>
 fn limited_command<'a>(alloc: Global) -> Result<Command<'a>, AllocError>
     ensures { IfOk result (λ c. (app_of c ≡ limited_app) × ((fields_of c).has_globals ≡ false)) }
 {
-    let volume = text_option(
-        alloc,
-        "volume",
-        "FILE",
-        "The file of its volume [default: an empty volume, which is given up]",
-    );
-    let fuel = number_option(
-        alloc,
-        "fuel",
-        clap::value_parser!(u64),
-        "Units of fuel, one for each plain instruction [default: 1000000000]",
-    );
-    let pages = number_option(
-        alloc,
-        "pages",
-        clap::value_parser!(u32),
-        "Most pages of memory, each of 65536 bytes [default: 1024]",
-    );
     let about = "Run the _start of a WebAssembly module, until it ends or its fuel is used up";
+    // each argument is made where it is added, so that none has to be given up where memory is refused
     described(Command::new(alloc, "run"), about)
-        .arg(volume)?
-        .arg(fuel)?
-        .arg(pages)
+        .arg(text_option(
+            alloc,
+            "volume",
+            "FILE",
+            "The file of its volume [default: an empty volume, which is given up]",
+        ))?
+        .arg(number_option(
+            alloc,
+            "fuel",
+            clap::value_parser!(u64),
+            "Units of fuel, one for each plain instruction [default: 1000000000]",
+        ))?
+        .arg(number_option(
+            alloc,
+            "pages",
+            clap::value_parser!(u32),
+            "Most pages of memory, each of 65536 bytes [default: 1024]",
+        ))
 }
 
 /// `run`, also with the options of what a guest is given.
 fn supplied_command<'a>(alloc: Global) -> Result<Command<'a>, AllocError>
     ensures { IfOk result (λ c. (app_of c ≡ supplied_app) × ((fields_of c).has_globals ≡ false)) }
 {
-    let dir = texts_option(
-        alloc,
-        "dir",
-        "GUEST=PATH",
-        "A directory of the volume and its name for the guest, as often as wanted [default: /=/]",
-    );
-    let env = texts_option(
-        alloc,
-        "env",
-        "NAME=VALUE",
-        "A text of its environment, as often as wanted",
-    );
-    let moment = number_option(
-        alloc,
-        "moment",
-        clap::value_parser!(u64),
-        "Its time of day, in nanoseconds since 1970-01-01 00:00:00 UTC [default: 0]",
-    );
-    let random = text_option(
-        alloc,
-        "random",
-        "FILE",
-        "The file of its random bytes [default: none]",
-    );
     limited_command(alloc)?
-        .arg(dir)?
-        .arg(env)?
-        .arg(moment)?
-        .arg(random)
+        .arg(texts_option(
+            alloc,
+            "dir",
+            "GUEST=PATH",
+            "A directory of the volume and its name for the guest, as often as wanted [default: /=/]",
+        ))?
+        .arg(texts_option(
+            alloc,
+            "env",
+            "NAME=VALUE",
+            "A text of its environment, as often as wanted",
+        ))?
+        .arg(number_option(
+            alloc,
+            "moment",
+            clap::value_parser!(u64),
+            "Its time of day, in nanoseconds since 1970-01-01 00:00:00 UTC [default: 0]",
+        ))?
+        .arg(text_option(
+            alloc,
+            "random",
+            "FILE",
+            "The file of its random bytes [default: none]",
+        ))
 }
 
 /// `run`, with its arguments.
@@ -212,15 +206,23 @@ fn format_command<'a>(alloc: Global) -> Result<Command<'a>, AllocError>
     ensures { IfOk result (λ c. (app_of c ≡ format_app) × ((fields_of c).has_globals ≡ false)) }
 {
     let about = "Make a file an empty volume; it is made, or lengthened, where that is needed";
-    let sectors = number_word(alloc, "SECTORS", "Sectors of 512 bytes, 137 to 65536");
-    let slots = number_word(
-        alloc,
-        "SLOTS",
-        "Slots for entries, 1 to 8192 and fewer than SECTORS - 122",
-    );
     file_command(alloc, "format", about)?
-        .arg(sectors)?
-        .arg(slots)
+        .arg(number_word(alloc, "SECTORS", "Sectors of 512 bytes, 137 to 65536"))?
+        .arg(number_word(
+            alloc,
+            "SLOTS",
+            "Slots for entries, 1 to 8192 and fewer than SECTORS - 122",
+        ))
+}
+
+/// A command with one subcommand more, where that could be made.
+fn with_command<'a>(
+    program: Command<'a>,
+    subcommand: Result<Command<'a>, AllocError>,
+) -> Result<Command<'a>, AllocError>
+    ensures { IfOk result (λ c. IsOkAnd subcommand.entry (λ s. AddsSubcommand program.entry s c)) }
+{
+    program.subcommand(subcommand?)
 }
 
 /// The program, of whose commands one has to be there.
@@ -232,14 +234,18 @@ fn command<'a>(alloc: Global) -> Result<Command<'a>, AllocError>
         .subcommand_required(true);
     let about =
         "Runs command-line WebAssembly programs with exact fuel, and keeps volumes of files";
-    described(program, about)
-        .subcommand(run_command(alloc)?)?
-        .subcommand(format_command(alloc)?)?
-        .subcommand(path_command(alloc, "ls", "Print the entries of a directory")?)?
-        .subcommand(path_command(alloc, "get", "Print a file")?)?
-        .subcommand(path_command(alloc, "put", "Put standard input into a file")?)?
-        .subcommand(file_command(alloc, "check", "Print how much of a volume is used")?)?
-        .subcommand(file_command(alloc, "upgrade", "Make a volume one of version 2")?)
+    let program = with_command(described(program, about), run_command(alloc))?;
+    let program = with_command(program, format_command(alloc))?;
+    let list = path_command(alloc, "ls", "Print the entries of a directory");
+    let program = with_command(program, list)?;
+    let get = path_command(alloc, "get", "Print a file");
+    let program = with_command(program, get)?;
+    let put = path_command(alloc, "put", "Put standard input into a file");
+    let program = with_command(program, put)?;
+    let check = file_command(alloc, "check", "Print how much of a volume is used");
+    let program = with_command(program, check)?;
+    let upgrade = file_command(alloc, "upgrade", "Make a volume one of version 2");
+    with_command(program, upgrade)
 }
 
 /// The text of an argument, or the empty one.

@@ -44,12 +44,12 @@ returns-in-Ok g c =
     })
 
 -- there is no session
-pub returns : goal.returns
-returns g c = inl (record {
-  fault = c.in-Err.field-0.fault;
+pub returns-in-Err : goal.returns-in-Err
+returns-in-Err g c = inl (record {
+  fault = c.in-Err.refused.fault;
   refused = c.in-Err.ensures.refused;
-  volume = c.in-Err.field-0.parts.volume;
+  volume = c.in-Err.refused.parts.volume;
   kept = c.in-Err.ensures.hands_back.volume;
-  device = c.into_device.ensures;
-  ends = c.session_refused.ensures;
+  device = c.not_begun.ensures.device;
+  ends = c.not_begun.ensures.ends;
 })

@@ -2,7 +2,7 @@ use Rattle.std.proofs.Common.{◌∙◌, ap, true}
 use Rattle.std.proofs.lemmas.Result.{IfOk-weaker}
 use Rattle.clap.specs.Simple.{app_of_fields, on_top}
 use Rattle.sandbox_main.specs.CommandLine.{program}
-use Rattle.sandbox_main.proofs.CommandLines.{subcommand_added}
+use Rattle.sandbox_main.proofs.CommandLines.{command_added}
 use Rattle.sandbox_main.proofs.words.command.Goals as goal
 
 pub returns : goal.returns
@@ -13,10 +13,10 @@ returns c =
     let top = c.described.ensures.shape ∙ required in
     let local = c.described.ensures.globals ∙ (ap (λ f. f.has_globals) c.subcommand_required-program.ensures
     ∙ (ap (λ f. f.has_globals) c.version.ensures ∙ c.new.ensures.local)) in
-    let one = subcommand_added _ _ _ _ _ c.in_ok-subcommand.ensures (top, local) c.in_ok-run_command.ensures in
-    let two = subcommand_added _ _ _ _ _ c.in_ok-subcommand-2.ensures one c.in_ok-format_command.ensures in
-    let three = subcommand_added _ _ _ _ _ c.in_ok-subcommand-3.ensures two c.in_ok-path_command.ensures in
-    let four = subcommand_added _ _ _ _ _ c.in_ok-subcommand-4.ensures three c.in_ok-path_command-2.ensures in
-    let five = subcommand_added _ _ _ _ _ c.in_ok-subcommand-5.ensures four c.in_ok-path_command-3.ensures in
-    let six = subcommand_added _ _ _ _ _ c.in_ok-subcommand-6.ensures five c.in_ok-file_command.ensures in
-    IfOk-weaker c.subcommand-7.result _ _ (λ d added. subcommand_added _ _ _ _ _ added six c.in_ok-file_command-2.ensures) c.subcommand-7.ensures
+    let one = command_added _ _ _ _ _ c.in_ok-program.ensures (top, local) c.run_command.ensures in
+    let two = command_added _ _ _ _ _ c.in_ok-program-2.ensures one c.format_command.ensures in
+    let three = command_added _ _ _ _ _ c.in_ok-program-3.ensures two c.path_command-list.ensures in
+    let four = command_added _ _ _ _ _ c.in_ok-program-4.ensures three c.path_command-get.ensures in
+    let five = command_added _ _ _ _ _ c.in_ok-program-5.ensures four c.path_command-put.ensures in
+    let six = command_added _ _ _ _ _ c.in_ok-program-6.ensures five c.file_command-check.ensures in
+    IfOk-weaker c.with_command-7.result _ _ (λ d added. command_added _ _ _ _ _ added six c.file_command-upgrade.ensures) c.with_command-7.ensures

@@ -9,9 +9,9 @@ use Rattle.sandbox_main.proofs.words.supplied_command.Goals as goal
 pub returns : goal.returns
 unfolding supplied_app
 returns c =
-    let moment : (rule_of c.number_option-moment.result ≡ number_rule (codes "moment") u64_numbers) × (c.number_option-moment.result.global ≡ false) =
-    (c.number_option-moment.ensures.0 ∙ ap (number_rule (codes "moment")) c.value_parser.ensures, c.number_option-moment.ensures.1) in
-    let one = argument_added _ _ _ _ (texts_rule (codes "dir")) c.in_ok-arg.ensures c.in_ok-limited_command.ensures c.texts_option-dir.ensures in
-    let two = argument_added _ _ _ _ (texts_rule (codes "env")) c.in_ok-arg-2.ensures one c.texts_option-env.ensures in
+    let moment : (rule_of c.number_option.result ≡ number_rule (codes "moment") u64_numbers) × (c.number_option.result.global ≡ false) =
+    (c.number_option.ensures.0 ∙ ap (number_rule (codes "moment")) c.value_parser.ensures, c.number_option.ensures.1) in
+    let one = argument_added _ _ _ _ (texts_rule (codes "dir")) c.in_ok-arg.ensures c.in_ok-limited_command.ensures c.texts_option.ensures in
+    let two = argument_added _ _ _ _ (texts_rule (codes "env")) c.in_ok-arg-2.ensures one c.texts_option-2.ensures in
     let three = argument_added _ _ _ _ (number_rule (codes "moment") u64_numbers) c.in_ok-arg-3.ensures two moment in
-    IfOk-weaker c.arg-4.result _ _ (λ d added. argument_added _ _ _ _ (text_rule (codes "random")) added three c.text_option-random.ensures) c.arg-4.ensures
+    IfOk-weaker c.arg-4.result _ _ (λ d added. argument_added _ _ _ _ (text_rule (codes "random")) added three c.text_option.ensures) c.arg-4.ensures
