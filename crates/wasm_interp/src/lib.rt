@@ -30,6 +30,7 @@ mod store_arms;
 mod stores;
 mod table_arms;
 mod tables;
+mod way;
 mod work;
 
 pub use activation::Activation;
