@@ -2,7 +2,7 @@
 
 ghost use Rattle.std.specs.Prelude.{◌≡◌, ◌≢◌, ◌≤◌, ◌<◌, ◌+◌, ◌*◌, ℕ, true, false, drop, IfOk, is_err};
 ghost use Rattle.byteorder.specs.Endian.{little_number};
-ghost use Rattle.vol_log.specs.Log.{view, sectors_of, has_failed, device_of};
+ghost use Rattle.vol_log.specs.Log.{view, log_sectors, has_failed, device_of};
 ghost use Rattle.vol_alloc.specs.Alloc.{end_of, taken_of};
 ghost use Rattle.vol_body.specs.Body.{NamesTaken, double_indirect_block, block_bytes};
 ghost use Rattle.vol_log.specs.Reading.{OnlyReads};
@@ -56,7 +56,7 @@ pub fn load_pointer_sectors<D: Device>(
 ) -> Result<PointerSectors, DeviceFault>
     requires some { first ≤ last }
     requires small { last < 16570 }
-    requires there { end_of sectors.now ≤ sectors_of log.old }
+    requires there { end_of sectors.now ≤ log_sectors log.old }
     requires working { has_failed log.old ≡ false }
     ensures right { D.honest (device_of log.old)
         → NamesTaken (taken_of sectors.now) (view log.old) entry.now
@@ -83,7 +83,7 @@ fn load<D: Device>(
     number: u32,
 ) -> Result<PointerSector, DeviceFault>
     requires taken { number ≢ 0 → taken_of sectors.now number ≡ true }
-    requires there { end_of sectors.now ≤ sectors_of log.old }
+    requires there { end_of sectors.now ≤ log_sectors log.old }
     requires working { has_failed log.old ≡ false }
     ensures image { D.honest (device_of log.old) → IfOk result (λ s.
         s.image ≡ block_bytes (view log.old) number) }
@@ -107,7 +107,7 @@ fn load_top<D: Device>(
     entry: &Entry,
     last: u32,
 ) -> Result<PointerSector, DeviceFault>
-    requires there { end_of sectors.now ≤ sectors_of log.old }
+    requires there { end_of sectors.now ≤ log_sectors log.old }
     requires working { has_failed log.old ≡ false }
     ensures right { D.honest (device_of log.old)
         → NamesTaken (taken_of sectors.now) (view log.old) entry.now → 186 ≤ last
@@ -134,7 +134,7 @@ fn load_segment<D: Device>(
     last: u32,
 ) -> Result<PointerSector, DeviceFault>
     requires small { last < 16570 }
-    requires there { end_of sectors.now ≤ sectors_of log.old }
+    requires there { end_of sectors.now ≤ log_sectors log.old }
     requires working { has_failed log.old ≡ false }
     ensures right { D.honest (device_of log.old)
         → NamesTaken (taken_of sectors.now) (view log.old) entry.now → 58 + 128 * group ≤ last

@@ -2,10 +2,11 @@
 
 ghost use Rattle.std.specs.Prelude.{◌≡◌, ◌≤◌, ◌<◌, ◌+◌, ◌-◌, ◌++◌, ℕ, true, IfOk, OnErr, IsErr, is_err};
 ghost use Rattle.std.specs.Prelude.{length, min, take, drop};
-ghost use Rattle.vol_log.specs.Log.{view, sectors_of, has_failed, device_of};
+ghost use Rattle.vol_log.specs.Log.{view, log_sectors, has_failed, device_of};
 ghost use Rattle.vol_alloc.specs.Alloc.{end_of, taken_of};
 ghost use Rattle.vol_body.specs.Body.{NamesTaken, bytes_of};
 ghost use Rattle.vol_log.specs.Reading.{OnlyReads};
+ghost use Rattle.vol_inode.specs.declared.version.TheConstants.{LARGEST_SIZE};
 
 use crate::locate::read_block;
 use vol_alloc::Alloc;
@@ -25,8 +26,8 @@ pub fn read_at<D: Device>(
     offset: u64,
     buffer: &mut [u8],
 ) -> Result<usize, DeviceFault>
-    requires there { end_of sectors.now ≤ sectors_of log.old }
-    requires small { entry.now.size ≤ 8483840 }
+    requires there { end_of sectors.now ≤ log_sectors log.old }
+    requires small { entry.now.size ≤ LARGEST_SIZE }
     ensures count { IfOk result (λ n. n ≡ min (length buffer.old) (entry.now.size - offset)) }
     ensures bytes { D.honest (device_of log.old)
         → NamesTaken (taken_of sectors.now) (view log.old) entry.now

@@ -1,15 +1,18 @@
 //! Writing the bytes of a file.
 
 ghost use Rattle.std.specs.Prelude.{◌≡◌, ◌≤◌, ◌<◌, ◌+◌, ◌*◌, true, false, length, max, OnOk, OnErr, IfOk, IsErr, is_err};
-ghost use Rattle.vol_log.specs.Log.{view, sectors_of, room_of, has_failed, device_of};
+ghost use Rattle.vol_log.specs.Log.{view, log_sectors, room_of, has_failed, device_of};
 ghost use Rattle.vol_alloc.specs.Alloc.{first_of, end_of, taken_of, free_of};
 ghost use Rattle.vol_inode.specs.Space.{need_of};
 ghost use Rattle.vol_inode.specs.Entry.{HasWidths};
 ghost use Rattle.vol_body.specs.Body.{data_block, named, block_bytes, NamesTaken, bytes_of};
-ghost use Rattle.vol_body.specs.Change.{written, used_of, IfSound, FileBecomes, LosesNoSector, EntryBecomes};
+ghost use Rattle.vol_body.specs.Bytes.{written_bytes};
+ghost use Rattle.vol_body.specs.Change.{used_of, IfSound, FileBecomes, LosesNoSector, EntryBecomes};
 ghost use Rattle.vol_log.specs.Reading.{OnlyReads};
 ghost use Rattle.vol_body.specs.Reading.{StagesAtMost};
 ghost use Rattle.vol_body.specs.internal.Writing.{WriteLeaves};
+ghost use Rattle.vol_log.specs.declared.layout.TheConstants.{FIRST_AFTER_LOG};
+ghost use Rattle.vol_inode.specs.declared.version.TheConstants.{LARGEST_SIZE};
 
 use crate::locate::read_block;
 use crate::pointer_sectors::load_pointer_sectors;
@@ -34,13 +37,13 @@ pub fn write_at<D: Device>(
     offset: u32,
     bytes: &Source<'_>,
 ) -> Result<(), DeviceFault>
-    requires behind { 122 ≤ inode_sector }
+    requires after_log { FIRST_AFTER_LOG ≤ inode_sector }
     requires slot { inode_sector < first_of sectors.old }
-    requires within { inode_sector < sectors_of log.old }
-    requires there { end_of sectors.old ≤ sectors_of log.old }
+    requires within { inode_sector < log_sectors log.old }
+    requires there { end_of sectors.old ≤ log_sectors log.old }
     requires room { 37 ≤ room_of log.old }
-    requires small_before { entry.old.size ≤ 8483840 }
-    requires small { offset + length bytes.now ≤ 8483840 }
+    requires small_before { entry.old.size ≤ LARGEST_SIZE }
+    requires small { offset + length bytes.now ≤ LARGEST_SIZE }
     requires few { length bytes.now ≤ 16384 }
     requires space { IfSound log.old sectors.old entry.old
         (need_of (max entry.old.size (offset + length bytes.now))
@@ -48,7 +51,7 @@ pub fn write_at<D: Device>(
     // The bytes stand in the file, and no free sector is lost.
     ensures file { IfSound log.old sectors.old entry.old (OnOk result
         (FileBecomes inode_sector sectors.old sectors.new (view log.old) (view log.new) entry.old
-        entry.new (written (bytes_of (view log.old) entry.old) offset bytes.now)
+        entry.new (written_bytes (bytes_of (view log.old) entry.old) offset bytes.now)
         × LosesNoSector sectors.old sectors.new (view log.old) (view log.new) entry.old
         entry.new)) }
     ensures entry { 0 < length bytes.now → OnOk result (EntryBecomes inode_sector
@@ -78,14 +81,14 @@ fn write_some<D: Device>(
     offset: u32,
     bytes: &Source<'_>,
 ) -> Result<(), DeviceFault>
-    requires behind { 122 ≤ inode_sector }
+    requires after_log { FIRST_AFTER_LOG ≤ inode_sector }
     requires slot { inode_sector < first_of sectors.old }
-    requires within { inode_sector < sectors_of log.old }
-    requires there { end_of sectors.old ≤ sectors_of log.old }
+    requires within { inode_sector < log_sectors log.old }
+    requires there { end_of sectors.old ≤ log_sectors log.old }
     requires room { 37 ≤ room_of log.old }
     requires working { has_failed log.old ≡ false }
-    requires small_before { entry.old.size ≤ 8483840 }
-    requires small { offset + length bytes.now ≤ 8483840 }
+    requires small_before { entry.old.size ≤ LARGEST_SIZE }
+    requires small { offset + length bytes.now ≤ LARGEST_SIZE }
     requires few { length bytes.now ≤ 16384 }
     requires some { 0 < length bytes.now }
     ensures done { IfSound log.old sectors.old entry.old
@@ -103,14 +106,14 @@ fn write_some<D: Device>(
     let end = offset + bytes.len() as u32;
     let first = offset / 512;
     let last = (end - 1) / 512;
-    let before = read_edge(log, sectors, entry, offset, end, first)?;
-    let behind = read_edge(log, sectors, entry, offset, end, last)?;
+    let first_image = read_edge(log, sectors, entry, offset, end, first)?;
+    let last_image = read_edge(log, sectors, entry, offset, end, last)?;
     let mut all = load_pointer_sectors(log, sectors, entry, first, last)?;
     let piece = Piece {
         offset: offset as usize,
         bytes,
-        first: before,
-        last: behind,
+        first: first_image,
+        last: last_image,
     };
     entry.size = entry.size.max(end);
     write_blocks(log, sectors, entry, &mut all, &piece, first, last);
@@ -128,7 +131,7 @@ fn read_edge<D: Device>(
     j: u32,
 ) -> Result<[u8; 512], DeviceFault>
     requires place { j < 16570 }
-    requires there { end_of sectors.now ≤ sectors_of log.old }
+    requires there { end_of sectors.now ≤ log_sectors log.old }
     requires working { has_failed log.old ≡ false }
     ensures bytes { D.honest (device_of log.old)
         → NamesTaken (taken_of sectors.now) (view log.old) entry.now

@@ -3,6 +3,7 @@ use Rattle.std.specs.Prelude.{◌≡◌, ◌⊎◌, ◌+◌, ◌≤◌, ◌<◌,
 use Rattle.vol_sector.specs.Disk.{Image, Disk, Only}
 use Rattle.vol_log.specs.Header.{IsHeader}
 use Rattle.vol_log.specs.declared.staged.Staged.{Staged}
+use Rattle.vol_log.specs.declared.layout.TheConstants.{FIRST_AFTER_LOG}
 
 abbrev pub numbers : List Staged → List ℕ
 numbers batch = map (λ s. s.sector) batch
@@ -24,7 +25,7 @@ logged (n ∷ ns) at image = record { sector = n; image = image at } ∷ logged 
 
 -- all sectors but the log's own
 abbrev pub IsContent : ℕ → Type 0
-IsContent k = (k < 1) ⊎ (122 ≤ k)
+IsContent k = (k < 1) ⊎ (FIRST_AFTER_LOG ≤ k)
 
 abbrev pub SameContent : Image → Image → Type 0
 SameContent one other = (k : ℕ) → IsContent k → one k ≡ other k

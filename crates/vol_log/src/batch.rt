@@ -6,6 +6,7 @@ ghost use Rattle.vol_sector.specs.Disk.{Image, put};
 ghost use Rattle.vol_log.specs.Header.{Places};
 ghost use Rattle.vol_log.specs.Batch.{numbers, over, holds};
 ghost use Rattle.vol_log.specs.Index.{IsIndex};
+ghost use Rattle.vol_log.specs.declared.layout.TheConstants.{FIRST_AFTER_LOG};
 
 use crate::Staged;
 use crate::index::search;
@@ -47,7 +48,7 @@ pub fn replace_staged(batch: &mut Vec<Staged>, index: &mut Vec<(u32, usize)>, ne
     ensures over { (m : Image) → over batch.new.items m
         ≡ put new.sector new.image (over batch.old.items m) }
     ensures places { (s : ℕ) → Places s (numbers batch.old.items) → vec_len batch.old < 120
-        → 122 ≤ new.sector → new.sector < s
+        → FIRST_AFTER_LOG ≤ new.sector → new.sector < s
         → Places s (numbers batch.new.items) }
     ensures len { vec_len batch.new
         ≡ (if holds batch.old.items new.sector then vec_len batch.old else vec_len batch.old + 1) }

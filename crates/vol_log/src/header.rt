@@ -6,7 +6,7 @@ ghost use Rattle.vol_log.specs.Header.{IsHeader};
 ghost use Rattle.vol_log.specs.Batch.{numbers};
 
 use crate::Staged;
-use crate::layout::{FIRST_BEHIND, IMAGES};
+use crate::layout::{FIRST_AFTER_LOG, IMAGES};
 use crate::steps::header_image;
 use byteorder::{ByteOrder, LittleEndian};
 
@@ -25,7 +25,7 @@ pub fn read_header(header: &[u8; 512], sectors: u32, batch: &mut Vec<Staged>) ->
     }
     for i in 0..count {
         let sector = LittleEndian::read_u32(&header[4 + 4 * i..]);
-        if sector < FIRST_BEHIND || sectors <= sector || is_staged(batch, sector) {
+        if sector < FIRST_AFTER_LOG || sectors <= sector || is_staged(batch, sector) {
             return false;
         }
         let staged = Staged {

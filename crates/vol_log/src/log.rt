@@ -10,6 +10,7 @@ ghost use Rattle.vol_sector.specs.Fault.{is_device};
 ghost use Rattle.vol_log.specs.Header.{Places};
 ghost use Rattle.vol_log.specs.Index.{IsIndex};
 ghost use Rattle.vol_log.specs.Batch.{numbers, over, SameContent, HasContent, HasEither, Settled};
+ghost use Rattle.vol_log.specs.declared.layout.TheConstants.{FIRST_AFTER_LOG};
 
 use crate::Staged;
 use crate::batch::{replace_staged, reserve, staged_image};
@@ -31,7 +32,7 @@ pub struct Log<D: Device> {
     batch: Vec<Staged>,
     index: Vec<(u32, usize)>,
     failed: bool,
-    ghost geometry: { 122 < sectors },
+    ghost geometry: { FIRST_AFTER_LOG < sectors },
     ghost on_device: { sectors ≤ D.size device },
     ghost placed: { Places sectors (numbers batch.items) },
     ghost reserved: { 120 ≤ vec_capacity batch },
@@ -41,7 +42,7 @@ pub struct Log<D: Device> {
 }
 
 impl<D: Device> Log<D> {
-    ghost use Rattle.vol_log.specs.Log.{view, staged_of, device_of, sectors_of, room_of};
+    ghost use Rattle.vol_log.specs.Log.{view, staged_of, device_of, log_sectors, room_of};
     ghost use Rattle.vol_log.specs.Log.{is_staged, has_failed};
 
     /// Opens the log of a device's first sectors, and installs what it holds. It begins with a
@@ -51,10 +52,10 @@ impl<D: Device> Log<D> {
     /// header; as `Device` where an operation failed; and as `Memory`. It reserves the memory for
     /// all later calls.
     pub fn open(alloc: Global, mut device: D, sectors: u32) -> Result<Log<D>, Refused<D>>
-        requires geometry { 122 < sectors }
+        requires geometry { FIRST_AFTER_LOG < sectors }
         requires on_device { sectors ≤ D.size device }
         ensures fresh { IfOk result (λ log. (has_failed log ≡ false) × (staged_of log ≡ [])
-            × (sectors_of log ≡ sectors)) }
+            × (log_sectors log ≡ sectors)) }
         ensures content { (m : Image) → D.honest device
             → HasContent sectors (D.disk device).seen m
             → IfOk result (λ log. SameContent (view log) m) }
@@ -126,7 +127,7 @@ impl<D: Device> Log<D> {
     /// The sector with what is staged for it. Where the log has failed, it answers that. It does
     /// one device operation, or none where the log has failed or the sector is staged.
     pub fn read(&mut self, n: u32) -> Result<[u8; 512], DeviceFault>
-        requires { n < sectors_of self.old }
+        requires { n < log_sectors self.old }
         ensures value { D.honest (device_of self.old)
             → IfOk result (λ bytes. bytes ≡ view self.old n) }
         ensures view { D.honest (device_of self.old) → view self.new ≡ view self.old }
@@ -143,7 +144,7 @@ impl<D: Device> Log<D> {
         ensures idle { has_failed self.old ≡ true
             → (device_of self.new ≡ device_of self.old) × IsErr result }
         ensures staged { staged_of self.new ≡ staged_of self.old }
-        ensures sectors { sectors_of self.new ≡ sectors_of self.old }
+        ensures sectors { log_sectors self.new ≡ log_sectors self.old }
         ensures honest { D.honest (device_of self.old) ↔ D.honest (device_of self.new) }
         ensures size { D.size (device_of self.new) ≡ D.size (device_of self.old) }
         ensures failures { has_failed self.old ≡ false → D.failures (device_of self.new)
@@ -165,8 +166,8 @@ impl<D: Device> Log<D> {
     /// Stages a sector after the log, in place of what was staged for it before. It takes one of
     /// the 120 places, unless the sector has one already.
     pub fn stage(&mut self, n: u32, image: &[u8; 512])
-        requires place { 122 ≤ n }
-        requires there { n < sectors_of self.old }
+        requires place { FIRST_AFTER_LOG ≤ n }
+        requires there { n < log_sectors self.old }
         requires room { 0 < room_of self.old }
         requires working { has_failed self.old ≡ false }
         ensures view { view self.new ≡ put n image.now (view self.old) }
@@ -176,7 +177,7 @@ impl<D: Device> Log<D> {
             ≡ (if k == n then true else is_staged self.old k) }
         ensures device { device_of self.new ≡ device_of self.old }
         ensures failed { has_failed self.new ≡ false }
-        ensures sectors { sectors_of self.new ≡ sectors_of self.old }
+        ensures sectors { log_sectors self.new ≡ log_sectors self.old }
     {
         let staged = Staged {
             sector: n,
@@ -194,11 +195,11 @@ impl<D: Device> Log<D> {
     /// it answers that and does no device operation.
     pub fn commit(&mut self) -> Result<(), DeviceFault>
         ensures done { OnOk result (D.honest (device_of self.old)
-            → Settled (sectors_of self.old) (D.disk (device_of self.new))
+            → Settled (log_sectors self.old) (D.disk (device_of self.new))
             × SameContent (D.disk (device_of self.new)).seen (view self.old)) }
         ensures crash { D.honest (device_of self.old)
             → Leaves (D.disk (device_of self.old)) (D.disk (device_of self.new))
-            (HasEither (sectors_of self.old) (D.disk (device_of self.old)).seen
+            (HasEither (log_sectors self.old) (D.disk (device_of self.old)).seen
             (view self.old)) }
         ensures keeps { D.honest (device_of self.old)
             → SameContent (view self.new) (view self.old) }
@@ -209,7 +210,7 @@ impl<D: Device> Log<D> {
             → (device_of self.new ≡ device_of self.old) × IsErr result }
         ensures nothing { staged_of self.old ≡ [] → has_failed self.old ≡ false
             → (device_of self.new ≡ device_of self.old) × IsOk result }
-        ensures sectors { sectors_of self.new ≡ sectors_of self.old }
+        ensures sectors { log_sectors self.new ≡ log_sectors self.old }
         ensures honest { D.honest (device_of self.old) ↔ D.honest (device_of self.new) }
         ensures size { D.size (device_of self.new) ≡ D.size (device_of self.old) }
         ensures failures { has_failed self.old ≡ false → D.failures (device_of self.new)
@@ -244,7 +245,7 @@ impl<D: Device> Log<D> {
             → OnOk result ((D.disk (device_of self.new)).seen
             ≡ put 0 image.now (D.disk (device_of self.old)).seen) }
         ensures settled { D.honest (device_of self.old)
-            → OnOk result (Settled (sectors_of self.old) (D.disk (device_of self.new))) }
+            → OnOk result (Settled (log_sectors self.old) (D.disk (device_of self.new))) }
         ensures others { D.honest (device_of self.old) → (n : ℕ) → 0 < n
             → (D.disk (device_of self.new)).seen n ≡ (D.disk (device_of self.old)).seen n }
         ensures crash { D.honest (device_of self.old)
@@ -254,7 +255,7 @@ impl<D: Device> Log<D> {
         ensures failed { has_failed self.new ≡ is_err result }
         ensures idle { has_failed self.old ≡ true
             → (device_of self.new ≡ device_of self.old) × IsErr result }
-        ensures sectors { sectors_of self.new ≡ sectors_of self.old }
+        ensures sectors { log_sectors self.new ≡ log_sectors self.old }
         ensures honest { D.honest (device_of self.old) ↔ D.honest (device_of self.new) }
         ensures size { D.size (device_of self.new) ≡ D.size (device_of self.old) }
         ensures failures { has_failed self.old ≡ false → D.failures (device_of self.new)

@@ -124,7 +124,7 @@ module _ (content : Image) (v : Superblock) (dirs : Dirs) (found : Entries) (p :
   sectors : KeepApart content v slots
   sectors = record {
     bodies = body;
-    behind = λ s e q at place some. (p.within.inside.inside (named content e q) (all_named s (named content e q) e at (named_stands content e q place some))).0;
+    after_slots = λ s e q at place some. (p.within.inside.inside (named content e q) (all_named s (named content e q) e at (named_stands content e q place some))).0;
     there = λ s e q at place. elim (cases_eq (named content e q) 0) [
       | inl none ↦ omega (arith, none, p.ranges.least)
       | inr some ↦ (p.within.inside.inside (named content e q) (all_named s (named content e q) e at (named_stands content e q place some))).1

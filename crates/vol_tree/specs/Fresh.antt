@@ -8,6 +8,7 @@ use Rattle.vol_inode.specs.declared.version.Version.TheVariants.{One}
 use Rattle.vol_inode.specs.Spelling.{spelling, unused}
 use Rattle.vol_tree.specs.declared.superblock.Superblock.{Superblock}
 use Rattle.vol_tree.specs.Stands.{StandsAs, IsNoVolume, empty_tree}
+use Rattle.vol_log.specs.declared.layout.TheConstants.{FIRST_AFTER_LOG}
 
 -- the numbers of a new volume
 abbrev pub fresh : ℕ → ℕ → Superblock
@@ -23,7 +24,7 @@ fresh_slot s = if s == 0 then spelling root_entry else unused
 
 -- the slots hold only the root
 abbrev pub HasFreshSlots : ℕ → Image → Type 0
-HasFreshSlots slots image = (s : ℕ) → s < slots → image (122 + s) ≡ fresh_slot s
+HasFreshSlots slots image = (s : ℕ) → s < slots → image (FIRST_AFTER_LOG + s) ≡ fresh_slot s
 
 -- the log is empty, and the slots hold only the root
 pub record IsFresh (slots : ℕ) (image : Image) : Type 0 where
@@ -31,12 +32,12 @@ pub record IsFresh (slots : ℕ) (image : Image) : Type 0 where
   pub entries : HasFreshSlots slots image
 
 -- a step that leaves the sectors before the slots
-abbrev pub BehindTheLog : Image → Image → Type 0
-BehindTheLog before after = (k : ℕ) → k < 122 → after k ≡ before k
+abbrev pub OnlyAfterLogChanges : Image → Image → Type 0
+OnlyAfterLogChanges before after = (k : ℕ) → k < FIRST_AFTER_LOG → after k ≡ before k
 
 -- a step that leaves the first sector
-abbrev pub BehindTheFirst : Image → Image → Type 0
-BehindTheFirst before after = after 0 ≡ before 0
+abbrev pub OnlyAfterFrontChanges : Image → Image → Type 0
+OnlyAfterFrontChanges before after = after 0 ≡ before 0
 
 -- the image is no volume yet, or the empty one
 abbrev pub IsNoneOrEmpty : Superblock → Image → Type 0

@@ -11,6 +11,7 @@ use Rattle.vol_tree.specs.declared.errno.Errno.TheVariants as errno
 use Rattle.vol_tree.specs.Space.{Geometry}
 use Rattle.vol_tree.specs.Tree.{Tree}
 use Rattle.vol_tree.specs.Stands.{Slots, tree_of, Stands}
+use Rattle.vol_log.specs.declared.layout.TheConstants.{FIRST_AFTER_LOG}
 
 -- ---- the slots that sectors spell
 
@@ -29,7 +30,7 @@ abbrev pub slot_in : List ℕ → Option Entry
 slot_in bytes = if slice_index bytes 0 == 0 then None else Some (entry_in bytes)
 
 abbrev pub slots_in : Image → ℕ → Slots
-slots_in content slots = map (λ s. slot_in (content (122 + s))) (range_with_len 0 slots)
+slots_in content slots = map (λ s. slot_in (content (FIRST_AFTER_LOG + s))) (range_with_len 0 slots)
 
 -- the entry of a serial
 abbrev pub slot_of : Image → Superblock → ℕ → Option Entry
@@ -40,7 +41,7 @@ abbrev pub tree_in : Image → Superblock → Tree
 tree_in content v = tree_of content (slots_in content v.slots)
 
 abbrev pub data_sectors : Superblock → ℕ
-data_sectors v = v.sectors - (122 + v.slots)
+data_sectors v = v.sectors - (FIRST_AFTER_LOG + v.slots)
 
 abbrev pub geometry : Superblock → Geometry
 geometry v = record { version = v.version; data_sectors = data_sectors v }

@@ -2,7 +2,7 @@
 use Rattle.std.specs.Prelude.{◌≡◌, ◌+◌, ℕ, true, false, Some, None, get_or}
 use Rattle.vol_sector.specs.Disk.{Image, Disk}
 use Rattle.vol_sector.specs.declared.device.Device.{Ghosts}
-use Rattle.vol_log.specs.Log.{view, device_of, sectors_of, has_failed}
+use Rattle.vol_log.specs.Log.{view, device_of, log_sectors, has_failed}
 use Rattle.vol_log.specs.Batch.{Settled}
 use Rattle.vol_alloc.specs.Alloc.{first_of, end_of, taken_of}
 use Rattle.vol_alloc.specs.declared.sectors.Alloc.{Alloc}
@@ -15,6 +15,7 @@ use Rattle.vol_tree.specs.Superblock.{superblock, HasRanges}
 use Rattle.vol_tree.specs.Space.{space}
 use Rattle.vol_tree.specs.Stands.{Slots, IsVolume}
 use Rattle.vol_tree.specs.Opened.{Opened, slots_in, tree_in}
+use Rattle.vol_log.specs.declared.layout.TheConstants.{FIRST_AFTER_LOG}
 
 abbrev pub opened : {D : Type 0} {g : Ghosts D} → Parts D g → Opened D
 opened p = record { device = device_of p.log; numbers = p.numbers; tree = tree_in (view p.log) p.numbers; failed = has_failed p.log }
@@ -39,8 +40,8 @@ pub record IsWorking (disk : Disk) (content : Image) (v : Superblock) (sectors :
 
 pub record IsOpen {D : Type 0} {g : Ghosts D} (p : Parts D g) : Type 0 where
   pub ranges : HasRanges p.numbers
-  pub sectors : sectors_of p.log ≡ p.numbers.sectors
-  pub first : first_of p.sectors ≡ 122 + p.numbers.slots
+  pub sectors : log_sectors p.log ≡ p.numbers.sectors
+  pub first : first_of p.sectors ≡ FIRST_AFTER_LOG + p.numbers.slots
   pub end : end_of p.sectors ≡ p.numbers.sectors
   pub slots : slots_of p.dirs ≡ p.numbers.slots
   pub content : g.honest (device_of p.log) → IsContent (view p.log) p.numbers

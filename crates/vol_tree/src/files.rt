@@ -12,6 +12,7 @@ use crate::Errno;
 use crate::parts::Parts;
 use vol_body::{Source, read_at, set_size, write_at};
 use vol_inode::{Version, need};
+use vol_log::FIRST_AFTER_LOG;
 use vol_sector::Device;
 
 impl<D: Device> Parts<D> {
@@ -134,7 +135,7 @@ impl<D: Device> Parts<D> {
     {
         let others = u64::from(self.reserved.saturating_sub(need(before)));
         let sum = others + u64::from(need(after));
-        let most = self.numbers.sectors - (122 + self.numbers.slots);
+        let most = self.numbers.sectors - (FIRST_AFTER_LOG + self.numbers.slots);
         if sum <= u64::from(most) {
             Some(sum as u32)
         } else {

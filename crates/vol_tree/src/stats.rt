@@ -4,6 +4,7 @@ ghost use Rattle.vol_log.specs.Log.{device_of};
 ghost use Rattle.std.specs.Prelude.{◌≡◌};
 
 use crate::parts::Parts;
+use vol_log::FIRST_AFTER_LOG;
 use vol_sector::Device;
 
 /// What is told of a volume.
@@ -33,7 +34,7 @@ impl<D: Device> Parts<D> {
             entries: self.entries(),
             slots: self.numbers.slots,
             needed: self.reserved,
-            sectors: self.numbers.sectors - (122 + self.numbers.slots),
+            sectors: self.numbers.sectors - (FIRST_AFTER_LOG + self.numbers.slots),
         }
     }
 

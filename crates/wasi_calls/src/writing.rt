@@ -142,8 +142,8 @@ fn write_on<'t, D: Device>(
     match put_bytes(volume, opened.serial, opened.position, memory, buffers) {
         Ok(len) => {
             if len > 0 {
-                let behind = opened.position.saturating_add(u64::from(len));
-                move_to(descriptors, request.fd, opened, behind);
+                let past = opened.position.saturating_add(u64::from(len));
+                move_to(descriptors, request.fd, opened, past);
             }
             write_bytes(memory, request.result_at, &le32(len));
             Ok(())

@@ -21,7 +21,7 @@ returns-in-Ok-clause-over c m =
     over_set old _ c.args.new m place.inside place.here place.before
 
 pub returns-in-Ok-clause-places : goal.returns-in-Ok-clause-places
-returns-in-Ok-clause-places c s places short behind there =
+returns-in-Ok-clause-places c s places short after_log there =
     let old = c.args.batch.now.items in
     let index = c.args.index.now.items in
     let found = subst (λ (l : Index). IsAt l c.args.new.sector c.in-Ok.at) c.deref.ensures.value c.in-Ok.ensures.found in
@@ -67,13 +67,13 @@ returns-in-Ok-push-clause-over c m =
     ap (λ (b : List Staged). over b m) items ∙ over_push old c.args.new m none
 
 pub returns-in-Ok-push-clause-places : goal.returns-in-Ok-push-clause-places
-returns-in-Ok-push-clause-places c s places short behind there =
+returns-in-Ok-push-clause-places c s places short after_log there =
     let old = c.args.batch.now.items in
     let index = c.args.index.now.items in
     let gap = subst (λ (l : Index). IsGapFor l c.args.new.sector c.in-Err.at) c.deref.ensures.value c.in-Err.ensures.absent in
     let none = none_at_all old index c.requires.indexed c.args.new.sector c.in-Err.at gap in
     let items : c.push.new.self.items ≡ old ++ c.args.new ∷ [] = c.in-Ok-push.ensures.items in
-    subst (λ (b : List Staged). Places s (numbers b)) (sym items) (places_push s old c.args.new places (omega arith) behind there none)
+    subst (λ (b : List Staged). Places s (numbers b)) (sym items) (places_push s old c.args.new places (omega arith) after_log there none)
 
 pub returns-in-Ok-push-clause-len : goal.returns-in-Ok-push-clause-len
 returns-in-Ok-push-clause-len c =

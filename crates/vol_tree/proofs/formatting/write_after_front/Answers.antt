@@ -1,13 +1,13 @@
 use Rattle.std.proofs.Common.{refl, sym, subst}
 use Rattle.vol_sector.specs.Disk.{After, Leaves}
 use Rattle.vol_log.proofs.Moments.{leaves_same, leaves_step, leaves_quiet}
-use Rattle.vol_tree.specs.Fresh.{BehindTheLog, BehindTheFirst, IsFresh}
-use Rattle.vol_tree.proofs.Steps.{header_leaves_first, behind_leaves_first, first_joins, is_fresh, at_ok}
-use Rattle.vol_tree.proofs.formatting.write_behind.Goals as goal
+use Rattle.vol_tree.specs.Fresh.{OnlyAfterLogChanges, OnlyAfterFrontChanges, IsFresh}
+use Rattle.vol_tree.proofs.Steps.{header_leaves_first, after_log_leaves_first, first_joins, is_fresh, at_ok}
+use Rattle.vol_tree.proofs.formatting.write_after_front.Goals as goal
 
 pub returns-in_err-write-clause-crash : goal.returns-in_err-write-clause-crash
 returns-in_err-write-clause-crash g c h =
-    leaves_step _ _ _ BehindTheFirst _ (header_leaves_first _) first_joins (leaves_same _ _) (c.write.ensures.crash h)
+    leaves_step _ _ _ OnlyAfterFrontChanges _ (header_leaves_first _) first_joins (leaves_same _ _) (c.write.ensures.crash h)
 
 pub returns-in_err-write_slots-clause-crash : goal.returns-in_err-write_slots-clause-crash
 returns-in_err-write_slots-clause-crash g c h =
@@ -15,8 +15,8 @@ returns-in_err-write_slots-clause-crash g c h =
     let b = g.D.Device.disk c.write.new.self in
     let d = g.D.Device.disk c.write_slots.new.device in
     let h1 = c.write.ensures.honest.0 h in
-    let first : Leaves a b (After BehindTheFirst a.may_leave) = leaves_step a a b BehindTheFirst _ (header_leaves_first _) first_joins (leaves_same a _) (c.write.ensures.crash h) in
-    leaves_step a b d BehindTheFirst BehindTheLog behind_leaves_first first_joins first (c.write_slots.ensures.crash h1)
+    let first : Leaves a b (After OnlyAfterFrontChanges a.may_leave) = leaves_step a a b OnlyAfterFrontChanges _ (header_leaves_first _) first_joins (leaves_same a _) (c.write.ensures.crash h) in
+    leaves_step a b d OnlyAfterFrontChanges OnlyAfterLogChanges after_log_leaves_first first_joins first (c.write_slots.ensures.crash h1)
 
 pub returns-clause-crash : goal.returns-clause-crash
 returns-clause-crash g c h =
@@ -26,9 +26,9 @@ returns-clause-crash g c h =
     let e = g.D.Device.disk c.sync.new.self in
     let h1 = c.write.ensures.honest.0 h in
     let h2 = c.write_slots.ensures.honest.0 h1 in
-    let first : Leaves a b (After BehindTheFirst a.may_leave) = leaves_step a a b BehindTheFirst _ (header_leaves_first _) first_joins (leaves_same a _) (c.write.ensures.crash h) in
-    let second : Leaves a d (After BehindTheFirst a.may_leave) = leaves_step a b d BehindTheFirst BehindTheLog behind_leaves_first first_joins first (c.write_slots.ensures.crash h1) in
-    leaves_quiet a d e (After BehindTheFirst a.may_leave) second (c.sync.ensures.crash h2)
+    let first : Leaves a b (After OnlyAfterFrontChanges a.may_leave) = leaves_step a a b OnlyAfterFrontChanges _ (header_leaves_first _) first_joins (leaves_same a _) (c.write.ensures.crash h) in
+    let second : Leaves a d (After OnlyAfterFrontChanges a.may_leave) = leaves_step a b d OnlyAfterFrontChanges OnlyAfterLogChanges after_log_leaves_first first_joins first (c.write_slots.ensures.crash h1) in
+    leaves_quiet a d e (After OnlyAfterFrontChanges a.may_leave) second (c.sync.ensures.crash h2)
 
 pub returns-clause-written : goal.returns-clause-written
 returns-clause-written g c h =

@@ -1,6 +1,6 @@
 use Rattle.std.proofs.Common.{◌≡◌, ◌≤◌, ◌+◌, ◌-◌, ◌^◌, min, drop}
 use Rattle.wasi_calls.specs.Texts.{ended_bytes}
-use Rattle.wasi_calls.proofs.settings.ended_len.Given as goal
+use Rattle.wasi_calls.proofs.settings.nul_terminated_len.Given as goal
 
 abbrev pub invariant-loop-text : goal.invariant-loop-text
 invariant-loop-text l =

@@ -1,6 +1,6 @@
 use Rattle.std.proofs.Common.{◌≡◌, drop, [], arith}
 use Rattle.std.proofs.lemmas.List.{drop_all}
-use Rattle.wasi_calls.proofs.settings.ended_len.Goals as goal
+use Rattle.wasi_calls.proofs.settings.nul_terminated_len.Goals as goal
 
 -- no text is left
 pub returns : goal.returns
