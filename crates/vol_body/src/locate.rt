@@ -93,24 +93,20 @@ pub fn sector_of_block<D: Device>(
     read_number(log, sectors, indirect_block, (j - LISTED) % NUMBERS)
 }
 
-/// The bytes of a data block of the file, zeros where it was never written.
-pub fn read_block<D: Device>(
+/// The bytes of a taken sector. Sector 0 stands for none, which reads as zeros.
+pub fn read_taken<D: Device>(
     log: &mut Log<D>,
     sectors: &Alloc,
-    entry: &Entry,
-    j: u32,
+    n: u32,
 ) -> Result<[u8; 512], DeviceFault>
-    requires place { j < 16570 }
+    requires taken { n ≢ 0 → taken_of sectors.now n ≡ true }
     requires there { end_of sectors.now ≤ log_sectors log.old }
     requires working { has_failed log.old ≡ false }
     ensures bytes { D.honest (device_of log.old)
-        → NamesTaken (taken_of sectors.now) (view log.old) entry.now
-        → IfOk result (λ image. image
-        ≡ block_bytes (view log.old) (named (view log.old) entry.now (data_block j))) }
+        → IfOk result (λ image. image ≡ block_bytes (view log.old) n) }
     ensures reads { OnlyReads log.old log.new }
     ensures failed { has_failed log.new ≡ is_err result }
 {
-    let n = sector_of_block(log, sectors, entry, j)?;
     if n == 0 {
         return Ok([0; 512]);
     }

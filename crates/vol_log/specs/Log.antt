@@ -8,7 +8,7 @@ use Rattle.vol_log.specs.declared.log.Log.{Log}
 
 -- the sectors staged since the last commit
 abbrev pub staged_of : {D : Type 0} {g : Ghosts D} → Log D g → List Staged
-staged_of log = log.batch.items
+staged_of log = log.batch.staged.items
 
 -- the device as the operations left it
 abbrev pub device_of : {D : Type 0} {g : Ghosts D} → Log D g → D

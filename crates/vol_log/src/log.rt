@@ -13,7 +13,7 @@ ghost use Rattle.vol_log.specs.Batch.{numbers, over, SameContent, HasContent, Ha
 ghost use Rattle.vol_log.specs.declared.layout.TheConstants.{FIRST_AFTER_LOG};
 
 use crate::Staged;
-use crate::batch::{replace_staged, reserve, staged_image};
+use crate::batch::Batch;
 use crate::layout::IMAGES;
 use crate::replay::replay;
 use crate::steps::{commit_batch, write_front};
@@ -29,15 +29,14 @@ use vol_sector::{Device, DeviceFault, Refused, VolumeFault};
 pub struct Log<D: Device> {
     device: D,
     sectors: u32,
-    batch: Vec<Staged>,
-    index: Vec<(u32, usize)>,
+    batch: Batch,
     failed: bool,
     ghost geometry: { FIRST_AFTER_LOG < sectors },
     ghost on_device: { sectors ≤ D.size device },
-    ghost placed: { Places sectors (numbers batch.items) },
-    ghost reserved: { 120 ≤ vec_capacity batch },
-    ghost indexed: { IsIndex (numbers batch.items) index.items },
-    ghost index_reserved: { 120 ≤ vec_capacity index },
+    ghost placed: { Places sectors (numbers batch.staged.items) },
+    ghost reserved: { 120 ≤ vec_capacity batch.staged },
+    ghost indexed: { IsIndex (numbers batch.staged.items) batch.index.items },
+    ghost index_reserved: { 120 ≤ vec_capacity batch.index },
     ghost settled: { D.honest device → failed ≡ false → Settled sectors (D.disk device) },
 }
 
@@ -89,8 +88,8 @@ impl<D: Device> Log<D> {
             × (D.size r.device ≡ D.size device)
             × (D.failures r.device ≡ counted (is_device r.fault) (D.failures device))) }
     {
-        let (mut batch, index) = match reserve(alloc) {
-            Ok(reserved) => reserved,
+        let mut batch = match Batch::reserve(alloc) {
+            Ok(batch) => batch,
             Err(_) => {
                 return Err(Refused {
                     device,
@@ -98,12 +97,11 @@ impl<D: Device> Log<D> {
                 });
             }
         };
-        match replay(&mut device, sectors, &mut batch) {
+        match replay(&mut device, sectors, &mut batch.staged) {
             Ok(()) => Ok(Log {
                 device,
                 sectors,
                 batch,
-                index,
                 failed: false,
             }),
             Err(fault) => Err(Refused { device, fault }),
@@ -114,7 +112,7 @@ impl<D: Device> Log<D> {
     pub fn room(&self) -> usize
         ensures { result ≡ room_of self.now }
     {
-        IMAGES - self.batch.len()
+        IMAGES - self.batch.staged.len()
     }
 
     /// Has a device operation failed since the log was opened?
@@ -153,7 +151,7 @@ impl<D: Device> Log<D> {
         if self.failed {
             return Err(DeviceFault);
         }
-        match staged_image(&self.batch, &self.index, n) {
+        match self.batch.image_for(n) {
             Some(image) => Ok(image),
             None => {
                 let outcome = self.device.read(n);
@@ -183,7 +181,7 @@ impl<D: Device> Log<D> {
             sector: n,
             image: *image,
         };
-        replace_staged(&mut self.batch, &mut self.index, staged);
+        self.batch.replace(staged);
     }
 
     /// Puts what is staged onto the disk, all of it or nothing, whenever it is stopped. After its
@@ -219,13 +217,12 @@ impl<D: Device> Log<D> {
         if self.failed {
             return Err(DeviceFault);
         }
-        if self.batch.is_empty() {
+        if self.batch.staged.is_empty() {
             return Ok(());
         }
-        match commit_batch(&mut self.device, &self.batch) {
+        match commit_batch(&mut self.device, &self.batch.staged) {
             Ok(()) => {
                 self.batch.clear();
-                self.index.clear();
                 Ok(())
             }
             Err(fault) => {
@@ -277,7 +274,6 @@ impl<D: Device> Log<D> {
             device,
             sectors: _,
             batch: _,
-            index: _,
             failed: _,
         } = self;
         device

@@ -3,15 +3,15 @@
 ghost use Rattle.std.specs.Prelude.{◌≡◌, ◌⊎◌, ◌≤◌, ◌<◌, ◌↔◌, List, [], ℕ};
 ghost use Rattle.std.specs.Prelude.{length, OnOk, OnErr, is_err};
 ghost use Rattle.vol_sector.specs.Disk.{After, Wrote, Leaves, Only, put, counted};
-ghost use Rattle.vol_log.specs.Header.{Places, IsHeader, header_bytes};
+ghost use Rattle.vol_log.specs.Header.{Places};
 ghost use Rattle.vol_log.specs.Batch.{numbers, over, logged, SameContent, HasContent, HasEither};
 ghost use Rattle.vol_log.specs.Batch.{Settled};
 ghost use Rattle.vol_log.specs.internal.Steps.{Logged, OnlyImagesChange, OutsideLog, Under};
 ghost use Rattle.vol_log.specs.declared.layout.TheConstants.{FIRST_AFTER_LOG};
 
 use crate::Staged;
+use crate::header::header_image;
 use crate::layout::{FIRST_IMAGE, FRONT, HEADER};
-use byteorder::{ByteOrder, LittleEndian};
 use vol_sector::{Device, DeviceFault};
 
 /// Writes the images into the log.
@@ -51,19 +51,6 @@ pub fn install<D: Device>(device: &mut D, batch: &[Staged]) -> Result<(), Device
         device.write(staged.sector, &staged.image)?;
     }
     Ok(())
-}
-
-/// The header of a log that holds the batch.
-pub fn header_image(batch: &[Staged]) -> [u8; 512]
-    requires { length batch.now ≤ 120 }
-    ensures { result ≡ header_bytes (numbers batch.now) }
-{
-    let mut header = [0; 512];
-    LittleEndian::write_u32(&mut header, batch.len() as u32);
-    for (i, staged) in batch.iter().enumerate() {
-        LittleEndian::write_u32(&mut header[4 + 4 * i..], staged.sector);
-    }
-    header
 }
 
 /// Puts the batch into the log: its images, then the header.

@@ -8,13 +8,13 @@ use Rattle.vol_log.specs.internal.Index.{IsAt, IsGapFor}
 use Rattle.vol_log.specs.declared.staged.Staged.{Staged}
 use Rattle.vol_log.proofs.Finding.{index_more}
 use Rattle.vol_log.proofs.Staging.{found_place, none_at_all, over_set, over_push, numbers_replaced, places_push, holds_at, holds_none, holds_set, holds_push}
-use Rattle.vol_log.proofs.batch.replace_staged.Goals as goal
-use Rattle.vol_log.proofs.batch.replace_staged.Goals.{in-Ok-insert, in-Err-insert}
+use Rattle.vol_log.proofs.batch.Batch.replace.Goals as goal
+use Rattle.vol_log.proofs.batch.Batch.replace.Goals.{in-Ok-insert, in-Err-insert}
 
 pub returns-in-Ok-clause-over : goal.returns-in-Ok-clause-over
 returns-in-Ok-clause-over c m =
-    let old = c.args.batch.now.items in
-    let index = c.args.index.now.items in
+    let old = c.args.self.now.staged.items in
+    let index = c.args.self.now.index.items in
     let found = subst (λ (l : Index). IsAt l c.args.new.sector c.in-Ok.at) c.deref.ensures.value c.in-Ok.ensures.found in
     let entry = get_or_read index c.in-Ok.at c.index.result.now found.in_range c.index.ensures (0, 0) in
     let place = found_place old index c.requires.indexed c.args.new.sector c.in-Ok.at found c.index.result.now.1 (ap (λ (e : ℕ × ℕ). e.1) entry) in
@@ -22,8 +22,8 @@ returns-in-Ok-clause-over c m =
 
 pub returns-in-Ok-clause-places : goal.returns-in-Ok-clause-places
 returns-in-Ok-clause-places c s places short after_log there =
-    let old = c.args.batch.now.items in
-    let index = c.args.index.now.items in
+    let old = c.args.self.now.staged.items in
+    let index = c.args.self.now.index.items in
     let found = subst (λ (l : Index). IsAt l c.args.new.sector c.in-Ok.at) c.deref.ensures.value c.in-Ok.ensures.found in
     let entry = get_or_read index c.in-Ok.at c.index.result.now found.in_range c.index.ensures (0, 0) in
     let place = found_place old index c.requires.indexed c.args.new.sector c.in-Ok.at found c.index.result.now.1 (ap (λ (e : ℕ × ℕ). e.1) entry) in
@@ -31,18 +31,18 @@ returns-in-Ok-clause-places c s places short after_log there =
 
 pub returns-in-Ok-clause-len : goal.returns-in-Ok-clause-len
 returns-in-Ok-clause-len c =
-    let old = c.args.batch.now.items in
-    let index = c.args.index.now.items in
+    let old = c.args.self.now.staged.items in
+    let index = c.args.self.now.index.items in
     let found = subst (λ (l : Index). IsAt l c.args.new.sector c.in-Ok.at) c.deref.ensures.value c.in-Ok.ensures.found in
     let entry = get_or_read index c.in-Ok.at c.index.result.now found.in_range c.index.ensures (0, 0) in
     let place = found_place old index c.requires.indexed c.args.new.sector c.in-Ok.at found c.index.result.now.1 (ap (λ (e : ℕ × ℕ). e.1) entry) in
-    let before = vec_len c.args.batch.now in
+    let before = vec_len c.args.self.now.staged in
     ap (λ (b : Bool). if b then before else before + 1) (sym (holds_at old _ c.args.new.sector place.inside place.here))
 
 pub returns-in-Ok-clause-holds : goal.returns-in-Ok-clause-holds
 returns-in-Ok-clause-holds c k =
-    let old = c.args.batch.now.items in
-    let index = c.args.index.now.items in
+    let old = c.args.self.now.staged.items in
+    let index = c.args.self.now.index.items in
     let found = subst (λ (l : Index). IsAt l c.args.new.sector c.in-Ok.at) c.deref.ensures.value c.in-Ok.ensures.found in
     let entry = get_or_read index c.in-Ok.at c.index.result.now found.in_range c.index.ensures (0, 0) in
     let place = found_place old index c.requires.indexed c.args.new.sector c.in-Ok.at found c.index.result.now.1 (ap (λ (e : ℕ × ℕ). e.1) entry) in
@@ -50,8 +50,8 @@ returns-in-Ok-clause-holds c k =
 
 pub returns-in-Ok-clause-indexed : goal.returns-in-Ok-clause-indexed
 returns-in-Ok-clause-indexed c =
-    let old = c.args.batch.now.items in
-    let index = c.args.index.now.items in
+    let old = c.args.self.now.staged.items in
+    let index = c.args.self.now.index.items in
     let found = subst (λ (l : Index). IsAt l c.args.new.sector c.in-Ok.at) c.deref.ensures.value c.in-Ok.ensures.found in
     let entry = get_or_read index c.in-Ok.at c.index.result.now found.in_range c.index.ensures (0, 0) in
     let place = found_place old index c.requires.indexed c.args.new.sector c.in-Ok.at found c.index.result.now.1 (ap (λ (e : ℕ × ℕ). e.1) entry) in
@@ -59,8 +59,8 @@ returns-in-Ok-clause-indexed c =
 
 pub returns-in-Ok-push-clause-over : goal.returns-in-Ok-push-clause-over
 returns-in-Ok-push-clause-over c m =
-    let old = c.args.batch.now.items in
-    let index = c.args.index.now.items in
+    let old = c.args.self.now.staged.items in
+    let index = c.args.self.now.index.items in
     let gap = subst (λ (l : Index). IsGapFor l c.args.new.sector c.in-Err.at) c.deref.ensures.value c.in-Err.ensures.absent in
     let none = none_at_all old index c.requires.indexed c.args.new.sector c.in-Err.at gap in
     let items : c.push.new.self.items ≡ old ++ c.args.new ∷ [] = c.in-Ok-push.ensures.items in
@@ -68,8 +68,8 @@ returns-in-Ok-push-clause-over c m =
 
 pub returns-in-Ok-push-clause-places : goal.returns-in-Ok-push-clause-places
 returns-in-Ok-push-clause-places c s places short after_log there =
-    let old = c.args.batch.now.items in
-    let index = c.args.index.now.items in
+    let old = c.args.self.now.staged.items in
+    let index = c.args.self.now.index.items in
     let gap = subst (λ (l : Index). IsGapFor l c.args.new.sector c.in-Err.at) c.deref.ensures.value c.in-Err.ensures.absent in
     let none = none_at_all old index c.requires.indexed c.args.new.sector c.in-Err.at gap in
     let items : c.push.new.self.items ≡ old ++ c.args.new ∷ [] = c.in-Ok-push.ensures.items in
@@ -77,18 +77,18 @@ returns-in-Ok-push-clause-places c s places short after_log there =
 
 pub returns-in-Ok-push-clause-len : goal.returns-in-Ok-push-clause-len
 returns-in-Ok-push-clause-len c =
-    let old = c.args.batch.now.items in
-    let index = c.args.index.now.items in
+    let old = c.args.self.now.staged.items in
+    let index = c.args.self.now.index.items in
     let gap = subst (λ (l : Index). IsGapFor l c.args.new.sector c.in-Err.at) c.deref.ensures.value c.in-Err.ensures.absent in
     let none = none_at_all old index c.requires.indexed c.args.new.sector c.in-Err.at gap in
     let items : c.push.new.self.items ≡ old ++ c.args.new ∷ [] = c.in-Ok-push.ensures.items in
-    let before = vec_len c.args.batch.now in
+    let before = vec_len c.args.self.now.staged in
     c.in-Ok-push.ensures.len ∙ ap (λ (b : Bool). if b then before else before + 1) (sym (holds_none old c.args.new.sector none))
 
 pub returns-in-Ok-push-clause-holds : goal.returns-in-Ok-push-clause-holds
 returns-in-Ok-push-clause-holds c k =
-    let old = c.args.batch.now.items in
-    let index = c.args.index.now.items in
+    let old = c.args.self.now.staged.items in
+    let index = c.args.self.now.index.items in
     let gap = subst (λ (l : Index). IsGapFor l c.args.new.sector c.in-Err.at) c.deref.ensures.value c.in-Err.ensures.absent in
     let none = none_at_all old index c.requires.indexed c.args.new.sector c.in-Err.at gap in
     let items : c.push.new.self.items ≡ old ++ c.args.new ∷ [] = c.in-Ok-push.ensures.items in
@@ -96,8 +96,8 @@ returns-in-Ok-push-clause-holds c k =
 
 pub returns-in-Ok-push-clause-indexed : goal.returns-in-Ok-push-clause-indexed
 returns-in-Ok-push-clause-indexed c =
-    let old = c.args.batch.now.items in
-    let index = c.args.index.now.items in
+    let old = c.args.self.now.staged.items in
+    let index = c.args.self.now.index.items in
     let gap = subst (λ (l : Index). IsGapFor l c.args.new.sector c.in-Err.at) c.deref.ensures.value c.in-Err.ensures.absent in
     let none = none_at_all old index c.requires.indexed c.args.new.sector c.in-Err.at gap in
     let items : c.push.new.self.items ≡ old ++ c.args.new ∷ [] = c.in-Ok-push.ensures.items in

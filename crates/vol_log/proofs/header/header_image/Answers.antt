@@ -6,7 +6,7 @@ use Rattle.vol_log.specs.Batch.{numbers}
 use Rattle.vol_log.specs.declared.staged.Staged.{Staged}
 use Rattle.vol_log.proofs.Headers.{header_more, spelled_more, length_spelled}
 use Rattle.vol_log.proofs.Images.{blank}
-use Rattle.vol_log.proofs.steps.header_image.Goals as goal
+use Rattle.vol_log.proofs.header.header_image.Goals as goal
 
 pub loop-i-init : goal.loop-i-init
 loop-i-init c =
