@@ -1,7 +1,6 @@
 //! The pointer sectors that a call holds while it goes over a file's data blocks in their order.
 
 ghost use Rattle.std.specs.Prelude.{◌≡◌, ◌≤◌, ◌<◌, ◌-◌, ◌/◌, ◌%◌, false, IfOk, OnOk, is_err};
-ghost use Rattle.std.specs.Prelude.{true, ◌≢◌};
 ghost use Rattle.vol_log.specs.Log.{view, log_sectors, has_failed, device_of};
 ghost use Rattle.vol_alloc.specs.Alloc.{end_of, taken_of};
 ghost use Rattle.vol_body.specs.Body.{NamesTaken, data_block, named, block_bytes};

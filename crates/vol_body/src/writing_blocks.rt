@@ -1,7 +1,6 @@
 //! Writing data blocks of a file, once everything that it needs was read.
 
 ghost use Rattle.std.specs.Prelude.{◌≡◌, ◌≢◌, ◌⊎◌, ◌≤◌, ◌<◌, ◌+◌, ℕ, true, false};
-ghost use Rattle.std.specs.Prelude.{if◌then◌else◌};
 ghost use Rattle.vol_log.specs.Log.{view, log_sectors, room_of, has_failed};
 ghost use Rattle.vol_alloc.specs.Alloc.{first_of, end_of, taken_of};
 ghost use Rattle.vol_inode.specs.Space.{blocks_for_size};

@@ -8,7 +8,8 @@ use borrow.Rule.Slice.PartMut.{put_mid}
 use Rattle.vol_inode.specs.declared.entry.Entry.{Entry}
 use Rattle.vol_inode.specs.Name.{IsName}
 use Rattle.vol_inode.specs.Entry.{HasName, name_of}
-use Rattle.vol_dirs.specs.Key.{key_of, IsPlain, before_zero, parent_in, name_in, IsKey}
+use Rattle.vol_dirs.specs.Key.{key_of, IsPlain}
+use Rattle.vol_dirs.specs.internal.Key.{before_zero, parent_in, name_in, IsKey}
 
 -- a name copied into a key of a serial and zeros
 pub name_written : (a b c d k : ℕ) (name : List ℕ) → k ≡ length name → put_mid 4 k (a ∷ b ∷ c ∷ d ∷ replicate 255 0) name ≡ a ∷ b ∷ c ∷ d ∷ (name ++ replicate (255 - length name) 0)

@@ -4,7 +4,8 @@ use Rattle.std.proofs.lemmas.Bool.Decides.{nat_tests}
 use Rattle.std.proofs.lemmas.List.{length-map}
 use Rattle.vol_sector.specs.Disk.{Image, put, Wrote}
 use Rattle.vol_log.specs.Header.{Places, IsHeader, header_bytes}
-use Rattle.vol_log.specs.Batch.{numbers, over, logged, IsContent, SameContent, HasContent, HasEither}
+use Rattle.vol_log.specs.Batch.{over, logged, IsContent, SameContent, HasContent, HasEither}
+use Rattle.vol_log.specs.internal.Batch.{numbers}
 use Rattle.vol_log.specs.internal.Steps.{OnlyImagesChange, OutsideLog, Under}
 use Rattle.vol_log.specs.declared.staged.Staged.{Staged}
 use Rattle.vol_log.proofs.Images.{at_once, put_same, put_other, wrote_other, over_at}

@@ -4,7 +4,8 @@ use Rattle.std.proofs.lemmas.List.{take_more, map_push, length-map, length-take-
 use Rattle.std.proofs.lemmas.Bool.{cases_eq}
 use Rattle.std.proofs.lemmas.Bool.Decides.{nat_tests}
 use Rattle.vol_sector.specs.Disk.{Image, put, Wrote}
-use Rattle.vol_log.specs.Batch.{numbers, over, logged}
+use Rattle.vol_log.specs.Batch.{over, logged}
+use Rattle.vol_log.specs.internal.Batch.{numbers}
 use Rattle.vol_log.specs.internal.Steps.{OnlyImagesChange, Under}
 use Rattle.vol_log.specs.Header.{Places}
 use Rattle.vol_log.specs.declared.staged.Staged.{Staged}

@@ -5,9 +5,10 @@ use Rattle.std.proofs.lemmas.Bool.{cases_eq}
 use Rattle.std.proofs.lemmas.Bool.Decides.{nat_tests}
 use Rattle.vol_sector.specs.Disk.{Image, put}
 use Rattle.vol_log.specs.Header.{Places}
-use Rattle.vol_log.specs.Batch.{numbers, over, holds}
+use Rattle.vol_log.specs.Batch.{over, holds}
+use Rattle.vol_log.specs.internal.Batch.{numbers}
 use Rattle.vol_log.specs.declared.staged.Staged.{Staged}
-use Rattle.vol_log.specs.Index.{Index, place_at, IsIndex}
+use Rattle.vol_log.specs.internal.Index.{Index, place_at, IsIndex}
 use Rattle.vol_log.specs.internal.Index.{IsAt, IsGapFor}
 use Rattle.vol_log.proofs.Images.{blank}
 use Rattle.vol_log.proofs.Parse.{places_more}

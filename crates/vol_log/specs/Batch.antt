@@ -1,12 +1,9 @@
 -- What a log stands for (`docs/VOLUME.md`, "Log").
-use Rattle.std.specs.Prelude.{◌≡◌, ◌⊎◌, ◌+◌, ◌≤◌, ◌<◌, ◌==◌, ℕ, List, [], ◌∷◌, map, Bool, true, false, if◌then◌else◌}
+use Rattle.std.specs.Prelude.{◌≡◌, ◌⊎◌, ◌+◌, ◌≤◌, ◌<◌, ◌==◌, ℕ, List, [], ◌∷◌, Bool, true, false, if◌then◌else◌}
 use Rattle.vol_sector.specs.Disk.{Image, Disk, Only}
 use Rattle.vol_log.specs.Header.{IsHeader}
 use Rattle.vol_log.specs.declared.staged.Staged.{Staged}
 use Rattle.vol_log.specs.declared.layout.TheConstants.{FIRST_AFTER_LOG}
-
-abbrev pub numbers : List Staged → List ℕ
-numbers batch = map (λ s. s.sector) batch
 
 -- the batch put over an image
 abbrev pub over : List Staged → Image → Image

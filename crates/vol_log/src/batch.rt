@@ -1,11 +1,12 @@
 //! The batch: what is staged, as a list in staging order, and the index that finds it.
 
-ghost use Rattle.std.specs.Prelude.{◌≡◌, ◌≢◌, ◌≤◌, ◌<◌, ◌+◌, ◌==◌, List, [], ℕ, length, IfOk, MatchOption};
+ghost use Rattle.std.specs.Prelude.{◌≡◌, ◌≤◌, ◌<◌, ◌+◌, ◌==◌, [], ℕ, IfOk, MatchOption};
 ghost use Rattle.std.specs.Prelude.{vec_len, vec_capacity, true, if◌then◌else◌, is_some};
 ghost use Rattle.vol_sector.specs.Disk.{Image, put};
 ghost use Rattle.vol_log.specs.Header.{Places};
-ghost use Rattle.vol_log.specs.Batch.{numbers, over, holds};
-ghost use Rattle.vol_log.specs.Index.{IsIndex};
+ghost use Rattle.vol_log.specs.Batch.{over, holds};
+ghost use Rattle.vol_log.specs.internal.Batch.{numbers};
+ghost use Rattle.vol_log.specs.internal.Index.{IsIndex};
 ghost use Rattle.vol_log.specs.declared.layout.TheConstants.{FIRST_AFTER_LOG};
 
 use crate::Staged;

@@ -3,7 +3,7 @@
 ghost use Rattle.std.specs.Prelude.{◌≡◌, ◌≤◌, ◌<◌, List, [], ℕ, length, vec_capacity, slice_index};
 ghost use Rattle.std.specs.Prelude.{IsTrue};
 ghost use Rattle.vol_log.specs.Header.{IsHeader, header_bytes};
-ghost use Rattle.vol_log.specs.Batch.{numbers};
+ghost use Rattle.vol_log.specs.internal.Batch.{numbers};
 
 use crate::Staged;
 use crate::layout::{FIRST_AFTER_LOG, IMAGES};

@@ -1,15 +1,16 @@
 //! The log over a device, with the sectors that are staged.
 
-ghost use Rattle.std.specs.Prelude.{◌≡◌, ◌⊎◌, ◌≤◌, ◌<◌, ◌+◌, ◌-◌, ◌==◌, ◌↔◌, ℕ};
-ghost use Rattle.std.specs.Prelude.{List, [], Bool, false, true};
-ghost use Rattle.std.specs.Prelude.{length, OnOk, OnErr, IfOk, IfErr, IsOk, IsErr, is_err};
+ghost use Rattle.std.specs.Prelude.{◌≡◌, ◌⊎◌, ◌≤◌, ◌<◌, ◌-◌, ◌==◌, ◌↔◌, ℕ};
+ghost use Rattle.std.specs.Prelude.{[], false, true};
+ghost use Rattle.std.specs.Prelude.{OnOk, OnErr, IfOk, IfErr, IsOk, IsErr, is_err};
 ghost use Rattle.std.specs.Prelude.{if◌then◌else◌};
-ghost use Rattle.std.specs.Prelude.{vec_len, vec_capacity};
+ghost use Rattle.std.specs.Prelude.{vec_capacity};
 ghost use Rattle.vol_sector.specs.Disk.{Image, Leaves, put, counted, OneMore};
 ghost use Rattle.vol_sector.specs.Fault.{is_device};
 ghost use Rattle.vol_log.specs.Header.{Places};
-ghost use Rattle.vol_log.specs.Index.{IsIndex};
-ghost use Rattle.vol_log.specs.Batch.{numbers, over, SameContent, HasContent, HasEither, Settled};
+ghost use Rattle.vol_log.specs.internal.Index.{IsIndex};
+ghost use Rattle.vol_log.specs.Batch.{SameContent, HasContent, HasEither, Settled};
+ghost use Rattle.vol_log.specs.internal.Batch.{numbers};
 ghost use Rattle.vol_log.specs.declared.layout.TheConstants.{FIRST_AFTER_LOG};
 
 use crate::Staged;

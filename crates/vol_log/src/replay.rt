@@ -1,6 +1,6 @@
 //! What opening does with a log that a crash may have left.
 
-ghost use Rattle.std.specs.Prelude.{◌≡◌, ◌⊎◌, ◌≤◌, ◌<◌, ◌↔◌, List, [], ℕ};
+ghost use Rattle.std.specs.Prelude.{◌≡◌, ◌⊎◌, ◌≤◌, ◌<◌, ◌↔◌, []};
 ghost use Rattle.std.specs.Prelude.{OnOk, OnErr, IfErr, IsErrOf, vec_capacity};
 ghost use Rattle.vol_sector.specs.Disk.{Image, Leaves, counted};
 ghost use Rattle.vol_sector.specs.Fault.{device_failed};

@@ -1,10 +1,11 @@
 //! The parts of a commit, each a few operations on the device.
 
-ghost use Rattle.std.specs.Prelude.{◌≡◌, ◌⊎◌, ◌≤◌, ◌<◌, ◌↔◌, List, [], ℕ};
-ghost use Rattle.std.specs.Prelude.{length, OnOk, OnErr, is_err};
+ghost use Rattle.std.specs.Prelude.{◌≡◌, ◌≤◌, ◌<◌, ◌↔◌, [], ℕ};
+ghost use Rattle.std.specs.Prelude.{length, OnOk, is_err};
 ghost use Rattle.vol_sector.specs.Disk.{After, Wrote, Leaves, Only, put, counted};
 ghost use Rattle.vol_log.specs.Header.{Places};
-ghost use Rattle.vol_log.specs.Batch.{numbers, over, logged, SameContent, HasContent, HasEither};
+ghost use Rattle.vol_log.specs.Batch.{over, logged, SameContent, HasContent, HasEither};
+ghost use Rattle.vol_log.specs.internal.Batch.{numbers};
 ghost use Rattle.vol_log.specs.Batch.{Settled};
 ghost use Rattle.vol_log.specs.internal.Steps.{Logged, OnlyImagesChange, OutsideLog, Under};
 ghost use Rattle.vol_log.specs.declared.layout.TheConstants.{FIRST_AFTER_LOG};

@@ -18,12 +18,12 @@ use Rattle.vol_tree.specs.declared.superblock.Superblock.{Superblock}
 use Rattle.vol_tree.specs.declared.errno.Errno.{Errno}
 use Rattle.vol_tree.specs.declared.errno.Errno.TheVariants as errno
 use Rattle.vol_tree.specs.Tree as tree
-use Rattle.vol_tree.specs.Tree.{Tree, Name, Node, Directory, File, IsTree, IsDirectory, lookup, least_from, is_unused, changed}
+use Rattle.vol_tree.specs.Tree.{Tree, Name, Node, Directory, File, IsTree, lookup, least_from, is_unused, changed}
 use Rattle.vol_tree.specs.Calls.{created}
 use Rattle.vol_tree.specs.Space.{space, need_in, size_of}
 use Rattle.vol_tree.specs.Stands.{Slots, entry_of, tree_of, node_by, IsVolume}
 use Rattle.vol_tree.specs.Opened.{slots_in, tree_in, data_sectors}
-use Rattle.vol_tree.specs.Parts.{IsContent, AreTaken}
+use Rattle.vol_tree.specs.internal.Parts.{IsContent, AreTaken}
 use Rattle.vol_tree.proofs.SlotsRead.{slots_count}
 use Rattle.vol_tree.proofs.SlotChange.{OtherSlots, FitsIn, set_tree, set_slots, set_volume}
 use Rattle.vol_tree.proofs.SlotTaken.{taken_set}

@@ -18,7 +18,8 @@ use Rattle.vol_tree.specs.Superblock.{superblock}
 use Rattle.vol_tree.specs.Space.{space}
 use Rattle.vol_tree.specs.Stands.{Stands}
 use Rattle.vol_tree.specs.Opened.{ReflectsOr, tree_in, slots_in}
-use Rattle.vol_tree.specs.Parts.{IsOpen, IsContent, AreTaken, opened}
+use Rattle.vol_tree.specs.Parts.{opened}
+use Rattle.vol_tree.specs.internal.Parts.{IsOpen, IsContent, AreTaken}
 use Rattle.vol_tree.specs.internal.Commits.{Commits}
 use Rattle.vol_tree.proofs.SameContents.{same_slots_in, same_is_content, same_tree_in, same_taken, same_shows, stands_with, reflects_or}
 use Rattle.vol_log.specs.declared.layout.TheConstants.{FIRST_AFTER_LOG}

@@ -17,7 +17,7 @@ use Rattle.vol_alloc.proofs.Covers.{taken_in_list}
 use Rattle.vol_tree.specs.declared.superblock.Superblock.{Superblock}
 use Rattle.vol_tree.specs.Stands.{Slots}
 use Rattle.vol_tree.specs.Opened.{slots_in, data_sectors}
-use Rattle.vol_tree.specs.Parts.{IsContent, AreTaken}
+use Rattle.vol_tree.specs.internal.Parts.{IsContent, AreTaken}
 use Rattle.vol_log.specs.declared.layout.TheConstants.{FIRST_AFTER_LOG}
 
 -- how many sectors the slot's file names

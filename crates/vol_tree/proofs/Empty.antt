@@ -21,7 +21,7 @@ use Rattle.vol_tree.specs.Tree as tree
 use Rattle.vol_tree.specs.Tree.{Tree, IsTree, IsAt, root, entry}
 use Rattle.vol_tree.specs.Space.{space, need_in}
 use Rattle.vol_tree.specs.Stands.{Slots, slot, entry_of, tree_of, KeepApart, IsVolume, StandsAs, empty_tree}
-use Rattle.vol_tree.specs.Fresh.{root_entry, fresh_slot, HasFreshSlots, IsFresh}
+use Rattle.vol_tree.specs.internal.Formatting.{root_entry, fresh_slot, HasFreshSlots, IsFresh}
 
 -- ---- lists of one value
 

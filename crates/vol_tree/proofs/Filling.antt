@@ -24,8 +24,10 @@ use Rattle.vol_tree.specs.Tree as tree
 use Rattle.vol_tree.specs.Tree.{Tree, Node, Directory, File, IsTree, changed}
 use Rattle.vol_tree.specs.Space.{space, size_of}
 use Rattle.vol_tree.specs.Stands.{entry_of, node_by}
-use Rattle.vol_tree.specs.Opened.{slots_in, slot_of, tree_in, data_sectors, Keeps}
-use Rattle.vol_tree.specs.Parts.{IsContent, AreTaken, opened}
+use Rattle.vol_tree.specs.Opened.{slots_in, tree_in, data_sectors, Keeps}
+use Rattle.vol_tree.specs.internal.Slots.{slot_of}
+use Rattle.vol_tree.specs.Parts.{opened}
+use Rattle.vol_tree.specs.internal.Parts.{IsContent, AreTaken}
 use Rattle.vol_tree.specs.internal.Commits.{Commits}
 use Rattle.vol_tree.specs.internal.Changes.{Changes, Stages}
 use Rattle.vol_tree.specs.internal.Removals.{Fails}

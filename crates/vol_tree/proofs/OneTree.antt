@@ -22,7 +22,7 @@ use Rattle.vol_body.proofs.Same.{same_file, same_list}
 use Rattle.vol_tree.specs.declared.superblock.Superblock.{Superblock}
 use Rattle.vol_tree.specs.Superblock.{superblock, HasRanges, version_number}
 use Rattle.vol_tree.specs.Tree as tree
-use Rattle.vol_tree.specs.Tree.{Tree, Node}
+use Rattle.vol_tree.specs.Tree.{Tree}
 use Rattle.vol_tree.specs.Stands.{Slots, slot, Holds, entry_of, tree_of, node_by, KeepApart, StandsAs, Stands}
 use Rattle.vol_log.specs.declared.layout.TheConstants.{FIRST_AFTER_LOG}
 use Rattle.vol_inode.specs.declared.version.TheConstants.{LARGEST_SIZE}

@@ -25,12 +25,12 @@ use Rattle.vol_dirs.specs.Names.{Shows}
 use Rattle.vol_tree.specs.declared.superblock.Superblock.{Superblock}
 use Rattle.vol_tree.specs.declared.reading.Entries.{Entries}
 use Rattle.vol_tree.specs.Tree as tree
-use Rattle.vol_tree.specs.Tree.{Tree, Node, Directory, File, root, IsTree}
+use Rattle.vol_tree.specs.Tree.{Tree, Directory, File, root}
 use Rattle.vol_tree.specs.Calls.{is_within}
 use Rattle.vol_tree.specs.Space.{space, need_in}
 use Rattle.vol_tree.specs.Stands.{Slots, entry_of, tree_of, node_by}
 use Rattle.vol_tree.specs.Opened.{slots_in, tree_in}
-use Rattle.vol_tree.specs.Parts.{IsContent}
+use Rattle.vol_tree.specs.internal.Parts.{IsContent}
 use Rattle.vol_tree.specs.internal.Replacing.{kind_is_directory}
 use Rattle.vol_tree.specs.internal.Climbs.{climb, AllLeadUpSoon, StandInDirectories}
 use Rattle.vol_tree.specs.internal.Reads.{held_at, parent_in, directory_in, named_in, reserved_in, IsPlaced, IsRight, FitIn, HaveRead, HaveTreeSoon}

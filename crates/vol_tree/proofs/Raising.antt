@@ -25,7 +25,8 @@ use Rattle.vol_tree.specs.Tree.{Tree}
 use Rattle.vol_tree.specs.Space.{space}
 use Rattle.vol_tree.specs.Stands.{StandsAs}
 use Rattle.vol_tree.specs.Opened.{slot_in, slots_in, tree_in, ReflectsOr}
-use Rattle.vol_tree.specs.Parts.{IsContent, AreTaken, IsOpen, opened}
+use Rattle.vol_tree.specs.Parts.{opened}
+use Rattle.vol_tree.specs.internal.Parts.{IsContent, AreTaken, IsOpen}
 use Rattle.vol_tree.specs.internal.Upgrades.{Upgrades}
 use Rattle.vol_tree.specs.internal.Commits.{Commits}
 use Rattle.vol_tree.proofs.Committing.{reflects_then, on_ok}

@@ -17,11 +17,11 @@ use Rattle.vol_dirs.specs.Names.{Shows}
 use Rattle.vol_dirs.proofs.Shown.{rewritten_shown}
 use Rattle.vol_tree.specs.declared.superblock.Superblock.{Superblock}
 use Rattle.vol_tree.specs.Tree as tree
-use Rattle.vol_tree.specs.Tree.{Tree, Path, Name, Node, Directory, File, IsTree, IsDirectory, IsAt, Leads, root, changed}
+use Rattle.vol_tree.specs.Tree.{Tree, Path, Directory, File, IsTree, IsDirectory, IsAt, root, changed}
 use Rattle.vol_tree.specs.Space.{space}
 use Rattle.vol_tree.specs.Stands.{Slots, slot, entry_of, tree_of, IsVolume}
 use Rattle.vol_tree.specs.Opened.{slots_in, tree_in, data_sectors}
-use Rattle.vol_tree.specs.Parts.{IsContent, AreTaken}
+use Rattle.vol_tree.specs.internal.Parts.{IsContent, AreTaken}
 use Rattle.vol_tree.proofs.SlotsRead.{slots_count}
 use Rattle.vol_tree.proofs.SlotChange.{OtherSlots, FitsIn, set_tree, set_slots, set_volume}
 use Rattle.vol_tree.proofs.SlotTaken.{TakenFollows, taken_set}

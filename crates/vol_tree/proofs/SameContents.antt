@@ -4,7 +4,8 @@ use Rattle.std.specs.Option.{option_map}
 use Rattle.std.proofs.lemmas.List.{set_past, length-map}
 use Rattle.vol_sector.specs.Disk.{Image, Disk}
 use Rattle.vol_log.specs.Header.{Places}
-use Rattle.vol_log.specs.Batch.{numbers, logged, HasContent, HasEither, Settled}
+use Rattle.vol_log.specs.Batch.{logged, HasContent, HasEither, Settled}
+use Rattle.vol_log.specs.internal.Batch.{numbers}
 use Rattle.vol_log.proofs.Commit.{over_low, has_own}
 use Rattle.vol_inode.specs.declared.entry.Entry.{Entry}
 use Rattle.vol_body.specs.Body.{named, IsSameFile, SameSectors}
@@ -20,7 +21,7 @@ use Rattle.vol_tree.specs.Tree.{Tree, IsTree}
 use Rattle.vol_tree.specs.Space.{space}
 use Rattle.vol_tree.specs.Stands.{Slots, entry_of, tree_of, IsVolume, StandsAs}
 use Rattle.vol_tree.specs.Opened.{slots_in, tree_in, data_sectors, ReflectsOr}
-use Rattle.vol_tree.specs.Parts.{IsContent, AreTaken}
+use Rattle.vol_tree.specs.internal.Parts.{IsContent, AreTaken}
 use Rattle.vol_tree.proofs.SlotsRead.{slots_count}
 use Rattle.vol_tree.proofs.SlotChange.{OtherSlots, FitsIn, set_tree, set_slots, set_volume}
 use Rattle.vol_log.specs.declared.layout.TheConstants.{FIRST_AFTER_LOG}

@@ -7,7 +7,8 @@ use Rattle.vol_log.proofs.Images.{put_same, put_other, at_once, wrote_other}
 use Rattle.vol_tree.specs.declared.superblock.Superblock.{Superblock}
 use Rattle.vol_tree.specs.Superblock.{superblock, HasRanges}
 use Rattle.vol_tree.specs.Stands.{StandsAs, IsNoVolume, empty_tree}
-use Rattle.vol_tree.specs.Fresh.{fresh_slot, HasFreshSlots, IsFresh, OnlyAfterLogChanges, OnlyAfterFrontChanges, IsNoneOrEmpty}
+use Rattle.vol_tree.specs.Fresh.{IsNoneOrEmpty}
+use Rattle.vol_tree.specs.internal.Formatting.{fresh_slot, HasFreshSlots, IsFresh, OnlyAfterLogChanges, OnlyAfterFrontChanges}
 use Rattle.vol_tree.proofs.Empty.{stands_empty}
 use Rattle.vol_log.specs.declared.layout.TheConstants.{FIRST_AFTER_LOG}
 

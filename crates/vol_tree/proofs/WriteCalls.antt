@@ -19,13 +19,14 @@ use Rattle.vol_alloc.specs.Alloc.{first_of, end_of, free_of}
 use Rattle.vol_tree.specs.declared.superblock.Superblock.{Superblock}
 use Rattle.vol_tree.specs.declared.errno.Errno.TheVariants as errno
 use Rattle.vol_tree.specs.Tree as tree
-use Rattle.vol_tree.specs.Tree.{Tree, Node, Directory, File, changed}
+use Rattle.vol_tree.specs.Tree.{Tree, Directory, File, changed}
 use Rattle.vol_tree.specs.Calls.{written, resized, with_unit, if_it_fits, bytes_at, is_file_at, is_directory}
 use Rattle.vol_tree.specs.Calls as calls
 use Rattle.vol_tree.specs.Space.{space, need_in, size_of}
 use Rattle.vol_tree.specs.Stands.{entry_of, node_by}
-use Rattle.vol_tree.specs.Opened.{slots_in, slot_of, tree_in, data_sectors, geometry}
-use Rattle.vol_tree.specs.Parts.{IsContent, AreTaken}
+use Rattle.vol_tree.specs.Opened.{slots_in, tree_in, data_sectors, geometry}
+use Rattle.vol_tree.specs.internal.Slots.{slot_of}
+use Rattle.vol_tree.specs.internal.Parts.{IsContent, AreTaken}
 use Rattle.vol_tree.proofs.Counts.{used_in, free_and_used}
 use Rattle.vol_tree.proofs.SlotsRead.{slots_count}
 use Rattle.vol_tree.proofs.Finding.{tree_entry, slot_within, size_back, length_tree}

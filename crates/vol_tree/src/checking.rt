@@ -7,7 +7,7 @@ ghost use Rattle.vol_log.specs.Reading.{OnlyReads};
 ghost use Rattle.vol_alloc.specs.Alloc.{first_of, end_of};
 ghost use Rattle.vol_dirs.specs.Names.{slots_of, Shows};
 ghost use Rattle.vol_tree.specs.Superblock.{HasRanges};
-ghost use Rattle.vol_tree.specs.Parts.{IsContent};
+ghost use Rattle.vol_tree.specs.internal.Parts.{IsContent};
 ghost use Rattle.vol_tree.specs.internal.Reads.{HaveTree, HaveTreeSoon, HasParts};
 
 use crate::reaching::{has_flag, lead_to_root, stand_in_directories};

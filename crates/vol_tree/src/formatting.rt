@@ -1,12 +1,14 @@
 //! New volumes.
 
-ghost use Rattle.std.specs.Prelude.{◌≡◌, ◌≤◌, ◌<◌, ◌+◌, ◌↔◌, ℕ, OnOk, IfOk, IfErr, Err, is_err};
+ghost use Rattle.std.specs.Prelude.{◌≡◌, ◌≤◌, ◌<◌, ◌+◌, ◌↔◌, OnOk, IfOk, IfErr, Err, is_err};
 ghost use Rattle.vol_sector.specs.Disk.{After, Wrote, Leaves, Only, put, counted};
 ghost use Rattle.vol_sector.specs.Fault.{is_device};
 ghost use Rattle.vol_tree.specs.Superblock.{HasRanges};
 ghost use Rattle.vol_tree.specs.Stands.{StandsAs, empty_tree};
-ghost use Rattle.vol_tree.specs.Fresh.{fresh, root_entry, fresh_slot, HasFreshSlots, IsFresh};
-ghost use Rattle.vol_tree.specs.Fresh.{OnlyAfterLogChanges, OnlyAfterFrontChanges, IsNoneOrEmpty};
+ghost use Rattle.vol_tree.specs.Fresh.{fresh};
+ghost use Rattle.vol_tree.specs.internal.Formatting.{root_entry, fresh_slot, HasFreshSlots, IsFresh};
+ghost use Rattle.vol_tree.specs.Fresh.{IsNoneOrEmpty};
+ghost use Rattle.vol_tree.specs.internal.Formatting.{OnlyAfterLogChanges, OnlyAfterFrontChanges};
 
 use crate::Volume;
 use crate::layout::SUPERBLOCK;

@@ -10,7 +10,7 @@ ghost use Rattle.vol_inode.specs.Space.{need_of};
 ghost use Rattle.vol_body.specs.Survey.{IsTrimmed};
 ghost use Rattle.vol_dirs.specs.Names.{Names, Shows};
 ghost use Rattle.vol_tree.specs.Superblock.{HasRanges};
-ghost use Rattle.vol_tree.specs.Parts.{IsContent};
+ghost use Rattle.vol_tree.specs.internal.Parts.{IsContent};
 ghost use Rattle.vol_tree.specs.internal.Replacing.{kind_is_directory};
 ghost use Rattle.vol_tree.specs.internal.Reads.{held_at, IsPlaced, IsRight, Adds, AreWithin, FitIn, HaveRead};
 

@@ -21,7 +21,8 @@ pub struct Stats {
 }
 
 impl<D: Device> Parts<D> {
-    ghost use Rattle.vol_tree.specs.Parts.{opened, IsOpen};
+    ghost use Rattle.vol_tree.specs.Parts.{opened};
+    ghost use Rattle.vol_tree.specs.internal.Parts.{IsOpen};
     ghost use Rattle.vol_tree.specs.Stats.{IsStats, entries_of};
 
     /// How many entries and sectors there are, and how many of them are used.

@@ -25,7 +25,7 @@ use Rattle.wasi_calls.specs.internal.Reading.{IsBegun}
 use Rattle.wasi_calls.specs.internal.Listing.{listable, header, dirent_of, told_bytes, TellsNext, HasTold}
 use Rattle.wasi_calls.proofs.Yields.{goes_on, stops}
 use Rattle.wasi_calls.proofs.Serving.{answers_refused}
-use Rattle.wasi_calls.specs.internal.Asking.{Asked}
+use Rattle.path_walk.specs.Walk.{Asked}
 use Rattle.wasi_calls.proofs.Asking.{asked_same, asked_gone}
 use Rattle.wasi_calls.proofs.Volumes.{was_working, done_by, tree_called_alive, tree_called_gone, is_no_err}
 use Rattle.wasi_calls.proofs.Overlaps.{written_over, length_written}

@@ -1,5 +1,5 @@
 -- Calls that change the tree, and leave more than that.
-use Rattle.std.proofs.Common.{◌≡◌, ◌≢◌, ◌⊎◌, ◌+◌, ◌-◌, ◌^◌, ◌<◌, ◌++◌, ◌==◌, ℕ, Bool, true, false, cond, nat_lt, length, take, drop, replicate, if◌then◌else◌, lit<, arith, List, [], ◌∷◌, Result, Ok, Err, inl, inr, refl, sym, ap, ◌∙◌}
+use Rattle.std.proofs.Common.{◌≡◌, ◌≢◌, ◌⊎◌, ◌+◌, ◌-◌, ◌^◌, ◌<◌, ◌==◌, ℕ, Bool, true, false, cond, nat_lt, length, take, if◌then◌else◌, lit<, arith, List, [], ◌∷◌, Result, Ok, Err, inl, inr, refl, sym, ap, ◌∙◌}
 use Rattle.vol_tree.specs.declared.errno.Errno.{Errno}
 use Rattle.vol_tree.specs.declared.errno.Errno.TheVariants as errno
 use Rattle.vol_tree.specs.Numbers.{number_of}
@@ -14,7 +14,6 @@ use Rattle.vol_inode.specs.Space.{size_limit}
 use Rattle.wasi_calls.specs.Files.{file_write}
 use Rattle.wasi_calls.specs.internal.Writing.{written_on, written_to}
 use Rattle.std.proofs.lemmas.Bool.{ltb-false}
-use Rattle.std.proofs.lemmas.List.{length-append, length-take, length-replicate}
 use Rattle.vol_tree.specs.Space.{Geometry}
 use Rattle.vol_body.specs.Bytes.{written_bytes}
 use Rattle.vol_body.proofs.Written.{length-written}

@@ -12,7 +12,7 @@ ghost use Rattle.wasi_calls.specs.Checks.{total, is_inside, scattered, put, only
 ghost use Rattle.wasi_calls.specs.Calls.{IsMixed, Answered};
 ghost use Rattle.wasi_calls.specs.Host.{VolumeStep};
 ghost use Rattle.wasi_calls.specs.internal.Serving.{IsFileOf, NoMoreEntries, errno_of, with_volume, with_table};
-ghost use Rattle.wasi_calls.specs.internal.Asking.{Asked};
+ghost use Rattle.path_walk.specs.Walk.{Asked};
 ghost use Rattle.wasi_calls.specs.internal.Buffers.{list_of, AreUsable};
 ghost use Rattle.wasi_calls.specs.internal.Reading.{cut, IsStretch, IsBegun, BufferFilled, BufferBegun, wanted, received, read_into, read_file_to};
 

@@ -3,7 +3,7 @@ use Rattle.std.proofs.lemmas.Bool.{eqb-true, eqb-false, cond-true}
 use Rattle.vol_tree.specs.Tree.{Tree}
 use Rattle.path_walk.specs.Paths.{components_of}
 use Rattle.path_walk.specs.internal.Turns.{ends, now_of}
-use Rattle.path_walk.specs.internal.Asked.{AreNames}
+use Rattle.path_walk.specs.internal.Steps.{AreNames}
 use Rattle.path_walk.proofs.Turning.{left, left_none, left_more, onward}
 use Rattle.path_walk.proofs.Chaining.{asked_then, first_is_name, rest_are_names}
 use Rattle.path_walk.proofs.walking.walk_down.Goals as goal

@@ -1,7 +1,7 @@
-use Rattle.std.proofs.Common.{◌≡◌, ◌+◌, ◌-◌, ◌*◌, ◌/◌, ◌%◌, ◌∙◌, ℕ, get_or, sym, ap, subst, arith}
+use Rattle.std.proofs.Common.{◌≡◌, ◌+◌, ◌-◌, ◌/◌, ◌∙◌, ℕ, get_or, sym, ap, subst, arith}
 use Rattle.vol_alloc.specs.Alloc.{taken_of}
 use Rattle.vol_body.specs.Body.{data_block}
-use Rattle.vol_body.specs.internal.Writing.{Mirrors, ListedAt, segment, segment_of}
+use Rattle.vol_body.specs.internal.Writing.{Mirrors, segment, segment_of}
 use Rattle.vol_body.proofs.Places.{part_direct, known_at}
 use Rattle.vol_body.proofs.Loads.{listed_in_group}
 use Rattle.vol_body.proofs.pointer_sectors.sector_by.Goals as goal

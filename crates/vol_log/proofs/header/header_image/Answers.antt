@@ -2,7 +2,7 @@ use Rattle.std.proofs.Common.{◌≡◌, ◌+◌, ◌-◌, ◌*◌, ◌<◌, ◌
 use Rattle.std.specs.List.{flat_map}
 use Rattle.std.proofs.lemmas.List.{take_all, length-map, drop-replicate, append_assoc}
 use Rattle.byteorder.specs.Endian.{little_bytes}
-use Rattle.vol_log.specs.Batch.{numbers}
+use Rattle.vol_log.specs.internal.Batch.{numbers}
 use Rattle.vol_log.specs.declared.staged.Staged.{Staged}
 use Rattle.vol_log.proofs.Headers.{header_more, spelled_more, length_spelled}
 use Rattle.vol_log.proofs.Images.{blank}

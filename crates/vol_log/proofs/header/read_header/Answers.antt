@@ -1,7 +1,7 @@
 use Rattle.std.proofs.Common.{rules, ◌≡◌, ◌≢◌, ◌∙◌, ◌≤◌, ◌<◌, ◌+◌, ◌^◌, ◌∷◌, ◌++◌, List, [], ℕ, length, get_or, sym, ap, subst, refl, arith}
 use Rattle.std.proofs.lemmas.List.{take_more, take_all, length-map, map_push, get_or-take, length_push}
 use Rattle.vol_log.specs.Header.{Places, header_bytes}
-use Rattle.vol_log.specs.Batch.{numbers}
+use Rattle.vol_log.specs.internal.Batch.{numbers}
 use Rattle.vol_log.specs.declared.staged.Staged.{Staged}
 use Rattle.vol_log.proofs.Parse.{same_bytes, count_is, number_is, places_more}
 use Rattle.vol_log.proofs.header.read_header.Goals as goal

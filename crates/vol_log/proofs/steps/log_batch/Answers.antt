@@ -1,7 +1,8 @@
 use Rattle.std.proofs.Common.{◌≡◌, ◌∙◌, inl, ap, subst, sym}
 use Rattle.vol_sector.specs.Disk.{Image, Wrote, Only, Leaves}
 use Rattle.vol_log.specs.Header.{IsHeader}
-use Rattle.vol_log.specs.Batch.{numbers, over, logged, HasEither}
+use Rattle.vol_log.specs.Batch.{over, logged, HasEither}
+use Rattle.vol_log.specs.internal.Batch.{numbers}
 use Rattle.vol_log.specs.internal.Steps.{Logged, OnlyImagesChange}
 use Rattle.vol_log.proofs.Moments.{leaves_from, leaves_quiet, leaves_on, only_along, on_ok}
 use Rattle.vol_log.proofs.Commit.{images_keep, header_either, header_done}

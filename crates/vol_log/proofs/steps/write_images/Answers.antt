@@ -1,5 +1,6 @@
 use Rattle.std.proofs.Common.{◌+◌, ◌≤◌, ◌<◌, ◌∙◌, ap, length, take, arith, rules}
-use Rattle.vol_log.specs.Batch.{numbers, logged}
+use Rattle.vol_log.specs.Batch.{logged}
+use Rattle.vol_log.specs.internal.Batch.{numbers}
 use Rattle.vol_log.specs.internal.Steps.{OnlyImagesChange}
 use Rattle.vol_log.proofs.Moments.{leaves_step}
 use Rattle.vol_log.proofs.Images.{wrote_image, outside_joins, logged_more}

@@ -1,6 +1,7 @@
 use Rattle.std.proofs.Common.{◌≡◌, ◌↔◌, take}
 use Rattle.vol_sector.specs.Disk.{After, Leaves}
-use Rattle.vol_log.specs.Batch.{numbers, logged}
+use Rattle.vol_log.specs.Batch.{logged}
+use Rattle.vol_log.specs.internal.Batch.{numbers}
 use Rattle.vol_log.specs.internal.Steps.{OnlyImagesChange}
 use Rattle.vol_log.proofs.steps.write_images.Given as goal
 

@@ -2,7 +2,8 @@ use Rattle.std.proofs.Common.{◌≡◌, ◌∙◌, replicate, refl, inl}
 use Rattle.vol_sector.specs.Disk.{Wrote, Leaves}
 use Rattle.vol_log.proofs.Moments.{leaves_on, on_ok}
 use Rattle.vol_tree.specs.Stands.{StandsAs, empty_tree}
-use Rattle.vol_tree.specs.Fresh.{OnlyAfterFrontChanges, IsNoneOrEmpty}
+use Rattle.vol_tree.specs.Fresh.{IsNoneOrEmpty}
+use Rattle.vol_tree.specs.internal.Formatting.{OnlyAfterFrontChanges}
 use Rattle.vol_tree.proofs.Steps.{leaves_first, zeros_first, zeros_are_none, cleared, named_empty, named_or_none}
 use Rattle.vol_tree.proofs.formatting.lay_out.Goals as goal
 

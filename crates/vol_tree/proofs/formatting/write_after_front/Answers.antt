@@ -1,7 +1,7 @@
 use Rattle.std.proofs.Common.{refl, sym, subst}
 use Rattle.vol_sector.specs.Disk.{After, Leaves}
 use Rattle.vol_log.proofs.Moments.{leaves_same, leaves_step, leaves_quiet}
-use Rattle.vol_tree.specs.Fresh.{OnlyAfterLogChanges, OnlyAfterFrontChanges, IsFresh}
+use Rattle.vol_tree.specs.internal.Formatting.{OnlyAfterLogChanges, OnlyAfterFrontChanges, IsFresh}
 use Rattle.vol_tree.proofs.Steps.{header_leaves_first, after_log_leaves_first, first_joins, is_fresh, at_ok}
 use Rattle.vol_tree.proofs.formatting.write_after_front.Goals as goal
 

@@ -1,5 +1,5 @@
 use Rattle.std.proofs.Common.{◌+◌, ◌≤◌, arith, rules}
-use Rattle.vol_tree.specs.Fresh.{OnlyAfterLogChanges}
+use Rattle.vol_tree.specs.internal.Formatting.{OnlyAfterLogChanges}
 use Rattle.vol_log.proofs.Moments.{leaves_step}
 use Rattle.vol_tree.proofs.Steps.{wrote_after_log, after_log_joins, slots_more}
 use Rattle.vol_tree.proofs.formatting.write_slots.Goals as goal

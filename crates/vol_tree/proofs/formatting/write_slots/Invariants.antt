@@ -1,6 +1,6 @@
 use Rattle.std.proofs.Common.{◌≡◌, ◌↔◌}
 use Rattle.vol_sector.specs.Disk.{After, Leaves}
-use Rattle.vol_tree.specs.Fresh.{HasFreshSlots, OnlyAfterLogChanges}
+use Rattle.vol_tree.specs.internal.Formatting.{HasFreshSlots, OnlyAfterLogChanges}
 use Rattle.vol_tree.proofs.formatting.write_slots.Given as goal
 
 abbrev pub invariant-loop-s : goal.invariant-loop-s

@@ -1,6 +1,6 @@
 use Rattle.std.proofs.Common.{ℕ, ◌∙◌, sym, ap, subst}
 use Rattle.std.proofs.lemmas.List.{get_or_read}
-use Rattle.vol_log.specs.Index.{Index}
+use Rattle.vol_log.specs.internal.Index.{Index}
 use Rattle.vol_log.specs.internal.Index.{IsAt, IsGapFor}
 use Rattle.vol_log.specs.declared.staged.Staged.{Staged}
 use Rattle.vol_log.proofs.Staging.{found_place, none_at_all, over_first, over_none, holds_at, holds_none}

@@ -2,8 +2,9 @@ use Rattle.std.proofs.Common.{◌≡◌, ◌∙◌, ◌∷◌, ◌++◌, [], Lis
 use Rattle.std.specs.List.{insert}
 use Rattle.std.proofs.lemmas.List.{get_or_read, map_push, length-map}
 use Rattle.vol_log.specs.Header.{Places}
-use Rattle.vol_log.specs.Batch.{numbers, over, holds}
-use Rattle.vol_log.specs.Index.{Index, IsIndex}
+use Rattle.vol_log.specs.Batch.{over, holds}
+use Rattle.vol_log.specs.internal.Batch.{numbers}
+use Rattle.vol_log.specs.internal.Index.{Index, IsIndex}
 use Rattle.vol_log.specs.internal.Index.{IsAt, IsGapFor}
 use Rattle.vol_log.specs.declared.staged.Staged.{Staged}
 use Rattle.vol_log.proofs.Finding.{index_more}

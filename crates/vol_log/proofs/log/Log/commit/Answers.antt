@@ -1,7 +1,8 @@
 use Rattle.std.proofs.Common.{◌∙◌, List, sym, subst, ap}
 use Rattle.vol_sector.specs.Disk.{Leaves}
 use Rattle.vol_log.specs.Header.{Places}
-use Rattle.vol_log.specs.Batch.{numbers, over, SameContent, HasEither, Settled}
+use Rattle.vol_log.specs.Batch.{over, SameContent, HasEither, Settled}
+use Rattle.vol_log.specs.internal.Batch.{numbers}
 use Rattle.vol_log.specs.declared.staged.Staged.{Staged}
 use Rattle.vol_log.proofs.Commit.{no_places}
 use Rattle.vol_log.proofs.log.Log.commit.Goals as goal

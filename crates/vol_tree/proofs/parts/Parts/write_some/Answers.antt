@@ -9,7 +9,8 @@ use Rattle.vol_body.specs.Change.{OthersStay, used_of}
 use Rattle.vol_tree.specs.declared.superblock.Superblock.{Superblock}
 use Rattle.vol_tree.specs.declared.errno.Errno.TheVariants as errno
 use Rattle.vol_tree.specs.Calls.{is_file_at, bytes_at, written, with_unit}
-use Rattle.vol_tree.specs.Opened.{tree_in, slot_of, data_sectors, geometry}
+use Rattle.vol_tree.specs.Opened.{tree_in, data_sectors, geometry}
+use Rattle.vol_tree.specs.internal.Slots.{slot_of}
 use Rattle.vol_tree.specs.Stands.{Slots}
 use Rattle.vol_tree.proofs.Committing.{commits_then}
 use Rattle.vol_tree.proofs.Changing.{refused, refused_io}

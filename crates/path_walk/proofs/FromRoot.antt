@@ -5,8 +5,8 @@ use Rattle.vol_tree.specs.declared.errno.Errno.TheVariants as errno
 use Rattle.vol_tree.specs.Tree.{Tree, Name}
 use Rattle.path_walk.specs.declared.walking.Reached.{Reached as ReachedValue}
 use Rattle.path_walk.specs.Paths.{Reached, components_of, path_read, resolved, wants_directory, ◌>>=◌}
-use Rattle.sandbox_main.specs.Tasks.{reached_from_root}
-use Rattle.sandbox_main.specs.internal.Reaching.{GivesBoth}
+use Rattle.path_walk.specs.Rooted.{reached_from_root}
+use Rattle.path_walk.specs.Walk.{GivesBoth}
 use Rattle.std.specs.Prelude.{Bool}
 
 -- a walk that was refused

@@ -1,20 +1,13 @@
--- What a call leaves of a volume that it only asks.
-use Rattle.std.specs.Prelude.{◌≡◌, ℕ, Bool, Option, Some, None}
+-- What the steps of a walk ask and give.
+use Rattle.std.specs.Prelude.{ℕ, Option, Some, None}
 use denote.Ref.{Bor}
 use Rattle.std.specs.Prelude.{◌≢◌, List}
 use Rattle.std.specs.List.{Contains}
 use Rattle.vol_tree.specs.Tree.{Name}
 use Rattle.path_walk.specs.Paths.{dots}
-use Rattle.vol_sector.specs.Disk.{Disk, Leaves}
 use Rattle.vol_inode.specs.Name.{IsName}
-use Rattle.vol_tree.specs.Opened.{Opened, Keeps}
+use Rattle.vol_tree.specs.Opened.{Opened}
 use Rattle.path_walk.specs.Walk.{IsEntryOf}
-
--- the tree is the same, and a crash leaves nothing new
-pub record Asked {D : Type 0} (honest : D → Type 0) (disk : D → Disk) (size failures : D → ℕ) (old new : Opened D) (io : Bool) : Type 0 where
-  pub tree : honest old.device → new.tree ≡ old.tree
-  pub crash : honest old.device → Leaves (disk old.device) (disk new.device) (λ c. ⊥)
-  pub kept : Keeps honest size failures old new io
 
 abbrev pub IsNext : {D : Type 0} → (D → Type 0) → Opened D → Option ℕ → Type 0
 IsNext honest v None = Unit {0}
