@@ -13,7 +13,8 @@ use Rattle.path_walk.specs.declared.walking.Reached.{Reached as ReachedValue}
 use Rattle.path_walk.specs.Paths.{Found, Missing, dots, is_skipped, components_of, stays_inside, resolved, as_wanted}
 use Rattle.path_walk.specs.Walk.{Gives}
 use Rattle.path_walk.specs.internal.Turns.{counting, walks_as, IsPartLen}
-use Rattle.path_walk.specs.internal.Asked.{Asked, AreNames}
+use Rattle.path_walk.specs.Walk.{Asked}
+use Rattle.path_walk.specs.internal.Steps.{AreNames}
 use Rattle.path_walk.proofs.Turning.{left, components_next, resolves_as}
 
 module _ {D : Type 0} (honest : D → Type 0) (disk : D → Disk) (size failures : D → ℕ) where

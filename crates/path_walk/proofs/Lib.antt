@@ -4,3 +4,4 @@ pub mod Names
 pub mod Turning
 pub mod Entered
 pub mod Chaining
+pub mod FromRoot

@@ -96,17 +96,17 @@ left_more text n l = cond-true _ (components_of (drop (n + 1) text)) [] (lt-ltb 
 pub onward : (T V : Tree) (here : ℕ) (m : Option Name) (more : Bool) (rest part : List ℕ) (names : List Name) (n : ℕ) (W X : Result Reached Errno)
     → V ≡ T → more ≡ true → IsPartLen rest n → part ≡ take n rest → left rest n ≡ names
     → ends T here m (cond more (components_of rest) []) ≡ W → ends V here m (counting part names) ≡ X → X ≡ W
-onward T V here m more rest part names n W X same is p front behind goes step =
+onward T V here m more rest part names n W X same is p front remainder goes step =
     let all : cond more (components_of rest) [] ≡ counting part names =
-    cond-true _ (components_of rest) [] is ∙ (components_next rest n p ∙ (λ i. counting (sym front i) (behind i))) in
+    cond-true _ (components_of rest) [] is ∙ (components_next rest n p ∙ (λ i. counting (sym front i) (remainder i))) in
     sym step ∙ (ap (λ (T : Tree). ends T here m (counting part names)) same ∙ (sym (ap (ends T here m) all) ∙ goes))
 
 -- one part more of the test that a path stays inside
 pub inward : (depth : ℕ) (more : Bool) (rest part : List ℕ) (names : List Name) (n : ℕ) (W X : Bool) → more ≡ true → IsPartLen rest n → part ≡ take n rest → left rest n ≡ names
     → stays_inside depth (cond more (components_of rest) []) ≡ W → stays_inside depth (counting part names) ≡ X → X ≡ W
-inward depth more rest part names n W X is p front behind goes step =
+inward depth more rest part names n W X is p front remainder goes step =
     let all : cond more (components_of rest) [] ≡ counting part names =
-    cond-true _ (components_of rest) [] is ∙ (components_next rest n p ∙ (λ i. counting (sym front i) (behind i))) in
+    cond-true _ (components_of rest) [] is ∙ (components_next rest n p ∙ (λ i. counting (sym front i) (remainder i))) in
     sym step ∙ (sym (ap (stays_inside depth) all) ∙ goes)
 
 -- ---- the last part

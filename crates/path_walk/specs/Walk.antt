@@ -1,10 +1,11 @@
 -- What a walk over an open volume gives.
-use Rattle.std.specs.Prelude.{◌≡◌, ◌⊎◌, ℕ, Result, Ok, Err, IsSome}
+use Rattle.std.specs.Prelude.{◌≡◌, ◌⊎◌, ℕ, Bool, Result, Ok, Err, IsSome}
+use Rattle.vol_sector.specs.Disk.{Disk, Leaves}
 use Rattle.vol_inode.specs.Name.{IsName}
 use Rattle.vol_tree.specs.declared.errno.Errno.{Errno}
 use Rattle.vol_tree.specs.declared.errno.Errno.TheVariants as errno
 use Rattle.vol_tree.specs.Tree.{entry}
-use Rattle.vol_tree.specs.Opened.{Opened, IsSerial}
+use Rattle.vol_tree.specs.Opened.{Opened, Keeps, IsSerial}
 use Rattle.path_walk.specs.declared.walking.Reached.{Reached as ReachedValue}
 use Rattle.path_walk.specs.declared.walking.Reached.TheVariants as values
 use Rattle.path_walk.specs.Paths.{Reached, Found, Missing}
@@ -27,3 +28,14 @@ IsReached honest v (values.Missing parent name) = IsEntryOf honest v parent × I
 abbrev pub Gives : Result Reached Errno → Result ReachedValue Errno → Type 0
 Gives meant (Ok r) = meant ≡ Ok (reached_as r)
 Gives meant (Err e) = (meant ≡ Err e) ⊎ (e ≡ errno.Io)
+
+-- What a call leaves of a volume that it only asks: the tree is the same, and a crash leaves nothing new.
+pub record Asked {D : Type 0} (honest : D → Type 0) (disk : D → Disk) (size failures : D → ℕ) (old new : Opened D) (io : Bool) : Type 0 where
+  pub tree : honest old.device → new.tree ≡ old.tree
+  pub crash : honest old.device → Leaves (disk old.device) (disk new.device) (λ c. ⊥)
+  pub kept : Keeps honest size failures old new io
+
+-- the same of what was reached and whether the path wants a directory
+abbrev pub GivesBoth : Result (Reached × Bool) Errno → Result (ReachedValue × Bool) Errno → Type 0
+GivesBoth meant (Ok r) = meant ≡ Ok (reached_as r.0, r.1)
+GivesBoth meant (Err e) = (meant ≡ Err e) ⊎ (e ≡ errno.Io)

@@ -1,3 +1,3 @@
 pub mod Runs
 pub mod Turns
-pub mod Asked
+pub mod Steps

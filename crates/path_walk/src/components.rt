@@ -65,8 +65,8 @@ pub(crate) fn stays_inside(text: &[u8]) -> bool
         if tail.is_empty() {
             more = false;
         } else {
-            let (_slash, behind) = tail.split_at(1);
-            rest = behind;
+            let (_slash, remainder) = tail.split_at(1);
+            rest = remainder;
         }
     }
     true
@@ -85,8 +85,8 @@ pub(crate) fn ends_open(text: &[u8]) -> bool
         if tail.is_empty() {
             more = false;
         } else {
-            let (_slash, behind) = tail.split_at(1);
-            rest = behind;
+            let (_slash, remainder) = tail.split_at(1);
+            rest = remainder;
         }
     }
     wants

@@ -1,5 +1,5 @@
 -- The headline, from what each resume says.
-use Rattle.std.proofs.Common.{◌≡◌, ◌≢◌, ◌==◌, cond, zero, suc, Result, Ok, Err, ℕ, ◌+◌, ◌-◌, ◌<◌, ◌≤◌, Bool, true, false, IsTrue, ◌&&◌, nat_lt, nat_le, List, [], ◌∷◌, ◌++◌, map, length, Option, Some, None, refl, sym, ◌∙◌, ap, subst, inl, inr, arith, slice_get}
+use Rattle.std.proofs.Common.{◌≡◌, ◌==◌, cond, zero, suc, Result, Ok, Err, ℕ, ◌+◌, ◌-◌, ◌≤◌, Bool, true, false, IsTrue, nat_lt, List, [], ◌∷◌, length, Option, Some, None, refl, sym, ◌∙◌, ap, subst, inl, inr, arith, slice_get}
 use Rattle.vol_sector.specs.Disk.{Image, Disk}
 use Rattle.std.proofs.lemmas.Bool.{and_parts, leb-true, ltb-false, eqb-true}
 use Rattle.std.proofs.lemmas.Option.{slice_get_within}
@@ -17,15 +17,14 @@ use Rattle.wasi_fd.specs.Table.{table_of, streams}
 use Rattle.wasi_calls.specs.declared.settings.Preopen.{Preopen}
 use Rattle.wasi_calls.specs.declared.settings.Settings.{Settings}
 use Rattle.wasi_calls.specs.declared.wasi_host.HostParts.{HostParts}
-use Rattle.wasi_calls.specs.Texts.{texts_fit}
-use Rattle.wasi_calls.specs.Settings.{settings_fit, preopens_fit}
+use Rattle.wasi_calls.specs.Settings.{settings_fit}
 use Rattle.wasi_calls.specs.Moments.{CountsMoments, Turns, IsSafe, PauseSynced, is_sync}
 use Rattle.wasi_calls.specs.Confined.{Begins}
 use Rattle.wasi_calls.proofs.Entries.{no_entries}
 use Rattle.wasi_calls.proofs.Hosting.{are_rows}
 use Rattle.wasi_calls.proofs.Moments.{keeps_all}
 use Rattle.wasi_calls.proofs.Confinement.{confines_host}
-use Rattle.wasi_calls.specs.Making.{found_directory, from_root, directory_named, preopened, preopens_of, table_with, HasPreopens}
+use Rattle.wasi_calls.specs.Making.{found_directory, from_root, directory_named, preopened, preopens_of, table_with}
 use Rattle.vol_tree.specs.Opened.{Opened}
 use Rattle.vol_tree.specs.Stands.{Stands}
 use Rattle.wasm_module.specs.declared.module.Module.{Module}
@@ -35,7 +34,7 @@ use Rattle.wasm_store.specs.declared.call.Answer.{Answer}
 use Rattle.wasm_interp.specs.declared.pause.Pause.{Pause}
 use Rattle.wasm_interp.specs.declared.pause.Pause.TheVariants.{Called, Spent, Ended}
 use Rattle.wasm_interp.specs.Configuration.{Instance, Configuration, first_configuration}
-use Rattle.wasm_interp.specs.Steps.{CallsOf, Event, silent, answers, seen, Step, plain_step, free_step, host_answers, host_exits, in_label, in_frame, Reach, stays, goes}
+use Rattle.wasm_interp.specs.Steps.{CallsOf, Event, Step, plain_step, free_step, host_answers, host_exits, in_label, in_frame, Reach, stays, goes}
 use Rattle.wasi_calls.specs.World.{World, places}
 use Rattle.wasi_calls.specs.Calls as world
 use Rattle.wasi_calls.specs.Host.{HostState, HostCalls, StreamBytes, Shows, Tells, world_of}

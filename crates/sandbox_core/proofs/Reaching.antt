@@ -16,7 +16,7 @@ use Rattle.wasm_interp.specs.declared.pause.Outcome.{Outcome}
 use Rattle.wasm_interp.specs.declared.pause.Outcome.TheVariants.{Exited, Trapped, OutOfFuel, OutOfMemory}
 use Rattle.wasm_interp.specs.Promise.{EndsAs, Paused, Resumed}
 use Rattle.wasi_calls.specs.Moments.{IsTurn}
-use Rattle.sandbox_core.specs.Runs.{answered, PausesFollow, ResumesFollow, StopsAs, RunsWithin, ComesBy, Left, Passed}
+use Rattle.sandbox_core.specs.Runs.{answered, PausesFollow, ResumesFollow, StopsAs, RunsWithin, Left, Passed}
 
 module _ (H : Type 0) (Calls : CallsOf H) (i : Instance) where
   -- two runs of which one begins where the other ended are one run

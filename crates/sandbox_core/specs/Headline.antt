@@ -10,7 +10,7 @@ use Rattle.wasm_interp.specs.declared.pause.Pause.{Pause}
 use Rattle.wasm_interp.specs.declared.pause.Pause.TheVariants.{Called, Spent, Ended}
 use Rattle.wasm_interp.specs.Configuration.{Instance, Store, Configuration, first_configuration}
 use Rattle.wasm_interp.specs.Configuration as configuration
-use Rattle.wasm_interp.specs.Steps.{CallsOf, Reach}
+use Rattle.wasm_interp.specs.Steps.{Reach}
 use Rattle.wasi_calls.specs.declared.wasi_host.HostParts.{HostParts}
 use Rattle.wasi_calls.specs.Links.{link}
 use Rattle.wasi_calls.specs.World.{World}

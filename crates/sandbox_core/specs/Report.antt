@@ -1,8 +1,6 @@
 -- What the report of a run says.
-use Rattle.std.specs.Prelude.{◌≡◌, ◌⊎◌, ℕ, ◌≤◌, List, Option, Result}
-use Rattle.vol_sector.specs.Disk.{Image, Disk, Leaves}
-use Rattle.vol_tree.specs.Opened.{Reflects}
-use Rattle.vol_tree.specs.Stands.{Stands}
+use Rattle.std.specs.Prelude.{◌≡◌, ℕ, ◌≤◌, List, Option}
+use Rattle.vol_sector.specs.Disk.{Disk, Leaves}
 use Rattle.vol_tree.specs.Tree.{Tree}
 use Rattle.wasm_interp.specs.Configuration.{Instance, Configuration}
 use Rattle.wasm_interp.specs.Machine.{Represents}

@@ -19,7 +19,8 @@ use Rattle.wasi_calls.specs.declared.wasi_host.HostParts.{HostParts}
 use Rattle.wasi_calls.specs.Settings.{settings_fit}
 use Rattle.wasi_calls.specs.Links.{link}
 use Rattle.wasi_calls.specs.Host.{HostState, HostCalls}
-use Rattle.wasi_calls.specs.Making.{HasPreopens, preopens_of, OnlyReads}
+use Rattle.path_walk.specs.Walk.{Asked}
+use Rattle.wasi_calls.specs.Making.{HasPreopens, preopens_of}
 use Rattle.wasi_calls.specs.Moments.{IsTurn, PauseSynced}
 use Rattle.sandbox_core.specs.declared.fault.SessionFault.{SessionFault}
 use Rattle.sandbox_core.specs.declared.fault.SessionFault.TheVariants.{Setting, Instance as NoInstance, Device, Preopen, Memory}
@@ -63,15 +64,15 @@ module _ {D : Type 0} (honest : D → Type 0) (disk : D → Disk) (sectors_on fa
   abbrev pub KeepsVolume : SessionFault → Opened D → Opened D → Type 0
   KeepsVolume Setting old new = new ≡ old
   KeepsVolume (NoInstance f) old new = new ≡ old
-  KeepsVolume Device old new = OnlyReads honest disk sectors_on failures old new true
-  KeepsVolume Preopen old new = OnlyReads honest disk sectors_on failures old new false
+  KeepsVolume Device old new = Asked honest disk sectors_on failures old new true
+  KeepsVolume Preopen old new = Asked honest disk sectors_on failures old new false
   KeepsVolume Memory old new = new ≡ old
 
 module _ {D R W1 W2 : Type 0} (honest : D → Type 0) (disk : D → Disk) (sectors_on failures : D → ℕ) where
   -- The host has the volume's tree, of which only reads were made, and the preopened directories.
   pub record Shares (parts : HostParts D R W1 W2) (s : SessionState D R W1 W2) : Type 0 where
     pub is_tree : honest parts.volume.device → IsTree parts.volume.tree
-    pub reads : OnlyReads honest disk sectors_on failures parts.volume s.host.volume false
+    pub reads : Asked honest disk sectors_on failures parts.volume s.host.volume false
     pub preopens : honest parts.volume.device → HasPreopens parts.volume.tree parts.settings.preopens.now (table_of s.host.descriptors)
 
   -- a refusal has all that was handed in

@@ -4,7 +4,7 @@ use Rattle.vol_sector.specs.Disk.{Disk, counted}
 use Rattle.vol_tree.specs.declared.superblock.Superblock.{Superblock}
 use Rattle.vol_tree.specs.Superblock.{HasRanges}
 use Rattle.vol_tree.specs.Opened.{Opened, Keeps}
-use Rattle.path_walk.specs.internal.Asked.{Asked}
+use Rattle.path_walk.specs.Walk.{Asked}
 use Rattle.sandbox_main.specs.Tasks.{IsWorking}
 
 module _ {D : Type 0} (honest : D → Type 0) (disk : D → Disk) (size failures : D → ℕ) where

@@ -2,7 +2,6 @@ mod CommandLines
 mod Asking
 mod Listing
 mod Texts
-mod Rooted
 mod Pieces
 mod Filled
 mod Beginning

@@ -11,7 +11,8 @@ use Rattle.vol_tree.specs.Calls.{directory_at, is_directory, created}
 use Rattle.vol_tree.specs.Opened.{Answers}
 use Rattle.path_walk.specs.Paths.{Reached, Found, Missing, path_read, resolved, slash, wants_directory, ◌>>=◌}
 use Rattle.path_walk.proofs.Walks.{missing_free}
-use Rattle.sandbox_main.specs.Tasks.{begun, begun_at, emptied, reached, reached_from_root}
+use Rattle.sandbox_main.specs.Tasks.{begun, begun_at, emptied, reached}
+use Rattle.path_walk.specs.Rooted.{reached_from_root}
 
 -- the entry of a directory
 directory_is : (T : Tree) (serial : ℕ) → directory_at T serial ≡ true → IsDirectory T serial

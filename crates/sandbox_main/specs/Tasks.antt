@@ -13,7 +13,8 @@ use Rattle.vol_tree.specs.Stats.{entries_of}
 use Rattle.vol_tree.specs.Stands.{Stands}
 use Rattle.vol_tree.specs.Calls.{directory_at, bytes_at, with_bytes, created, resized, if_it_fits}
 use Rattle.vol_tree.specs.Opened.{Opened, Reflects, data_sectors, geometry, is_io}
-use Rattle.path_walk.specs.Paths.{Reached, Found, Missing, slash, path_read, resolved, wants_directory, ◌>>=◌}
+use Rattle.path_walk.specs.Paths.{Reached, Found, Missing, slash, ◌>>=◌}
+use Rattle.path_walk.specs.Rooted.{reached_from_root}
 use Rattle.sandbox_main.specs.declared.failure.Failure.{Failure}
 use Rattle.sandbox_main.specs.declared.failure.Failure.TheVariants as failure
 use Rattle.sandbox_main.specs.Request.{Text}
@@ -25,12 +26,7 @@ pub record IsWorking {D : Type 0} (v : Opened D) : Type 0 where
 
 -- ---- paths
 
--- What the rest of a path reaches, from the root, and whether it wants a directory. The empty rest is the root.
-abbrev pub reached_from_root : Tree → Text → Result (Reached × Bool) Errno
-reached_from_root T [] = Ok (Found 1, false)
-reached_from_root T (c ∷ rest) = path_read (c ∷ rest) >>= λ names. resolved T 1 (wants_directory (c ∷ rest)) names >>= λ r. Ok (r, wants_directory (c ∷ rest))
-
--- a path of the command line begins with a slash
+-- a path of the command line begins with a slash, and the rest goes from the root
 abbrev pub reached : Tree → Text → Result (Reached × Bool) Errno
 reached T [] = Err errno.Invalid
 reached T (c ∷ rest) = if c == slash then reached_from_root T rest else Err errno.Invalid

@@ -1,21 +1,16 @@
 //! Paths of the command line, in a volume: each begins with a slash, and goes from the root.
 
-ghost use Rattle.std.specs.Prelude.{◌≡◌, IfOk, MatchResult, false};
-ghost use Rattle.path_walk.specs.Walk.{IsEntryOf, IsReached};
-ghost use Rattle.path_walk.specs.internal.Asked.{Asked};
+ghost use Rattle.std.specs.Prelude.{◌≡◌, IfOk, false};
+ghost use Rattle.path_walk.specs.Walk.{Asked, GivesBoth, IsEntryOf, IsReached};
 ghost use Rattle.vol_tree.specs.Calls.{directory_at};
 ghost use Rattle.vol_tree.specs.Opened.{is_io};
-ghost use Rattle.sandbox_main.specs.Tasks.{IsWorking, reached, reached_from_root, serial_named};
+ghost use Rattle.sandbox_main.specs.Tasks.{IsWorking, reached, serial_named};
 ghost use Rattle.sandbox_main.specs.Tasks.{entry_named, directory_named, file_named};
-ghost use Rattle.sandbox_main.specs.internal.Reaching.{GivesBoth, Answered};
+ghost use Rattle.sandbox_main.specs.internal.Reaching.{Answered};
 
-use path_walk::{Path, Reached, walk};
-use vol_inode::Kind;
+use path_walk::{Reached, is_directory, walk_from_root};
 use vol_sector::Device;
 use vol_tree::{Errno, Volume};
-
-/// The serial of the root.
-const ROOT: u32 = 1;
 
 /// What a path reaches, and whether it wants a directory. One that doesn't begin with a slash is
 /// refused with 28; of the rest all is said by `Path::read` and `walk`, and an empty rest is the
@@ -31,29 +26,9 @@ pub(crate) fn reached<'p, D: Device>(
     ensures reached { IfOk result (λ r. IsReached D.honest volume.new r.0) }
 {
     match path.as_bytes() {
-        [b'/', rest @ ..] => reached_from_root(volume, rest),
+        [b'/', rest @ ..] => walk_from_root(volume, rest),
         _ => Err(Errno::Invalid),
     }
-}
-
-/// The same of the rest after the slash.
-fn reached_from_root<'p, D: Device>(
-    volume: &mut Volume<D>,
-    rest: &'p [u8],
-) -> Result<(Reached<'p>, bool), Errno>
-    requires { IsWorking volume.old }
-    ensures answer { D.honest volume.old.device
-        → GivesBoth (reached_from_root volume.old.tree rest.now) result }
-    ensures asked { Asked D.honest D.disk D.size D.failures volume.old volume.new (is_io result) }
-    ensures reached { IfOk result (λ r. IsReached D.honest volume.new r.0) }
-{
-    volume.is_a_tree();
-    if rest.is_empty() {
-        return Ok((Reached::Found(ROOT), false));
-    }
-    let path = Path::read(rest)?;
-    let found = walk(volume, ROOT, &path)?;
-    Ok((found, path.wants_dir()))
 }
 
 /// The serial of the entry that a path reaches; where it isn't there, 44.
@@ -68,16 +43,6 @@ fn serial_named<D: Device>(volume: &mut Volume<D>, path: &str) -> Result<u32, Er
         (Reached::Found(serial), _) => Ok(serial),
         (Reached::Missing { .. }, _) => Err(Errno::NotFound),
     }
-}
-
-/// Whether an entry is a directory.
-pub(crate) fn is_directory<D: Device>(volume: &mut Volume<D>, serial: u32) -> Result<bool, Errno>
-    requires { IsEntryOf D.honest volume.old serial }
-    ensures asked { Asked D.honest D.disk D.size D.failures volume.old volume.new (is_io result) }
-    ensures answer { D.honest volume.old.device → MatchResult result
-        (λ b. b ≡ directory_at volume.old.tree serial) (λ e. e ≡ Errno.Io) }
-{
-    Ok(volume.stat(serial)?.kind == Kind::Directory)
 }
 
 /// The entry that a path reaches, and whether it is a directory.

@@ -1,10 +1,10 @@
 -- Lemmas on flags and the numbers whose flags aren't set.
 use Rattle.std.proofs.Common.{◌≡◌, ◌≢◌, inl, inr, ℕ, ◌+◌, ◌-◌, ◌≤◌, ◌<◌, Bool, true, false, not, cond, if◌then◌else◌, nat_lt, List, [], ◌∷◌, ◌++◌, length, get_or, set, drop, sym, refl, ◌∙◌, ap, subst, count_by, arith}
-use Rattle.std.proofs.lemmas.List.{length_push, get_or_push, get_or_append_left, length-set, get_or-set_same, get_or-set_other, get_or_default, get_or_past}
+use Rattle.std.proofs.lemmas.List.{length_push, get_or_push, get_or_append_left, length-set, get_or-set_same, get_or-set_other, get_or_past}
 use Rattle.std.proofs.lemmas.List.Sums.{sum_by-set, sum_by-drop_more, count_by-le-length}
 use Rattle.std.proofs.lemmas.Bool.{cases_eq, cases_lt, false≢true}
 use Rattle.std.proofs.lemmas.Bool.Decides.{nat_tests}
-use Rattle.vol_alloc.specs.Numbers.{AreDistinct, AreFree}
+use Rattle.vol_alloc.specs.internal.Numbers.{AreFree}
 
 -- a flag that is false at one default is there
 pub flag_there : (taken : List Bool) (i : ℕ) → get_or taken i false ≡ true → i < length taken

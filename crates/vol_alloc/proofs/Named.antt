@@ -2,7 +2,7 @@
 use Rattle.std.proofs.Common.{◌≡◌, ◌≢◌, inl, inr, ℕ, ◌+◌, ◌-◌, ◌≤◌, ◌<◌, Bool, true, false, List, [], ◌∷◌, ◌++◌, length, take, get_or, set, sym, refl, ◌∙◌, ap, subst, arith}
 use Rattle.std.proofs.lemmas.List.{length_push, get_or_push, get_or_append_left, length-set, get_or-set_same, get_or-set_other, take_more, length-take-le, get_or-take}
 use Rattle.std.proofs.lemmas.Bool.{cases_eq, false≢true}
-use Rattle.vol_alloc.specs.Numbers.{Names, AreDistinct, ArePlaces}
+use Rattle.vol_alloc.specs.Numbers.{Names, ArePlaces}
 
 module _ (first : ℕ) (taken : List Bool) (named : List ℕ) (i : ℕ) (lt : i < length named) where
   number : ℕ

@@ -1,3 +1,4 @@
--- What public contracts cite, in reading order.
+-- What public contracts cite, in reading order; `internal` serves private contracts and proofs.
 pub mod Numbers
 pub mod Alloc
+pub mod internal

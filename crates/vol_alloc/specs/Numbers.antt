@@ -1,5 +1,5 @@
 -- Lists of sector numbers.
-use Rattle.std.specs.Prelude.{◌≡◌, ◌≢◌, ◌≤◌, ◌<◌, ◌+◌, ◌-◌, ℕ, List, Bool, true, false, length, slice_index, slice_index_or}
+use Rattle.std.specs.Prelude.{◌≡◌, ◌≢◌, ◌≤◌, ◌<◌, ℕ, List, length, slice_index}
 
 -- the number stands in the list
 abbrev pub Names : List ℕ → ℕ → Type 0
@@ -13,11 +13,4 @@ AreDistinct numbers = (j k : ℕ) → j < k → k < length numbers → slice_ind
 pub record ArePlaces (first end : ℕ) (numbers : List ℕ) : Type 0 where
   pub from : (k : ℕ) → k < length numbers → first ≤ slice_index numbers k
   pub below : (k : ℕ) → k < length numbers → slice_index numbers k < end
-  pub distinct : AreDistinct numbers
-
--- numbers from the first one on whose flags aren't set, all different
-pub record AreFree (first : ℕ) (taken : List Bool) (numbers : List ℕ) : Type 0 where
-  pub from : (k : ℕ) → k < length numbers → first ≤ slice_index numbers k
-  pub there : (k : ℕ) → k < length numbers → slice_index numbers k - first < length taken
-  pub free : (k : ℕ) → k < length numbers → slice_index_or taken (slice_index numbers k - first) true ≡ false
   pub distinct : AreDistinct numbers

@@ -1,9 +1,10 @@
 //! Free and taken sectors.
 
-ghost use Rattle.std.specs.Prelude.{◌≡◌, ◌⊎◌, ◌≤◌, ◌<◌, ◌+◌, ◌-◌, ◌^◌, ◌==◌, ◌↔◌, ℕ, Bool, true, false};
+ghost use Rattle.std.specs.Prelude.{◌≡◌, ◌⊎◌, ◌≤◌, ◌<◌, ◌+◌, ◌-◌, ◌^◌, ◌==◌, ◌↔◌, ℕ, true, false};
 ghost use Rattle.std.specs.Prelude.{length, not, count_by, vec_len, vec_capacity, slice_index_or};
 ghost use Rattle.std.specs.Prelude.{if◌then◌else◌, IsTrue, IfOk, IfErr, OnOk, replicate};
-ghost use Rattle.vol_alloc.specs.Numbers.{Names, ArePlaces, AreFree};
+ghost use Rattle.vol_alloc.specs.Numbers.{Names, ArePlaces};
+ghost use Rattle.vol_alloc.specs.internal.Numbers.{AreFree};
 
 use std::alloc::{AllocError, Global};
 use vol_sector::VolumeFault;

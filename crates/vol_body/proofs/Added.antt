@@ -5,7 +5,7 @@ use Rattle.vol_sector.specs.Disk.{Image}
 use Rattle.vol_alloc.specs.Alloc.{first_of, end_of, taken_of, free_of}
 use Rattle.vol_alloc.specs.declared.sectors.Alloc.{Alloc}
 use Rattle.vol_inode.specs.declared.entry.Entry.{Entry}
-use Rattle.vol_inode.specs.Space.{sectors_of, need_of}
+use Rattle.vol_inode.specs.Space.{blocks_for_size, need_of}
 use Rattle.vol_body.specs.Body.{BlockPosition, data_block, indirect_block, double_indirect_block, inner_block, IsPosition, first_served, named, block_bytes, NamesTaken, NamesOthers}
 use Rattle.vol_body.specs.Change.{OthersStay}
 use Rattle.vol_body.specs.internal.Naming.{IsNaming, NamesOneMore, SetsPointer, ListsOneMore}
@@ -14,6 +14,7 @@ use Rattle.vol_body.proofs.Changes.{stays_twice, takes_twice, takes_same}
 use Rattle.vol_body.proofs.OneMore.{one_direct, one_list, one_lists, one_listed, one_later_list, one_later, write_named, naming_by, naming_more, names_stay, names_taken_more, takes_one, others_stay_one, others_stay_two, places_stay, places_stay_but, places_stay_by}
 use Rattle.vol_body.proofs.Places.{bytes_there}
 use Rattle.vol_body.proofs.Space.{used_more, used_same, used_kept}
+use Rattle.vol_inode.specs.declared.version.TheConstants.{LARGEST_SIZE}
 
 -- a sector of the range that was free is taken
 pub record TakesSector (a b : Alloc) (n : ℕ) : Type 0 where
@@ -29,15 +30,15 @@ pub free_is_others : (taken : ℕ → Bool) (content : Image) (e : Entry) (n : �
 free_is_others taken content e n names some free p there is = both_ways (taken n) free (sym (ap taken is) ∙ names p there (λ none. some (sym is ∙ none)))
 
 -- a position that serves a data block of a file that isn't too long
-place_of : (p : BlockPosition) (size : ℕ) → size ≤ 8483840 → first_served p < sectors_of size → IsPosition p
+place_of : (p : BlockPosition) (size : ℕ) → size ≤ LARGEST_SIZE → first_served p < blocks_for_size size → IsPosition p
 place_of (data_block j) size small serves = omega arith
 place_of indirect_block size small serves = tt
 place_of double_indirect_block size small serves = tt
 place_of (inner_block i) size small serves = omega arith
 
 -- a change by which the file names one more sector
-changes_one : (a b : Alloc) (content after : Image) (e changed : Entry) (p : BlockPosition) (n : ℕ) (Touched : BlockPosition → Type 0) → NamesOneMore content after e changed p n → TakesSector a b n → IsReady a content e → e.size ≤ 8483840
-    → named content e p ≡ 0 → first_served p < sectors_of e.size → ((place : ℕ) → OthersStay place (first_of a) (end_of a) (taken_of a) content after e)
+changes_one : (a b : Alloc) (content after : Image) (e changed : Entry) (p : BlockPosition) (n : ℕ) (Touched : BlockPosition → Type 0) → NamesOneMore content after e changed p n → TakesSector a b n → IsReady a content e → e.size ≤ LARGEST_SIZE
+    → named content e p ≡ 0 → first_served p < blocks_for_size e.size → ((place : ℕ) → OthersStay place (first_of a) (end_of a) (taken_of a) content after e)
     → ((q : BlockPosition) → IsPosition q → (Touched q → ⊥) → SamePlace content after e changed q) → Changes a b content after e changed Touched
 changes_one a b content after e changed p n Touched more takes ready small none serves others stays =
     let fresh = free_is_others (taken_of a) content e n ready.taken takes.some takes.free in
@@ -66,8 +67,8 @@ pointed_more content after e changed s n indirect_block image others stays sets 
 pointed_more content after e changed s n double_indirect_block image others stays sets is at blank none = one_lists content after e changed n others stays (subst (λ (k : ℕ). SetsPointer e changed k n) at sets) none (is ∙ blank)
 pointed_more content after e changed s n (inner_block i) image others stays sets is at blank none = absurd at
 
-pub adds_pointer : (a b : Alloc) (content after : Image) (e changed : Entry) (s n : ℕ) (p : BlockPosition) (image : List ℕ) → TakesSector a b n → IsReady a content e → e.size ≤ 8483840
-    → ((x : ℕ) → x ≢ n → after x ≡ content x) → SetsPointer e changed s n → after n ≡ image → PointedAt s p → IsBlank p image → named content e p ≡ 0 → first_served p < sectors_of e.size
+pub adds_pointer : (a b : Alloc) (content after : Image) (e changed : Entry) (s n : ℕ) (p : BlockPosition) (image : List ℕ) → TakesSector a b n → IsReady a content e → e.size ≤ LARGEST_SIZE
+    → ((x : ℕ) → x ≢ n → after x ≡ content x) → SetsPointer e changed s n → after n ≡ image → PointedAt s p → IsBlank p image → named content e p ≡ 0 → first_served p < blocks_for_size e.size
     → Changes a b content after e changed (λ q. q ≡ p) × Mirrors after changed p n image
 adds_pointer a b content after e changed s n p image takes ready small stays sets is at blank none serves =
     let fresh = free_is_others (taken_of a) content e n ready.taken takes.some takes.free in
@@ -90,9 +91,9 @@ listed_more content after e n m i double_indirect_block (inner_block k) image na
     one_later_list content after e n m i naming others some more k there at names none (is ∙ blank)
 listed_more content after e n m i q p image naming others some more is lt at there names blank none = absurd at
 
-pub adds_number : (a b : Alloc) (content after : Image) (e : Entry) (n m i : ℕ) (q p : BlockPosition) (image : List ℕ) → TakesSector a b n → IsReady a content e → e.size ≤ 8483840
+pub adds_number : (a b : Alloc) (content after : Image) (e : Entry) (n m i : ℕ) (q p : BlockPosition) (image : List ℕ) → TakesSector a b n → IsReady a content e → e.size ≤ LARGEST_SIZE
     → m ≢ 0 → first_of a ≤ m → m < end_of a → ListsOneMore content after m i n → after n ≡ image → i < 128 → ListedAt q i p → IsPosition q → m ≡ named content e q
-    → IsBlank p image → named content e p ≡ 0 → first_served p < sectors_of e.size → Changes a b content after e e (λ x. (x ≡ p) ⊎ (x ≡ q)) × Mirrors after e p n image
+    → IsBlank p image → named content e p ≡ 0 → first_served p < blocks_for_size e.size → Changes a b content after e e (λ x. (x ≡ p) ⊎ (x ≡ q)) × Mirrors after e p n image
 adds_number a b content after e n m i q p image takes ready small some from below lists_it is lt at q_there names blank none serves =
     let fresh = free_is_others (taken_of a) content e n ready.taken takes.some takes.free in
     let there = place_of p e.size small serves in
@@ -104,7 +105,7 @@ adds_number a b content after e n m i q p image takes ready small some from belo
     )
 
 -- a sector that a data block names is written over
-pub writes_over : (a : Alloc) (content after : Image) (e : Entry) (j n : ℕ) → IsReady a content e → e.size ≤ 8483840 → j < 16570 → named content e (data_block j) ≡ n → n ≢ 0 → first_of a ≤ n → n < end_of a
+pub writes_over : (a : Alloc) (content after : Image) (e : Entry) (j n : ℕ) → IsReady a content e → e.size ≤ LARGEST_SIZE → j < 16570 → named content e (data_block j) ≡ n → n ≢ 0 → first_of a ≤ n → n < end_of a
     → ((x : ℕ) → x ≢ n → after x ≡ content x) → Changes a a content after e e (λ q. q ≡ data_block j)
 writes_over a content after e j n ready small lt is some from below stays =
     let more = write_named content after e j n ready.naming lt is some stays in

@@ -14,10 +14,12 @@ use Rattle.vol_body.proofs.Changes.{stays_by, takes_same, takes_twice}
 use Rattle.vol_body.proofs.OneMore.{naming_of, naming_by, body_of, names_by_pointers}
 use Rattle.vol_body.proofs.Space.{used_grown, used_kept}
 use Rattle.vol_body.proofs.Steps.{put_other, taken_range, none_taken}
-use Rattle.vol_body.proofs.Written.{IsWrite, bytes_written, zeros_behind}
+use Rattle.vol_body.proofs.Written.{IsWrite, bytes_written, zeros_beyond}
+use Rattle.vol_log.specs.declared.layout.TheConstants.{FIRST_AFTER_LOG}
+use Rattle.vol_inode.specs.declared.version.TheConstants.{LARGEST_SIZE}
 
 -- a file is ready for a write where the space is reserved
-pub ready_to_write : (a : Alloc) (content : Image) (e : Entry) (size : ℕ) → IsBody content e → NamesTaken (taken_of a) content e → e.size ≤ size → size ≤ 8483840
+pub ready_to_write : (a : Alloc) (content : Image) (e : Entry) (size : ℕ) → IsBody content e → NamesTaken (taken_of a) content e → e.size ≤ size → size ≤ LARGEST_SIZE
     → need_of size ≤ free_of a + used_of content e → IsReady a content (record e { size = size })
 ready_to_write a content e size body names longer small space =
     let longer_e : Entry = record e { size = size } in
@@ -47,7 +49,7 @@ entry_elsewhere b content after changed place bytes names lt is p there some =
     ap (λ (m : Image). m n) is ∙ put_other place n bytes content (λ same. omega (arith, range.0, lt, same))
 
 module _ (place offset : ℕ) (bytes first last spelled : List ℕ) (a b : Alloc) (content between after : Image) (e changed : Entry) (size : ℕ)
-    (behind : 122 ≤ place) (slot : place < first_of a) (range : SameRange a b) (small_before : e.size ≤ 8483840) (small : offset + length bytes ≤ 8483840) (some : 0 < length bytes)
+    (after_log : FIRST_AFTER_LOG ≤ place) (slot : place < first_of a) (range : SameRange a b) (small_before : e.size ≤ LARGEST_SIZE) (small : offset + length bytes ≤ LARGEST_SIZE) (some : 0 < length bytes)
     (size_is : size ≡ max e.size (offset + length bytes)) (body : IsBody content e) (names : NamesTaken (taken_of a) content e)
     (changes : Changes a b content between (record e { size = size }) changed (λ p. IsBlockIn (offset / 512) ((offset + length bytes - 1) / 512 + 1) p ⊎ IsPointer p))
     (parts : HasBlocks between changed (offset / 512) ((offset + length bytes - 1) / 512 + 1) (image_of offset bytes first last))
@@ -78,12 +80,12 @@ module _ (place offset : ℕ) (bytes first last spelled : List ℕ) (a b : Alloc
   pub taken_leaves : TakesAndGives (taken_of a) (taken_of b) content after e changed
   unfolding longer
   taken_leaves =
-      let none = none_taken a (omega (arith, behind, slot)) in
-      let still = none_taken b (omega (arith, behind, slot_now)) in
+      let none = none_taken a (omega (arith, after_log, slot)) in
+      let still = none_taken b (omega (arith, after_log, slot_now)) in
       let before = takes_same (taken_of a) content content e longer names (λ p there. names_by_pointers content e longer p refl) in
-      let behind_it = takes_same (taken_of b) between after changed changed changes.ready.taken (λ p there. same.names p there) in
+      let beyond_it = takes_same (taken_of b) between after changed changed changes.ready.taken (λ p there. same.names p there) in
       takes_twice (taken_of a) (taken_of a) (taken_of b) content content after e longer changed none still before
-      (takes_twice (taken_of a) (taken_of b) (taken_of b) content between after longer changed changed none still changes.takes behind_it)
+      (takes_twice (taken_of a) (taken_of b) (taken_of b) content between after longer changed changed none still changes.takes beyond_it)
 
   pub count_leaves : free_of a + used_of content e ≤ free_of b + used_of after changed
   unfolding longer
@@ -118,7 +120,7 @@ module _ (place offset : ℕ) (bytes first last spelled : List ℕ) (a b : Alloc
     write_leaves = record {
       bytes = bytes_written content after e changed offset bytes first last write body changed_size small_before;
       rules = body_of after changed (naming_by between after changed changed changes.ready.naming (omega arith) (λ p there. same.names p there))
-          (zeros_behind content after e changed offset bytes first last write body changed_size);
+          (zeros_beyond content after e changed offset bytes first last write body changed_size);
       others = others_leave;
       taken = taken_leaves;
       count = count_leaves;

@@ -7,10 +7,12 @@ use Rattle.vol_alloc.specs.declared.sectors.Alloc.{Alloc}
 use Rattle.vol_alloc.specs.Alloc.{first_of, taken_of}
 use Rattle.vol_inode.specs.declared.entry.Entry.{Entry}
 use Rattle.vol_body.specs.Body.{BlockPosition, data_block, indirect_block, double_indirect_block, inner_block, IsPosition, named, bytes_of, IsBody, NamesTaken, NamesOthers, SameSectors}
-use Rattle.vol_body.specs.Change.{resized, OthersStay, TakesAndGives}
+use Rattle.vol_body.specs.Bytes.{resized_bytes}
+use Rattle.vol_body.specs.Change.{OthersStay, TakesAndGives}
 use Rattle.vol_body.proofs.Parts.{length-bytes_of, get_or-bytes_of}
 use Rattle.vol_body.proofs.Same.{same_file}
 use Rattle.vol_body.proofs.Cuts.{put_past, in_range}
+use Rattle.vol_inode.specs.declared.version.TheConstants.{LARGEST_SIZE}
 
 -- a file's names don't go by its size
 same_named : (content : Image) (e : Entry) (size : ℕ) (p : BlockPosition) → named content (record e { size = size }) p ≡ named content e p
@@ -19,7 +21,7 @@ same_named content e size indirect_block = refl
 same_named content e size double_indirect_block = refl
 same_named content e size (inner_block i) = refl
 
-pub grown_bytes : (content : Image) (e : Entry) (size : ℕ) → IsBody content e → e.size ≤ size → size ≤ 8483840
+pub grown_bytes : (content : Image) (e : Entry) (size : ℕ) → IsBody content e → e.size ≤ size → size ≤ LARGEST_SIZE
     → bytes_of content (record e { size = size }) ≡ bytes_of content e ++ replicate (size - e.size) 0
 grown_bytes content e size body grows small =
     let more : List ℕ = replicate (size - e.size) 0 in
@@ -62,7 +64,7 @@ module _ (content : Image) (e : Entry) (size place : ℕ) (bytes : List ℕ) (ot
     others = λ n foreign foreign_now. refl;
   }
 
-pub grown_resized : (old : List ℕ) (length_of size : ℕ) → length old ≡ length_of → length_of ≤ size → resized size old ≡ old ++ replicate (size - length_of) 0
+pub grown_resized : (old : List ℕ) (length_of size : ℕ) → length old ≡ length_of → length_of ≤ size → resized_bytes size old ≡ old ++ replicate (size - length_of) 0
 grown_resized old length_of size is grows =
     let all : List ℕ = old ++ replicate (size - length old) 0 in
     take_all size all (omega (arith, length-append old (replicate (size - length old) 0), length-replicate {A = ℕ} (size - length old) 0, is, grows))

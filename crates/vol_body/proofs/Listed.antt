@@ -53,8 +53,8 @@ before_write old bytes at k fits lt =
     ∙ get_or_append_left (take at old) bytes 0 k (omega arith)
     ∙ get_or-take at old k 0 lt
 
-behind_write : (old bytes : List ℕ) (at k : ℕ) → at + length bytes ≤ length old → at + length bytes ≤ k → get_or (overwritten old at bytes) k 0 ≡ get_or old k 0
-behind_write old bytes at k fits le =
+beyond_write : (old bytes : List ℕ) (at k : ℕ) → at + length bytes ≤ length old → at + length bytes ≤ k → get_or (overwritten old at bytes) k 0 ≡ get_or old k 0
+beyond_write old bytes at k fits le =
     let long : length (take at old ++ bytes) ≡ at + length bytes = omega (arith, length-append (take at old) bytes, length-take-le at old (omega arith)) in
     let back : at + length bytes + (k - (at + length bytes)) ≡ k = omega arith in
     get_or-append_right (take at old ++ bytes) (drop (at + length bytes) old) (at + length bytes) k 0 long le
@@ -83,7 +83,7 @@ number_not_written old i n k fits other =
     get_or-drop (4 * k) new x 0
     ∙ elim (cases_lt k i) [
       | inl before ↦ before_write old bytes (4 * i) (4 * k + x) (omega arith) (omega arith)
-      | inr behind ↦ behind_write old bytes (4 * i) (4 * k + x) (omega arith) (omega arith)
+      | inr beyond ↦ beyond_write old bytes (4 * i) (4 * k + x) (omega arith) (omega arith)
     ]
     ∙ sym (get_or-drop (4 * k) old x 0))
 

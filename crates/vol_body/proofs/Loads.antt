@@ -1,11 +1,13 @@
 -- Pointer sectors read into memory.
-use Rattle.std.proofs.Common.{◌≡◌, ◌≢◌, ◌-◌, ◌*◌, ℕ, zero, suc, List, drop, refl, sym, ◌∙◌, ap, subst, arith, Result, Ok, Err, IfOk}
+use Rattle.std.proofs.Common.{◌≡◌, ◌≢◌, ◌≤◌, ◌+◌, ◌-◌, ◌*◌, ◌/◌, ◌%◌, ℕ, zero, suc, List, drop, refl, sym, ◌∙◌, ap, subst, arith, Result, Ok, Err, IfOk}
 use Rattle.byteorder.specs.Endian.{little_number}
 use Rattle.vol_sector.specs.Disk.{Image}
 use Rattle.vol_inode.specs.declared.entry.Entry.{Entry}
 use Rattle.vol_body.specs.declared.pointer_sectors.PointerSector.{PointerSector}
-use Rattle.vol_body.specs.Body.{BlockPosition, double_indirect_block, inner_block, named, block_bytes}
-use Rattle.vol_body.specs.internal.Writing.{Mirrors, segment}
+use Rattle.vol_body.specs.Body.{BlockPosition, data_block, double_indirect_block, inner_block, named, block_bytes}
+use Rattle.vol_body.specs.declared.holding.Held.{Held}
+use Rattle.vol_body.specs.internal.Writing.{Mirrors, ListedAt, segment}
+use Rattle.vol_body.specs.internal.Holding.{IsHeld}
 use Rattle.vol_body.proofs.Listed.{number_of_bytes}
 
 pub loaded : {E : Type 0} (content : Image) (e : Entry) (p : BlockPosition) (n : ℕ) (r : Result PointerSector E) → n ≡ named content e p → IfOk r (λ s. s.number ≡ n) → IfOk r (λ s. s.image ≡ block_bytes content n)
@@ -25,3 +27,14 @@ number_mirrored content e i number image mirror =
 
 pub mirrors_in : {one other : Image} (e : Entry) (p : BlockPosition) (number : ℕ) (image : List ℕ) → one ≡ other → Mirrors one e p number image → Mirrors other e p number image
 mirrors_in e p number image same mirror = subst (λ (m : Image). Mirrors m e p number image) same mirror
+
+-- the pointer sector of a data block's group lists it
+pub listed_in_group : (j : ℕ) → 58 ≤ j → ListedAt (segment ((j - 58) / 128)) ((j - 58) % 128) (data_block j)
+listed_in_group j le = go ((j - 58) / 128) (omega arith)
+  where
+    go : (g : ℕ) → j - 58 ≡ 128 * g + (j - 58) % 128 → ListedAt (segment g) ((j - 58) % 128) (data_block j)
+    go zero is = omega (arith, is, le)
+    go (suc k) is = omega (arith, is, le)
+
+pub held_in : {one other : Image} (e : Entry) (held : Held) (last : ℕ) → one ≡ other → IsHeld one e held last → IsHeld other e held last
+held_in e held last same is = subst (λ (m : Image). IsHeld m e held last) same is

@@ -7,7 +7,7 @@ use Rattle.std.proofs.lemmas.List.FromFn.{length-range_with_len, get_or-map-rang
 use Rattle.std.specs.List.{range_with_len, Contains}
 use Rattle.vol_sector.specs.Disk.{Image}
 use Rattle.vol_inode.specs.declared.entry.Entry.{Entry}
-use Rattle.vol_inode.specs.Space.{sectors_of, lists_of, need_of}
+use Rattle.vol_inode.specs.Space.{blocks_for_size, lists_of, need_of}
 use Rattle.vol_body.specs.Body.{BlockPosition, data_block, indirect_block, double_indirect_block, inner_block, IsPosition, first_served, named, IsBody, positions_of}
 
 take_it : (a b : ℕ) (x y : List BlockPosition) → a < b → (if nat_lt a b then x else y) ≡ x
@@ -42,7 +42,7 @@ many count lt =
     λ i. map data_block (range_with_len 0 count) ++ a i ++ b i
 
 pub length-positions_of : (size : ℕ) → length (positions_of size) ≡ need_of size
-length-positions_of size = by_count (sectors_of size)
+length-positions_of size = by_count (blocks_for_size size)
   where
     by_count : (count : ℕ) → length (map data_block (range_with_len 0 count) ++ (if nat_lt 58 count then indirect_block ∷ [] else []) ++ (if nat_lt 186 count then double_indirect_block ∷ map inner_block (range_with_len 0 (lists_of (count - 186))) else []))
         ≡ (if nat_le count 58 then count else (if nat_le count 186 then count + 1 else count + 2 + lists_of (count - 186)))
@@ -66,8 +66,8 @@ length-positions_of size = by_count (sectors_of size)
         third count z lt = grind (arith, nat_tests)
 
 -- a position that names a sector serves a data block of the file
-serves : (content : Image) (e : Entry) (p : BlockPosition) → IsBody content e → IsPosition p → named content e p ≢ 0 → first_served p < sectors_of e.size
-serves content e p body there names = elim (cases_lt (first_served p) (sectors_of e.size)) [
+serves : (content : Image) (e : Entry) (p : BlockPosition) → IsBody content e → IsPosition p → named content e p ≢ 0 → first_served p < blocks_for_size e.size
+serves content e p body there names = elim (cases_lt (first_served p) (blocks_for_size e.size)) [
   | inl lt ↦ lt
   | inr past ↦ absurd (names (body.past p there past))
 ]
@@ -106,17 +106,17 @@ at_last count k last p lt is =
     )
 
 -- a position that serves a data block of a file is among those of a file of the size
-pub place_there : (size : ℕ) (p : BlockPosition) → first_served p < sectors_of size → Contains (positions_of size) p
-place_there size (data_block j) lt = at_part (sectors_of size) j _ _ lt
+pub place_there : (size : ℕ) (p : BlockPosition) → first_served p < blocks_for_size size → Contains (positions_of size) p
+place_there size (data_block j) lt = at_part (blocks_for_size size) j _ _ lt
 place_there size indirect_block lt =
-    let count = sectors_of size in
+    let count = blocks_for_size size in
     let B = λ (l : List BlockPosition). Contains (map data_block (range_with_len 0 count) ++ l ++ (if nat_lt 186 count then double_indirect_block ∷ map inner_block (range_with_len 0 (lists_of (count - 186))) else [])) indirect_block in
     subst B (sym (take_it 58 count (indirect_block ∷ []) [] lt)) (at_list count _)
 place_there size double_indirect_block lt =
-    let count = sectors_of size in
+    let count = blocks_for_size size in
     subst (λ (l : List BlockPosition). Contains l double_indirect_block) (sym (many count lt)) (at_last count 0 (double_indirect_block ∷ map inner_block (range_with_len 0 (lists_of (count - 186)))) double_indirect_block (omega arith) refl)
 place_there size (inner_block i) lt =
-    let count = sectors_of size in
+    let count = blocks_for_size size in
     let n = lists_of (count - 186) in
     let below : i < n = omega arith in
     subst (λ (l : List BlockPosition). Contains l (inner_block i)) (sym (many count (omega arith)))

@@ -4,13 +4,14 @@ use Rattle.std.proofs.lemmas.Bool.{cases_eq, cases_lt}
 use Rattle.std.proofs.lemmas.Bool.Decides.{nat_tests}
 use Rattle.vol_sector.specs.Disk.{Image}
 use Rattle.vol_inode.specs.declared.entry.Entry.{Entry}
-use Rattle.vol_inode.specs.Space.{sectors_of}
+use Rattle.vol_inode.specs.Space.{blocks_for_size}
 use Rattle.vol_body.specs.Body.{BlockPosition, data_block, indirect_block, double_indirect_block, inner_block, IsPosition, first_served, named, number_in, block_bytes, byte_at, IsBody, NamesTaken, NamesOthers}
 use Rattle.vol_body.specs.Change.{Names, OthersStay, TakesAndGives}
 use Rattle.vol_body.specs.internal.Naming.{IsNaming, NamesOneMore, SetsPointer, ListsOneMore}
 use Rattle.vol_body.proofs.Places.{number_there, bytes_there, part_direct, part_listed, part_later}
 use Rattle.vol_body.proofs.Same.{same_number, same_bytes}
 use Rattle.vol_body.proofs.Listed.{none_in_zeros}
+use Rattle.vol_inode.specs.declared.version.TheConstants.{LARGEST_SIZE}
 
 -- what the numbers of the file's positions are read from stays, but for the number of one position
 record KeepsNumbers (content after : Image) (e changed : Entry) (p : BlockPosition) : Type 0 where
@@ -237,7 +238,7 @@ same_place (inner_block i) (inner_block j) = elim (cases_eq i j) [
 pub naming_of : (content : Image) (e : Entry) → IsBody content e → IsNaming content e
 naming_of content e body = record { distinct = body.distinct; past = body.past }
 
-pub body_of : (content : Image) (e : Entry) → IsNaming content e → ((k : ℕ) → e.size ≤ k → k < 8483840 → byte_at content e k ≡ 0) → IsBody content e
+pub body_of : (content : Image) (e : Entry) → IsNaming content e → ((k : ℕ) → e.size ≤ k → k < LARGEST_SIZE → byte_at content e k ≡ 0) → IsBody content e
 body_of content e naming zeros = record { distinct = naming.distinct; past = naming.past; zeros = zeros }
 
 -- a file that names the same sectors, and is no shorter
@@ -249,7 +250,7 @@ naming_by content after e changed naming longer names = record {
 
 module _ (content after : Image) (e changed : Entry) (p : BlockPosition) (n : ℕ) (more : NamesOneMore content after e changed p n) where
   -- a data block that stays has the same bytes
-  pub byte_stays : (k : ℕ) → k < 8483840 → (data_block (k / 512) ≡ p → ⊥) → byte_at after changed k ≡ byte_at content e k
+  pub byte_stays : (k : ℕ) → k < LARGEST_SIZE → (data_block (k / 512) ≡ p → ⊥) → byte_at after changed k ≡ byte_at content e k
   byte_stays k lt not = ap (λ (l : List ℕ). get_or l (k % 512) 0) (more.bytes (k / 512) (omega arith) not)
 
   -- the bytes of the data block that names the sector
@@ -259,7 +260,7 @@ module _ (content after : Image) (e changed : Entry) (p : BlockPosition) (n : �
       ap (λ (x : ℕ). get_or (block_bytes after x) (k % 512) 0) one ∙ ap (λ (l : List ℕ). get_or l (k % 512) 0) (bytes_there after n some)
 
   -- a pointer sector more changes no byte
-  pub all_bytes_stay : ((j : ℕ) → data_block j ≡ p → ⊥) → (k : ℕ) → k < 8483840 → byte_at after changed k ≡ byte_at content e k
+  pub all_bytes_stay : ((j : ℕ) → data_block j ≡ p → ⊥) → (k : ℕ) → k < LARGEST_SIZE → byte_at after changed k ≡ byte_at content e k
   all_bytes_stay not k lt = byte_stays k lt (not (k / 512))
 
   -- where it named the sector before, it names the same ones
@@ -277,7 +278,7 @@ module _ (content after : Image) (e changed : Entry) (p : BlockPosition) (n : �
   ]
 
   -- the rules on the sectors hold still
-  pub naming_more : IsNaming content e → NamesOthers content e n → n ≢ 0 → IsPosition p → first_served p < sectors_of e.size → IsNaming after changed
+  pub naming_more : IsNaming content e → NamesOthers content e n → n ≢ 0 → IsPosition p → first_served p < blocks_for_size e.size → IsNaming after changed
   naming_more naming others some p_there serves = record { distinct = distinct; past = past }
     where
       distinct : (a b : BlockPosition) → IsPosition a → IsPosition b → named after changed a ≢ 0 → named after changed a ≡ named after changed b → a ≡ b
@@ -292,10 +293,10 @@ module _ (content after : Image) (e changed : Entry) (p : BlockPosition) (n : �
         ]
       ]
 
-      past : (a : BlockPosition) → IsPosition a → sectors_of changed.size ≤ first_served a → named after changed a ≡ 0
+      past : (a : BlockPosition) → IsPosition a → blocks_for_size changed.size ≤ first_served a → named after changed a ≡ 0
       past a a_there le = elim (same_place a p) [
-        | inl is ↦ absurd (out (first_served a) (first_served p) (ap first_served is) (ap sectors_of more.size) le serves)
-        | inr not ↦ more.rest a a_there not ∙ naming.past a a_there (fits (ap sectors_of more.size) le)
+        | inl is ↦ absurd (out (first_served a) (first_served p) (ap first_served is) (ap blocks_for_size more.size) le serves)
+        | inr not ↦ more.rest a a_there not ∙ naming.past a a_there (fits (ap blocks_for_size more.size) le)
       ]
         where
           out : {s t : ℕ} (x y : ℕ) → x ≡ y → s ≡ t → s ≤ x → y < t → ⊥

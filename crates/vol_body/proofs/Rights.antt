@@ -9,11 +9,12 @@ use Rattle.vol_inode.specs.declared.entry.Kind.TheVariants.{Directory, File}
 use Rattle.vol_inode.specs.declared.version.Version.{Version}
 use Rattle.vol_inode.specs.declared.version.Version.TheVariants.{One, Two}
 use Rattle.vol_inode.specs.Entry.{IsEntry, HasWidths, first_part}
-use Rattle.vol_inode.specs.Space.{size_limit, sectors_of}
+use Rattle.vol_inode.specs.Space.{size_limit, blocks_for_size}
 use Rattle.vol_body.specs.Body.{data_block, indirect_block, double_indirect_block, IsBody}
 use Rattle.vol_body.proofs.Places.{part_direct}
+use Rattle.vol_inode.specs.declared.version.TheConstants.{LARGEST_SIZE}
 
-small_limit : (version : Version) → size_limit version ≤ 8483840
+small_limit : (version : Version) → size_limit version ≤ LARGEST_SIZE
 small_limit One = omega arith
 small_limit Two = omega arith
 
@@ -21,7 +22,7 @@ first_direct : (k : ℕ) → k < 59 → first_part k ≡ k
 first_direct k lt = grind (arith, nat_tests)
 
 -- a pointer past the size is zero
-pointer_past : (content : Image) (e : Entry) → IsBody content e → (k : ℕ) → k < 60 → sectors_of e.size ≤ first_part k → get_or e.pointers k 0 ≡ 0
+pointer_past : (content : Image) (e : Entry) → IsBody content e → (k : ℕ) → k < 60 → blocks_for_size e.size ≤ first_part k → get_or e.pointers k 0 ≡ 0
 pointer_past content e body k lt le = elim (cases_lt k 58) [
   | inl direct ↦ sym (part_direct content e k direct) ∙ body.past (data_block k) (omega arith) (omega (arith, first_direct k (omega arith)))
   | inr past ↦ elim (cases_eq k 58) [
@@ -37,8 +38,8 @@ not_both e file directory = let same : File ≡ Directory = sym file ∙ directo
 pub right_file : (version : Version) (content : Image) (e changed : Entry) (size : ℕ) → IsEntry version e → (e.kind ≡ Directory → size ≡ 0) → size ≤ size_limit version
     → changed ≡ record e { size = size; pointers = changed.pointers } → HasWidths changed → IsBody content changed → IsEntry version changed
 right_file version content e changed size right none small is widths body =
-    let pasts : (k : ℕ) → k < 60 → sectors_of size ≤ first_part k → get_or changed.pointers k 0 ≡ 0 = λ k lt le.
-    pointer_past content changed body k lt (subst (λ (x : Entry). sectors_of x.size ≤ first_part k) (sym is) le) in
+    let pasts : (k : ℕ) → k < 60 → blocks_for_size size ≤ first_part k → get_or changed.pointers k 0 ≡ 0 = λ k lt le.
+    pointer_past content changed body k lt (subst (λ (x : Entry). blocks_for_size x.size ≤ first_part k) (sym is) le) in
     subst (IsEntry version) (sym is) (record {
       widths = record {
         parent = right.widths.parent;

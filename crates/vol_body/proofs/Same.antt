@@ -8,6 +8,7 @@ use Rattle.vol_inode.specs.declared.entry.Entry.{Entry}
 use Rattle.vol_body.specs.Body.{BlockPosition, data_block, indirect_block, double_indirect_block, inner_block, IsPosition, named, number_in, block_bytes, byte_at, bytes_of, IsBody, SameSectors, IsSameFile}
 use Rattle.vol_body.proofs.Places.{number_there, bytes_there, part_direct, part_listed, part_later}
 use Rattle.vol_body.proofs.Parts.{length-bytes_of, get_or-bytes_of}
+use Rattle.vol_inode.specs.declared.version.TheConstants.{LARGEST_SIZE}
 
 -- sector 0 stands for no number, and for zeros
 none_listed : (one other : Image) (n i : ℕ) → n ≡ 0 → number_in other n i ≡ number_in one n i
@@ -50,7 +51,7 @@ module _ (one other : Image) (e : Entry) (stays : SameSectors one other e) where
   same_names double_indirect_block there = refl
   same_names (inner_block i) there = same_later i there
 
-  same_byte : (k : ℕ) → k < 8483840 → byte_at other e k ≡ byte_at one e k
+  same_byte : (k : ℕ) → k < LARGEST_SIZE → byte_at other e k ≡ byte_at one e k
   same_byte k lt =
       let j = k / 512 in
       let there : j < 16570 = omega arith in
@@ -62,7 +63,7 @@ module _ (one other : Image) (e : Entry) (stays : SameSectors one other e) where
   same_file = record { names = same_names; bytes = same_byte }
 
 -- the same bytes in a list
-pub same_list : (one other : Image) (e : Entry) → IsSameFile one other e → e.size ≤ 8483840 → bytes_of other e ≡ bytes_of one e
+pub same_list : (one other : Image) (e : Entry) → IsSameFile one other e → e.size ≤ LARGEST_SIZE → bytes_of other e ≡ bytes_of one e
 same_list one other e same small =
     ext_get_or 0 (bytes_of other e) (bytes_of one e) (length-bytes_of other e ∙ sym (length-bytes_of one e)) (λ k lt.
     let below : k < e.size = omega (arith, length-bytes_of other e) in

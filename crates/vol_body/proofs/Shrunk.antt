@@ -5,15 +5,17 @@ use Rattle.std.proofs.lemmas.Bool.Decides.{nat_tests}
 use Rattle.std.proofs.lemmas.List.{ext_get_or, length-append, length-take-le, get_or-take, get_or_append_left}
 use Rattle.vol_sector.specs.Disk.{Image, put}
 use Rattle.vol_inode.specs.declared.entry.Entry.{Entry}
-use Rattle.vol_inode.specs.Space.{sectors_of}
+use Rattle.vol_inode.specs.Space.{blocks_for_size}
 use Rattle.vol_body.specs.declared.cutting.Cut.{Cut}
 use Rattle.vol_body.specs.declared.cutting.Cuts.{Cuts}
 use Rattle.vol_body.specs.Body.{BlockPosition, data_block, indirect_block, double_indirect_block, inner_block, IsPosition, first_served, named, bytes_of, IsBody, NamesTaken}
-use Rattle.vol_body.specs.Change.{resized, OthersStay, TakesAndGives}
+use Rattle.vol_body.specs.Bytes.{resized_bytes}
+use Rattle.vol_body.specs.Change.{OthersStay, TakesAndGives}
 use Rattle.vol_body.specs.internal.Shorter.{kept_bytes, first_of_pointer, last_data_block, cut_indirect_block, last_inner_block, cut, IsCut, AreCuts, AreWithin, with_cut, with_cuts, Gives, Goes}
 use Rattle.vol_body.proofs.Parts.{length-bytes_of, get_or-bytes_of}
 use Rattle.vol_body.proofs.Cuts.{put_past, cut_elsewhere, cut_there}
 use Rattle.vol_body.proofs.Shorter.{IsShorter, keeps, loses, kept_byte_at, lost_byte_at}
+use Rattle.vol_inode.specs.declared.version.TheConstants.{LARGEST_SIZE}
 
 -- how a file is made shorter
 pub record Shrinks (size place first end : ℕ) (content : Image) (e changed : Entry) (cuts : Cuts) (was now : ℕ → Bool) : Type 0 where
@@ -21,11 +23,11 @@ pub record Shrinks (size place first end : ℕ) (content : Image) (e changed : E
   pub names : NamesTaken was content e
   pub are_cut : AreCuts content e size cuts
   pub within : AreWithin first end cuts
-  pub gives : Gives was now (Goes content e (sectors_of size))
+  pub gives : Gives was now (Goes content e (blocks_for_size size))
   pub new_size : changed.size ≡ size
-  pub pointers : (j : ℕ) → j < 60 → get_or changed.pointers j 0 ≡ (if nat_lt (first_of_pointer j) (sectors_of size) then get_or e.pointers j 0 else 0)
+  pub pointers : (j : ℕ) → j < 60 → get_or changed.pointers j 0 ≡ (if nat_lt (first_of_pointer j) (blocks_for_size size) then get_or e.pointers j 0 else 0)
   pub shorter : size < e.size
-  pub small : e.size ≤ 8483840
+  pub small : e.size ≤ LARGEST_SIZE
   pub slot : (n : ℕ) → was n ≡ true → n ≢ place
 
 many_lists : (count : ℕ) → 186 < count → (if nat_lt 186 count then double_indirect_block else indirect_block) ≡ double_indirect_block
@@ -36,10 +38,10 @@ one_list count le = grind (arith, nat_tests)
 
 -- a position of which only a beginning is kept
 one_of_three : (size : ℕ) (p : BlockPosition) → 0 < kept_bytes size p → kept_bytes size p < 512 → (p ≡ last_data_block size) ⊎ ((p ≡ cut_indirect_block size) ⊎ (p ≡ last_inner_block size))
-one_of_three size (data_block j) some short = inl (let at : j ≡ sectors_of size - 1 = omega arith in ap data_block at)
-one_of_three size indirect_block some short = inr (inl (sym (one_list (sectors_of size) (omega arith))))
-one_of_three size double_indirect_block some short = inr (inl (sym (many_lists (sectors_of size) (omega arith))))
-one_of_three size (inner_block i) some short = inr (inr (let at : i ≡ (sectors_of size - 187) / 128 = omega arith in ap inner_block at))
+one_of_three size (data_block j) some short = inl (let at : j ≡ blocks_for_size size - 1 = omega arith in ap data_block at)
+one_of_three size indirect_block some short = inr (inl (sym (one_list (blocks_for_size size) (omega arith))))
+one_of_three size double_indirect_block some short = inr (inl (sym (many_lists (blocks_for_size size) (omega arith))))
+one_of_three size (inner_block i) some short = inr (inr (let at : i ≡ (blocks_for_size size - 187) / 128 = omega arith in ap inner_block at))
 
 part_no_list : (b : Bool) (j : ℕ) → data_block j ≡ (if b then double_indirect_block else indirect_block) → ⊥
 part_no_list true j is = cc
@@ -95,7 +97,7 @@ module _ (size place first end : ℕ) (content : Image) (e changed : Entry) (cut
       named_elsewhere p there some
       ∙ untouched (named content e p)
       (λ set. apart p (last_data_block size) (kept_bytes size (last_data_block size)) cuts.data_block there part_there (long (last_data_block size) cuts.data_block s.are_cut.data_block set) some s.are_cut.data_block set)
-      (λ set. apart p (cut_indirect_block size) (kept_bytes size (cut_indirect_block size)) cuts.indirect_block there (list_there (nat_lt 186 (sectors_of size))) (long (cut_indirect_block size) cuts.indirect_block s.are_cut.indirect_block set) some s.are_cut.indirect_block set)
+      (λ set. apart p (cut_indirect_block size) (kept_bytes size (cut_indirect_block size)) cuts.indirect_block there (list_there (nat_lt 186 (blocks_for_size size))) (long (cut_indirect_block size) cuts.indirect_block s.are_cut.indirect_block set) some s.are_cut.indirect_block set)
       (λ set. apart p (last_inner_block size) (kept_bytes size (last_inner_block size)) cuts.last there last_there (long (last_inner_block size) cuts.last s.are_cut.last set) some s.are_cut.last set)
 
   -- each of the three sectors is cut
@@ -106,8 +108,8 @@ module _ (size place first end : ℕ) (content : Image) (e changed : Entry) (cut
   cuts_part some kept short =
       let p = last_data_block size in
       let n = named content e p in
-      let two = λ (set : cuts.indirect_block.sector ≢ 0). apart p (cut_indirect_block size) (kept_bytes size (cut_indirect_block size)) cuts.indirect_block part_there (list_there (nat_lt 186 (sectors_of size))) (part_no_list (nat_lt 186 (sectors_of size)) (sectors_of size - 1)) some s.are_cut.indirect_block set in
-      let three = λ (set : cuts.last.sector ≢ 0). apart p (last_inner_block size) (kept_bytes size (last_inner_block size)) cuts.last part_there last_there (part_no_later ((sectors_of size - 187) / 128) (sectors_of size - 1)) some s.are_cut.last set in
+      let two = λ (set : cuts.indirect_block.sector ≢ 0). apart p (cut_indirect_block size) (kept_bytes size (cut_indirect_block size)) cuts.indirect_block part_there (list_there (nat_lt 186 (blocks_for_size size))) (part_no_list (nat_lt 186 (blocks_for_size size)) (blocks_for_size size - 1)) some s.are_cut.indirect_block set in
+      let three = λ (set : cuts.last.sector ≢ 0). apart p (last_inner_block size) (kept_bytes size (last_inner_block size)) cuts.last part_there last_there (part_no_later ((blocks_for_size size - 187) / 128) (blocks_for_size size - 1)) some s.are_cut.last set in
       cut_elsewhere cuts.last (with_cut cuts.indirect_block (with_cut cuts.data_block content)) n three
       ∙ cut_elsewhere cuts.indirect_block (with_cut cuts.data_block content) n two
       ∙ cut_there content n (kept_bytes size p) cuts.data_block content s.are_cut.data_block some kept short refl
@@ -116,9 +118,9 @@ module _ (size place first end : ℕ) (content : Image) (e changed : Entry) (cut
   cuts_list some kept short =
       let p = cut_indirect_block size in
       let n = named content e p in
-      let there = list_there (nat_lt 186 (sectors_of size)) in
-      let one = λ (set : cuts.data_block.sector ≢ 0). apart p (last_data_block size) (kept_bytes size (last_data_block size)) cuts.data_block there part_there (λ is. part_no_list (nat_lt 186 (sectors_of size)) (sectors_of size - 1) (sym is)) some s.are_cut.data_block set in
-      let three = λ (set : cuts.last.sector ≢ 0). apart p (last_inner_block size) (kept_bytes size (last_inner_block size)) cuts.last there last_there (λ is. later_no_list (nat_lt 186 (sectors_of size)) ((sectors_of size - 187) / 128) (sym is)) some s.are_cut.last set in
+      let there = list_there (nat_lt 186 (blocks_for_size size)) in
+      let one = λ (set : cuts.data_block.sector ≢ 0). apart p (last_data_block size) (kept_bytes size (last_data_block size)) cuts.data_block there part_there (λ is. part_no_list (nat_lt 186 (blocks_for_size size)) (blocks_for_size size - 1) (sym is)) some s.are_cut.data_block set in
+      let three = λ (set : cuts.last.sector ≢ 0). apart p (last_inner_block size) (kept_bytes size (last_inner_block size)) cuts.last there last_there (λ is. later_no_list (nat_lt 186 (blocks_for_size size)) ((blocks_for_size size - 187) / 128) (sym is)) some s.are_cut.last set in
       cut_elsewhere cuts.last (with_cut cuts.indirect_block (with_cut cuts.data_block content)) n three
       ∙ cut_there content n (kept_bytes size p) cuts.indirect_block (with_cut cuts.data_block content) s.are_cut.indirect_block some kept short (cut_elsewhere cuts.data_block content n one)
 
@@ -126,8 +128,8 @@ module _ (size place first end : ℕ) (content : Image) (e changed : Entry) (cut
   cuts_last some kept short =
       let p = last_inner_block size in
       let n = named content e p in
-      let one = λ (set : cuts.data_block.sector ≢ 0). apart p (last_data_block size) (kept_bytes size (last_data_block size)) cuts.data_block last_there part_there (λ is. part_no_later ((sectors_of size - 187) / 128) (sectors_of size - 1) (sym is)) some s.are_cut.data_block set in
-      let two = λ (set : cuts.indirect_block.sector ≢ 0). apart p (cut_indirect_block size) (kept_bytes size (cut_indirect_block size)) cuts.indirect_block last_there (list_there (nat_lt 186 (sectors_of size))) (later_no_list (nat_lt 186 (sectors_of size)) ((sectors_of size - 187) / 128)) some s.are_cut.indirect_block set in
+      let one = λ (set : cuts.data_block.sector ≢ 0). apart p (last_data_block size) (kept_bytes size (last_data_block size)) cuts.data_block last_there part_there (λ is. part_no_later ((blocks_for_size size - 187) / 128) (blocks_for_size size - 1) (sym is)) some s.are_cut.data_block set in
+      let two = λ (set : cuts.indirect_block.sector ≢ 0). apart p (cut_indirect_block size) (kept_bytes size (cut_indirect_block size)) cuts.indirect_block last_there (list_there (nat_lt 186 (blocks_for_size size))) (later_no_list (nat_lt 186 (blocks_for_size size)) ((blocks_for_size size - 187) / 128)) some s.are_cut.indirect_block set in
       cut_there content n (kept_bytes size p) cuts.last (with_cut cuts.indirect_block (with_cut cuts.data_block content)) s.are_cut.last some kept short (cut_elsewhere cuts.indirect_block (with_cut cuts.data_block content) n two ∙ cut_elsewhere cuts.data_block content n one)
 
   cuts_place : (p : BlockPosition) → IsCutAt p
@@ -149,13 +151,13 @@ module _ (size place first end : ℕ) (content : Image) (e changed : Entry) (cut
         elsewhere n other ∙ untouched n (λ set. out_of cuts.data_block.sector (s.within.data_block set)) (λ set. out_of cuts.indirect_block.sector (s.within.indirect_block set)) (λ set. out_of cuts.last.sector (s.within.last set));
     taken = λ n other is_taken foreign. elsewhere n other ∙ untouched n
         (λ set is. foreign (last_data_block size) part_there (sym (s.are_cut.data_block.sector set) ∙ is))
-        (λ set is. foreign (cut_indirect_block size) (list_there (nat_lt 186 (sectors_of size))) (sym (s.are_cut.indirect_block.sector set) ∙ is))
+        (λ set is. foreign (cut_indirect_block size) (list_there (nat_lt 186 (blocks_for_size size))) (sym (s.are_cut.indirect_block.sector set) ∙ is))
         (λ set is. foreign (last_inner_block size) last_there (sym (s.are_cut.last.sector set) ∙ is));
   }
 
   -- what the file names now it named before, at a position that is kept
-  named_before : (p : BlockPosition) → IsPosition p → named after changed p ≢ 0 → (first_served p < sectors_of size) × (named after changed p ≡ named content e p)
-  named_before p there some = elim (cases_lt (first_served p) (sectors_of size)) [
+  named_before : (p : BlockPosition) → IsPosition p → named after changed p ≢ 0 → (first_served p < blocks_for_size size) × (named after changed p ≡ named content e p)
+  named_before p there some = elim (cases_lt (first_served p) (blocks_for_size size)) [
     | inl kept ↦ (kept, keeps size content after e changed shorter p there kept)
     | inr lost ↦ absurd (some (loses size content after e changed shorter p there lost))
   ]
@@ -166,11 +168,11 @@ module _ (size place first end : ℕ) (content : Image) (e changed : Entry) (cut
         let before_p = named_before p a some in
         let before_q = named_before q b (λ none. some (equal ∙ none)) in
         s.body.distinct p q a b (λ none. some (before_p.1 ∙ none)) (sym before_p.1 ∙ equal ∙ before_q.1);
-    past = λ p there le. loses size content after e changed shorter p there (subst (λ (k : ℕ). sectors_of k ≤ first_served p) s.new_size le);
+    past = λ p there le. loses size content after e changed shorter p there (subst (λ (k : ℕ). blocks_for_size k ≤ first_served p) s.new_size le);
     zeros = λ k le lt. lost_byte_at size content after e changed shorter k lt (omega (arith, le, s.new_size));
   }
 
-  pub shrunk_bytes : bytes_of after changed ≡ resized size (bytes_of content e)
+  pub shrunk_bytes : bytes_of after changed ≡ resized_bytes size (bytes_of content e)
   shrunk_bytes =
       let old = bytes_of content e in
       let more : List ℕ = replicate (size - length old) 0 in
@@ -182,7 +184,7 @@ module _ (size place first end : ℕ) (content : Image) (e changed : Entry) (cut
       ∙ sym (get_or-take size (old ++ more) k 0 below ∙ get_or_append_left old more 0 k (omega (arith, below, length-bytes_of content e, s.shorter)) ∙ get_or-bytes_of content e k (omega (arith, below, s.shorter))))
 
   -- what goes isn't named any more
-  kept_stays : (p : BlockPosition) → IsPosition p → first_served p < sectors_of size → named content e p ≢ 0 → Goes content e (sectors_of size) (named content e p) → ⊥
+  kept_stays : (p : BlockPosition) → IsPosition p → first_served p < blocks_for_size size → named content e p ≢ 0 → Goes content e (blocks_for_size size) (named content e p) → ⊥
   kept_stays p there kept some goes =
       let same : p ≡ goes.0 = s.body.distinct p goes.0 there goes.1 some (sym goes.3) in
       let at : first_served p ≡ first_served goes.0 = ap first_served same in
@@ -203,7 +205,7 @@ module _ (size place first end : ℕ) (content : Image) (e changed : Entry) (cut
         absurd (foreign p is.position.1 (sym before.1 ∙ is.position.2));
     given = λ n was_named foreign.
         let p = was_named.position.0 in
-        elim (cases_lt (first_served p) (sectors_of size)) [
+        elim (cases_lt (first_served p) (blocks_for_size size)) [
           | inl kept ↦ absurd (foreign p was_named.position.1 (keeps size content after e changed shorter p was_named.position.1 kept ∙ was_named.position.2))
           | inr lost ↦ false_if (now n) (s.gives.given n (p, was_named.position.1, lost, was_named.position.2))
         ];

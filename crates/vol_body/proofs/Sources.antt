@@ -45,8 +45,8 @@ more_spans memory first all spans taken filled room more enough used left =
     let long = length-append (drop taken first) (gathered memory spans) in
     let none = length-drop taken first in
     let same : length (drop taken first ++ gathered memory spans) ≡ length (drop filled all) = ap length left in
-    let behind = length-drop filled all in
-    some_span memory (drop taken first) spans (length (drop taken first) + 1) (omega arith) (omega (arith, long, none, same, behind))
+    let beyond = length-drop filled all in
+    some_span memory (drop taken first) spans (length (drop taken first) + 1) (omega arith) (omega (arith, long, none, same, beyond))
 
 -- the buffer is filled further from the next span
 module _ (memory first next all into into' : List ℕ) (spans rest : List Span) (taken filled count : ℕ)

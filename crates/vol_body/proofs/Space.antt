@@ -9,12 +9,13 @@ use Rattle.std.proofs.lemmas.List.Sums.{sum_by-cons, sum_by-append, sum_by-take-
 use Rattle.std.proofs.lemmas.List.FromFn.{take-map-range_with_len, length-range_with_len, get_or-range_with_len}
 use Rattle.vol_sector.specs.Disk.{Image}
 use Rattle.vol_inode.specs.declared.entry.Entry.{Entry}
-use Rattle.vol_inode.specs.Space.{sectors_of, lists_of, need_of}
+use Rattle.vol_inode.specs.Space.{blocks_for_size, lists_of, need_of}
 use Rattle.vol_body.specs.Body.{BlockPosition, data_block, indirect_block, double_indirect_block, inner_block, IsPosition, first_served, named, positions_of}
 use Rattle.vol_body.specs.Change.{used_of}
 use Rattle.vol_body.specs.internal.Naming.{NamesOneMore}
 use Rattle.vol_body.proofs.Needed.{place_there, length-positions_of}
 use Rattle.vol_body.proofs.OneMore.{named_now, names_by_pointers}
+use Rattle.vol_inode.specs.declared.version.TheConstants.{LARGEST_SIZE}
 
 -- what a test counts, one more element in front
 count_cons : {X : Type 0} (f : X → Bool) (x : X) (xs : List X) → count_by f (x ∷ xs) ≡ cond (f x) 1 0 + count_by f xs
@@ -53,9 +54,9 @@ range_below count bound le = All-from_get_or (λ (j : ℕ). j < bound) (range_wi
     let short : i < count = omega (arith, length-range_with_len 0 count) in
     omega (arith, get_or-range_with_len 0 count i 0 short))
 
-pub are_places : (size : ℕ) → size ≤ 8483840 → All IsPosition (positions_of size)
+pub are_places : (size : ℕ) → size ≤ LARGEST_SIZE → All IsPosition (positions_of size)
 are_places size small =
-    let count = sectors_of size in
+    let count = blocks_for_size size in
     let n = lists_of (count - 186) in
     let parts : All IsPosition (map data_block (range_with_len 0 count)) = All-map IsPosition data_block (range_with_len 0 count) (range_below count 16570 (omega arith)) in
     let later : All IsPosition (map inner_block (range_with_len 0 n)) = All-map IsPosition inner_block (range_with_len 0 n) (range_below n 128 (omega arith)) in
@@ -75,7 +76,7 @@ names_none : (n : ℕ) → n ≡ 0 → not (n == 0) ≡ false
 names_none n none = ap not (eq-eqb n 0 none)
 
 -- it names at least one more
-pub used_more : (content after : Image) (e changed : Entry) (p : BlockPosition) (n : ℕ) → NamesOneMore content after e changed p n → named content e p ≡ 0 → n ≢ 0 → first_served p < sectors_of e.size → e.size ≤ 8483840
+pub used_more : (content after : Image) (e changed : Entry) (p : BlockPosition) (n : ℕ) → NamesOneMore content after e changed p n → named content e p ≡ 0 → n ≢ 0 → first_served p < blocks_for_size e.size → e.size ≤ LARGEST_SIZE
     → used_of content e + 1 ≤ used_of after changed
 used_more content after e changed p n more none some serves small =
     let f = λ (q : BlockPosition). not (named content e q == 0) in
@@ -92,7 +93,7 @@ used_more content after e changed p n more none some serves small =
     ])
 
 -- it names fewer than it needs, where a position names none
-pub some_place : (content : Image) (e : Entry) (p : BlockPosition) → named content e p ≡ 0 → first_served p < sectors_of e.size → used_of content e + 1 ≤ need_of e.size
+pub some_place : (content : Image) (e : Entry) (p : BlockPosition) → named content e p ≡ 0 → first_served p < blocks_for_size e.size → used_of content e + 1 ≤ need_of e.size
 some_place content e p none serves =
     let f = λ (q : BlockPosition). not (named content e q == 0) in
     let all : All (λ q. f q ≡ true → true ≡ true) (positions_of e.size) = All-from_get_or (λ q. f q ≡ true → true ≡ true) (positions_of e.size) indirect_block (λ i lt is. refl) in
@@ -100,7 +101,7 @@ some_place content e p none serves =
     omega (arith, more, count_by-le-length (λ q. true) (positions_of e.size), length-positions_of e.size)
 
 -- where the space is reserved, a sector is free for such a position
-pub some_free : (content : Image) (e : Entry) (p : BlockPosition) (free : ℕ) → need_of e.size ≤ free + used_of content e → named content e p ≡ 0 → first_served p < sectors_of e.size → 0 < free
+pub some_free : (content : Image) (e : Entry) (p : BlockPosition) (free : ℕ) → need_of e.size ≤ free + used_of content e → named content e p ≡ 0 → first_served p < blocks_for_size e.size → 0 < free
 some_free content e p free reserved none serves = omega (arith, some_place content e p none serves)
 
 -- A longer file names as many, or more.
@@ -149,7 +150,7 @@ pub used_grown : (content : Image) (e : Entry) (size : ℕ) → e.size ≤ size 
 used_grown content e size le =
     let f = λ (p : BlockPosition). not (named content e p == 0) in
     let g = λ (p : BlockPosition). not (named content (record e { size = size }) p == 0) in
-    let grown = count_grown f (sectors_of e.size) (sectors_of size) (omega arith) in
+    let grown = count_grown f (blocks_for_size e.size) (blocks_for_size size) (omega arith) in
     let same : count_by g (positions_of size) ≡ count_by f (positions_of size) = same_count g f (λ p. ap (λ (n : ℕ). not (n == 0)) (names_by_pointers content e (record e { size = size }) p refl)) (positions_of size) in
     omega (arith, grown, same)
   where
@@ -161,7 +162,7 @@ used_grown content e size le =
         omega (arith, here, rest, count_cons g p ps, count_cons f p ps)
 
 -- a file of the same size that names the same sectors has the same space
-pub used_same : (content after : Image) (e changed : Entry) (free : ℕ) → e.size ≤ 8483840 → changed.size ≡ e.size → ((p : BlockPosition) → IsPosition p → named after changed p ≡ named content e p)
+pub used_same : (content after : Image) (e changed : Entry) (free : ℕ) → e.size ≤ LARGEST_SIZE → changed.size ≡ e.size → ((p : BlockPosition) → IsPosition p → named after changed p ≡ named content e p)
     → need_of e.size ≤ free + used_of content e → need_of changed.size ≤ free + used_of after changed
 used_same content after e changed free small size names reserved =
     let f = λ (q : BlockPosition). not (named content e q == 0) in
@@ -175,7 +176,7 @@ used_same content after e changed free small size names reserved =
     keeps q there is = ap (λ (n : ℕ). not (n == 0)) (names q there) ∙ is
 
 -- a file of the same size that names the same sectors uses as many
-pub used_kept : (content after : Image) (e changed : Entry) → e.size ≤ 8483840 → changed.size ≡ e.size → ((p : BlockPosition) → IsPosition p → named after changed p ≡ named content e p) → used_of content e ≤ used_of after changed
+pub used_kept : (content after : Image) (e changed : Entry) → e.size ≤ LARGEST_SIZE → changed.size ≡ e.size → ((p : BlockPosition) → IsPosition p → named after changed p ≡ named content e p) → used_of content e ≤ used_of after changed
 used_kept content after e changed small size names =
     let f = λ (q : BlockPosition). not (named content e q == 0) in
     let g = λ (q : BlockPosition). not (named after changed q == 0) in

@@ -2,12 +2,12 @@
 use Rattle.std.proofs.Common.{◌≡◌, ◌↔◌, Bool, false, sym, ◌∙◌, ap, subst}
 use Rattle.vol_sector.specs.Disk.{Leaves, counted}
 use Rattle.vol_sector.specs.declared.device.Device.{Ghosts}
-use Rattle.vol_log.specs.Log.{device_of, sectors_of, has_failed}
+use Rattle.vol_log.specs.Log.{device_of, log_sectors, has_failed}
 use Rattle.vol_log.specs.declared.log.Log.{Log}
 use Rattle.vol_log.specs.Reading.{OnlyReads}
 use Rattle.vol_body.specs.Reading.{OnlyStages}
 
-pub stages_then : {D : Type 0} {g : Ghosts D} (a b c : Log D g) → OnlyReads a b → has_failed b ≡ false → device_of c ≡ device_of b → sectors_of c ≡ sectors_of b → has_failed c ≡ false → OnlyStages a c
+pub stages_then : {D : Type 0} {g : Ghosts D} (a b c : Log D g) → OnlyReads a b → has_failed b ≡ false → device_of c ≡ device_of b → log_sectors c ≡ log_sectors b → has_failed c ≡ false → OnlyStages a c
 stages_then {D = D} {g = g} a b c reads still device sectors working = record {
   seen = λ h. ap (λ (d : D). (g.disk d).seen) device ∙ reads.seen h;
   crash = λ h. subst (λ (d : D). Leaves (g.disk (device_of a)) (g.disk d) (λ c. ⊥)) (sym device) (reads.crash h);

@@ -18,6 +18,7 @@ use Rattle.vol_body.proofs.Changes.{takes_same, stays_same}
 use Rattle.vol_body.proofs.Places.{part_listed, part_later, bytes_there}
 use Rattle.vol_body.proofs.OneMore.{write_named}
 use Rattle.vol_body.proofs.Added.{writes_over, changes_twice}
+use Rattle.vol_log.specs.declared.layout.TheConstants.{FIRST_AFTER_LOG}
 
 pub put_here : (n : ℕ) (bytes : List ℕ) (content : Image) → put n bytes content n ≡ bytes
 put_here n bytes content = pick n bytes (content n)
@@ -179,9 +180,9 @@ part_over a content after e j n image ready lt is some taken writes =
     )
 
 -- sector 0 is no data sector
-pub none_taken : (a : Alloc) → 122 ≤ first_of a → taken_of a 0 ≡ false
-none_taken a behind = elim (cases_Bool (taken_of a 0)) [
-  | inl is ↦ absurd (omega (arith, behind, taken_range a 0 is))
+pub none_taken : (a : Alloc) → FIRST_AFTER_LOG ≤ first_of a → taken_of a 0 ≡ false
+none_taken a after_log = elim (cases_Bool (taken_of a 0)) [
+  | inl is ↦ absurd (omega (arith, after_log, taken_range a 0 is))
   | inr free ↦ free
 ]
 
@@ -231,11 +232,11 @@ pub range_then : (a b c : Alloc) → SameRange a b → SameRange b c → SameRan
 range_then a b c one two = record { first = two.first ∙ one.first; end = two.end ∙ one.end }
 
 -- one change after another, over the same range of sectors
-pub changes_then : (a b c : Alloc) (c0 c1 c2 : Image) (e0 e1 e2 : Entry) (One Other Both : BlockPosition → Type 0) → 122 ≤ first_of a → SameRange a b → SameRange b c
+pub changes_then : (a b c : Alloc) (c0 c1 c2 : Image) (e0 e1 e2 : Entry) (One Other Both : BlockPosition → Type 0) → FIRST_AFTER_LOG ≤ first_of a → SameRange a b → SameRange b c
     → ((p : BlockPosition) → One p → Both p) → ((p : BlockPosition) → Other p → Both p) → Changes a b c0 c1 e0 e1 One → Changes b c c1 c2 e1 e2 Other → Changes a c c0 c2 e0 e2 Both
-changes_then a b c c0 c1 c2 e0 e1 e2 One Other Both behind range further one_in other_in one other =
-    let still : 122 ≤ first_of c = omega (arith, behind, range.first, further.first) in
-    changes_twice a b c c0 c1 c2 e0 e1 e2 One Other Both (none_taken a behind) (none_taken c still) range.first range.end one_in other_in one other
+changes_then a b c c0 c1 c2 e0 e1 e2 One Other Both after_log range further one_in other_in one other =
+    let still : FIRST_AFTER_LOG ≤ first_of c = omega (arith, after_log, range.first, further.first) in
+    changes_twice a b c c0 c1 c2 e0 e1 e2 One Other Both (none_taken a after_log) (none_taken c still) range.first range.end one_in other_in one other
 
 -- nothing changes
 pub changes_none : (a : Alloc) (content : Image) (e : Entry) (Touched : BlockPosition → Type 0) → IsReady a content e → Changes a a content content e e Touched

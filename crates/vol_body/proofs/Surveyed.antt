@@ -9,14 +9,15 @@ use Rattle.std.specs.List.{range_with_len, flat_map, Contains}
 use Rattle.vol_sector.specs.Disk.{Image}
 use Rattle.vol_alloc.specs.Numbers.{AreDistinct}
 use Rattle.vol_inode.specs.declared.entry.Entry.{Entry}
-use Rattle.vol_inode.specs.Entry.{HasPointers}
-use Rattle.vol_inode.specs.Space.{sectors_of}
+use Rattle.vol_inode.specs.Entry.{UnusedPointersAreZero}
+use Rattle.vol_inode.specs.Space.{blocks_for_size}
 use Rattle.vol_body.specs.Body.{BlockPosition, data_block, indirect_block, double_indirect_block, inner_block, IsPosition, named, number_in, block_bytes, byte_at, IsBody}
 use Rattle.vol_body.specs.Change.{Names}
 use Rattle.vol_body.specs.Survey.{data_blocks_from, inner_positions, all_inner_positions, every_position, nonzero, sectors_named, AreInside, IsTrimmed}
 use Rattle.vol_body.specs.internal.Surveying.{listed, with_listed, all_listed, ListsNoneFrom, LaterNone, NamesNonePast, NamesBelow, EndsInZeros}
 use Rattle.vol_body.proofs.Places.{part_direct, part_listed, part_later}
 use Rattle.vol_body.proofs.Surveys.{nonzero-append, one_number, number_listed, length-listed}
+use Rattle.vol_inode.specs.declared.version.TheConstants.{LARGEST_SIZE}
 
 -- ---- every position stands in the list
 
@@ -142,9 +143,9 @@ at_every content e long =
 serves_first : (k : ℕ) → k < 59 → (if nat_lt k 59 then k else 186) ≡ k
 serves_first k lt = grind (arith, nat_tests)
 
-pub none_past : (content : Image) (e : Entry) → HasPointers e → ListsNoneFrom content (named content e indirect_block) (sectors_of e.size - 58) → LaterNone content (named content e double_indirect_block) (sectors_of e.size) → NamesNonePast content e
+pub none_past : (content : Image) (e : Entry) → UnusedPointersAreZero e → ListsNoneFrom content (named content e indirect_block) (blocks_for_size e.size - 58) → LaterNone content (named content e double_indirect_block) (blocks_for_size e.size) → NamesNonePast content e
 none_past content e pointers own none (data_block j) there le = elim (cases_lt j 58) [
-  | inl lt ↦ part_direct content e j lt ∙ pointers j (omega (arith, lt)) (subst (λ (k : ℕ). sectors_of e.size ≤ k) (sym (serves_first j (omega (arith, lt)))) le)
+  | inl lt ↦ part_direct content e j lt ∙ pointers j (omega (arith, lt)) (subst (λ (k : ℕ). blocks_for_size e.size ≤ k) (sym (serves_first j (omega (arith, lt)))) le)
   | inr past ↦ elim (cases_lt j 186) [
     | inl lt ↦ part_listed content e j past lt ∙ own (j - 58) (omega (arith, le)) (omega (arith, lt))
     | inr later ↦
@@ -158,12 +159,12 @@ none_past content e pointers own none indirect_block there le = pointers 58 (ome
 none_past content e pointers own none double_indirect_block there le = pointers 59 (omega arith) le
 none_past content e pointers own none (inner_block i) there le = none.own i (omega (arith, le)) there
 
-pub past_list : (content : Image) (e : Entry) → NamesNonePast content e → ListsNoneFrom content (named content e indirect_block) (sectors_of e.size - 58)
+pub past_list : (content : Image) (e : Entry) → NamesNonePast content e → ListsNoneFrom content (named content e indirect_block) (blocks_for_size e.size - 58)
 past_list content e past i le lt =
     let same : i ≡ 58 + i - 58 = omega arith in
     ap (number_in content (named content e indirect_block)) same ∙ sym (part_listed content e (58 + i) (omega arith) (omega (arith, lt))) ∙ past (data_block (58 + i)) (omega (arith, lt)) (omega (arith, le))
 
-pub past_later : (content : Image) (e : Entry) → NamesNonePast content e → LaterNone content (named content e double_indirect_block) (sectors_of e.size)
+pub past_later : (content : Image) (e : Entry) → NamesNonePast content e → LaterNone content (named content e double_indirect_block) (blocks_for_size e.size)
 past_later content e past = record {
   own = λ i le lt. past (inner_block i) lt (omega (arith, le));
   later = λ q below i le lt. ap (λ (n : ℕ). number_in content n i) (number_listed content (named content e double_indirect_block) q below) ∙ sym (later_part content e q i lt) ∙ past (data_block (186 + 128 * q + i)) (omega (arith, below, lt)) (omega (arith, le));
@@ -171,15 +172,15 @@ past_later content e past = record {
 
 -- ---- the bytes past the size
 
-pub zeros_past : (content : Image) (e : Entry) → NamesNonePast content e → EndsInZeros content e → (k : ℕ) → e.size ≤ k → k < 8483840 → byte_at content e k ≡ 0
-zeros_past content e past ends k le lt = elim (cases_lt (k / 512) (sectors_of e.size)) [
+pub zeros_past : (content : Image) (e : Entry) → NamesNonePast content e → EndsInZeros content e → (k : ℕ) → e.size ≤ k → k < LARGEST_SIZE → byte_at content e k ≡ 0
+zeros_past content e past ends k le lt = elim (cases_lt (k / 512) (blocks_for_size e.size)) [
   | inl last ↦
       let same : k / 512 ≡ e.size / 512 = omega (arith, le, last) in
       ap (λ (j : ℕ). get_or (block_bytes content (named content e (data_block j))) (k % 512) 0) same ∙ ends (k % 512) (omega (arith, le, last)) (omega (arith, le, last)) (omega arith)
-  | inr behind ↦ ap (λ (n : ℕ). get_or (block_bytes content n) (k % 512) 0) (past (data_block (k / 512)) (omega (arith, lt)) behind) ∙ get_or-replicate 512 (k % 512) 0 0 (omega arith)
+  | inr beyond ↦ ap (λ (n : ℕ). get_or (block_bytes content n) (k % 512) 0) (past (data_block (k / 512)) (omega (arith, lt)) beyond) ∙ get_or-replicate 512 (k % 512) 0 0 (omega arith)
 ]
 
-pub ends_trimmed : (content : Image) (e : Entry) → e.size ≤ 8483840 → IsTrimmed content e → EndsInZeros content e
+pub ends_trimmed : (content : Image) (e : Entry) → e.size ≤ LARGEST_SIZE → IsTrimmed content e → EndsInZeros content e
 ends_trimmed content e small trimmed k some le lt =
     let at = 512 * (e.size / 512) + k in
     let same : e.size / 512 ≡ at / 512 = omega (arith, lt) in

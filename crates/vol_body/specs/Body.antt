@@ -4,7 +4,8 @@ use Rattle.std.specs.List.{range_with_len}
 use Rattle.byteorder.specs.Endian.{little_number}
 use Rattle.vol_sector.specs.Disk.{Image}
 use Rattle.vol_inode.specs.declared.entry.Entry.{Entry}
-use Rattle.vol_inode.specs.Space.{sectors_of, lists_of}
+use Rattle.vol_inode.specs.Space.{blocks_for_size, lists_of}
+use Rattle.vol_inode.specs.declared.version.TheConstants.{LARGEST_SIZE}
 
 -- Where a file names a sector: for the j-th data block, 512 of its bytes; for the indirect block, which names data blocks
 -- 58 to 185; for the double-indirect block, and for the i-th of the blocks that it names, which names the 128 data blocks
@@ -68,18 +69,18 @@ SameSectors one other e = (p : BlockPosition) → IsPosition p → named one e p
 -- the file names the same sectors in both, and has the same bytes
 pub record IsSameFile (one other : Image) (e : Entry) : Type 0 where
   pub names : (p : BlockPosition) → IsPosition p → named other e p ≡ named one e p
-  pub bytes : (k : ℕ) → k < 8483840 → byte_at other e k ≡ byte_at one e k
+  pub bytes : (k : ℕ) → k < LARGEST_SIZE → byte_at other e k ≡ byte_at one e k
 
 -- The rules on a file's sectors: no two positions name the same one; a position that serves only data blocks at or past the size
 -- names none; bytes past the size are zeros.
 pub record IsBody (content : Image) (e : Entry) : Type 0 where
   pub distinct : (p q : BlockPosition) → IsPosition p → IsPosition q → named content e p ≢ 0 → named content e p ≡ named content e q → p ≡ q
-  pub past : (p : BlockPosition) → IsPosition p → sectors_of e.size ≤ first_served p → named content e p ≡ 0
-  pub zeros : (k : ℕ) → e.size ≤ k → k < 8483840 → byte_at content e k ≡ 0
+  pub past : (p : BlockPosition) → IsPosition p → blocks_for_size e.size ≤ first_served p → named content e p ≡ 0
+  pub zeros : (k : ℕ) → e.size ≤ k → k < LARGEST_SIZE → byte_at content e k ≡ 0
 
 -- the positions of a file of this size, as many as it needs sectors
 abbrev pub positions_of : ℕ → List BlockPosition
-positions_of size = let count = sectors_of size in
+positions_of size = let count = blocks_for_size size in
     map data_block (range_with_len 0 count)
     ++ (if nat_lt 58 count then indirect_block ∷ [] else [])
     ++ (if nat_lt 186 count then double_indirect_block ∷ map inner_block (range_with_len 0 (lists_of (count - 186))) else [])

@@ -1,5 +1,5 @@
 -- What a change of one file leaves on a volume.
-use Rattle.std.specs.Prelude.{◌≡◌, ◌≢◌, ◌≤◌, ◌<◌, ◌+◌, ◌-◌, ◌==◌, ◌⊎◌, ◌++◌, ℕ, Bool, true, false, not, List, [], ◌∷◌, length, take, drop, replicate, count_by}
+use Rattle.std.specs.Prelude.{◌≡◌, ◌≢◌, ◌≤◌, ◌<◌, ◌+◌, ◌==◌, ◌⊎◌, ℕ, Bool, true, false, not, List, count_by}
 use Rattle.vol_sector.specs.Disk.{Image}
 use Rattle.vol_sector.specs.declared.device.Device.{Ghosts}
 use Rattle.vol_log.specs.Log.{view, device_of}
@@ -13,19 +13,6 @@ use Rattle.vol_inode.specs.Entry.{IsEntry}
 use Rattle.vol_inode.specs.Space.{size_limit}
 use Rattle.vol_inode.specs.Spelling.{spelling}
 use Rattle.vol_body.specs.Body.{BlockPosition, IsPosition, named, positions_of, bytes_of, NamesTaken, NamesOthers, IsBody}
-
--- the bytes with zeros after them, up to a length
-abbrev pub extended : ℕ → List ℕ → List ℕ
-extended size bytes = bytes ++ replicate (size - length bytes) 0
-
--- the bytes, cut or with zeros after them
-abbrev pub resized : ℕ → List ℕ → List ℕ
-resized size bytes = take size (extended size bytes)
-
--- new bytes at an offset, a gap before them as zeros; no bytes change nothing
-abbrev pub written : List ℕ → ℕ → List ℕ → List ℕ
-written old offset [] = old
-written old offset (byte ∷ bytes) = take offset (extended offset old) ++ (byte ∷ bytes) ++ drop (offset + length (byte ∷ bytes)) old
 
 -- the file names this sector
 pub record Names (content : Image) (e : Entry) (n : ℕ) : Type 0 where

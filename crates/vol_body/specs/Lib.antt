@@ -3,5 +3,6 @@ pub mod Body
 pub mod Survey
 pub mod Reading
 pub mod Source
+pub mod Bytes
 pub mod Change
 pub mod internal

@@ -2,7 +2,7 @@
 use Rattle.std.specs.Prelude.{◌≡◌, ◌↔◌, ◌≤◌, ◌+◌, ℕ, Bool, false}
 use Rattle.vol_sector.specs.Disk.{Leaves, counted}
 use Rattle.vol_sector.specs.declared.device.Device.{Ghosts}
-use Rattle.vol_log.specs.Log.{device_of, sectors_of, room_of, has_failed}
+use Rattle.vol_log.specs.Log.{device_of, log_sectors, room_of, has_failed}
 use Rattle.vol_log.specs.declared.log.Log.{Log}
 use Rattle.vol_alloc.specs.Alloc.{first_of, end_of}
 use Rattle.vol_alloc.specs.declared.sectors.Alloc.{Alloc}
@@ -11,7 +11,7 @@ use Rattle.vol_alloc.specs.declared.sectors.Alloc.{Alloc}
 pub record OnlyStages {D : Type 0} {g : Ghosts D} (old new : Log D g) : Type 0 where
   pub seen : g.honest (device_of old) → (g.disk (device_of new)).seen ≡ (g.disk (device_of old)).seen
   pub crash : g.honest (device_of old) → Leaves (g.disk (device_of old)) (g.disk (device_of new)) (λ c. ⊥)
-  pub sectors : sectors_of new ≡ sectors_of old
+  pub sectors : log_sectors new ≡ log_sectors old
   pub honest : g.honest (device_of old) ↔ g.honest (device_of new)
   pub size : g.size (device_of new) ≡ g.size (device_of old)
   pub failures : has_failed old ≡ false → g.failures (device_of new) ≡ counted (has_failed new) (g.failures (device_of old))

@@ -4,8 +4,9 @@ use Rattle.std.specs.Prelude.{◌≡◌, ◌≤◌, ◌<◌, ◌+◌, ◌-◌, �
 use Rattle.std.specs.List.{range_with_len, flat_map, Contains}
 use Rattle.vol_sector.specs.Disk.{Image}
 use Rattle.vol_inode.specs.declared.entry.Entry.{Entry}
-use Rattle.vol_inode.specs.Space.{sectors_of}
+use Rattle.vol_inode.specs.Space.{blocks_for_size}
 use Rattle.vol_body.specs.Body.{BlockPosition, data_block, indirect_block, double_indirect_block, inner_block, IsPosition, first_served, named, byte_at}
+use Rattle.vol_inode.specs.declared.version.TheConstants.{LARGEST_SIZE}
 
 -- this many data blocks, from one on
 unfoldable pub data_blocks_from : ℕ → ℕ → List BlockPosition
@@ -38,5 +39,5 @@ pub record AreInside (first end : ℕ) (numbers : List ℕ) : Type 0 where
 
 -- A position that serves only data blocks at or past the size names no sector; bytes past the size are zeros.
 pub record IsTrimmed (content : Image) (e : Entry) : Type 0 where
-  pub past : (p : BlockPosition) → IsPosition p → sectors_of e.size ≤ first_served p → named content e p ≡ 0
-  pub zeros : (k : ℕ) → e.size ≤ k → k < 8483840 → byte_at content e k ≡ 0
+  pub past : (p : BlockPosition) → IsPosition p → blocks_for_size e.size ≤ first_served p → named content e p ≡ 0
+  pub zeros : (k : ℕ) → e.size ≤ k → k < LARGEST_SIZE → byte_at content e k ≡ 0

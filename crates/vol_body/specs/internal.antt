@@ -3,3 +3,4 @@ pub mod Surveying
 pub mod Naming
 pub mod Shorter
 pub mod Writing
+pub mod Holding

@@ -1,12 +1,14 @@
 //! The sectors of which a shorter file keeps only a beginning.
 
 ghost use Rattle.std.specs.Prelude.{◌≡◌, ◌≢◌, ◌≤◌, ◌<◌, ◌+◌, ◌-◌, ◌*◌, ◌/◌, true, false, IfOk, is_err};
-ghost use Rattle.vol_log.specs.Log.{view, sectors_of, room_of, has_failed, device_of};
+ghost use Rattle.vol_log.specs.Log.{view, log_sectors, room_of, has_failed, device_of};
 ghost use Rattle.vol_alloc.specs.Alloc.{first_of, end_of, taken_of};
 ghost use Rattle.vol_body.specs.Body.{NamesTaken, named};
 ghost use Rattle.vol_log.specs.Reading.{OnlyReads};
 ghost use Rattle.vol_body.specs.internal.Shorter.{kept_bytes, cut, IsCut, with_cut, last_data_block, cut_indirect_block, last_inner_block};
 ghost use Rattle.vol_body.specs.internal.Shorter.{AreCuts, AreWithin, with_cuts};
+ghost use Rattle.vol_log.specs.declared.layout.TheConstants.{FIRST_AFTER_LOG};
+ghost use Rattle.vol_inode.specs.declared.version.TheConstants.{LARGEST_SIZE};
 
 use crate::locate::{read_number, sector_of_block, taken_or_zero};
 use vol_alloc::Alloc;
@@ -49,7 +51,7 @@ fn read_cut<D: Device>(
     kept: u32,
 ) -> Result<Cut, DeviceFault>
     requires taken { n ≢ 0 → taken_of sectors.now n ≡ true }
-    requires there { end_of sectors.now ≤ sectors_of log.old }
+    requires there { end_of sectors.now ≤ log_sectors log.old }
     requires working { has_failed log.old ≡ false }
     requires within { kept ≤ 512 }
     ensures cut { D.honest (device_of log.old) → IfOk result (IsCut (view log.old) n kept) }
@@ -77,9 +79,9 @@ fn cut_of_data_block<D: Device>(
     entry: &Entry,
     size: u32,
 ) -> Result<Cut, DeviceFault>
-    requires there { end_of sectors.now ≤ sectors_of log.old }
+    requires there { end_of sectors.now ≤ log_sectors log.old }
     requires working { has_failed log.old ≡ false }
-    requires small { size ≤ 8483840 }
+    requires small { size ≤ LARGEST_SIZE }
     ensures cut { D.honest (device_of log.old)
         → NamesTaken (taken_of sectors.now) (view log.old) entry.now
         → IfOk result (IsCut (view log.old) (named (view log.old) entry.now (last_data_block size))
@@ -102,9 +104,9 @@ fn cut_of_indirect_block<D: Device>(
     entry: &Entry,
     size: u32,
 ) -> Result<Cut, DeviceFault>
-    requires there { end_of sectors.now ≤ sectors_of log.old }
+    requires there { end_of sectors.now ≤ log_sectors log.old }
     requires working { has_failed log.old ≡ false }
-    requires small { size ≤ 8483840 }
+    requires small { size ≤ LARGEST_SIZE }
     ensures cut { D.honest (device_of log.old)
         → NamesTaken (taken_of sectors.now) (view log.old) entry.now
         → IfOk result (IsCut (view log.old) (named (view log.old) entry.now (cut_indirect_block size))
@@ -132,9 +134,9 @@ fn cut_of_inner_block<D: Device>(
     entry: &Entry,
     size: u32,
 ) -> Result<Cut, DeviceFault>
-    requires there { end_of sectors.now ≤ sectors_of log.old }
+    requires there { end_of sectors.now ≤ log_sectors log.old }
     requires working { has_failed log.old ≡ false }
-    requires small { size ≤ 8483840 }
+    requires small { size ≤ LARGEST_SIZE }
     ensures cut { D.honest (device_of log.old)
         → NamesTaken (taken_of sectors.now) (view log.old) entry.now
         → IfOk result (IsCut (view log.old) (named (view log.old) entry.now (last_inner_block size))
@@ -154,15 +156,15 @@ fn cut_of_inner_block<D: Device>(
 
 /// Stages what is to be written for a sector, if anything is.
 fn stage_cut<D: Device>(log: &mut Log<D>, cut: &Cut)
-    requires behind { cut.now.sector ≢ 0 → 122 ≤ cut.now.sector }
-    requires there { cut.now.sector ≢ 0 → cut.now.sector < sectors_of log.old }
+    requires after_log { cut.now.sector ≢ 0 → FIRST_AFTER_LOG ≤ cut.now.sector }
+    requires there { cut.now.sector ≢ 0 → cut.now.sector < log_sectors log.old }
     requires room { 0 < room_of log.old }
     requires working { has_failed log.old ≡ false }
     ensures view { view log.new ≡ with_cut cut.now (view log.old) }
     ensures room { room_of log.old ≤ room_of log.new + 1 }
     ensures device { device_of log.new ≡ device_of log.old }
     ensures failed { has_failed log.new ≡ false }
-    ensures sectors { sectors_of log.new ≡ sectors_of log.old }
+    ensures sectors { log_sectors log.new ≡ log_sectors log.old }
 {
     if cut.sector != 0 {
         log.stage(cut.sector, &cut.image);
@@ -176,9 +178,9 @@ pub fn read_cuts<D: Device>(
     entry: &Entry,
     size: u32,
 ) -> Result<Cuts, DeviceFault>
-    requires there { end_of sectors.now ≤ sectors_of log.old }
+    requires there { end_of sectors.now ≤ log_sectors log.old }
     requires working { has_failed log.old ≡ false }
-    requires small { size ≤ 8483840 }
+    requires small { size ≤ LARGEST_SIZE }
     ensures cuts { D.honest (device_of log.old)
         → NamesTaken (taken_of sectors.now) (view log.old) entry.now
         → IfOk result (AreCuts (view log.old) entry.now size) }
@@ -198,14 +200,14 @@ pub fn read_cuts<D: Device>(
 
 /// Stages what is to be written, in three places at most.
 pub fn stage_cuts<D: Device>(log: &mut Log<D>, cuts: &Cuts)
-    requires there { AreWithin 122 (sectors_of log.old) cuts.now }
+    requires there { AreWithin FIRST_AFTER_LOG (log_sectors log.old) cuts.now }
     requires room { 3 ≤ room_of log.old }
     requires working { has_failed log.old ≡ false }
     ensures view { view log.new ≡ with_cuts cuts.now (view log.old) }
     ensures room { room_of log.old ≤ room_of log.new + 3 }
     ensures device { device_of log.new ≡ device_of log.old }
     ensures failed { has_failed log.new ≡ false }
-    ensures sectors { sectors_of log.new ≡ sectors_of log.old }
+    ensures sectors { log_sectors log.new ≡ log_sectors log.old }
 {
     stage_cut(log, &cuts.data_block);
     stage_cut(log, &cuts.indirect_block);

@@ -3,7 +3,7 @@
 ghost use Rattle.std.specs.Prelude.{◌≡◌, ◌≢◌, ◌≤◌, ◌<◌, ◌+◌, ◌-◌, ◌*◌, ◌⊎◌, ℕ, false, true, OnOk, is_err, if◌then◌else◌};
 ghost use Rattle.std.specs.Prelude.{drop, slice_index};
 ghost use Rattle.byteorder.specs.Endian.{little_number};
-ghost use Rattle.vol_log.specs.Log.{view, sectors_of, has_failed, device_of};
+ghost use Rattle.vol_log.specs.Log.{view, log_sectors, has_failed, device_of};
 ghost use Rattle.vol_alloc.specs.Alloc.{first_of, end_of, taken_of};
 ghost use Rattle.vol_body.specs.Body.{NamesTaken, number_in};
 ghost use Rattle.vol_log.specs.Reading.{OnlyReads};
@@ -58,7 +58,7 @@ fn free_indirect_block<D: Device>(
     indirect_block: u32,
     from: u32,
 ) -> Result<(), DeviceFault>
-    requires there { indirect_block ≢ 0 → indirect_block < sectors_of log.old }
+    requires there { indirect_block ≢ 0 → indirect_block < log_sectors log.old }
     requires working { has_failed log.old ≡ false }
     requires data { 0 < first_of sectors.old }
     ensures gives { D.honest (device_of log.old) → OnOk result (Gives (taken_of sectors.old)
@@ -103,7 +103,7 @@ fn free_inner_blocks<D: Device>(
     count: u32,
 ) -> Result<(), DeviceFault>
     requires there { (i : ℕ) → i < 128 → slice_index inner_blocks.now i ≢ 0
-        → slice_index inner_blocks.now i < sectors_of log.old }
+        → slice_index inner_blocks.now i < log_sectors log.old }
     requires working { has_failed log.old ≡ false }
     requires data { 0 < first_of sectors.old }
     ensures gives { D.honest (device_of log.old) → OnOk result (Gives (taken_of sectors.old)
@@ -127,8 +127,8 @@ fn free_double_indirect_block<D: Device>(
     double_indirect_block: u32,
     count: u32,
 ) -> Result<(), DeviceFault>
-    requires there { double_indirect_block ≢ 0 → double_indirect_block < sectors_of log.old }
-    requires range { end_of sectors.old ≤ sectors_of log.old }
+    requires there { double_indirect_block ≢ 0 → double_indirect_block < log_sectors log.old }
+    requires range { end_of sectors.old ≤ log_sectors log.old }
     requires working { has_failed log.old ≡ false }
     requires data { 0 < first_of sectors.old }
     ensures gives { D.honest (device_of log.old)
@@ -161,7 +161,7 @@ pub fn free_unkept<D: Device>(
     entry: &Entry,
     count: u32,
 ) -> Result<(), DeviceFault>
-    requires there { end_of sectors.old ≤ sectors_of log.old }
+    requires there { end_of sectors.old ≤ log_sectors log.old }
     requires working { has_failed log.old ≡ false }
     requires data { 0 < first_of sectors.old }
     ensures gives { D.honest (device_of log.old)

@@ -3,9 +3,11 @@
 ghost use Rattle.std.specs.Prelude.{◌≡◌, ◌≤◌, ◌<◌, ◌+◌, ◌-◌, ◌++◌, OnOk, OnErr, is_err};
 ghost use Rattle.std.specs.Prelude.{replicate, if◌then◌else◌};
 ghost use Rattle.vol_sector.specs.Disk.{put};
-ghost use Rattle.vol_log.specs.Log.{view, sectors_of, room_of, is_staged, has_failed, device_of};
+ghost use Rattle.vol_log.specs.Log.{view, log_sectors, room_of, is_staged, has_failed, device_of};
 ghost use Rattle.vol_inode.specs.Spelling.{spelling};
 ghost use Rattle.vol_body.specs.Body.{bytes_of, IsBody, NamesOthers};
+ghost use Rattle.vol_log.specs.declared.layout.TheConstants.{FIRST_AFTER_LOG};
+ghost use Rattle.vol_inode.specs.declared.version.TheConstants.{LARGEST_SIZE};
 
 use vol_inode::{Entry, write_entry};
 use vol_log::Log;
@@ -20,11 +22,11 @@ pub fn grow<D: Device>(
     entry: &mut Entry,
     size: u32,
 ) -> Result<(), DeviceFault>
-    requires behind { 122 ≤ inode_sector }
-    requires there { inode_sector < sectors_of log.old }
+    requires after_log { FIRST_AFTER_LOG ≤ inode_sector }
+    requires there { inode_sector < log_sectors log.old }
     requires room { 0 < room_of log.old }
     requires grows { entry.old.size ≤ size }
-    requires small { size ≤ 8483840 }
+    requires small { size ≤ LARGEST_SIZE }
     ensures bytes { IsBody (view log.old) entry.old → NamesOthers (view log.old) entry.old inode_sector
         → OnOk result (bytes_of (view log.new) entry.new
         ≡ bytes_of (view log.old) entry.old ++ replicate (size - entry.old.size) 0) }
@@ -36,7 +38,7 @@ pub fn grow<D: Device>(
     ensures room { OnOk result (room_of log.new
         ≡ (if is_staged log.old inode_sector then room_of log.old else room_of log.old - 1)) }
     ensures device { device_of log.new ≡ device_of log.old }
-    ensures sectors { sectors_of log.new ≡ sectors_of log.old }
+    ensures sectors { log_sectors log.new ≡ log_sectors log.old }
     ensures failed { has_failed log.new ≡ has_failed log.old }
     ensures refused { OnErr result ((log.new ≡ log.old) × (entry.new ≡ entry.old)) }
     ensures fails { is_err result ≡ has_failed log.old }

@@ -10,13 +10,14 @@ ghost use Rattle.vol_body.specs.Body.{IsBody, SameSectors, IsSameFile};
 ghost use Rattle.vol_body.specs.Change.{Names};
 ghost use Rattle.vol_alloc.specs.Numbers.{AreDistinct};
 ghost use Rattle.vol_body.specs.Survey.{sectors_named, IsTrimmed};
+ghost use Rattle.vol_inode.specs.declared.version.TheConstants.{LARGEST_SIZE};
 
 /// A law: where the sectors that a file names stay, it names the same ones, has the same bytes and
 /// keeps its rules, whatever is written to others.
 pub fn other_files_stay()
     ensures file { (one other : Image) (e : Entry) → SameSectors one other e
         → IsSameFile one other e }
-    ensures bytes { (one other : Image) (e : Entry) → SameSectors one other e → e.size ≤ 8483840
+    ensures bytes { (one other : Image) (e : Entry) → SameSectors one other e → e.size ≤ LARGEST_SIZE
         → bytes_of other e ≡ bytes_of one e }
     ensures rules { (one other : Image) (e : Entry) → SameSectors one other e → IsBody one e
         → IsBody other e }

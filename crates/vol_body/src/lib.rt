@@ -4,6 +4,7 @@
 mod cutting;
 mod freeing;
 mod growing;
+mod holding;
 mod laws;
 mod locate;
 mod pointer_sectors;

@@ -3,7 +3,7 @@
 ghost use Rattle.std.specs.Prelude.{◌≡◌, ◌≢◌, ◌≤◌, ◌<◌, true, false, IfOk, is_err, if◌then◌else◌};
 ghost use Rattle.std.specs.Prelude.{drop, ◌*◌};
 ghost use Rattle.byteorder.specs.Endian.{little_number};
-ghost use Rattle.vol_log.specs.Log.{view, sectors_of, has_failed, device_of};
+ghost use Rattle.vol_log.specs.Log.{view, log_sectors, has_failed, device_of};
 ghost use Rattle.vol_alloc.specs.Alloc.{end_of, taken_of};
 ghost use Rattle.vol_body.specs.Body.{NamesTaken, named, number_in, data_block, block_bytes};
 ghost use Rattle.vol_log.specs.Reading.{OnlyReads};
@@ -48,7 +48,7 @@ pub fn read_number<D: Device>(
 ) -> Result<u32, DeviceFault>
     requires place { i < 128 }
     requires taken { indirect_block ≢ 0 → taken_of sectors.now indirect_block ≡ true }
-    requires there { end_of sectors.now ≤ sectors_of log.old }
+    requires there { end_of sectors.now ≤ log_sectors log.old }
     requires working { has_failed log.old ≡ false }
     ensures number { D.honest (device_of log.old) → IfOk result (λ n.
         let m = number_in (view log.old) indirect_block i in
@@ -72,7 +72,7 @@ pub fn sector_of_block<D: Device>(
     j: u32,
 ) -> Result<u32, DeviceFault>
     requires place { j < 16570 }
-    requires there { end_of sectors.now ≤ sectors_of log.old }
+    requires there { end_of sectors.now ≤ log_sectors log.old }
     requires working { has_failed log.old ≡ false }
     ensures sector { D.honest (device_of log.old)
         → NamesTaken (taken_of sectors.now) (view log.old) entry.now
@@ -93,24 +93,20 @@ pub fn sector_of_block<D: Device>(
     read_number(log, sectors, indirect_block, (j - LISTED) % NUMBERS)
 }
 
-/// The bytes of a data block of the file, zeros where it was never written.
-pub fn read_block<D: Device>(
+/// The bytes of a taken sector. Sector 0 stands for none, which reads as zeros.
+pub fn read_taken<D: Device>(
     log: &mut Log<D>,
     sectors: &Alloc,
-    entry: &Entry,
-    j: u32,
+    n: u32,
 ) -> Result<[u8; 512], DeviceFault>
-    requires place { j < 16570 }
-    requires there { end_of sectors.now ≤ sectors_of log.old }
+    requires taken { n ≢ 0 → taken_of sectors.now n ≡ true }
+    requires there { end_of sectors.now ≤ log_sectors log.old }
     requires working { has_failed log.old ≡ false }
     ensures bytes { D.honest (device_of log.old)
-        → NamesTaken (taken_of sectors.now) (view log.old) entry.now
-        → IfOk result (λ image. image
-        ≡ block_bytes (view log.old) (named (view log.old) entry.now (data_block j))) }
+        → IfOk result (λ image. image ≡ block_bytes (view log.old) n) }
     ensures reads { OnlyReads log.old log.new }
     ensures failed { has_failed log.new ≡ is_err result }
 {
-    let n = sector_of_block(log, sectors, entry, j)?;
     if n == 0 {
         return Ok([0; 512]);
     }

@@ -2,13 +2,15 @@
 
 ghost use Rattle.std.specs.Prelude.{◌≡◌, ◌≢◌, ◌≤◌, ◌<◌, ◌+◌, ◌*◌, ℕ, true, false, drop, IfOk, is_err};
 ghost use Rattle.byteorder.specs.Endian.{little_number};
-ghost use Rattle.vol_log.specs.Log.{view, sectors_of, has_failed, device_of};
+ghost use Rattle.vol_log.specs.Log.{view, log_sectors, has_failed, device_of};
 ghost use Rattle.vol_alloc.specs.Alloc.{end_of, taken_of};
-ghost use Rattle.vol_body.specs.Body.{NamesTaken, double_indirect_block, block_bytes};
+ghost use Rattle.vol_inode.specs.declared.entry.Entry.{Entry};
+ghost use Rattle.vol_body.specs.Body.{BlockPosition, NamesTaken, data_block, double_indirect_block, block_bytes, named};
 ghost use Rattle.vol_log.specs.Reading.{OnlyReads};
-ghost use Rattle.vol_body.specs.internal.Writing.{Mirrors, MirrorsAll, KnowsAll, segment};
+ghost use Rattle.vol_sector.specs.Disk.{Image};
+ghost use Rattle.vol_body.specs.internal.Writing.{Mirrors, MirrorsAll, KnowsAll, ListedAt, segment};
 
-use crate::locate::{DIRECT, LISTED, NUMBERS, number_at, taken_or_zero};
+use crate::locate::{DIRECT, LISTED, NUMBERS, number_at, read_taken, taken_or_zero};
 use byteorder::{ByteOrder, LittleEndian};
 use vol_alloc::Alloc;
 use vol_inode::Entry;
@@ -56,7 +58,7 @@ pub fn load_pointer_sectors<D: Device>(
 ) -> Result<PointerSectors, DeviceFault>
     requires some { first ≤ last }
     requires small { last < 16570 }
-    requires there { end_of sectors.now ≤ sectors_of log.old }
+    requires there { end_of sectors.now ≤ log_sectors log.old }
     requires working { has_failed log.old ≡ false }
     ensures right { D.honest (device_of log.old)
         → NamesTaken (taken_of sectors.now) (view log.old) entry.now
@@ -83,7 +85,7 @@ fn load<D: Device>(
     number: u32,
 ) -> Result<PointerSector, DeviceFault>
     requires taken { number ≢ 0 → taken_of sectors.now number ≡ true }
-    requires there { end_of sectors.now ≤ sectors_of log.old }
+    requires there { end_of sectors.now ≤ log_sectors log.old }
     requires working { has_failed log.old ≡ false }
     ensures image { D.honest (device_of log.old) → IfOk result (λ s.
         s.image ≡ block_bytes (view log.old) number) }
@@ -92,22 +94,18 @@ fn load<D: Device>(
     ensures reads { OnlyReads log.old log.new }
     ensures failed { has_failed log.new ≡ is_err result }
 {
-    let image = if number == 0 {
-        [0; 512]
-    } else {
-        log.read(number)?
-    };
+    let image = read_taken(log, sectors, number)?;
     Ok(PointerSector { number, image })
 }
 
-/// Reads the pointer sector of pointer 59, if the write reaches the data blocks that it serves.
-fn load_top<D: Device>(
+/// Reads the pointer sector of pointer 59, if a call that goes up to the data block `last` needs it.
+pub fn load_top<D: Device>(
     log: &mut Log<D>,
     sectors: &Alloc,
     entry: &Entry,
     last: u32,
 ) -> Result<PointerSector, DeviceFault>
-    requires there { end_of sectors.now ≤ sectors_of log.old }
+    requires there { end_of sectors.now ≤ log_sectors log.old }
     requires working { has_failed log.old ≡ false }
     ensures right { D.honest (device_of log.old)
         → NamesTaken (taken_of sectors.now) (view log.old) entry.now → 186 ≤ last
@@ -123,9 +121,9 @@ fn load_top<D: Device>(
     load(log, sectors, number)
 }
 
-/// Reads the pointer sector that lists the 128 data blocks from 58 + 128 * `group` on, if the write reaches
-/// them.
-fn load_segment<D: Device>(
+/// Reads the pointer sector that lists the 128 data blocks from 58 + 128 * `group` on, if a call that
+/// goes up to the data block `last` reaches them.
+pub fn load_segment<D: Device>(
     log: &mut Log<D>,
     sectors: &Alloc,
     entry: &Entry,
@@ -134,7 +132,7 @@ fn load_segment<D: Device>(
     last: u32,
 ) -> Result<PointerSector, DeviceFault>
     requires small { last < 16570 }
-    requires there { end_of sectors.now ≤ sectors_of log.old }
+    requires there { end_of sectors.now ≤ log_sectors log.old }
     requires working { has_failed log.old ≡ false }
     ensures right { D.honest (device_of log.old)
         → NamesTaken (taken_of sectors.now) (view log.old) entry.now → 58 + 128 * group ≤ last
@@ -153,4 +151,40 @@ fn load_segment<D: Device>(
     }
     let number = taken_or_zero(sectors, number_at(&above.image, group - 1));
     load(log, sectors, number)
+}
+
+/// The sector of a data block, or 0 where it was never written, from the pointer sector that lists
+/// it at i.
+pub fn listed_sector(sectors: &Alloc, above: &PointerSector, i: u32) -> u32
+    requires { i < 128 }
+    ensures number { (content : Image) (e : Entry) (q : BlockPosition) (j : ℕ)
+        → ListedAt q i (data_block j) → j < 16570 → NamesTaken (taken_of sectors.now) content e
+        → Mirrors content e q above.now.number above.now.image
+        → result ≡ named content e (data_block j) }
+    ensures taken { result ≢ 0 → taken_of sectors.now result ≡ true }
+{
+    taken_or_zero(sectors, number_at(&above.image, i))
+}
+
+/// The sector of a data block, or 0 where it was never written, by the pointer sectors of a write
+/// that begins at the data block `first`.
+pub fn sector_by(sectors: &Alloc, entry: &Entry, all: &PointerSectors, first: u32, j: u32) -> u32
+    requires place { j < 16570 }
+    requires from { first ≤ j }
+    requires near { j ≤ first + 128 }
+    ensures number { (content : Image) (last : ℕ) → j ≤ last
+        → NamesTaken (taken_of sectors.now) content entry.now
+        → MirrorsAll content entry.now all.now first last
+        → result ≡ named content entry.now (data_block j) }
+    ensures taken { result ≢ 0 → taken_of sectors.now result ≡ true }
+{
+    if j < DIRECT {
+        return taken_or_zero(sectors, entry.pointers[j as usize]);
+    }
+    let group = (j - DIRECT) / NUMBERS;
+    let i = (j - DIRECT) % NUMBERS;
+    if group == first.saturating_sub(DIRECT) / NUMBERS {
+        return listed_sector(sectors, &all.early, i);
+    }
+    listed_sector(sectors, &all.late, i)
 }

@@ -1,12 +1,15 @@
 //! Setting the size of a file.
 
 ghost use Rattle.std.specs.Prelude.{◌≡◌, ◌≤◌, ◌<◌, true, OnOk, OnErr, IsErr, is_err};
-ghost use Rattle.vol_log.specs.Log.{view, sectors_of, room_of, has_failed};
+ghost use Rattle.vol_log.specs.Log.{view, log_sectors, room_of, has_failed};
 ghost use Rattle.vol_alloc.specs.Alloc.{first_of, end_of};
 ghost use Rattle.vol_body.specs.Body.{bytes_of};
-ghost use Rattle.vol_body.specs.Change.{resized, IfSound, FileBecomes, EntryBecomes};
+ghost use Rattle.vol_body.specs.Bytes.{resized_bytes};
+ghost use Rattle.vol_body.specs.Change.{IfSound, FileBecomes, EntryBecomes};
 ghost use Rattle.vol_log.specs.Reading.{OnlyReads};
 ghost use Rattle.vol_body.specs.Reading.{StagesAtMost};
+ghost use Rattle.vol_log.specs.declared.layout.TheConstants.{FIRST_AFTER_LOG};
+ghost use Rattle.vol_inode.specs.declared.version.TheConstants.{LARGEST_SIZE};
 
 use crate::growing::grow;
 use crate::shrinking::shrink;
@@ -28,17 +31,17 @@ pub fn set_size<D: Device>(
     entry: &mut Entry,
     size: u32,
 ) -> Result<(), DeviceFault>
-    requires behind { 122 ≤ inode_sector }
+    requires after_log { FIRST_AFTER_LOG ≤ inode_sector }
     requires slot { inode_sector < first_of sectors.old }
-    requires within { inode_sector < sectors_of log.old }
-    requires there { end_of sectors.old ≤ sectors_of log.old }
+    requires within { inode_sector < log_sectors log.old }
+    requires there { end_of sectors.old ≤ log_sectors log.old }
     requires room { 4 ≤ room_of log.old }
-    requires small_before { entry.old.size ≤ 8483840 }
-    requires small { size ≤ 8483840 }
+    requires small_before { entry.old.size ≤ LARGEST_SIZE }
+    requires small { size ≤ LARGEST_SIZE }
     // Read as a list, the file is cut or has zeros after it.
     ensures file { IfSound log.old sectors.old entry.old (OnOk result
         (FileBecomes inode_sector sectors.old sectors.new (view log.old) (view log.new) entry.old
-        entry.new (resized size (bytes_of (view log.old) entry.old)))) }
+        entry.new (resized_bytes size (bytes_of (view log.old) entry.old)))) }
     ensures entry { OnOk result (EntryBecomes inode_sector size (view log.new) entry.old entry.new) }
     ensures steps { StagesAtMost 4 log.old log.new sectors.old sectors.new (is_err result) }
     ensures refused { OnErr result ((OnlyReads log.old log.new) × (entry.new ≡ entry.old)) }

@@ -4,14 +4,15 @@ ghost use Rattle.std.specs.Prelude.{◌≡◌, ◌≢◌, ◌≤◌, ◌<◌, �
 ghost use Rattle.std.specs.Prelude.{IfOk, OnOk, IfErr, IsErr, IsTrue, is_err, drop, map, slice_index};
 ghost use Rattle.byteorder.specs.Endian.{little_number};
 ghost use Rattle.vol_sector.specs.Fault.{device_failed};
-ghost use Rattle.vol_log.specs.Log.{view, sectors_of, has_failed, device_of};
+ghost use Rattle.vol_log.specs.Log.{view, log_sectors, has_failed, device_of};
 ghost use Rattle.vol_log.specs.Reading.{OnlyReads};
-ghost use Rattle.vol_inode.specs.Entry.{HasPointers};
+ghost use Rattle.vol_inode.specs.Entry.{UnusedPointersAreZero};
 ghost use Rattle.vol_body.specs.Body.{data_block, named as named_at, number_in};
 ghost use Rattle.vol_body.specs.Survey.{every_position, sectors_named, AreInside, IsTrimmed};
 ghost use Rattle.vol_body.specs.internal.Surveying.{listed, with_listed, all_listed, Pushes, Overflows};
 ghost use Rattle.vol_body.specs.internal.Surveying.{ListsNoneFrom, LaterListNone, LaterNone};
 ghost use Rattle.vol_body.specs.internal.Surveying.{NamesNonePast, NamesBelow, EndsInZeros};
+ghost use Rattle.vol_inode.specs.declared.version.TheConstants.{LARGEST_SIZE};
 
 use crate::locate::{DIRECT, LISTED, NUMBERS, number_at};
 use vol_inode::Entry;
@@ -91,7 +92,7 @@ fn read_numbers<D: Device>(
     indirect_block: u32,
     from: u32,
 ) -> Result<[u32; 128], VolumeFault>
-    requires there { indirect_block ≢ 0 → indirect_block < sectors_of log.old }
+    requires there { indirect_block ≢ 0 → indirect_block < log_sectors log.old }
     requires working { has_failed log.old ≡ false }
     ensures numbers { D.honest (device_of log.old)
         → IfOk result (λ numbers. numbers ≡ listed (view log.old) indirect_block) }
@@ -126,7 +127,7 @@ fn survey_indirect_block<D: Device>(
     end: u32,
     named: &mut Vec<u32>,
 ) -> Result<(), VolumeFault>
-    requires there { end ≤ sectors_of log.old }
+    requires there { end ≤ log_sectors log.old }
     requires working { has_failed log.old ≡ false }
     requires inside { AreInside first end named.old.items }
     ensures pushes { D.honest (device_of log.old) → OnOk result (Pushes first end
@@ -160,7 +161,7 @@ fn survey_inner_blocks<D: Device>(
     end: u32,
     named: &mut Vec<u32>,
 ) -> Result<(), VolumeFault>
-    requires there { end ≤ sectors_of log.old }
+    requires there { end ≤ log_sectors log.old }
     requires working { has_failed log.old ≡ false }
     requires inside { AreInside first end named.old.items }
     ensures pushes { D.honest (device_of log.old) → OnOk result (Pushes first end
@@ -194,7 +195,7 @@ fn survey_double_indirect_block<D: Device>(
     end: u32,
     named: &mut Vec<u32>,
 ) -> Result<(), VolumeFault>
-    requires there { end ≤ sectors_of log.old }
+    requires there { end ≤ log_sectors log.old }
     requires working { has_failed log.old ≡ false }
     requires inside { AreInside first end named.old.items }
     ensures pushes { D.honest (device_of log.old) → OnOk result (Pushes first end
@@ -229,9 +230,9 @@ fn survey_sectors<D: Device>(
     end: u32,
     named: &mut Vec<u32>,
 ) -> Result<(), VolumeFault>
-    requires there { end ≤ sectors_of log.old }
+    requires there { end ≤ log_sectors log.old }
     requires working { has_failed log.old ≡ false }
-    requires pointers { HasPointers entry.now }
+    requires pointers { UnusedPointersAreZero entry.now }
     requires inside { AreInside first end named.old.items }
     ensures pushes { D.honest (device_of log.old) → OnOk result (Pushes first end
         named.old.items named.new.items (map (named_at (view log.old) entry.now) every_position)) }
@@ -276,7 +277,7 @@ fn number_of<D: Device>(
     end: u32,
 ) -> Result<u32, DeviceFault>
     requires place { i < 128 }
-    requires there { end ≤ sectors_of log.old }
+    requires there { end ≤ log_sectors log.old }
     requires working { has_failed log.old ≡ false }
     ensures number { D.honest (device_of log.old) → (indirect_block ≢ 0 → indirect_block < end)
         → IfOk result (λ n. n ≡ number_in (view log.old) indirect_block i) }
@@ -301,7 +302,7 @@ fn block_sector<D: Device>(
     end: u32,
 ) -> Result<u32, DeviceFault>
     requires place { j < 16570 }
-    requires there { end ≤ sectors_of log.old }
+    requires there { end ≤ log_sectors log.old }
     requires working { has_failed log.old ≡ false }
     ensures sector { D.honest (device_of log.old) → NamesBelow (view log.old) entry.now end
         → IfOk result (λ n. n ≡ named_at (view log.old) entry.now (data_block j)) }
@@ -320,9 +321,9 @@ fn block_sector<D: Device>(
 
 /// Whether the bytes past the file's size are zeros in the data block that the size ends in.
 fn ends_in_zeros<D: Device>(log: &mut Log<D>, entry: &Entry, end: u32) -> Result<bool, DeviceFault>
-    requires there { end ≤ sectors_of log.old }
+    requires there { end ≤ log_sectors log.old }
     requires working { has_failed log.old ≡ false }
-    requires small { entry.now.size ≤ 8483840 }
+    requires small { entry.now.size ≤ LARGEST_SIZE }
     ensures yes { D.honest (device_of log.old) → NamesBelow (view log.old) entry.now end
         → IfOk result (λ zeros. IsTrue zeros → EndsInZeros (view log.old) entry.now) }
     ensures no { D.honest (device_of log.old) → NamesBelow (view log.old) entry.now end
@@ -359,9 +360,9 @@ pub fn survey<D: Device>(
     end: u32,
     named: &mut Vec<u32>,
 ) -> Result<(), VolumeFault>
-    requires there { end ≤ sectors_of log.old }
-    requires pointers { HasPointers entry.now }
-    requires small { entry.now.size ≤ 8483840 }
+    requires there { end ≤ log_sectors log.old }
+    requires pointers { UnusedPointersAreZero entry.now }
+    requires small { entry.now.size ≤ LARGEST_SIZE }
     requires inside { AreInside first end named.old.items }
     ensures named { D.honest (device_of log.old) → OnOk result (named.new.items
         ≡ named.old.items ++ sectors_named (view log.old) entry.now) }

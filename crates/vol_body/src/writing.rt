@@ -1,18 +1,21 @@
 //! Writing the bytes of a file.
 
-ghost use Rattle.std.specs.Prelude.{◌≡◌, ◌≤◌, ◌<◌, ◌+◌, ◌*◌, true, false, length, max, OnOk, OnErr, IfOk, IsErr, is_err};
-ghost use Rattle.vol_log.specs.Log.{view, sectors_of, room_of, has_failed, device_of};
+ghost use Rattle.std.specs.Prelude.{◌≡◌, ◌≤◌, ◌<◌, ◌+◌, ◌-◌, ◌*◌, ◌/◌, ℕ, true, false, length, max, OnOk, OnErr, IfOk, IsErr, is_err};
+ghost use Rattle.vol_log.specs.Log.{view, log_sectors, room_of, has_failed, device_of};
 ghost use Rattle.vol_alloc.specs.Alloc.{first_of, end_of, taken_of, free_of};
 ghost use Rattle.vol_inode.specs.Space.{need_of};
 ghost use Rattle.vol_inode.specs.Entry.{HasWidths};
 ghost use Rattle.vol_body.specs.Body.{data_block, named, block_bytes, NamesTaken, bytes_of};
-ghost use Rattle.vol_body.specs.Change.{written, used_of, IfSound, FileBecomes, LosesNoSector, EntryBecomes};
+ghost use Rattle.vol_body.specs.Bytes.{written_bytes};
+ghost use Rattle.vol_body.specs.Change.{used_of, IfSound, FileBecomes, LosesNoSector, EntryBecomes};
 ghost use Rattle.vol_log.specs.Reading.{OnlyReads};
 ghost use Rattle.vol_body.specs.Reading.{StagesAtMost};
-ghost use Rattle.vol_body.specs.internal.Writing.{WriteLeaves};
+ghost use Rattle.vol_body.specs.internal.Writing.{MirrorsAll, WriteLeaves};
+ghost use Rattle.vol_log.specs.declared.layout.TheConstants.{FIRST_AFTER_LOG};
+ghost use Rattle.vol_inode.specs.declared.version.TheConstants.{LARGEST_SIZE};
 
-use crate::locate::read_block;
-use crate::pointer_sectors::load_pointer_sectors;
+use crate::locate::read_taken;
+use crate::pointer_sectors::{PointerSectors, load_pointer_sectors, sector_by};
 use crate::source::Source;
 use crate::writing_image::Piece;
 use crate::writing_spans::write_blocks;
@@ -34,13 +37,13 @@ pub fn write_at<D: Device>(
     offset: u32,
     bytes: &Source<'_>,
 ) -> Result<(), DeviceFault>
-    requires behind { 122 ≤ inode_sector }
+    requires after_log { FIRST_AFTER_LOG ≤ inode_sector }
     requires slot { inode_sector < first_of sectors.old }
-    requires within { inode_sector < sectors_of log.old }
-    requires there { end_of sectors.old ≤ sectors_of log.old }
+    requires within { inode_sector < log_sectors log.old }
+    requires there { end_of sectors.old ≤ log_sectors log.old }
     requires room { 37 ≤ room_of log.old }
-    requires small_before { entry.old.size ≤ 8483840 }
-    requires small { offset + length bytes.now ≤ 8483840 }
+    requires small_before { entry.old.size ≤ LARGEST_SIZE }
+    requires small { offset + length bytes.now ≤ LARGEST_SIZE }
     requires few { length bytes.now ≤ 16384 }
     requires space { IfSound log.old sectors.old entry.old
         (need_of (max entry.old.size (offset + length bytes.now))
@@ -48,7 +51,7 @@ pub fn write_at<D: Device>(
     // The bytes stand in the file, and no free sector is lost.
     ensures file { IfSound log.old sectors.old entry.old (OnOk result
         (FileBecomes inode_sector sectors.old sectors.new (view log.old) (view log.new) entry.old
-        entry.new (written (bytes_of (view log.old) entry.old) offset bytes.now)
+        entry.new (written_bytes (bytes_of (view log.old) entry.old) offset bytes.now)
         × LosesNoSector sectors.old sectors.new (view log.old) (view log.new) entry.old
         entry.new)) }
     ensures entry { 0 < length bytes.now → OnOk result (EntryBecomes inode_sector
@@ -78,14 +81,14 @@ fn write_some<D: Device>(
     offset: u32,
     bytes: &Source<'_>,
 ) -> Result<(), DeviceFault>
-    requires behind { 122 ≤ inode_sector }
+    requires after_log { FIRST_AFTER_LOG ≤ inode_sector }
     requires slot { inode_sector < first_of sectors.old }
-    requires within { inode_sector < sectors_of log.old }
-    requires there { end_of sectors.old ≤ sectors_of log.old }
+    requires within { inode_sector < log_sectors log.old }
+    requires there { end_of sectors.old ≤ log_sectors log.old }
     requires room { 37 ≤ room_of log.old }
     requires working { has_failed log.old ≡ false }
-    requires small_before { entry.old.size ≤ 8483840 }
-    requires small { offset + length bytes.now ≤ 8483840 }
+    requires small_before { entry.old.size ≤ LARGEST_SIZE }
+    requires small { offset + length bytes.now ≤ LARGEST_SIZE }
     requires few { length bytes.now ≤ 16384 }
     requires some { 0 < length bytes.now }
     ensures done { IfSound log.old sectors.old entry.old
@@ -103,14 +106,15 @@ fn write_some<D: Device>(
     let end = offset + bytes.len() as u32;
     let first = offset / 512;
     let last = (end - 1) / 512;
-    let before = read_edge(log, sectors, entry, offset, end, first)?;
-    let behind = read_edge(log, sectors, entry, offset, end, last)?;
     let mut all = load_pointer_sectors(log, sectors, entry, first, last)?;
+    let edges = read_edges(log, sectors, entry, &all, offset, end)?;
+    let first_image = edges.0;
+    let last_image = edges.1;
     let piece = Piece {
         offset: offset as usize,
         bytes,
-        first: before,
-        last: behind,
+        first: first_image,
+        last: last_image,
     };
     entry.size = entry.size.max(end);
     write_blocks(log, sectors, entry, &mut all, &piece, first, last);
@@ -118,29 +122,74 @@ fn write_some<D: Device>(
     Ok(())
 }
 
-/// Reads a data block, unless it will be written whole.
+/// Reads the first and the last data block that bytes from an offset up to an end touch, unless
+/// they will be written whole. One block is read once.
+fn read_edges<D: Device>(
+    log: &mut Log<D>,
+    sectors: &Alloc,
+    entry: &Entry,
+    all: &PointerSectors,
+    offset: u32,
+    end: u32,
+) -> Result<([u8; 512], [u8; 512]), DeviceFault>
+    requires some { offset < end }
+    requires few { end ≤ offset + 16384 }
+    requires small { end ≤ LARGEST_SIZE }
+    requires there { end_of sectors.now ≤ log_sectors log.old }
+    requires working { has_failed log.old ≡ false }
+    ensures first { D.honest (device_of log.old)
+        → NamesTaken (taken_of sectors.now) (view log.old) entry.now
+        → MirrorsAll (view log.old) entry.now all.now (offset / 512) ((end - 1) / 512)
+        → (offset ≤ 512 * (offset / 512) → 512 * (offset / 512) + 512 ≤ end → ⊥)
+        → IfOk result (λ images. images.0
+        ≡ block_bytes (view log.old) (named (view log.old) entry.now (data_block (offset / 512)))) }
+    ensures last { D.honest (device_of log.old)
+        → NamesTaken (taken_of sectors.now) (view log.old) entry.now
+        → MirrorsAll (view log.old) entry.now all.now (offset / 512) ((end - 1) / 512)
+        → (offset ≤ 512 * ((end - 1) / 512) → 512 * ((end - 1) / 512) + 512 ≤ end → ⊥)
+        → IfOk result (λ images. images.1
+        ≡ block_bytes (view log.old) (named (view log.old) entry.now (data_block ((end - 1) / 512)))) }
+    ensures reads { OnlyReads log.old log.new }
+    ensures failed { has_failed log.new ≡ is_err result }
+{
+    let first = offset / 512;
+    let last = (end - 1) / 512;
+    let first_image = read_edge(log, sectors, entry, all, offset, end, first)?;
+    if first == last {
+        return Ok((first_image, first_image));
+    }
+    let last_image = read_edge(log, sectors, entry, all, offset, end, last)?;
+    Ok((first_image, last_image))
+}
+
+/// Reads a data block that bytes from an offset up to an end touch, unless it will be written
+/// whole.
 fn read_edge<D: Device>(
     log: &mut Log<D>,
     sectors: &Alloc,
     entry: &Entry,
+    all: &PointerSectors,
     offset: u32,
     end: u32,
     j: u32,
 ) -> Result<[u8; 512], DeviceFault>
     requires place { j < 16570 }
-    requires there { end_of sectors.now ≤ sectors_of log.old }
+    requires from { offset / 512 ≤ j }
+    requires near { j ≤ offset / 512 + 128 }
+    requires there { end_of sectors.now ≤ log_sectors log.old }
     requires working { has_failed log.old ≡ false }
-    ensures bytes { D.honest (device_of log.old)
+    ensures bytes { (last : ℕ) → j ≤ last → D.honest (device_of log.old)
         → NamesTaken (taken_of sectors.now) (view log.old) entry.now
+        → MirrorsAll (view log.old) entry.now all.now (offset / 512) last
         → (offset ≤ 512 * j → 512 * j + 512 ≤ end → ⊥)
         → IfOk result (λ image. image
         ≡ block_bytes (view log.old) (named (view log.old) entry.now (data_block j))) }
-    ensures whole { offset ≤ 512 * j → 512 * j + 512 ≤ end → log.new ≡ log.old }
     ensures reads { OnlyReads log.old log.new }
     ensures failed { has_failed log.new ≡ is_err result }
 {
     if offset <= 512 * j && 512 * j + 512 <= end {
         return Ok([0; 512]);
     }
-    read_block(log, sectors, entry, j)
+    let n = sector_by(sectors, entry, all, offset / 512, j);
+    read_taken(log, sectors, n)
 }

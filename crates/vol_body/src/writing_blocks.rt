@@ -1,14 +1,14 @@
 //! Writing data blocks of a file, once everything that it needs was read.
 
 ghost use Rattle.std.specs.Prelude.{◌≡◌, ◌≢◌, ◌⊎◌, ◌≤◌, ◌<◌, ◌+◌, ℕ, true, false};
-ghost use Rattle.std.specs.Prelude.{if◌then◌else◌};
-ghost use Rattle.vol_log.specs.Log.{view, sectors_of, room_of, has_failed};
+ghost use Rattle.vol_log.specs.Log.{view, log_sectors, room_of, has_failed};
 ghost use Rattle.vol_alloc.specs.Alloc.{first_of, end_of, taken_of};
-ghost use Rattle.vol_inode.specs.Space.{sectors_of as count_of};
+ghost use Rattle.vol_inode.specs.Space.{blocks_for_size};
 ghost use Rattle.vol_inode.specs.declared.entry.Entry.{Entry};
 ghost use Rattle.vol_body.specs.Body.{BlockPosition, data_block, IsPosition, named, block_bytes};
 ghost use Rattle.vol_body.specs.internal.Writing.{Mirrors, IsReady, IsMissing, Changes, Adds, OnlyPuts};
 ghost use Rattle.vol_body.specs.internal.Writing.{SameRange, PointedAt, ListedAt, IsBlank, placed};
+ghost use Rattle.vol_log.specs.declared.layout.TheConstants.{FIRST_AFTER_LOG};
 
 use crate::locate::{number_at, taken_or_zero};
 use crate::pointer_sectors::{PointerSector, with_number};
@@ -27,8 +27,8 @@ pub fn add_pointer<D: Device>(
     image: &[u8; 512],
 ) -> u32
     requires pointer { slot < 60 }
-    requires behind { 122 ≤ first_of sectors.old }
-    requires there { end_of sectors.old ≤ sectors_of log.old }
+    requires after_log { FIRST_AFTER_LOG ≤ first_of sectors.old }
+    requires there { end_of sectors.old ≤ log_sectors log.old }
     requires room { 0 < room_of log.old }
     requires working { has_failed log.old ≡ false }
     ensures added { (p : BlockPosition) → PointedAt slot p → IsBlank p image.now
@@ -61,8 +61,8 @@ pub fn add_number<D: Device>(
     image: &[u8; 512],
 ) -> u32
     requires place { i < 128 }
-    requires behind { 122 ≤ first_of sectors.old }
-    requires there { end_of sectors.old ≤ sectors_of log.old }
+    requires after_log { FIRST_AFTER_LOG ≤ first_of sectors.old }
+    requires there { end_of sectors.old ≤ log_sectors log.old }
     requires known { taken_of sectors.old above.old.number ≡ true }
     requires room { 1 < room_of log.old }
     requires working { has_failed log.old ≡ false }
@@ -100,11 +100,11 @@ pub fn write_direct_block<D: Device>(
     image: &[u8; 512],
 )
     requires direct { j < 58 }
-    requires behind { 122 ≤ first_of sectors.old }
-    requires there { end_of sectors.old ≤ sectors_of log.old }
+    requires after_log { FIRST_AFTER_LOG ≤ first_of sectors.old }
+    requires there { end_of sectors.old ≤ log_sectors log.old }
     requires room { 0 < room_of log.old }
     requires working { has_failed log.old ≡ false }
-    ensures written { IsReady sectors.old (view log.old) entry.old → j < count_of entry.old.size
+    ensures written { IsReady sectors.old (view log.old) entry.old → j < blocks_for_size entry.old.size
         → Changes sectors.old sectors.new (view log.old) (view log.new) entry.old entry.new
         (λ q. q ≡ data_block j)
         × (block_bytes (view log.new) (named (view log.new) entry.new (data_block j)) ≡ image.now) }
@@ -131,13 +131,13 @@ pub fn write_listed_block<D: Device>(
     image: &[u8; 512],
 )
     requires place { i < 128 }
-    requires behind { 122 ≤ first_of sectors.old }
-    requires there { end_of sectors.old ≤ sectors_of log.old }
+    requires after_log { FIRST_AFTER_LOG ≤ first_of sectors.old }
+    requires there { end_of sectors.old ≤ log_sectors log.old }
     requires known { taken_of sectors.old above.old.number ≡ true }
     requires room { 1 < room_of log.old }
     requires working { has_failed log.old ≡ false }
     ensures written { (e : Entry) (q : BlockPosition) (j : ℕ) → ListedAt q i (data_block j) → IsPosition q
-        → j < 16570 → j < count_of e.size → IsReady sectors.old (view log.old) e
+        → j < 16570 → j < blocks_for_size e.size → IsReady sectors.old (view log.old) e
         → Mirrors (view log.old) e q above.old.number above.old.image
         → Changes sectors.old sectors.new (view log.old) (view log.new) e e
         (λ x. (x ≡ data_block j) ⊎ (x ≡ q))

@@ -2,6 +2,7 @@
 
 ghost use Rattle.std.specs.Prelude.{◌≡◌, ◌≤◌, ◌<◌, ◌+◌, ◌-◌, ◌*◌, length, drop};
 ghost use Rattle.vol_body.specs.internal.Writing.{image_of};
+ghost use Rattle.vol_inode.specs.declared.version.TheConstants.{LARGEST_SIZE};
 
 use crate::source::Source;
 
@@ -29,8 +30,8 @@ pub fn bytes_from<'m>(piece: &Piece<'_, 'm>, j: u32) -> Source<'m>
 /// and then after them.
 pub fn image_of_block(piece: &Piece<'_, '_>, rest: &mut Source<'_>, j: u32) -> [u8; 512]
     requires before { 512 * j < piece.now.offset + length piece.now.bytes.now }
-    requires behind { piece.now.offset < 512 * j + 512 }
-    requires small { piece.now.offset + length piece.now.bytes.now ≤ 8483840 }
+    requires starts_before { piece.now.offset < 512 * j + 512 }
+    requires small { piece.now.offset + length piece.now.bytes.now ≤ LARGEST_SIZE }
     requires rest { rest.old ≡ drop (512 * j - piece.now.offset) piece.now.bytes.now }
     ensures image { result ≡ image_of piece.now.offset piece.now.bytes.now piece.now.first piece.now.last j }
     ensures rest { rest.new ≡ drop (512 * (j + 1) - piece.now.offset) piece.now.bytes.now }

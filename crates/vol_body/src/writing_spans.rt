@@ -1,14 +1,16 @@
 //! Writing all the data blocks that a write touches.
 
 ghost use Rattle.std.specs.Prelude.{◌≡◌, ◌≢◌, ◌⊎◌, ◌≤◌, ◌<◌, ◌+◌, ◌-◌, ◌*◌, ℕ, true, false, length};
-ghost use Rattle.vol_log.specs.Log.{view, sectors_of, room_of, has_failed};
+ghost use Rattle.vol_log.specs.Log.{view, log_sectors, room_of, has_failed};
 ghost use Rattle.vol_alloc.specs.Alloc.{first_of, end_of, taken_of};
-ghost use Rattle.vol_inode.specs.Space.{sectors_of as count_of};
+ghost use Rattle.vol_inode.specs.Space.{blocks_for_size};
 ghost use Rattle.vol_inode.specs.declared.entry.Entry.{Entry};
 ghost use Rattle.vol_body.specs.Body.{BlockPosition, double_indirect_block, first_served};
 ghost use Rattle.vol_body.specs.internal.Writing.{Mirrors, IsReady, Changes, Adds, IsBlockIn, HasBlocks};
 ghost use Rattle.vol_body.specs.internal.Writing.{OnlyPuts, SameRange, segment, placed, image_of};
 ghost use Rattle.vol_body.specs.internal.Writing.{MirrorsAll, KnowsAll, IsPointer, PointedAt};
+ghost use Rattle.vol_log.specs.declared.layout.TheConstants.{FIRST_AFTER_LOG};
+ghost use Rattle.vol_inode.specs.declared.version.TheConstants.{LARGEST_SIZE};
 
 use crate::locate::{DIRECT, LISTED, NUMBERS};
 use crate::pointer_sectors::{PointerSector, PointerSectors};
@@ -29,8 +31,8 @@ pub fn write_blocks<D: Device>(
     first: u32,
     last: u32,
 )
-    requires behind { 122 ≤ first_of sectors.old }
-    requires there { end_of sectors.old ≤ sectors_of log.old }
+    requires after_log { FIRST_AFTER_LOG ≤ first_of sectors.old }
+    requires there { end_of sectors.old ≤ log_sectors log.old }
     requires room { 37 ≤ room_of log.old }
     requires working { has_failed log.old ≡ false }
     requires few { last < first + 33 }
@@ -38,9 +40,9 @@ pub fn write_blocks<D: Device>(
     requires last { last < 16570 }
     requires touched_first { piece.now.offset < 512 * first + 512 }
     requires touched_last { 512 * last < piece.now.offset + length piece.now.bytes.now }
-    requires small { piece.now.offset + length piece.now.bytes.now ≤ 8483840 }
+    requires small { piece.now.offset + length piece.now.bytes.now ≤ LARGEST_SIZE }
     requires known { KnowsAll sectors.old all.old }
-    ensures written { IsReady sectors.old (view log.old) entry.old → last < count_of entry.old.size
+    ensures written { IsReady sectors.old (view log.old) entry.old → last < blocks_for_size entry.old.size
         → MirrorsAll (view log.old) entry.old all.old first last
         → Changes sectors.old sectors.new (view log.old) (view log.new) entry.old entry.new
         (λ p. IsBlockIn first (last + 1) p ⊎ IsPointer p)
@@ -88,14 +90,14 @@ fn write_direct<D: Device>(
     to: u32,
 )
     requires direct { to ≤ 58 }
-    requires behind { 122 ≤ first_of sectors.old }
-    requires there { end_of sectors.old ≤ sectors_of log.old }
+    requires after_log { FIRST_AFTER_LOG ≤ first_of sectors.old }
+    requires there { end_of sectors.old ≤ log_sectors log.old }
     requires room { to - from ≤ room_of log.old }
     requires working { has_failed log.old ≡ false }
     requires touched_first { piece.now.offset < 512 * from + 512 }
     requires touched_last { 512 * to < piece.now.offset + length piece.now.bytes.now + 512 }
-    requires small { piece.now.offset + length piece.now.bytes.now ≤ 8483840 }
-    ensures written { IsReady sectors.old (view log.old) entry.old → to ≤ count_of entry.old.size
+    requires small { piece.now.offset + length piece.now.bytes.now ≤ LARGEST_SIZE }
+    ensures written { IsReady sectors.old (view log.old) entry.old → to ≤ blocks_for_size entry.old.size
         → Changes sectors.old sectors.new (view log.old) (view log.new) entry.old entry.new
         (IsBlockIn from to)
         × HasBlocks (view log.new) entry.new from to
@@ -125,8 +127,8 @@ fn write_segment<D: Device>(
     from: u32,
     to: u32,
 )
-    requires behind { 122 ≤ first_of sectors.old }
-    requires there { end_of sectors.old ≤ sectors_of log.old }
+    requires after_log { FIRST_AFTER_LOG ≤ first_of sectors.old }
+    requires there { end_of sectors.old ≤ log_sectors log.old }
     requires room { to - from + 3 ≤ room_of log.old + placed log.old all.old.number }
     requires working { has_failed log.old ≡ false }
     requires starts { 58 + 128 * group ≤ from }
@@ -134,10 +136,10 @@ fn write_segment<D: Device>(
     requires last { to ≤ 16570 }
     requires touched_first { piece.now.offset < 512 * from + 512 }
     requires touched_last { 512 * to < piece.now.offset + length piece.now.bytes.now + 512 }
-    requires small { piece.now.offset + length piece.now.bytes.now ≤ 8483840 }
+    requires small { piece.now.offset + length piece.now.bytes.now ≤ LARGEST_SIZE }
     requires known { above.old.number ≢ 0 → taken_of sectors.old above.old.number ≡ true }
     requires known_all { all.old.number ≢ 0 → taken_of sectors.old all.old.number ≡ true }
-    ensures written { IsReady sectors.old (view log.old) entry.old → to ≤ count_of entry.old.size
+    ensures written { IsReady sectors.old (view log.old) entry.old → to ≤ blocks_for_size entry.old.size
         → (from < to → Mirrors (view log.old) entry.old (segment group) above.old.number above.old.image)
         → (186 < to → Mirrors (view log.old) entry.old double_indirect_block all.old.number all.old.image)
         → Changes sectors.old sectors.new (view log.old) (view log.new) entry.old entry.new
@@ -182,8 +184,8 @@ fn write_listed<D: Device>(
     from: u32,
     to: u32,
 )
-    requires behind { 122 ≤ first_of sectors.old }
-    requires there { end_of sectors.old ≤ sectors_of log.old }
+    requires after_log { FIRST_AFTER_LOG ≤ first_of sectors.old }
+    requires there { end_of sectors.old ≤ log_sectors log.old }
     requires known { taken_of sectors.old above.old.number ≡ true }
     requires room { to - from + 2 ≤ room_of log.old + placed log.old above.old.number }
     requires working { has_failed log.old ≡ false }
@@ -192,8 +194,8 @@ fn write_listed<D: Device>(
     requires last { to ≤ 16570 }
     requires touched_first { piece.now.offset < 512 * from + 512 }
     requires touched_last { 512 * to < piece.now.offset + length piece.now.bytes.now + 512 }
-    requires small { piece.now.offset + length piece.now.bytes.now ≤ 8483840 }
-    ensures written { (e : Entry) (g : ℕ) → start ≡ 58 + 128 * g → to ≤ count_of e.size
+    requires small { piece.now.offset + length piece.now.bytes.now ≤ LARGEST_SIZE }
+    ensures written { (e : Entry) (g : ℕ) → start ≡ 58 + 128 * g → to ≤ blocks_for_size e.size
         → IsReady sectors.old (view log.old) e
         → Mirrors (view log.old) e (segment g) above.old.number above.old.image
         → Changes sectors.old sectors.new (view log.old) (view log.new) e e
@@ -223,14 +225,14 @@ fn open_segment<D: Device>(
     group: u32,
 )
     requires place { group < 129 }
-    requires behind { 122 ≤ first_of sectors.old }
-    requires there { end_of sectors.old ≤ sectors_of log.old }
+    requires after_log { FIRST_AFTER_LOG ≤ first_of sectors.old }
+    requires there { end_of sectors.old ≤ log_sectors log.old }
     requires room { 3 ≤ room_of log.old + placed log.old all.old.number }
     requires working { has_failed log.old ≡ false }
     requires known { above.old.number ≢ 0 → taken_of sectors.old above.old.number ≡ true }
     requires known_all { all.old.number ≢ 0 → taken_of sectors.old all.old.number ≡ true }
     ensures opened { IsReady sectors.old (view log.old) entry.old
-        → 58 + 128 * group < count_of entry.old.size
+        → 58 + 128 * group < blocks_for_size entry.old.size
         → Mirrors (view log.old) entry.old (segment group) above.old.number above.old.image
         → (1 ≤ group → Mirrors (view log.old) entry.old double_indirect_block all.old.number all.old.image)
         → Adds sectors.old sectors.new (view log.old) (view log.new) entry.old entry.new
@@ -265,13 +267,13 @@ fn open_pointer<D: Device>(
     above: &mut PointerSector,
 )
     requires pointer { slot < 60 }
-    requires behind { 122 ≤ first_of sectors.old }
-    requires there { end_of sectors.old ≤ sectors_of log.old }
+    requires after_log { FIRST_AFTER_LOG ≤ first_of sectors.old }
+    requires there { end_of sectors.old ≤ log_sectors log.old }
     requires room { 0 < room_of log.old }
     requires working { has_failed log.old ≡ false }
     requires known { above.old.number ≢ 0 → taken_of sectors.old above.old.number ≡ true }
     ensures opened { (p : BlockPosition) → PointedAt slot p → 58 ≤ slot
-        → IsReady sectors.old (view log.old) entry.old → first_served p < count_of entry.old.size
+        → IsReady sectors.old (view log.old) entry.old → first_served p < blocks_for_size entry.old.size
         → Mirrors (view log.old) entry.old p above.old.number above.old.image
         → Adds sectors.old sectors.new (view log.old) (view log.new) entry.old entry.new
         (λ q. q ≡ p) p above.new.number above.new.image }

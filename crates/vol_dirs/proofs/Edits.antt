@@ -9,7 +9,7 @@ use Rattle.std.proofs.lemmas.Bool.{cases_lt, cases_eq}
 use Rattle.std.proofs.lemmas.List.Edits.{length-insert, get_or-insert_below, get_or-insert_at, get_or-insert_above, get_or-remove_below, get_or-remove_above, length-remove}
 use Rattle.std.proofs.lemmas.List.Elements.{Contains-append_left, Contains-append_right, Contains-append_cases, Contains-push, Contains-push_cases}
 use Rattle.std.proofs.lemmas.List.Sorted.{IsPermutation-insert, IsPermutation-remove, IsPermutation-sym, Contains-permutation}
-use Rattle.vol_dirs.specs.Rising.{Rises}
+use Rattle.vol_dirs.specs.internal.Rising.{Rises}
 use Rattle.vol_dirs.specs.internal.Rising.{TiesAreEqual, Adds, Drops}
 use Rattle.vol_dirs.proofs.Search.{less_back, not_itself}
 

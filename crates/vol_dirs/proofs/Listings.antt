@@ -1,10 +1,12 @@
 -- What an entry more or less does to the keys and the children.
 use Rattle.std.proofs.Common.{◌≡◌, ◌≢◌, ◌⊎◌, ◌↔◌, inl, inr, ℕ, ◌≤◌, ◌<◌, ◌^◌, List, [], sym, ◌∙◌, ap, subst, arith}
 use Rattle.std.specs.List.{Contains}
-use Rattle.vol_dirs.specs.Rising.{Rises}
+use Rattle.vol_dirs.specs.internal.Rising.{Rises}
 use Rattle.vol_dirs.specs.internal.Rising.{Adds, Drops}
-use Rattle.vol_dirs.specs.Key.{key_of, parent_in, name_in, IsPlain, IsKey}
-use Rattle.vol_dirs.specs.Listing.{Holds, IsListing, key_order, child_order}
+use Rattle.vol_dirs.specs.Key.{key_of, IsPlain}
+use Rattle.vol_dirs.specs.internal.Key.{parent_in, name_in, IsKey}
+use Rattle.vol_dirs.specs.Listing.{Holds}
+use Rattle.vol_dirs.specs.internal.Listing.{IsListing, key_order, child_order}
 use Rattle.vol_dirs.proofs.Spelled.{parent_of_key, key_is, plain_in_key, same_key}
 
 -- nothing is held

@@ -11,8 +11,10 @@ use Rattle.std.proofs.lemmas.Bool.Decides.{nat_tests}
 use Rattle.std.proofs.lemmas.Cmp.{tied_itself, nat_list_cmp_total}
 use Rattle.std.proofs.lemmas.List.Folds.{Any-from_list_any, list_any_at}
 use Rattle.vol_dirs.specs.internal.Rising.{IsLeastOver, NoneIsOver}
-use Rattle.vol_dirs.specs.Key.{key_of, parent_in, name_in}
-use Rattle.vol_dirs.specs.Listing.{Holds, IsListing, key_order, child_order}
+use Rattle.vol_dirs.specs.Key.{key_of}
+use Rattle.vol_dirs.specs.internal.Key.{parent_in, name_in}
+use Rattle.vol_dirs.specs.Listing.{Holds}
+use Rattle.vol_dirs.specs.internal.Listing.{IsListing, key_order, child_order}
 use Rattle.vol_dirs.specs.Names.{NoChildOver, IsNextChild}
 use Rattle.vol_dirs.specs.declared.dirs.Dirs.{Dirs}
 use Rattle.vol_dirs.proofs.Orders.{key_ties}

@@ -7,7 +7,7 @@ use Rattle.std.specs.declared.cmp.Ordering.{Ordering}
 use Rattle.std.specs.declared.cmp.Ordering.TheVariants.{Less, Equal, Greater}
 use Rattle.std.proofs.lemmas.Cmp.{ranked, on_total, then_total, nat_cmp_total, nat_list_cmp_total}
 use Rattle.vol_dirs.specs.internal.Rising.{TiesAreEqual}
-use Rattle.vol_dirs.specs.Listing.{key_order, child_order}
+use Rattle.vol_dirs.specs.internal.Listing.{key_order, child_order}
 
 then_ties : (a b : Ordering) → ordering_then a b ≡ Equal → (a ≡ Equal) × (b ≡ Equal)
 then_ties Less b tied = cc

@@ -8,8 +8,8 @@ use Rattle.std.proofs.lemmas.List.Folds.{Any-from_list_any}
 use Rattle.std.proofs.lemmas.List.Elements.{Contains-get_or}
 use Rattle.std.proofs.lemmas.Map.Keys.{IsDistinct-from_apart}
 use Rattle.std.proofs.lemmas.Map.Steps.{length-le_from_distinct_below}
-use Rattle.vol_dirs.specs.Key.{parent_in}
-use Rattle.vol_dirs.specs.Listing.{IsListing}
+use Rattle.vol_dirs.specs.internal.Key.{parent_in}
+use Rattle.vol_dirs.specs.internal.Listing.{IsListing}
 use Rattle.vol_dirs.proofs.Search.{not_itself}
 use Rattle.vol_dirs.proofs.Orders.{key_total, child_total}
 

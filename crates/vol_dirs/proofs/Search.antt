@@ -10,7 +10,7 @@ use Rattle.std.proofs.lemmas.Cmp.{alike_right, tied_back}
 use Rattle.std.proofs.lemmas.Bool.{cases_lt, cases_eq}
 use Rattle.std.proofs.lemmas.List.{get_or_default}
 use Rattle.std.proofs.lemmas.List.Sorted.{searchable_from_sorted}
-use Rattle.vol_dirs.specs.Rising.{Rises}
+use Rattle.vol_dirs.specs.internal.Rising.{Rises}
 use Rattle.vol_dirs.specs.internal.Rising.{IsFirstOver, IsLeastOver, NoneIsOver}
 
 module _ {X : Type 0} {order : X → X → Ordering} (o : IsTotalOrder order) where

@@ -12,6 +12,7 @@ use Rattle.vol_inode.specs.Spelling.{spelling, kind_byte, unused}
 use Rattle.vol_inode.proofs.Fields.{parent_is, name_is}
 use Rattle.vol_dirs.specs.declared.dirs.Dirs.{Dirs}
 use Rattle.vol_dirs.specs.Names.{Names, IsFree, IsNameOf, IsSpelled, IsInSlot, Shows}
+use Rattle.vol_log.specs.declared.layout.TheConstants.{FIRST_AFTER_LOG}
 
 put_same : (at k : ℕ) (bytes : List ℕ) (image : Image) → k ≡ at → put at bytes image k ≡ bytes
 put_same at k bytes image same = grind (arith, nat_tests)
@@ -124,7 +125,7 @@ shown_first v image dirs free p n t = (λ held. absurd (free t p n held), λ slo
 
 -- one slot more was read
 pub shown_next : (v : Version) (image : Image) (k : ℕ) (old new : Dirs) → Shows v image k old
-    → ((p : ℕ) (n : List ℕ) (t : ℕ) → Names new p n t ↔ (Names old p n t ⊎ (t ≡ k + 1) × IsSpelled v (image (122 + k)) p n)) → Shows v image (k + 1) new
+    → ((p : ℕ) (n : List ℕ) (t : ℕ) → Names new p n t ↔ (Names old p n t ⊎ (t ≡ k + 1) × IsSpelled v (image (FIRST_AFTER_LOG + k)) p n)) → Shows v image (k + 1) new
 shown_next v image k old new shown names p n t = (
   λ held. elim ((names p n t).0 held) [
     | inl h ↦ let slot = (shown p n t).0 h in same_slot v image image k (k + 1) p n t refl (omega (arith, slot.last)) slot

@@ -8,13 +8,14 @@ use borrow.Rule.Slice.PartMut.{put_mid}
 use Rattle.vol_inode.specs.declared.entry.Entry.{Entry}
 use Rattle.vol_inode.specs.Name.{IsName}
 use Rattle.vol_inode.specs.Entry.{HasName, name_of}
-use Rattle.vol_dirs.specs.Key.{key_of, IsPlain, before_zero, parent_in, name_in, IsKey}
+use Rattle.vol_dirs.specs.Key.{key_of, IsPlain}
+use Rattle.vol_dirs.specs.internal.Key.{before_zero, parent_in, name_in, IsKey}
 
 -- a name copied into a key of a serial and zeros
 pub name_written : (a b c d k : ℕ) (name : List ℕ) → k ≡ length name → put_mid 4 k (a ∷ b ∷ c ∷ d ∷ replicate 255 0) name ≡ a ∷ b ∷ c ∷ d ∷ (name ++ replicate (255 - length name) 0)
 name_written a b c d k name long =
-    let behind = drop-replicate k 255 0 ∙ ap (λ (q : ℕ). replicate (255 - q) 0) long in
-    ap (λ (l : List ℕ). a ∷ b ∷ c ∷ d ∷ (name ++ l)) behind
+    let beyond = drop-replicate k 255 0 ∙ ap (λ (q : ℕ). replicate (255 - q) 0) long in
+    ap (λ (l : List ℕ). a ∷ b ∷ c ∷ d ∷ (name ++ l)) beyond
 
 zeros_end : (k : ℕ) → before_zero (replicate k 0) ≡ []
 zeros_end zero = refl
@@ -25,14 +26,14 @@ before_zeros [] k none = zeros_end k
 before_zeros (zero ∷ name) k none = absurd (none (0, omega arith, refl))
 before_zeros (suc b ∷ name) k none = ap (λ (l : List ℕ). suc b ∷ l) (before_zeros name k (λ has. none (suc has.0, omega (arith, has.1), has.2)))
 
-behind : (b : ℕ) (rest : List ℕ) → (Contains rest 0 → ⊥) → (k : ℕ) → k < length (suc b ∷ rest) → get_or (suc b ∷ rest) k 0 ≡ 0 → ⊥
-behind b rest none zero lt is = omega arith
-behind b rest none (suc k) lt is = none (k, omega arith, is)
+beyond : (b : ℕ) (rest : List ℕ) → (Contains rest 0 → ⊥) → (k : ℕ) → k < length (suc b ∷ rest) → get_or (suc b ∷ rest) k 0 ≡ 0 → ⊥
+beyond b rest none zero lt is = omega arith
+beyond b rest none (suc k) lt is = none (k, omega arith, is)
 
 no_zero_before : (bytes : List ℕ) → Contains (before_zero bytes) 0 → ⊥
 no_zero_before [] has = omega (arith, has.1)
 no_zero_before (zero ∷ bytes) has = omega (arith, has.1)
-no_zero_before (suc b ∷ bytes) has = behind b (before_zero bytes) (no_zero_before bytes) has.0 has.1 has.2
+no_zero_before (suc b ∷ bytes) has = beyond b (before_zero bytes) (no_zero_before bytes) has.0 has.1 has.2
 
 module _ (p : ℕ) (n : List ℕ) (narrow : p < 2 ^ 32) (plain : IsPlain n) where
   pub parent_of_key : parent_in (key_of p n) ≡ p

@@ -1,38 +1,10 @@
 -- The two lists that names are answered from.
-use Rattle.std.specs.Prelude.{◌≡◌, ◌≤◌, ◌<◌, ◌-◌, ◌^◌, ℕ, List, Bool, true, false, length, slice_index_or}
+use Rattle.std.specs.Prelude.{◌<◌, ◌^◌, ℕ, List}
 use Rattle.std.specs.List.{Contains}
-use Rattle.std.specs.declared.cmp.Ordering.{Ordering}
-use Rattle.std.specs.Ordering.{ordering_then, nat_cmp}
-use Rattle.std.specs.Cmp.Lexicographic.{slice_cmp}
-use Rattle.vol_dirs.specs.Rising.{Rises}
-use Rattle.vol_dirs.specs.Key.{key_of, parent_in, IsPlain, IsKey}
-
--- keys go by their bytes, and then by their serials
-abbrev pub key_order : List ℕ × ℕ → List ℕ × ℕ → Ordering
-key_order a b = ordering_then (slice_cmp nat_cmp a.0 b.0) (nat_cmp a.1 b.1)
-
--- children go by their directories, and then by their serials
-abbrev pub child_order : ℕ × ℕ → ℕ × ℕ → Ordering
-child_order a b = ordering_then (nat_cmp a.0 b.0) (nat_cmp a.1 b.1)
+use Rattle.vol_dirs.specs.Key.{key_of, IsPlain}
 
 -- the keys hold an entry with this parent, name and serial
 pub record Holds (keys : List (List ℕ × ℕ)) (parent : ℕ) (name : List ℕ) (serial : ℕ) : Type 0 where
   pub narrow : parent < 2 ^ 32
   pub plain : IsPlain name
   pub held : Contains keys (key_of parent name, serial)
-
--- The keys are sorted, one for each serial in use, and the children are sorted and theirs: the parents with the serials.
-pub record IsListing (slots : ℕ) (keys : List (List ℕ × ℕ)) (children : List (ℕ × ℕ)) : Type 0 where
-  pub keys_rise : Rises key_order keys
-  pub children_rise : Rises child_order children
-  pub numbered : (key : List ℕ) (s : ℕ) → Contains keys (key, s) → (1 ≤ s) × (s ≤ slots)
-  pub formed : (key : List ℕ) (s : ℕ) → Contains keys (key, s) → IsKey key
-  pub one_each : (key other : List ℕ) (s : ℕ) → Contains keys (key, s) → Contains keys (other, s) → key ≡ other
-  pub no_more : (p s : ℕ) → Contains children (p, s) → ((key : List ℕ) → Contains keys (key, s) → parent_in key ≡ p → ⊥) → ⊥
-  pub no_fewer : (key : List ℕ) (s : ℕ) → Contains keys (key, s) → (Contains children (parent_in key, s) → ⊥) → ⊥
-
--- There is a flag for each slot, which says whether a key is held for its serial.
-pub record AreMarked (slots : ℕ) (keys : List (List ℕ × ℕ)) (flags : List Bool) : Type 0 where
-  pub count : length flags ≡ slots
-  pub held : (key : List ℕ) (s : ℕ) → Contains keys (key, s) → slice_index_or flags (s - 1) false ≡ true
-  pub only : (s : ℕ) → 1 ≤ s → slice_index_or flags (s - 1) false ≡ true → ((key : List ℕ) → Contains keys (key, s) → ⊥) → ⊥

@@ -1,26 +1,26 @@
 //! The names of a volume, answered from memory.
 
 ghost use Rattle.std.specs.Prelude.{◌≡◌, ◌≤◌, ◌<◌, ◌+◌, ◌-◌, ◌==◌, ◌⊎◌, if◌then◌else◌, ◌↔◌, ◌≢◌, ℕ, List, vec_capacity};
-ghost use Rattle.std.specs.Prelude.{true, false, IsTrue, IfOk, IfErr, IfSome, IsErr, is_err, MatchOption};
+ghost use Rattle.std.specs.Prelude.{true, false, IsTrue, IfOk, IfErr, IfSome, is_err, MatchOption};
 ghost use Rattle.vol_sector.specs.Disk.{put};
 ghost use Rattle.vol_sector.specs.Fault.{device_failed};
-ghost use Rattle.vol_log.specs.Log.{view, device_of, sectors_of, room_of, is_staged, has_failed};
+ghost use Rattle.vol_log.specs.Log.{view, device_of, log_sectors, room_of, is_staged, has_failed};
 ghost use Rattle.vol_inode.specs.Name.{IsName};
 ghost use Rattle.vol_inode.specs.Entry.{IsEntry, HasName, name_of};
 ghost use Rattle.vol_inode.specs.Spelling.{spelling, unused};
 ghost use Rattle.vol_inode.specs.declared.version.Version.{Version};
 ghost use Rattle.vol_dirs.specs.Key.{IsPlain};
-ghost use Rattle.vol_dirs.specs.Listing.{IsListing, AreMarked};
+ghost use Rattle.vol_dirs.specs.internal.Listing.{IsListing, AreMarked};
 
 use crate::keys::key_of;
 use crate::sorted::{insert, least_over, remove};
 use std::alloc::{AllocError, Global};
 use vol_inode::{Entry, Version, read_entry, write_entry};
-use vol_log::Log;
+use vol_log::{FIRST_AFTER_LOG, Log};
 use vol_sector::{Device, DeviceFault, VolumeFault};
 
 // As many slots as have sectors after the log: no log has more sectors than 32 bits can number.
-const MOST_SLOTS: u32 = u32::MAX - 122;
+const MOST_SLOTS: u32 = u32::MAX - FIRST_AFTER_LOG;
 
 /// The names of a volume's entries.
 ///
@@ -56,7 +56,7 @@ impl Dirs {
         version: Version,
         slots: u32,
     ) -> Result<Dirs, VolumeFault>
-        requires there { 122 + slots ≤ sectors_of log.old }
+        requires there { FIRST_AFTER_LOG + slots ≤ log_sectors log.old }
         ensures shows { D.honest (device_of log.old)
             → IfOk result (λ dirs. Shows version (view log.old) slots dirs) }
         ensures slots { IfOk result (λ dirs. slots_of dirs ≡ slots) }
@@ -71,7 +71,7 @@ impl Dirs {
         }
         let mut dirs = Dirs::reserve(alloc, slots)?;
         for slot in 0..slots {
-            let image = log.read(122 + slot)?;
+            let image = log.read(FIRST_AFTER_LOG + slot)?;
             dirs.hold_image(version, slot + 1, &image);
         }
         Ok(dirs)
@@ -146,7 +146,7 @@ impl Dirs {
         requires last { serial ≤ slots_of self.old }
         requires free { IsFree self.old serial }
         requires named { HasName entry.now }
-        requires there { 122 + slots_of self.old ≤ sectors_of log.old }
+        requires there { FIRST_AFTER_LOG + slots_of self.old ≤ log_sectors log.old }
         requires room { 0 < room_of log.old }
         requires working { has_failed log.old ≡ false }
         ensures names { (p : ℕ) (n : List ℕ) (s : ℕ) → Names self.new p n s
@@ -159,7 +159,7 @@ impl Dirs {
             ≡ (if k == 121 + serial then true else is_staged log.old k) }
         ensures device { device_of log.new ≡ device_of log.old }
         ensures failed { has_failed log.new ≡ false }
-        ensures sectors { sectors_of log.new ≡ sectors_of log.old }
+        ensures sectors { log_sectors log.new ≡ log_sectors log.old }
         ensures shows { (version : Version) → IsEntry version entry.now
             → Shows version (view log.old) (slots_of self.old) self.old
             → Shows version (view log.new) (slots_of self.new) self.new }
@@ -171,7 +171,7 @@ impl Dirs {
     /// Stages an unused slot in an entry's place.
     pub fn remove<D: Device>(&mut self, log: &mut Log<D>, serial: u32, entry: &Entry)
         requires held { Names self.old entry.now.parent (name_of entry.now) serial }
-        requires there { 122 + slots_of self.old ≤ sectors_of log.old }
+        requires there { FIRST_AFTER_LOG + slots_of self.old ≤ log_sectors log.old }
         requires room { 0 < room_of log.old }
         requires working { has_failed log.old ≡ false }
         ensures names { (p : ℕ) (n : List ℕ) (s : ℕ) → Names self.new p n s
@@ -184,7 +184,7 @@ impl Dirs {
             ≡ (if k == 121 + serial then true else is_staged log.old k) }
         ensures device { device_of log.new ≡ device_of log.old }
         ensures failed { has_failed log.new ≡ false }
-        ensures sectors { sectors_of log.new ≡ sectors_of log.old }
+        ensures sectors { log_sectors log.new ≡ log_sectors log.old }
         ensures shows { (version : Version)
             → Shows version (view log.old) (slots_of self.old) self.old
             → Shows version (view log.new) (slots_of self.new) self.new }
@@ -197,7 +197,7 @@ impl Dirs {
     pub fn relocate<D: Device>(&mut self, log: &mut Log<D>, serial: u32, from: &Entry, to: &Entry)
         requires held { Names self.old from.now.parent (name_of from.now) serial }
         requires named { HasName to.now }
-        requires there { 122 + slots_of self.old ≤ sectors_of log.old }
+        requires there { FIRST_AFTER_LOG + slots_of self.old ≤ log_sectors log.old }
         requires room { 0 < room_of log.old }
         requires working { has_failed log.old ≡ false }
         ensures names { (p : ℕ) (n : List ℕ) (s : ℕ) → Names self.new p n s
@@ -210,7 +210,7 @@ impl Dirs {
             ≡ (if k == 121 + serial then true else is_staged log.old k) }
         ensures device { device_of log.new ≡ device_of log.old }
         ensures failed { has_failed log.new ≡ false }
-        ensures sectors { sectors_of log.new ≡ sectors_of log.old }
+        ensures sectors { log_sectors log.new ≡ log_sectors log.old }
         ensures shows { (version : Version) → IsEntry version to.now
             → Shows version (view log.old) (slots_of self.old) self.old
             → Shows version (view log.new) (slots_of self.new) self.new }

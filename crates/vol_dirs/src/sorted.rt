@@ -1,7 +1,7 @@
 //! Vectors of items in rising order, none of which comes twice.
 
-ghost use Rattle.std.specs.Prelude.{◌≡◌, ◌<◌, ◌≤◌, ◌+◌, IfSome, IfNone, vec_len, vec_capacity};
-ghost use Rattle.vol_dirs.specs.Rising.{Rises};
+ghost use Rattle.std.specs.Prelude.{◌<◌, ◌≤◌, ◌+◌, IfSome, IfNone, vec_len, vec_capacity};
+ghost use Rattle.vol_dirs.specs.internal.Rising.{Rises};
 ghost use Rattle.vol_dirs.specs.internal.Rising.{TiesAreEqual, IsFirstOver, IsLeastOver, NoneIsOver, Adds, Drops};
 
 /// The least item over the bound, if there is one.

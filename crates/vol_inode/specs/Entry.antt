@@ -4,7 +4,7 @@ use Rattle.vol_inode.specs.declared.entry.Entry.{Entry}
 use Rattle.vol_inode.specs.declared.entry.Kind.TheVariants.{Directory}
 use Rattle.vol_inode.specs.declared.version.Version.{Version}
 use Rattle.vol_inode.specs.Name.{IsName}
-use Rattle.vol_inode.specs.Space.{sectors_of, size_limit}
+use Rattle.vol_inode.specs.Space.{blocks_for_size, size_limit}
 
 -- the name of an entry, without the bytes after it
 abbrev pub name_of : Entry → List ℕ
@@ -34,8 +34,8 @@ pub record HasSize (version : Version) (e : Entry) : Type 0 where
   pub small : e.size ≤ size_limit version
 
 -- A pointer that serves only parts at or past the size is zero.
-abbrev pub HasPointers : Entry → Type 0
-HasPointers e = (k : ℕ) → k < 60 → sectors_of e.size ≤ first_part k → slice_index e.pointers k ≡ 0
+abbrev pub UnusedPointersAreZero : Entry → Type 0
+UnusedPointersAreZero e = (k : ℕ) → k < 60 → blocks_for_size e.size ≤ first_part k → slice_index e.pointers k ≡ 0
 
 -- the rules on the values of the fields
 pub record KeepsRules (version : Version) (e : Entry) : Type 0 where
@@ -43,7 +43,7 @@ pub record KeepsRules (version : Version) (e : Entry) : Type 0 where
   -- zeros stand after the name
   pub padded : All (λ b. b ≡ 0) (drop e.name_length e.name)
   pub size : HasSize version e
-  pub pointers : HasPointers e
+  pub pointers : UnusedPointersAreZero e
 
 pub record IsEntry (version : Version) (e : Entry) : Type 0 where
   pub widths : HasWidths e

@@ -1,11 +1,12 @@
 -- The space that files take (`docs/VOLUME.md`, "Space").
 use Rattle.std.specs.Prelude.{◌+◌, ◌-◌, ◌/◌, ℕ, nat_le, if◌then◌else◌}
+use Rattle.vol_inode.specs.declared.version.TheConstants.{LARGEST_SIZE}
 use Rattle.vol_inode.specs.declared.version.Version.{Version}
 use Rattle.vol_inode.specs.declared.version.Version.TheVariants.{One, Two}
 
 -- how many sectors hold this many bytes
-abbrev pub sectors_of : ℕ → ℕ
-sectors_of size = (size + 511) / 512
+abbrev pub blocks_for_size : ℕ → ℕ
+blocks_for_size size = (size + 511) / 512
 
 -- how many pointer sectors hold this many numbers
 abbrev pub lists_of : ℕ → ℕ
@@ -14,10 +15,10 @@ lists_of count = (count + 127) / 128
 -- The sectors that a file of this size may take: those of its bytes; after the first 58 one that lists the next 128;
 -- after these one that lists the lists of all others.
 abbrev pub need_of : ℕ → ℕ
-need_of size = let count = sectors_of size in
+need_of size = let count = blocks_for_size size in
     if nat_le count 58 then count else (if nat_le count 186 then count + 1 else count + 2 + lists_of (count - 186))
 
 -- the greatest size of a file
 abbrev pub size_limit : Version → ℕ
 size_limit One = 95232
-size_limit Two = 8483840
+size_limit Two = LARGEST_SIZE

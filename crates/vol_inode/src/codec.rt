@@ -1,10 +1,10 @@
 //! Entries as sectors.
 
-ghost use Rattle.std.specs.Prelude.{◌≡◌, ◌≤◌, ◌<◌, ◌+◌, ◌∷◌, ◌↔◌, ◌^◌, ℕ, length, replicate, slice_index, IsTrue, take, drop, ◌*◌};
+ghost use Rattle.std.specs.Prelude.{◌≡◌, ◌≤◌, ◌<◌, ◌+◌, ◌∷◌, ◌↔◌, ◌^◌, ℕ, length, replicate, slice_index, take, drop, ◌*◌};
 ghost use Rattle.std.specs.Prelude.{IfOk, IfErr, IfSome, Ok, Some, None};
 ghost use Rattle.std.specs.List.{flat_map};
 ghost use Rattle.byteorder.specs.Endian.{little_bytes, little_number};
-ghost use Rattle.vol_inode.specs.Spelling.{spelling, kind_byte, unused};
+ghost use Rattle.vol_inode.specs.Spelling.{spelling, unused};
 ghost use Rattle.vol_inode.specs.Entry.{HasWidths, IsEntry};
 ghost use Rattle.vol_inode.specs.internal.Writes.{overwritten};
 ghost use Rattle.vol_inode.specs.declared.entry.Entry.{Entry};

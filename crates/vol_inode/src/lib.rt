@@ -12,4 +12,4 @@ pub use codec::{read_entry, write_entry};
 pub use entry::{Entry, Kind};
 pub use names::is_name;
 pub use space::need;
-pub use version::Version;
+pub use version::{LARGEST_SIZE, Version};

@@ -1,7 +1,7 @@
 //! The rules on one entry.
 
 ghost use Rattle.std.specs.Prelude.{◌≡◌, ◌<◌, ◌↔◌, All, IsTrue};
-ghost use Rattle.vol_inode.specs.Entry.{HasName, HasSize, HasPointers, KeepsRules, first_part};
+ghost use Rattle.vol_inode.specs.Entry.{HasName, HasSize, UnusedPointersAreZero, KeepsRules, first_part};
 
 use crate::names::is_name;
 use crate::{Entry, Kind, Version};
@@ -13,7 +13,7 @@ pub fn keeps_rules(version: Version, entry: &Entry) -> bool
     has_name(entry)
         && has_zeros(&entry.name[entry.name_length as usize..])
         && has_size(version, entry)
-        && has_pointers(entry)
+        && unused_pointers_are_zero(entry)
 }
 
 /// Whether the name is right.
@@ -45,8 +45,8 @@ fn has_size(version: Version, entry: &Entry) -> bool
 }
 
 /// Whether no pointer is set past the size.
-fn has_pointers(entry: &Entry) -> bool
-    ensures { IsTrue result ↔ HasPointers entry.now }
+fn unused_pointers_are_zero(entry: &Entry) -> bool
+    ensures { IsTrue result ↔ UnusedPointersAreZero entry.now }
 {
     let count = entry.size.div_ceil(512);
     for (k, pointer) in entry.pointers.iter().enumerate() {

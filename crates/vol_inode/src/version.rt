@@ -2,6 +2,9 @@
 
 ghost use Rattle.std.specs.Prelude.{◌≡◌};
 
+/// The greatest size of a file in bytes, in any version.
+pub const LARGEST_SIZE: u32 = 8_483_840;
+
 /// The version of a volume's format. In version 2 files may be greater.
 #[derive(Clone, Copy, Debug, PartialEq, Eq)]
 pub enum Version {
@@ -18,7 +21,7 @@ impl Version {
     {
         match self {
             Version::One => 95_232,
-            Version::Two => 8_483_840,
+            Version::Two => LARGEST_SIZE,
         }
     }
 }

@@ -4,28 +4,30 @@ use Rattle.std.proofs.lemmas.Bool.Decides.{nat_tests}
 use Rattle.std.proofs.lemmas.List.{length-map}
 use Rattle.vol_sector.specs.Disk.{Image, put, Wrote}
 use Rattle.vol_log.specs.Header.{Places, IsHeader, header_bytes}
-use Rattle.vol_log.specs.Batch.{numbers, over, logged, IsContent, SameContent, HasContent, HasEither}
-use Rattle.vol_log.specs.internal.Steps.{OutsideImages, OutsideLog, Under}
+use Rattle.vol_log.specs.Batch.{over, logged, IsContent, SameContent, HasContent, HasEither}
+use Rattle.vol_log.specs.internal.Batch.{numbers}
+use Rattle.vol_log.specs.internal.Steps.{OnlyImagesChange, OutsideLog, Under}
 use Rattle.vol_log.specs.declared.staged.Staged.{Staged}
 use Rattle.vol_log.proofs.Images.{at_once, put_same, put_other, wrote_other, over_at}
+use Rattle.vol_log.specs.declared.layout.TheConstants.{FIRST_AFTER_LOG}
 
 past : {X : Type 0} (k n : ℕ) (x y : X) → k ≢ n → (if k == n then x else y) ≡ y
 past k n x y ne = grind (arith, nat_tests)
 
 -- a batch after the log leaves the sectors before it
-over_low_at : (batch : List Staged) (k : ℕ) (m : Image) → ((j : ℕ) → j < length batch → 122 ≤ get_or (numbers batch) j 0) → k < 122 → over batch m k ≡ m k
-over_low_at [] k m behind low = refl
-over_low_at (s ∷ batch) k m behind low =
-    let ne : k ≢ s.sector = omega (arith, behind 0 (omega arith)) in
-    let rest : over batch m k ≡ m k = over_low_at batch k m (λ j lt. behind (suc j) (omega arith)) low in
+over_low_at : (batch : List Staged) (k : ℕ) (m : Image) → ((j : ℕ) → j < length batch → FIRST_AFTER_LOG ≤ get_or (numbers batch) j 0) → k < FIRST_AFTER_LOG → over batch m k ≡ m k
+over_low_at [] k m after_log low = refl
+over_low_at (s ∷ batch) k m after_log low =
+    let ne : k ≢ s.sector = omega (arith, after_log 0 (omega arith)) in
+    let rest : over batch m k ≡ m k = over_low_at batch k m (λ j lt. after_log (suc j) (omega arith)) low in
     past k s.sector s.image (over batch m k) ne ∙ rest
 
-pub over_low : (sectors : ℕ) (batch : List Staged) → Places sectors (numbers batch) → (k : ℕ) (m : Image) → k < 122 → over batch m k ≡ m k
+pub over_low : (sectors : ℕ) (batch : List Staged) → Places sectors (numbers batch) → (k : ℕ) (m : Image) → k < FIRST_AFTER_LOG → over batch m k ≡ m k
 over_low sectors batch places k m low =
     let long : length (numbers batch) ≡ length batch = length-map batch (λ (t : Staged). t.sector) in
-    over_low_at batch k m (λ j lt. places.behind j (omega (arith, long))) low
+    over_low_at batch k m (λ j lt. places.after_log j (omega (arith, long))) low
 
-logged_same : (ns : List ℕ) (at : ℕ) (x y : Image) → at + length ns ≤ 122 → ((k : ℕ) → at ≤ k → k < 122 → x k ≡ y k) → logged ns at x ≡ logged ns at y
+logged_same : (ns : List ℕ) (at : ℕ) (x y : Image) → at + length ns ≤ FIRST_AFTER_LOG → ((k : ℕ) → at ≤ k → k < FIRST_AFTER_LOG → x k ≡ y k) → logged ns at x ≡ logged ns at y
 logged_same [] at x y le same = refl
 logged_same (n ∷ ns) at x y le same =
     let here : x at ≡ y at = same at (omega arith) (omega arith) in
@@ -33,7 +35,7 @@ logged_same (n ∷ ns) at x y le same =
     (λ i. (record { sector = n; image = here i }) ∷ rest i)
 
 pub no_places : (sectors : ℕ) → Places sectors []
-no_places sectors = record { few = omega arith; behind = λ k lt. absurd (omega arith); there = λ k lt. absurd (omega arith); distinct = λ j k before lt. absurd (omega arith) }
+no_places sectors = record { few = omega arith; after_log = λ k lt. absurd (omega arith); there = λ k lt. absurd (omega arith); distinct = λ j k before lt. absurd (omega arith) }
 
 -- an image with an empty log has its own content
 pub has_own : (sectors : ℕ) (m content : Image) → IsHeader sectors (m 1) [] → SameContent m content → HasContent sectors m content
@@ -48,12 +50,12 @@ has_batch sectors batch m content header images same = record {
 }
 
 -- while the log's images are written
-pub images_keep : (sectors : ℕ) (a m : Image) → IsHeader sectors (a 1) [] → OutsideImages a m → HasContent sectors m a
+pub images_keep : (sectors : ℕ) (a m : Image) → IsHeader sectors (a 1) [] → OnlyImagesChange a m → HasContent sectors m a
 images_keep sectors a m empty outside =
     has_own sectors m a (subst (λ (b : List ℕ). IsHeader sectors b []) (sym (outside 1 (inl (omega arith)))) empty) (λ k is. ⊎_elim (λ low. outside k (inl (omega arith))) (λ high. outside k (inr high)) is)
 
 -- while the header is written
-pub header_either : (sectors : ℕ) (batch : List Staged) (header : List ℕ) (a c m : Image) → IsHeader sectors (a 1) [] → Places sectors (numbers batch) → header ≡ header_bytes (numbers batch) → OutsideImages a c → logged (numbers batch) 2 c ≡ batch → Wrote 1 header c m → HasEither sectors a (over batch a) m
+pub header_either : (sectors : ℕ) (batch : List Staged) (header : List ℕ) (a c m : Image) → IsHeader sectors (a 1) [] → Places sectors (numbers batch) → header ≡ header_bytes (numbers batch) → OnlyImagesChange a c → logged (numbers batch) 2 c ≡ batch → Wrote 1 header c m → HasEither sectors a (over batch a) m
 header_either sectors batch header a c m empty places spelled outside images (inl same) =
     inl (subst (λ (x : Image). HasContent sectors x a) (sym same) (images_keep sectors a c empty outside))
 header_either sectors batch header a c m empty places spelled outside images (inr written) =
@@ -80,7 +82,7 @@ install_keeps sectors batch a m header images under =
     (logged_same (numbers batch) 2 m a (omega (arith, header.places.few)) (λ k le lt. low k lt) ∙ images)
     (λ k is. at_once k (over batch m) (over batch a) under)
   where
-    low : (k : ℕ) → k < 122 → m k ≡ a k
+    low : (k : ℕ) → k < FIRST_AFTER_LOG → m k ≡ a k
     low k lt = sym (over_low sectors batch header.places k m lt) ∙ at_once k (over batch m) (over batch a) under ∙ over_low sectors batch header.places k a lt
 
 -- while the header is emptied

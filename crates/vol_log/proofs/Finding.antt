@@ -9,7 +9,7 @@ use Rattle.std.proofs.lemmas.List.Sorted.{IsNonDecreasingBy-from_default}
 use Rattle.std.proofs.lemmas.List.Edits.{length-insert, get_or-insert_below, get_or-insert_at, get_or-insert_above}
 use Rattle.std.proofs.lemmas.Bool.{cases_eq, cases_lt}
 use Rattle.std.proofs.lemmas.Bool.Decides.{nat_tests}
-use Rattle.vol_log.specs.Index.{Index, number_at, place_at, Rises, IsIndex}
+use Rattle.vol_log.specs.internal.Index.{Index, number_at, place_at, Rises, IsIndex}
 use Rattle.vol_log.specs.internal.Index.{IsAt, IsGapFor}
 
 pub no_index : IsIndex [] []

@@ -4,10 +4,12 @@ use Rattle.std.proofs.lemmas.List.{take_more, map_push, length-map, length-take-
 use Rattle.std.proofs.lemmas.Bool.{cases_eq}
 use Rattle.std.proofs.lemmas.Bool.Decides.{nat_tests}
 use Rattle.vol_sector.specs.Disk.{Image, put, Wrote}
-use Rattle.vol_log.specs.Batch.{numbers, over, logged}
-use Rattle.vol_log.specs.internal.Steps.{OutsideImages, Under}
+use Rattle.vol_log.specs.Batch.{over, logged}
+use Rattle.vol_log.specs.internal.Batch.{numbers}
+use Rattle.vol_log.specs.internal.Steps.{OnlyImagesChange, Under}
 use Rattle.vol_log.specs.Header.{Places}
 use Rattle.vol_log.specs.declared.staged.Staged.{Staged}
+use Rattle.vol_log.specs.declared.layout.TheConstants.{FIRST_AFTER_LOG}
 
 -- what an index past the end would give
 abbrev pub blank : Staged
@@ -27,11 +29,11 @@ pub wrote_other : (n k : ℕ) (bytes : List ℕ) (x y : Image) → Wrote n bytes
 wrote_other n k bytes x y (inl same) other = at_once k y x same
 wrote_other n k bytes x y (inr written) other = at_once k y (put n bytes x) written ∙ put_other n k bytes x other
 
-pub wrote_image : (n : ℕ) (bytes : List ℕ) → 2 ≤ n → n < 122 → (x y : Image) → Wrote n bytes x y → OutsideImages x y
+pub wrote_image : (n : ℕ) (bytes : List ℕ) → 2 ≤ n → n < FIRST_AFTER_LOG → (x y : Image) → Wrote n bytes x y → OnlyImagesChange x y
 wrote_image n bytes low high x y wrote k (inl before) = let other : k ≢ n = omega arith in wrote_other n k bytes x y wrote other
-wrote_image n bytes low high x y wrote k (inr behind) = let other : k ≢ n = omega arith in wrote_other n k bytes x y wrote other
+wrote_image n bytes low high x y wrote k (inr after_log) = let other : k ≢ n = omega arith in wrote_other n k bytes x y wrote other
 
-pub outside_joins : (x y z : Image) → OutsideImages x y → OutsideImages y z → OutsideImages x z
+pub outside_joins : (x y z : Image) → OnlyImagesChange x y → OnlyImagesChange y z → OnlyImagesChange x z
 outside_joins x y z one two k out = two k out ∙ one k out
 
 logged_push : (ns : List ℕ) (n at : ℕ) (m : Image) → logged (ns ++ n ∷ []) at m ≡ logged ns at m ++ (record { sector = n; image = m (at + length ns) }) ∷ []

@@ -2,7 +2,8 @@
 use Rattle.std.proofs.Common.{◌≡◌, ⊎_elim, ℕ, List, refl, sym, ◌∙◌, ap, subst}
 use Rattle.vol_sector.specs.Disk.{Image, Disk, Only, Leaves}
 use Rattle.vol_log.specs.Header.{IsHeader}
-use Rattle.vol_log.specs.Batch.{numbers, over, logged, SameContent, HasContent}
+use Rattle.vol_log.specs.Batch.{over, logged, SameContent, HasContent}
+use Rattle.vol_log.specs.internal.Batch.{numbers}
 use Rattle.vol_log.specs.internal.Steps.{Logged}
 use Rattle.vol_log.specs.declared.staged.Staged.{Staged}
 

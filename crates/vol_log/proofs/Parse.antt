@@ -8,6 +8,7 @@ use borrow.Rule.Slice.PartMut.{mid_of}
 use Rattle.byteorder.specs.Endian.{little_bytes, little_number}
 use Rattle.byteorder.specs.Numbers.{little_number-reads_back, little_from-take}
 use Rattle.vol_log.specs.Header.{Places, IsHeader}
+use Rattle.vol_log.specs.declared.layout.TheConstants.{FIRST_AFTER_LOG}
 
 pub same_bytes : (xs ys : List ℕ) → xs ≡ ys → pointwise nat_eq xs ys ≡ true
 same_bytes xs ys same = subst (λ (l : List ℕ). pointwise nat_eq xs l ≡ true) same (each xs)
@@ -45,10 +46,10 @@ number_is sectors header ns i fits right lt =
     ∙ number_at ns i zeros lt small
 
 -- one number more that a header may name
-pub places_more : (sectors : ℕ) (ns : List ℕ) (n : ℕ) → Places sectors ns → length ns < 120 → 122 ≤ n → n < sectors → ((k : ℕ) → k < length ns → get_or ns k 0 ≢ n) → Places sectors (ns ++ n ∷ [])
-places_more sectors ns n places short behind there new = record {
+pub places_more : (sectors : ℕ) (ns : List ℕ) (n : ℕ) → Places sectors ns → length ns < 120 → FIRST_AFTER_LOG ≤ n → n < sectors → ((k : ℕ) → k < length ns → get_or ns k 0 ≢ n) → Places sectors (ns ++ n ∷ [])
+places_more sectors ns n places short after_log there new = record {
   few = omega (arith, length_push ns n);
-  behind = λ k lt. at k (λ (x : ℕ). 122 ≤ x) lt (λ l. places.behind k l) behind;
+  after_log = λ k lt. at k (λ (x : ℕ). FIRST_AFTER_LOG ≤ x) lt (λ l. places.after_log k l) after_log;
   there = λ k lt. at k (λ (x : ℕ). x < sectors) lt (λ l. places.there k l) there;
   distinct = λ j k before lt. differ j k before lt;
 }

@@ -2,7 +2,7 @@
 use Rattle.std.proofs.Common.{◌≡◌, inl, inr, ⊎_elim, Bool, false, sym, ◌∙◌, ap, arith}
 use Rattle.vol_sector.specs.Disk.{Disk, Leaves, counted}
 use Rattle.vol_sector.specs.declared.device.Device.{Ghosts}
-use Rattle.vol_log.specs.Log.{view, staged_of, device_of, sectors_of, has_failed}
+use Rattle.vol_log.specs.Log.{view, staged_of, device_of, log_sectors, has_failed}
 use Rattle.vol_log.specs.declared.log.Log.{Log}
 use Rattle.vol_log.specs.Reading.{OnlyReads}
 
@@ -24,7 +24,7 @@ module _ {D : Type 0} {g : Ghosts D} where
     staged = λ i. staged_of log;
     seen = λ h i. (g.disk (device_of log)).seen;
     crash = λ h. leaves_same (g.disk (device_of log));
-    sectors = λ i. sectors_of log;
+    sectors = λ i. log_sectors log;
     honest = (λ h. h, λ h. h);
     size = λ i. g.size (device_of log);
     failures = λ working. ap (λ (b : Bool). counted b (g.failures (device_of log))) (sym working);

@@ -5,13 +5,15 @@ use Rattle.std.proofs.lemmas.Bool.{cases_eq}
 use Rattle.std.proofs.lemmas.Bool.Decides.{nat_tests}
 use Rattle.vol_sector.specs.Disk.{Image, put}
 use Rattle.vol_log.specs.Header.{Places}
-use Rattle.vol_log.specs.Batch.{numbers, over, holds}
+use Rattle.vol_log.specs.Batch.{over, holds}
+use Rattle.vol_log.specs.internal.Batch.{numbers}
 use Rattle.vol_log.specs.declared.staged.Staged.{Staged}
-use Rattle.vol_log.specs.Index.{Index, place_at, IsIndex}
+use Rattle.vol_log.specs.internal.Index.{Index, place_at, IsIndex}
 use Rattle.vol_log.specs.internal.Index.{IsAt, IsGapFor}
 use Rattle.vol_log.proofs.Images.{blank}
 use Rattle.vol_log.proofs.Parse.{places_more}
 use Rattle.vol_log.proofs.Finding.{place_inside, place_is, only_place, in_no_place}
+use Rattle.vol_log.specs.declared.layout.TheConstants.{FIRST_AFTER_LOG}
 
 sector_is : (batch : List Staged) (p : ℕ) → p < length batch → (get_or batch p blank).sector ≡ get_or (numbers batch) p 0
 sector_is batch p lt = sym (get_or-map (λ (t : Staged). t.sector) batch p blank 0 lt)
@@ -96,11 +98,11 @@ numbers_replaced batch i new lt is =
     ∙ ap (λ (n : ℕ). set (numbers batch) i n) (sym is ∙ sym (get_or-map (λ (t : Staged). t.sector) batch i blank 0 lt))
     ∙ set-get_or (numbers batch) i 0
 
-pub places_push : (s : ℕ) (batch : List Staged) (new : Staged) → Places s (numbers batch) → length batch < 120 → 122 ≤ new.sector → new.sector < s → ((j : ℕ) → j < length batch → (get_or batch j blank).sector ≢ new.sector) → Places s (numbers (batch ++ new ∷ []))
-places_push s batch new places short behind there before =
+pub places_push : (s : ℕ) (batch : List Staged) (new : Staged) → Places s (numbers batch) → length batch < 120 → FIRST_AFTER_LOG ≤ new.sector → new.sector < s → ((j : ℕ) → j < length batch → (get_or batch j blank).sector ≢ new.sector) → Places s (numbers (batch ++ new ∷ []))
+places_push s batch new places short after_log there before =
     let long : length (numbers batch) ≡ length batch = length-map batch (λ (t : Staged). t.sector) in
     subst (Places s) (sym (map_push (λ (t : Staged). t.sector) batch new))
-    (places_more s (numbers batch) new.sector places (omega (arith, long)) behind there
+    (places_more s (numbers batch) new.sector places (omega (arith, long)) after_log there
     (λ k lt is. let l : k < length batch = omega (arith, long) in before k l (sym (get_or-map (λ (t : Staged). t.sector) batch k blank 0 l) ∙ is)))
 
 either_test : (k a : ℕ) (rest : Bool) → rest ≡ true → (if k == a then true else rest) ≡ true

@@ -1,11 +1,9 @@
 -- What a log stands for (`docs/VOLUME.md`, "Log").
-use Rattle.std.specs.Prelude.{◌≡◌, ◌⊎◌, ◌+◌, ◌≤◌, ◌<◌, ◌==◌, ℕ, List, [], ◌∷◌, map, Bool, true, false, if◌then◌else◌}
+use Rattle.std.specs.Prelude.{◌≡◌, ◌⊎◌, ◌+◌, ◌≤◌, ◌<◌, ◌==◌, ℕ, List, [], ◌∷◌, Bool, true, false, if◌then◌else◌}
 use Rattle.vol_sector.specs.Disk.{Image, Disk, Only}
 use Rattle.vol_log.specs.Header.{IsHeader}
 use Rattle.vol_log.specs.declared.staged.Staged.{Staged}
-
-abbrev pub numbers : List Staged → List ℕ
-numbers batch = map (λ s. s.sector) batch
+use Rattle.vol_log.specs.declared.layout.TheConstants.{FIRST_AFTER_LOG}
 
 -- the batch put over an image
 abbrev pub over : List Staged → Image → Image
@@ -24,7 +22,7 @@ logged (n ∷ ns) at image = record { sector = n; image = image at } ∷ logged 
 
 -- all sectors but the log's own
 abbrev pub IsContent : ℕ → Type 0
-IsContent k = (k < 1) ⊎ (122 ≤ k)
+IsContent k = (k < 1) ⊎ (FIRST_AFTER_LOG ≤ k)
 
 abbrev pub SameContent : Image → Image → Type 0
 SameContent one other = (k : ℕ) → IsContent k → one k ≡ other k

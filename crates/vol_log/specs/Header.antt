@@ -2,6 +2,7 @@
 use Rattle.std.specs.Prelude.{◌≡◌, ◌≢◌, ◌-◌, ◌*◌, ◌≤◌, ◌<◌, ◌++◌, ℕ, List, length, replicate, slice_index}
 use Rattle.std.specs.List.{flat_map}
 use Rattle.byteorder.specs.Endian.{little_bytes}
+use Rattle.vol_log.specs.declared.layout.TheConstants.{FIRST_AFTER_LOG}
 
 -- the header's bytes: the count, the numbers, zeros
 abbrev pub header_bytes : List ℕ → List ℕ
@@ -10,7 +11,7 @@ header_bytes numbers = little_bytes 4 (length numbers) ++ flat_map (little_bytes
 -- sectors that a log may be for: at most 120, after the log, on the disk, all different
 pub record Places (sectors : ℕ) (numbers : List ℕ) : Type 0 where
   pub few : length numbers ≤ 120
-  pub behind : (k : ℕ) → k < length numbers → 122 ≤ slice_index numbers k
+  pub after_log : (k : ℕ) → k < length numbers → FIRST_AFTER_LOG ≤ slice_index numbers k
   pub there : (k : ℕ) → k < length numbers → slice_index numbers k < sectors
   pub distinct : (j k : ℕ) → j < k → k < length numbers → slice_index numbers j ≢ slice_index numbers k
 

@@ -8,7 +8,7 @@ use Rattle.vol_log.specs.declared.log.Log.{Log}
 
 -- the sectors staged since the last commit
 abbrev pub staged_of : {D : Type 0} {g : Ghosts D} → Log D g → List Staged
-staged_of log = log.batch.items
+staged_of log = log.batch.staged.items
 
 -- the device as the operations left it
 abbrev pub device_of : {D : Type 0} {g : Ghosts D} → Log D g → D
@@ -19,8 +19,8 @@ abbrev pub view : {D : Type 0} {g : Ghosts D} → Log D g → Image
 view {g = g} log = over (staged_of log) (g.disk log.device).seen
 
 -- how many sectors the volume has
-abbrev pub sectors_of : {D : Type 0} {g : Ghosts D} → Log D g → ℕ
-sectors_of log = log.sectors
+abbrev pub log_sectors : {D : Type 0} {g : Ghosts D} → Log D g → ℕ
+log_sectors log = log.sectors
 
 -- how many sectors may still be staged
 abbrev pub room_of : {D : Type 0} {g : Ghosts D} → Log D g → ℕ

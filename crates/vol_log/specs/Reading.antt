@@ -2,7 +2,7 @@
 use Rattle.std.specs.Prelude.{◌≡◌, ◌↔◌, false}
 use Rattle.vol_sector.specs.Disk.{Leaves, counted}
 use Rattle.vol_sector.specs.declared.device.Device.{Ghosts}
-use Rattle.vol_log.specs.Log.{view, staged_of, device_of, sectors_of, has_failed}
+use Rattle.vol_log.specs.Log.{view, staged_of, device_of, log_sectors, has_failed}
 use Rattle.vol_log.specs.declared.log.Log.{Log}
 
 -- Its content and what is staged stay, and a crash leaves nothing new. At most one operation fails, and the log then.
@@ -11,7 +11,7 @@ pub record OnlyReads {D : Type 0} {g : Ghosts D} (old new : Log D g) : Type 0 wh
   pub staged : staged_of new ≡ staged_of old
   pub seen : g.honest (device_of old) → (g.disk (device_of new)).seen ≡ (g.disk (device_of old)).seen
   pub crash : g.honest (device_of old) → Leaves (g.disk (device_of old)) (g.disk (device_of new)) (λ c. ⊥)
-  pub sectors : sectors_of new ≡ sectors_of old
+  pub sectors : log_sectors new ≡ log_sectors old
   pub honest : g.honest (device_of old) ↔ g.honest (device_of new)
   pub size : g.size (device_of new) ≡ g.size (device_of old)
   pub failures : has_failed old ≡ false → g.failures (device_of new) ≡ counted (has_failed new) (g.failures (device_of old))

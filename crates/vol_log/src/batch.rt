@@ -1,77 +1,102 @@
 //! The batch: what is staged, as a list in staging order, and the index that finds it.
 
-ghost use Rattle.std.specs.Prelude.{◌≡◌, ◌≢◌, ◌≤◌, ◌<◌, ◌+◌, ◌==◌, List, [], ℕ, length, IfOk, MatchOption};
+ghost use Rattle.std.specs.Prelude.{◌≡◌, ◌≤◌, ◌<◌, ◌+◌, ◌==◌, [], ℕ, IfOk, MatchOption};
 ghost use Rattle.std.specs.Prelude.{vec_len, vec_capacity, true, if◌then◌else◌, is_some};
 ghost use Rattle.vol_sector.specs.Disk.{Image, put};
 ghost use Rattle.vol_log.specs.Header.{Places};
-ghost use Rattle.vol_log.specs.Batch.{numbers, over, holds};
-ghost use Rattle.vol_log.specs.Index.{IsIndex};
+ghost use Rattle.vol_log.specs.Batch.{over, holds};
+ghost use Rattle.vol_log.specs.internal.Batch.{numbers};
+ghost use Rattle.vol_log.specs.internal.Index.{IsIndex};
+ghost use Rattle.vol_log.specs.declared.layout.TheConstants.{FIRST_AFTER_LOG};
 
 use crate::Staged;
 use crate::index::search;
 use crate::layout::IMAGES;
 use std::alloc::{AllocError, Global};
 
-/// An empty batch and its index, with room for all that may be staged.
-pub fn reserve(alloc: Global) -> Result<(Vec<Staged>, Vec<(u32, usize)>), AllocError>
-    ensures batch { IfOk result (λ r. (r.0.items ≡ []) × (120 ≤ vec_capacity r.0)) }
-    ensures index { IfOk result (λ r. (r.1.items ≡ []) × (120 ≤ vec_capacity r.1)) }
-{
-    Ok((
-        Vec::with_capacity(alloc, IMAGES)?,
-        Vec::with_capacity(alloc, IMAGES)?,
-    ))
+/// The sectors that wait for their commit, and the index that finds them.
+#[derive(Drop)]
+pub struct Batch {
+    pub staged: Vec<Staged>,
+    pub index: Vec<(u32, usize)>,
 }
 
-/// What is staged for the sector, if anything is.
-pub fn staged_image(batch: &[Staged], index: &[(u32, usize)], n: u32) -> Option<[u8; 512]>
-    requires { IsIndex (numbers batch.now) index.now }
-    ensures image { (m : Image) → MatchOption result (over batch.now m n ≡ m n)
-        (λ bytes. over batch.now m n ≡ bytes) }
-    ensures staged { is_some result ≡ holds batch.now n }
-{
-    match search(index, n) {
-        Ok(at) => {
-            let (_, place) = index[at];
-            Some(batch[place].image)
-        }
-        Err(_) => None,
+impl Batch {
+    /// An empty batch, with room for all that may be staged.
+    pub fn reserve(alloc: Global) -> Result<Batch, AllocError>
+        ensures staged { IfOk result (λ b. (b.staged.items ≡ [])
+            × (120 ≤ vec_capacity b.staged)) }
+        ensures index { IfOk result (λ b. (b.index.items ≡ []) × (120 ≤ vec_capacity b.index)) }
+    {
+        Ok(Batch {
+            staged: Vec::with_capacity(alloc, IMAGES)?,
+            index: Vec::with_capacity(alloc, IMAGES)?,
+        })
     }
-}
 
-/// Puts the sector into the batch, in the place of what was staged for it.
-pub fn replace_staged(batch: &mut Vec<Staged>, index: &mut Vec<(u32, usize)>, new: Staged)
-    requires room { vec_len batch.old < vec_capacity batch.old }
-    requires index_room { vec_len index.old < vec_capacity index.old }
-    requires indexed { IsIndex (numbers batch.old.items) index.old.items }
-    ensures over { (m : Image) → over batch.new.items m
-        ≡ put new.sector new.image (over batch.old.items m) }
-    ensures places { (s : ℕ) → Places s (numbers batch.old.items) → vec_len batch.old < 120
-        → 122 ≤ new.sector → new.sector < s
-        → Places s (numbers batch.new.items) }
-    ensures len { vec_len batch.new
-        ≡ (if holds batch.old.items new.sector then vec_len batch.old else vec_len batch.old + 1) }
-    ensures holds { (k : ℕ) → holds batch.new.items k
-        ≡ (if k == new.sector then true else holds batch.old.items k) }
-    ensures indexed { IsIndex (numbers batch.new.items) index.new.items }
-    ensures capacity { vec_capacity batch.old ≤ vec_capacity batch.new }
-    ensures index_capacity { vec_capacity index.old ≤ vec_capacity index.new }
-{
-    match search(index, new.sector) {
-        Ok(at) => {
-            let (_, place) = index[at];
-            batch[place] = new;
-        }
-        Err(at) => {
-            let place = batch.len();
-            match index.insert(at, (new.sector, place)) {
-                Ok(()) => {}
-                Err(_) => {}
+    /// What is staged for the sector, if anything is.
+    pub fn image_for(&self, n: u32) -> Option<[u8; 512]>
+        requires { IsIndex (numbers self.now.staged.items) self.now.index.items }
+        ensures image { (m : Image) → MatchOption result (over self.now.staged.items m n ≡ m n)
+            (λ bytes. over self.now.staged.items m n ≡ bytes) }
+        ensures staged { is_some result ≡ holds self.now.staged.items n }
+    {
+        match search(&self.index, n) {
+            Ok(at) => {
+                let (_, place) = self.index[at];
+                Some(self.staged[place].image)
             }
-            match batch.push(new) {
-                Ok(()) => {}
-                Err(_) => {}
+            Err(_) => None,
+        }
+    }
+
+    /// Puts the sector into the batch, in the place of what was staged for it.
+    pub fn replace(&mut self, new: Staged)
+        requires room { vec_len self.old.staged < vec_capacity self.old.staged }
+        requires index_room { vec_len self.old.index < vec_capacity self.old.index }
+        requires indexed { IsIndex (numbers self.old.staged.items) self.old.index.items }
+        ensures over { (m : Image) → over self.new.staged.items m
+            ≡ put new.sector new.image (over self.old.staged.items m) }
+        ensures places { (s : ℕ) → Places s (numbers self.old.staged.items)
+            → vec_len self.old.staged < 120
+            → FIRST_AFTER_LOG ≤ new.sector → new.sector < s
+            → Places s (numbers self.new.staged.items) }
+        ensures len { vec_len self.new.staged
+            ≡ (if holds self.old.staged.items new.sector then vec_len self.old.staged
+            else vec_len self.old.staged + 1) }
+        ensures holds { (k : ℕ) → holds self.new.staged.items k
+            ≡ (if k == new.sector then true else holds self.old.staged.items k) }
+        ensures indexed { IsIndex (numbers self.new.staged.items) self.new.index.items }
+        ensures capacity { vec_capacity self.old.staged ≤ vec_capacity self.new.staged }
+        ensures index_capacity { vec_capacity self.old.index ≤ vec_capacity self.new.index }
+    {
+        match search(&self.index, new.sector) {
+            Ok(at) => {
+                let (_, place) = self.index[at];
+                self.staged[place] = new;
+            }
+            Err(at) => {
+                let place = self.staged.len();
+                match self.index.insert(at, (new.sector, place)) {
+                    Ok(()) => {}
+                    Err(_) => {}
+                }
+                match self.staged.push(new) {
+                    Ok(()) => {}
+                    Err(_) => {}
+                }
             }
         }
+    }
+
+    /// Nothing waits any more.
+    pub fn clear(&mut self)
+        ensures staged { self.new.staged.items ≡ [] }
+        ensures index { self.new.index.items ≡ [] }
+        ensures capacity { vec_capacity self.old.staged ≤ vec_capacity self.new.staged }
+        ensures index_capacity { vec_capacity self.old.index ≤ vec_capacity self.new.index }
+    {
+        self.staged.clear();
+        self.index.clear();
     }
 }

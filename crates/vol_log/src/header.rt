@@ -1,14 +1,26 @@
-//! The header as the log's opening reads it.
+//! The header of the log, as commits write it and as openings read it.
 
 ghost use Rattle.std.specs.Prelude.{◌≡◌, ◌≤◌, ◌<◌, List, [], ℕ, length, vec_capacity, slice_index};
 ghost use Rattle.std.specs.Prelude.{IsTrue};
-ghost use Rattle.vol_log.specs.Header.{IsHeader};
-ghost use Rattle.vol_log.specs.Batch.{numbers};
+ghost use Rattle.vol_log.specs.Header.{IsHeader, header_bytes};
+ghost use Rattle.vol_log.specs.internal.Batch.{numbers};
 
 use crate::Staged;
-use crate::layout::{FIRST_BEHIND, IMAGES};
-use crate::steps::header_image;
+use crate::layout::{FIRST_AFTER_LOG, IMAGES};
 use byteorder::{ByteOrder, LittleEndian};
+
+/// The header of a log that holds the batch.
+pub fn header_image(batch: &[Staged]) -> [u8; 512]
+    requires { length batch.now ≤ 120 }
+    ensures { result ≡ header_bytes (numbers batch.now) }
+{
+    let mut header = [0; 512];
+    LittleEndian::write_u32(&mut header, batch.len() as u32);
+    for (i, staged) in batch.iter().enumerate() {
+        LittleEndian::write_u32(&mut header[4 + 4 * i..], staged.sector);
+    }
+    header
+}
 
 /// Reads the sectors that the header names into the batch, or says that it is no right header.
 pub fn read_header(header: &[u8; 512], sectors: u32, batch: &mut Vec<Staged>) -> bool
@@ -25,7 +37,7 @@ pub fn read_header(header: &[u8; 512], sectors: u32, batch: &mut Vec<Staged>) ->
     }
     for i in 0..count {
         let sector = LittleEndian::read_u32(&header[4 + 4 * i..]);
-        if sector < FIRST_BEHIND || sectors <= sector || is_staged(batch, sector) {
+        if sector < FIRST_AFTER_LOG || sectors <= sector || is_staged(batch, sector) {
             return false;
         }
         let staged = Staged {

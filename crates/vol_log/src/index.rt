@@ -3,7 +3,7 @@
 
 ghost use Rattle.std.specs.Prelude.{IfErr, IfOk};
 ghost use Rattle.vol_log.specs.internal.Index.{IsAt, IsGapFor};
-ghost use Rattle.vol_log.specs.Index.{Rises};
+ghost use Rattle.vol_log.specs.internal.Index.{Rises};
 
 /// Where the sector's entry is, or where it would go.
 pub fn search(index: &[(u32, usize)], sector: u32) -> Result<usize, usize>

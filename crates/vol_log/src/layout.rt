@@ -13,4 +13,4 @@ pub const FIRST_IMAGE: u32 = 2;
 pub const IMAGES: usize = 120;
 
 /// The first sector after the log.
-pub const FIRST_BEHIND: u32 = 122;
+pub const FIRST_AFTER_LOG: u32 = 122;

@@ -10,5 +10,6 @@ mod replay;
 mod staged;
 mod steps;
 
+pub use layout::{FIRST_AFTER_LOG, HEADER};
 pub use log::Log;
 pub use staged::Staged;

@@ -1,18 +1,20 @@
 //! The log over a device, with the sectors that are staged.
 
-ghost use Rattle.std.specs.Prelude.{◌≡◌, ◌⊎◌, ◌≤◌, ◌<◌, ◌+◌, ◌-◌, ◌==◌, ◌↔◌, ℕ};
-ghost use Rattle.std.specs.Prelude.{List, [], Bool, false, true};
-ghost use Rattle.std.specs.Prelude.{length, OnOk, OnErr, IfOk, IfErr, IsOk, IsErr, is_err};
+ghost use Rattle.std.specs.Prelude.{◌≡◌, ◌⊎◌, ◌≤◌, ◌<◌, ◌-◌, ◌==◌, ◌↔◌, ℕ};
+ghost use Rattle.std.specs.Prelude.{[], false, true};
+ghost use Rattle.std.specs.Prelude.{OnOk, OnErr, IfOk, IfErr, IsOk, IsErr, is_err};
 ghost use Rattle.std.specs.Prelude.{if◌then◌else◌};
-ghost use Rattle.std.specs.Prelude.{vec_len, vec_capacity};
+ghost use Rattle.std.specs.Prelude.{vec_capacity};
 ghost use Rattle.vol_sector.specs.Disk.{Image, Leaves, put, counted, OneMore};
 ghost use Rattle.vol_sector.specs.Fault.{is_device};
 ghost use Rattle.vol_log.specs.Header.{Places};
-ghost use Rattle.vol_log.specs.Index.{IsIndex};
-ghost use Rattle.vol_log.specs.Batch.{numbers, over, SameContent, HasContent, HasEither, Settled};
+ghost use Rattle.vol_log.specs.internal.Index.{IsIndex};
+ghost use Rattle.vol_log.specs.Batch.{SameContent, HasContent, HasEither, Settled};
+ghost use Rattle.vol_log.specs.internal.Batch.{numbers};
+ghost use Rattle.vol_log.specs.declared.layout.TheConstants.{FIRST_AFTER_LOG};
 
 use crate::Staged;
-use crate::batch::{replace_staged, reserve, staged_image};
+use crate::batch::Batch;
 use crate::layout::IMAGES;
 use crate::replay::replay;
 use crate::steps::{commit_batch, write_front};
@@ -28,20 +30,19 @@ use vol_sector::{Device, DeviceFault, Refused, VolumeFault};
 pub struct Log<D: Device> {
     device: D,
     sectors: u32,
-    batch: Vec<Staged>,
-    index: Vec<(u32, usize)>,
+    batch: Batch,
     failed: bool,
-    ghost geometry: { 122 < sectors },
+    ghost geometry: { FIRST_AFTER_LOG < sectors },
     ghost on_device: { sectors ≤ D.size device },
-    ghost placed: { Places sectors (numbers batch.items) },
-    ghost reserved: { 120 ≤ vec_capacity batch },
-    ghost indexed: { IsIndex (numbers batch.items) index.items },
-    ghost index_reserved: { 120 ≤ vec_capacity index },
+    ghost placed: { Places sectors (numbers batch.staged.items) },
+    ghost reserved: { 120 ≤ vec_capacity batch.staged },
+    ghost indexed: { IsIndex (numbers batch.staged.items) batch.index.items },
+    ghost index_reserved: { 120 ≤ vec_capacity batch.index },
     ghost settled: { D.honest device → failed ≡ false → Settled sectors (D.disk device) },
 }
 
 impl<D: Device> Log<D> {
-    ghost use Rattle.vol_log.specs.Log.{view, staged_of, device_of, sectors_of, room_of};
+    ghost use Rattle.vol_log.specs.Log.{view, staged_of, device_of, log_sectors, room_of};
     ghost use Rattle.vol_log.specs.Log.{is_staged, has_failed};
 
     /// Opens the log of a device's first sectors, and installs what it holds. It begins with a
@@ -51,10 +52,10 @@ impl<D: Device> Log<D> {
     /// header; as `Device` where an operation failed; and as `Memory`. It reserves the memory for
     /// all later calls.
     pub fn open(alloc: Global, mut device: D, sectors: u32) -> Result<Log<D>, Refused<D>>
-        requires geometry { 122 < sectors }
+        requires geometry { FIRST_AFTER_LOG < sectors }
         requires on_device { sectors ≤ D.size device }
         ensures fresh { IfOk result (λ log. (has_failed log ≡ false) × (staged_of log ≡ [])
-            × (sectors_of log ≡ sectors)) }
+            × (log_sectors log ≡ sectors)) }
         ensures content { (m : Image) → D.honest device
             → HasContent sectors (D.disk device).seen m
             → IfOk result (λ log. SameContent (view log) m) }
@@ -88,8 +89,8 @@ impl<D: Device> Log<D> {
             × (D.size r.device ≡ D.size device)
             × (D.failures r.device ≡ counted (is_device r.fault) (D.failures device))) }
     {
-        let (mut batch, index) = match reserve(alloc) {
-            Ok(reserved) => reserved,
+        let mut batch = match Batch::reserve(alloc) {
+            Ok(batch) => batch,
             Err(_) => {
                 return Err(Refused {
                     device,
@@ -97,12 +98,11 @@ impl<D: Device> Log<D> {
                 });
             }
         };
-        match replay(&mut device, sectors, &mut batch) {
+        match replay(&mut device, sectors, &mut batch.staged) {
             Ok(()) => Ok(Log {
                 device,
                 sectors,
                 batch,
-                index,
                 failed: false,
             }),
             Err(fault) => Err(Refused { device, fault }),
@@ -113,7 +113,7 @@ impl<D: Device> Log<D> {
     pub fn room(&self) -> usize
         ensures { result ≡ room_of self.now }
     {
-        IMAGES - self.batch.len()
+        IMAGES - self.batch.staged.len()
     }
 
     /// Has a device operation failed since the log was opened?
@@ -126,7 +126,7 @@ impl<D: Device> Log<D> {
     /// The sector with what is staged for it. Where the log has failed, it answers that. It does
     /// one device operation, or none where the log has failed or the sector is staged.
     pub fn read(&mut self, n: u32) -> Result<[u8; 512], DeviceFault>
-        requires { n < sectors_of self.old }
+        requires { n < log_sectors self.old }
         ensures value { D.honest (device_of self.old)
             → IfOk result (λ bytes. bytes ≡ view self.old n) }
         ensures view { D.honest (device_of self.old) → view self.new ≡ view self.old }
@@ -143,7 +143,7 @@ impl<D: Device> Log<D> {
         ensures idle { has_failed self.old ≡ true
             → (device_of self.new ≡ device_of self.old) × IsErr result }
         ensures staged { staged_of self.new ≡ staged_of self.old }
-        ensures sectors { sectors_of self.new ≡ sectors_of self.old }
+        ensures sectors { log_sectors self.new ≡ log_sectors self.old }
         ensures honest { D.honest (device_of self.old) ↔ D.honest (device_of self.new) }
         ensures size { D.size (device_of self.new) ≡ D.size (device_of self.old) }
         ensures failures { has_failed self.old ≡ false → D.failures (device_of self.new)
@@ -152,7 +152,7 @@ impl<D: Device> Log<D> {
         if self.failed {
             return Err(DeviceFault);
         }
-        match staged_image(&self.batch, &self.index, n) {
+        match self.batch.image_for(n) {
             Some(image) => Ok(image),
             None => {
                 let outcome = self.device.read(n);
@@ -165,8 +165,8 @@ impl<D: Device> Log<D> {
     /// Stages a sector after the log, in place of what was staged for it before. It takes one of
     /// the 120 places, unless the sector has one already.
     pub fn stage(&mut self, n: u32, image: &[u8; 512])
-        requires place { 122 ≤ n }
-        requires there { n < sectors_of self.old }
+        requires place { FIRST_AFTER_LOG ≤ n }
+        requires there { n < log_sectors self.old }
         requires room { 0 < room_of self.old }
         requires working { has_failed self.old ≡ false }
         ensures view { view self.new ≡ put n image.now (view self.old) }
@@ -176,13 +176,13 @@ impl<D: Device> Log<D> {
             ≡ (if k == n then true else is_staged self.old k) }
         ensures device { device_of self.new ≡ device_of self.old }
         ensures failed { has_failed self.new ≡ false }
-        ensures sectors { sectors_of self.new ≡ sectors_of self.old }
+        ensures sectors { log_sectors self.new ≡ log_sectors self.old }
     {
         let staged = Staged {
             sector: n,
             image: *image,
         };
-        replace_staged(&mut self.batch, &mut self.index, staged);
+        self.batch.replace(staged);
     }
 
     /// Puts what is staged onto the disk, all of it or nothing, whenever it is stopped. After its
@@ -194,11 +194,11 @@ impl<D: Device> Log<D> {
     /// it answers that and does no device operation.
     pub fn commit(&mut self) -> Result<(), DeviceFault>
         ensures done { OnOk result (D.honest (device_of self.old)
-            → Settled (sectors_of self.old) (D.disk (device_of self.new))
+            → Settled (log_sectors self.old) (D.disk (device_of self.new))
             × SameContent (D.disk (device_of self.new)).seen (view self.old)) }
         ensures crash { D.honest (device_of self.old)
             → Leaves (D.disk (device_of self.old)) (D.disk (device_of self.new))
-            (HasEither (sectors_of self.old) (D.disk (device_of self.old)).seen
+            (HasEither (log_sectors self.old) (D.disk (device_of self.old)).seen
             (view self.old)) }
         ensures keeps { D.honest (device_of self.old)
             → SameContent (view self.new) (view self.old) }
@@ -209,7 +209,7 @@ impl<D: Device> Log<D> {
             → (device_of self.new ≡ device_of self.old) × IsErr result }
         ensures nothing { staged_of self.old ≡ [] → has_failed self.old ≡ false
             → (device_of self.new ≡ device_of self.old) × IsOk result }
-        ensures sectors { sectors_of self.new ≡ sectors_of self.old }
+        ensures sectors { log_sectors self.new ≡ log_sectors self.old }
         ensures honest { D.honest (device_of self.old) ↔ D.honest (device_of self.new) }
         ensures size { D.size (device_of self.new) ≡ D.size (device_of self.old) }
         ensures failures { has_failed self.old ≡ false → D.failures (device_of self.new)
@@ -218,13 +218,12 @@ impl<D: Device> Log<D> {
         if self.failed {
             return Err(DeviceFault);
         }
-        if self.batch.is_empty() {
+        if self.batch.staged.is_empty() {
             return Ok(());
         }
-        match commit_batch(&mut self.device, &self.batch) {
+        match commit_batch(&mut self.device, &self.batch.staged) {
             Ok(()) => {
                 self.batch.clear();
-                self.index.clear();
                 Ok(())
             }
             Err(fault) => {
@@ -244,7 +243,7 @@ impl<D: Device> Log<D> {
             → OnOk result ((D.disk (device_of self.new)).seen
             ≡ put 0 image.now (D.disk (device_of self.old)).seen) }
         ensures settled { D.honest (device_of self.old)
-            → OnOk result (Settled (sectors_of self.old) (D.disk (device_of self.new))) }
+            → OnOk result (Settled (log_sectors self.old) (D.disk (device_of self.new))) }
         ensures others { D.honest (device_of self.old) → (n : ℕ) → 0 < n
             → (D.disk (device_of self.new)).seen n ≡ (D.disk (device_of self.old)).seen n }
         ensures crash { D.honest (device_of self.old)
@@ -254,7 +253,7 @@ impl<D: Device> Log<D> {
         ensures failed { has_failed self.new ≡ is_err result }
         ensures idle { has_failed self.old ≡ true
             → (device_of self.new ≡ device_of self.old) × IsErr result }
-        ensures sectors { sectors_of self.new ≡ sectors_of self.old }
+        ensures sectors { log_sectors self.new ≡ log_sectors self.old }
         ensures honest { D.honest (device_of self.old) ↔ D.honest (device_of self.new) }
         ensures size { D.size (device_of self.new) ≡ D.size (device_of self.old) }
         ensures failures { has_failed self.old ≡ false → D.failures (device_of self.new)
@@ -276,7 +275,6 @@ impl<D: Device> Log<D> {
             device,
             sectors: _,
             batch: _,
-            index: _,
             failed: _,
         } = self;
         device

@@ -1,10 +1,11 @@
 //! What opening does with a log that a crash may have left.
 
-ghost use Rattle.std.specs.Prelude.{◌≡◌, ◌⊎◌, ◌≤◌, ◌<◌, ◌↔◌, List, [], ℕ};
+ghost use Rattle.std.specs.Prelude.{◌≡◌, ◌⊎◌, ◌≤◌, ◌<◌, ◌↔◌, []};
 ghost use Rattle.std.specs.Prelude.{OnOk, OnErr, IfErr, IsErrOf, vec_capacity};
 ghost use Rattle.vol_sector.specs.Disk.{Image, Leaves, counted};
 ghost use Rattle.vol_sector.specs.Fault.{device_failed};
 ghost use Rattle.vol_log.specs.Batch.{SameContent, HasContent, Settled};
+ghost use Rattle.vol_log.specs.declared.layout.TheConstants.{FIRST_AFTER_LOG};
 
 use crate::Staged;
 use crate::header::read_header;
@@ -18,7 +19,7 @@ pub fn replay<D: Device>(
     sectors: u32,
     batch: &mut Vec<Staged>,
 ) -> Result<(), VolumeFault>
-    requires geometry { 122 < sectors }
+    requires geometry { FIRST_AFTER_LOG < sectors }
     requires on_device { sectors ≤ D.size device.old }
     requires empty { batch.old.items ≡ [] }
     requires room { 120 ≤ vec_capacity batch.old }

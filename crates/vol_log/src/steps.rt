@@ -1,28 +1,30 @@
 //! The parts of a commit, each a few operations on the device.
 
-ghost use Rattle.std.specs.Prelude.{◌≡◌, ◌⊎◌, ◌≤◌, ◌<◌, ◌↔◌, List, [], ℕ};
-ghost use Rattle.std.specs.Prelude.{length, OnOk, OnErr, is_err};
+ghost use Rattle.std.specs.Prelude.{◌≡◌, ◌≤◌, ◌<◌, ◌↔◌, [], ℕ};
+ghost use Rattle.std.specs.Prelude.{length, OnOk, is_err};
 ghost use Rattle.vol_sector.specs.Disk.{After, Wrote, Leaves, Only, put, counted};
-ghost use Rattle.vol_log.specs.Header.{Places, IsHeader, header_bytes};
-ghost use Rattle.vol_log.specs.Batch.{numbers, over, logged, SameContent, HasContent, HasEither};
+ghost use Rattle.vol_log.specs.Header.{Places};
+ghost use Rattle.vol_log.specs.Batch.{over, logged, SameContent, HasContent, HasEither};
+ghost use Rattle.vol_log.specs.internal.Batch.{numbers};
 ghost use Rattle.vol_log.specs.Batch.{Settled};
-ghost use Rattle.vol_log.specs.internal.Steps.{Logged, OutsideImages, OutsideLog, Under};
+ghost use Rattle.vol_log.specs.internal.Steps.{Logged, OnlyImagesChange, OutsideLog, Under};
+ghost use Rattle.vol_log.specs.declared.layout.TheConstants.{FIRST_AFTER_LOG};
 
 use crate::Staged;
+use crate::header::header_image;
 use crate::layout::{FIRST_IMAGE, FRONT, HEADER};
-use byteorder::{ByteOrder, LittleEndian};
 use vol_sector::{Device, DeviceFault};
 
 /// Writes the images into the log.
 pub fn write_images<D: Device>(device: &mut D, batch: &[Staged]) -> Result<(), DeviceFault>
     requires few { length batch.now ≤ 120 }
-    requires room { 122 < D.size device.old }
+    requires room { FIRST_AFTER_LOG < D.size device.old }
     ensures logged { D.honest device.old
         → OnOk result (logged (numbers batch.now) 2 (D.disk device.new).seen ≡ batch.now) }
     ensures beside { D.honest device.old
-        → OutsideImages (D.disk device.old).seen (D.disk device.new).seen }
+        → OnlyImagesChange (D.disk device.old).seen (D.disk device.new).seen }
     ensures crash { D.honest device.old → Leaves (D.disk device.old) (D.disk device.new)
-        (After OutsideImages (D.disk device.old).may_leave) }
+        (After OnlyImagesChange (D.disk device.old).may_leave) }
     ensures honest { D.honest device.old ↔ D.honest device.new }
     ensures size { D.size device.new ≡ D.size device.old }
     ensures failures { D.failures device.new ≡ counted (is_err result) (D.failures device.old) }
@@ -52,23 +54,10 @@ pub fn install<D: Device>(device: &mut D, batch: &[Staged]) -> Result<(), Device
     Ok(())
 }
 
-/// The header of a log that holds the batch.
-pub fn header_image(batch: &[Staged]) -> [u8; 512]
-    requires { length batch.now ≤ 120 }
-    ensures { result ≡ header_bytes (numbers batch.now) }
-{
-    let mut header = [0; 512];
-    LittleEndian::write_u32(&mut header, batch.len() as u32);
-    for (i, staged) in batch.iter().enumerate() {
-        LittleEndian::write_u32(&mut header[4 + 4 * i..], staged.sector);
-    }
-    header
-}
-
 /// Puts the batch into the log: its images, then the header.
 pub fn log_batch<D: Device>(device: &mut D, batch: &[Staged]) -> Result<(), DeviceFault>
     requires few { length batch.now ≤ 120 }
-    requires room { 122 < D.size device.old }
+    requires room { FIRST_AFTER_LOG < D.size device.old }
     ensures logged { (s : ℕ) → D.honest device.old → Settled s (D.disk device.old)
         → Places s (numbers batch.now)
         → OnOk result (Logged s batch.now (D.disk device.new)) }
@@ -90,7 +79,7 @@ pub fn log_batch<D: Device>(device: &mut D, batch: &[Staged]) -> Result<(), Devi
 
 /// Puts the batch that the log holds into its places, and empties the log.
 pub fn apply_batch<D: Device>(device: &mut D, batch: &[Staged]) -> Result<(), DeviceFault>
-    requires room { 122 < D.size device.old }
+    requires room { FIRST_AFTER_LOG < D.size device.old }
     requires places { Places (D.size device.old) (numbers batch.now) }
     ensures settled { (s : ℕ) → D.honest device.old → Logged s batch.now (D.disk device.old)
         → OnOk result (Settled s (D.disk device.new)
@@ -113,7 +102,7 @@ pub fn apply_batch<D: Device>(device: &mut D, batch: &[Staged]) -> Result<(), De
 
 /// Puts the batch onto the disk, all of it or nothing, at every moment.
 pub fn commit_batch<D: Device>(device: &mut D, batch: &[Staged]) -> Result<(), DeviceFault>
-    requires room { 122 < D.size device.old }
+    requires room { FIRST_AFTER_LOG < D.size device.old }
     requires places { Places (D.size device.old) (numbers batch.now) }
     ensures settled { (s : ℕ) → D.honest device.old → Settled s (D.disk device.old)
         → Places s (numbers batch.now)
@@ -137,7 +126,7 @@ pub fn commit_batch<D: Device>(device: &mut D, batch: &[Staged]) -> Result<(), D
 /// Reads the images of the log.
 pub fn read_images<D: Device>(device: &mut D, batch: &mut [Staged]) -> Result<(), DeviceFault>
     requires few { length batch.old ≤ 120 }
-    requires room { 122 < D.size device.old }
+    requires room { FIRST_AFTER_LOG < D.size device.old }
     ensures read { D.honest device.old
         → OnOk result (batch.new ≡ logged (numbers batch.old) 2 (D.disk device.old).seen) }
     ensures seen { D.honest device.old → (D.disk device.new).seen ≡ (D.disk device.old).seen }

@@ -2,7 +2,7 @@
 use Rattle.std.proofs.Common.{◌≡◌, ◌⊎◌, inr, true, false, Bool, Result, Ok, Err, IsErrAnd, refl, sym, ◌∙◌, ap, subst}
 use Rattle.vol_sector.specs.Disk.{Image, Leaves}
 use Rattle.vol_sector.specs.declared.device.Device.{Ghosts}
-use Rattle.vol_log.specs.Log.{view, device_of, sectors_of, has_failed}
+use Rattle.vol_log.specs.Log.{view, device_of, log_sectors, has_failed}
 use Rattle.vol_log.proofs.Moments.{leaves_quiet, leaves_same}
 use Rattle.vol_tree.proofs.Committing.{still_settled}
 use Rattle.vol_alloc.specs.Alloc.{first_of, end_of}
@@ -15,7 +15,8 @@ use Rattle.vol_tree.specs.Superblock.{superblock}
 use Rattle.vol_tree.specs.Space.{space}
 use Rattle.vol_tree.specs.Tree.{Tree}
 use Rattle.vol_tree.specs.Opened.{is_io, tree_in, slots_in}
-use Rattle.vol_tree.specs.Parts.{IsOpen, IsContent, AreTaken, opened}
+use Rattle.vol_tree.specs.Parts.{opened}
+use Rattle.vol_tree.specs.internal.Parts.{IsOpen, IsContent, AreTaken}
 use Rattle.vol_tree.specs.internal.Commits.{Commits}
 use Rattle.vol_tree.specs.internal.Changes.{Changes, Asks, Stages}
 
@@ -99,7 +100,7 @@ stages_then {D} {g} a b c one other = record {
 }
 
 -- sectors are staged and the names change, over the same device
-pub stages : {D : Type 0} {g : Ghosts D} (old new : Parts D g) → device_of new.log ≡ device_of old.log → has_failed new.log ≡ false → sectors_of new.log ≡ sectors_of old.log
+pub stages : {D : Type 0} {g : Ghosts D} (old new : Parts D g) → device_of new.log ≡ device_of old.log → has_failed new.log ≡ false → log_sectors new.log ≡ log_sectors old.log
     → new.numbers ≡ old.numbers → new.sectors ≡ old.sectors → slots_of new.dirs ≡ slots_of old.dirs → Stages old new
 stages {D} {g} old new device failed sectors numbers allocated slots = record {
   seen = λ h. ap (λ (d : D). (g.disk d).seen) device;

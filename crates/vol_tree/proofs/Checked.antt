@@ -17,13 +17,14 @@ use Rattle.vol_tree.specs.declared.reading.Entries.{Entries}
 use Rattle.vol_tree.specs.Opened.{slots_in, slot_in}
 use Rattle.vol_tree.specs.internal.Reads.{held_at, parent_in, directory_in, named_in, reserved_in, IsPlaced, IsRight, Adds, FitIn, HaveRead}
 use Rattle.vol_tree.proofs.SlotsRead.{slots_at, slot_read, slots_count}
+use Rattle.vol_log.specs.declared.layout.TheConstants.{FIRST_AFTER_LOG}
 
 pub at_some : {X : Type 0} (o : Option X) (x : X) (P : X → Type 0) → o ≡ Some x → ((y : X) → o ≡ Some y → P y) → P x
 at_some o x P is all = all x is
 
 module _ (content : Image) (v : Superblock) (dirs : Dirs) (s : ℕ) (lt : s < v.slots) where
   -- a slot that isn't used
-  module _ (none : content (122 + s) ≡ unused) where
+  module _ (none : content (FIRST_AFTER_LOG + s) ≡ unused) where
     pub held_none : held_at content v s ≡ None
     held_none = slots_at content v.slots s lt ∙ ap slot_in none ∙ slot_read None (λ e is. absurd (none-some e is))
 
@@ -36,7 +37,7 @@ module _ (content : Image) (v : Superblock) (dirs : Dirs) (s : ℕ) (lt : s < v.
     })
 
   -- an entry
-  module _ (e : Entry) (right : IsEntry v.version e) (spelled : content (122 + s) ≡ spelling e) where
+  module _ (e : Entry) (right : IsEntry v.version e) (spelled : content (FIRST_AFTER_LOG + s) ≡ spelling e) where
     pub held_some : held_at content v s ≡ Some e
     held_some = slots_at content v.slots s lt ∙ ap slot_in spelled ∙ slot_read (Some e) (λ d is. subst HasWidths (same_Some e d is) right.widths)
 
@@ -62,7 +63,7 @@ module _ (content : Image) (v : Superblock) (dirs : Dirs) (s : ℕ) (lt : s < v.
     some_contradicts found shows none is fits = none (name_held shows) (is.placed e held_some) (is.trimmed e held_some) (subst (λ (o : Option Entry). FitIn content v o found) held_some fits)
 
 -- the slot that no entry is read from
-pub refused_contradicts : (content : Image) (v : Superblock) (dirs : Dirs) (s : ℕ) → ((e : Entry) → IsEntry v.version e → content (122 + s) ≡ spelling e → ⊥) → (content (122 + s) ≡ unused → ⊥)
+pub refused_contradicts : (content : Image) (v : Superblock) (dirs : Dirs) (s : ℕ) → ((e : Entry) → IsEntry v.version e → content (FIRST_AFTER_LOG + s) ≡ spelling e → ⊥) → (content (FIRST_AFTER_LOG + s) ≡ unused → ⊥)
     → IsRight content v dirs s (held_at content v s) → ⊥
 refused_contradicts content v dirs s no_entry not_unused is = go (held_at content v s) is
   where

@@ -14,11 +14,12 @@ use Rattle.vol_dirs.specs.Names.{Names, Shows, IsChild, NoChildOver, IsNextChild
 use Rattle.vol_tree.specs.declared.superblock.Superblock.{Superblock}
 use Rattle.vol_tree.specs.declared.errno.Errno.TheVariants as errno
 use Rattle.vol_tree.specs.Tree as tree
-use Rattle.vol_tree.specs.Tree.{Tree, Name, IsTree, IsDirectory, lookup, least_from, is_in, is_empty, changed, root}
+use Rattle.vol_tree.specs.Tree.{Tree, IsTree, lookup, is_in, is_empty, changed, root}
 use Rattle.vol_tree.specs.Calls.{next_child, directory_removed, is_file_at, is_directory}
 use Rattle.vol_tree.specs.Stands.{entry_of}
-use Rattle.vol_tree.specs.Opened.{slot_of, tree_in}
-use Rattle.vol_tree.specs.Parts.{IsContent}
+use Rattle.vol_tree.specs.Opened.{tree_in}
+use Rattle.vol_tree.specs.internal.Slots.{slot_of}
+use Rattle.vol_tree.specs.internal.Parts.{IsContent}
 use Rattle.vol_tree.proofs.Entries.{used_within}
 use Rattle.vol_tree.proofs.Finding.{held, is_held, tree_entry}
 use Rattle.vol_tree.proofs.Lookups.{found, looked_up}

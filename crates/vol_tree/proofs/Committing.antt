@@ -3,7 +3,7 @@ use Rattle.std.proofs.Common.{◌≡◌, ◌≤◌, ℕ, ◌⊎◌, ◌↔◌, i
 use Rattle.std.proofs.lemmas.Bool.{cases_Bool}
 use Rattle.vol_sector.specs.Disk.{Image, Disk, Leaves, counted}
 use Rattle.vol_sector.specs.declared.device.Device.{Ghosts}
-use Rattle.vol_log.specs.Log.{view, device_of, sectors_of, has_failed}
+use Rattle.vol_log.specs.Log.{view, device_of, log_sectors, has_failed}
 use Rattle.vol_log.specs.Batch.{SameContent, HasEither, Settled}
 use Rattle.vol_log.specs.declared.log.Log.{Log}
 use Rattle.vol_log.proofs.Moments.{leaves_same, leaves_then, leaves_quiet}
@@ -18,9 +18,11 @@ use Rattle.vol_tree.specs.Superblock.{superblock}
 use Rattle.vol_tree.specs.Space.{space}
 use Rattle.vol_tree.specs.Stands.{Stands}
 use Rattle.vol_tree.specs.Opened.{ReflectsOr, tree_in, slots_in}
-use Rattle.vol_tree.specs.Parts.{IsOpen, IsContent, AreTaken, opened}
+use Rattle.vol_tree.specs.Parts.{opened}
+use Rattle.vol_tree.specs.internal.Parts.{IsOpen, IsContent, AreTaken}
 use Rattle.vol_tree.specs.internal.Commits.{Commits}
 use Rattle.vol_tree.proofs.SameContents.{same_slots_in, same_is_content, same_tree_in, same_taken, same_shows, stands_with, reflects_or}
+use Rattle.vol_log.specs.declared.layout.TheConstants.{FIRST_AFTER_LOG}
 
 pub at_ok : {T E : Type 0} (r : Result T E) (P : Type 0) → OnOk r P → is_err r ≡ false → P
 at_ok (Ok x) P p is = p
@@ -32,12 +34,12 @@ on_ok (Err e) P p = tt
 
 -- what a log promises of a commit
 pub record LogCommits {D : Type 0} {g : Ghosts D} (old new : Log D g) (io : Bool) : Type 0 where
-  pub done : io ≡ false → g.honest (device_of old) → Settled (sectors_of old) (g.disk (device_of new)) × SameContent (g.disk (device_of new)).seen (view old)
-  pub crash : g.honest (device_of old) → Leaves (g.disk (device_of old)) (g.disk (device_of new)) (HasEither (sectors_of old) (g.disk (device_of old)).seen (view old))
+  pub done : io ≡ false → g.honest (device_of old) → Settled (log_sectors old) (g.disk (device_of new)) × SameContent (g.disk (device_of new)).seen (view old)
+  pub crash : g.honest (device_of old) → Leaves (g.disk (device_of old)) (g.disk (device_of new)) (HasEither (log_sectors old) (g.disk (device_of old)).seen (view old))
   pub keeps : g.honest (device_of old) → SameContent (view new) (view old)
   pub failed : has_failed new ≡ io
   pub idle : has_failed old ≡ true → (device_of new ≡ device_of old) × (io ≡ true)
-  pub sectors : sectors_of new ≡ sectors_of old
+  pub sectors : log_sectors new ≡ log_sectors old
   pub honest : g.honest (device_of old) ↔ g.honest (device_of new)
   pub size : g.size (device_of new) ≡ g.size (device_of old)
   pub failures : has_failed old ≡ false → g.failures (device_of new) ≡ counted io (g.failures (device_of old))
@@ -49,11 +51,11 @@ module _ {D : Type 0} {g : Ghosts D} (may_stay : (d : D) → g.honest d → (g.d
   same : g.honest (device_of old.log) → SameContent (view old.log) (view log)
   same h k at = sym (c.keeps h k at)
 
-  behind : g.honest (device_of old.log) → (k : ℕ) → 122 ≤ k → view old.log k ≡ view log k
-  behind h k le = same h k (inr le)
+  after_log : g.honest (device_of old.log) → (k : ℕ) → FIRST_AFTER_LOG ≤ k → view old.log k ≡ view log k
+  after_log h k le = same h k (inr le)
 
   pub tree_stays : g.honest (device_of old.log) → tree_in (view log) old.numbers ≡ tree_in (view old.log) old.numbers
-  tree_stays h = same_tree_in (view old.log) (view log) old.numbers (behind h) (is.content h)
+  tree_stays h = same_tree_in (view old.log) (view log) old.numbers (after_log h) (is.content h)
 
   committed_open : IsOpen new
   committed_open = record {
@@ -62,9 +64,9 @@ module _ {D : Type 0} {g : Ghosts D} (may_stay : (d : D) → g.honest d → (g.d
     first = is.first;
     end = is.end;
     slots = is.slots;
-    content = λ h. let h0 = c.honest.1 h in same_is_content (view old.log) (view log) old.numbers (behind h0) (is.content h0);
+    content = λ h. let h0 = c.honest.1 h in same_is_content (view old.log) (view log) old.numbers (after_log h0) (is.content h0);
     reserved = λ h. let h0 = c.honest.1 h in is.reserved h0 ∙ ap space (sym (tree_stays h0));
-    shows = λ h. let h0 = c.honest.1 h in same_shows (view old.log) (view log) old.numbers (behind h0) (is.content h0) old.dirs (is.shows h0);
+    shows = λ h. let h0 = c.honest.1 h in same_shows (view old.log) (view log) old.numbers (after_log h0) (is.content h0) old.dirs (is.shows h0);
     working = λ h ok.
         let h0 = c.honest.1 h in
         let io_is : io ≡ false = sym c.failed ∙ ok in
@@ -76,7 +78,7 @@ module _ {D : Type 0} {g : Ghosts D} (may_stay : (d : D) → g.honest d → (g.d
           front = c.keeps h0 0 (inl (omega arith)) ∙ was.front;
           committed_front = done.1 0 (inl (omega arith)) ∙ was.front;
           committed = same_is_content (view old.log) (g.disk (device_of log)).seen old.numbers (λ k le. sym (done.1 k (inr le))) (is.content h0);
-          taken = same_taken (view old.log) (view log) old.numbers (behind h0) (is.content h0) old.sectors was.taken;
+          taken = same_taken (view old.log) (view log) old.numbers (after_log h0) (is.content h0) old.sectors was.taken;
         };
   }
 
@@ -86,7 +88,7 @@ module _ {D : Type 0} {g : Ghosts D} (may_stay : (d : D) → g.honest d → (g.d
     | inr fine ↦
         let disk = g.disk (device_of old.log) in
         let was = is.working h fine in
-        leaves_then disk disk (g.disk (device_of log)) (ReflectsOr disk (opened old).tree) (HasEither (sectors_of old.log) disk.seen (view old.log)) (ReflectsOr disk (opened old).tree) (leaves_same disk _) (c.crash h) (λ m p. p)
+        leaves_then disk disk (g.disk (device_of log)) (ReflectsOr disk (opened old).tree) (HasEither (log_sectors old.log) disk.seen (view old.log)) (ReflectsOr disk (opened old).tree) (leaves_same disk _) (c.crash h) (λ m p. p)
         (λ m either. reflects_or disk (view old.log) m old.numbers is.ranges (may_stay (device_of old.log) h) was.settled was.committed_front was.committed was.front (is.content h)
         (subst (λ s. HasEither s disk.seen (view old.log) m) is.sectors either))
   ]
@@ -95,7 +97,7 @@ module _ {D : Type 0} {g : Ghosts D} (may_stay : (d : D) → g.honest d → (g.d
   commits = record {
     is_open = committed_open;
     tree = tree_stays;
-    slots = λ h. same_slots_in (view old.log) (view log) old.numbers (behind h) (is.content h);
+    slots = λ h. same_slots_in (view old.log) (view log) old.numbers (after_log h) (is.content h);
     crash = committed_crash;
     kept = record { numbers = refl; failed = c.failed; failures = c.failures; idle = c.idle; honest = c.honest; size = c.size };
     dirs = refl;
@@ -144,7 +146,7 @@ pub record LogReads {D : Type 0} {g : Ghosts D} (old new : Log D g) (io : Bool) 
   pub crash : g.honest (device_of old) → Leaves (g.disk (device_of old)) (g.disk (device_of new)) (λ c. ⊥)
   pub failed : has_failed new ≡ io
   pub idle : has_failed old ≡ true → (device_of new ≡ device_of old) × (io ≡ true)
-  pub sectors : sectors_of new ≡ sectors_of old
+  pub sectors : log_sectors new ≡ log_sectors old
   pub honest : g.honest (device_of old) ↔ g.honest (device_of new)
   pub size : g.size (device_of new) ≡ g.size (device_of old)
   pub failures : has_failed old ≡ false → g.failures (device_of new) ≡ counted io (g.failures (device_of old))

@@ -17,7 +17,8 @@ use Rattle.vol_alloc.proofs.Covers.{taken_in_list}
 use Rattle.vol_tree.specs.declared.superblock.Superblock.{Superblock}
 use Rattle.vol_tree.specs.Stands.{Slots}
 use Rattle.vol_tree.specs.Opened.{slots_in, data_sectors}
-use Rattle.vol_tree.specs.Parts.{IsContent, AreTaken}
+use Rattle.vol_tree.specs.internal.Parts.{IsContent, AreTaken}
+use Rattle.vol_log.specs.declared.layout.TheConstants.{FIRST_AFTER_LOG}
 
 -- how many sectors the slot's file names
 abbrev pub used_in : Image → Option Entry → ℕ
@@ -107,7 +108,7 @@ within [] s e is = absurd (cc)
 within (o ∷ slots) zero e is = omega arith
 within (o ∷ slots) (suc s) e is = let rest = within slots s e is in omega arith
 
-pub free_and_used : (content : Image) (v : Superblock) (sectors : Alloc) → IsContent content v → AreTaken content v (slots_in content v.slots) sectors → first_of sectors ≡ 122 + v.slots → end_of sectors ≡ v.sectors
+pub free_and_used : (content : Image) (v : Superblock) (sectors : Alloc) → IsContent content v → AreTaken content v (slots_in content v.slots) sectors → first_of sectors ≡ FIRST_AFTER_LOG + v.slots → end_of sectors ≡ v.sectors
     → data_sectors v ≤ free_of sectors + sum_by (used_in content) (slots_in content v.slots)
 unfolding names_in
 free_and_used content v sectors is taken first end =

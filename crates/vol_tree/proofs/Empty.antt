@@ -21,7 +21,7 @@ use Rattle.vol_tree.specs.Tree as tree
 use Rattle.vol_tree.specs.Tree.{Tree, IsTree, IsAt, root, entry}
 use Rattle.vol_tree.specs.Space.{space, need_in}
 use Rattle.vol_tree.specs.Stands.{Slots, slot, entry_of, tree_of, KeepApart, IsVolume, StandsAs, empty_tree}
-use Rattle.vol_tree.specs.Fresh.{root_entry, fresh_slot, HasFreshSlots, IsFresh}
+use Rattle.vol_tree.specs.internal.Formatting.{root_entry, fresh_slot, HasFreshSlots, IsFresh}
 
 -- ---- lists of one value
 
@@ -111,7 +111,7 @@ only_entry n (suc s) e is = absurd (none-some e (sym (none_at (n - 1) s) ∙ is)
 keep_apart : (content : Image) (v : Superblock) → HasRanges v → KeepApart content v (fresh_slots v.slots)
 keep_apart content v ranges = record {
   bodies = λ s e is. subst (λ (e : Entry). IsBody content e) (sym (only_entry v.slots s e is).1) (root_is_body content);
-  behind = λ s e p is place some. absurd (some (nothing s e p is));
+  after_slots = λ s e p is place some. absurd (some (nothing s e p is));
   there = λ s e p is place. let none : named content e p ≡ 0 = nothing s e p is in omega (arith, ranges.least);
   apart = λ s t d e p q is too a b some same. absurd (some (nothing s d p is));
 }

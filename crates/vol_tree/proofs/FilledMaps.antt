@@ -4,7 +4,7 @@ use Rattle.std.specs.Option.{option_map, option_map_or}
 use Rattle.std.proofs.lemmas.Bool.{cases_eq, false≢true}
 use Rattle.std.proofs.lemmas.Option.{same_Some}
 use Rattle.vol_inode.specs.Space.{size_limit}
-use Rattle.vol_body.specs.Change.{written as body_written, resized as body_resized}
+use Rattle.vol_body.specs.Bytes.{written_bytes, resized_bytes}
 use Rattle.vol_tree.specs.declared.errno.Errno.{Errno}
 use Rattle.vol_tree.specs.declared.errno.Errno.TheVariants as errno
 use Rattle.vol_tree.specs.Tree.{Tree, Path, Node, Directory, File, Entry, entry, changed, IsAt}
@@ -110,7 +110,7 @@ pub written_map : WrittenMap
 written_map volume T U file offset [] t is_file h path s m =
     let there = file_there T file is_file in
     subst (λ (V : Tree). Maps V path s m ↔ IsFilled T file (bytes_at T file) path s m) (ok_same T U h) (unfilled_map T file there.0 there.1 (bytes_at T file) there.2 path s m)
-written_map volume T U file offset (byte ∷ bytes) t is_file h path s m = by_bytes volume T U file (body_written (bytes_at T file) offset (byte ∷ bytes)) is_file h path s m
+written_map volume T U file offset (byte ∷ bytes) t is_file h path s m = by_bytes volume T U file (written_bytes (bytes_at T file) offset (byte ∷ bytes)) is_file h path s m
 
 pub resized_map : ResizedMap
-resized_map volume T U file size t is_file h path s m = by_bytes volume T U file (body_resized size (bytes_at T file)) is_file h path s m
+resized_map volume T U file size t is_file h path s m = by_bytes volume T U file (resized_bytes size (bytes_at T file)) is_file h path s m

@@ -24,8 +24,10 @@ use Rattle.vol_tree.specs.Tree as tree
 use Rattle.vol_tree.specs.Tree.{Tree, Node, Directory, File, IsTree, changed}
 use Rattle.vol_tree.specs.Space.{space, size_of}
 use Rattle.vol_tree.specs.Stands.{entry_of, node_by}
-use Rattle.vol_tree.specs.Opened.{slots_in, slot_of, tree_in, data_sectors, Keeps}
-use Rattle.vol_tree.specs.Parts.{IsContent, AreTaken, opened}
+use Rattle.vol_tree.specs.Opened.{slots_in, tree_in, data_sectors, Keeps}
+use Rattle.vol_tree.specs.internal.Slots.{slot_of}
+use Rattle.vol_tree.specs.Parts.{opened}
+use Rattle.vol_tree.specs.internal.Parts.{IsContent, AreTaken}
 use Rattle.vol_tree.specs.internal.Commits.{Commits}
 use Rattle.vol_tree.specs.internal.Changes.{Changes, Stages}
 use Rattle.vol_tree.specs.internal.Removals.{Fails}
@@ -33,6 +35,7 @@ use Rattle.vol_tree.proofs.Changing.{done, fault_is_io}
 use Rattle.vol_tree.proofs.Rewriting.{Rewrites, filled_tree, rewritten_tree, rewritten_taken, rewritten_content, rewritten_front, rewritten_shows}
 use Rattle.vol_tree.proofs.Finding.{tree_entry, length_tree, slot_within}
 use Rattle.vol_tree.proofs.Writes.{space_changed}
+use Rattle.vol_log.specs.declared.layout.TheConstants.{FIRST_AFTER_LOG}
 
 -- ---- a call that fails
 
@@ -103,7 +106,7 @@ pub record Fills (a b : Image) (v : Superblock) (file : ℕ) (d e : Entry) (old 
   pub fits : after ≤ data_sectors v
 
 module _ {D : Type 0} {g : Ghosts D} (a b : Image) (v : Superblock) (file : ℕ) (first : 1 ≤ file) (d e : Entry) (mid : Parts D g) (new : Alloc) (after : ℕ) (bytes : List ℕ)
-    (is : IsContent a v) (first_is : first_of mid.sectors ≡ 122 + v.slots) (end_is : end_of mid.sectors ≡ v.sectors) (low : 122 + v.slots < v.sectors) (taken : AreTaken a v (slots_in a v.slots) mid.sectors)
+    (is : IsContent a v) (first_is : first_of mid.sectors ≡ FIRST_AFTER_LOG + v.slots) (end_is : end_of mid.sectors ≡ v.sectors) (low : FIRST_AFTER_LOG + v.slots < v.sectors) (taken : AreTaken a v (slots_in a v.slots) mid.sectors)
     (total : mid.reserved ≡ space (tree_in a v)) (r : Fills a b v file d e mid.sectors new mid.reserved after bytes) where
   abbrev T : Tree
   T = tree_in a v

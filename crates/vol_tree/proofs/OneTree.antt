@@ -22,8 +22,10 @@ use Rattle.vol_body.proofs.Same.{same_file, same_list}
 use Rattle.vol_tree.specs.declared.superblock.Superblock.{Superblock}
 use Rattle.vol_tree.specs.Superblock.{superblock, HasRanges, version_number}
 use Rattle.vol_tree.specs.Tree as tree
-use Rattle.vol_tree.specs.Tree.{Tree, Node}
+use Rattle.vol_tree.specs.Tree.{Tree}
 use Rattle.vol_tree.specs.Stands.{Slots, slot, Holds, entry_of, tree_of, node_by, KeepApart, StandsAs, Stands}
+use Rattle.vol_log.specs.declared.layout.TheConstants.{FIRST_AFTER_LOG}
+use Rattle.vol_inode.specs.declared.version.TheConstants.{LARGEST_SIZE}
 
 -- ---- the superblock
 
@@ -104,9 +106,9 @@ same_slot version (Some d) (Some e) one other same = ap Some (same_entry d e (on
 pub same_slots : (version : Version) (a b : Image) (one other : Slots) → length one ≡ length other → SameContent a b → Holds a version one → Holds b version other → one ≡ other
 same_slots version a b one other long same has too = ext_get_or None one other long (λ s lt.
     let l : s < length other = omega arith in
-    let behind : 122 ≤ 122 + s = omega arith in
+    let after_log : FIRST_AFTER_LOG ≤ FIRST_AFTER_LOG + s = omega arith in
     same_slot version (get_or one s None) (get_or other s None) (has.entries s) (too.entries s)
-    (sym (has.bytes s lt) ∙ same (122 + s) (inr behind) ∙ too.bytes s l))
+    (sym (has.bytes s lt) ∙ same (FIRST_AFTER_LOG + s) (inr after_log) ∙ too.bytes s l))
 
 -- ---- the tree
 
@@ -117,13 +119,13 @@ map_same f g d (x ∷ xs) same =
     let rest : map f xs ≡ map g xs = map_same f g d xs (λ i lt. same (suc i) (omega arith)) in
     λ j. here j ∷ rest j
 
-pub limit_small : (version : Version) → size_limit version ≤ 8483840
+pub limit_small : (version : Version) → size_limit version ≤ LARGEST_SIZE
 limit_small One = omega arith
 limit_small Two = omega arith
 
 pub same_tree_entry : (a b : Image) (version : Version) (e : Entry) → IsEntry version e → SameSectors a b e → entry_of b e ≡ entry_of a e
 same_tree_entry a b version e is same =
-    let small : e.size ≤ 8483840 = omega (arith, is.rules.size.small, limit_small version) in
+    let small : e.size ≤ LARGEST_SIZE = omega (arith, is.rules.size.small, limit_small version) in
     ap (λ (bytes : List ℕ). (let r : tree.Entry = record { parent = e.parent; name = name_of e; node = node_by e.kind bytes } in r)) (same_list a b e (same_file a b e same) small)
 
 same_option : (a b : Image) (o : Option Entry) → ((e : Entry) → o ≡ Some e → entry_of b e ≡ entry_of a e) → option_map (entry_of a) o ≡ option_map (entry_of b) o
@@ -134,8 +136,8 @@ pub same_tree : (a b : Image) (v : Superblock) (slots : Slots) → SameContent a
 same_tree a b v slots same holds apart = map_same (option_map (entry_of a)) (option_map (entry_of b)) None slots (λ s lt.
     same_option a b (get_or slots s None) (λ e is.
     same_tree_entry a b v.version e (holds.entries s e is) (λ p place some.
-    let behind : 122 ≤ named a e p = omega (arith, apart.behind s e p is place some) in
-    sym (same (named a e p) (inr behind)))))
+    let after_log : FIRST_AFTER_LOG ≤ named a e p = omega (arith, apart.after_slots s e p is place some) in
+    sym (same (named a e p) (inr after_log)))))
 
 stands_once : (image : Image) (v : Superblock) (T U : Tree) → StandsAs image v T → StandsAs image v U → T ≡ U
 stands_once image v T U one other =

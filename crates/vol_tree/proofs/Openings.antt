@@ -19,7 +19,7 @@ use Rattle.vol_tree.specs.Opened.{slots_in, tree_in}
 use Rattle.vol_tree.specs.Opening.{StandsOn}
 use Rattle.vol_alloc.specs.declared.sectors.Alloc.{Alloc}
 use Rattle.vol_dirs.specs.declared.dirs.Dirs.{Dirs}
-use Rattle.vol_tree.specs.Parts.{IsContent, AreTaken, IsWorking}
+use Rattle.vol_tree.specs.internal.Parts.{IsContent, AreTaken, IsWorking}
 use Rattle.vol_tree.specs.internal.Reads.{HasParts}
 use Rattle.vol_tree.proofs.OneTree.{same_superblock}
 use Rattle.vol_tree.proofs.SlotsRead.{slots_read}

@@ -11,7 +11,7 @@ use Rattle.vol_inode.specs.declared.entry.Kind.{Kind}
 use Rattle.vol_inode.specs.declared.entry.Kind.TheVariants as kinds
 use Rattle.vol_inode.specs.Entry.{IsEntry, name_of}
 use Rattle.vol_inode.specs.Name.{IsName}
-use Rattle.vol_alloc.specs.Numbers.{AreDistinct, ArePlaces}
+use Rattle.vol_alloc.specs.Numbers.{AreDistinct}
 use Rattle.vol_alloc.specs.Numbers as numbers
 use Rattle.vol_alloc.specs.declared.sectors.Alloc.{Alloc}
 use Rattle.vol_alloc.specs.Alloc.{taken_of}
@@ -24,11 +24,11 @@ use Rattle.vol_tree.specs.declared.superblock.Superblock.{Superblock}
 use Rattle.vol_tree.specs.declared.reading.Entries.{Entries}
 use Rattle.vol_tree.specs.Superblock.{HasRanges}
 use Rattle.vol_tree.specs.Tree as tree
-use Rattle.vol_tree.specs.Tree.{Tree, Directory, File, Path, Leads, IsAt, IsDirectory, IsTree, root}
+use Rattle.vol_tree.specs.Tree.{Tree, Directory, File, Path, IsAt, IsDirectory, IsTree, root}
 use Rattle.vol_tree.specs.Space.{space}
 use Rattle.vol_tree.specs.Stands.{Slots, entry_of, node_by, KeepApart}
 use Rattle.vol_tree.specs.Opened.{slots_in, tree_in}
-use Rattle.vol_tree.specs.Parts.{IsContent, AreTaken}
+use Rattle.vol_tree.specs.internal.Parts.{IsContent, AreTaken}
 use Rattle.vol_tree.specs.internal.Replacing.{kind_is_directory}
 use Rattle.vol_tree.specs.internal.Climbs.{climb, AllLeadUp, StandInDirectories}
 use Rattle.vol_tree.specs.internal.Reads.{parent_in, directory_in, named_in, reserved_in, IsPlaced, IsRight, AreWithin, HaveRead}
@@ -124,7 +124,7 @@ module _ (content : Image) (v : Superblock) (dirs : Dirs) (found : Entries) (p :
   sectors : KeepApart content v slots
   sectors = record {
     bodies = body;
-    behind = λ s e q at place some. (p.within.inside.inside (named content e q) (all_named s (named content e q) e at (named_stands content e q place some))).0;
+    after_slots = λ s e q at place some. (p.within.inside.inside (named content e q) (all_named s (named content e q) e at (named_stands content e q place some))).0;
     there = λ s e q at place. elim (cases_eq (named content e q) 0) [
       | inl none ↦ omega (arith, none, p.ranges.least)
       | inr some ↦ (p.within.inside.inside (named content e q) (all_named s (named content e q) e at (named_stands content e q place some))).1

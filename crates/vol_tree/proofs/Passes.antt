@@ -25,12 +25,12 @@ use Rattle.vol_dirs.specs.Names.{Shows}
 use Rattle.vol_tree.specs.declared.superblock.Superblock.{Superblock}
 use Rattle.vol_tree.specs.declared.reading.Entries.{Entries}
 use Rattle.vol_tree.specs.Tree as tree
-use Rattle.vol_tree.specs.Tree.{Tree, Node, Directory, File, root, IsTree}
+use Rattle.vol_tree.specs.Tree.{Tree, Directory, File, root}
 use Rattle.vol_tree.specs.Calls.{is_within}
 use Rattle.vol_tree.specs.Space.{space, need_in}
 use Rattle.vol_tree.specs.Stands.{Slots, entry_of, tree_of, node_by}
 use Rattle.vol_tree.specs.Opened.{slots_in, tree_in}
-use Rattle.vol_tree.specs.Parts.{IsContent}
+use Rattle.vol_tree.specs.internal.Parts.{IsContent}
 use Rattle.vol_tree.specs.internal.Replacing.{kind_is_directory}
 use Rattle.vol_tree.specs.internal.Climbs.{climb, AllLeadUpSoon, StandInDirectories}
 use Rattle.vol_tree.specs.internal.Reads.{held_at, parent_in, directory_in, named_in, reserved_in, IsPlaced, IsRight, FitIn, HaveRead, HaveTreeSoon}
@@ -38,6 +38,7 @@ use Rattle.vol_tree.proofs.SlotsRead.{slots_count}
 use Rattle.vol_tree.proofs.Finding.{entry_at, slot_within, slot_of_entry, held, size_back}
 use Rattle.vol_tree.proofs.Within.{within_below}
 use Rattle.vol_tree.proofs.AllNamed.{from_flat, all_distinct, inside_so_far}
+use Rattle.vol_log.specs.declared.layout.TheConstants.{FIRST_AFTER_LOG}
 
 -- ---- the space
 
@@ -111,14 +112,14 @@ module _ (content : Image) (v : Superblock) (dirs : Dirs) (is : IsContent conten
       let q = stands_named content e.0 n e.2 in
       is.volume.sectors.apart s t d.0 e.0 p.position.0 q.position.0 d.1 e.1 p.position.1 q.position.1 (λ none. p.some (sym p.position.2 ∙ none)) (p.position.2 ∙ sym q.position.2))
 
-  inside : (n : ℕ) → Contains (flat_map (named_in content) slots) n → (122 + v.slots ≤ n) × (n < v.sectors)
+  inside : (n : ℕ) → Contains (flat_map (named_in content) slots) n → (FIRST_AFTER_LOG + v.slots ≤ n) × (n < v.sectors)
   inside n has =
       let at = from_flat (named_in content) None slots n has in
       let e = named_at at.0 n (get_or slots at.0 None) refl at.2 in
       let p = stands_named content e.0 n e.2 in
-      let behind = is.volume.sectors.behind at.0 e.0 p.position.0 e.1 p.position.1 (λ none. p.some (sym p.position.2 ∙ none)) in
+      let after_slots = is.volume.sectors.after_slots at.0 e.0 p.position.0 e.1 p.position.1 (λ none. p.some (sym p.position.2 ∙ none)) in
       let below = is.volume.sectors.there at.0 e.0 p.position.0 e.1 p.position.1 in
-      (omega (arith, behind, p.position.2), omega (arith, below, p.position.2))
+      (omega (arith, after_slots, p.position.2), omega (arith, below, p.position.2))
 
   pub fits : (s : ℕ) (found : Entries) → s < v.slots → HaveRead content v dirs s found → FitIn content v (held_at content v s) found
   fits s found lt read =
@@ -127,7 +128,7 @@ module _ (content : Image) (v : Superblock) (dirs : Dirs) (is : IsContent conten
       let more : flat_map (named_in content) (take (s + 1) slots) ≡ found.named.items ++ named_in content o =
       ap (flat_map (named_in content)) (take_more slots s None within) ∙ sym (flat_map_more (named_in content) [] (take s slots) o) ∙ ap (λ (l : List ℕ). l ++ named_in content o) (sym read.named) in
       record {
-        inside = subst (AreInside (122 + v.slots) v.sectors) more (inside_so_far (named_in content) None (122 + v.slots) v.sectors slots (s + 1) distinct inside);
+        inside = subst (AreInside (FIRST_AFTER_LOG + v.slots) v.sectors) more (inside_so_far (named_in content) None (FIRST_AFTER_LOG + v.slots) v.sectors slots (s + 1) distinct inside);
         room = omega (arith, read.reserved, sum_by_more_le reserved_in slots s None within, space_is content v.version slots is.volume.holds.entries, is.volume.space);
       }
 
@@ -141,7 +142,7 @@ module _ (content : Image) (v : Superblock) (dirs : Dirs) (is : IsContent conten
   pub distinct_found : (found : Entries) → found.named.items ≡ flat_map (named_in content) slots → AreDistinct found.named.items
   distinct_found found named_is = subst AreDistinct (sym named_is) distinct
 
-  pub inside_found : (found : Entries) → found.named.items ≡ flat_map (named_in content) slots → (n : ℕ) → Contains found.named.items n → (122 + v.slots ≤ n) × (n < v.sectors)
+  pub inside_found : (found : Entries) → found.named.items ≡ flat_map (named_in content) slots → (n : ℕ) → Contains found.named.items n → (FIRST_AFTER_LOG + v.slots ≤ n) × (n < v.sectors)
   inside_found found named_is n has = inside n (subst (λ (l : List ℕ). Contains l n) named_is has)
 
   module _ (parents : List ℕ) (directories : List Bool) (parents_are : parents ≡ map parent_in slots) (directories_are : directories ≡ map directory_in slots) where
@@ -236,7 +237,7 @@ module _ (content : Image) (v : Superblock) (dirs : Dirs) (is : IsContent conten
       lead = lead_passes found.parents.items found.directories.items parents_are directories_are;
     }
 
-    pub places_pass : ArePlaces (122 + v.slots) v.sectors found.named.items
+    pub places_pass : ArePlaces (FIRST_AFTER_LOG + v.slots) v.sectors found.named.items
     places_pass = record {
       from = λ k lt. (inside_found found named_is (get_or found.named.items k 0) (Contains-get_or found.named.items k 0 lt)).0;
       below = λ k lt. (inside_found found named_is (get_or found.named.items k 0) (Contains-get_or found.named.items k 0 lt)).1;

@@ -3,7 +3,7 @@ use Rattle.std.proofs.Common.{◌≡◌, ◌↔◌, ◌⊎◌, inl, inr, ℕ, �
 use Rattle.std.proofs.lemmas.Option.{same_Some}
 use Rattle.vol_sector.specs.Disk.{Image, Leaves, put, counted}
 use Rattle.vol_sector.specs.declared.device.Device.{Ghosts}
-use Rattle.vol_log.specs.Log.{view, device_of, sectors_of, has_failed, staged_of}
+use Rattle.vol_log.specs.Log.{view, device_of, log_sectors, has_failed, staged_of}
 use Rattle.vol_log.specs.Batch.{over, Settled}
 use Rattle.vol_log.specs.declared.log.Log.{Log}
 use Rattle.vol_log.specs.declared.staged.Staged.{Staged}
@@ -25,7 +25,8 @@ use Rattle.vol_tree.specs.Tree.{Tree}
 use Rattle.vol_tree.specs.Space.{space}
 use Rattle.vol_tree.specs.Stands.{StandsAs}
 use Rattle.vol_tree.specs.Opened.{slot_in, slots_in, tree_in, ReflectsOr}
-use Rattle.vol_tree.specs.Parts.{IsContent, AreTaken, IsOpen, opened}
+use Rattle.vol_tree.specs.Parts.{opened}
+use Rattle.vol_tree.specs.internal.Parts.{IsContent, AreTaken, IsOpen}
 use Rattle.vol_tree.specs.internal.Upgrades.{Upgrades}
 use Rattle.vol_tree.specs.internal.Commits.{Commits}
 use Rattle.vol_tree.proofs.Committing.{reflects_then, on_ok}
@@ -33,6 +34,7 @@ use Rattle.vol_sector.specs.declared.fault.VolumeFault.{VolumeFault}
 use Rattle.vol_sector.specs.declared.fault.VolumeFault.TheVariants as faults
 use Rattle.vol_tree.proofs.SlotsRead.{slot_read}
 use Rattle.vol_tree.proofs.SameContents.{same_is_content, same_tree_in, same_shows, same_taken, stands_with}
+use Rattle.vol_log.specs.declared.layout.TheConstants.{FIRST_AFTER_LOG}
 
 abbrev pub raised : Superblock → Superblock
 raised v = record v { version = Two }
@@ -58,7 +60,7 @@ module _ (content : Image) (v : Superblock) (one : v.version ≡ One) (is : IsCo
         bytes = is.volume.holds.bytes;
         entries = λ s e at. entry_raised e (subst (λ (x : Version). IsEntry x e) one (is.volume.holds.entries s e at));
       };
-      sectors = record { bodies = is.volume.sectors.bodies; behind = is.volume.sectors.behind; there = is.volume.sectors.there; apart = is.volume.sectors.apart };
+      sectors = record { bodies = is.volume.sectors.bodies; after_slots = is.volume.sectors.after_slots; there = is.volume.sectors.there; apart = is.volume.sectors.apart };
       tree = is.volume.tree;
       space = is.volume.space;
     };
@@ -68,11 +70,11 @@ module _ (content : Image) (v : Superblock) (one : v.version ≡ One) (is : IsCo
   taken_raised sectors taken = record { named = taken.named; only = taken.only }
 
   -- an entry that a slot spells is one that version 1 allows
-  entry_lowered : (s : ℕ) (e : Entry) → s < v.slots → IsEntry Two e → content (122 + s) ≡ spelling e → IsEntry v.version e
+  entry_lowered : (s : ℕ) (e : Entry) → s < v.slots → IsEntry Two e → content (FIRST_AFTER_LOG + s) ≡ spelling e → IsEntry v.version e
   entry_lowered s e lt right spelled =
       let o = get_or (slots_in content v.slots) s None in
-      let own : slot_in (content (122 + s)) ≡ o = ap slot_in (is.volume.holds.bytes s (omega (arith, is.volume.count))) ∙ slot_read o (λ d at. (is.volume.holds.entries s d at).widths) in
-      let read : slot_in (content (122 + s)) ≡ Some e = ap slot_in spelled ∙ slot_read (Some e) (λ d same. subst HasWidths (same_Some e d same) right.widths) in
+      let own : slot_in (content (FIRST_AFTER_LOG + s)) ≡ o = ap slot_in (is.volume.holds.bytes s (omega (arith, is.volume.count))) ∙ slot_read o (λ d at. (is.volume.holds.entries s d at).widths) in
+      let read : slot_in (content (FIRST_AFTER_LOG + s)) ≡ Some e = ap slot_in spelled ∙ slot_read (Some e) (λ d same. subst HasWidths (same_Some e d same) right.widths) in
       is.volume.holds.entries s e (sym own ∙ read)
 
   pub shows_raised : (dirs : Dirs) → Shows v.version content v.slots dirs → Shows Two content v.slots dirs
@@ -91,7 +93,7 @@ module _ (content : Image) (v : Superblock) (one : v.version ≡ One) (is : IsCo
           };
         },
     λ at.
-        let here : 122 + (s - 1) ≡ 121 + s = omega (arith, at.first) in
+        let here : FIRST_AFTER_LOG + (s - 1) ≡ 121 + s = omega (arith, at.first) in
         (shows p n s).1 (record {
           first = at.first;
           last = at.last;
@@ -113,12 +115,12 @@ ranges_raised v r = record { least = r.least; most = r.most; some_slots = r.some
 -- what a log promises of the front's write
 pub record LogFronts {D : Type 0} {g : Ghosts D} (old new : Log D g) (image : List ℕ) (io : Bool) : Type 0 where
   pub written : io ≡ false → g.honest (device_of old) → (g.disk (device_of new)).seen ≡ put 0 image (g.disk (device_of old)).seen
-  pub settled : io ≡ false → g.honest (device_of old) → Settled (sectors_of old) (g.disk (device_of new))
+  pub settled : io ≡ false → g.honest (device_of old) → Settled (log_sectors old) (g.disk (device_of new))
   pub others : g.honest (device_of old) → (n : ℕ) → 0 < n → (g.disk (device_of new)).seen n ≡ (g.disk (device_of old)).seen n
   pub crash : g.honest (device_of old) → Leaves (g.disk (device_of old)) (g.disk (device_of new)) (λ c. c ≡ put 0 image (g.disk (device_of old)).seen)
   pub staged : staged_of new ≡ []
   pub failed : has_failed new ≡ io
-  pub sectors : sectors_of new ≡ sectors_of old
+  pub sectors : log_sectors new ≡ log_sectors old
   pub honest : g.honest (device_of old) ↔ g.honest (device_of new)
   pub size : g.size (device_of new) ≡ g.size (device_of old)
   pub failures : g.failures (device_of new) ≡ counted io (g.failures (device_of old))
@@ -132,15 +134,15 @@ module _ {D : Type 0} {g : Ghosts D} (may_stay : (d : D) → g.honest d → (g.d
   seen_of l none = ap (λ (b : List Staged). over b (g.disk (device_of l)).seen) none
 
   module _ (io : Bool) (f : LogFronts old.log log (superblock (raised v)) io) where
-    behind : g.honest (device_of old.log) → (k : ℕ) → 122 ≤ k → view old.log k ≡ view log k
-    behind h k le =
+    after_log : g.honest (device_of old.log) → (k : ℕ) → FIRST_AFTER_LOG ≤ k → view old.log k ≡ view log k
+    after_log h k le =
         ap (λ (m : Image). m k) (seen_of old.log empty) ∙ sym (f.others h k (omega arith)) ∙ sym (ap (λ (m : Image). m k) (seen_of log f.staged))
 
     tree_same : g.honest (device_of old.log) → tree_in (view log) v ≡ tree_in (view old.log) v
-    tree_same h = same_tree_in (view old.log) (view log) v (behind h) (is.content h)
+    tree_same h = same_tree_in (view old.log) (view log) v (after_log h) (is.content h)
 
     content_same : g.honest (device_of old.log) → IsContent (view log) v
-    content_same h = same_is_content (view old.log) (view log) v (behind h) (is.content h)
+    content_same h = same_is_content (view old.log) (view log) v (after_log h) (is.content h)
 
     -- the image with the new first sector stands for the tree
     stands_new : g.honest (device_of old.log) → StandsAs (put 0 (superblock (raised v)) (g.disk (device_of old.log)).seen) (raised v) (tree_in (view old.log) v)
@@ -148,7 +150,7 @@ module _ {D : Type 0} {g : Ghosts D} (may_stay : (d : D) → g.honest d → (g.d
         let disk = g.disk (device_of old.log) in
         let m : Image = put 0 (superblock (raised v)) disk.seen in
         let was = is.working h ok in
-        let later : (k : ℕ) → 122 ≤ k → view old.log k ≡ m k = λ k le. ap (λ (x : Image). x k) (seen_of old.log empty) ∙ sym (beyond k disk.seen (omega arith)) in
+        let later : (k : ℕ) → FIRST_AFTER_LOG ≤ k → view old.log k ≡ m k = λ k le. ap (λ (x : Image). x k) (seen_of old.log empty) ∙ sym (beyond k disk.seen (omega arith)) in
         let content = same_is_content (view old.log) m v later (is.content h) in
         let tree = same_tree_in (view old.log) m v later (is.content h) in
         subst (λ (T : Tree). StandsAs m (raised v) T) tree
@@ -173,7 +175,7 @@ module _ {D : Type 0} {g : Ghosts D} (may_stay : (d : D) → g.honest d → (g.d
         slots = is.slots;
         content = λ h. content_same (f.honest.1 h);
         reserved = λ h. let h0 = f.honest.1 h in is.reserved h0 ∙ ap space (sym (tree_same h0));
-        shows = λ h. let h0 = f.honest.1 h in same_shows (view old.log) (view log) v (behind h0) (is.content h0) old.dirs (is.shows h0);
+        shows = λ h. let h0 = f.honest.1 h in same_shows (view old.log) (view log) v (after_log h0) (is.content h0) old.dirs (is.shows h0);
         working = λ h fine. absurd (let both : true ≡ false = sym bad ∙ sym f.failed ∙ fine in cc);
       };
       tree = tree_same;
@@ -198,7 +200,7 @@ module _ {D : Type 0} {g : Ghosts D} (may_stay : (d : D) → g.honest d → (g.d
         slots = is.slots;
         content = λ h. content_raised (view log) v one (content_same (f.honest.1 h));
         reserved = λ h. let h0 = f.honest.1 h in is.reserved h0 ∙ ap space (sym (tree_same h0));
-        shows = λ h. let h0 = f.honest.1 h in shows_raised (view log) v one (content_same h0) old.dirs (same_shows (view old.log) (view log) v (behind h0) (is.content h0) old.dirs (is.shows h0));
+        shows = λ h. let h0 = f.honest.1 h in shows_raised (view log) v one (content_same h0) old.dirs (same_shows (view old.log) (view log) v (after_log h0) (is.content h0) old.dirs (is.shows h0));
         working = λ h fine.
             let h0 = f.honest.1 h in
             let was = is.working h0 ok in
@@ -209,7 +211,7 @@ module _ {D : Type 0} {g : Ghosts D} (may_stay : (d : D) → g.honest d → (g.d
               front = ap (λ (m : Image). m 0) (seen_of log f.staged) ∙ front_seen;
               committed_front = front_seen;
               committed = subst (λ (m : Image). IsContent m (raised v)) (seen_of log f.staged) (content_raised (view log) v one (content_same h0));
-              taken = taken_raised (view log) v one (content_same h0) old.sectors (same_taken (view old.log) (view log) v (behind h0) (is.content h0) old.sectors was.taken);
+              taken = taken_raised (view log) v one (content_same h0) old.sectors (same_taken (view old.log) (view log) v (after_log h0) (is.content h0) old.sectors was.taken);
             };
       };
       tree = tree_same;

@@ -22,7 +22,7 @@ use Rattle.vol_tree.specs.Calls.{moved}
 use Rattle.vol_tree.specs.Space.{space, need_in, size_of}
 use Rattle.vol_tree.specs.Stands.{Slots, entry_of, node_by, tree_of, IsVolume}
 use Rattle.vol_tree.specs.Opened.{slots_in, tree_in, data_sectors}
-use Rattle.vol_tree.specs.Parts.{IsContent, AreTaken}
+use Rattle.vol_tree.specs.internal.Parts.{IsContent, AreTaken}
 use Rattle.vol_tree.specs.internal.Moves.{Moves}
 use Rattle.vol_tree.proofs.OneTree.{same_tree_entry}
 use Rattle.vol_tree.proofs.SlotsRead.{slots_count}
@@ -30,6 +30,7 @@ use Rattle.vol_tree.proofs.SlotChange.{OtherSlots, FitsIn, set_tree, set_slots, 
 use Rattle.vol_tree.proofs.SlotTaken.{taken_set}
 use Rattle.vol_tree.proofs.Finding.{slot_within, entry_at, length_tree}
 use Rattle.vol_tree.proofs.Trees.{moved_is_tree}
+use Rattle.vol_log.specs.declared.layout.TheConstants.{FIRST_AFTER_LOG}
 
 -- entries with the same pointers name the same sectors
 named_by : (content : Image) (d e : Entry) → e.pointers ≡ d.pointers → (p : BlockPosition) → named content e p ≡ named content d p
@@ -49,8 +50,8 @@ body_by content d e same size body = record {
 pub moved_to : (T : Tree) (s parent : ℕ) (name : Name) (e : tree.Entry) → tree.entry T s ≡ Some e → moved T s parent name ≡ changed T s (Some (record e { parent = parent; name = name }))
 moved_to T s parent name e h = ap (λ (o : Option tree.Entry). option_map_or (λ (e : tree.Entry). changed T s (Some (record e { parent = parent; name = name }))) o T) h
 
-module _ (a c : Image) (v : Superblock) (s : ℕ) (d to : Entry) (is : IsContent a v) (at : get_or (slots_in a v.slots) s None ≡ Some d) (low : 122 + v.slots < v.sectors) (right : IsEntry v.version to)
-    (pointers : to.pointers ≡ d.pointers) (size : to.size ≡ d.size) (kind : to.kind ≡ d.kind) (put_is : c ≡ put (122 + s) (spelling to) a) where
+module _ (a c : Image) (v : Superblock) (s : ℕ) (d to : Entry) (is : IsContent a v) (at : get_or (slots_in a v.slots) s None ≡ Some d) (low : FIRST_AFTER_LOG + v.slots < v.sectors) (right : IsEntry v.version to)
+    (pointers : to.pointers ≡ d.pointers) (size : to.size ≡ d.size) (kind : to.kind ≡ d.kind) (put_is : c ≡ put (FIRST_AFTER_LOG + s) (spelling to) a) where
   abbrev slots : Slots
   slots = slots_in a v.slots
 
@@ -60,17 +61,17 @@ module _ (a c : Image) (v : Superblock) (s : ℕ) (d to : Entry) (is : IsContent
   lt : s < v.slots
   lt = slot_within a v.slots s d at
 
-  elsewhere : (k : ℕ) → k ≢ 122 + s → c k ≡ a k
-  elsewhere k differ = at_once k c (put (122 + s) (spelling to) a) put_is ∙ put_other (122 + s) k (spelling to) a differ
+  elsewhere : (k : ℕ) → k ≢ FIRST_AFTER_LOG + s → c k ≡ a k
+  elsewhere k differ = at_once k c (put (FIRST_AFTER_LOG + s) (spelling to) a) put_is ∙ put_other (FIRST_AFTER_LOG + s) k (spelling to) a differ
 
   sectors_stay : (t : ℕ) (f : Entry) → get_or slots t None ≡ Some f → SameSectors a c f
   sectors_stay t f is_f p place some =
-      let behind : 122 + v.slots ≤ named a f p = is.volume.sectors.behind t f p is_f place some in
+      let after_slots : FIRST_AFTER_LOG + v.slots ≤ named a f p = is.volume.sectors.after_slots t f p is_f place some in
       elsewhere (named a f p) (λ same. omega (arith, lt))
 
   others : OtherSlots a c v slots s
   others = record {
-    bytes = λ t l differ. elsewhere (122 + t) (λ same. differ (omega arith));
+    bytes = λ t l differ. elsewhere (FIRST_AFTER_LOG + t) (λ same. differ (omega arith));
     files = λ t f is_f differ. sectors_stay t f is_f;
   }
 
@@ -88,12 +89,12 @@ module _ (a c : Image) (v : Superblock) (s : ℕ) (d to : Entry) (is : IsContent
 
   fits : FitsIn a c v slots s (Some to)
   fits = record {
-    bytes = λ l. at_once (122 + s) c (put (122 + s) (spelling to) a) put_is ∙ put_same (122 + s) (spelling to) a;
+    bytes = λ l. at_once (FIRST_AFTER_LOG + s) c (put (FIRST_AFTER_LOG + s) (spelling to) a) put_is ∙ put_same (FIRST_AFTER_LOG + s) (spelling to) a;
     entry = λ e same. subst (IsEntry v.version) (own e same) right;
     body = λ e same. subst (IsBody c) (own e same) (body_by c d to pointers size (same_rules a c d same_d (is.volume.sectors.bodies s d at)));
-    behind = λ e p same place some.
+    after_slots = λ e p same place some.
         let name = named_as e same p place in
-        let le : 122 + v.slots ≤ named a d p = is.volume.sectors.behind s d p at place (λ none. some (name ∙ none)) in
+        let le : FIRST_AFTER_LOG + v.slots ≤ named a d p = is.volume.sectors.after_slots s d p at place (λ none. some (name ∙ none)) in
         omega (arith, name);
     there = λ e p same place.
         let name = named_as e same p place in

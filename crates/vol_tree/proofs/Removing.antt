@@ -19,42 +19,43 @@ use Rattle.vol_tree.specs.Tree.{Tree, IsTree, changed}
 use Rattle.vol_tree.specs.Space.{space, need_in, size_of}
 use Rattle.vol_tree.specs.Stands.{Slots, entry_of, node_by, tree_of, IsVolume}
 use Rattle.vol_tree.specs.Opened.{slots_in, tree_in, data_sectors}
-use Rattle.vol_tree.specs.Parts.{IsContent, AreTaken}
+use Rattle.vol_tree.specs.internal.Parts.{IsContent, AreTaken}
 use Rattle.vol_tree.proofs.SlotsRead.{slots_count}
 use Rattle.vol_tree.proofs.SlotChange.{OtherSlots, FitsIn, set_tree, set_slots, set_volume}
 use Rattle.vol_tree.proofs.SlotTaken.{TakenFollows, taken_set}
 use Rattle.vol_tree.proofs.Rewriting.{Rewrites, rewritten_others, rewritten_front}
 use Rattle.vol_tree.proofs.Finding.{slot_within, entry_at, length_tree, size_back}
+use Rattle.vol_log.specs.declared.layout.TheConstants.{FIRST_AFTER_LOG}
 
 module _ (a b c : Image) (v : Superblock) (s : ℕ) (d e : Entry) (old new : Alloc) (is : IsContent a v) (at : get_or (slots_in a v.slots) s None ≡ Some d)
-    (first : first_of old ≡ 122 + v.slots) (end : end_of old ≡ v.sectors) (low : 122 + v.slots < v.sectors) (taken : AreTaken a v (slots_in a v.slots) old) (r : Rewrites a b v s d e old new)
-    (empty : e.size ≡ 0) (put_is : c ≡ put (122 + s) unused b) where
+    (first : first_of old ≡ FIRST_AFTER_LOG + v.slots) (end : end_of old ≡ v.sectors) (low : FIRST_AFTER_LOG + v.slots < v.sectors) (taken : AreTaken a v (slots_in a v.slots) old) (r : Rewrites a b v s d e old new)
+    (empty : e.size ≡ 0) (put_is : c ≡ put (FIRST_AFTER_LOG + s) unused b) where
   abbrev slots : Slots
   slots = slots_in a v.slots
 
   lt : s < v.slots
   lt = slot_within a v.slots s d at
 
-  elsewhere : (k : ℕ) → k ≢ 122 + s → c k ≡ b k
-  elsewhere k differ = at_once k c (put (122 + s) unused b) put_is ∙ put_other (122 + s) k unused b differ
+  elsewhere : (k : ℕ) → k ≢ FIRST_AFTER_LOG + s → c k ≡ b k
+  elsewhere k differ = at_once k c (put (FIRST_AFTER_LOG + s) unused b) put_is ∙ put_other (FIRST_AFTER_LOG + s) k unused b differ
 
   before : OtherSlots a b v slots s
   before = rewritten_others a b v s d e old new is at first end low taken r
 
   others : OtherSlots a c v slots s
   others = record {
-    bytes = λ t l differ. elsewhere (122 + t) (λ same. differ (omega arith)) ∙ before.bytes t l differ;
+    bytes = λ t l differ. elsewhere (FIRST_AFTER_LOG + t) (λ same. differ (omega arith)) ∙ before.bytes t l differ;
     files = λ t f is_f differ p place some.
-        let behind : 122 + v.slots ≤ named a f p = is.volume.sectors.behind t f p is_f place some in
+        let after_slots : FIRST_AFTER_LOG + v.slots ≤ named a f p = is.volume.sectors.after_slots t f p is_f place some in
         elsewhere (named a f p) (λ same. omega (arith, lt)) ∙ before.files t f is_f differ p place some;
   }
 
   fits : FitsIn a c v slots s None
   fits = record {
-    bytes = λ l. at_once (122 + s) c (put (122 + s) unused b) put_is ∙ put_same (122 + s) unused b;
+    bytes = λ l. at_once (FIRST_AFTER_LOG + s) c (put (FIRST_AFTER_LOG + s) unused b) put_is ∙ put_same (FIRST_AFTER_LOG + s) unused b;
     entry = λ x none. absurd (cc);
     body = λ x none. absurd (cc);
-    behind = λ x p none. absurd (cc);
+    after_slots = λ x p none. absurd (cc);
     there = λ x p none. absurd (cc);
     apart = λ t x y p q at_x differ none. absurd (cc);
   }

@@ -17,16 +17,17 @@ use Rattle.vol_dirs.specs.Names.{Shows}
 use Rattle.vol_dirs.proofs.Shown.{rewritten_shown}
 use Rattle.vol_tree.specs.declared.superblock.Superblock.{Superblock}
 use Rattle.vol_tree.specs.Tree as tree
-use Rattle.vol_tree.specs.Tree.{Tree, Path, Name, Node, Directory, File, IsTree, IsDirectory, IsAt, Leads, root, changed}
+use Rattle.vol_tree.specs.Tree.{Tree, Path, Directory, File, IsTree, IsDirectory, IsAt, root, changed}
 use Rattle.vol_tree.specs.Space.{space}
 use Rattle.vol_tree.specs.Stands.{Slots, slot, entry_of, tree_of, IsVolume}
 use Rattle.vol_tree.specs.Opened.{slots_in, tree_in, data_sectors}
-use Rattle.vol_tree.specs.Parts.{IsContent, AreTaken}
+use Rattle.vol_tree.specs.internal.Parts.{IsContent, AreTaken}
 use Rattle.vol_tree.proofs.SlotsRead.{slots_count}
 use Rattle.vol_tree.proofs.SlotChange.{OtherSlots, FitsIn, set_tree, set_slots, set_volume}
 use Rattle.vol_tree.proofs.SlotTaken.{TakenFollows, taken_set}
 use Rattle.vol_tree.proofs.Entries.{entry-changed_same, entry-changed_other}
 use Rattle.vol_tree.proofs.Finding.{slot_within}
+use Rattle.vol_log.specs.declared.layout.TheConstants.{FIRST_AFTER_LOG}
 
 -- ---- the tree
 
@@ -99,14 +100,14 @@ pub record Rewrites (a b : Image) (v : Superblock) (s : ℕ) (d e : Entry) (old 
   pub parent : e.parent ≡ d.parent
   pub name : name_of e ≡ name_of d
   pub body : IsBody b e
-  pub staged : b (122 + s) ≡ spelling e
-  pub others : OthersStay (122 + s) (first_of old) (end_of old) (taken_of old) a b d
+  pub staged : b (FIRST_AFTER_LOG + s) ≡ spelling e
+  pub others : OthersStay (FIRST_AFTER_LOG + s) (first_of old) (end_of old) (taken_of old) a b d
   pub taken : TakesAndGives (taken_of old) (taken_of new) a b d e
   pub first : first_of new ≡ first_of old
   pub end : end_of new ≡ end_of old
 
 module _ (a b : Image) (v : Superblock) (s : ℕ) (d e : Entry) (old new : Alloc) (is : IsContent a v) (at : get_or (slots_in a v.slots) s None ≡ Some d)
-    (first : first_of old ≡ 122 + v.slots) (end : end_of old ≡ v.sectors) (low : 122 + v.slots < v.sectors) (taken : AreTaken a v (slots_in a v.slots) old) (r : Rewrites a b v s d e old new) where
+    (first : first_of old ≡ FIRST_AFTER_LOG + v.slots) (end : end_of old ≡ v.sectors) (low : FIRST_AFTER_LOG + v.slots < v.sectors) (taken : AreTaken a v (slots_in a v.slots) old) (r : Rewrites a b v s d e old new) where
   abbrev slots : Slots
   slots = slots_in a v.slots
 
@@ -119,16 +120,16 @@ module _ (a b : Image) (v : Superblock) (s : ℕ) (d e : Entry) (old new : Alloc
 
   pub rewritten_others : OtherSlots a b v slots s
   rewritten_others = record {
-    bytes = λ t l differ. r.others.outside (122 + t) (λ same. differ (omega (arith, lt))) (inl (omega (arith, lt)));
+    bytes = λ t l differ. r.others.outside (FIRST_AFTER_LOG + t) (λ same. differ (omega (arith, lt))) (inl (omega (arith, lt)));
     files = λ t f is_f differ p place some.
-        let behind : 122 + v.slots ≤ named a f p = is.volume.sectors.behind t f p is_f place some in
+        let after_slots : FIRST_AFTER_LOG + v.slots ≤ named a f p = is.volume.sectors.after_slots t f p is_f place some in
         r.others.taken (named a f p) (λ same. omega (arith, lt)) (taken.named t f is_f p place some) (not_own t f p is_f differ place some);
   }
 
   own : (c : Entry) → Some e ≡ Some c → e ≡ c
   own c same = same_Some e c same
 
-  range : (n : ℕ) → taken_of new n ≡ true → (122 + v.slots ≤ n) × (n < v.sectors)
+  range : (n : ℕ) → taken_of new n ≡ true → (FIRST_AFTER_LOG + v.slots ≤ n) × (n < v.sectors)
   range n is_taken = let within = taken_range new n is_taken in (omega (arith, within.0, r.first, first), omega (arith, within.1, r.end, end))
 
   names_taken : (p : BlockPosition) → IsPosition p → named b e p ≢ 0 → taken_of new (named b e p) ≡ true
@@ -145,7 +146,7 @@ module _ (a b : Image) (v : Superblock) (s : ℕ) (d e : Entry) (old new : Alloc
     bytes = λ l. r.staged;
     entry = λ c same. subst (IsEntry v.version) (own c same) r.entry;
     body = λ c same. subst (IsBody b) (own c same) r.body;
-    behind = λ c p same place. subst (λ (x : Entry). named b x p ≢ 0 → 122 + v.slots ≤ named b x p) (own c same) (λ some. (range (named b e p) (names_taken p place some)).0);
+    after_slots = λ c p same place. subst (λ (x : Entry). named b x p ≢ 0 → FIRST_AFTER_LOG + v.slots ≤ named b x p) (own c same) (λ some. (range (named b e p) (names_taken p place some)).0);
     there = λ c p same place. subst (λ (x : Entry). named b x p < v.sectors) (own c same) (below p place);
     apart = λ t f c p q is_f differ same place other some eq.
         let eq_e : named a f p ≡ named b e q = eq ∙ ap (λ (x : Entry). named b x q) (sym (own c same)) in
@@ -192,7 +193,7 @@ module _ (a b : Image) (v : Superblock) (s : ℕ) (d e : Entry) (old new : Alloc
 
   pub rewritten_shows : (dirs : Dirs) → Shows v.version a v.slots dirs → Shows v.version b v.slots dirs
   rewritten_shows dirs shows =
-      let here : 121 + suc s ≡ 122 + s = omega (arith, lt) in
+      let here : 121 + suc s ≡ FIRST_AFTER_LOG + s = omega (arith, lt) in
       rewritten_shown v.version a b v.slots (suc s) d e dirs shows (is.volume.holds.entries s d at) r.entry
       (ap a here ∙ is.volume.holds.bytes s (omega (arith, is.volume.count, lt)) ∙ ap slot at) (ap b here ∙ r.staged) (sym r.parent) (sym r.name)
       (λ t from last differ. r.others.outside (121 + t) (λ same. differ (omega (arith, lt))) (inl (omega (arith, lt))))

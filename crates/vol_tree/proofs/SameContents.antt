@@ -4,7 +4,8 @@ use Rattle.std.specs.Option.{option_map}
 use Rattle.std.proofs.lemmas.List.{set_past, length-map}
 use Rattle.vol_sector.specs.Disk.{Image, Disk}
 use Rattle.vol_log.specs.Header.{Places}
-use Rattle.vol_log.specs.Batch.{numbers, logged, HasContent, HasEither, Settled}
+use Rattle.vol_log.specs.Batch.{logged, HasContent, HasEither, Settled}
+use Rattle.vol_log.specs.internal.Batch.{numbers}
 use Rattle.vol_log.proofs.Commit.{over_low, has_own}
 use Rattle.vol_inode.specs.declared.entry.Entry.{Entry}
 use Rattle.vol_body.specs.Body.{named, IsSameFile, SameSectors}
@@ -20,24 +21,25 @@ use Rattle.vol_tree.specs.Tree.{Tree, IsTree}
 use Rattle.vol_tree.specs.Space.{space}
 use Rattle.vol_tree.specs.Stands.{Slots, entry_of, tree_of, IsVolume, StandsAs}
 use Rattle.vol_tree.specs.Opened.{slots_in, tree_in, data_sectors, ReflectsOr}
-use Rattle.vol_tree.specs.Parts.{IsContent, AreTaken}
+use Rattle.vol_tree.specs.internal.Parts.{IsContent, AreTaken}
 use Rattle.vol_tree.proofs.SlotsRead.{slots_count}
 use Rattle.vol_tree.proofs.SlotChange.{OtherSlots, FitsIn, set_tree, set_slots, set_volume}
+use Rattle.vol_log.specs.declared.layout.TheConstants.{FIRST_AFTER_LOG}
 
 -- ---- an image with the same content
 
-module _ (a b : Image) (v : Superblock) (same : (k : ℕ) → 122 ≤ k → a k ≡ b k) (is : IsContent a v) where
+module _ (a b : Image) (v : Superblock) (same : (k : ℕ) → FIRST_AFTER_LOG ≤ k → a k ≡ b k) (is : IsContent a v) where
   abbrev slots : Slots
   slots = slots_in a v.slots
 
   same_sectors : (t : ℕ) (e : Entry) → get_or slots t None ≡ Some e → SameSectors a b e
   same_sectors t e at p place some =
-      let behind : 122 ≤ named a e p = omega (arith, is.volume.sectors.behind t e p at place some) in
-      sym (same (named a e p) behind)
+      let after_log : FIRST_AFTER_LOG ≤ named a e p = omega (arith, is.volume.sectors.after_slots t e p at place some) in
+      sym (same (named a e p) after_log)
 
   others : OtherSlots a b v slots v.slots
   others = record {
-    bytes = λ t lt differ. let behind : 122 ≤ 122 + t = omega arith in sym (same (122 + t) behind);
+    bytes = λ t lt differ. let after_log : FIRST_AFTER_LOG ≤ FIRST_AFTER_LOG + t = omega arith in sym (same (FIRST_AFTER_LOG + t) after_log);
     files = λ t e at differ. same_sectors t e at;
   }
 
@@ -46,7 +48,7 @@ module _ (a b : Image) (v : Superblock) (same : (k : ℕ) → 122 ≤ k → a k 
     bytes = λ lt. absurd (omega arith);
     entry = λ e none. absurd (cc);
     body = λ e none. absurd (cc);
-    behind = λ e p none. absurd (cc);
+    after_slots = λ e p none. absurd (cc);
     there = λ e p none. absurd (cc);
     apart = λ t d e p q at differ none. absurd (cc);
   }
@@ -89,7 +91,7 @@ module _ (a b : Image) (v : Superblock) (same : (k : ℕ) → 122 ≤ k → a k 
   })
 
   pub same_shows : (dirs : Dirs) → Shows v.version a v.slots dirs → Shows v.version b v.slots dirs
-  same_shows dirs shows = same_shown v.version a b v.slots dirs shows (λ s first last. let behind : 122 ≤ 121 + s = omega arith in sym (same (121 + s) behind))
+  same_shows dirs shows = same_shown v.version a b v.slots dirs shows (λ s first last. let after_log : FIRST_AFTER_LOG ≤ 121 + s = omega arith in sym (same (121 + s) after_log))
 
 -- ---- what images stand for
 

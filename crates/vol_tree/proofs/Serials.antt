@@ -8,8 +8,9 @@ use Rattle.vol_dirs.specs.declared.dirs.Dirs.{Dirs}
 use Rattle.vol_dirs.specs.Names.{slots_of, Names}
 use Rattle.vol_tree.specs.declared.superblock.Superblock.{Superblock}
 use Rattle.vol_tree.specs.Tree as tree
-use Rattle.vol_tree.specs.Opened.{IsSerial, slot_of, tree_in}
-use Rattle.vol_tree.specs.Parts.{IsContent}
+use Rattle.vol_tree.specs.Opened.{IsSerial, tree_in}
+use Rattle.vol_tree.specs.internal.Slots.{slot_of}
+use Rattle.vol_tree.specs.internal.Parts.{IsContent}
 use Rattle.vol_tree.proofs.Entries.{used_within}
 use Rattle.vol_tree.proofs.Finding.{length_tree, tree_entry}
 

@@ -10,7 +10,7 @@ use Rattle.vol_alloc.specs.declared.sectors.Alloc.{Alloc}
 use Rattle.vol_alloc.specs.Alloc.{taken_of}
 use Rattle.vol_tree.specs.declared.superblock.Superblock.{Superblock}
 use Rattle.vol_tree.specs.Stands.{Slots, Holds, KeepApart}
-use Rattle.vol_tree.specs.Parts.{AreTaken}
+use Rattle.vol_tree.specs.internal.Parts.{AreTaken}
 use Rattle.vol_tree.proofs.SlotChange.{OtherSlots, FitsIn, at_set}
 
 -- what the slot holds doesn't name the sector

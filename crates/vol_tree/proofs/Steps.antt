@@ -7,37 +7,39 @@ use Rattle.vol_log.proofs.Images.{put_same, put_other, at_once, wrote_other}
 use Rattle.vol_tree.specs.declared.superblock.Superblock.{Superblock}
 use Rattle.vol_tree.specs.Superblock.{superblock, HasRanges}
 use Rattle.vol_tree.specs.Stands.{StandsAs, IsNoVolume, empty_tree}
-use Rattle.vol_tree.specs.Fresh.{fresh_slot, HasFreshSlots, IsFresh, BehindTheLog, BehindTheFirst, IsNoneOrEmpty}
+use Rattle.vol_tree.specs.Fresh.{IsNoneOrEmpty}
+use Rattle.vol_tree.specs.internal.Formatting.{fresh_slot, HasFreshSlots, IsFresh, OnlyAfterLogChanges, OnlyAfterFrontChanges}
 use Rattle.vol_tree.proofs.Empty.{stands_empty}
+use Rattle.vol_log.specs.declared.layout.TheConstants.{FIRST_AFTER_LOG}
 
 -- a write after the log
-pub wrote_behind : (n : ℕ) (bytes : List ℕ) → 122 ≤ n → (x y : Image) → Wrote n bytes x y → BehindTheLog x y
-wrote_behind n bytes behind x y wrote k low = let other : k ≢ n = omega arith in wrote_other n k bytes x y wrote other
+pub wrote_after_log : (n : ℕ) (bytes : List ℕ) → FIRST_AFTER_LOG ≤ n → (x y : Image) → Wrote n bytes x y → OnlyAfterLogChanges x y
+wrote_after_log n bytes after_log x y wrote k low = let other : k ≢ n = omega arith in wrote_other n k bytes x y wrote other
 
-pub behind_joins : (x y z : Image) → BehindTheLog x y → BehindTheLog y z → BehindTheLog x z
-behind_joins x y z one two k low = two k low ∙ one k low
+pub after_log_joins : (x y z : Image) → OnlyAfterLogChanges x y → OnlyAfterLogChanges y z → OnlyAfterLogChanges x z
+after_log_joins x y z one two k low = two k low ∙ one k low
 
 -- one slot more
-pub slots_more : (s : ℕ) (bytes : List ℕ) (x y : Image) → y ≡ put (122 + s) bytes x → bytes ≡ fresh_slot s → HasFreshSlots s x → HasFreshSlots (s + 1) y
-slots_more s bytes x y written spelled so_far t lt = at_once (122 + t) y (put (122 + s) bytes x) written ∙ elim (cases_eq t s) [
-  | inl same ↦ ap (λ (k : ℕ). put (122 + s) bytes x (122 + k)) same ∙ put_same (122 + s) bytes x ∙ spelled ∙ ap fresh_slot (sym same)
-  | inr other ↦ let apart : 122 + t ≢ 122 + s = omega arith in put_other (122 + s) (122 + t) bytes x apart ∙ so_far t (omega arith)
+pub slots_more : (s : ℕ) (bytes : List ℕ) (x y : Image) → y ≡ put (FIRST_AFTER_LOG + s) bytes x → bytes ≡ fresh_slot s → HasFreshSlots s x → HasFreshSlots (s + 1) y
+slots_more s bytes x y written spelled so_far t lt = at_once (FIRST_AFTER_LOG + t) y (put (FIRST_AFTER_LOG + s) bytes x) written ∙ elim (cases_eq t s) [
+  | inl same ↦ ap (λ (k : ℕ). put (FIRST_AFTER_LOG + s) bytes x (FIRST_AFTER_LOG + k)) same ∙ put_same (FIRST_AFTER_LOG + s) bytes x ∙ spelled ∙ ap fresh_slot (sym same)
+  | inr other ↦ let apart : FIRST_AFTER_LOG + t ≢ FIRST_AFTER_LOG + s = omega arith in put_other (FIRST_AFTER_LOG + s) (FIRST_AFTER_LOG + t) bytes x apart ∙ so_far t (omega arith)
 ]
 
 -- steps that leave the first sector
-pub header_leaves_first : (bytes : List ℕ) (x y : Image) → Wrote 1 bytes x y → BehindTheFirst x y
+pub header_leaves_first : (bytes : List ℕ) (x y : Image) → Wrote 1 bytes x y → OnlyAfterFrontChanges x y
 header_leaves_first bytes x y wrote = let other : 0 ≢ 1 = omega arith in wrote_other 1 0 bytes x y wrote other
 
-pub behind_leaves_first : (x y : Image) → BehindTheLog x y → BehindTheFirst x y
-behind_leaves_first x y step = step 0 (omega arith)
+pub after_log_leaves_first : (x y : Image) → OnlyAfterLogChanges x y → OnlyAfterFrontChanges x y
+after_log_leaves_first x y step = step 0 (omega arith)
 
-pub first_joins : (x y z : Image) → BehindTheFirst x y → BehindTheFirst y z → BehindTheFirst x z
+pub first_joins : (x y z : Image) → OnlyAfterFrontChanges x y → OnlyAfterFrontChanges y z → OnlyAfterFrontChanges x z
 first_joins x y z one two = two ∙ one
 
 -- an empty log in front of new slots
-pub is_fresh : (slots : ℕ) (bytes : List ℕ) (a b c : Image) → b ≡ put 1 bytes a → bytes ≡ header_bytes [] → BehindTheLog b c → HasFreshSlots slots c → IsFresh slots c
-is_fresh slots bytes a b c written spelled behind entries = record {
-  log = behind 1 (omega arith) ∙ at_once 1 b (put 1 bytes a) written ∙ put_same 1 bytes a ∙ spelled;
+pub is_fresh : (slots : ℕ) (bytes : List ℕ) (a b c : Image) → b ≡ put 1 bytes a → bytes ≡ header_bytes [] → OnlyAfterLogChanges b c → HasFreshSlots slots c → IsFresh slots c
+is_fresh slots bytes a b c written spelled after_log entries = record {
+  log = after_log 1 (omega arith) ∙ at_once 1 b (put 1 bytes a) written ∙ put_same 1 bytes a ∙ spelled;
   entries = entries;
 }
 
@@ -45,7 +47,7 @@ is_fresh slots bytes a b c written spelled behind entries = record {
 pub still_fresh : (slots : ℕ) (bytes : List ℕ) (a b : Image) → b ≡ put 0 bytes a → IsFresh slots a → IsFresh slots b
 still_fresh slots bytes a b written fresh = record {
   log = let other : 1 ≢ 0 = omega arith in at_once 1 b (put 0 bytes a) written ∙ put_other 0 1 bytes a other ∙ fresh.log;
-  entries = λ s lt. let other : 122 + s ≢ 0 = omega arith in at_once (122 + s) b (put 0 bytes a) written ∙ put_other 0 (122 + s) bytes a other ∙ fresh.entries s lt;
+  entries = λ s lt. let other : FIRST_AFTER_LOG + s ≢ 0 = omega arith in at_once (FIRST_AFTER_LOG + s) b (put 0 bytes a) written ∙ put_other 0 (FIRST_AFTER_LOG + s) bytes a other ∙ fresh.entries s lt;
 }
 
 -- ---- no volume, or the empty one

@@ -12,8 +12,9 @@ use Rattle.vol_tree.specs.declared.superblock.Superblock.{Superblock}
 use Rattle.vol_tree.specs.Tree.{is_empty}
 use Rattle.vol_tree.specs.Calls.{is_directory}
 use Rattle.vol_tree.specs.Stands.{entry_of, node_by}
-use Rattle.vol_tree.specs.Opened.{slot_of, tree_in, is_io}
-use Rattle.vol_tree.specs.Parts.{IsContent}
+use Rattle.vol_tree.specs.Opened.{tree_in, is_io}
+use Rattle.vol_tree.specs.internal.Slots.{slot_of}
+use Rattle.vol_tree.specs.internal.Parts.{IsContent}
 use Rattle.vol_tree.specs.internal.Replacing.{replacing}
 use Rattle.vol_tree.proofs.Children.{none_in, some_in, childless_empty}
 use Rattle.vol_tree.proofs.Finding.{tree_entry}

@@ -6,7 +6,7 @@ use Rattle.vol_dirs.specs.Names.{IsFree, Shows}
 use Rattle.vol_tree.specs.declared.superblock.Superblock.{Superblock}
 use Rattle.vol_tree.specs.Tree as tree
 use Rattle.vol_tree.specs.Opened.{tree_in}
-use Rattle.vol_tree.specs.Parts.{IsContent}
+use Rattle.vol_tree.specs.internal.Parts.{IsContent}
 use Rattle.vol_tree.proofs.Finding.{free_is_none, none_is_free}
 
 module _ (content : Image) (v : Superblock) (dirs : Dirs) (is : IsContent content v) (shows : Shows v.version content v.slots dirs) (s : ℕ) where

@@ -19,17 +19,20 @@ use Rattle.vol_alloc.specs.Alloc.{first_of, end_of, free_of}
 use Rattle.vol_tree.specs.declared.superblock.Superblock.{Superblock}
 use Rattle.vol_tree.specs.declared.errno.Errno.TheVariants as errno
 use Rattle.vol_tree.specs.Tree as tree
-use Rattle.vol_tree.specs.Tree.{Tree, Node, Directory, File, changed}
-use Rattle.vol_tree.specs.Calls.{written, resized, with_unit, if_it_fits, overwritten, bytes_at, is_file_at, is_directory}
+use Rattle.vol_tree.specs.Tree.{Tree, Directory, File, changed}
+use Rattle.vol_tree.specs.Calls.{written, resized, with_unit, if_it_fits, bytes_at, is_file_at, is_directory}
 use Rattle.vol_tree.specs.Calls as calls
 use Rattle.vol_tree.specs.Space.{space, need_in, size_of}
 use Rattle.vol_tree.specs.Stands.{entry_of, node_by}
-use Rattle.vol_tree.specs.Opened.{slots_in, slot_of, tree_in, data_sectors, geometry}
-use Rattle.vol_tree.specs.Parts.{IsContent, AreTaken}
+use Rattle.vol_tree.specs.Opened.{slots_in, tree_in, data_sectors, geometry}
+use Rattle.vol_tree.specs.internal.Slots.{slot_of}
+use Rattle.vol_tree.specs.internal.Parts.{IsContent, AreTaken}
 use Rattle.vol_tree.proofs.Counts.{used_in, free_and_used}
 use Rattle.vol_tree.proofs.SlotsRead.{slots_count}
 use Rattle.vol_tree.proofs.Finding.{tree_entry, slot_within, size_back, length_tree}
-use Rattle.vol_tree.proofs.Writes.{some_written, length_overwritten, too_big, no_space, it_fits, space_changed}
+use Rattle.vol_body.specs.Bytes.{extended, resized_bytes, written_bytes}
+use Rattle.vol_tree.proofs.Writes.{some_written, length_written, too_big, no_space, it_fits, space_changed}
+use Rattle.vol_log.specs.declared.layout.TheConstants.{FIRST_AFTER_LOG}
 
 -- ---- each file uses no more sectors than it needs
 
@@ -85,12 +88,12 @@ module _ (content : Image) (v : Superblock) (is : IsContent content v) (file : �
   old_bytes = ap (λ (o : Option tree.Entry). option_map_or (λ (c : tree.Entry). calls.bytes_of c.node) o []) at_file ∙ ap calls.bytes_of node_is
 
   abbrev B : ℕ → List ℕ → List ℕ
-  B offset bytes = overwritten (bytes_at T file) offset bytes
+  B offset bytes = written_bytes (bytes_at T file) offset bytes
 
-  long : (offset : ℕ) (bytes : List ℕ) → length (B offset bytes) ≡ max d.size (offset + length bytes)
-  long offset bytes =
+  long : (offset : ℕ) (bytes : List ℕ) → 0 < length bytes → length (B offset bytes) ≡ max d.size (offset + length bytes)
+  long offset bytes some =
       let old : length (bytes_at T file) ≡ d.size = ap length old_bytes ∙ length-map-range_with_len (byte_at content d) 0 d.size in
-      length_overwritten (bytes_at T file) offset bytes ∙ ap (λ (n : ℕ). max n (offset + length bytes)) old
+      length_written (bytes_at T file) offset bytes some ∙ ap (λ (n : ℕ). max n (offset + length bytes)) old
 
   abbrev after : ℕ → List ℕ → Tree
   after offset bytes = changed T file (Some (record e { node = File (B offset bytes) }))
@@ -98,12 +101,12 @@ module _ (content : Image) (v : Superblock) (is : IsContent content v) (file : �
   within : file - 1 < v.slots
   within = slot_within content v.slots (file - 1) d slot_is
 
-  pub space_after : (offset : ℕ) (bytes : List ℕ) → space (after offset bytes) + need_of d.size ≡ space T + need_of (max d.size (offset + length bytes))
-  space_after offset bytes =
+  pub space_after : (offset : ℕ) (bytes : List ℕ) → 0 < length bytes → space (after offset bytes) + need_of d.size ≡ space T + need_of (max d.size (offset + length bytes))
+  space_after offset bytes some =
       let here : file ≡ suc (file - 1) = omega arith in
       let old : size_of e.node ≡ d.size = ap size_of node_is ∙ length-map-range_with_len (byte_at content d) 0 d.size in
       let was : need_of (size_of e.node) ≡ need_of d.size = ap need_of old in
-      let now : need_of (length (B offset bytes)) ≡ need_of (max d.size (offset + length bytes)) = ap need_of (long offset bytes) in
+      let now : need_of (length (B offset bytes)) ≡ need_of (max d.size (offset + length bytes)) = ap need_of (long offset bytes some) in
       let lt : file - 1 < length T = omega (arith, within, length_tree content v) in
       let same : space (after offset bytes) ≡ space (changed T (suc (file - 1)) (Some (record e { node = File (B offset bytes) }))) = ap (λ (s : ℕ). space (changed T s (Some (record e { node = File (B offset bytes) })))) here in
       let sums = space_changed T (file - 1) e (record e { node = File (B offset bytes) }) (ap (tree.entry T) (sym here) ∙ at_file) lt in
@@ -114,13 +117,13 @@ module _ (content : Image) (v : Superblock) (is : IsContent content v) (file : �
     meant_is = ap with_unit (some_written (geometry v) T file offset bytes some)
 
     pub is_too_big : size_limit v.version < offset + length bytes → with_unit (written (geometry v) T file offset bytes) ≡ Err errno.TooBig
-    is_too_big over = meant_is ∙ ap with_unit (too_big (geometry v) T file e at_file (B offset bytes) (omega (arith, over, long offset bytes)))
+    is_too_big over = meant_is ∙ ap with_unit (too_big (geometry v) T file e at_file (B offset bytes) (omega (arith, over, long offset bytes some)))
 
     small : offset + length bytes ≤ size_limit v.version → length (B offset bytes) ≤ size_limit v.version
-    small le = let right = (is.volume.holds.entries (file - 1) d slot_is).rules.size.small in omega (arith, le, right, long offset bytes)
+    small le = let right = (is.volume.holds.entries (file - 1) d slot_is).rules.size.small in omega (arith, le, right, long offset bytes some)
 
     pub has_no_space : offset + length bytes ≤ size_limit v.version → data_sectors v + need_of d.size < space T + need_of (max d.size (offset + length bytes)) → with_unit (written (geometry v) T file offset bytes) ≡ Err errno.NoSpace
-    has_no_space le few = meant_is ∙ ap with_unit (no_space (geometry v) T file e at_file (B offset bytes) (small le) (omega (arith, few, space_after offset bytes)))
+    has_no_space le few = meant_is ∙ ap with_unit (no_space (geometry v) T file e at_file (B offset bytes) (small le) (omega (arith, few, space_after offset bytes some)))
 
     pub is_written : offset + length bytes ≤ size_limit v.version → space (after offset bytes) ≤ data_sectors v → with_unit (written (geometry v) T file offset bytes) ≡ Ok (after offset bytes, tt)
     is_written le few = meant_is ∙ ap with_unit (it_fits (geometry v) T file e at_file (B offset bytes) (small le) few)
@@ -135,7 +138,7 @@ module _ (content : Image) (v : Superblock) (is : IsContent content v) (file : �
       omega (arith, get_or-le-sum_by need_in T (file - 1) None lt, own)
 
   -- the space that a file needs is there
-  pub enough : (sectors : Alloc) (size : ℕ) → AreTaken content v (slots_in content v.slots) sectors → first_of sectors ≡ 122 + v.slots → end_of sectors ≡ v.sectors → space T + need_of size ≤ data_sectors v + need_of d.size → need_of size ≤ free_of sectors + used_of content d
+  pub enough : (sectors : Alloc) (size : ℕ) → AreTaken content v (slots_in content v.slots) sectors → first_of sectors ≡ FIRST_AFTER_LOG + v.slots → end_of sectors ≡ v.sectors → space T + need_of size ≤ data_sectors v + need_of d.size → need_of size ≤ free_of sectors + used_of content d
   enough sectors size taken first_is end_is fits =
       let count = free_and_used content v sectors is taken first_is end_is in
       let slots = slots_in content v.slots in
@@ -158,12 +161,12 @@ file_used T s is = go (tree.entry T s) is
 
 module _ (content : Image) (v : Superblock) (is : IsContent content v) (file : ℕ) (first : 1 ≤ file) (d : Entry) (slot_is : slot_of content v file ≡ Some d) (file_is : is_file_at (tree_in content v) file ≡ true) (size : ℕ) where
   abbrev R : List ℕ
-  R = take size (calls.extended size (bytes_at (tree_in content v) file))
+  R = resized_bytes size (bytes_at (tree_in content v) file)
 
   long_sized : length R ≡ size
   long_sized =
       let old = bytes_at (tree_in content v) file in
-      omega (arith, length-take size (calls.extended size old), length-append old (replicate (size - length old) 0), length-replicate {A = ℕ} (size - length old) 0)
+      omega (arith, length-take size (extended size old), length-append old (replicate (size - length old) 0), length-replicate {A = ℕ} (size - length old) 0)
 
   abbrev d_entry : tree.Entry
   d_entry = entry_of content d

@@ -1,10 +1,11 @@
 -- What each call on a tree answers, and the tree that it leaves.
-use Rattle.std.specs.Prelude.{ℕ, zero, suc, ◌+◌, ◌-◌, Bool, true, false, ◌&&◌, ◌||◌, not, ◌==◌, nat_lt, List, [], ◌∷◌, ◌++◌, length, take, drop, replicate, Option, Some, None, Result, Ok, Err, if◌then◌else◌}
+use Rattle.std.specs.Prelude.{ℕ, zero, suc, Bool, true, false, ◌&&◌, ◌||◌, not, ◌==◌, nat_lt, List, [], ◌∷◌, length, take, drop, Option, Some, None, Result, Ok, Err, if◌then◌else◌}
 use Rattle.std.specs.Option.{option_map_or}
 use Rattle.vol_tree.specs.declared.errno.Errno.{Errno}
 use Rattle.vol_tree.specs.declared.errno.Errno.TheVariants as errno
 use Rattle.vol_tree.specs.Tree.{Tree, Node, Directory, File, Name, entry, changed, lookup, least_from, is_unused, is_in, is_empty}
 use Rattle.vol_inode.specs.Space.{size_limit}
+use Rattle.vol_body.specs.Bytes.{resized_bytes, written_bytes}
 use Rattle.vol_tree.specs.Space.{Geometry, space}
 
 -- The first test that holds refuses the call; where none holds, the answer is this.
@@ -66,13 +67,6 @@ renamed T serial parent name = unless
     ((serial == 1, errno.Invalid) ∷ (is_within (length T) T serial parent, errno.Invalid) ∷ [])
     (option_map_or (moved_onto T serial parent name) (lookup T parent name) (Ok (moved T serial parent name)))
 
--- the bytes with zeros after them, up to a length
-abbrev pub extended : ℕ → List ℕ → List ℕ
-extended size bytes = bytes ++ replicate (size - length bytes) 0
-
-abbrev pub overwritten : List ℕ → ℕ → List ℕ → List ℕ
-overwritten old offset new = take offset (extended offset old) ++ new ++ drop (offset + length new) old
-
 -- with these bytes in the file, if no rule on sizes is broken
 abbrev pub if_it_fits : Geometry → Tree → ℕ → List ℕ → Result Tree Errno
 if_it_fits volume T file bytes = unless
@@ -82,10 +76,10 @@ if_it_fits volume T file bytes = unless
 
 abbrev pub written : Geometry → Tree → ℕ → ℕ → List ℕ → Result Tree Errno
 written volume T file offset [] = Ok T
-written volume T file offset (byte ∷ bytes) = if_it_fits volume T file (overwritten (bytes_at T file) offset (byte ∷ bytes))
+written volume T file offset (byte ∷ bytes) = if_it_fits volume T file (written_bytes (bytes_at T file) offset (byte ∷ bytes))
 
 abbrev pub resized : Geometry → Tree → ℕ → ℕ → Result Tree Errno
-resized volume T file size = if_it_fits volume T file (take size (extended size (bytes_at T file)))
+resized volume T file size = if_it_fits volume T file (resized_bytes size (bytes_at T file))
 
 abbrev pub read_bytes : Tree → ℕ → ℕ → ℕ → List ℕ
 read_bytes T file offset count = take count (drop offset (bytes_at T file))

@@ -1,42 +1,13 @@
 -- What formatting leaves (`docs/VOLUME.md`, "Formatting").
-use Rattle.std.specs.Prelude.{◌≡◌, ◌⊎◌, ◌+◌, ◌<◌, ◌==◌, ℕ, List, [], if◌then◌else◌, replicate}
+use Rattle.std.specs.Prelude.{◌⊎◌, ℕ}
 use Rattle.vol_sector.specs.Disk.{Image}
-use Rattle.vol_log.specs.Header.{header_bytes}
-use Rattle.vol_inode.specs.declared.entry.Entry.{Entry}
-use Rattle.vol_inode.specs.declared.entry.Kind.TheVariants.{Directory}
 use Rattle.vol_inode.specs.declared.version.Version.TheVariants.{One}
-use Rattle.vol_inode.specs.Spelling.{spelling, unused}
 use Rattle.vol_tree.specs.declared.superblock.Superblock.{Superblock}
 use Rattle.vol_tree.specs.Stands.{StandsAs, IsNoVolume, empty_tree}
 
 -- the numbers of a new volume
 abbrev pub fresh : ℕ → ℕ → Superblock
 fresh sectors slots = record { version = One; sectors = sectors; slots = slots }
-
--- the root, as a volume keeps it
-abbrev pub root_entry : Entry
-root_entry = record { kind = Directory; name_length = 0; parent = 0; size = 0; name = replicate 255 0; pointers = replicate 60 0 }
-
--- the slot of a new volume: the root in the first one
-abbrev pub fresh_slot : ℕ → List ℕ
-fresh_slot s = if s == 0 then spelling root_entry else unused
-
--- the slots hold only the root
-abbrev pub HasFreshSlots : ℕ → Image → Type 0
-HasFreshSlots slots image = (s : ℕ) → s < slots → image (122 + s) ≡ fresh_slot s
-
--- the log is empty, and the slots hold only the root
-pub record IsFresh (slots : ℕ) (image : Image) : Type 0 where
-  pub log : image 1 ≡ header_bytes []
-  pub entries : HasFreshSlots slots image
-
--- a step that leaves the sectors before the slots
-abbrev pub BehindTheLog : Image → Image → Type 0
-BehindTheLog before after = (k : ℕ) → k < 122 → after k ≡ before k
-
--- a step that leaves the first sector
-abbrev pub BehindTheFirst : Image → Image → Type 0
-BehindTheFirst before after = after 0 ≡ before 0
 
 -- the image is no volume yet, or the empty one
 abbrev pub IsNoneOrEmpty : Superblock → Image → Type 0

@@ -1,5 +1,5 @@
 -- An open volume, as its callers see it and as it keeps itself.
-use Rattle.std.specs.Prelude.{◌≡◌, ◌⊎◌, ◌+◌, ◌-◌, ◌*◌, ◌==◌, ◌≤◌, ◌++◌, ◌↔◌, ℕ, List, length, Bool, true, false, Option, Some, None, Result, Ok, Err, if◌then◌else◌, take, drop, map, slice_index, get_or}
+use Rattle.std.specs.Prelude.{◌≡◌, ◌⊎◌, ◌+◌, ◌-◌, ◌*◌, ◌==◌, ◌≤◌, ◌++◌, ◌↔◌, ℕ, List, length, Bool, true, false, Option, Some, None, Result, Ok, Err, if◌then◌else◌, take, drop, map, slice_index}
 use Rattle.std.specs.List.{range_with_len}
 use Rattle.byteorder.specs.Endian.{little_number}
 use Rattle.vol_sector.specs.Disk.{Image, Disk, counted}
@@ -11,6 +11,7 @@ use Rattle.vol_tree.specs.declared.errno.Errno.TheVariants as errno
 use Rattle.vol_tree.specs.Space.{Geometry}
 use Rattle.vol_tree.specs.Tree.{Tree}
 use Rattle.vol_tree.specs.Stands.{Slots, tree_of, Stands}
+use Rattle.vol_log.specs.declared.layout.TheConstants.{FIRST_AFTER_LOG}
 
 -- ---- the slots that sectors spell
 
@@ -29,18 +30,14 @@ abbrev pub slot_in : List ℕ → Option Entry
 slot_in bytes = if slice_index bytes 0 == 0 then None else Some (entry_in bytes)
 
 abbrev pub slots_in : Image → ℕ → Slots
-slots_in content slots = map (λ s. slot_in (content (122 + s))) (range_with_len 0 slots)
-
--- the entry of a serial
-abbrev pub slot_of : Image → Superblock → ℕ → Option Entry
-slot_of content v serial = get_or (slots_in content v.slots) (serial - 1) None
+slots_in content slots = map (λ s. slot_in (content (FIRST_AFTER_LOG + s))) (range_with_len 0 slots)
 
 -- the tree of a volume with these numbers
 abbrev pub tree_in : Image → Superblock → Tree
 tree_in content v = tree_of content (slots_in content v.slots)
 
 abbrev pub data_sectors : Superblock → ℕ
-data_sectors v = v.sectors - (122 + v.slots)
+data_sectors v = v.sectors - (FIRST_AFTER_LOG + v.slots)
 
 abbrev pub geometry : Superblock → Geometry
 geometry v = record { version = v.version; data_sectors = data_sectors v }

@@ -15,6 +15,7 @@ use Rattle.vol_tree.specs.Superblock.{superblock, HasRanges, magic}
 use Rattle.vol_tree.specs.Tree as tree
 use Rattle.vol_tree.specs.Tree.{Tree, Node, Directory, File, IsTree}
 use Rattle.vol_tree.specs.Space.{space}
+use Rattle.vol_log.specs.declared.layout.TheConstants.{FIRST_AFTER_LOG}
 
 -- the slots of a volume: serial s + 1 stands at place s
 abbrev pub Slots : Type 0
@@ -27,7 +28,7 @@ slot (Some e) = spelling e
 
 -- The slots hold these entries, each of which keeps the rules that its own sector shows.
 pub record Holds (content : Image) (version : Version) (slots : Slots) : Type 0 where
-  pub bytes : (s : ℕ) → s < length slots → content (122 + s) ≡ slot (get_or slots s None)
+  pub bytes : (s : ℕ) → s < length slots → content (FIRST_AFTER_LOG + s) ≡ slot (get_or slots s None)
   pub entries : (s : ℕ) (e : Entry) → get_or slots s None ≡ Some e → IsEntry version e
 
 -- ---- the tree of the entries
@@ -49,7 +50,7 @@ tree_of content slots = map (option_map (entry_of content)) slots
 -- the same one.
 pub record KeepApart (content : Image) (v : Superblock) (slots : Slots) : Type 0 where
   pub bodies : (s : ℕ) (e : Entry) → get_or slots s None ≡ Some e → IsBody content e
-  pub behind : (s : ℕ) (e : Entry) (p : BlockPosition) → get_or slots s None ≡ Some e → IsPosition p → named content e p ≢ 0 → 122 + v.slots ≤ named content e p
+  pub after_slots : (s : ℕ) (e : Entry) (p : BlockPosition) → get_or slots s None ≡ Some e → IsPosition p → named content e p ≢ 0 → FIRST_AFTER_LOG + v.slots ≤ named content e p
   pub there : (s : ℕ) (e : Entry) (p : BlockPosition) → get_or slots s None ≡ Some e → IsPosition p → named content e p < v.sectors
   pub apart : (s t : ℕ) (d e : Entry) (p q : BlockPosition) → get_or slots s None ≡ Some d → get_or slots t None ≡ Some e → IsPosition p → IsPosition q
       → named content d p ≢ 0 → named content d p ≡ named content e q → s ≡ t
@@ -61,7 +62,7 @@ pub record IsVolume (content : Image) (v : Superblock) (slots : Slots) : Type 0 
   pub holds : Holds content v.version slots
   pub sectors : KeepApart content v slots
   pub tree : IsTree (tree_of content slots)
-  pub space : space (tree_of content slots) ≤ v.sectors - (122 + v.slots)
+  pub space : space (tree_of content slots) ≤ v.sectors - (FIRST_AFTER_LOG + v.slots)
 
 -- the image is a volume with these numbers, and this is its tree
 pub record StandsAs (image : Image) (v : Superblock) (T : Tree) : Type 0 where

@@ -4,6 +4,7 @@ use Rattle.byteorder.specs.Endian.{little_bytes}
 use Rattle.vol_inode.specs.declared.version.Version.{Version}
 use Rattle.vol_inode.specs.declared.version.Version.TheVariants.{One, Two}
 use Rattle.vol_tree.specs.declared.superblock.Superblock.{Superblock}
+use Rattle.vol_log.specs.declared.layout.TheConstants.{FIRST_AFTER_LOG}
 
 -- `WASMVOLU`
 abbrev pub magic : List ℕ
@@ -23,7 +24,7 @@ pub record HasRanges (v : Superblock) : Type 0 where
   pub most : v.sectors ≤ 65536
   pub some_slots : 1 ≤ v.slots
   pub few_slots : v.slots ≤ 8192
-  pub room : 122 + v.slots < v.sectors
+  pub room : FIRST_AFTER_LOG + v.slots < v.sectors
 
 -- the number of no version that is known
 abbrev pub IsNoVersion : ℕ → Type 0

@@ -7,3 +7,6 @@ pub mod Climbs
 pub mod Reads
 pub mod Changes
 pub mod Commits
+pub mod Formatting
+pub mod Slots
+pub mod Parts

@@ -2,15 +2,14 @@
 
 ghost use Rattle.std.specs.Prelude.{◌≡◌, ◌⊎◌, ◌≤◌, ◌<◌, ◌+◌, IsTrue, IfOk, IfErr, false, length};
 ghost use Rattle.vol_sector.specs.Fault.{device_failed};
-ghost use Rattle.vol_log.specs.Log.{view, sectors_of, has_failed, device_of};
+ghost use Rattle.vol_log.specs.Log.{view, log_sectors, has_failed, device_of};
 ghost use Rattle.vol_log.specs.Reading.{OnlyReads};
 ghost use Rattle.vol_alloc.specs.Alloc.{first_of, end_of};
 ghost use Rattle.vol_dirs.specs.Names.{slots_of, Shows};
 ghost use Rattle.vol_tree.specs.Superblock.{HasRanges};
-ghost use Rattle.vol_tree.specs.Parts.{IsContent};
+ghost use Rattle.vol_tree.specs.internal.Parts.{IsContent};
 ghost use Rattle.vol_tree.specs.internal.Reads.{HaveTree, HaveTreeSoon, HasParts};
 
-use crate::layout::FIRST_SLOT;
 use crate::reaching::{has_flag, lead_to_root, stand_in_directories};
 use crate::reading::{Entries, read_entries};
 use crate::stat::ROOT;
@@ -18,7 +17,7 @@ use crate::superblock::Superblock;
 use std::alloc::{AllocError, Global};
 use vol_alloc::Alloc;
 use vol_dirs::Dirs;
-use vol_log::Log;
+use vol_log::{FIRST_AFTER_LOG, Log};
 use vol_sector::{Device, VolumeFault};
 
 /// Whether the entries make a tree: the root is there, and each entry stands in a directory that
@@ -46,10 +45,10 @@ fn check_entries<D: Device>(
     numbers: &Superblock,
     dirs: &Dirs,
 ) -> Result<(Alloc, u32), VolumeFault>
-    requires there { numbers.now.sectors ≤ sectors_of log.old }
+    requires there { numbers.now.sectors ≤ log_sectors log.old }
     requires ranges { HasRanges numbers.now }
     requires working { has_failed log.old ≡ false }
-    ensures first { IfOk result (λ p. first_of p.0 ≡ 122 + numbers.now.slots) }
+    ensures first { IfOk result (λ p. first_of p.0 ≡ FIRST_AFTER_LOG + numbers.now.slots) }
     ensures end { IfOk result (λ p. end_of p.0 ≡ numbers.now.sectors) }
     ensures parts { D.honest (device_of log.old)
         → Shows numbers.now.version (view log.old) numbers.now.slots dirs.now
@@ -67,7 +66,7 @@ fn check_entries<D: Device>(
     if !make_a_tree(alloc, &found)? {
         return Err(VolumeFault::Damaged);
     }
-    let first = FIRST_SLOT + numbers.slots;
+    let first = FIRST_AFTER_LOG + numbers.slots;
     let sectors = Alloc::from_named(alloc, first, numbers.sectors, &found.named)?;
     Ok((sectors, found.reserved))
 }
@@ -82,11 +81,11 @@ pub(crate) fn read_parts<D: Device>(
     log: &mut Log<D>,
     numbers: &Superblock,
 ) -> Result<(Dirs, Alloc, u32), VolumeFault>
-    requires there { numbers.now.sectors ≤ sectors_of log.old }
+    requires there { numbers.now.sectors ≤ log_sectors log.old }
     requires ranges { HasRanges numbers.now }
     requires working { has_failed log.old ≡ false }
     ensures slots { IfOk result (λ p. slots_of p.0 ≡ numbers.now.slots) }
-    ensures first { IfOk result (λ p. first_of p.1 ≡ 122 + numbers.now.slots) }
+    ensures first { IfOk result (λ p. first_of p.1 ≡ FIRST_AFTER_LOG + numbers.now.slots) }
     ensures end { IfOk result (λ p. end_of p.1 ≡ numbers.now.sectors) }
     ensures parts { D.honest (device_of log.old)
         → IfOk result (λ p. HasParts (view log.old) numbers.now p.0 p.1 p.2) }

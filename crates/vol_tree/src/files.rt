@@ -1,9 +1,9 @@
 //! What the calls on files do to the parts of an open volume.
 
-ghost use Rattle.std.specs.Prelude.{◌≡◌, ◌≤◌, ◌<◌, ◌+◌, ◌-◌, ◌↔◌, ℕ, IsTrue, Some, None, MatchOption, OnOk, OnErr, true, false, length};
+ghost use Rattle.std.specs.Prelude.{◌≡◌, ◌≤◌, ◌<◌, ◌+◌, ◌-◌, IsTrue, Some, None, MatchOption, length};
 ghost use Rattle.vol_sector.specs.Disk.{Leaves};
 ghost use Rattle.vol_inode.specs.Space.{need_of, size_limit};
-ghost use Rattle.vol_log.specs.Log.{view, device_of};
+ghost use Rattle.vol_log.specs.Log.{device_of};
 ghost use Rattle.vol_tree.specs.Superblock.{HasRanges};
 ghost use Rattle.vol_tree.specs.Calls.{written, resized, with_unit, is_file_at, read_bytes};
 ghost use Rattle.vol_tree.specs.Opened.{data_sectors, geometry, is_io, TellsBytes};
@@ -12,12 +12,14 @@ use crate::Errno;
 use crate::parts::Parts;
 use vol_body::{Source, read_at, set_size, write_at};
 use vol_inode::{Version, need};
+use vol_log::FIRST_AFTER_LOG;
 use vol_sector::Device;
 
 impl<D: Device> Parts<D> {
     ghost use Rattle.vol_tree.specs.Opened.{Keeps};
     ghost use Rattle.vol_tree.specs.internal.Changes.{Changes};
-    ghost use Rattle.vol_tree.specs.Parts.{opened, IsOpen};
+    ghost use Rattle.vol_tree.specs.Parts.{opened};
+    ghost use Rattle.vol_tree.specs.internal.Parts.{IsOpen};
 
     /// Writes bytes into a file. Of no bytes nothing changes.
     pub fn write(&mut self, file: u32, offset: u64, bytes: &Source<'_>) -> Result<(), Errno>
@@ -134,7 +136,7 @@ impl<D: Device> Parts<D> {
     {
         let others = u64::from(self.reserved.saturating_sub(need(before)));
         let sum = others + u64::from(need(after));
-        let most = self.numbers.sectors - (122 + self.numbers.slots);
+        let most = self.numbers.sectors - (FIRST_AFTER_LOG + self.numbers.slots);
         if sum <= u64::from(most) {
             Some(sum as u32)
         } else {

@@ -1,17 +1,20 @@
 //! New volumes.
 
-ghost use Rattle.std.specs.Prelude.{◌≡◌, ◌≤◌, ◌<◌, ◌+◌, ◌↔◌, ℕ, OnOk, IfOk, IfErr, Err, is_err};
+ghost use Rattle.std.specs.Prelude.{◌≡◌, ◌≤◌, ◌<◌, ◌+◌, ◌↔◌, OnOk, IfOk, IfErr, Err, is_err};
 ghost use Rattle.vol_sector.specs.Disk.{After, Wrote, Leaves, Only, put, counted};
 ghost use Rattle.vol_sector.specs.Fault.{is_device};
 ghost use Rattle.vol_tree.specs.Superblock.{HasRanges};
 ghost use Rattle.vol_tree.specs.Stands.{StandsAs, empty_tree};
-ghost use Rattle.vol_tree.specs.Fresh.{fresh, root_entry, fresh_slot, HasFreshSlots, IsFresh};
-ghost use Rattle.vol_tree.specs.Fresh.{BehindTheLog, BehindTheFirst, IsNoneOrEmpty};
+ghost use Rattle.vol_tree.specs.Fresh.{fresh};
+ghost use Rattle.vol_tree.specs.internal.Formatting.{root_entry, fresh_slot, HasFreshSlots, IsFresh};
+ghost use Rattle.vol_tree.specs.Fresh.{IsNoneOrEmpty};
+ghost use Rattle.vol_tree.specs.internal.Formatting.{OnlyAfterLogChanges, OnlyAfterFrontChanges};
 
 use crate::Volume;
-use crate::layout::{FIRST_SLOT, LOG_HEADER, SUPERBLOCK};
+use crate::layout::SUPERBLOCK;
 use crate::superblock::{Superblock, has_ranges, write_superblock};
 use vol_inode::{Entry, Kind, Version, write_entry};
+use vol_log::{FIRST_AFTER_LOG, HEADER};
 use vol_sector::{Device, DeviceFault, Refused, VolumeFault};
 
 impl<D: Device> Volume<D> {
@@ -90,7 +93,7 @@ fn lay_out<D: Device>(device: &mut D, numbers: &Superblock) -> Result<(), Device
     ensures failures { D.failures device.new ≡ counted (is_err result) (D.failures device.old) }
 {
     write_first(device, &[0; 512])?; // nothing is a volume while the slots are written
-    write_behind(device, numbers.slots)?;
+    write_after_front(device, numbers.slots)?;
     write_first(device, &write_superblock(numbers))
 }
 
@@ -112,21 +115,21 @@ fn write_first<D: Device>(device: &mut D, image: &[u8; 512]) -> Result<(), Devic
 }
 
 /// Writes an empty log and only the root, and syncs.
-fn write_behind<D: Device>(device: &mut D, slots: u32) -> Result<(), DeviceFault>
+fn write_after_front<D: Device>(device: &mut D, slots: u32) -> Result<(), DeviceFault>
     requires few { slots ≤ 8192 }
-    requires room { 122 + slots ≤ D.size device.old }
+    requires room { FIRST_AFTER_LOG + slots ≤ D.size device.old }
     ensures durable { D.honest device.old
         → OnOk result (Only (D.disk device.new).seen (D.disk device.new).may_leave) }
     ensures written { D.honest device.old → OnOk result (IsFresh slots (D.disk device.new).seen) }
     ensures first { D.honest device.old
-        → BehindTheFirst (D.disk device.old).seen (D.disk device.new).seen }
+        → OnlyAfterFrontChanges (D.disk device.old).seen (D.disk device.new).seen }
     ensures crash { D.honest device.old → Leaves (D.disk device.old) (D.disk device.new)
-        (After BehindTheFirst (D.disk device.old).may_leave) }
+        (After OnlyAfterFrontChanges (D.disk device.old).may_leave) }
     ensures honest { D.honest device.old ↔ D.honest device.new }
     ensures size { D.size device.new ≡ D.size device.old }
     ensures failures { D.failures device.new ≡ counted (is_err result) (D.failures device.old) }
 {
-    device.write(LOG_HEADER, &[0; 512])?;
+    device.write(HEADER, &[0; 512])?;
     write_slots(device, slots)?;
     device.sync() // the slots are on the disk before the superblock names them
 }
@@ -134,19 +137,19 @@ fn write_behind<D: Device>(device: &mut D, slots: u32) -> Result<(), DeviceFault
 /// Writes the slots: the root, and after it slots that aren't used.
 fn write_slots<D: Device>(device: &mut D, slots: u32) -> Result<(), DeviceFault>
     requires few { slots ≤ 8192 }
-    requires room { 122 + slots ≤ D.size device.old }
+    requires room { FIRST_AFTER_LOG + slots ≤ D.size device.old }
     ensures written { D.honest device.old
         → OnOk result (HasFreshSlots slots (D.disk device.new).seen) }
     ensures beside { D.honest device.old
-        → BehindTheLog (D.disk device.old).seen (D.disk device.new).seen }
+        → OnlyAfterLogChanges (D.disk device.old).seen (D.disk device.new).seen }
     ensures crash { D.honest device.old → Leaves (D.disk device.old) (D.disk device.new)
-        (After BehindTheLog (D.disk device.old).may_leave) }
+        (After OnlyAfterLogChanges (D.disk device.old).may_leave) }
     ensures honest { D.honest device.old ↔ D.honest device.new }
     ensures size { D.size device.new ≡ D.size device.old }
     ensures failures { D.failures device.new ≡ counted (is_err result) (D.failures device.old) }
 {
     for s in 0..slots {
-        device.write(FIRST_SLOT + s, &fresh_slot(s))?;
+        device.write(FIRST_AFTER_LOG + s, &fresh_slot(s))?;
     }
     Ok(())
 }

@@ -18,9 +18,10 @@ use vol_inode::{Entry, Kind};
 use vol_sector::Device;
 
 impl<D: Device> Parts<D> {
-    ghost use Rattle.vol_tree.specs.Opened.{slot_of};
+    ghost use Rattle.vol_tree.specs.internal.Slots.{slot_of};
     ghost use Rattle.vol_tree.specs.internal.Changes.{Changes};
-    ghost use Rattle.vol_tree.specs.Parts.{opened, IsOpen};
+    ghost use Rattle.vol_tree.specs.Parts.{opened};
+    ghost use Rattle.vol_tree.specs.internal.Parts.{IsOpen};
     ghost use Rattle.vol_tree.specs.internal.Commits.{Commits};
     ghost use Rattle.vol_tree.specs.internal.Moves.{Moves, MovesIn, IsAbove, MovesTo};
 

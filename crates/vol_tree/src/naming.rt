@@ -1,14 +1,13 @@
 //! What the calls on names do to the parts of an open volume.
 
-ghost use Rattle.std.specs.Prelude.{◌≡◌, ◌≢◌, ◌≤◌, ◌+◌, ◌↔◌, ℕ, List, IsSome, IfOk, IfSome, MatchResult, OnOk, Some, None, true, false, length, is_err};
+ghost use Rattle.std.specs.Prelude.{◌≡◌, ◌≢◌, ◌≤◌, ◌+◌, IsSome, IfOk, IfSome, MatchResult, Some, true, false, is_err};
 ghost use Rattle.vol_sector.specs.Disk.{Leaves};
 ghost use Rattle.vol_inode.specs.Entry.{IsEntry, name_of};
-ghost use Rattle.vol_inode.specs.Name.{IsName};
 ghost use Rattle.vol_inode.specs.declared.entry.Entry.{Entry};
 ghost use Rattle.vol_log.specs.Log.{view, device_of, room_of, has_failed};
 ghost use Rattle.vol_dirs.specs.Names.{Names};
-ghost use Rattle.vol_tree.specs.Tree.{IsDirectory, entry, changed};
-ghost use Rattle.vol_tree.specs.Calls.{unlinked, directory_removed, renamed, next_child, with_unit, is_within, is_file_at};
+ghost use Rattle.vol_tree.specs.Tree.{IsDirectory, entry};
+ghost use Rattle.vol_tree.specs.Calls.{unlinked, directory_removed, next_child, with_unit, is_file_at};
 ghost use Rattle.vol_tree.specs.Opened.{is_io, IsSerial};
 
 use crate::Errno;
@@ -19,9 +18,10 @@ use vol_inode::{Entry, Kind, is_name, need};
 use vol_sector::{Device, DeviceFault};
 
 impl<D: Device> Parts<D> {
-    ghost use Rattle.vol_tree.specs.Opened.{slot_of};
+    ghost use Rattle.vol_tree.specs.internal.Slots.{slot_of};
     ghost use Rattle.vol_tree.specs.internal.Changes.{Changes, Asks};
-    ghost use Rattle.vol_tree.specs.Parts.{opened, IsOpen};
+    ghost use Rattle.vol_tree.specs.Parts.{opened};
+    ghost use Rattle.vol_tree.specs.internal.Parts.{IsOpen};
     ghost use Rattle.vol_tree.specs.internal.Commits.{Commits};
     ghost use Rattle.vol_tree.specs.internal.Removals.{Removes, TakesOut};
 

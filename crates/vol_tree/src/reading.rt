@@ -3,25 +3,24 @@
 ghost use Rattle.std.specs.Prelude.{◌≡◌, ◌≢◌, ◌⊎◌, ◌≤◌, ◌<◌, ◌+◌, ◌∷◌, ◌++◌, [], IsTrue, IfOk, OnOk, IfErr, false, Some, None, length};
 ghost use Rattle.vol_sector.specs.Disk.{Image};
 ghost use Rattle.vol_sector.specs.Fault.{device_failed};
-ghost use Rattle.vol_log.specs.Log.{view, sectors_of, has_failed, device_of};
+ghost use Rattle.vol_log.specs.Log.{view, log_sectors, has_failed, device_of};
 ghost use Rattle.vol_log.specs.Reading.{OnlyReads};
 ghost use Rattle.vol_inode.specs.Entry.{IsEntry, HasName, name_of};
 ghost use Rattle.vol_inode.specs.Space.{need_of};
 ghost use Rattle.vol_body.specs.Survey.{IsTrimmed};
 ghost use Rattle.vol_dirs.specs.Names.{Names, Shows};
 ghost use Rattle.vol_tree.specs.Superblock.{HasRanges};
-ghost use Rattle.vol_tree.specs.Parts.{IsContent};
+ghost use Rattle.vol_tree.specs.internal.Parts.{IsContent};
 ghost use Rattle.vol_tree.specs.internal.Replacing.{kind_is_directory};
 ghost use Rattle.vol_tree.specs.internal.Reads.{held_at, IsPlaced, IsRight, Adds, AreWithin, FitIn, HaveRead};
 
-use crate::layout::FIRST_SLOT;
 use crate::stat::ROOT;
 use crate::superblock::Superblock;
 use std::alloc::{AllocError, Global};
 use vol_body::survey;
 use vol_dirs::Dirs;
 use vol_inode::{Entry, Kind, need, read_entry};
-use vol_log::Log;
+use vol_log::{FIRST_AFTER_LOG, Log};
 use vol_sector::{Device, VolumeFault};
 
 /// What the slots hold.
@@ -130,7 +129,7 @@ fn take_up<D: Device>(
     entry: &Entry,
     found: &mut Entries,
 ) -> Result<(), VolumeFault>
-    requires there { numbers.now.sectors ≤ sectors_of log.old }
+    requires there { numbers.now.sectors ≤ log_sectors log.old }
     requires ranges { HasRanges numbers.now }
     requires working { has_failed log.old ≡ false }
     requires right { IsEntry numbers.now.version entry.now }
@@ -156,7 +155,7 @@ fn take_up<D: Device>(
     if !is_placed(log, dirs, serial, entry) {
         return Err(VolumeFault::Damaged);
     }
-    let first = FIRST_SLOT + numbers.slots;
+    let first = FIRST_AFTER_LOG + numbers.slots;
     survey(log, entry, first, numbers.sectors, &mut found.named)?;
     found.add(entry, numbers.sectors - first)
 }
@@ -169,7 +168,7 @@ fn read_slot<D: Device>(
     slot: u32,
     found: &mut Entries,
 ) -> Result<(), VolumeFault>
-    requires there { numbers.now.sectors ≤ sectors_of log.old }
+    requires there { numbers.now.sectors ≤ log_sectors log.old }
     requires ranges { HasRanges numbers.now }
     requires working { has_failed log.old ≡ false }
     requires slot { slot < numbers.now.slots }
@@ -193,7 +192,7 @@ fn read_slot<D: Device>(
     ensures reads { OnlyReads log.old log.new }
     ensures failed { has_failed log.new ≡ device_failed result }
 {
-    let image = log.read(FIRST_SLOT + slot)?;
+    let image = log.read(FIRST_AFTER_LOG + slot)?;
     match read_entry(numbers.version, &image) {
         Ok(Some(entry)) => take_up(log, numbers, dirs, slot + 1, &entry, found),
         Ok(None) => found.pass(),
@@ -208,7 +207,7 @@ pub(crate) fn read_entries<D: Device>(
     numbers: &Superblock,
     dirs: &Dirs,
 ) -> Result<Entries, VolumeFault>
-    requires there { numbers.now.sectors ≤ sectors_of log.old }
+    requires there { numbers.now.sectors ≤ log_sectors log.old }
     requires ranges { HasRanges numbers.now }
     requires working { has_failed log.old ≡ false }
     ensures read { D.honest (device_of log.old) → IfOk result

@@ -4,6 +4,7 @@ ghost use Rattle.vol_log.specs.Log.{device_of};
 ghost use Rattle.std.specs.Prelude.{◌≡◌};
 
 use crate::parts::Parts;
+use vol_log::FIRST_AFTER_LOG;
 use vol_sector::Device;
 
 /// What is told of a volume.
@@ -20,7 +21,8 @@ pub struct Stats {
 }
 
 impl<D: Device> Parts<D> {
-    ghost use Rattle.vol_tree.specs.Parts.{opened, IsOpen};
+    ghost use Rattle.vol_tree.specs.Parts.{opened};
+    ghost use Rattle.vol_tree.specs.internal.Parts.{IsOpen};
     ghost use Rattle.vol_tree.specs.Stats.{IsStats, entries_of};
 
     /// How many entries and sectors there are, and how many of them are used.
@@ -33,7 +35,7 @@ impl<D: Device> Parts<D> {
             entries: self.entries(),
             slots: self.numbers.slots,
             needed: self.reserved,
-            sectors: self.numbers.sectors - (122 + self.numbers.slots),
+            sectors: self.numbers.sectors - (FIRST_AFTER_LOG + self.numbers.slots),
         }
     }
 

@@ -8,9 +8,9 @@ ghost use Rattle.vol_tree.specs.Superblock.{superblock, HasRanges, IsNoVersion, 
 ghost use Rattle.vol_tree.specs.Superblock.{version_number};
 ghost use Rattle.vol_tree.specs.declared.superblock.Superblock.{Superblock};
 
-use crate::layout::FIRST_SLOT;
 use byteorder::{ByteOrder, LittleEndian};
 use vol_inode::Version;
+use vol_log::FIRST_AFTER_LOG;
 use vol_sector::VolumeFault;
 
 /// The bytes that a volume begins with.
@@ -34,7 +34,7 @@ pub(crate) fn has_ranges(numbers: &Superblock) -> bool
         && numbers.sectors <= 65_536
         && 1 <= numbers.slots
         && numbers.slots <= 8_192
-        && FIRST_SLOT + numbers.slots < numbers.sectors
+        && FIRST_AFTER_LOG + numbers.slots < numbers.sectors
 }
 
 /// Reads the numbers of a volume from its first sector.

@@ -10,7 +10,7 @@ use vol_inode::Version;
 use vol_sector::{Device, DeviceFault, VolumeFault};
 
 impl<D: Device> Parts<D> {
-    ghost use Rattle.vol_tree.specs.Parts.{IsOpen};
+    ghost use Rattle.vol_tree.specs.internal.Parts.{IsOpen};
     ghost use Rattle.vol_tree.specs.internal.Upgrades.{Upgrades};
 
     /// Commits what is staged, and makes the volume one of version 2.

@@ -40,7 +40,8 @@ impl<D: Device> Model for Volume<D> {
 
     ghost Value = { Opened D };
 
-    ghost use Rattle.vol_tree.specs.Parts.{opened, IsOpen};
+    ghost use Rattle.vol_tree.specs.Parts.{opened};
+    ghost use Rattle.vol_tree.specs.internal.Parts.{IsOpen};
 
     ghost view = { λ v. opened v.parts };
 

@@ -1,11 +1,11 @@
 -- Buffers that a call reads.
 use Rattle.std.proofs.Common.{◌≡◌, ℕ, suc, ◌+◌, ◌-◌, ◌*◌, ◌<◌, ◌≤◌, List, [], ◌∷◌, ◌++◌, length, take, drop, min, get_or, set, Bool, true, false, refl, sym, ap, ◌∙◌, append_assoc, add-zero, add-one, append-nil, ◌⊎◌, inl, inr, nat_le, Ok, arith}
-use Rattle.std.proofs.lemmas.Bool.{leb-true, false≢true, cases_lt, and_parts}
-use Rattle.std.proofs.Math.Seq.{take-suc, take-append-add, drop-cons}
+use Rattle.std.proofs.lemmas.Bool.{leb-true, false≢true, and_parts}
+use Rattle.std.proofs.Math.Seq.{take-suc, drop-cons}
 use Rattle.std.proofs.lemmas.List.Folds.{list_all_at, list_all-map}
 use Rattle.wasi_calls.specs.internal.Buffers.{fit, usable}
 use Rattle.wasi_calls.proofs.Yields.{goes_on}
-use Rattle.std.proofs.lemmas.List.{drop-drop, take_more_set, map-append, take_all, length-append, length-take, length-drop, take-append-le, take_min}
+use Rattle.std.proofs.lemmas.List.{drop-drop, take_more_set, map-append, length-append, length-take, length-drop, take_min}
 use Rattle.std.proofs.lemmas.List.Sums.{sum_by-cons, sum_by-append}
 use Rattle.std.specs.List.{list_all}
 use Rattle.byteorder.specs.Endian.{little_number}

@@ -21,7 +21,8 @@ use Rattle.wasi_calls.specs.Calls.{Answered, by_row, volume_fails}
 use Rattle.wasi_calls.specs.Host.{VolumeStep}
 use Rattle.wasi_calls.specs.internal.Serving.{with_volume}
 use Rattle.wasi_calls.specs.internal.Reaching.{StillWorks, Reaches}
-use Rattle.wasi_calls.specs.internal.Asking.{Passes, Stops, StopsNext, Asked}
+use Rattle.path_walk.specs.Walk.{Asked}
+use Rattle.wasi_calls.specs.internal.Asking.{Passes, Stops, StopsNext}
 use Rattle.wasi_calls.proofs.Yields.{goes_on, stops}
 use Rattle.wasi_calls.proofs.Serving.{answers_refused}
 use Rattle.wasi_calls.proofs.Volumes.{io_or, was_working, never_after, same_volume, gone, tree_refuses, numbered_io, tree_called_alive, changing, steps_after}

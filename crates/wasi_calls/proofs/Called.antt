@@ -1,7 +1,7 @@
 -- From the body of a call to what the host says of it.
 use Rattle.std.proofs.Common.{◌≡◌, ◌≢◌, ℕ, List, Option, refl, sym, ◌∙◌, ap, subst}
 use Rattle.vol_sector.specs.Disk.{Disk}
-use Rattle.vol_tree.specs.Tree.{Tree, IsTree}
+use Rattle.vol_tree.specs.Tree.{IsTree}
 use Rattle.wasm_store.specs.declared.call.HostCall.{HostCall}
 use Rattle.wasm_store.specs.declared.call.HostCall.TheVariants as call
 use Rattle.wasm_store.specs.declared.call.Errno.{Errno}

@@ -63,7 +63,7 @@ module _ (file old last memory memory' : List ℕ) (at : ℕ) (b : Buffer) (late
   is_out : (k : ℕ) → (k < b.0) ⊎ (b.0 + b.1 ≤ k) → is_in k b ≡ false
   is_out k apart = elim apart [
     | inl below ↦ ap (λ (t : Bool). t && nat_lt k (b.0 + b.1)) (lt-leb b.0 k below)
-    | inr behind ↦ ap (λ (t : Bool). nat_le b.0 k && t) (le-ltb k (b.0 + b.1) behind) ∙ and_false (nat_le b.0 k)
+    | inr past ↦ ap (λ (t : Bool). nat_le b.0 k && t) (le-ltb k (b.0 + b.1) past) ∙ and_false (nat_le b.0 k)
   ]
 
   -- a place that is in no buffer any more
@@ -91,7 +91,7 @@ module _ (file old last memory memory' : List ℕ) (at : ℕ) (b : Buffer) (late
               | inl below ↦ filled.beyond k (inl below) ∙ (passed k (inl below) out ∙ sym (cond-false (covered k later) _ _ out))
               | inr le ↦ elim (cases_lt k (b.0 + b.1)) [
                 | inl lt ↦ filled.filled k le lt out ∙ (sym (stands k le lt out) ∙ sym (cond-false (covered k later) _ _ out))
-                | inr behind ↦ filled.beyond k (inr behind) ∙ (passed k (inr behind) out ∙ sym (cond-false (covered k later) _ _ out))
+                | inr past ↦ filled.beyond k (inr past) ∙ (passed k (inr past) out ∙ sym (cond-false (covered k later) _ _ out))
               ]
             ]
           ];
@@ -118,9 +118,9 @@ scattered_take k (b ∷ bs) bytes h =
     let all = sum_by-cons (λ (x : Buffer). x.1) b bs in
     let more : b.1 + (k - b.1) ≡ k = omega (arith, all, h) in
     let first : take b.1 (take k bytes) ≡ take b.1 bytes = take-take b.1 k bytes (omega (arith, all, h)) in
-    let behind : drop b.1 (take k bytes) ≡ take (k - b.1) (drop b.1 bytes) = ap (λ (n : ℕ). drop b.1 (take n bytes)) (sym more) ∙ drop-take b.1 (k - b.1) bytes in
+    let past : drop b.1 (take k bytes) ≡ take (k - b.1) (drop b.1 bytes) = ap (λ (n : ℕ). drop b.1 (take n bytes)) (sym more) ∙ drop-take b.1 (k - b.1) bytes in
     let rest : scattered (take (k - b.1) (drop b.1 bytes)) bs ≡ scattered (drop b.1 bytes) bs = scattered_take (k - b.1) bs (drop b.1 bytes) (omega (arith, all, h)) in
-    (λ i. (b.0, first i) ∷ scattered (behind i) bs) ∙ ap (λ (l : List (ℕ × List ℕ)). (b.0, take b.1 bytes) ∷ l) rest
+    (λ i. (b.0, first i) ∷ scattered (past i) bs) ∙ ap (λ (l : List (ℕ × List ℕ)). (b.0, take b.1 bytes) ∷ l) rest
 
 module _ (file : List ℕ) (from n : ℕ) (bs : List Buffer) (count : n ≡ min (total bs) (length file - from)) where
   pub as_many : n ≡ length (take (total bs) (drop from file))

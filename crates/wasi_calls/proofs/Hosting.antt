@@ -1,5 +1,5 @@
 -- What a host says of its calls: they are rows, and tell what a crash may leave.
-use Rattle.std.proofs.Common.{◌≡◌, ℕ, ◌≤◌, List, Option, refl, sym, ◌∙◌, ap, inl, inr, arith}
+use Rattle.std.proofs.Common.{◌≡◌, ℕ, ◌≤◌, List, Option, refl, sym, ◌∙◌, ap, inl, inr}
 use Rattle.vol_sector.specs.Disk.{Image, Disk}
 use Rattle.vol_tree.specs.Opened.{Opened}
 use Rattle.wasi_fd.specs.Table.{table_of}

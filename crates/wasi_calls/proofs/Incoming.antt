@@ -32,11 +32,11 @@ written_more m xs ys p inside =
     let here : take n (a ++ b) ≡ a = ap (λ (k : ℕ). take k (a ++ b)) long ∙ take-append_seam a b in
     let so_many = length-append xs ys in
     let place : n + length ys ≡ p + length (xs ++ ys) = omega (arith, so_many) in
-    let behind : drop (n + length ys) (a ++ b) ≡ drop (p + length (xs ++ ys)) m =
+    let past : drop (n + length ys) (a ++ b) ≡ drop (p + length (xs ++ ys)) m =
     ap (λ (k : ℕ). drop (k + length ys) (a ++ b)) long ∙ (drop-append-add a b (length ys) ∙ (drop-drop (length ys) n m ∙ ap (λ (k : ℕ). drop k m) place)) in
     let rest : List ℕ = drop (p + length (xs ++ ys)) m in
     (λ i. take n (whole i) ++ (ys ++ drop (n + length ys) (whole i)))
-    ∙ ((λ i. here i ++ (ys ++ behind i))
+    ∙ ((λ i. here i ++ (ys ++ past i))
     ∙ (append_assoc (take p m) xs (ys ++ rest) ∙ ap (λ (l : List ℕ). take p m ++ l) (sym (append_assoc xs ys rest))))
 
 -- ---- into one place

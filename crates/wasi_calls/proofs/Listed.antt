@@ -25,7 +25,7 @@ use Rattle.wasi_calls.specs.internal.Reading.{IsBegun}
 use Rattle.wasi_calls.specs.internal.Listing.{listable, header, dirent_of, told_bytes, TellsNext, HasTold}
 use Rattle.wasi_calls.proofs.Yields.{goes_on, stops}
 use Rattle.wasi_calls.proofs.Serving.{answers_refused}
-use Rattle.wasi_calls.specs.internal.Asking.{Asked}
+use Rattle.path_walk.specs.Walk.{Asked}
 use Rattle.wasi_calls.proofs.Asking.{asked_same, asked_gone}
 use Rattle.wasi_calls.proofs.Volumes.{was_working, done_by, tree_called_alive, tree_called_gone, is_no_err}
 use Rattle.wasi_calls.proofs.Overlaps.{written_over, length_written}
@@ -61,8 +61,8 @@ next_used T directory after serial next =
 
 -- ---- after the last serial nothing comes
 
-pub none_behind : (T : Tree) (directory a b : ℕ) → length T ≤ a → length T ≤ b → dirents T directory a ≡ dirents T directory b
-none_behind T directory a b low high = none a low ∙ sym (none b high)
+pub none_past : (T : Tree) (directory a b : ℕ) → length T ≤ a → length T ≤ b → dirents T directory a ≡ dirents T directory b
+none_past T directory a b low high = none a low ∙ sym (none b high)
   where
     none : (k : ℕ) → length T ≤ k → dirents T directory k ≡ []
     none k le = over T directory k k (omega arith) ∙ ap (λ (U : Tree). told_from (k + 1) U directory k) (drop_all k T le)
@@ -70,7 +70,7 @@ none_behind T directory a b low high = none a low ∙ sym (none b high)
 pub cut_cookie : (T : Tree) (directory cookie last : ℕ) → length T ≤ 8192 → last ≡ min cookie (2 ^ 32 - 1) → dirents T directory last ≡ dirents T directory cookie
 cut_cookie T directory cookie last few is = elim (cases_lt cookie (2 ^ 32)) [
   | inl small ↦ ap (dirents T directory) (let same : last ≡ cookie = omega (arith, is) in same)
-  | inr great ↦ none_behind T directory last cookie (omega (arith, is, few)) (omega (arith, few))
+  | inr great ↦ none_past T directory last cookie (omega (arith, is, few)) (omega (arith, few))
 ]
 
 -- ---- the list as far as it was told
@@ -193,11 +193,11 @@ part_begun m all before after p len n inside is few stands =
 Either : List ℕ → List ℕ → List ℕ → Type 0
 Either a b mixed = (i : ℕ) → (get_or mixed i 0 ≡ get_or a i 0) ⊎ (get_or mixed i 0 ≡ get_or b i 0)
 
-behind_same : (xs a b mixed : List ℕ) → Either a b mixed → Either (xs ++ a) (xs ++ b) (xs ++ mixed)
+past_same : (xs a b mixed : List ℕ) → Either a b mixed → Either (xs ++ a) (xs ++ b) (xs ++ mixed)
 unfolding Either
-behind_same [] a b mixed h i = h i
-behind_same (x ∷ xs) a b mixed h zero = inl refl
-behind_same (x ∷ xs) a b mixed h (suc i) = behind_same xs a b mixed h i
+past_same [] a b mixed h i = h i
+past_same (x ∷ xs) a b mixed h zero = inl refl
+past_same (x ∷ xs) a b mixed h (suc i) = past_same xs a b mixed h i
 
 some_over : (n : ℕ) (bytes old : List ℕ) → n ≤ length bytes → length bytes ≤ length old → Either old (bytes ++ drop (length bytes) old) (take n bytes ++ drop n old)
 unfolding Either
@@ -224,7 +224,7 @@ begun_mixed m bytes m' p inside b =
     let now_is : front ++ (xs ++ drop n rest) ≡ m' =
     ap (λ (l : List ℕ). front ++ (xs ++ l)) (drop-drop n p m ∙ ap (λ (k : ℕ). drop (p + k) m) (sym count)) ∙ sym b.is in
     let each : Either (front ++ rest) (front ++ (bytes ++ drop (length bytes) rest)) (front ++ (xs ++ drop n rest)) =
-    behind_same front rest (bytes ++ drop (length bytes) rest) (xs ++ drop n rest) (some_over n bytes rest few (omega (arith, a, inside))) in
+    past_same front rest (bytes ++ drop (length bytes) rest) (xs ++ drop n rest) (some_over n bytes rest few (omega (arith, a, inside))) in
     record {
       as_long = ap length b.is ∙ length_written m xs p (omega (arith, count, few, inside));
       each = subst (λ (l : List ℕ). Either l (written m p bytes) m') old_is

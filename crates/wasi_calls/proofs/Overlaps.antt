@@ -69,8 +69,8 @@ written_before m xs p at inside h =
     get_or_append_left (take p m) (xs ++ drop (p + length xs) m) 0 at here
     ∙ (sym (get_or_append_left (take p m) (drop p m) 0 at here) ∙ ap (λ (l : List ℕ). get_or l at 0) (take-append-drop p m))
 
-pub written_behind : (m xs : List ℕ) (p at : ℕ) → p ≤ length m → p + length xs ≤ at → get_or (written m p xs) at 0 ≡ get_or m at 0
-written_behind m xs p at inside h =
+pub written_past : (m xs : List ℕ) (p at : ℕ) → p ≤ length m → p + length xs ≤ at → get_or (written m p xs) at 0 ≡ get_or m at 0
+written_past m xs p at inside h =
     let all = length-take p m in
     let first : length (take p m) ≡ p = omega (arith, all) in
     let place : (p + length xs) + (at - p - length xs) ≡ at = omega arith in
@@ -91,7 +91,7 @@ one_untouched m xs p n at inside short out = elim (cases_lt at p) [
   | inl before ↦ written_before m xs p at (omega arith) before
   | inr le ↦ elim (cases_lt at (p + n)) [
     | inl within ↦ absurd (false≢true (sym out ∙ both_so (nat_le p at) (nat_lt at (p + n)) (le-leb p at le) (lt-ltb at (p + n) within)))
-    | inr behind ↦ written_behind m xs p at (omega arith) (omega arith)
+    | inr past ↦ written_past m xs p at (omega arith) (omega arith)
   ]
 ]
 
@@ -178,10 +178,10 @@ written_over m xs p len inside few =
     let c = length-drop n part in
     let d = length-append xs rest in
     let all : length (xs ++ rest) ≡ len = omega (arith, a, b, c, d) in
-    let behind : rest ++ drop (p + len) m ≡ drop (p + n) m =
+    let past : rest ++ drop (p + len) m ≡ drop (p + n) m =
     ap (λ (l : List ℕ). rest ++ l) (sym (drop-drop len p m))
     ∙ (sym (drop-append-le n part (drop len (drop p m)) (omega (arith, a, b)))
     ∙ (ap (drop n) (take-append-drop len (drop p m)) ∙ drop-drop n p m)) in
     ap (λ (k : ℕ). take p m ++ ((xs ++ rest) ++ drop (p + k) m)) all
     ∙ (ap (λ (l : List ℕ). take p m ++ l) (append_assoc xs rest (drop (p + len) m))
-    ∙ ap (λ (l : List ℕ). take p m ++ (xs ++ l)) behind)
+    ∙ ap (λ (l : List ℕ). take p m ++ (xs ++ l)) past)

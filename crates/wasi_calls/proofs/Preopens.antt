@@ -12,7 +12,8 @@ use Rattle.vol_tree.specs.Tree.{Tree, Name, IsTree, Entry as TreeEntry, entry}
 use Rattle.vol_tree.specs.Calls.{directory_at, is_directory}
 use Rattle.vol_tree.specs.declared.superblock.Superblock.{Superblock}
 use Rattle.vol_tree.specs.Opened.{Opened, IsSerial}
-use Rattle.path_walk.specs.Paths.{Reached, Found, Missing, slash, path_read, wants_directory, components_of, resolved, ◌>>=◌}
+use Rattle.path_walk.specs.Paths.{Reached, Found, Missing, slash, path_read, wants_directory, resolved, ◌>>=◌}
+use Rattle.path_walk.specs.Rooted.{reached_from_root}
 use Rattle.wasi_fd.specs.declared.descriptor.Descriptor.{Descriptor}
 use Rattle.wasi_fd.specs.declared.descriptor.Descriptor.TheVariants.{Entry}
 use Rattle.wasi_fd.specs.declared.descriptor.EntryKind.TheVariants as kinds
@@ -22,14 +23,15 @@ use Rattle.wasi_fd.specs.Table.{Table, streams, with_at}
 use Rattle.wasi_calls.specs.declared.fault.HostFault.{HostFault}
 use Rattle.wasi_calls.specs.declared.fault.HostFault.TheVariants.{Setting, Preopen, Device, Memory}
 use Rattle.wasi_calls.specs.declared.settings.Preopen.{Preopen as PreopenValue}
-use Rattle.wasi_calls.specs.Making.{OnlyReads, HasPreopens, directory_named, from_root, found_directory, preopens_of, preopened, table_with}
+use Rattle.path_walk.specs.Walk.{Asked}
+use Rattle.wasi_calls.specs.Making.{HasPreopens, directory_named, from_root, found_directory, preopens_of, preopened, table_with}
 use Rattle.wasi_calls.specs.internal.Preopening.{fault_as, Finds, FindsAll, AreFound, AreNumbers, AreOpen, FoundSoFar, opened_from}
 use Rattle.wasi_calls.specs.internal.Serving.{IsThere, KnowsEntries, is_directory_kind}
 use Rattle.wasi_calls.proofs.Entries.{no_entries}
 use Rattle.wasi_calls.proofs.Parts.{same_entry}
 
 module _ {D : Type 0} (honest : D → Type 0) (disk : D → Disk) (sectors_on failures : D → ℕ) where
-  pub reads_then : (a b c : Opened D) (io : Bool) → OnlyReads honest disk sectors_on failures a b false → OnlyReads honest disk sectors_on failures b c io → OnlyReads honest disk sectors_on failures a c io
+  pub reads_then : (a b c : Opened D) (io : Bool) → Asked honest disk sectors_on failures a b false → Asked honest disk sectors_on failures b c io → Asked honest disk sectors_on failures a c io
   reads_then a b c io f s = record {
     tree = λ h. s.tree (f.kept.honest.0 h) ∙ f.tree h;
     crash = λ h.
@@ -52,12 +54,24 @@ module _ {D : Type 0} (honest : D → Type 0) (disk : D → Disk) (sectors_on fa
 
 -- ---- what a path names
 
-pub root_walked : (T : Tree) (rest path : List ℕ) (r : Result Reached Errno) → length rest ≢ 0 → path ≡ rest → path_read rest ≡ Ok (components_of rest)
-    → resolved T 1 (wants_directory path) (components_of path) ≡ r → from_root T rest ≡ found_directory T r
-root_walked T [] path r some same read is = absurd (some refl)
-root_walked T (c ∷ rest) path r some same read is =
-    ap (λ (names : Result (List Name) Errno). found_directory T (names >>= resolved T 1 (wants_directory (c ∷ rest)))) read
-    ∙ ap (found_directory T) (ap (λ (p : List ℕ). resolved T 1 (wants_directory p) (components_of p)) (sym same) ∙ is)
+-- a walk from the root that was refused
+pub root_refused : (T : Tree) (rest : List ℕ) (e : Errno) → reached_from_root T rest ≡ Err e → from_root T rest ≡ None
+root_refused T [] e is = absurd (cc)
+root_refused T (c ∷ rest) e is = go (path_read (c ∷ rest)) is
+  where
+    wants : Bool
+    wants = wants_directory (c ∷ rest)
+
+    Both : Type 0
+    Both = Result (Reached × Bool) Errno
+
+    ended : (x : Result Reached Errno) → (x >>= λ r. let both : Both = Ok (r, wants) in both) ≡ Err e → found_directory T x ≡ None
+    ended (Ok r) is = absurd (cc)
+    ended (Err f) is = refl
+
+    go : (names : Result (List Name) Errno) → (names >>= λ names. resolved T 1 wants names >>= λ r. let both : Both = Ok (r, wants) in both) ≡ Err e → found_directory T (names >>= resolved T 1 wants) ≡ None
+    go (Ok names) is = ended (resolved T 1 wants names) is
+    go (Err f) is = refl
 
 pub refused_none : (m : Option ℕ) (e : Errno) → (m ≡ None) ⊎ (e ≡ errno.Io) → Finds m (Err (fault_as e))
 refused_none m errno.Io why = tt
@@ -161,7 +175,7 @@ numbers_more numbers serials i serial inside is before k below = elim (cases_eq 
 
 module _ {D : Type 0} (honest : D → Type 0) (disk : D → Disk) (sectors_on failures : D → ℕ) where
   pub so_far_more : (a b c : Opened D) (ps : List PreopenValue) (serials : List ℕ) (i serial : ℕ) (p : PreopenValue) → i < length serials → slice_get ps i ≡ Some p
-      → FoundSoFar honest disk sectors_on failures a b ps serials i → OnlyReads honest disk sectors_on failures b c false
+      → FoundSoFar honest disk sectors_on failures a b ps serials i → Asked honest disk sectors_on failures b c false
       → (honest b.device → directory_named b.tree p.path.now ≡ Some serial) → IsSerial c.numbers serial
       → FoundSoFar honest disk sectors_on failures a c ps (set serials i serial) (i + 1)
   so_far_more a b c ps serials i serial p inside at before reads named number = record {

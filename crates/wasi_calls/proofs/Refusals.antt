@@ -1,5 +1,5 @@
 -- No refusal has the number of success.
-use Rattle.std.proofs.Common.{◌≡◌, ◌≢◌, ℕ, Bool, true, false, Option, Some, None, Result, Ok, Err, refl, sym, ◌∙◌, subst}
+use Rattle.std.proofs.Common.{◌≡◌, ◌≢◌, ℕ, Bool, true, false, Option, Some, None, Ok, Err, refl, subst}
 use Rattle.std.specs.Option.{option_map_or, ok_or}
 use Rattle.vol_tree.specs.declared.errno.Errno.{Errno}
 use Rattle.vol_tree.specs.declared.errno.Errno.TheVariants as errno
@@ -8,7 +8,6 @@ use Rattle.wasi_fd.specs.declared.descriptor.Descriptor.{Descriptor}
 use Rattle.wasi_fd.specs.declared.descriptor.Descriptor.TheVariants.{Stream, Entry}
 use Rattle.wasi_fd.specs.declared.descriptor.EntryKind.{EntryKind}
 use Rattle.wasi_fd.specs.declared.descriptor.EntryKind.TheVariants as kinds
-use Rattle.wasi_fd.specs.declared.descriptor.Opened.{Opened}
 use Rattle.wasi_calls.specs.World.{World}
 use Rattle.wasi_calls.specs.Checks.{Checked, and_then, guard, get, of_kind, has, descriptor, opened, entry_at, by_kind, no_streams}
 

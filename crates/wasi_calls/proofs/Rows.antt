@@ -3,7 +3,8 @@ use Rattle.std.proofs.Common.{◌≡◌, ℕ, Bool, true, false, cond, not, ◌&
 use Rattle.std.proofs.lemmas.Option.{none-some}
 use Rattle.std.proofs.lemmas.Bool.{false≢true, and_parts, eq-eqb}
 use Rattle.vol_tree.specs.Tree.{Tree, Name, Directory, File, Entry as TreeEntry, entry, changed, IsTree, IsDirectory, is_empty}
-use Rattle.vol_tree.specs.Calls.{is_directory, directory_at, renamed, resized, bytes_at, extended}
+use Rattle.vol_body.specs.Bytes.{resized_bytes}
+use Rattle.vol_tree.specs.Calls.{is_directory, directory_at, renamed, resized, bytes_at}
 use Rattle.std.specs.Option.{option_map_or}
 use Rattle.vol_tree.proofs.Entries.{entry-changed_same}
 use Rattle.vol_tree.specs.declared.errno.Errno.{Errno}
@@ -215,7 +216,7 @@ module _ (T0 : Tree) (t0 : IsTree T0) (tops : Tops) (directories : (top : ℕ) �
 
   resized_there : (w : World) (s : ℕ) (e : TreeEntry) (size : ℕ) (U : Tree) → entry w.tree s ≡ Some e → resized w.volume w.tree s size ≡ Ok U → (f : TreeEntry) × (entry U s ≡ Some f)
   resized_there w s e size U used is =
-      let bytes : List ℕ = take size (extended size (bytes_at w.tree s)) in
+      let bytes : List ℕ = resized_bytes size (bytes_at w.tree s) in
       let new : Option TreeEntry → Tree = λ o. option_map_or (λ (e : TreeEntry). changed w.tree s (Some (record e { node = File bytes }))) o w.tree in
       let U_is : changed w.tree s (Some (record e { node = File bytes })) ≡ U = sym (ap new used) ∙ fits T0 t0 tops directories w.volume w.tree U s bytes is in
       (record e { node = File bytes }, ap (λ (U : Tree). entry U s) (sym U_is) ∙ entry-changed_same w.tree s e (Some (record e { node = File bytes })) used)

@@ -1,6 +1,6 @@
 -- After each call the entries that are open are there.
-use Rattle.std.proofs.Common.{◌≡◌, ℕ, ◌<◌, ◌≤◌, Option, Some, None, List, [], ◌∷◌, refl, sym, ◌∙◌, ap, subst, inl, inr, arith, is_some, Bool, true, false, ◌⊎◌, nat_lt, vec_len}
-use Rattle.vol_tree.specs.Tree.{Tree, Path, entry, Entry as TreeEntry, Leads, IsTree, IsDirectory, root}
+use Rattle.std.proofs.Common.{◌≡◌, ℕ, ◌<◌, Option, Some, None, List, refl, sym, ◌∙◌, ap, subst, inl, inr, arith, is_some, Bool, true, false, ◌⊎◌, nat_lt, vec_len}
+use Rattle.vol_tree.specs.Tree.{Tree, Entry as TreeEntry, IsTree, IsDirectory, root}
 use Rattle.wasm_store.specs.declared.call.HostCall.{HostCall}
 use Rattle.wasi_fd.specs.declared.descriptor.Descriptor.TheVariants.{Entry}
 use Rattle.wasi_fd.specs.declared.descriptor.Opened.{Opened}
@@ -8,8 +8,8 @@ use Rattle.wasi_fd.specs.Table.{Table, table_of}
 use Rattle.wasi_calls.specs.World.{World, places}
 use Rattle.wasi_calls.specs.Calls.{row, Answered}
 use Rattle.wasi_calls.specs.Confined.{Tops, IsOutside}
-use Rattle.wasi_calls.specs.internal.Serving.{AreThere, IsThere}
-use Rattle.wasi_calls.proofs.Holds.{Holds, IsGood}
+use Rattle.wasi_calls.specs.internal.Serving.{AreThere}
+use Rattle.wasi_calls.proofs.Holds.{Holds}
 use Rattle.wasi_calls.proofs.Confinement.{answered_keeps}
 use Rattle.wasi_calls.proofs.Rows.{row_keeps}
 use Rattle.vol_tree.specs.Calls.{is_directory, directory_at}

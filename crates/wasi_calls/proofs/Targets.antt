@@ -1,5 +1,5 @@
 -- `path_open`: its checks, its number and what it opens.
-use Rattle.std.proofs.Common.{◌≡◌, ◌≢◌, ◌≤◌, ◌<◌, ◌+◌, ◌==◌, ◌&&◌, ℕ, zero, suc, Bool, true, false, cond, not, List, [], take, length, Option, Some, None, Result, Ok, Err, refl, sym, ◌∙◌, ap, subst, inl, inr, arith}
+use Rattle.std.proofs.Common.{◌≡◌, ◌≢◌, ◌≤◌, ◌<◌, ◌+◌, ◌==◌, ◌&&◌, ℕ, zero, suc, Bool, true, false, cond, not, List, [], length, Option, Some, None, Result, Ok, Err, refl, sym, ◌∙◌, ap, subst, inl, inr, arith}
 use Rattle.std.specs.Option.{option_map_or, ok_or, is_none}
 use Rattle.std.proofs.lemmas.Option.{none-some}
 use Rattle.std.proofs.lemmas.Bool.{cases_eq, cond-true, cond-false, eq-eqb, ne_eqb}
@@ -8,7 +8,8 @@ use Rattle.vol_tree.specs.declared.errno.Errno.{Errno}
 use Rattle.vol_tree.specs.declared.errno.Errno.TheVariants as errno
 use Rattle.vol_tree.specs.Tree.{Tree, File, Entry as TreeEntry, entry, changed}
 use Rattle.vol_tree.specs.Space.{Geometry, space}
-use Rattle.vol_tree.specs.Calls.{directory_at, created, resized, with_bytes, bytes_at as tree_bytes, extended}
+use Rattle.vol_body.specs.Bytes.{resized_bytes}
+use Rattle.vol_tree.specs.Calls.{directory_at, created, resized, with_bytes, bytes_at as tree_bytes}
 use Rattle.vol_tree.specs.Opened.{Opened as OpenedVolume, geometry, IsSerial}
 use Rattle.vol_tree.proofs.Trees.{is_directory_at}
 use Rattle.vol_tree.proofs.Creates.{created_least}
@@ -223,7 +224,7 @@ with_bytes_if T serial bytes (Some e) is file = is_directory_at _ serial (record
 
 resized_file : (volume : Geometry) (T U : Tree) (serial size : ℕ) → directory_at T serial ≡ false → resized volume T serial size ≡ Ok U → directory_at U serial ≡ false
 resized_file volume T U serial size file is =
-    let bytes : List ℕ = take size (extended size (tree_bytes T serial)) in
+    let bytes : List ℕ = resized_bytes size (tree_bytes T serial) in
     let one = passes_on (nat_lt (size_limit volume.version) (length bytes)) errno.TooBig _ U is in
     let two = passes_on (nat_lt volume.data_sectors (space (with_bytes T serial bytes))) errno.NoSpace _ U one.1 in
     let both : ◌≡◌ {A = Result Tree Errno} (Ok (with_bytes T serial bytes)) (Ok U) = two.1 in

@@ -8,7 +8,7 @@ use Rattle.wasi_calls.specs.World.{World, volume_gone, with_descriptor, moved_to
 use Rattle.wasi_calls.specs.Checks.{Checked, Done, Buffer, and_then, put, tree_call, scattered}
 use Rattle.wasi_calls.specs.Calls.{Answered, IsMixed, filled, by_row, volume_fails}
 use Rattle.wasi_calls.specs.internal.Serving.{with_volume}
-use Rattle.wasi_calls.specs.internal.Asking.{Asked}
+use Rattle.path_walk.specs.Walk.{Asked}
 use Rattle.wasi_calls.specs.internal.Reading.{wanted, read_file_to}
 use Rattle.wasi_calls.proofs.Yields.{goes_on, stops}
 use Rattle.wasi_calls.proofs.Serving.{answers_done, answers_refused}

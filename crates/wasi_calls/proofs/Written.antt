@@ -1,5 +1,5 @@
 -- Calls that change the tree, and leave more than that.
-use Rattle.std.proofs.Common.{◌≡◌, ◌≢◌, ◌⊎◌, ◌+◌, ◌-◌, ◌^◌, ◌<◌, ◌++◌, ◌==◌, ℕ, Bool, true, false, cond, nat_lt, length, take, drop, replicate, if◌then◌else◌, lit<, arith, List, [], ◌∷◌, Result, Ok, Err, inl, inr, refl, sym, ap, ◌∙◌}
+use Rattle.std.proofs.Common.{◌≡◌, ◌≢◌, ◌⊎◌, ◌+◌, ◌-◌, ◌^◌, ◌<◌, ◌==◌, ℕ, Bool, true, false, cond, nat_lt, length, take, if◌then◌else◌, lit<, arith, List, [], ◌∷◌, Result, Ok, Err, inl, inr, refl, sym, ap, ◌∙◌}
 use Rattle.vol_tree.specs.declared.errno.Errno.{Errno}
 use Rattle.vol_tree.specs.declared.errno.Errno.TheVariants as errno
 use Rattle.vol_tree.specs.Numbers.{number_of}
@@ -14,9 +14,10 @@ use Rattle.vol_inode.specs.Space.{size_limit}
 use Rattle.wasi_calls.specs.Files.{file_write}
 use Rattle.wasi_calls.specs.internal.Writing.{written_on, written_to}
 use Rattle.std.proofs.lemmas.Bool.{ltb-false}
-use Rattle.std.proofs.lemmas.List.{length-append, length-take, length-replicate}
 use Rattle.vol_tree.specs.Space.{Geometry}
-use Rattle.vol_tree.specs.Calls.{with_unit, written, bytes_at, overwritten, extended}
+use Rattle.vol_body.specs.Bytes.{written_bytes}
+use Rattle.vol_body.proofs.Written.{length-written}
+use Rattle.vol_tree.specs.Calls.{with_unit, written, bytes_at}
 use Rattle.wasi_calls.specs.World.{World, volume_gone, with_descriptor, moved_to}
 use Rattle.wasi_calls.specs.Checks.{Checked, Done, and_then, put, tree_call, numbered, with_result}
 use Rattle.wasi_calls.specs.Calls.{Answered, by_row}
@@ -114,12 +115,7 @@ written_small volume T file at [] U some h = absurd (omega arith)
 written_small volume T file at (b ∷ bytes) U some h =
     let old = bytes_at T file in
     let new : List ℕ = b ∷ bytes in
-    let all : List ℕ = overwritten old at new in
+    let all : List ℕ = written_bytes old at new in
     let fits = ltb-false _ _ (first_holds (nat_lt (size_limit volume.version) (length all)) errno.TooBig _ U h) in
     let small = limited volume.version in
-    let one = length-append (take at (extended at old) ++ new) (drop (at + length new) old) in
-    let two = length-append (take at (extended at old)) new in
-    let three = length-take at (extended at old) in
-    let four = length-append old (replicate (at - length old) 0) in
-    let five = length-replicate {A = ℕ} (at - length old) 0 in
-    omega (arith, fits, small, one, two, three, four, five)
+    omega (arith, fits, small, length-written old at b bytes)

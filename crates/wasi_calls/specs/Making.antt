@@ -1,11 +1,9 @@
 -- How a host is made, and what it is made of.
 use Rattle.std.specs.Prelude.{◌≡◌, ◌-◌, ◌==◌, nat_lt, ℕ, true, false, List, [], ◌∷◌, Bool, Option, Some, None, Result, Ok, Err, slice_get, if◌then◌else◌}
 use Rattle.std.specs.Option.{option_map, option_map_or}
-use Rattle.vol_sector.specs.Disk.{Disk, Leaves}
 use Rattle.vol_tree.specs.declared.errno.Errno.{Errno}
 use Rattle.vol_tree.specs.Tree.{Tree}
 use Rattle.vol_tree.specs.Calls.{directory_at}
-use Rattle.vol_tree.specs.Opened.{Opened, Keeps}
 use Rattle.path_walk.specs.Paths.{Reached, Found, Missing, slash, path_read, wants_directory, resolved, ◌>>=◌}
 use Rattle.wasi_fd.specs.declared.descriptor.Descriptor.{Descriptor}
 use Rattle.wasi_fd.specs.declared.descriptor.Descriptor.TheVariants.{Entry}
@@ -110,9 +108,3 @@ is_device (Err Setting) = false
 is_device (Err Preopen) = false
 is_device (Err Device) = true
 is_device (Err Memory) = false
-
--- Only reads of the volume were made: a crash may leave what one could leave before. It has failed then, or not.
-pub record OnlyReads {D : Type 0} (honest : D → Type 0) (disk : D → Disk) (sectors_on failures : D → ℕ) (old new : Opened D) (failed : Bool) : Type 0 where
-  pub kept : Keeps honest sectors_on failures old new failed
-  pub tree : honest old.device → new.tree ≡ old.tree
-  pub crash : honest old.device → Leaves (disk old.device) (disk new.device) (λ image. ⊥)

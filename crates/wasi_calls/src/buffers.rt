@@ -1,10 +1,10 @@
 //! Buffers of the guest, which a call names by an array of them.
 
-ghost use Rattle.std.specs.Prelude.{◌≡◌, ◌<◌, ◌≤◌, ◌+◌, ◌-◌, ◌*◌, ◌^◌, ◌++◌, min, nat_le, length, take, drop, true, Ok, Err, OnOk, MatchResult};
+ghost use Rattle.std.specs.Prelude.{◌≡◌, ◌<◌, ◌≤◌, ◌+◌, ◌-◌, ◌*◌, ◌^◌, nat_le, length, take, drop, true, Ok, Err, OnOk, MatchResult};
 ghost use Rattle.std.specs.List.{list_all};
 ghost use Rattle.byteorder.specs.Endian.{little_number};
 ghost use Rattle.wasm_store.specs.Bytes.{bytes_at};
-ghost use Rattle.wasi_calls.specs.Checks.{buffers_in, total, is_inside, gathered};
+ghost use Rattle.wasi_calls.specs.Checks.{buffers_in, total, is_inside};
 ghost use Rattle.wasi_calls.specs.internal.Buffers.{pair_of, list_of, fit};
 
 use crate::arguments::word;

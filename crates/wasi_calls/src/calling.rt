@@ -1,6 +1,4 @@
 //! Each call by its name.
-
-ghost use Rattle.std.specs.Prelude.{◌≡◌};
 ghost use Rattle.wasi_fd.specs.Table.{table_of};
 ghost use Rattle.wasm_store.specs.declared.call.HostCall.TheVariants as call;
 ghost use Rattle.wasi_calls.specs.Calls.{row};

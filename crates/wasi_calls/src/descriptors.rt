@@ -1,6 +1,6 @@
 //! Descriptors: closing them, what they are and where they stand.
 
-ghost use Rattle.std.specs.Prelude.{◌≡◌, ℕ, ◌++◌, ◌∷◌, ◌||◌, ◌^◌, Ok, Err, MatchResult, replicate};
+ghost use Rattle.std.specs.Prelude.{◌≡◌, ℕ, ◌++◌, ◌||◌, ◌^◌, Ok, Err, MatchResult, replicate};
 ghost use Rattle.std.specs.Option.{ok_or};
 ghost use Rattle.byteorder.specs.Endian.{little_bytes};
 ghost use Rattle.wasi_fd.specs.Table.{table_of};

@@ -12,7 +12,7 @@ ghost use Rattle.wasi_calls.specs.Files.{dirent, dirents, fd_readdir as list_row
 ghost use Rattle.wasi_calls.specs.Calls.{Answered};
 ghost use Rattle.wasi_calls.specs.Host.{VolumeStep};
 ghost use Rattle.wasi_calls.specs.internal.Serving.{errno_of, with_volume, type_of_entry};
-ghost use Rattle.wasi_calls.specs.internal.Asking.{Asked};
+ghost use Rattle.path_walk.specs.Walk.{Asked};
 ghost use Rattle.wasi_calls.specs.internal.Reading.{IsBegun};
 ghost use Rattle.wasi_calls.specs.internal.Listing.{listable, header, told_bytes, TellsNext};
 

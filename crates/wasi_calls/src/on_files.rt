@@ -1,6 +1,4 @@
 //! The calls on files and streams that move a position, or read and write bytes.
-
-ghost use Rattle.std.specs.Prelude.{◌≡◌};
 ghost use Rattle.wasi_fd.specs.Table.{table_of};
 ghost use Rattle.wasm_store.specs.declared.call.HostCall.TheVariants as call;
 ghost use Rattle.wasi_calls.specs.Calls.{row};

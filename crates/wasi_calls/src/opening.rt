@@ -1,9 +1,8 @@
 //! `path_open`.
 
-ghost use Rattle.std.specs.Prelude.{◌≡◌, ◌≤◌, ◌+◌, ℕ, List, true, false, Ok, Err, length, IfOk, OnOk, MatchResult};
+ghost use Rattle.std.specs.Prelude.{◌≡◌, ◌≤◌, ◌+◌, List, true, false, Ok, Err, length, IfOk, OnOk, MatchResult};
 ghost use Rattle.vol_sector.specs.Disk.{Leaves};
-ghost use Rattle.vol_inode.specs.Name.{IsName};
-ghost use Rattle.vol_tree.specs.Tree.{Tree, Name, IsDirectory};
+ghost use Rattle.vol_tree.specs.Tree.{Tree, Name};
 ghost use Rattle.vol_tree.specs.Calls.{directory_at};
 ghost use Rattle.vol_tree.specs.Opened.{Answers as TreeAnswers, Keeps, ReflectsOr, IsSerial, geometry, is_io};
 ghost use Rattle.path_walk.specs.Paths.{Found, path_read, wants_directory};
@@ -12,12 +11,12 @@ ghost use Rattle.wasm_store.specs.Bytes.{bytes_at};
 ghost use Rattle.wasi_fd.specs.Table.{table_of};
 ghost use Rattle.wasi_fd.specs.Rights.{bits_of};
 ghost use Rattle.wasi_calls.specs.World.{World};
-ghost use Rattle.wasi_calls.specs.Paths.{path_open as open_row, open_checks, open_rights as rights_row, new_descriptor as descriptor_row, is_set as is_set_row};
+ghost use Rattle.wasi_calls.specs.Paths.{path_open as open_row, open_rights as rights_row, new_descriptor as descriptor_row, is_set as is_set_row};
 ghost use Rattle.wasi_calls.specs.Calls.{Answered};
 ghost use Rattle.wasi_calls.specs.Host.{VolumeStep};
-ghost use Rattle.wasi_calls.specs.internal.Serving.{KnowsEntries, errno_of, with_volume, is_directory_kind};
+ghost use Rattle.wasi_calls.specs.internal.Serving.{KnowsEntries, errno_of, with_volume};
 ghost use Rattle.wasi_calls.specs.internal.Reaching.{StillWorks, Places};
-ghost use Rattle.wasi_calls.specs.internal.Asking.{Asked};
+ghost use Rattle.path_walk.specs.Walk.{Asked};
 ghost use Rattle.wasi_calls.specs.internal.Opening.{flags_checked, found_checked, missing_checked, open_entered, IsTarget, IsAt, CanOpen, made, ChecksAs, Targets, AreSerials, with_both};
 
 use crate::arguments::{long, word};

@@ -1,6 +1,4 @@
 //! The calls that reach neither the volume nor a stream.
-
-ghost use Rattle.std.specs.Prelude.{◌≡◌};
 ghost use Rattle.wasm_store.specs.declared.call.HostCall.TheVariants as call;
 ghost use Rattle.wasi_calls.specs.Calls.{row};
 

@@ -1,20 +1,18 @@
 //! Preopened directories.
 
-ghost use Rattle.std.specs.Prelude.{◌≡◌, ◌≢◌, ◌≤◌, ◌<◌, ℕ, false, true, None, Some, Ok, Err, IfOk, IfErr, MatchResult, OnOk, OnErr, length, slice_index};
-ghost use Rattle.path_walk.specs.Walk.{IsEntryOf, IsReached, Gives, reached_as};
-ghost use Rattle.path_walk.specs.Paths.{components_of, wants_directory, resolved};
-ghost use Rattle.vol_tree.specs.Calls.{directory_at};
-ghost use Rattle.vol_tree.specs.Opened.{is_io, IsSerial};
+ghost use Rattle.std.specs.Prelude.{◌≡◌, ◌≢◌, ◌≤◌, ◌<◌, ℕ, false, true, None, Some, Ok, Err, IfOk, IfErr, OnOk, OnErr, length};
+ghost use Rattle.path_walk.specs.Walk.{IsReached, reached_as};
+ghost use Rattle.vol_tree.specs.Opened.{IsSerial};
 ghost use Rattle.wasi_fd.specs.Table.{table_of, streams, with_at};
-ghost use Rattle.wasi_calls.specs.Making.{OnlyReads, HasPreopens, directory_named, from_root, found_directory, preopened, is_device};
+ghost use Rattle.path_walk.specs.Walk.{Asked};
+ghost use Rattle.wasi_calls.specs.Making.{HasPreopens, directory_named, from_root, found_directory, preopened, is_device};
 ghost use Rattle.wasi_calls.specs.internal.Preopening.{fault_as, Finds, FindsAll, AreNumbers, AreOpen, Refuses};
 ghost use Rattle.wasi_calls.specs.internal.Serving.{KnowsEntries};
 
 use crate::fault::HostFault;
 use crate::inner::Inner;
 use crate::settings::{MOST_PREOPENS, Preopen};
-use path_walk::{Path, Reached, walk};
-use vol_inode::Kind;
+use path_walk::{Reached, is_directory, walk_from_root};
 use vol_sector::Device;
 use vol_tree::{Errno, Volume};
 use wasi_fd::{Descriptor, Descriptors, EntryKind, Opened, Rights};
@@ -32,16 +30,6 @@ fn fault_of(errno: Errno) -> HostFault
     }
 }
 
-/// Whether an entry is a directory.
-fn is_directory<D: Device>(volume: &mut Volume<D>, serial: u32) -> Result<bool, Errno>
-    requires { IsEntryOf D.honest volume.old serial }
-    ensures reads { OnlyReads D.honest D.disk D.size D.failures volume.old volume.new (is_io result) }
-    ensures answer { D.honest volume.old.device → MatchResult result
-        (λ b. b ≡ directory_at volume.old.tree serial) (λ e. e ≡ Errno.Io) }
-{
-    Ok(volume.stat(serial)?.kind == Kind::Directory)
-}
-
 /// The directory that a walk reached.
 fn reached_directory<D: Device>(
     volume: &mut Volume<D>,
@@ -49,7 +37,7 @@ fn reached_directory<D: Device>(
 ) -> Result<u32, HostFault>
     requires working { volume.old.failed ≡ false }
     requires reached { IsReached D.honest volume.old reached }
-    ensures reads { OnlyReads D.honest D.disk D.size D.failures volume.old volume.new (is_device result) }
+    ensures reads { Asked D.honest D.disk D.size D.failures volume.old volume.new (is_device result) }
     ensures found { D.honest volume.old.device
         → Finds (found_directory volume.old.tree (Ok (reached_as reached.entry))) result }
     ensures number { IfOk result (IsSerial volume.new.numbers) }
@@ -65,25 +53,10 @@ fn reached_directory<D: Device>(
     }
 }
 
-/// What a path reaches from the root.
-fn walk_from_root<'p, D: Device>(
-    volume: &mut Volume<D>,
-    path: &Path<'p>,
-) -> Result<Reached<'p>, Errno>
-    requires { volume.old.failed ≡ false }
-    ensures reads { OnlyReads D.honest D.disk D.size D.failures volume.old volume.new (is_io result) }
-    ensures answer { D.honest volume.old.device
-        → Gives (resolved volume.old.tree 1 (wants_directory path.now) (components_of path.now)) result }
-    ensures reached { IfOk result (IsReached D.honest volume.new) }
-{
-    volume.is_a_tree(); // a law: the root is there
-    walk(volume, ROOT, path)
-}
-
 /// The directory that the rest of a path names, from the root; an empty rest is the root.
 fn from_root<D: Device>(volume: &mut Volume<D>, rest: &[u8]) -> Result<u32, HostFault>
     requires { volume.old.failed ≡ false }
-    ensures reads { OnlyReads D.honest D.disk D.size D.failures volume.old volume.new (is_device result) }
+    ensures reads { Asked D.honest D.disk D.size D.failures volume.old volume.new (is_device result) }
     ensures found { D.honest volume.old.device → Finds (from_root volume.old.tree rest.now) result }
     ensures number { IfOk result (IsSerial volume.new.numbers) }
     ensures faults { IfErr result (λ fault. Finds {X = ℕ} None (Err fault)) }
@@ -92,12 +65,8 @@ fn from_root<D: Device>(volume: &mut Volume<D>, rest: &[u8]) -> Result<u32, Host
     if rest.is_empty() {
         return Ok(ROOT);
     }
-    let path = match Path::read(rest) {
-        Ok(path) => path,
-        Err(_) => return Err(HostFault::Preopen),
-    };
-    match walk_from_root(volume, &path) {
-        Ok(reached) => reached_directory(volume, reached),
+    match walk_from_root(volume, rest) {
+        Ok((reached, _)) => reached_directory(volume, reached),
         Err(errno) => Err(fault_of(errno)),
     }
 }
@@ -105,7 +74,7 @@ fn from_root<D: Device>(volume: &mut Volume<D>, rest: &[u8]) -> Result<u32, Host
 /// The directory that a path of the volume names.
 fn directory_named<D: Device>(volume: &mut Volume<D>, path: &[u8]) -> Result<u32, HostFault>
     requires { volume.old.failed ≡ false }
-    ensures reads { OnlyReads D.honest D.disk D.size D.failures volume.old volume.new (is_device result) }
+    ensures reads { Asked D.honest D.disk D.size D.failures volume.old volume.new (is_device result) }
     ensures found { D.honest volume.old.device → Finds (directory_named volume.old.tree path.now) result }
     ensures number { IfOk result (IsSerial volume.new.numbers) }
     ensures faults { IfErr result (λ fault. Finds {X = ℕ} None (Err fault)) }
@@ -124,7 +93,7 @@ fn find_all<D: Device>(
 ) -> Result<(), HostFault>
     requires working { volume.old.failed ≡ false }
     requires few { length preopens.now ≤ 64 }
-    ensures reads { OnlyReads D.honest D.disk D.size D.failures volume.old volume.new (is_device result) }
+    ensures reads { Asked D.honest D.disk D.size D.failures volume.old volume.new (is_device result) }
     ensures found { D.honest volume.old.device
         → FindsAll volume.old.tree preopens.now serials.new result }
     ensures numbers { OnOk result (AreNumbers volume.new.numbers serials.new (length preopens.now)) }
@@ -190,7 +159,7 @@ fn open_directories<'t, D: Device>(
         → OnOk result (HasPreopens volume.old.tree preopens.now (table_of descriptors.new)) }
     ensures refused { IfErr result (Refuses D.honest volume.old volume.new preopens.now) }
     ensures closed { OnErr result ((n : ℕ) → table_of descriptors.new n ≡ table_of descriptors.old n) }
-    ensures reads { OnlyReads D.honest D.disk D.size D.failures volume.old volume.new (is_device result) }
+    ensures reads { Asked D.honest D.disk D.size D.failures volume.old volume.new (is_device result) }
     ensures known { KnowsEntries D.honest volume.new (table_of descriptors.new) }
 {
     if volume.failed() {
@@ -218,7 +187,7 @@ impl<'s, 't, D: Device, R, W1, W2> Inner<'s, 't, D, R, W1, W2> {
             → OnOk result (HasPreopens self.old.volume.tree self.old.settings.preopens.now (table_of self.new.descriptors)) }
         ensures refused { IfErr result (Refuses D.honest self.old.volume self.new.volume self.old.settings.preopens.now) }
         ensures closed { OnErr result ((n : ℕ) → table_of self.new.descriptors n ≡ table_of self.old.descriptors n) }
-        ensures reads { OnlyReads D.honest D.disk D.size D.failures self.old.volume self.new.volume (is_device result) }
+        ensures reads { Asked D.honest D.disk D.size D.failures self.old.volume self.new.volume (is_device result) }
         ensures known { KnowsEntries D.honest self.new.volume (table_of self.new.descriptors) }
         ensures others { ChangesVolume self.old self.new }
     {

@@ -12,7 +12,7 @@ ghost use Rattle.wasi_calls.specs.Checks.{total, is_inside, scattered, put, only
 ghost use Rattle.wasi_calls.specs.Calls.{IsMixed, Answered};
 ghost use Rattle.wasi_calls.specs.Host.{VolumeStep};
 ghost use Rattle.wasi_calls.specs.internal.Serving.{IsFileOf, NoMoreEntries, errno_of, with_volume, with_table};
-ghost use Rattle.wasi_calls.specs.internal.Asking.{Asked};
+ghost use Rattle.path_walk.specs.Walk.{Asked};
 ghost use Rattle.wasi_calls.specs.internal.Buffers.{list_of, AreUsable};
 ghost use Rattle.wasi_calls.specs.internal.Reading.{cut, IsStretch, IsBegun, BufferFilled, BufferBegun, wanted, received, read_into, read_file_to};
 
@@ -56,9 +56,9 @@ fn stretch_from(at: usize, end: usize, later: &[Span]) -> Stretch
     let mut until = end;
     for buffer in later {
         let start = buffer.pointer as usize;
-        let behind = start + buffer.len as usize;
-        if start <= at && at < behind {
-            return Stretch::Covered(behind.min(end));
+        let past = start + buffer.len as usize;
+        if start <= at && at < past {
+            return Stretch::Covered(past.min(end));
         }
         if at < start && start < until {
             until = start;
@@ -302,8 +302,8 @@ pub(crate) fn read_file<'t, D: Device>(
     let buffers = &mut room[..request.count as usize];
     match read_at(volume, opened.serial, opened.position, memory, buffers) {
         Ok(len) => {
-            let behind = opened.position + u64::from(len);
-            move_to(descriptors, request.fd, opened, behind);
+            let past = opened.position + u64::from(len);
+            move_to(descriptors, request.fd, opened, past);
             write_bytes(memory, request.result_at, &le32(len));
             Ok(())
         }

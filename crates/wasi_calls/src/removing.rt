@@ -13,7 +13,8 @@ ghost use Rattle.wasi_calls.specs.Calls.{Answered};
 ghost use Rattle.wasi_calls.specs.Host.{VolumeStep};
 ghost use Rattle.wasi_calls.specs.internal.Serving.{KnowsEntries, errno_of, with_volume};
 ghost use Rattle.wasi_calls.specs.internal.Reaching.{StillWorks};
-ghost use Rattle.wasi_calls.specs.internal.Asking.{Asks, Asked};
+ghost use Rattle.path_walk.specs.Walk.{Asked};
+ghost use Rattle.wasi_calls.specs.internal.Asking.{Asks};
 ghost use Rattle.wasi_calls.specs.internal.Removing.{found_at, removable as removable_row, is_kind, other_kind};
 
 use crate::errno::{BUSY, ISDIR, NOENT, NOTDIR};

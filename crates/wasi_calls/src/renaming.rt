@@ -1,6 +1,6 @@
 //! `path_rename`.
 
-ghost use Rattle.std.specs.Prelude.{◌≡◌, ◌≢◌, ◌≤◌, ◌||◌, not, true, false, Ok, Err, length, IfOk, MatchResult};
+ghost use Rattle.std.specs.Prelude.{◌≡◌, ◌≢◌, ◌||◌, not, true, false, Ok, Err, length, IfOk, MatchResult};
 ghost use Rattle.vol_tree.specs.declared.errno.Errno.TheVariants as tree;
 ghost use Rattle.vol_sector.specs.Disk.{Leaves};
 ghost use Rattle.vol_inode.specs.Name.{IsName};
@@ -17,7 +17,7 @@ ghost use Rattle.wasi_calls.specs.internal.Serving.{KnowsEntries, errno_of, with
 ghost use Rattle.wasi_calls.specs.internal.Reaching.{StillWorks, Places};
 ghost use Rattle.path_walk.specs.Walk.{IsEntryOf, IsReached, reached_as};
 ghost use Rattle.wasm_store.specs.Bytes.{bytes_at};
-ghost use Rattle.wasi_calls.specs.internal.Asking.{Asked};
+ghost use Rattle.path_walk.specs.Walk.{Asked};
 ghost use Rattle.wasi_calls.specs.internal.Renaming.{AreFacts, replace_checked, ReplacesAs, RenamesTo, rename_allowed, rename_entered, source_checked, WalksBoth};
 ghost use Rattle.wasi_calls.specs.internal.Climbing.{IsAbove};
 

@@ -1,8 +1,7 @@
 //! Positions of files.
 
-ghost use Rattle.std.specs.Prelude.{◌≡◌, ◌<◌, ◌≤◌, length, ℕ, ◌^◌, ◌==◌, ◌&&◌, ◌||◌, Ok, Err, Some, MatchResult, IfOk, IfErr, OnOk, ◌+◌};
+ghost use Rattle.std.specs.Prelude.{◌≡◌, ◌<◌, ◌≤◌, length, ℕ, ◌^◌, ◌==◌, ◌&&◌, ◌||◌, Ok, Err, MatchResult, IfOk, IfErr, OnOk, ◌+◌};
 ghost use Rattle.vol_sector.specs.Disk.{Leaves};
-ghost use Rattle.vol_tree.specs.Tree.{entry};
 ghost use Rattle.vol_tree.specs.Calls.{bytes_at};
 ghost use Rattle.vol_tree.specs.Opened.{Tells, Keeps, is_io};
 ghost use Rattle.wasi_fd.specs.Table.{table_of, with_at};

@@ -46,7 +46,7 @@ fn has_nul(text: &[u8]) -> bool
 }
 
 /// How many bytes the texts have with one more for the end of each, or `usize::MAX` where it is more than that.
-pub(crate) fn ended_len(texts: &[&[u8]]) -> usize
+pub(crate) fn nul_terminated_len(texts: &[&[u8]]) -> usize
     ensures { result ≡ min (ended_bytes texts.now) usize.MAX }
 {
     let mut len: usize = 0;
@@ -67,7 +67,7 @@ fn any_has_nul(texts: &[&[u8]]) -> bool
 fn texts_fit(texts: &[&[u8]]) -> bool
     ensures { result ≡ texts_fit texts.now }
 {
-    texts.len() <= MOST_TEXTS && ended_len(texts) <= MOST_TEXT_BYTES && !any_has_nul(texts)
+    texts.len() <= MOST_TEXTS && nul_terminated_len(texts) <= MOST_TEXT_BYTES && !any_has_nul(texts)
 }
 
 /// Whether a guest can know a directory by this name.

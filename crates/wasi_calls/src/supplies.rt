@@ -11,7 +11,7 @@ ghost use Rattle.wasi_calls.specs.internal.Serving.{errno_of};
 use crate::checks::{check_range, check_that, write_bytes};
 use crate::errno::AGAIN;
 use crate::numbers::{le32, low32};
-use crate::settings::ended_len;
+use crate::settings::nul_terminated_len;
 use wasm_store::{Errno, Memory};
 
 /// `args_sizes_get(count, size)`, `environ_sizes_get(count, size)`: how many texts there are, and how
@@ -29,7 +29,7 @@ pub(crate) fn sizes_get(
     check_range(memory, count_at, 4)?;
     check_range(memory, size_at, 4)?;
     write_bytes(memory, count_at, &le32(texts.len() as u32));
-    write_bytes(memory, size_at, &le32(ended_len(texts) as u32));
+    write_bytes(memory, size_at, &le32(nul_terminated_len(texts) as u32));
     Ok(())
 }
 
@@ -102,7 +102,7 @@ fn texts_len(texts: &[&[u8]]) -> u32
     requires { texts_fit texts.now ≡ true }
     ensures { result ≡ all_bytes (texts_of texts.now) }
 {
-    ended_len(texts) as u32
+    nul_terminated_len(texts) as u32
 }
 
 /// Writes a pointer to each text, the first of which stands at this place.

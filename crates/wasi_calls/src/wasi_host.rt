@@ -150,7 +150,8 @@ impl<'s, 't, D: Device, R: Read + Drop, W1: Write + Drop, W2: Write + Drop> Wasi
 impl<'s, 't, D: Device, R: Read, W1: Write, W2: Write> WasiHost<'s, 't, D, R, W1, W2> {
     ghost use Rattle.std.specs.Prelude.{ℕ, OnOk, OnErr};
     ghost use Rattle.wasi_fd.specs.Table.{table_of, streams};
-    ghost use Rattle.wasi_calls.specs.Making.{HasPreopens, IsRefusedPreopen, HasNoMore, OnlyReads, KeepsStreams, is_device};
+    ghost use Rattle.path_walk.specs.Walk.{Asked};
+    ghost use Rattle.wasi_calls.specs.Making.{HasPreopens, IsRefusedPreopen, HasNoMore, KeepsStreams, is_device};
 
     /// Opens the preopened directories of the settings, in order from 3 on. Each path begins with a
     /// slash and leads from the root to a directory.
@@ -163,7 +164,7 @@ impl<'s, 't, D: Device, R: Read, W1: Write, W2: Write> WasiHost<'s, 't, D, R, W1
             → OnOk result (HasPreopens self.old.volume.tree self.old.settings.preopens.now (table_of self.new.descriptors)) }
         ensures refused { IfErr result (IsRefusedPreopen D.honest self.old self.new) }
         ensures closed { OnErr result (HasNoMore self.old self.new) }
-        ensures reads { OnlyReads D.honest D.disk D.size D.failures self.old.volume self.new.volume (is_device result) }
+        ensures reads { Asked D.honest D.disk D.size D.failures self.old.volume self.new.volume (is_device result) }
         ensures streams { KeepsStreams self.old self.new }
     {
         self.inner.preopen()

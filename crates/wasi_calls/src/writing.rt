@@ -7,13 +7,12 @@ ghost use Rattle.vol_tree.specs.declared.errno.Errno.TheVariants as vol_errno;
 ghost use Rattle.vol_tree.specs.Opened.{Tells, Keeps, ReflectsOr, geometry, is_io};
 ghost use Rattle.vol_tree.specs.Calls.{bytes_at, written as tree_with};
 ghost use Rattle.wasi_fd.specs.Table.{table_of};
-ghost use Rattle.wasm_store.specs.Bytes.{bytes_at as part};
 ghost use Rattle.wasi_calls.specs.World.{World};
 ghost use Rattle.wasi_calls.specs.Checks.{is_inside, gathered, only_files, entry_at as entry};
 ghost use Rattle.wasi_calls.specs.Calls.{Answered};
 ghost use Rattle.wasi_calls.specs.Host.{VolumeStep};
 ghost use Rattle.wasi_calls.specs.internal.Serving.{IsFileOf, NoMoreEntries, errno_of, with_volume, with_table};
-ghost use Rattle.wasi_calls.specs.internal.Buffers.{list_of, pair_of, AreUsable};
+ghost use Rattle.wasi_calls.specs.internal.Buffers.{list_of, AreUsable};
 ghost use Rattle.wasi_calls.specs.internal.Writing.{placed, written_on, written_to};
 ghost use Rattle.wasi_calls.specs.internal.Seeking.{StandsFor};
 
@@ -142,8 +141,8 @@ fn write_on<'t, D: Device>(
     match put_bytes(volume, opened.serial, opened.position, memory, buffers) {
         Ok(len) => {
             if len > 0 {
-                let behind = opened.position.saturating_add(u64::from(len));
-                move_to(descriptors, request.fd, opened, behind);
+                let past = opened.position.saturating_add(u64::from(len));
+                move_to(descriptors, request.fd, opened, past);
             }
             write_bytes(memory, request.result_at, &le32(len));
             Ok(())

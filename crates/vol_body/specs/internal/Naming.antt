@@ -3,14 +3,14 @@ use Rattle.std.specs.Prelude.{◌≡◌, ◌≢◌, ◌≤◌, ◌<◌, ◌*◌,
 use Rattle.byteorder.specs.Endian.{little_number}
 use Rattle.vol_sector.specs.Disk.{Image}
 use Rattle.vol_inode.specs.declared.entry.Entry.{Entry}
-use Rattle.vol_inode.specs.Space.{sectors_of}
+use Rattle.vol_inode.specs.Space.{blocks_for_size}
 use Rattle.vol_body.specs.Body.{BlockPosition, data_block, IsPosition, first_served, named, block_bytes}
 
 -- The rules on the sectors of a file: no two positions name the same one; a position that serves only data blocks at or past the size
 -- names none.
 pub record IsNaming (content : Image) (e : Entry) : Type 0 where
   pub distinct : (p q : BlockPosition) → IsPosition p → IsPosition q → named content e p ≢ 0 → named content e p ≡ named content e q → p ≡ q
-  pub past : (p : BlockPosition) → IsPosition p → sectors_of e.size ≤ first_served p → named content e p ≡ 0
+  pub past : (p : BlockPosition) → IsPosition p → blocks_for_size e.size ≤ first_served p → named content e p ≡ 0
 
 -- The file names one more sector, at this position. What it names at others stays, and so do the bytes of other data blocks.
 pub record NamesOneMore (content after : Image) (e changed : Entry) (p : BlockPosition) (n : ℕ) : Type 0 where

@@ -1,7 +1,7 @@
 -- What a shorter file keeps and gives back.
 use Rattle.std.specs.Prelude.{◌≡◌, ◌≢◌, ◌≤◌, ◌<◌, ◌+◌, ◌-◌, ◌*◌, ◌/◌, ◌==◌, ◌⊎◌, ◌++◌, ℕ, Bool, true, List, take, replicate, min, nat_lt, if◌then◌else◌}
 use Rattle.vol_sector.specs.Disk.{Image, put}
-use Rattle.vol_inode.specs.Space.{sectors_of, lists_of}
+use Rattle.vol_inode.specs.Space.{blocks_for_size, lists_of}
 use Rattle.vol_inode.specs.declared.entry.Entry.{Entry}
 use Rattle.vol_body.specs.declared.cutting.Cut.{Cut}
 use Rattle.vol_body.specs.declared.cutting.Cuts.{Cuts}
@@ -10,9 +10,9 @@ use Rattle.vol_body.specs.Body.{BlockPosition, data_block, indirect_block, doubl
 -- how many bytes of the sector at this position a file of this size keeps
 abbrev pub kept_bytes : ℕ → BlockPosition → ℕ
 kept_bytes size (data_block j) = min 512 (size - 512 * j)
-kept_bytes size indirect_block = 4 * min 128 (sectors_of size - 58)
-kept_bytes size double_indirect_block = 4 * min 128 (lists_of (sectors_of size - 186))
-kept_bytes size (inner_block i) = 4 * min 128 (sectors_of size - (186 + 128 * i))
+kept_bytes size indirect_block = 4 * min 128 (blocks_for_size size - 58)
+kept_bytes size double_indirect_block = 4 * min 128 (lists_of (blocks_for_size size - 186))
+kept_bytes size (inner_block i) = 4 * min 128 (blocks_for_size size - (186 + 128 * i))
 
 -- the first data block of the file that a pointer of its entry serves
 abbrev pub first_of_pointer : ℕ → ℕ
@@ -20,13 +20,13 @@ first_of_pointer j = if nat_lt j 59 then j else 186
 
 -- the only positions of which a file of this size keeps only a beginning
 abbrev pub last_data_block : ℕ → BlockPosition
-last_data_block size = data_block (sectors_of size - 1)
+last_data_block size = data_block (blocks_for_size size - 1)
 
 abbrev pub cut_indirect_block : ℕ → BlockPosition
-cut_indirect_block size = if nat_lt 186 (sectors_of size) then double_indirect_block else indirect_block
+cut_indirect_block size = if nat_lt 186 (blocks_for_size size) then double_indirect_block else indirect_block
 
 abbrev pub last_inner_block : ℕ → BlockPosition
-last_inner_block size = inner_block ((sectors_of size - 187) / 128)
+last_inner_block size = inner_block ((blocks_for_size size - 187) / 128)
 
 -- the bytes before a position of a sector, and zeros from it on
 abbrev pub cut : ℕ → List ℕ → List ℕ

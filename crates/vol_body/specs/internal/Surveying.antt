@@ -3,7 +3,7 @@ use Rattle.std.specs.Prelude.{◌≡◌, ◌≢◌, ◌/◌, ◌%◌, ◌≤◌,
 use Rattle.std.specs.List.{range_with_len, flat_map}
 use Rattle.vol_sector.specs.Disk.{Image}
 use Rattle.vol_inode.specs.declared.entry.Entry.{Entry}
-use Rattle.vol_inode.specs.Space.{sectors_of, lists_of}
+use Rattle.vol_inode.specs.Space.{blocks_for_size, lists_of}
 use Rattle.vol_body.specs.Body.{BlockPosition, data_block, IsPosition, first_served, named, number_in, block_bytes}
 use Rattle.vol_body.specs.Survey.{nonzero, AreInside}
 
@@ -43,7 +43,7 @@ pub record LaterNone (content : Image) (double_indirect_block count : ℕ) : Typ
 
 -- a position that serves only data blocks at or past the size names no sector
 abbrev pub NamesNonePast : Image → Entry → Type 0
-NamesNonePast content e = (p : BlockPosition) → IsPosition p → sectors_of e.size ≤ first_served p → named content e p ≡ 0
+NamesNonePast content e = (p : BlockPosition) → IsPosition p → blocks_for_size e.size ≤ first_served p → named content e p ≡ 0
 
 -- what the file names is before the end
 abbrev pub NamesBelow : Image → Entry → ℕ → Type 0

@@ -2,16 +2,18 @@
 use Rattle.std.specs.Prelude.{◌≡◌, ◌≢◌, ◌≤◌, ◌<◌, ◌+◌, ◌-◌, ◌*◌, ◌/◌, ◌==◌, ◌++◌, ℕ, zero, suc, true, List, length, take, drop, replicate, nat_lt, min, max, if◌then◌else◌}
 use Rattle.vol_sector.specs.Disk.{Image}
 use Rattle.vol_sector.specs.declared.device.Device.{Ghosts}
-use Rattle.vol_log.specs.Log.{device_of, sectors_of as log_sectors, has_failed, is_staged}
+use Rattle.vol_log.specs.Log.{device_of, log_sectors, has_failed, is_staged}
 use Rattle.vol_log.specs.declared.log.Log.{Log}
 use Rattle.vol_alloc.specs.Alloc.{first_of, end_of, taken_of, free_of}
 use Rattle.vol_alloc.specs.declared.sectors.Alloc.{Alloc}
 use Rattle.vol_inode.specs.declared.entry.Entry.{Entry}
-use Rattle.vol_inode.specs.Space.{sectors_of, need_of}
+use Rattle.vol_inode.specs.Space.{blocks_for_size, need_of}
 use Rattle.vol_body.specs.declared.pointer_sectors.PointerSectors.{PointerSectors}
 use Rattle.vol_body.specs.Body.{BlockPosition, data_block, indirect_block, double_indirect_block, inner_block, IsPosition, first_served, named, block_bytes, bytes_of, NamesTaken, IsBody}
-use Rattle.vol_body.specs.Change.{written, used_of, OthersStay, TakesAndGives}
+use Rattle.vol_body.specs.Bytes.{written_bytes}
+use Rattle.vol_body.specs.Change.{used_of, OthersStay, TakesAndGives}
 use Rattle.vol_body.specs.internal.Naming.{IsNaming}
+use Rattle.vol_inode.specs.declared.version.TheConstants.{LARGEST_SIZE}
 
 -- the position of the pointer sector that lists the 128 data blocks from 58 + 128 * g on
 abbrev pub segment : ℕ → BlockPosition
@@ -49,7 +51,7 @@ pub record IsReady (a : Alloc) (content : Image) (e : Entry) : Type 0 where
   pub naming : IsNaming content e
   pub taken : NamesTaken (taken_of a) content e
   pub space : need_of e.size ≤ free_of a + used_of content e
-  pub small : e.size ≤ 8483840
+  pub small : e.size ≤ LARGEST_SIZE
 
 -- the file names the same at this position, with the same bytes
 pub record SamePlace (content after : Image) (e changed : Entry) (p : BlockPosition) : Type 0 where
@@ -69,7 +71,7 @@ pub record Changes (a b : Alloc) (content after : Image) (e changed : Entry) (To
 pub record IsMissing (a : Alloc) (content : Image) (e : Entry) (p : BlockPosition) : Type 0 where
   pub ready : IsReady a content e
   pub none : named content e p ≡ 0
-  pub serves : first_served p < sectors_of e.size
+  pub serves : first_served p < blocks_for_size e.size
 
 -- A change by which the file names a sector at one more position.
 pub record Adds (a b : Alloc) (content after : Image) (e changed : Entry) (Touched : BlockPosition → Type 0) (p : BlockPosition) (number : ℕ) (image : List ℕ) : Type 0 where
@@ -136,7 +138,7 @@ pub record KnowsAll (a : Alloc) (all : PointerSectors) : Type 0 where
 
 -- What a write of some bytes leaves.
 pub record WriteLeaves (inode_sector : ℕ) (a b : Alloc) (content after : Image) (e changed : Entry) (offset : ℕ) (new : List ℕ) : Type 0 where
-  pub bytes : bytes_of after changed ≡ written (bytes_of content e) offset new
+  pub bytes : bytes_of after changed ≡ written_bytes (bytes_of content e) offset new
   pub rules : IsBody after changed
   pub others : OthersStay inode_sector (first_of a) (end_of a) (taken_of a) content after e
   pub taken : TakesAndGives (taken_of a) (taken_of b) content after e changed

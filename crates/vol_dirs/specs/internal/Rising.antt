@@ -4,6 +4,10 @@ use Rattle.std.specs.List.{Contains}
 use Rattle.std.specs.declared.cmp.Ordering.{Ordering}
 use Rattle.std.specs.declared.cmp.Ordering.TheVariants.{Less, Equal}
 
+-- each item is below those after it
+abbrev pub Rises : {X : Type 0} → (X → X → Ordering) → List X → Type 0
+Rises {X} order xs = (i j : ℕ) (d : X) → i < j → j < length xs → order (slice_index_or xs i d) (slice_index_or xs j d) ≡ Less
+
 -- the order tells all items apart
 abbrev pub TiesAreEqual : {X : Type 0} → (X → X → Ordering) → Type 0
 TiesAreEqual {X} order = (x y : X) → order x y ≡ Equal → x ≡ y

@@ -1,6 +1,26 @@
 -- Where a number stands in the index, or would stand.
 use Rattle.std.specs.Prelude.{◌≡◌, ◌≢◌, ℕ, ◌<◌, ◌≤◌, List, length, slice_index, slice_index_or}
-use Rattle.vol_log.specs.Index.{Index, number_at}
+
+-- a sector's number and its place, in the order of the numbers
+abbrev pub Index : Type 0
+Index = List (ℕ × ℕ)
+
+abbrev pub number_at : Index → ℕ → ℕ
+number_at index i = let entry = slice_index_or index i (0, 0) in entry.0
+
+abbrev pub place_at : Index → ℕ → ℕ
+place_at index i = let entry = slice_index_or index i (0, 0) in entry.1
+
+-- the numbers rise, so none comes twice
+abbrev pub Rises : Index → Type 0
+Rises index = (i j : ℕ) → i < j → j < length index → number_at index i < number_at index j
+
+-- these numbers, each with its place among them
+pub record IsIndex (numbers : List ℕ) (index : Index) : Type 0 where
+  pub rises : Rises index
+  pub same_length : length index ≡ length numbers
+  pub points : (i : ℕ) → i < length index → (place_at index i < length numbers) × (slice_index numbers (place_at index i) ≡ number_at index i)
+  pub whole : (p : ℕ) → p < length numbers → ((i : ℕ) → i < length index → place_at index i ≢ p) → ⊥
 
 -- the entry at i is this number's
 pub record IsAt (index : Index) (number i : ℕ) : Type 0 where

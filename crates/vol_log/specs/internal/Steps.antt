@@ -1,9 +1,11 @@
 -- What the steps of a commit leave.
-use Rattle.std.specs.Prelude.{◌≡◌, ◌⊎◌, ◌+◌, ◌≤◌, ◌<◌, ◌==◌, ℕ, List, [], ◌∷◌, map, Bool, true, false, if◌then◌else◌}
+use Rattle.std.specs.Prelude.{◌≡◌, ◌⊎◌, ◌≤◌, ◌<◌, ℕ, List}
 use Rattle.vol_sector.specs.Disk.{Image, Disk, Only}
 use Rattle.vol_log.specs.Header.{IsHeader}
 use Rattle.vol_log.specs.declared.staged.Staged.{Staged}
-use Rattle.vol_log.specs.Batch.{numbers, over, holds, logged, IsContent}
+use Rattle.vol_log.specs.Batch.{over, logged, IsContent}
+use Rattle.vol_log.specs.internal.Batch.{numbers}
+use Rattle.vol_log.specs.declared.layout.TheConstants.{FIRST_AFTER_LOG}
 
 -- everything is on the disk and the log holds the batch
 pub record Logged (sectors : ℕ) (batch : List Staged) (disk : Disk) : Type 0 where
@@ -12,8 +14,8 @@ pub record Logged (sectors : ℕ) (batch : List Staged) (disk : Disk) : Type 0 w
   pub images : logged (numbers batch) 2 disk.seen ≡ batch
 
 -- a step that changes nothing outside the log's images
-abbrev pub OutsideImages : Image → Image → Type 0
-OutsideImages before after = (k : ℕ) → (k < 2) ⊎ (122 ≤ k) → after k ≡ before k
+abbrev pub OnlyImagesChange : Image → Image → Type 0
+OnlyImagesChange before after = (k : ℕ) → (k < 2) ⊎ (FIRST_AFTER_LOG ≤ k) → after k ≡ before k
 
 -- a step that changes nothing outside the log
 abbrev pub OutsideLog : Image → Image → Type 0

@@ -6,7 +6,8 @@ use Rattle.vol_tree.specs.declared.parts.Parts.{Parts}
 use Rattle.vol_tree.specs.Tree.{Tree, Path, Name, Entry, entry, Leads, IsDirectory}
 use Rattle.vol_tree.specs.Calls.{moved, is_within}
 use Rattle.vol_tree.specs.internal.Commits.{Commits}
-use Rattle.vol_tree.specs.Parts.{opened, IsOpen}
+use Rattle.vol_tree.specs.Parts.{opened}
+use Rattle.vol_tree.specs.internal.Parts.{IsOpen}
 use Rattle.vol_tree.specs.internal.Changes.{Stages}
 
 -- the entry may move into the directory

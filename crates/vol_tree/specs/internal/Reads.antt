@@ -14,9 +14,10 @@ use Rattle.vol_tree.specs.declared.reading.Entries.{Entries}
 use Rattle.vol_tree.specs.Stands.{slot}
 use Rattle.vol_tree.specs.Space.{space}
 use Rattle.vol_tree.specs.Opened.{slots_in, tree_in, data_sectors}
-use Rattle.vol_tree.specs.Parts.{IsContent, AreTaken}
+use Rattle.vol_tree.specs.internal.Parts.{IsContent, AreTaken}
 use Rattle.vol_tree.specs.internal.Climbs.{AllLeadUp, AllLeadUpSoon, StandInDirectories}
 use Rattle.vol_tree.specs.internal.Replacing.{kind_is_directory}
+use Rattle.vol_log.specs.declared.layout.TheConstants.{FIRST_AFTER_LOG}
 
 -- what the slot at this place holds
 abbrev pub held_at : Image → Superblock → ℕ → Option Entry
@@ -49,7 +50,7 @@ pub record IsPlaced (dirs : Dirs) (serial : ℕ) (e : Entry) : Type 0 where
 
 -- the slot keeps the rules that it shows, by itself and with the names of the others
 pub record IsRight (content : Image) (v : Superblock) (dirs : Dirs) (s : ℕ) (o : Option Entry) : Type 0 where
-  pub bytes : content (122 + s) ≡ slot o
+  pub bytes : content (FIRST_AFTER_LOG + s) ≡ slot o
   pub entry : (e : Entry) → o ≡ Some e → IsEntry v.version e
   pub placed : (e : Entry) → o ≡ Some e → IsPlaced dirs (s + 1) e
   pub trimmed : (e : Entry) → o ≡ Some e → IsTrimmed content e
@@ -63,12 +64,12 @@ pub record Adds (content : Image) (o : Option Entry) (old new : Entries) : Type 
 
 -- there are data sectors for all that is named and needed so far
 pub record AreWithin (v : Superblock) (found : Entries) : Type 0 where
-  pub inside : AreInside (122 + v.slots) v.sectors found.named.items
+  pub inside : AreInside (FIRST_AFTER_LOG + v.slots) v.sectors found.named.items
   pub room : found.reserved ≤ data_sectors v
 
 -- there are data sectors for this slot too
 pub record FitIn (content : Image) (v : Superblock) (o : Option Entry) (found : Entries) : Type 0 where
-  pub inside : AreInside (122 + v.slots) v.sectors (found.named.items ++ named_in content o)
+  pub inside : AreInside (FIRST_AFTER_LOG + v.slots) v.sectors (found.named.items ++ named_in content o)
   pub room : found.reserved + reserved_in o ≤ data_sectors v
 
 -- what the first slots gave

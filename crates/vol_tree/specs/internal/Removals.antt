@@ -9,8 +9,10 @@ use Rattle.vol_tree.specs.declared.superblock.Superblock.{Superblock}
 use Rattle.vol_tree.specs.declared.parts.Parts.{Parts}
 use Rattle.vol_tree.specs.Tree as tree
 use Rattle.vol_tree.specs.Tree.{changed}
-use Rattle.vol_tree.specs.Opened.{slots_in, slot_of, tree_in, ReflectsOr, Keeps}
-use Rattle.vol_tree.specs.Parts.{opened, IsOpen}
+use Rattle.vol_tree.specs.Opened.{slots_in, tree_in, ReflectsOr, Keeps}
+use Rattle.vol_tree.specs.internal.Slots.{slot_of}
+use Rattle.vol_tree.specs.Parts.{opened}
+use Rattle.vol_tree.specs.internal.Parts.{IsOpen}
 use Rattle.vol_tree.specs.internal.Changes.{Stages}
 
 -- The entry is the serial's, and not the root's, and nothing stands in it.

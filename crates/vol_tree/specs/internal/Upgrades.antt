@@ -7,7 +7,8 @@ use Rattle.vol_log.specs.Log.{device_of, has_failed}
 use Rattle.vol_tree.specs.declared.parts.Parts.{Parts}
 use Rattle.vol_tree.specs.Stands.{StandsAs}
 use Rattle.vol_tree.specs.Opened.{ReflectsOr}
-use Rattle.vol_tree.specs.Parts.{opened, IsOpen}
+use Rattle.vol_tree.specs.Parts.{opened}
+use Rattle.vol_tree.specs.internal.Parts.{IsOpen}
 
 pub record Upgrades {D : Type 0} {g : Ghosts D} (old new : Parts D g) (io : Bool) : Type 0 where
   pub is_open : IsOpen new

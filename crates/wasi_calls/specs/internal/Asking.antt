@@ -1,7 +1,6 @@
 -- Bodies that only ask the volume: the part of a row that they go through, and how they may end the call.
-use Rattle.std.specs.Prelude.{◌≡◌, ◌≢◌, ◌⊎◌, ℕ, Bool, false, Result, Ok, Err}
-use Rattle.vol_sector.specs.Disk.{Disk, Leaves}
-use Rattle.vol_tree.specs.Opened.{Opened, Keeps}
+use Rattle.std.specs.Prelude.{◌≡◌, ◌≢◌, ◌⊎◌, ℕ, false, Result, Ok, Err}
+use Rattle.vol_tree.specs.Opened.{Opened}
 use Rattle.wasm_store.specs.declared.call.Errno.{Errno as Number}
 use Rattle.wasi_calls.specs.World.{World, volume_gone}
 use Rattle.wasi_calls.specs.Checks.{Checked}
@@ -42,9 +41,3 @@ module _ {D X : Type 0} where
   abbrev pub Asks : (World → Checked X) → World → Opened D → Result X Number → Type 0
   Asks part w new (Ok x) = Passes part w new x
   Asks part w new (Err e) = Stops part w new e.0
-
--- one question to the volume
-pub record Asked {D : Type 0} (honest : D → Type 0) (disk : D → Disk) (sectors_on failures : D → ℕ) (old new : Opened D) (io : Bool) : Type 0 where
-  pub kept : Keeps honest sectors_on failures old new io
-  pub tree : honest old.device → new.tree ≡ old.tree
-  pub crash : honest old.device → Leaves (disk old.device) (disk new.device) (λ c. ⊥)

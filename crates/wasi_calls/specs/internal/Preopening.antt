@@ -12,7 +12,8 @@ use Rattle.wasi_calls.specs.declared.inner.Inner.{Inner}
 use Rattle.wasi_calls.specs.declared.fault.HostFault.{HostFault}
 use Rattle.wasi_calls.specs.declared.fault.HostFault.TheVariants.{Setting, Preopen, Device, Memory}
 use Rattle.vol_sector.specs.Disk.{Disk}
-use Rattle.wasi_calls.specs.Making.{OnlyReads, directory_named, preopens_of, preopened, table_with}
+use Rattle.path_walk.specs.Walk.{Asked}
+use Rattle.wasi_calls.specs.Making.{directory_named, preopens_of, preopened, table_with}
 
 -- a refusal of a call of the volume
 abbrev pub fault_as : Errno → HostFault
@@ -75,6 +76,6 @@ ChangesVolume old new = new ≡ record old { volume = new.volume; descriptors = 
 
 -- the serials of the first n directories were found
 pub record FoundSoFar {D : Type 0} (honest : D → Type 0) (disk : D → Disk) (sectors_on failures : D → ℕ) (old new : Opened D) (ps : List PreopenValue) (serials : List ℕ) (n : ℕ) : Type 0 where
-  pub reads : OnlyReads honest disk sectors_on failures old new false
+  pub reads : Asked honest disk sectors_on failures old new false
   pub found : honest old.device → AreFound old.tree ps serials n
   pub numbers : AreNumbers new.numbers serials n

@@ -27,15 +27,15 @@ pub loop-more-preserved : goal.loop-more-preserved
 loop-more-preserved c =
     let rest = c.loop-more.rest.now in
     let n : ℕ = c.part_len.result in
-    let behind = c.split_at-else-is_empty.result.1.now in
+    let remainder = c.split_at-else-is_empty.result.1.now in
     let some : length c.split_at.result.1.now ≢ 0 = eqb-false _ 0 (sym c.is_empty.ensures ∙ c.if-is_empty.false) in
     let long : n < length rest = omega (arith, some, c.split_at.ensures.back_len, c.part_len.ensures.within) in
-    let is : behind ≡ drop (n + 1) rest = c.split_at-else-is_empty.ensures.back ∙ (ap (drop 1) c.split_at.ensures.back ∙ drop-drop 1 n rest) in
-    let all : cond c.loop-more.more (components_of behind) [] ≡ components_of behind = cond-true _ _ _ c.loop-more-test.true in
+    let is : remainder ≡ drop (n + 1) rest = c.split_at-else-is_empty.ensures.back ∙ (ap (drop 1) c.split_at.ensures.back ∙ drop-drop 1 n rest) in
+    let all : cond c.loop-more.more (components_of remainder) [] ≡ components_of remainder = cond-true _ _ _ c.loop-more-test.true in
     let before = c.loop-more.invariant.room c.loop-more-test.true in
     record {
       room = λ on. omega (arith, before, c.in-Some.ensures.room, c.split_at.ensures.front_len, c.split_at.ensures.back_len, c.split_at-else-is_empty.ensures.back_len, long);
       goes = ap (stays_inside c.in-Some.next) all
-          ∙ inward c.loop-more.depth _ rest c.split_at.result.0.now (components_of behind) n _ _ c.loop-more-test.true c.part_len.ensures c.split_at.ensures.front
-          (left_more rest n long ∙ ap components_of (sym is)) c.loop-more.invariant.goes (c.in-Some.ensures.meaning (components_of behind));
+          ∙ inward c.loop-more.depth _ rest c.split_at.result.0.now (components_of remainder) n _ _ c.loop-more-test.true c.part_len.ensures c.split_at.ensures.front
+          (left_more rest n long ∙ ap components_of (sym is)) c.loop-more.invariant.goes (c.in-Some.ensures.meaning (components_of remainder));
     }

@@ -3,7 +3,7 @@ use Rattle.std.proofs.lemmas.Bool.{eqb-true, eqb-false, cond-true}
 use Rattle.vol_tree.specs.Tree.{Tree}
 use Rattle.path_walk.specs.Paths.{components_of}
 use Rattle.path_walk.specs.internal.Turns.{ends, now_of}
-use Rattle.path_walk.specs.internal.Asked.{AreNames}
+use Rattle.path_walk.specs.internal.Steps.{AreNames}
 use Rattle.path_walk.proofs.Turning.{left, left_none, left_more, onward}
 use Rattle.path_walk.proofs.Chaining.{asked_then, first_is_name, rest_are_names}
 use Rattle.path_walk.proofs.walking.walk_down.Goals as goal
@@ -42,12 +42,12 @@ loop-more-preserved g c =
     let rest = c.loop-more.rest.now in
     let n : ℕ = c.part_len.result in
     let asked = c.loop-more.invariant.asked in
-    let behind = c.split_at-else-is_empty.result.1.now in
+    let remainder = c.split_at-else-is_empty.result.1.now in
     let some : length c.split_at.result.1.now ≢ 0 = eqb-false _ 0 (sym c.is_empty.ensures ∙ c.if-is_empty.false) in
     let long : n < length rest = omega (arith, some, c.split_at.ensures.back_len, c.part_len.ensures.within) in
-    let is : behind ≡ drop (n + 1) rest = c.split_at-else-is_empty.ensures.back ∙ (ap (drop 1) c.split_at.ensures.back ∙ drop-drop 1 n rest) in
-    let all : cond c.loop-more.more (components_of behind) [] ≡ components_of behind = cond-true _ _ _ c.loop-more-test.true in
-    let after : left rest n ≡ components_of behind = left_more rest n long ∙ ap components_of (sym is) in
+    let is : remainder ≡ drop (n + 1) rest = c.split_at-else-is_empty.ensures.back ∙ (ap (drop 1) c.split_at.ensures.back ∙ drop-drop 1 n rest) in
+    let all : cond c.loop-more.more (components_of remainder) [] ≡ components_of remainder = cond-true _ _ _ c.loop-more-test.true in
+    let after : left rest n ≡ components_of remainder = left_more rest n long ∙ ap components_of (sym is) in
     record {
       asked = asked_then g.D.Device.honest g.D.Device.disk g.D.Device.size g.D.Device.failures c.args.volume.now c.loop-more.volume c.advance.new.volume false asked c.in-Ok.ensures.asked;
       here = c.in-Ok.ensures.here;
@@ -55,7 +55,7 @@ loop-more-preserved g c =
       names = subst AreNames (after ∙ sym all)
           (rest_are_names c.loop-more.more rest c.split_at.result.0.now n c.loop-more-test.true c.part_len.ensures c.split_at.ensures.front c.loop-more.invariant.names);
       goes = λ h. ap (ends c.args.volume.now.tree c.in-Ok.next (now_of c.in-Ok.gone)) all
-          ∙ (ap (λ (T : Tree). ends T c.in-Ok.next (now_of c.in-Ok.gone) (components_of behind)) (sym (asked.tree h))
-          ∙ onward _ _ _ _ _ rest c.split_at.result.0.now (components_of behind) n _ _ (asked.tree h) c.loop-more-test.true c.part_len.ensures c.split_at.ensures.front
-          after (c.loop-more.invariant.goes h) (c.in-Ok.ensures.answer (asked.kept.honest.0 h) (components_of behind)));
+          ∙ (ap (λ (T : Tree). ends T c.in-Ok.next (now_of c.in-Ok.gone) (components_of remainder)) (sym (asked.tree h))
+          ∙ onward _ _ _ _ _ rest c.split_at.result.0.now (components_of remainder) n _ _ (asked.tree h) c.loop-more-test.true c.part_len.ensures c.split_at.ensures.front
+          after (c.loop-more.invariant.goes h) (c.in-Ok.ensures.answer (asked.kept.honest.0 h) (components_of remainder)));
     }

@@ -2,7 +2,8 @@ use Rattle.std.proofs.Common.{◌≡◌, suc, length, [], cond, false}
 use Rattle.path_walk.specs.Paths.{components_of}
 use Rattle.path_walk.specs.Walk.{IsEntryOf}
 use Rattle.path_walk.specs.internal.Turns.{ends, now_of, walks_as}
-use Rattle.path_walk.specs.internal.Asked.{Asked, IsMissing, AreNames}
+use Rattle.path_walk.specs.Walk.{Asked}
+use Rattle.path_walk.specs.internal.Steps.{IsMissing, AreNames}
 use Rattle.path_walk.proofs.walking.walk_down.Given as goal
 
 abbrev pub invariant-loop-more : goal.invariant-loop-more

@@ -1,7 +1,7 @@
 use Rattle.std.proofs.Common.{◌≡◌, ◌*◌, ◌++◌, ℕ, List, length, take, drop, false, ap, subst, rules}
 use Rattle.vol_tree.specs.Tree.{Tree}
 use Rattle.vol_tree.specs.Calls.{bytes_at}
-use Rattle.path_walk.specs.internal.Asked.{Asked}
+use Rattle.path_walk.specs.Walk.{Asked}
 use Rattle.path_walk.proofs.Chaining.{asked_then}
 use Rattle.sandbox_main.proofs.Asking.{works_on}
 use Rattle.sandbox_main.proofs.Pieces.{piece_printed}

@@ -1,7 +1,7 @@
 use Rattle.std.proofs.Common.{◌*◌, take, false}
 use Rattle.std.specs.Io.KnownBytes.{Appends}
 use Rattle.vol_tree.specs.Calls.{bytes_at}
-use Rattle.path_walk.specs.internal.Asked.{Asked}
+use Rattle.path_walk.specs.Walk.{Asked}
 use Rattle.sandbox_main.specs.Tasks.{IsWorking}
 use Rattle.sandbox_main.proofs.printing.print_bytes.Given as goal
 

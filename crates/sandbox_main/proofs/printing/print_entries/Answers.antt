@@ -5,7 +5,7 @@ use Rattle.std.proofs.lemmas.Option.{same_Some}
 use Rattle.vol_tree.specs.Tree.{Tree, Entry, entry}
 use Rattle.vol_tree.specs.Stat.{IsStat}
 use Rattle.vol_tree.specs.Calls.{next_child}
-use Rattle.path_walk.specs.internal.Asked.{Asked}
+use Rattle.path_walk.specs.Walk.{Asked}
 use Rattle.path_walk.proofs.Chaining.{asked_then}
 use Rattle.sandbox_main.specs.Tasks.{line_of, listing}
 use Rattle.sandbox_main.proofs.Asking.{works_on}

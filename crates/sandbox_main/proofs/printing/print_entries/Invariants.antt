@@ -1,7 +1,7 @@
 use Rattle.std.proofs.Common.{◌≡◌, ◌-◌, ◌++◌, ℕ, List, drop, false}
 use Rattle.std.specs.List.{flat_map}
 use Rattle.std.specs.Io.KnownBytes.{Appends}
-use Rattle.path_walk.specs.internal.Asked.{Asked}
+use Rattle.path_walk.specs.Walk.{Asked}
 use Rattle.sandbox_main.specs.Tasks.{IsWorking, line_in, listing}
 use Rattle.sandbox_main.proofs.printing.print_entries.Given as goal
 

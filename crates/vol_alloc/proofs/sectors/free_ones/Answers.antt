@@ -1,7 +1,6 @@
-use Rattle.std.proofs.Common.{◌≡◌, ◌≢◌, ◌<◌, ◌≤◌, ◌∙◌, ◌+◌, ◌-◌, ◌++◌, ◌∷◌, [], ℕ, Bool, List, length, drop, get_or, true, false, not, count_by, inl, inr, refl, sym, ap, subst, arith, rules}
-use Rattle.std.proofs.lemmas.Bool.{cases_eq}
-use Rattle.std.proofs.lemmas.List.{length_push, get_or_push, get_or_append_left, get_or_default}
-use Rattle.vol_alloc.specs.Numbers.{AreFree}
+use Rattle.std.proofs.Common.{◌≡◌, ◌<◌, ◌≤◌, ◌∙◌, ◌+◌, ◌-◌, ◌++◌, ◌∷◌, [], ℕ, List, length, drop, get_or, true, false, not, count_by, sym, ap, subst, arith, rules}
+use Rattle.std.proofs.lemmas.List.{get_or_default}
+use Rattle.vol_alloc.specs.internal.Numbers.{AreFree}
 use Rattle.vol_alloc.proofs.Free.{free_more, counted_more, above_more}
 use Rattle.vol_alloc.proofs.sectors.free_ones.Goals as goal
 

@@ -1,5 +1,5 @@
 use Rattle.std.proofs.Common.{◌≡◌, ◌+◌, ◌≤◌, ◌<◌, ℕ, not, length, drop, get_or, count_by, vec_len, vec_capacity}
-use Rattle.vol_alloc.specs.Numbers.{AreFree}
+use Rattle.vol_alloc.specs.internal.Numbers.{AreFree}
 use Rattle.vol_alloc.proofs.sectors.free_ones.Given as goal
 
 abbrev pub invariant-loop-i : goal.invariant-loop-i

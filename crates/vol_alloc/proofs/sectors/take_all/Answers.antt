@@ -1,7 +1,7 @@
-use Rattle.std.proofs.Common.{◌≡◌, ◌≢◌, ◌<◌, ◌≤◌, ◌∙◌, ◌+◌, ◌-◌, ℕ, Bool, length, get_or, true, false, not, sym, ap, arith, rules}
+use Rattle.std.proofs.Common.{◌≡◌, ◌<◌, ◌≤◌, ◌-◌, length, get_or, true, false, arith}
 use Rattle.std.proofs.lemmas.List.{length-set}
 use Rattle.vol_alloc.proofs.Free.{flagged}
-use Rattle.vol_alloc.proofs.Named.{set_more, each_more, right_more, not_yet}
+use Rattle.vol_alloc.proofs.Named.{set_more, each_more, right_more}
 use Rattle.vol_alloc.proofs.sectors.take_all.Goals as goal
 
 pub loop-n-preserved : goal.loop-n-preserved

@@ -1,7 +1,7 @@
 use Rattle.std.proofs.Common.{◌≡◌, ◌∙◌, ◌*◌, ◌-◌, ◌/◌, ◌<◌, ℕ, get_or, ap, arith}
 use Rattle.vol_log.specs.Log.{view}
 use Rattle.vol_alloc.specs.Alloc.{taken_of}
-use Rattle.vol_inode.specs.Space.{sectors_of}
+use Rattle.vol_inode.specs.Space.{blocks_for_size}
 use Rattle.vol_body.specs.Body.{double_indirect_block, inner_block, named, number_in}
 use Rattle.vol_body.specs.internal.Shorter.{last_inner_block, kept_bytes}
 use Rattle.vol_body.proofs.Places.{known_at}
@@ -15,7 +15,7 @@ returns-clause-cut g c h names =
     let e = c.args.entry.now in
     let taken = taken_of c.args.sectors.now in
     let i = c.saturating_sub-i.result / 128 in
-    let at : i ≡ (sectors_of size - 187) / 128 = omega (arith, c.saturating_sub-i.ensures, c.div_ceil-count.ensures) in
+    let at : i ≡ (blocks_for_size size - 187) / 128 = omega (arith, c.saturating_sub-i.ensures, c.div_ceil-count.ensures) in
     let below : i < 128 = omega (arith, c.requires.small, at) in
     let kept : 4 * c.min-kept.result ≡ kept_bytes size (last_inner_block size) = omega (arith, c.min-kept.ensures, c.saturating_sub.ensures, c.div_ceil-count.ensures, at) in
     let first : c.taken_or_zero-double_indirect_block.result ≡ named content e double_indirect_block = c.taken_or_zero-double_indirect_block.ensures ∙ known_at taken content e names double_indirect_block tt (get_or e.pointers 59 0) (λ i. get_or e.pointers 59 0) in

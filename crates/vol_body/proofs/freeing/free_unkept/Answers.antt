@@ -1,5 +1,5 @@
 use Rattle.std.proofs.Common.{◌≡◌, ◌≢◌, ◌∙◌, ◌-◌, ◌≤◌, ◌<◌, ◌⊎◌, ℕ, true, get_or, slice_index, sym, subst}
-use Rattle.vol_log.specs.Log.{view, sectors_of}
+use Rattle.vol_log.specs.Log.{view, log_sectors}
 use Rattle.vol_alloc.specs.Alloc.{taken_of}
 use Rattle.vol_body.specs.Body.{indirect_block, double_indirect_block, inner_block, named, number_in}
 use Rattle.vol_body.specs.internal.Shorter.{Gives, StandsFrom, GoesWithList, GoesWithLater}
@@ -9,11 +9,11 @@ use Rattle.vol_body.proofs.GivenBack.{gives_then, gives_at, gives_all, known_the
 use Rattle.vol_body.proofs.freeing.free_unkept.Goals as goal
 
 pub free_double_indirect_block-requires-clause-there : goal.free_double_indirect_block-requires-clause-there
-free_double_indirect_block-requires-clause-there g c some = known_there c.args.sectors.now (get_or c.args.entry.now.pointers 59 0) c.taken_or_zero-double_indirect_block.result (sectors_of c.args.log.now) c.taken_or_zero-double_indirect_block.ensures c.requires.there some
+free_double_indirect_block-requires-clause-there g c some = known_there c.args.sectors.now (get_or c.args.entry.now.pointers 59 0) c.taken_or_zero-double_indirect_block.result (log_sectors c.args.log.now) c.taken_or_zero-double_indirect_block.ensures c.requires.there some
 
 pub free_indirect_block-requires-clause-there : goal.free_indirect_block-requires-clause-there
 free_indirect_block-requires-clause-there g c some = subst (λ (m : ℕ). c.taken_or_zero-indirect_block.result < m) (sym c.in_ok-free_double_indirect_block.ensures.reads.sectors)
-    (known_there c.args.sectors.now (get_or c.args.entry.now.pointers 58 0) c.taken_or_zero-indirect_block.result (sectors_of c.args.log.now) c.taken_or_zero-indirect_block.ensures c.requires.there some)
+    (known_there c.args.sectors.now (get_or c.args.entry.now.pointers 58 0) c.taken_or_zero-indirect_block.result (log_sectors c.args.log.now) c.taken_or_zero-indirect_block.ensures c.requires.there some)
 
 pub returns-in_err-free_indirect_block-clause-reads : goal.returns-in_err-free_indirect_block-clause-reads
 returns-in_err-free_indirect_block-clause-reads g c = reads_then c.args.log.now c.free_double_indirect_block.new.log c.free_indirect_block.new.log c.in_ok-free_double_indirect_block.ensures.failed c.in_ok-free_double_indirect_block.ensures.reads c.in_err-free_indirect_block.ensures.reads

@@ -3,7 +3,7 @@ use Rattle.vol_sector.specs.Disk.{Image, put}
 use Rattle.vol_sector.specs.declared.device.DeviceFault.{DeviceFault}
 use Rattle.vol_log.specs.Log.{view, device_of}
 use Rattle.vol_alloc.specs.Alloc.{first_of, end_of, taken_of}
-use Rattle.vol_inode.specs.Space.{sectors_of}
+use Rattle.vol_inode.specs.Space.{blocks_for_size}
 use Rattle.vol_inode.specs.declared.entry.Entry.{Entry}
 use Rattle.vol_body.specs.Body.{NamesTaken, IsBody, bytes_of}
 use Rattle.vol_body.specs.Change.{OthersStay, TakesAndGives}
@@ -45,7 +45,7 @@ returns-clause-steps g c =
     }
 
 given_back : (g : Over) (c : goal.After-stage g) → g.D.Device.honest (device_of c.args.log.now) → NamesTaken (taken_of c.args.sectors.now) (view c.args.log.now) c.args.entry.now
-    → Gives (taken_of c.args.sectors.now) (taken_of c.free_unkept.new.sectors) (Goes (view c.args.log.now) c.args.entry.now (sectors_of c.args.size))
+    → Gives (taken_of c.args.sectors.now) (taken_of c.free_unkept.new.sectors) (Goes (view c.args.log.now) c.args.entry.now (blocks_for_size c.args.size))
 given_back g c h names =
     let content = view c.args.log.now in
     let e = c.args.entry.now in
@@ -53,13 +53,13 @@ given_back g c h names =
     let now_taken = taken_of c.free_unkept.new.sectors in
     let reads = c.in_ok-cuts.ensures.reads in
     let there : NamesTaken was (view c.read_cuts.new.log) e = subst (λ (m : Image). NamesTaken was m e) (sym (reads.view h)) names in
-    let count : c.div_ceil-count.result ≡ sectors_of c.args.size = omega (arith, c.div_ceil-count.ensures) in
+    let count : c.div_ceil-count.result ≡ blocks_for_size c.args.size = omega (arith, c.div_ceil-count.ensures) in
     subst (λ (k : ℕ). Gives was now_taken (Goes content e k)) count (subst (λ (m : Image). Gives was now_taken (Goes m e c.div_ceil-count.result)) (reads.view h) (c.in_ok-free_unkept.ensures.gives (reads.honest.0 h) there))
 
 made : (g : Over) (c : goal.After-stage g) → g.D.Device.honest (device_of c.args.log.now) → NamesTaken (taken_of c.args.sectors.now) (view c.args.log.now) c.args.entry.now → IsBody (view c.args.log.now) c.args.entry.now
     → Shrinks c.args.size c.args.inode_sector (first_of c.args.sectors.now) (end_of c.args.sectors.now) (view c.args.log.now) c.args.entry.now (changed_of g c) c.in_ok-cuts.cuts (taken_of c.args.sectors.now) (taken_of c.free_unkept.new.sectors)
 made g c h names body =
-    let count : c.div_ceil-count.result ≡ sectors_of c.args.size = omega (arith, c.div_ceil-count.ensures) in
+    let count : c.div_ceil-count.result ≡ blocks_for_size c.args.size = omega (arith, c.div_ceil-count.ensures) in
     record {
       body = body;
       names = names;

@@ -2,7 +2,7 @@ use Rattle.std.proofs.Common.{◌≡◌, ◌-◌, ℕ, ◌∷◌, ◌++◌, leng
 use Rattle.std.proofs.lemmas.Result.{IfErr-weaker}
 use Rattle.vol_sector.specs.Disk.{Image}
 use Rattle.vol_sector.specs.declared.fault.VolumeFault.TheVariants as faults
-use Rattle.vol_inode.specs.Space.{sectors_of}
+use Rattle.vol_inode.specs.Space.{blocks_for_size}
 use Rattle.vol_log.specs.Log.{view}
 use Rattle.vol_body.specs.Body.{indirect_block, double_indirect_block, named}
 use Rattle.vol_body.specs.Survey.{every_position}
@@ -38,7 +38,7 @@ returns-in_err-survey_indirect_block-clause-damaged g c h =
     let next = with_listed content (named content e indirect_block) in
     let last = named content e double_indirect_block ∷ all_listed content (listed content (named content e double_indirect_block)) in
     let long : length e.pointers ≡ 60 = omega arith in
-    let from : c.saturating_sub-from.result ≡ sectors_of e.size - 58 = omega (arith, c.saturating_sub-from.ensures, c.div_ceil-count.ensures) in
+    let from : c.saturating_sub-from.result ≡ blocks_for_size e.size - 58 = omega (arith, c.saturating_sub-from.ensures, c.div_ceil-count.ensures) in
     handed_on c.from_residual-in_err-survey_indirect_block.result _ c.in_err-survey_indirect_block.field-0.0 c.from_residual-in_err-survey_indirect_block.ensures.1
     (λ is past. subst (Overflows c.args.first c.args.end a) (at_every content e long)
     (overflows_before c.args.first c.args.end a (front ++ next) last (overflows_then c.args.first c.args.end a b front next c.in_ok-push_all.ensures.pushes
@@ -73,8 +73,8 @@ returns-clause-past g c h =
     let e = c.args.entry.now in
     let n = named content e double_indirect_block in
     let count = c.div_ceil-count.result in
-    let is : count ≡ sectors_of e.size = omega (arith, c.div_ceil-count.ensures) in
-    let from : c.saturating_sub-from.result ≡ sectors_of e.size - 58 = omega (arith, c.saturating_sub-from.ensures, c.div_ceil-count.ensures) in
+    let is : count ≡ blocks_for_size e.size = omega (arith, c.div_ceil-count.ensures) in
+    let from : c.saturating_sub-from.result ≡ blocks_for_size e.size - 58 = omega (arith, c.saturating_sub-from.ensures, c.div_ceil-count.ensures) in
     let reads = c.in_ok-survey_indirect_block.ensures.reads in
     on_ok (LaterNone now n count) (NamesNonePast content e) c.survey_double_indirect_block.result
     (λ p. none_past content e c.requires.pointers (subst (λ (k : ℕ). ListsNoneFrom content (named content e indirect_block) k) from (c.in_ok-survey_indirect_block.ensures.past h))
@@ -95,7 +95,7 @@ returns-clause-damaged g c h =
     let next = with_listed content (named content e indirect_block) in
     let n = named content e double_indirect_block in
     let count = c.div_ceil-count.result in
-    let is_count : count ≡ sectors_of e.size = omega (arith, c.div_ceil-count.ensures) in
+    let is_count : count ≡ blocks_for_size e.size = omega (arith, c.div_ceil-count.ensures) in
     let long : length e.pointers ≡ 60 = omega arith in
     let reads = c.in_ok-survey_indirect_block.ensures.reads in
     IfErr-weaker c.survey_double_indirect_block.result

@@ -12,28 +12,22 @@ use Rattle.vol_body.proofs.Stagings.{stages_then}
 use Rattle.vol_body.proofs.Steps.{put_here, room_left, on_err}
 use Rattle.vol_body.proofs.Finished.{write_leaves, ready_to_write, mirrors_all_by}
 use Rattle.vol_body.proofs.writing.write_some.Goals as goal
+use Rattle.vol_inode.specs.declared.version.TheConstants.{LARGEST_SIZE}
 
-pub returns-in_err-behind-clause-refused : goal.returns-in_err-behind-clause-refused
-returns-in_err-behind-clause-refused g c =
-    on_err c.from_residual-in_err-behind.result
-    (reads_then c.args.log.now c.read_edge.new.log c.read_edge-2.new.log c.in_ok-before.ensures.failed c.in_ok-before.ensures.reads c.in_err-behind.ensures.reads, refl, refl)
-
-pub returns-in_err-all-clause-steps : goal.returns-in_err-all-clause-steps
-returns-in_err-all-clause-steps g c =
-    let edges = reads_then c.args.log.now c.read_edge.new.log c.read_edge-2.new.log c.in_ok-before.ensures.failed c.in_ok-before.ensures.reads c.in_ok-behind.ensures.reads in
-    let reads = reads_then c.args.log.now c.read_edge-2.new.log c.load_pointer_sectors.new.log c.in_ok-behind.ensures.failed edges c.in_err-all.ensures.reads in
+pub returns-in_err-edges-clause-steps : goal.returns-in_err-edges-clause-steps
+returns-in_err-edges-clause-steps g c =
+    let reads = reads_then c.args.log.now c.load_pointer_sectors.new.log c.read_edges.new.log c.in_ok-all.ensures.failed c.in_ok-all.ensures.reads c.in_err-edges.ensures.reads in
     record {
-      room = let same : room_of c.load_pointer_sectors.new.log ≡ room_of c.args.log.now = ap (λ l. 120 - length l) reads.staged in omega (arith, same);
+      room = let same : room_of c.read_edges.new.log ≡ room_of c.args.log.now = ap (λ l. 120 - length l) reads.staged in omega (arith, same);
       log = record { seen = reads.seen; crash = reads.crash; sectors = reads.sectors; honest = reads.honest; size = reads.size; failures = reads.failures };
       failed = search rules;
       range = (refl, refl);
     }
 
-pub returns-in_err-all-clause-refused : goal.returns-in_err-all-clause-refused
-returns-in_err-all-clause-refused g c =
-    let edges = reads_then c.args.log.now c.read_edge.new.log c.read_edge-2.new.log c.in_ok-before.ensures.failed c.in_ok-before.ensures.reads c.in_ok-behind.ensures.reads in
-    on_err c.from_residual-in_err-all.result
-    (reads_then c.args.log.now c.read_edge-2.new.log c.load_pointer_sectors.new.log c.in_ok-behind.ensures.failed edges c.in_err-all.ensures.reads, refl, refl)
+pub returns-in_err-edges-clause-refused : goal.returns-in_err-edges-clause-refused
+returns-in_err-edges-clause-refused g c =
+    on_err c.from_residual-in_err-edges.result
+    (reads_then c.args.log.now c.load_pointer_sectors.new.log c.read_edges.new.log c.in_ok-all.ensures.failed c.in_ok-all.ensures.reads c.in_err-edges.ensures.reads, refl, refl)
 
 pub returns-clause-entry : goal.returns-clause-entry
 returns-clause-entry g c = record {
@@ -43,14 +37,13 @@ returns-clause-entry g c = record {
 
 pub returns-clause-steps : goal.returns-clause-steps
 returns-clause-steps g c =
-    let edges = reads_then c.args.log.now c.read_edge.new.log c.read_edge-2.new.log c.in_ok-before.ensures.failed c.in_ok-before.ensures.reads c.in_ok-behind.ensures.reads in
-    let reads = reads_then c.args.log.now c.read_edge-2.new.log c.load_pointer_sectors.new.log c.in_ok-behind.ensures.failed edges c.in_ok-all.ensures.reads in
-    let same : room_of c.load_pointer_sectors.new.log ≡ room_of c.args.log.now = ap (λ l. 120 - length l) reads.staged in
+    let reads = reads_then c.args.log.now c.load_pointer_sectors.new.log c.read_edges.new.log c.in_ok-all.ensures.failed c.in_ok-all.ensures.reads c.in_ok-edges.ensures.reads in
+    let same : room_of c.read_edges.new.log ≡ room_of c.args.log.now = ap (λ l. 120 - length l) reads.staged in
     let last = room_left (is_staged c.write_blocks.new.log c.args.inode_sector) (room_of c.write_blocks.new.log) (room_of c.stage.new.self) c.stage.ensures.room in
     let puts = c.write_blocks.ensures.puts in
     record {
       room = omega (arith, same, last, c.write_blocks.ensures.room);
-      log = stages_then c.args.log.now c.load_pointer_sectors.new.log c.stage.new.self reads c.in_ok-all.ensures.failed
+      log = stages_then c.args.log.now c.read_edges.new.log c.stage.new.self reads c.in_ok-edges.ensures.failed
           (c.stage.ensures.device ∙ puts.device) (c.stage.ensures.sectors ∙ puts.sectors) c.stage.ensures.failed;
       failed = c.stage.ensures.failed;
       range = (c.write_blocks.ensures.range.first, c.write_blocks.ensures.range.end);
@@ -72,30 +65,30 @@ returns-clause-done g c h names body space =
     let longer : Entry = record e { size = size } in
     let changed = c.write_blocks.new.entry in
     let between = view c.write_blocks.new.log in
-    let start = view c.load_pointer_sectors.new.log in
+    let start = view c.read_edges.new.log in
     let all = c.in_ok-all.all in
-    let one : view c.read_edge.new.log ≡ content = c.in_ok-before.ensures.reads.view h in
-    let h1 = c.in_ok-before.ensures.reads.honest.0 h in
-    let two : view c.read_edge-2.new.log ≡ content = c.in_ok-behind.ensures.reads.view h1 ∙ one in
-    let h2 = c.in_ok-behind.ensures.reads.honest.0 h1 in
-    let three : start ≡ content = c.in_ok-all.ensures.reads.view h2 ∙ two in
+    let one : view c.load_pointer_sectors.new.log ≡ content = c.in_ok-all.ensures.reads.view h in
+    let h1 = c.in_ok-all.ensures.reads.honest.0 h in
+    let three : start ≡ content = c.in_ok-edges.ensures.reads.view h1 ∙ one in
     let names_in = λ (m : Image) (same : m ≡ content). subst (λ (k : Image). NamesTaken (taken_of a) k e) (sym same) names in
     let size_is : size ≡ max e.size (offset + length bytes) = c.max-entry.ensures ∙ ap (λ (n : ℕ). max e.size (offset + n)) len_is in
-    let small : size ≤ 8483840 = omega (arith, size_is, c.requires.small, c.requires.small_before) in
+    let small : size ≤ LARGEST_SIZE = omega (arith, size_is, c.requires.small, c.requires.small_before) in
     let ready : IsReady a content longer = ready_to_write a content e size body names (omega (arith, size_is)) small (subst (λ (s : ℕ). need_of s ≤ free_of a + used_of content e) (sym size_is) space) in
-    let mirrors : MirrorsAll content longer all first last = mirrors_all_by content e longer all first last refl (subst (λ (k : Image). MirrorsAll k e all first last) two (c.in_ok-all.ensures.right h2 (names_in (view c.read_edge-2.new.log) two))) in
+    let mirrors : MirrorsAll content longer all first last = mirrors_all_by content e longer all first last refl (c.in_ok-all.ensures.right h names) in
     let written = c.write_blocks.ensures.written (subst (λ (k : Image). IsReady a k longer) (sym three) ready) (omega (arith, size_is, len_is, c.requires.some))
     (subst (λ (k : Image). MirrorsAll k longer all first last) (sym three) mirrors) in
     let changes : Changes a b content between longer changed (λ p. IsBlockIn first (last + 1) p ⊎ IsPointer p) =
     subst (λ (k : Image). Changes a b k between longer changed (λ p. IsBlockIn first (last + 1) p ⊎ IsPointer p)) three written.0 in
-    let image = image_of offset bytes c.in_ok-before.before c.in_ok-behind.behind in
+    let image = image_of offset bytes c.in_ok-edges.edges.0 c.in_ok-edges.edges.1 in
     let edge : (n : ℕ) → Type 0 = λ n. (offset ≤ 512 * ((offset + n - 1) / 512) → 512 * ((offset + n - 1) / 512) + 512 ≤ offset + n → ⊥)
-    → c.in_ok-behind.behind ≡ block_bytes content (named content e (data_block ((offset + n - 1) / 512))) in
-    let read : edge c.len.result = λ partly. c.in_ok-behind.ensures.bytes h1 (names_in (view c.read_edge.new.log) one) partly ∙ ap (λ (m : Image). block_bytes m (named m e (data_block last))) one in
-    write_leaves c.args.inode_sector offset bytes c.in_ok-before.before c.in_ok-behind.behind c.write_entry.result a b content between (view c.stage.new.self) e changed size
-    c.requires.behind c.requires.slot c.write_blocks.ensures.range c.requires.small_before c.requires.small c.requires.some size_is body names
+    → c.in_ok-edges.edges.1 ≡ block_bytes content (named content e (data_block ((offset + n - 1) / 512))) in
+    let there = names_in (view c.load_pointer_sectors.new.log) one in
+    let held : MirrorsAll (view c.load_pointer_sectors.new.log) e all first last = subst (λ (k : Image). MirrorsAll k e all first last) (sym one) (c.in_ok-all.ensures.right h names) in
+    let read : edge c.len.result = λ partly. c.in_ok-edges.ensures.last h1 there held partly ∙ ap (λ (m : Image). block_bytes m (named m e (data_block last))) one in
+    write_leaves c.args.inode_sector offset bytes c.in_ok-edges.edges.0 c.in_ok-edges.edges.1 c.write_entry.result a b content between (view c.stage.new.self) e changed size
+    c.requires.after_log c.requires.slot c.write_blocks.ensures.range c.requires.small_before c.requires.small c.requires.some size_is body names
     (subst (λ (k : ℕ). Changes a b content between longer changed (λ p. IsBlockIn first (k + 1) p ⊎ IsPointer p)) is_last changes)
     (subst (λ (k : ℕ). HasBlocks between changed first (k + 1) image) is_last written.1) c.stage.ensures.view
     (search rules) (search rules)
-    (λ partly. c.in_ok-before.ensures.bytes h names (λ le fits. partly le (omega (arith, fits, len_is))))
+    (λ partly. c.in_ok-edges.ensures.first h1 there held (λ le fits. partly le (omega (arith, fits, len_is))) ∙ ap (λ (m : Image). block_bytes m (named m e (data_block first))) one)
     (subst edge len_is read)

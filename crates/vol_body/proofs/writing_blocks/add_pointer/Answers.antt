@@ -26,7 +26,7 @@ returns-clause-added g c p at blank missing =
     let changed : Entry = record e { pointers = set e.pointers s n } in
     let is : view c.stage.new.self ≡ put n image content = c.stage.ensures.view in
     let takes : TakesSector a b n = record {
-      some = λ zero. omega (arith, c.requires.behind, c.take-n.ensures.from, zero);
+      some = λ zero. omega (arith, c.requires.after_log, c.take-n.ensures.from, zero);
       from = c.take-n.ensures.from;
       below = c.take-n.ensures.below;
       free = c.take-n.ensures.free;

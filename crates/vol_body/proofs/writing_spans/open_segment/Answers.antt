@@ -1,6 +1,6 @@
 use Rattle.std.proofs.Common.{◌≡◌, ◌≢◌, ◌⊎◌, inl, inr, ◌<◌, ◌-◌, ℕ, List, replicate, refl, ◌∙◌, sym, ap, subst, arith}
 use Rattle.vol_log.specs.Log.{view}
-use Rattle.vol_inode.specs.Space.{sectors_of}
+use Rattle.vol_inode.specs.Space.{blocks_for_size}
 use Rattle.vol_body.specs.Body.{BlockPosition, indirect_block, double_indirect_block, inner_block}
 use Rattle.vol_body.specs.internal.Writing.{Adds, IsMissing, Mirrors, segment}
 use Rattle.vol_body.proofs.Added.{mirror_stays}
@@ -53,11 +53,11 @@ returns-then-all-ne0-clause-opened g c ready serves mirror mirror_all =
     let here : Mirrors c0 e0 p above.number above.image = subst (λ (q : BlockPosition). Mirrors c0 e0 q above.number above.image) is mirror in
     let top = c.open_pointer-2.ensures.opened double_indirect_block refl (omega arith) ready (omega (arith, serves, c.if-group-eq0.false)) (mirror_all (omega (arith, c.if-group-eq0.false))) in
     let still : Mirrors c1 e1 p above.number above.image = mirror_stays c0 c1 e0 e1 p above.number above.image (top.changes.stays p below (λ same. cc)) here in
-    let size : sectors_of e1.size ≡ sectors_of e0.size = ap sectors_of top.changes.size in
+    let size : blocks_for_size e1.size ≡ blocks_for_size e0.size = ap blocks_for_size top.changes.size in
     let missing : IsMissing b c1 e1 p = record { ready = top.changes.ready; none = sym still.names ∙ c.if-above-eq0.true; serves = omega (arith, serves, size, c.if-group-eq0.false) } in
     let zeros : above.image ≡ replicate 512 0 = held_zeros c1 e1 p above.number above.image still c.if-above-eq0.true in
     let added = c.add_number-above.ensures.added e1 double_indirect_block p refl tt below (blank_zeros p) missing top.mirror in
-    let changes = changes_then a b d c0 c1 c2 e0 e1 e1 (λ x. x ≡ double_indirect_block) (λ x. (x ≡ p) ⊎ (x ≡ double_indirect_block)) (λ x. (x ≡ p) ⊎ (x ≡ double_indirect_block)) c.requires.behind c.open_pointer-2.ensures.range c.add_number-above.ensures.range
+    let changes = changes_then a b d c0 c1 c2 e0 e1 e1 (λ x. x ≡ double_indirect_block) (λ x. (x ≡ p) ⊎ (x ≡ double_indirect_block)) (λ x. (x ≡ p) ⊎ (x ≡ double_indirect_block)) c.requires.after_log c.open_pointer-2.ensures.range c.add_number-above.ensures.range
     (λ x same. inr same) (λ x touched. touched) top.changes added.0.changes in
     let B = λ (q : BlockPosition). Adds a d c0 c2 e0 e1 (λ x. (x ≡ q) ⊎ (x ≡ double_indirect_block)) q c.add_number-above.result above.image × (Mirrors c0 e0 double_indirect_block all.number all.image → Mirrors c2 e1 double_indirect_block new_all.number new_all.image) in
     subst B (sym is) (

@@ -1,7 +1,7 @@
 use Rattle.std.proofs.Common.{◌≡◌, ◌⊎◌, inl, inr, ◌≤◌, ◌<◌, ◌+◌, ◌*◌, ◌/◌, ℕ, ◌∙◌, sym, ap, subst, arith}
 use Rattle.std.proofs.lemmas.Bool.{cases_lt}
 use Rattle.vol_log.specs.Log.{view}
-use Rattle.vol_inode.specs.Space.{sectors_of}
+use Rattle.vol_inode.specs.Space.{blocks_for_size}
 use Rattle.vol_body.specs.Body.{BlockPosition, data_block, double_indirect_block}
 use Rattle.vol_body.specs.internal.Writing.{Mirrors, HasBlocks, IsBlockIn, IsPointer, segment, segment_of, image_of}
 use Rattle.vol_body.proofs.Added.{mirror_stays}
@@ -60,7 +60,7 @@ returns-clause-written g c ready fits all =
     let to2 = c.min-2.result in
     let from3 = 186 + 128 * s in
     let one = c.write_direct.ensures.written ready (omega (arith, low, fits)) in
-    let size1 : sectors_of e1.size ≡ sectors_of e0.size = ap sectors_of one.0.size in
+    let size1 : blocks_for_size e1.size ≡ blocks_for_size e0.size = ap blocks_for_size one.0.size in
     let lists_one = λ (reaches : 186 ≤ last). mirror_stays c0 c1 e0 e1 double_indirect_block top.number top.image (one.0.stays double_indirect_block tt (λ touched. touched)) (all.double_indirect_block reaches) in
     let two = c.write_segment.ensures.written one.0.ready (omega (arith, middle_to, size1, fits))
     (λ some.
@@ -68,7 +68,7 @@ returns-clause-written g c ready fits all =
     mirror_stays c0 c1 e0 e1 (segment s) early.number early.image (one.0.stays (segment s) (segment_is_place s last reaches c.requires.last) (λ touched. segment_no_part first to1 s touched))
     (subst (λ (x : ℕ). Mirrors c0 e0 (segment x) early.number early.image) (sym group) (all.early (omega (arith, reaches, group)))))
     (λ later. lists_one (omega (arith, later, middle_to))) in
-    let size2 : sectors_of e2.size ≡ sectors_of e1.size = ap sectors_of two.0.size in
+    let size2 : blocks_for_size e2.size ≡ blocks_for_size e1.size = ap blocks_for_size two.0.size in
     let three = c.write_segment-2.ensures.written two.0.ready (omega (arith, size1, size2, fits))
     (λ some.
     let reaches : 58 + 128 * (s + 1) ≤ last = omega (arith, some) in
@@ -78,10 +78,10 @@ returns-clause-written g c ready fits all =
     (subst (λ (x : ℕ). Mirrors c0 e0 (segment (x + 1)) late.number late.image) (sym group) (all.late (omega (arith, reaches, group))))))
     (λ later. two.2 (lists_one (omega arith))) in
     let Both = λ (p : BlockPosition). IsBlockIn first (last + 1) p ⊎ IsPointer p in
-    let first_two = changes_then a b d c0 c1 c2 e0 e1 e2 (IsBlockIn first to1) (λ p. IsBlockIn from2 to2 p ⊎ ((p ≡ segment s) ⊎ (p ≡ double_indirect_block))) Both c.requires.behind c.write_direct.ensures.range c.write_segment.ensures.range
+    let first_two = changes_then a b d c0 c1 c2 e0 e1 e2 (IsBlockIn first to1) (λ p. IsBlockIn from2 to2 p ⊎ ((p ≡ segment s) ⊎ (p ≡ double_indirect_block))) Both c.requires.after_log c.write_direct.ensures.range c.write_segment.ensures.range
     (λ p there. inl (part_in_span first to1 first last p (omega arith) (omega (arith, low)) there))
     (λ p touched. span_touched from2 to2 first last s p (omega (arith, middle_from)) (omega (arith, middle_to)) touched) one.0 two.0 in
-    let changes = changes_then a d f c0 c2 c3 e0 e2 e3 Both (λ p. IsBlockIn from3 (last + 1) p ⊎ ((p ≡ segment (s + 1)) ⊎ (p ≡ double_indirect_block))) Both c.requires.behind
+    let changes = changes_then a d f c0 c2 c3 e0 e2 e3 Both (λ p. IsBlockIn from3 (last + 1) p ⊎ ((p ≡ segment (s + 1)) ⊎ (p ≡ double_indirect_block))) Both c.requires.after_log
     (range_then a b d c.write_direct.ensures.range c.write_segment.ensures.range) c.write_segment-2.ensures.range
     (λ p touched. touched)
     (λ p touched. span_touched from3 (last + 1) first last (s + 1) p (omega (arith, c.saturating_sub-group.ensures)) (omega arith) touched) first_two three.0 in

@@ -1,6 +1,6 @@
 use Rattle.std.proofs.Common.{◌≡◌, ◌≤◌, ◌<◌, ◌+◌, ◌∙◌, ap, arith, ℕ}
 use Rattle.vol_log.specs.Log.{view}
-use Rattle.vol_inode.specs.Space.{sectors_of}
+use Rattle.vol_inode.specs.Space.{blocks_for_size}
 use Rattle.vol_inode.specs.declared.entry.Entry.{Entry}
 use Rattle.vol_body.specs.Body.{data_block}
 use Rattle.vol_body.specs.internal.Writing.{IsBlockIn, image_of}
@@ -37,9 +37,9 @@ loop-j-preserved g c =
       entry = step.entry ∙ ap (λ (e : Entry). record e { pointers = e2.pointers }) so_far.entry;
       written = λ ready fits.
           let before = so_far.written ready fits in
-          let size : sectors_of e1.size ≡ sectors_of e0.size = ap sectors_of before.0.size in
+          let size : blocks_for_size e1.size ≡ blocks_for_size e0.size = ap blocks_for_size before.0.size in
           let now = step.written before.0.ready (omega (arith, size)) in (
-            changes_then a b d c0 c1 c2 e0 e1 e2 (IsBlockIn from j) (λ q. q ≡ data_block j) (IsBlockIn from (j + 1)) c.requires.behind so_far.range step.range
+            changes_then a b d c0 c1 c2 e0 e1 e2 (IsBlockIn from j) (λ q. q ≡ data_block j) (IsBlockIn from (j + 1)) c.requires.after_log so_far.range step.range
                 (part_in_more from j) (λ q is. part_in_here from j q from_j is) before.0 now.0,
             parts_more b d c1 c2 e1 e2 (λ q. q ≡ data_block j) from j image now.0 (λ k below is. different k j below is) (omega (arith, c.requires.direct)) before.1 (now.1 ∙ c.image_of_block-image.ensures.image),
           );

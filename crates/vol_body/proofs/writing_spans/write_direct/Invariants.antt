@@ -1,7 +1,7 @@
 use Rattle.std.proofs.Common.{◌≡◌, ◌≤◌, ◌+◌, ◌-◌, ℕ, true, false, ◌*◌, drop}
 use Rattle.vol_log.specs.Log.{view, room_of, has_failed}
 use Rattle.vol_alloc.specs.Alloc.{taken_of}
-use Rattle.vol_inode.specs.Space.{sectors_of}
+use Rattle.vol_inode.specs.Space.{blocks_for_size}
 use Rattle.vol_body.specs.internal.Writing.{IsReady, Changes, IsBlockIn, HasBlocks, OnlyPuts, SameRange, image_of}
 use Rattle.vol_body.proofs.writing_spans.write_direct.Given as goal
 
@@ -15,7 +15,7 @@ invariant-loop-j g l = record {
   range : SameRange l.fn.sectors l.sectors;
   keeps : (n : ℕ) → taken_of l.fn.sectors n ≡ true → taken_of l.sectors n ≡ true;
   entry : l.entry ≡ record l.fn.entry { pointers = l.entry.pointers };
-  written : IsReady l.fn.sectors (view l.fn.log) l.fn.entry → l.to ≤ sectors_of l.fn.entry.size
+  written : IsReady l.fn.sectors (view l.fn.log) l.fn.entry → l.to ≤ blocks_for_size l.fn.entry.size
       → Changes l.fn.sectors l.sectors (view l.fn.log) (view l.log) l.fn.entry l.entry (IsBlockIn l.from l.j)
       × HasBlocks (view l.log) l.entry l.from l.j (image_of l.piece.offset l.piece.bytes.now l.piece.first l.piece.last);
 }

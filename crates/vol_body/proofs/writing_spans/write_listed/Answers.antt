@@ -40,7 +40,7 @@ loop-j-preserved g c =
           let small : j < 16570 = omega (arith, c.requires.last) in
           let le : start ≤ j = omega (arith, c.requires.starts) in
           let now = step.written e q j (segment_lists s start j starts le) (segment_place s start c.args.to j starts le small) small (omega (arith, fits)) before.0.ready before.2 in (
-            changes_then a b d c0 c1 c2 e e e (λ p. IsBlockIn from j p ⊎ (p ≡ q)) (λ p. (p ≡ data_block j) ⊎ (p ≡ q)) (λ p. IsBlockIn from (j + 1) p ⊎ (p ≡ q)) c.requires.behind so_far.range step.range
+            changes_then a b d c0 c1 c2 e e e (λ p. IsBlockIn from j p ⊎ (p ≡ q)) (λ p. (p ≡ data_block j) ⊎ (p ≡ q)) (λ p. IsBlockIn from (j + 1) p ⊎ (p ≡ q)) c.requires.after_log so_far.range step.range
                 (λ p touched. widened from j q p touched) (λ p touched. one_more from j q p from_j touched) before.0 now.0,
             parts_more b d c1 c2 e e (λ p. (p ≡ data_block j) ⊎ (p ≡ q)) from j image now.0 (λ k below touched. different k j s below touched) small before.1 (now.1 ∙ c.image_of_block-image.ensures.image),
             now.2,

@@ -1,7 +1,7 @@
 use Rattle.std.proofs.Common.{◌≡◌, ◌⊎◌, ◌≤◌, ◌+◌, ◌-◌, ◌*◌, ℕ, true, false, drop}
 use Rattle.vol_log.specs.Log.{view, room_of, has_failed}
 use Rattle.vol_alloc.specs.Alloc.{taken_of}
-use Rattle.vol_inode.specs.Space.{sectors_of}
+use Rattle.vol_inode.specs.Space.{blocks_for_size}
 use Rattle.vol_inode.specs.declared.entry.Entry.{Entry}
 use Rattle.vol_body.specs.internal.Writing.{IsReady, Mirrors, Changes, IsBlockIn, HasBlocks, OnlyPuts, SameRange, segment, placed, image_of}
 use Rattle.vol_body.proofs.writing_spans.write_listed.Given as goal
@@ -16,7 +16,7 @@ invariant-loop-j g l = record {
   puts : OnlyPuts l.fn.log l.log;
   range : SameRange l.fn.sectors l.sectors;
   keeps : (n : ℕ) → taken_of l.fn.sectors n ≡ true → taken_of l.sectors n ≡ true;
-  written : (e : Entry) (s : ℕ) → l.start ≡ 58 + 128 * s → l.to ≤ sectors_of e.size → IsReady l.fn.sectors (view l.fn.log) e
+  written : (e : Entry) (s : ℕ) → l.start ≡ 58 + 128 * s → l.to ≤ blocks_for_size e.size → IsReady l.fn.sectors (view l.fn.log) e
       → Mirrors (view l.fn.log) e (segment s) l.fn.above.number l.fn.above.image
       → Changes l.fn.sectors l.sectors (view l.fn.log) (view l.log) e e (λ p. IsBlockIn l.from l.j p ⊎ (p ≡ segment s))
       × HasBlocks (view l.log) e l.from l.j (image_of l.piece.offset l.piece.bytes.now l.piece.first l.piece.last)

@@ -1,6 +1,6 @@
 use Rattle.std.proofs.Common.{◌≡◌, ◌⊎◌, inl, inr, ◌<◌, ℕ, refl, ap, arith}
 use Rattle.vol_log.specs.Log.{view}
-use Rattle.vol_inode.specs.Space.{sectors_of}
+use Rattle.vol_inode.specs.Space.{blocks_for_size}
 use Rattle.vol_body.specs.Body.{BlockPosition, double_indirect_block}
 use Rattle.vol_body.specs.internal.Writing.{IsBlockIn, segment}
 use Rattle.vol_body.proofs.Added.{mirror_stays}
@@ -24,9 +24,9 @@ returns-then-above-ne0-clause-written g c ready fits mirror mirror_all =
     let some : from < to = c.if-to-from.false in
     let new_all = c.open_segment.new.all in
     let opened = c.open_segment.ensures.opened ready (omega (arith, some, c.requires.starts, fits)) (mirror some) (λ later. mirror_all (omega (arith, some, c.requires.starts, later))) in
-    let size : sectors_of e1.size ≡ sectors_of e0.size = ap sectors_of opened.0.changes.size in
+    let size : blocks_for_size e1.size ≡ blocks_for_size e0.size = ap blocks_for_size opened.0.changes.size in
     let listed = c.write_listed.ensures.written e1 s refl (omega (arith, size, fits)) opened.0.changes.ready opened.0.mirror in (
-      changes_then a b d c0 c1 c2 e0 e1 e1 (λ p. (p ≡ q) ⊎ (p ≡ double_indirect_block)) (λ p. IsBlockIn from to p ⊎ (p ≡ q)) (λ p. IsBlockIn from to p ⊎ ((p ≡ q) ⊎ (p ≡ double_indirect_block))) c.requires.behind c.open_segment.ensures.range c.write_listed.ensures.range
+      changes_then a b d c0 c1 c2 e0 e1 e1 (λ p. (p ≡ q) ⊎ (p ≡ double_indirect_block)) (λ p. IsBlockIn from to p ⊎ (p ≡ q)) (λ p. IsBlockIn from to p ⊎ ((p ≡ q) ⊎ (p ≡ double_indirect_block))) c.requires.after_log c.open_segment.ensures.range c.write_listed.ensures.range
           (λ p touched. inr touched) (λ p touched. parts_or from to q p touched) opened.0.changes listed.0,
       listed.1,
       λ held. mirror_stays c1 c2 e1 e1 double_indirect_block new_all.number new_all.image (listed.0.stays double_indirect_block tt (λ touched. apart from to s touched)) (opened.1 held),

@@ -1,6 +1,6 @@
 use Rattle.std.proofs.Common.{◌≡◌, ◌≤◌, sym, subst, length, arith}
 use Rattle.std.specs.List.{insert}
-use Rattle.vol_dirs.specs.Rising.{Rises}
+use Rattle.vol_dirs.specs.internal.Rising.{Rises}
 use Rattle.vol_dirs.specs.internal.Rising.{Adds}
 use Rattle.vol_dirs.proofs.Search.{comparisons_rise}
 use Rattle.vol_dirs.proofs.Edits.{insert_adds, insert_rises, adds_nothing}

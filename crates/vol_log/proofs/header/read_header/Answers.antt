@@ -1,14 +1,14 @@
 use Rattle.std.proofs.Common.{rules, ◌≡◌, ◌≢◌, ◌∙◌, ◌≤◌, ◌<◌, ◌+◌, ◌^◌, ◌∷◌, ◌++◌, List, [], ℕ, length, get_or, sym, ap, subst, refl, arith}
 use Rattle.std.proofs.lemmas.List.{take_more, take_all, length-map, map_push, get_or-take, length_push}
 use Rattle.vol_log.specs.Header.{Places, header_bytes}
-use Rattle.vol_log.specs.Batch.{numbers}
+use Rattle.vol_log.specs.internal.Batch.{numbers}
 use Rattle.vol_log.specs.declared.staged.Staged.{Staged}
 use Rattle.vol_log.proofs.Parse.{same_bytes, count_is, number_is, places_more}
 use Rattle.vol_log.proofs.header.read_header.Goals as goal
-use Rattle.vol_log.proofs.header.read_header.Goals.{then-sector-lt-FIRST_BEHIND-via-then-sector-lt-FIRST_BEHIND, then-sector-lt-FIRST_BEHIND-via-else-sector-lt-FIRST_BEHIND+then-sectors-sector, then-sector-lt-FIRST_BEHIND-via-else-sector-lt-FIRST_BEHIND+else-sectors-sector+then-is_staged}
+use Rattle.vol_log.proofs.header.read_header.Goals.{then-sector-lt-FIRST_AFTER_LOG-via-then-sector-lt-FIRST_AFTER_LOG, then-sector-lt-FIRST_AFTER_LOG-via-else-sector-lt-FIRST_AFTER_LOG+then-sectors-sector, then-sector-lt-FIRST_AFTER_LOG-via-else-sector-lt-FIRST_AFTER_LOG+else-sectors-sector+then-is_staged}
 
-pub returns-then-sector-lt-FIRST_BEHIND-clause-only : goal.returns-then-sector-lt-FIRST_BEHIND-clause-only
-returns-then-sector-lt-FIRST_BEHIND-clause-only c ns right =
+pub returns-then-sector-lt-FIRST_AFTER_LOG-clause-only : goal.returns-then-sector-lt-FIRST_AFTER_LOG-clause-only
+returns-then-sector-lt-FIRST_AFTER_LOG-clause-only c ns right =
     let header = c.args.header.now in
     let sectors = c.args.sectors in
     let i = c.loop-i.i in
@@ -17,12 +17,12 @@ returns-then-sector-lt-FIRST_BEHIND-clause-only c ns right =
     let count : c.read_u32-count.result ≡ length ns = c.read_u32-count.ensures ∙ count_is sectors header ns right in
     let lt : i < length ns = omega (arith, c.loop-i-test.true) in
     let sector : c.read_u32-sector.result ≡ get_or ns i 0 = c.read_u32-sector.ensures ∙ number_is sectors header ns i fits right lt in
-    let behind = right.places.behind i lt in
+    let after_log = right.places.after_log i lt in
     let there = right.places.there i lt in
-    absurd (elim c.then-sector-lt-FIRST_BEHIND.branch [
-      | then-sector-lt-FIRST_BEHIND-via-then-sector-lt-FIRST_BEHIND w ↦ omega (arith, w.if-sector-lt-FIRST_BEHIND.true)
-      | then-sector-lt-FIRST_BEHIND-via-else-sector-lt-FIRST_BEHIND+then-sectors-sector w ↦ omega (arith, w.if-sectors-sector.true)
-      | then-sector-lt-FIRST_BEHIND-via-else-sector-lt-FIRST_BEHIND+else-sectors-sector+then-is_staged w ↦
+    absurd (elim c.then-sector-lt-FIRST_AFTER_LOG.branch [
+      | then-sector-lt-FIRST_AFTER_LOG-via-then-sector-lt-FIRST_AFTER_LOG w ↦ omega (arith, w.if-sector-lt-FIRST_AFTER_LOG.true)
+      | then-sector-lt-FIRST_AFTER_LOG-via-else-sector-lt-FIRST_AFTER_LOG+then-sectors-sector w ↦ omega (arith, w.if-sectors-sector.true)
+      | then-sector-lt-FIRST_AFTER_LOG-via-else-sector-lt-FIRST_AFTER_LOG+else-sectors-sector+then-is_staged w ↦
           let found = w.if-is_staged.ensures.yes refl in
           let same : w.deref.result.now ≡ batch = w.deref.ensures.value in
           let short : length batch ≡ i = c.loop-i.invariant.count in

@@ -1,5 +1,5 @@
 use Rattle.std.proofs.Common.{◌≡◌, ◌≤◌, ℕ, List, take, length, vec_capacity}
-use Rattle.vol_log.specs.Batch.{numbers}
+use Rattle.vol_log.specs.internal.Batch.{numbers}
 use Rattle.vol_log.specs.Header.{Places, IsHeader}
 use Rattle.vol_log.proofs.header.read_header.Given as goal
 

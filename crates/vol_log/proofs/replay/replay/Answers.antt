@@ -2,7 +2,8 @@ use Rattle.std.proofs.Common.{⊎_elim, ◌≡◌, ◌∙◌, List, ℕ, sym, ap
 use Rattle.std.proofs.lemmas.List.{with_items_is}
 use Rattle.vol_sector.specs.Disk.{Image, Only, Leaves}
 use Rattle.vol_log.specs.Header.{IsHeader}
-use Rattle.vol_log.specs.Batch.{SameContent, HasContent, numbers, over, logged}
+use Rattle.vol_log.specs.Batch.{SameContent, HasContent, over, logged}
+use Rattle.vol_log.specs.internal.Batch.{numbers}
 use Rattle.vol_log.specs.internal.Steps.{Logged}
 use Rattle.vol_log.specs.declared.staged.Staged.{Staged}
 use Rattle.vol_log.proofs.Moments.{only_along, leaves_quiet, leaves_then, at_err}

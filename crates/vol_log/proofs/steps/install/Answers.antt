@@ -1,7 +1,7 @@
 use Rattle.std.proofs.Common.{◌≡◌, ◌<◌, ◌≤◌, ◌∙◌, sym, length, get_or, arith, rules}
 use Rattle.std.proofs.lemmas.List.{get_or-map, length-map}
 use Rattle.vol_log.specs.internal.Steps.{Under}
-use Rattle.vol_log.specs.Batch.{numbers}
+use Rattle.vol_log.specs.internal.Batch.{numbers}
 use Rattle.vol_log.specs.declared.staged.Staged.{Staged}
 use Rattle.vol_log.proofs.Moments.{leaves_step}
 use Rattle.vol_log.proofs.Images.{blank, Placed, wrote_under, under_joins, placed_more, over_placed}

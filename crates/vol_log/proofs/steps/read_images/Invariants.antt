@@ -1,6 +1,6 @@
 use Rattle.std.proofs.Common.{◌≡◌, ◌↔◌, ◌<◌, ◌+◌, ℕ, get_or}
 use Rattle.vol_sector.specs.Disk.{Leaves}
-use Rattle.vol_log.specs.Batch.{numbers}
+use Rattle.vol_log.specs.internal.Batch.{numbers}
 use Rattle.vol_log.proofs.Images.{blank}
 use Rattle.vol_log.proofs.steps.read_images.Given as goal
 

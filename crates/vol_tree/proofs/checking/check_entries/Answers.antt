@@ -6,6 +6,7 @@ use Rattle.vol_body.proofs.Surveys.{handed_on}
 use Rattle.vol_tree.proofs.Passes.{tree_passes, places_pass}
 use Rattle.vol_tree.proofs.Passed.{HasPassed, is_content, space_found, taken_found}
 use Rattle.vol_tree.proofs.checking.check_entries.Goals as goal
+use Rattle.vol_log.specs.declared.layout.TheConstants.{FIRST_AFTER_LOG}
 
 pub returns-then-not-branch-clause-damaged : goal.returns-then-not-branch-clause-damaged
 returns-then-not-branch-clause-damaged g c h shows is volume =
@@ -20,7 +21,7 @@ returns-in_err-sectors-clause-damaged g c h shows =
     let v = c.args.numbers.now in
     let read = c.in_ok-found.ensures.read h in
     handed_on c.from_residual-in_err-sectors.result _ c.in_err-sectors.field-0.0 c.from_residual-in_err-sectors.ensures.1
-    (λ is volume. c.in_err-sectors.ensures.damaged is (subst (ArePlaces (122 + v.slots) v.sectors) (sym c.deref.ensures.value) (places_pass content v c.args.dirs.now volume shows c.in_ok-found.found read)))
+    (λ is volume. c.in_err-sectors.ensures.damaged is (subst (ArePlaces (FIRST_AFTER_LOG + v.slots) v.sectors) (sym c.deref.ensures.value) (places_pass content v c.args.dirs.now volume shows c.in_ok-found.found read)))
 
 pub returns-clause-parts : goal.returns-clause-parts
 returns-clause-parts g c h shows =

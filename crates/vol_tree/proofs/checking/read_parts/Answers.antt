@@ -3,7 +3,7 @@ use Rattle.vol_sector.specs.Disk.{Image}
 use Rattle.vol_sector.specs.declared.fault.VolumeFault.TheVariants.{Damaged}
 use Rattle.vol_body.proofs.Surveys.{handed_on}
 use Rattle.vol_dirs.specs.Names.{Shows}
-use Rattle.vol_tree.specs.Parts.{IsContent}
+use Rattle.vol_tree.specs.internal.Parts.{IsContent}
 use Rattle.vol_tree.specs.internal.Reads.{HasParts}
 use Rattle.vol_tree.proofs.checking.read_parts.Goals as goal
 

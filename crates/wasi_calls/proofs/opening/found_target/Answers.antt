@@ -4,7 +4,8 @@ use Rattle.vol_tree.specs.Numbers.{number_of}
 use Rattle.vol_tree.specs.Opened.{is_io}
 use Rattle.path_walk.specs.Paths.{Found}
 use Rattle.wasi_calls.specs.Paths.{open_checks}
-use Rattle.wasi_calls.specs.internal.Asking.{Asked, StopsNext}
+use Rattle.path_walk.specs.Walk.{Asked}
+use Rattle.wasi_calls.specs.internal.Asking.{StopsNext}
 use Rattle.wasi_calls.proofs.Asking.{asked_gone}
 use Rattle.wasi_calls.proofs.Targets.{found_checked_never}
 use Rattle.wasi_calls.proofs.opening.found_target.Goals as goal

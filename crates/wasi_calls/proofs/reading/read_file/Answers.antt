@@ -9,7 +9,7 @@ use Rattle.wasi_fd.specs.Table.{table_of, with_at}
 use Rattle.wasi_calls.specs.World.{World, moved_to}
 use Rattle.wasi_calls.specs.Calls.{Answered, IsMixed}
 use Rattle.wasi_calls.specs.internal.Serving.{with_volume, with_table}
-use Rattle.wasi_calls.specs.internal.Asking.{Asked}
+use Rattle.path_walk.specs.Walk.{Asked}
 use Rattle.wasi_calls.specs.internal.Buffers.{list_of}
 use Rattle.wasi_calls.specs.internal.Reading.{wanted, received, read_file_to}
 use Rattle.wasi_calls.proofs.Volumes.{was_working, same_volume}

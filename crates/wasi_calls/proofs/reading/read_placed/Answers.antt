@@ -9,7 +9,7 @@ use Rattle.wasi_calls.specs.World.{World}
 use Rattle.wasi_calls.specs.Checks.{scattered}
 use Rattle.wasi_calls.specs.Calls.{Answered, IsMixed}
 use Rattle.wasi_calls.specs.internal.Serving.{with_volume}
-use Rattle.wasi_calls.specs.internal.Asking.{Asked}
+use Rattle.path_walk.specs.Walk.{Asked}
 use Rattle.wasi_calls.specs.internal.Buffers.{list_of}
 use Rattle.wasi_calls.specs.internal.Reading.{wanted, received, read_into}
 use Rattle.wasi_calls.proofs.Volumes.{was_working, same_volume}

@@ -3,8 +3,8 @@ use Rattle.vol_body.specs.declared.source.Span.{Span}
 use Rattle.wasi_calls.proofs.Overlaps.{covered_by}
 use Rattle.wasi_calls.proofs.reading.stretch_from.Goals as goal
 
-pub returns-then-at-behind : goal.returns-then-at-behind
-returns-then-at-behind c =
+pub returns-then-at-past : goal.returns-then-at-past
+returns-then-at-past c =
     let d : Span = record { pointer = 0; len = 0 } in
     record {
       some = omega (arith, c.min.ensures);

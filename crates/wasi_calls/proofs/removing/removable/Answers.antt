@@ -7,7 +7,8 @@ use Rattle.vol_tree.specs.Opened.{is_io}
 use Rattle.wasi_fd.specs.Rights.{bits_of}
 use Rattle.wasi_calls.specs.World.{World, held_open}
 use Rattle.wasi_calls.specs.Checks.{Checked, and_then, guard}
-use Rattle.wasi_calls.specs.internal.Asking.{Stops, Asked}
+use Rattle.path_walk.specs.Walk.{Asked}
+use Rattle.wasi_calls.specs.internal.Asking.{Stops}
 use Rattle.wasi_calls.specs.internal.Removing.{found_at, is_kind, other_kind, removable}
 use Rattle.wasi_calls.proofs.Yields.{goes_on, stops, guard_passes, guard_fails}
 use Rattle.wasi_calls.proofs.Volumes.{never_after, never_guard}

@@ -3,7 +3,8 @@ use Rattle.vol_tree.specs.Numbers.{number_of}
 use Rattle.vol_tree.specs.Opened.{is_io}
 use Rattle.wasi_calls.specs.World.{World, held_open}
 use Rattle.wasi_calls.specs.declared.renaming.Facts.{Facts}
-use Rattle.wasi_calls.specs.internal.Asking.{Asked, StopsNext}
+use Rattle.path_walk.specs.Walk.{Asked}
+use Rattle.wasi_calls.specs.internal.Asking.{StopsNext}
 use Rattle.wasi_calls.specs.internal.Renaming.{facts_of, replace_checked, replace_row}
 use Rattle.wasi_calls.proofs.Asking.{asked_same, asked_gone}
 use Rattle.wasi_calls.proofs.Renames.{facts_are, replaces_as, replace_never}

@@ -6,7 +6,8 @@ use Rattle.vol_tree.specs.Opened.{is_io}
 use Rattle.path_walk.specs.Paths.{Missing}
 use Rattle.wasi_calls.specs.World.{World}
 use Rattle.wasi_calls.specs.Paths.{rename_to}
-use Rattle.wasi_calls.specs.internal.Asking.{Asked, StopsNext}
+use Rattle.path_walk.specs.Walk.{Asked}
+use Rattle.wasi_calls.specs.internal.Asking.{StopsNext}
 use Rattle.wasi_calls.proofs.Volumes.{steps_after, steps}
 use Rattle.wasi_calls.proofs.Asking.{asked_works, asked_same, asked_gone}
 use Rattle.wasi_calls.proofs.Renames.{missing_refused, missing_done, missing_never, renames_ok, renames_err}

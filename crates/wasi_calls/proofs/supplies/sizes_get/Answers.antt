@@ -16,7 +16,7 @@ returns c = λ w.
     let few = fits_ended ts c.requires in
     let count : List ℕ = little_bytes 4 (length (texts_of ts)) in
     let size : List ℕ = little_bytes 4 (ended_bytes (texts_of ts)) in
-    let len : c.ended_len.result ≡ ended_bytes (texts_of ts) = omega (arith, same_ended ts, few, c.ended_len.ensures) in
+    let len : c.nul_terminated_len.result ≡ ended_bytes (texts_of ts) = omega (arith, same_ended ts, few, c.nul_terminated_len.ensures) in
     let first : c.write_bytes.new.memory ≡ written m c.args.count_at count =
     c.write_bytes.ensures.bytes ∙ ap (written m c.args.count_at) (c.le32.ensures ∙ ap (little_bytes 4) (sym (length-map ts _))) in
     let second : c.le32-2.result ≡ size = c.le32-2.ensures ∙ ap (little_bytes 4) len in

@@ -38,10 +38,10 @@ returns-after-len-gt0-clause-answered g c = λ h w table shown.
       | then-len-gt0 b ↦
           let some : 0 < length (part_of all) = omega (arith, b.if-len-gt0.true, count) in
           let small = written_small (geometry old.numbers) old.tree o.serial o.position (part_of all) new.tree some gives in
-          let place : b.saturating_add-behind.result ≡ o.position + length (part_of all) = omega (arith, b.saturating_add-behind.ensures, b.from.ensures, count, small) in
+          let place : b.saturating_add-past.result ≡ o.position + length (part_of all) = omega (arith, b.saturating_add-past.ensures, b.from.ensures, count, small) in
           let tables : table_of c.if-len-gt0.descriptors ≡ with_at fd (moved_to o (o.position + length (part_of all))) w.table =
           ap (λ (d : Descriptors). table_of d) b.descriptors-is
-          ∙ (table_moved fd (moved_to o b.saturating_add-behind.result) (table_of c.args.descriptors.now) (table_of b.move_to.new.descriptors) w.table b.move_to.ensures.moved table
+          ∙ (table_moved fd (moved_to o b.saturating_add-past.result) (table_of c.args.descriptors.now) (table_of b.move_to.new.descriptors) w.table b.move_to.ensures.moved table
           ∙ ap (λ (n : ℕ). with_at fd (moved_to o n) w.table) place) in
           (λ i. with_table (tables i) (same i)) ∙ sym (cond-false (length (part_of all) == 0) (record w { tree = new.tree }) moved (ne_eqb _ 0 (λ none. absurd (omega (arith, some, none)))))
       | else-len-gt0 b ↦

@@ -1,7 +1,7 @@
-use Rattle.std.proofs.Common.{◌≡◌, ◌≢◌, ◌<◌, ◌≤◌, ◌∙◌, ◌-◌, ◌++◌, ◌∷◌, [], ℕ, Bool, List, length, get_or, set, true, false, not, count_by, sym, ap, subst, arith, rules}
+use Rattle.std.proofs.Common.{◌≡◌, ◌≢◌, ◌<◌, ◌∙◌, ◌-◌, ℕ, length, get_or, set, true, false, sym, ap, subst, arith, rules}
 use Rattle.std.proofs.lemmas.Bool.{false≢true}
 use Rattle.std.proofs.lemmas.List.{get_or-set_same, get_or_default, length-set}
-use Rattle.vol_alloc.specs.Numbers.{AreFree}
+use Rattle.vol_alloc.specs.internal.Numbers.{AreFree}
 use Rattle.vol_alloc.proofs.Free.{taken_there, flag_there, free_more, free_cleared, cleared, some_taken}
 use Rattle.vol_alloc.proofs.sectors.Alloc.give.Goals as goal
 

@@ -1,7 +1,7 @@
-use Rattle.std.proofs.Common.{◌≡◌, ◌∙◌, ◌<◌, ◌+◌, ◌-◌, ◌++◌, ◌∷◌, [], ℕ, List, Option, Bool, length, get_or, true, false, sym, ap, subst, refl, arith, rules}
+use Rattle.std.proofs.Common.{◌≡◌, ◌∙◌, ◌<◌, ◌+◌, ◌-◌, ◌++◌, ◌∷◌, [], ℕ, Option, length, get_or, true, false, sym, ap, subst, refl, arith, rules}
 use Rattle.std.specs.Option.{option_to_list}
-use Rattle.std.proofs.lemmas.List.{length_push, get_or_push, get_or_default}
-use Rattle.vol_alloc.specs.Numbers.{AreFree}
+use Rattle.std.proofs.lemmas.List.{length_push, get_or_push}
+use Rattle.vol_alloc.specs.internal.Numbers.{AreFree}
 use Rattle.vol_alloc.proofs.Free.{free_taken, flagged}
 use Rattle.vol_alloc.proofs.sectors.Alloc.take.Goals as goal
 

@@ -6,6 +6,7 @@ use Rattle.vol_log.specs.Reading.{OnlyReads}
 use Rattle.vol_log.proofs.Readings.{reads_same, reads_then}
 use Rattle.vol_dirs.proofs.Shown.{shown_first, shown_next}
 use Rattle.vol_dirs.proofs.dirs.Dirs.open.Goals as goal
+use Rattle.vol_log.specs.declared.layout.TheConstants.{FIRST_AFTER_LOG}
 
 pub loop-slot-init : goal.loop-slot-init
 loop-slot-init g c =
@@ -45,7 +46,7 @@ loop-slot-preserved g c =
       ];
       shown = λ honest.
           let content = view c.args.log.now in
-          let bytes : c.in_ok-image.image ≡ content (122 + c.loop-slot.slot) = read.value (so_far.reads.honest.0 honest) ∙ ap (λ (m : Image). m (122 + c.loop-slot.slot)) (so_far.reads.view honest) in
+          let bytes : c.in_ok-image.image ≡ content (FIRST_AFTER_LOG + c.loop-slot.slot) = read.value (so_far.reads.honest.0 honest) ∙ ap (λ (m : Image). m (FIRST_AFTER_LOG + c.loop-slot.slot)) (so_far.reads.view honest) in
           let names = subst (λ (b : List ℕ). (p : ℕ) (n : List ℕ) (t : ℕ) → Names c.hold_image.new.self p n t ↔ (Names c.loop-slot.dirs p n t ⊎ (t ≡ c.loop-slot.slot + 1) × IsSpelled c.args.version b p n)) bytes c.hold_image.ensures.names in
           shown_next c.args.version content c.loop-slot.slot c.loop-slot.dirs c.hold_image.new.self (so_far.shown honest) names;
     }

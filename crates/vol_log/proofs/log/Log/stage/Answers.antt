@@ -3,7 +3,7 @@ use Rattle.vol_log.proofs.log.Log.stage.Goals as goal
 
 pub invariant_of-self-clause-placed : goal.invariant_of-self-clause-placed
 invariant_of-self-clause-placed g c =
-    c.replace_staged.ensures.places c.args.self.now.sectors c.args.self.now.placed (omega (arith, c.requires.room)) c.requires.place c.requires.there
+    c.replace.ensures.places c.args.self.now.sectors c.args.self.now.placed (omega (arith, c.requires.room)) c.requires.place c.requires.there
 
 pub returns-clause-view : goal.returns-clause-view
-returns-clause-view g c = c.replace_staged.ensures.over (g.D.Device.disk c.args.self.now.device).seen
+returns-clause-view g c = c.replace.ensures.over (g.D.Device.disk c.args.self.now.device).seen

@@ -3,7 +3,7 @@ use Rattle.std.proofs.lemmas.Bool.{false≢true}
 use Rattle.std.proofs.lemmas.Option.{same_Some, none-some}
 use Rattle.vol_log.specs.Log.{view}
 use Rattle.vol_inode.specs.Entry.{name_of}
-use Rattle.vol_tree.specs.Opened.{slot_of}
+use Rattle.vol_tree.specs.internal.Slots.{slot_of}
 use Rattle.vol_tree.specs.Stands.{Slots}
 use Rattle.vol_tree.proofs.Children.{is_found}
 use Rattle.vol_tree.proofs.Finding.{looks_up}

@@ -8,7 +8,8 @@ use Rattle.vol_dirs.specs.Names.{Names}
 use Rattle.vol_tree.specs.Tree.{Tree, changed, entry}
 use Rattle.vol_tree.specs.Calls.{moved, with_unit}
 use Rattle.vol_tree.specs.Stands.{Slots}
-use Rattle.vol_tree.specs.Opened.{tree_in, slot_of, slots_in}
+use Rattle.vol_tree.specs.Opened.{tree_in, slots_in}
+use Rattle.vol_tree.specs.internal.Slots.{slot_of}
 use Rattle.vol_tree.specs.internal.Commits.{Commits}
 use Rattle.vol_tree.specs.internal.Moves.{Moves}
 use Rattle.vol_tree.specs.internal.Replacing.{replacing}

@@ -2,7 +2,8 @@ use Rattle.std.proofs.Common.{◌≡◌, ◌∙◌, ◌-◌, ◌++◌, length, t
 use Rattle.vol_log.specs.Log.{view}
 use Rattle.vol_body.specs.Body.{bytes_of}
 use Rattle.vol_tree.specs.Calls.{read_bytes}
-use Rattle.vol_tree.specs.Opened.{tree_in, slot_of}
+use Rattle.vol_tree.specs.Opened.{tree_in}
+use Rattle.vol_tree.specs.internal.Slots.{slot_of}
 use Rattle.vol_tree.specs.Stands.{Slots}
 use Rattle.vol_sector.specs.Disk.{Image}
 use Rattle.vol_tree.proofs.Committing.{reads_commit}

@@ -9,6 +9,7 @@ use Rattle.vol_tree.specs.internal.Moves.{Moves}
 use Rattle.vol_tree.proofs.Changing.{stages, staged_open}
 use Rattle.vol_tree.proofs.Relocating.{relocated_tree, relocated_space, relocated_content, relocated_is_tree, relocated_taken, relocated_front}
 use Rattle.vol_tree.proofs.parts.Parts.relocate.Goals as goal
+use Rattle.vol_log.specs.declared.layout.TheConstants.{FIRST_AFTER_LOG}
 
 pub returns : goal.returns
 returns g c =
@@ -24,8 +25,8 @@ returns g c =
     let z = view c.relocate.new.log in
     let new = record old { log = c.relocate.new.log; dirs = c.relocate.new.self } in
     let here : suc s ≡ n = omega (arith, c.requires.first) in
-    let place : 121 + n ≡ 122 + s = omega (arith, c.requires.first) in
-    let put_is : z ≡ put (122 + s) (spelling to) a = c.relocate.ensures.view ∙ ap (λ (k : ℕ). put k (spelling to) a) place in
+    let place : 121 + n ≡ FIRST_AFTER_LOG + s = omega (arith, c.requires.first) in
+    let put_is : z ≡ put (FIRST_AFTER_LOG + s) (spelling to) a = c.relocate.ensures.view ∙ ap (λ (k : ℕ). put k (spelling to) a) place in
     let all_stages = stages old new c.relocate.ensures.device c.relocate.ensures.failed c.relocate.ensures.sectors refl refl c.relocate.ensures.slots in
     let right = is_to.right v.version c.requires.right in
     let k : slots_of old.dirs ≡ v.slots = is.slots in

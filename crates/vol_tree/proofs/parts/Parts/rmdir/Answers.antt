@@ -4,7 +4,8 @@ use Rattle.vol_tree.specs.declared.errno.Errno.TheVariants as errno
 use Rattle.vol_tree.specs.Tree.{Tree, changed}
 use Rattle.vol_tree.specs.Calls.{with_unit}
 use Rattle.vol_tree.specs.Stands.{Slots}
-use Rattle.vol_tree.specs.Opened.{tree_in, slot_of}
+use Rattle.vol_tree.specs.Opened.{tree_in}
+use Rattle.vol_tree.specs.internal.Slots.{slot_of}
 use Rattle.vol_tree.proofs.Committing.{commits_then, no_commit}
 use Rattle.vol_tree.proofs.Changing.{refused, refused_io, done_open}
 use Rattle.vol_tree.proofs.Children.{none_in, some_in, childless_empty, removed_full, removed_is}

@@ -1,13 +1,14 @@
-use Rattle.std.proofs.Common.{◌≡◌, ◌∙◌, ◌+◌, ◌-◌, ◌≤◌, ◌<◌, ℕ, List, get_or, take, None, true, false, inl, sym, ap, subst, arith}
+use Rattle.std.proofs.Common.{◌≡◌, ◌∙◌, ◌+◌, ◌-◌, ◌≤◌, ◌<◌, ℕ, List, get_or, None, true, false, inl, sym, ap, subst, arith}
 use Rattle.vol_log.specs.Log.{view, device_of}
 use Rattle.vol_alloc.specs.Alloc.{first_of, end_of, taken_of}
 use Rattle.vol_inode.specs.declared.entry.Entry.{Entry}
 use Rattle.vol_inode.specs.Space.{size_limit, need_of}
 use Rattle.vol_body.specs.Body.{bytes_of}
-use Rattle.vol_body.specs.Change.{OthersStay, resized as body_resized}
+use Rattle.vol_body.specs.Bytes.{resized_bytes}
+use Rattle.vol_body.specs.Change.{OthersStay}
 use Rattle.vol_tree.specs.declared.superblock.Superblock.{Superblock}
 use Rattle.vol_tree.specs.declared.errno.Errno.TheVariants as errno
-use Rattle.vol_tree.specs.Calls.{is_file_at, extended, bytes_at, resized, with_unit}
+use Rattle.vol_tree.specs.Calls.{is_file_at, bytes_at, resized, with_unit}
 use Rattle.vol_tree.specs.Opened.{tree_in, data_sectors, geometry}
 use Rattle.vol_tree.specs.Stands.{Slots}
 use Rattle.vol_tree.proofs.Committing.{commits_then}
@@ -19,6 +20,7 @@ use Rattle.vol_body.proofs.Rights.{not_both}
 use Rattle.vol_tree.specs.Tree.{Tree}
 use Rattle.vol_inode.specs.Entry.{name_of}
 use Rattle.vol_tree.proofs.parts.Parts.set_size.Goals as goal
+use Rattle.vol_log.specs.declared.layout.TheConstants.{FIRST_AFTER_LOG}
 
 pub returns-in_default : goal.returns-in_default
 returns-in_default g c =
@@ -77,7 +79,7 @@ returns g c =
     let a = view mid.log in
     let b = view c.set_size.new.log in
     let done = c.in_ok-set_size.ensures in
-    let place : 121 + n ≡ 122 + (n - 1) = omega (arith, c.requires.first) in
+    let place : 121 + n ≡ FIRST_AFTER_LOG + (n - 1) = omega (arith, c.requires.first) in
     let same_v : v ≡ c.entry.new.self.numbers = c.in_ok-make_room.ensures.commits.kept.numbers in
     let same_r : mid.reserved ≡ c.entry.new.self.reserved = c.in_ok-make_room.ensures.commits.reserved in
     let entry_is = done.entry.entry in
@@ -92,7 +94,7 @@ returns g c =
     c.in-Some-reserved_with.ensures le in
     let room_is : data_sectors v ≡ data_sectors c.entry.new.self.numbers = ap data_sectors same_v in
     let size_is : size ≡ e.size = sym (ap (λ (x : Entry). x.size) entry_is) in
-    fills _ old mid c.set_size.new.log c.set_size.new.sectors c.in-Some-reserved_with.reserved n d e (take c.args.size (extended c.args.size (bytes_at (tree_in a v) n)))
+    fills _ old mid c.set_size.new.log c.set_size.new.sectors c.in-Some-reserved_with.reserved n d e (resized_bytes c.args.size (bytes_at (tree_in a v) n))
     commits c.set_size.ensures.steps.log done.steps.failed c.set_size.ensures.steps.range.0 c.set_size.ensures.steps.range.1 c.requires.first
     (λ h.
     let h1 = commits.kept.honest.0 h in
@@ -117,8 +119,8 @@ returns g c =
         first = c.set_size.ensures.steps.range.0;
         end = c.set_size.ensures.steps.range.1;
       };
-      content = becomes.bytes ∙ ap (λ (k : ℕ). body_resized k (bytes_of a d)) c.in-Some.ensures.0
-          ∙ ap (λ (l : List ℕ). take c.args.size (extended c.args.size l)) (sym (old_bytes a v (content h) n c.requires.first d (slot h) (file1 h)));
+      content = becomes.bytes ∙ ap (λ (k : ℕ). resized_bytes k (bytes_of a d)) c.in-Some.ensures.0
+          ∙ ap (λ (l : List ℕ). resized_bytes c.args.size l) (sym (old_bytes a v (content h) n c.requires.first d (slot h) (file1 h)));
       reserved = let needs : need_of size ≡ need_of e.size = ap need_of size_is in omega (arith, s.0, needs, same_r);
       fits = omega (arith, s.1, room_is);
     })

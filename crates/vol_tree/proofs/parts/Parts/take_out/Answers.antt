@@ -20,6 +20,7 @@ use Rattle.vol_tree.proofs.Removing.{removed_slots, removed_tree, removed_taken,
 use Rattle.vol_tree.proofs.Trees.{without_is_tree}
 use Rattle.vol_tree.proofs.Taking.{err_is, room_left}
 use Rattle.vol_tree.proofs.parts.Parts.take_out.Goals as goal
+use Rattle.vol_log.specs.declared.layout.TheConstants.{FIRST_AFTER_LOG}
 
 pub returns-in_err-set_size : goal.returns-in_err-set_size
 returns-in_err-set_size g c =
@@ -47,12 +48,12 @@ returns g c =
     let one = record old { log = c.set_size.new.log; sectors = sectors; reserved = c.saturating_sub-self.result } in
     let new = record one { log = c.remove.new.log; dirs = c.remove.new.self } in
     let here : suc s ≡ n = omega (arith, c.requires.first) in
-    let place : 121 + n ≡ 122 + s = omega (arith, c.requires.first) in
+    let place : 121 + n ≡ FIRST_AFTER_LOG + s = omega (arith, c.requires.first) in
     let entry_is = done.entry.entry in
     let first_stages = file_stages old c.set_size.new.log sectors c.saturating_sub-self.result c.set_size.ensures.steps.log c.requires.working done.steps.failed c.set_size.ensures.steps.range.0 c.set_size.ensures.steps.range.1 in
     let second_stages = stages one new c.remove.ensures.device c.remove.ensures.failed c.remove.ensures.sectors refl refl c.remove.ensures.slots in
     let all_stages = stages_then old one new first_stages second_stages in
-    let put_is : z ≡ put (122 + s) unused b = c.remove.ensures.view ∙ ap (λ (k : ℕ). put k unused b) place in
+    let put_is : z ≡ put (FIRST_AFTER_LOG + s) unused b = c.remove.ensures.view ∙ ap (λ (k : ℕ). put k unused b) place in
     let empty : e.size ≡ 0 = ap (λ (x : Entry). x.size) entry_is in
     let removes = c.requires.removes in
     let rewrites = λ (h : g.D.Device.honest (device_of old.log)).

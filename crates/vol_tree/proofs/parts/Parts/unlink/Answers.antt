@@ -3,7 +3,8 @@ use Rattle.vol_log.specs.Log.{view}
 use Rattle.vol_tree.specs.Tree.{Tree, changed}
 use Rattle.vol_tree.specs.Calls.{is_file_at, is_directory}
 use Rattle.vol_tree.specs.Stands.{Slots, entry_of}
-use Rattle.vol_tree.specs.Opened.{tree_in, slot_of}
+use Rattle.vol_tree.specs.Opened.{tree_in}
+use Rattle.vol_tree.specs.internal.Slots.{slot_of}
 use Rattle.vol_tree.proofs.Committing.{commits_then}
 use Rattle.vol_tree.proofs.Changing.{refused_io, done_open}
 use Rattle.vol_tree.proofs.Children.{file_not_top}

@@ -4,22 +4,24 @@ use Rattle.vol_alloc.specs.Alloc.{first_of, end_of, taken_of, free_of}
 use Rattle.vol_inode.specs.declared.entry.Entry.{Entry}
 use Rattle.vol_inode.specs.Space.{size_limit, need_of}
 use Rattle.vol_body.specs.Body.{bytes_of}
-use Rattle.vol_body.specs.Change.{OthersStay, used_of, written as body_written}
+use Rattle.vol_body.specs.Bytes.{written_bytes}
+use Rattle.vol_body.specs.Change.{OthersStay, used_of}
 use Rattle.vol_tree.specs.declared.superblock.Superblock.{Superblock}
 use Rattle.vol_tree.specs.declared.errno.Errno.TheVariants as errno
-use Rattle.vol_tree.specs.Calls.{is_file_at, overwritten, bytes_at, written, with_unit}
-use Rattle.vol_tree.specs.Opened.{tree_in, slot_of, data_sectors, geometry}
+use Rattle.vol_tree.specs.Calls.{is_file_at, bytes_at, written, with_unit}
+use Rattle.vol_tree.specs.Opened.{tree_in, data_sectors, geometry}
+use Rattle.vol_tree.specs.internal.Slots.{slot_of}
 use Rattle.vol_tree.specs.Stands.{Slots}
 use Rattle.vol_tree.proofs.Committing.{commits_then}
 use Rattle.vol_tree.proofs.Changing.{refused, refused_io}
 use Rattle.vol_tree.proofs.WriteCalls.{file_used, is_too_big, has_no_space, need_le, enough, is_written, is_file, old_bytes, space_after}
-use Rattle.vol_tree.proofs.Writes.{same_written}
 use Rattle.vol_tree.proofs.Filling.{fails_after, fails_io, fills}
 use Rattle.vol_tree.specs.Space.{space}
 use Rattle.vol_tree.specs.Tree.{Tree}
 use Rattle.vol_body.proofs.Rights.{not_both}
 use Rattle.vol_inode.specs.Entry.{name_of}
 use Rattle.vol_tree.proofs.parts.Parts.write_some.Goals as goal
+use Rattle.vol_log.specs.declared.layout.TheConstants.{FIRST_AFTER_LOG}
 
 pub returns-in_default : goal.returns-in_default
 returns-in_default g c =
@@ -112,7 +114,7 @@ returns g c =
     let a = view mid.log in
     let b = view c.write_at.new.log in
     let done = c.in_ok-write_at.ensures in
-    let place : 121 + n ≡ 122 + (n - 1) = omega (arith, c.requires.first) in
+    let place : 121 + n ≡ FIRST_AFTER_LOG + (n - 1) = omega (arith, c.requires.first) in
     let len_is = c.len-count.ensures in
     let end_is : c.in-Some.end ≡ offset + length bytes = c.in-Some.ensures.0 ∙ ap (λ (k : ℕ). offset + k) len_is in
     let at : c.in-Some.end - c.len-count.result ≡ offset = omega (arith, c.in-Some.ensures.0) in
@@ -131,7 +133,7 @@ returns g c =
     c.in-Some-reserved_with.ensures le in
     let room_is : data_sectors v ≡ data_sectors c.entry.new.self.numbers = ap data_sectors same_v in
     let size_is : c.max-size.result ≡ e.size = c.max-size.ensures ∙ ap (max d.size) (omega (arith, end_is, len_is)) ∙ sym (ap (λ (x : Entry). x.size) entry_is) in
-    fills _ old mid c.write_at.new.log c.write_at.new.sectors c.in-Some-reserved_with.reserved n d e (overwritten (bytes_at (tree_in a v) n) offset bytes)
+    fills _ old mid c.write_at.new.log c.write_at.new.sectors c.in-Some-reserved_with.reserved n d e (written_bytes (bytes_at (tree_in a v) n) offset bytes)
     commits c.write_at.ensures.steps.log done.steps.failed c.write_at.ensures.steps.range.0 c.write_at.ensures.steps.range.1 c.requires.first
     (λ h.
     let h1 = commits.kept.honest.0 h in
@@ -157,8 +159,8 @@ returns g c =
         first = c.write_at.ensures.steps.range.0;
         end = c.write_at.ensures.steps.range.1;
       };
-      content = becomes.bytes ∙ ap (λ (k : ℕ). body_written (bytes_of a d) k bytes) at ∙ same_written (bytes_of a d) offset bytes c.requires.some
-          ∙ ap (λ (l : List ℕ). overwritten l offset bytes) (sym (old_bytes a v (content h) n c.requires.first d (slot h) (file1 h)));
+      content = becomes.bytes ∙ ap (λ (k : ℕ). written_bytes (bytes_of a d) k bytes) at
+          ∙ ap (λ (l : List ℕ). written_bytes l offset bytes) (sym (old_bytes a v (content h) n c.requires.first d (slot h) (file1 h)));
       reserved = let needs : need_of c.max-size.result ≡ need_of e.size = ap need_of size_is in omega (arith, s.0, needs, same_r);
       fits = omega (arith, s.1, room_is);
     })
@@ -169,6 +171,6 @@ returns g c =
     let T = tree_in a v in
     let size_same : c.max-size.result ≡ max d.size (offset + length bytes) = c.max-size.ensures ∙ ap (max d.size) end_is in
     let needs : need_of c.max-size.result ≡ need_of (max d.size (offset + length bytes)) = ap need_of size_same in
-    let sums = space_after a v (content h) n c.requires.first d (slot h) (file1 h) offset bytes in
+    let sums = space_after a v (content h) n c.requires.first d (slot h) (file1 h) offset bytes c.requires.some in
     ap (λ (x : Superblock × Tree). with_unit (written (geometry x.0) x.1 n offset bytes)) (λ i. (sym commits.kept.numbers i, sym (commits.tree h) i))
     ∙ is_written a v (content h) n c.requires.first d (slot h) (file1 h) offset bytes c.requires.some (omega (arith, limit, end_is)) (omega (arith, sums, s.0, s.1, needs, total, same_r, room_is)))

@@ -1,0 +1,112 @@
+//! The pointer sectors that a call holds while it goes over a file's data blocks in their order.
+
+ghost use Rattle.std.specs.Prelude.{◌≡◌, ◌≤◌, ◌<◌, ◌-◌, ◌/◌, ◌%◌, false, IfOk, OnOk, is_err};
+ghost use Rattle.vol_log.specs.Log.{view, log_sectors, has_failed, device_of};
+ghost use Rattle.vol_alloc.specs.Alloc.{end_of, taken_of};
+ghost use Rattle.vol_body.specs.Body.{NamesTaken, data_block, named, block_bytes};
+ghost use Rattle.vol_log.specs.Reading.{OnlyReads};
+ghost use Rattle.vol_body.specs.internal.Holding.{IsHeld};
+
+use crate::locate::{DIRECT, NUMBERS, read_taken, taken_or_zero};
+use crate::pointer_sectors::{PointerSector, listed_sector, load_segment, load_top};
+use vol_alloc::Alloc;
+use vol_inode::Entry;
+use vol_log::Log;
+use vol_sector::{Device, DeviceFault};
+
+/// The pointer sectors that are held.
+#[derive(Drop)]
+pub struct Held {
+    /// The one that pointer 59 names.
+    pub top: PointerSector,
+    /// Which 128 data blocks `above` lists: those from 58 + 128 * `group` on.
+    pub group: u32,
+    /// The one that lists these.
+    pub above: PointerSector,
+}
+
+/// Reads the pointer sectors by which the data block `first` is found, in a call that goes up to the
+/// data block `last`.
+pub fn hold<D: Device>(
+    log: &mut Log<D>,
+    sectors: &Alloc,
+    entry: &Entry,
+    first: u32,
+    last: u32,
+) -> Result<Held, DeviceFault>
+    requires small { last < 16570 }
+    requires there { end_of sectors.now ≤ log_sectors log.old }
+    requires working { has_failed log.old ≡ false }
+    ensures held { D.honest (device_of log.old)
+        → NamesTaken (taken_of sectors.now) (view log.old) entry.now
+        → IfOk result (λ held. IsHeld (view log.old) entry.now held last) }
+    ensures reads { OnlyReads log.old log.new }
+    ensures failed { has_failed log.new ≡ is_err result }
+{
+    let group = first.saturating_sub(DIRECT) / NUMBERS;
+    let top = load_top(log, sectors, entry, last)?;
+    let above = load_segment(log, sectors, entry, &top, group, last)?;
+    Ok(Held { top, group, above })
+}
+
+/// Reads a data block, and before it the pointer sector that lists it, where that isn't held.
+pub fn read_held<D: Device>(
+    log: &mut Log<D>,
+    sectors: &Alloc,
+    entry: &Entry,
+    held: &mut Held,
+    j: u32,
+    last: u32,
+) -> Result<[u8; 512], DeviceFault>
+    requires place { j ≤ last }
+    requires small { last < 16570 }
+    requires there { end_of sectors.now ≤ log_sectors log.old }
+    requires working { has_failed log.old ≡ false }
+    ensures bytes { D.honest (device_of log.old)
+        → NamesTaken (taken_of sectors.now) (view log.old) entry.now
+        → IsHeld (view log.old) entry.now held.old last
+        → IfOk result (λ image. image
+        ≡ block_bytes (view log.old) (named (view log.old) entry.now (data_block j))) }
+    ensures held { D.honest (device_of log.old)
+        → NamesTaken (taken_of sectors.now) (view log.old) entry.now
+        → IsHeld (view log.old) entry.now held.old last
+        → OnOk result (IsHeld (view log.old) entry.now held.new last) }
+    ensures reads { OnlyReads log.old log.new }
+    ensures failed { has_failed log.new ≡ is_err result }
+{
+    if j < DIRECT {
+        let n = taken_or_zero(sectors, entry.pointers[j as usize]);
+        return read_taken(log, sectors, n);
+    }
+    let group = (j - DIRECT) / NUMBERS;
+    hold_group(log, sectors, entry, held, group, last)?;
+    let n = listed_sector(sectors, &held.above, (j - DIRECT) % NUMBERS);
+    read_taken(log, sectors, n)
+}
+
+/// Reads the pointer sector that lists the data blocks of a group, where it isn't held.
+fn hold_group<D: Device>(
+    log: &mut Log<D>,
+    sectors: &Alloc,
+    entry: &Entry,
+    held: &mut Held,
+    group: u32,
+    last: u32,
+) -> Result<(), DeviceFault>
+    requires small { last < 16570 }
+    requires there { end_of sectors.now ≤ log_sectors log.old }
+    requires working { has_failed log.old ≡ false }
+    ensures held { D.honest (device_of log.old)
+        → NamesTaken (taken_of sectors.now) (view log.old) entry.now
+        → IsHeld (view log.old) entry.now held.old last
+        → OnOk result (IsHeld (view log.old) entry.now held.new last) }
+    ensures group { OnOk result (held.new.group ≡ group) }
+    ensures reads { OnlyReads log.old log.new }
+    ensures failed { has_failed log.new ≡ is_err result }
+{
+    if group != held.group {
+        held.above = load_segment(log, sectors, entry, &held.top, group, last)?;
+        held.group = group;
+    }
+    Ok(())
+}

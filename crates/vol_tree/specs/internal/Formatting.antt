@@ -1,0 +1,33 @@
+-- The slots of a new volume, and what the steps of formatting leave.
+use Rattle.std.specs.Prelude.{◌≡◌, ◌+◌, ◌<◌, ◌==◌, ℕ, List, [], if◌then◌else◌, replicate}
+use Rattle.vol_sector.specs.Disk.{Image}
+use Rattle.vol_log.specs.Header.{header_bytes}
+use Rattle.vol_inode.specs.declared.entry.Entry.{Entry}
+use Rattle.vol_inode.specs.declared.entry.Kind.TheVariants.{Directory}
+use Rattle.vol_inode.specs.Spelling.{spelling, unused}
+use Rattle.vol_log.specs.declared.layout.TheConstants.{FIRST_AFTER_LOG}
+
+-- the root, as a volume keeps it
+abbrev pub root_entry : Entry
+root_entry = record { kind = Directory; name_length = 0; parent = 0; size = 0; name = replicate 255 0; pointers = replicate 60 0 }
+
+-- the slot of a new volume: the root in the first one
+abbrev pub fresh_slot : ℕ → List ℕ
+fresh_slot s = if s == 0 then spelling root_entry else unused
+
+-- the slots hold only the root
+abbrev pub HasFreshSlots : ℕ → Image → Type 0
+HasFreshSlots slots image = (s : ℕ) → s < slots → image (FIRST_AFTER_LOG + s) ≡ fresh_slot s
+
+-- the log is empty, and the slots hold only the root
+pub record IsFresh (slots : ℕ) (image : Image) : Type 0 where
+  pub log : image 1 ≡ header_bytes []
+  pub entries : HasFreshSlots slots image
+
+-- a step that leaves the sectors before the slots
+abbrev pub OnlyAfterLogChanges : Image → Image → Type 0
+OnlyAfterLogChanges before after = (k : ℕ) → k < FIRST_AFTER_LOG → after k ≡ before k
+
+-- a step that leaves the first sector
+abbrev pub OnlyAfterFrontChanges : Image → Image → Type 0
+OnlyAfterFrontChanges before after = after 0 ≡ before 0

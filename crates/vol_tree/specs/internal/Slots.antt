@@ -1,0 +1,13 @@
+-- The slot of a serial.
+use Rattle.std.specs.Prelude.{◌-◌, ℕ, Option, None, get_or}
+use Rattle.vol_sector.specs.Disk.{Image}
+use Rattle.vol_inode.specs.declared.entry.Entry.{Entry}
+use Rattle.vol_inode.specs.declared.entry.Kind.TheVariants as kinds
+use Rattle.vol_tree.specs.declared.superblock.Superblock.{Superblock}
+use Rattle.vol_tree.specs.declared.errno.Errno.{Errno}
+use Rattle.vol_tree.specs.declared.errno.Errno.TheVariants as errno
+use Rattle.vol_tree.specs.Opened.{slots_in}
+
+-- the entry of a serial
+abbrev pub slot_of : Image → Superblock → ℕ → Option Entry
+slot_of content v serial = get_or (slots_in content v.slots) (serial - 1) None

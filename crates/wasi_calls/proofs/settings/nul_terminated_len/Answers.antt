@@ -1,0 +1,10 @@
+use Rattle.std.proofs.Common.{◌≡◌, drop, [], arith}
+use Rattle.std.proofs.lemmas.List.{drop_all}
+use Rattle.wasi_calls.proofs.settings.nul_terminated_len.Goals as goal
+
+-- no text is left
+pub returns : goal.returns
+returns c =
+    let none_left : drop c.loop-text.text-index c.args.texts.now ≡ [] = drop_all c.loop-text.text-index c.args.texts.now (omega arith) in
+    let all = rw none_left at c.loop-text.invariant.0 in
+    omega (arith, all)
