@@ -1,6 +1,6 @@
 //! Guests by their bytes: control, calls, traps and memory, with the units that they take.
 
-use super::runs::ended;
+use super::sessions::ended;
 use sandbox_core::{Outcome, Trap};
 use std::alloc::{AllocError, Global};
 use std::process::Abort;

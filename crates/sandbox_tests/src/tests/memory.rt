@@ -2,10 +2,10 @@
 //! where none is, it only shows that the guests run.
 
 use super::guests::{DEEP, FILES, WIDE};
-use super::sessions::{Disk, PLAIN, Small, faulty, formatted};
+use super::sessions::{Disk, NoSession, PLAIN, Ran, Small, faulty, formatted, whole_run};
 use super::writer::Bounded;
 use sandbox_core::{
-    HostParts, LoadFault, Outcome, RefusedSession, Session, SessionFault, Valid, Volume, load, run,
+    HostParts, LoadFault, Outcome, RefusedSession, Session, SessionFault, Valid, Volume, load,
 };
 use std::alloc::Global;
 use std::test::Fail;
@@ -65,24 +65,29 @@ const GUESTS: [Guest; 4] = [
     },
 ];
 
-/// A device with a volume and a writer with room, and whether memory was refused to them once.
-fn supplies(alloc: Global) -> Option<(bool, MemoryDevice, Bounded)> {
+/// A device with a volume, at the second try where memory was refused at the first, and whether it was.
+fn supplied_device(alloc: Global) -> Option<(bool, MemoryDevice)> {
+    if let Some(device) = formatted(alloc) {
+        return Some((false, device));
+    }
+    Some((true, formatted(alloc)?))
+}
+
+/// A writer with room, and whether memory was refused to it once.
+fn supplied_writer(alloc: Global) -> Option<(bool, Bounded)> {
     let mut out = Bounded::new(alloc, 100, 100, None);
-    let has_no_room = out.held.reserve(100).is_err();
-    if has_no_room && out.held.reserve(100).is_err() {
+    let refused = out.held.reserve(100).is_err();
+    if refused && out.held.reserve(100).is_err() {
         return None;
     }
-    match formatted(alloc) {
-        Some(device) => Some((has_no_room, device, out)),
-        None => formatted(alloc).map(|device| (true, device, out)),
-    }
+    Some((refused, out))
 }
 
 /// The module, which is loaded at the second try where memory was refused at the first.
 fn loaded(alloc: Global, bytes: &[u8]) -> Option<(bool, Valid<'_>)> {
     match load(alloc, bytes) {
         Ok(valid) => Some((false, valid)),
-        Err(LoadFault::Memory) => load(alloc, bytes).ok().map(|valid| (true, valid)),
+        Err(LoadFault::Memory) => Some((true, load(alloc, bytes).ok()?)),
         Err(_) => None,
     }
 }
@@ -96,18 +101,13 @@ fn opened(alloc: Global, device: MemoryDevice) -> Option<(bool, Volume<Disk>)> {
                 device,
                 fault: VolumeFault::Memory,
             },
-        ) => Volume::open(alloc, device)
-            .ok()
-            .map(|volume| (true, volume)),
+        ) => Some((true, Volume::open(alloc, device).ok()?)),
         Err(_) => None,
     }
 }
 
 /// A session of all that a refusal for memory handed back.
-fn made_again<'a>(
-    alloc: Global,
-    refused: RefusedSession<'a, 'static, 'static, Disk, &'static [u8], Bounded, Bounded>,
-) -> Option<Small<'a>> {
+fn made_again<'a>(alloc: Global, refused: NoSession<'a>) -> Option<Small<'a>> {
     if refused.fault != SessionFault::Memory {
         return None;
     }
@@ -132,58 +132,65 @@ fn made<'a>(
     let err = Bounded::new(alloc, 1, 1, None);
     match Session::new(alloc, valid, PLAIN, volume, b"".as_slice(), out, err) {
         Ok(session) => Some((false, session)),
-        Err(refused) => made_again(alloc, refused).map(|session| (true, session)),
+        Err(refused) => Some((true, made_again(alloc, refused)?)),
     }
 }
 
 /// Whether a guest ended so and printed this.
-fn is_ended(outcome: Outcome, printed: &[u8], want: Outcome, line: &[u8]) -> bool {
-    outcome == want && printed == line
+fn is_ended(report: &Ran, want: Outcome, line: &[u8]) -> bool {
+    report.outcome == want && report.out.held.as_slice() == line
 }
 
-/// Whether all went as where there is memory; none where it went in no way that is right.
-fn judged(committed: bool, whole: bool, refused: bool) -> Option<bool> {
-    if committed && (whole || refused) {
-        Some(whole)
-    } else {
-        None
-    }
+/// Whether a run ended as where there is memory. None where it ended in neither way, or not all was committed.
+fn judged(report: &Ran, guest: &Guest) -> Option<bool> {
+    let whole = is_ended(report, Outcome::Exited(0), guest.line);
+    let refused = is_ended(report, guest.refused, guest.left);
+    (report.volume.is_ok() && (whole || refused)).then_some(whole)
 }
 
-/// Runs the session, and says whether it ended as where there is memory. None where it ended in neither way, or not all was
-/// committed.
+/// Runs the session, and says the same.
 fn is_whole(session: Small<'_>, guest: &Guest) -> Option<bool> {
-    if session.used() > 0 {
-        return None;
+    match whole_run(session, FUEL) {
+        Some(report) => judged(&report, guest),
+        None => None,
     }
-    let report = run(session, FUEL);
-    let printed = report.out.held.as_slice();
-    let whole = is_ended(report.outcome, printed, Outcome::Exited(0), guest.line);
-    let refused = is_ended(report.outcome, printed, guest.refused, guest.left);
-    judged(report.volume.is_ok(), whole, refused)
 }
 
-/// Who was refused memory, by whether the test, `load`, `open`, `new` and the run were; none where more than one was.
-fn refused_one(refused: [bool; 5]) -> Option<Asking> {
+/// Who was refused memory, by whether the test's device and its writer, `load`, `open`, `new` and the run were; none where
+/// more than one was.
+fn refused_one(refused: [bool; 6]) -> Option<Asking> {
     match refused {
-        [false, false, false, false, false] => Some(Asking::Nobody),
-        [true, false, false, false, false] => Some(Asking::Test),
-        [false, true, false, false, false] => Some(Asking::Load),
-        [false, false, true, false, false] => Some(Asking::Open),
-        [false, false, false, true, false] => Some(Asking::New),
-        [false, false, false, false, true] => Some(Asking::Guest),
+        [false, false, false, false, false, false] => Some(Asking::Nobody),
+        [true, false, false, false, false, false] => Some(Asking::Test),
+        [false, true, false, false, false, false] => Some(Asking::Test),
+        [false, false, true, false, false, false] => Some(Asking::Load),
+        [false, false, false, true, false, false] => Some(Asking::Open),
+        [false, false, false, false, true, false] => Some(Asking::New),
+        [false, false, false, false, false, true] => Some(Asking::Guest),
         _ => None,
     }
 }
 
-/// Makes a session of the guest and runs it: who was refused memory, at most once. None where anything else came of it.
-fn asked(alloc: Global, guest: &Guest) -> Option<Asking> {
-    let (test, device, out) = supplies(alloc)?;
-    let (load, valid) = loaded(alloc, guest.module)?;
+/// A session of the guest, and whether memory was refused to `load`, `open` and `new`.
+fn begun<'a>(
+    alloc: Global,
+    module: &'a [u8],
+    device: MemoryDevice,
+    out: Bounded,
+) -> Option<([bool; 3], Small<'a>)> {
+    let (load, valid) = loaded(alloc, module)?;
     let (open, volume) = opened(alloc, device)?;
     let (new, session) = made(alloc, valid, volume, out)?;
+    Some(([load, open, new], session))
+}
+
+/// Makes a session of the guest and runs it: who was refused memory, at most once. None where anything else came of it.
+fn asked(alloc: Global, guest: &Guest) -> Option<Asking> {
+    let (writer, out) = supplied_writer(alloc)?;
+    let (memory, device) = supplied_device(alloc)?;
+    let ([load, open, new], session) = begun(alloc, guest.module, device, out)?;
     let whole = is_whole(session, guest)?;
-    refused_one([test, load, open, new, !whole])
+    refused_one([memory, writer, load, open, new, !whole])
 }
 
 #[test]

@@ -2,10 +2,10 @@
 
 use super::writer::Bounded;
 use sandbox_core::{
-    Errno, HostCall, InstanceFault, Outcome, Pause, Preopen, RefusedSession, Session, SessionFault,
-    Settings, Volume, load, run,
+    Errno, HostCall, HostParts, InstanceFault, Outcome, Pause, Preopen, RefusedSession, Report,
+    Session, SessionFault, Settings, Valid, Volume, load, run,
 };
-use std::alloc::Global;
+use std::alloc::{AllocError, Global};
 use std::io::ErrorKind;
 use std::process::Abort;
 use std::test::Fail;
@@ -42,71 +42,99 @@ fn assert_texts(rt: &impl Abort, texts: &[&[u8]], fits: bool) {
 }
 
 #[test]
-fn limits_the_texts(rt: HostRuntime) {
+fn limits_the_number_of_texts(rt: HostRuntime) {
     let many = [b"".as_slice(); 1_025];
     assert_texts(&rt, &[], true);
     assert_texts(&rt, &many[..1_024], true);
     assert_texts(&rt, &many, false);
+}
 
+#[test]
+fn limits_the_bytes_of_texts(rt: HostRuntime) {
     // Each text has a byte more for its end.
     let long = [b'a'; 65_536];
     assert_texts(&rt, &[&long[..65_535]], true);
     assert_texts(&rt, &[&long], false);
     assert_texts(&rt, &[&long[..65_534], b""], true);
     assert_texts(&rt, &[&long[..65_535], b""], false);
+}
+
+#[test]
+fn texts_have_no_zeros(rt: HostRuntime) {
     assert_texts(&rt, &[b"", b"a=b"], true);
     assert_texts(&rt, &[b"", b"a\0b"], false);
 }
 
-#[test]
-fn limits_preopens_and_pages(rt: HostRuntime) {
-    let long = [b'a'; 256];
-    let names: [(&[u8], bool); 5] = [
-        (b"/", true),
-        (&[], false),
-        (&long[..255], true),
-        (&long, false),
-        (b"a\0", false),
-    ];
-    for (guest_name, fits) in names {
+fn assert_names(rt: &impl Abort, rows: &[(&[u8], bool)]) {
+    for (guest_name, fits) in rows {
         let preopens = [Preopen {
             guest_name,
             path: b"/",
         }];
-        assert_eq!(rt; settings(&[], &[], &preopens, 1).fits(), fits);
-    }
-    let many = [Preopen {
-        guest_name: b"a",
-        path: b"/",
-    }; 65];
-    let rows: [(&[Preopen<'_>], u32, bool); 4] = [
-        (&many[..64], 1, true),
-        (&many, 1, false),
-        (&[], 65_536, true),
-        (&[], 65_537, false),
-    ];
-    for (preopens, pages, fits) in rows {
-        assert_eq!(rt; settings(&[], &[], preopens, pages).fits(), fits);
+        assert_eq!(rt; settings(&[], &[], &preopens, 1).fits(), *fits);
     }
 }
 
 #[test]
-fn prints_faults(rt: HostRuntime) -> Result<(), Fail> {
-    for (fault, text) in [
-        (SessionFault::Setting, "fault 15"),
-        (SessionFault::Instance(InstanceFault::Import), "fault 13"),
-        (SessionFault::Instance(InstanceFault::NoStart), "fault 14"),
-        (SessionFault::Instance(InstanceFault::PageLimit), "fault 22"),
-        (
-            SessionFault::Instance(InstanceFault::DataOutOfBounds),
-            "fault 20",
-        ),
-        (SessionFault::Device, "fault 33"),
-        (SessionFault::Preopen, "fault 16"),
-        (SessionFault::Memory, "out of memory"),
-    ] {
-        assert_eq!(rt; format!(in rt.alloc(); "{fault}")?.as_str(), text);
+fn limits_the_names_of_preopens(rt: HostRuntime) {
+    let long = [b'a'; 256];
+    assert_names(
+        &rt,
+        &[
+            (b"/", true),
+            (&[], false),
+            (&long[..255], true),
+            (&long, false),
+            (b"a\0", false),
+        ],
+    );
+}
+
+fn assert_settings(rt: &impl Abort, preopens: &[Preopen<'_>], pages: u32, fits: bool) {
+    assert_eq!(rt; settings(&[], &[], preopens, pages).fits(), fits);
+}
+
+#[test]
+fn limits_preopens_and_pages(rt: HostRuntime) {
+    let many = [Preopen {
+        guest_name: b"a",
+        path: b"/",
+    }; 65];
+    assert_settings(&rt, &many[..64], 1, true);
+    assert_settings(&rt, &many, 1, false);
+    assert_settings(&rt, &[], 65_536, true);
+    assert_settings(&rt, &[], 65_537, false);
+}
+
+fn assert_prints(
+    rt: &impl Abort,
+    alloc: Global,
+    rows: &[(SessionFault, &str)],
+) -> Result<(), AllocError> {
+    for (fault, text) in rows {
+        assert_eq!(rt; format!(in alloc; "{fault}")?.as_str(), *text);
     }
+    Ok(())
+}
+
+#[test]
+fn prints_faults(rt: HostRuntime) -> Result<(), Fail> {
+    let limit = SessionFault::Instance(InstanceFault::PageLimit);
+    let data = SessionFault::Instance(InstanceFault::DataOutOfBounds);
+    assert_prints(
+        &rt,
+        rt.alloc(),
+        &[
+            (SessionFault::Setting, "fault 15"),
+            (SessionFault::Instance(InstanceFault::Import), "fault 13"),
+            (SessionFault::Instance(InstanceFault::NoStart), "fault 14"),
+            (limit, "fault 22"),
+            (data, "fault 20"),
+            (SessionFault::Device, "fault 33"),
+            (SessionFault::Preopen, "fault 16"),
+            (SessionFault::Memory, "out of memory"),
+        ],
+    )?;
     Ok(())
 }
 
@@ -123,11 +151,38 @@ pub static PLAIN: Settings<'static, 'static> = Settings {
     pages: 1_024,
 };
 
+/// A directory that isn't there as `/`, and nothing else.
+static MISSING: Settings<'static, 'static> = Settings {
+    args: &[],
+    env: &[],
+    preopens: &[Preopen {
+        guest_name: b"/",
+        path: b"/d",
+    }],
+    moment: 0,
+    random: b"",
+    pages: 1_024,
+};
+
 /// A device in memory, of whose operations one may fail, and all from one on: one type for all tests.
 pub type Disk = FlakyDevice<FuseDevice<MemoryDevice>>;
 
 /// A session over a volume on such a device.
 pub type Small<'a> = Session<'a, 'static, 'static, Disk, &'static [u8], Bounded, Bounded>;
+
+/// What such a session was to be made of, handed back.
+pub type NoSession<'a> = RefusedSession<
+    'a,
+    'static,
+    'static,
+    Disk,
+    &'static [u8],
+    Bounded,
+    Bounded,
+>;
+
+/// How such a session ran.
+pub type Ran = Report<Disk, &'static [u8], Bounded, Bounded>;
 
 /// The device whose operation of this number fails, and all after this many.
 pub fn faulty(device: MemoryDevice, failing: u64, passes: u64) -> Disk {
@@ -156,47 +211,92 @@ pub fn working(alloc: Global, device: MemoryDevice) -> Option<Volume<Disk>> {
     Volume::open(alloc, faulty(device, 0, u64::MAX)).ok()
 }
 
-/// A session over a volume, of whose output this many bytes are taken.
-pub fn over<'a>(
+/// A session over the volume on a device, of whose output this many bytes are taken.
+fn begun<'a>(
     alloc: Global,
-    module: &'a [u8],
-    volume: Volume<Disk>,
+    valid: Valid<'a>,
+    disk: Disk,
     input: &'static [u8],
     most: usize,
 ) -> Option<Small<'a>> {
-    let valid = load(alloc, module).ok()?;
+    let volume = Volume::open(alloc, disk).ok()?;
     let out = Bounded::new(alloc, 100, most, Some(ErrorKind::BrokenPipe));
     let err = Bounded::new(alloc, 1, 1, None);
     Session::new(alloc, valid, PLAIN, volume, input, out, err).ok()
 }
 
-pub fn opened(alloc: Global, module: &[u8], most: usize) -> Option<Small<'_>> {
-    let volume = working(alloc, formatted(alloc)?)?;
-    over(alloc, module, volume, b"", most)
+/// The same of the module that these bytes are.
+fn over<'a>(
+    alloc: Global,
+    module: &'a [u8],
+    disk: Disk,
+    input: &'static [u8],
+    most: usize,
+) -> Option<Small<'a>> {
+    begun(alloc, load(alloc, module).ok()?, disk, input, most)
 }
 
-/// What a run by so much fuel gives: the outcome, the units, and how many bytes of the line were written.
-fn ran(alloc: Global, fuel: u64) -> Option<(Outcome, u64, usize)> {
-    let session = opened(alloc, &HELLO, 100)?;
-    if session.used() > 0 {
-        return None;
+/// The same over a fresh volume.
+fn opened(alloc: Global, module: &[u8], most: usize) -> Option<Small<'_>> {
+    over(
+        alloc,
+        module,
+        faulty(formatted(alloc)?, 0, u64::MAX),
+        b"",
+        most,
+    )
+}
+
+/// The session's run from its beginning.
+pub fn whole_run(session: Small<'_>, fuel: u64) -> Option<Ran> {
+    if session.used() == 0 {
+        Some(run(session, fuel))
+    } else {
+        None
     }
-    let report = run(session, fuel);
-    let is_line = b"hi\n".starts_with(report.out.held.as_slice()) && report.err.held.is_empty();
-    is_line.then_some((report.outcome, report.used, report.out.held.len()))
+}
+
+/// The run of a guest over the volume on a device, of whose output this many bytes are taken.
+pub fn run_over(
+    alloc: Global,
+    module: &[u8],
+    disk: Disk,
+    input: &'static [u8],
+    fuel: u64,
+) -> Option<Ran> {
+    whole_run(over(alloc, module, disk, input, 1_000)?, fuel)
+}
+
+/// How a guest ended, the units that it used, and whether it printed exactly this.
+fn end_of(report: &Ran, printed: &[u8]) -> (Outcome, u64, bool) {
+    let same = report.out.held.as_slice() == printed && report.err.held.is_empty();
+    (report.outcome, report.used, same)
+}
+
+/// The same of a run over a fresh volume by so much fuel.
+pub fn ended(
+    alloc: Global,
+    module: &[u8],
+    fuel: u64,
+    printed: &[u8],
+) -> Option<(Outcome, u64, bool)> {
+    let report = whole_run(opened(alloc, module, 100)?, fuel)?;
+    Some(end_of(&report, printed))
 }
 
 #[test]
 fn runs_by_fuel(rt: HostRuntime) {
     // The line is written by the fifth unit.
-    for (fuel, want) in [
-        (0, (Outcome::OutOfFuel, 0, 0)),
-        (4, (Outcome::OutOfFuel, 4, 0)),
-        (5, (Outcome::OutOfFuel, 5, 3)),
-        (7, (Outcome::OutOfFuel, 7, 3)),
-        (8, (Outcome::Exited(0), 8, 3)),
-    ] {
-        assert_eq!(rt; ran(rt.alloc(), fuel), Some(want), "by {fuel}");
+    let rows: [(u64, Outcome, u64, &[u8]); 5] = [
+        (0, Outcome::OutOfFuel, 0, b""),
+        (4, Outcome::OutOfFuel, 4, b""),
+        (5, Outcome::OutOfFuel, 5, b"hi\n"),
+        (7, Outcome::OutOfFuel, 7, b"hi\n"),
+        (8, Outcome::Exited(0), 8, b"hi\n"),
+    ];
+    for (fuel, outcome, used, printed) in rows {
+        let found = ended(rt.alloc(), &HELLO, fuel, printed);
+        assert_eq!(rt; found, Some((outcome, used, true)), "by {fuel}");
     }
 }
 
@@ -281,39 +381,46 @@ fn resumes(rt: HostRuntime) {
     );
 }
 
-/// Why a session is refused; else, or where not all is handed back, `None`.
+/// Whether a refusal hands back what `made` was given.
+fn is_back(parts: &HostParts<'_, '_, Disk, &'static [u8], Bounded, Bounded>, pages: u32) -> bool {
+    parts.settings.pages == pages
+        && parts.input == b"in".as_slice()
+        && (parts.out.most, parts.err.most) == (2, 3)
+        && parts.volume.stats().slots == 16
+}
+
+/// A session with streams that `is_back` knows again.
+fn made<'a>(
+    alloc: Global,
+    valid: Valid<'a>,
+    volume: Volume<Disk>,
+    settings: Settings<'static, 'static>,
+) -> Result<Small<'a>, NoSession<'a>> {
+    let out = Bounded::new(alloc, 1, 2, None);
+    let err = Bounded::new(alloc, 1, 3, None);
+    Session::new(alloc, valid, settings, volume, b"in".as_slice(), out, err)
+}
+
+/// Why a session of this module over a fresh volume is refused; else, or where not all is handed back, `None`.
 fn refusal(
     alloc: Global,
     module: &[u8],
     pages: u32,
-    preopened: &'static [u8],
+    settings: &Settings<'static, 'static>,
 ) -> Option<SessionFault> {
-    let valid = load(alloc, module).ok()?;
-    let (out, err) = (
-        Bounded::new(alloc, 1, 2, None),
-        Bounded::new(alloc, 1, 3, None),
-    );
     let volume = working(alloc, formatted(alloc)?)?;
-    let preopens = [Preopen {
-        guest_name: b"/",
-        path: preopened,
-    }];
-    let settings = settings(&[], &[], &preopens, pages);
-    let RefusedSession { parts, fault, .. } = Session::new(
-        alloc,
-        valid,
-        settings,
-        volume,
-        b"in".as_slice(),
-        out,
-        err,
-    ).err()?;
-    let is_back = parts.settings.pages == pages
-        && parts.input == b"in".as_slice()
-        && (parts.out.most, parts.err.most) == (2, 3)
-        && parts.volume.stats().slots == 16;
-    is_back.then_some(fault)
+    let valid = load(alloc, module).ok()?;
+    let refused = made(alloc, valid, volume, Settings { pages, ..*settings }).err()?;
+    is_back(&refused.parts, pages).then_some(refused.fault)
 }
+
+/// A module, the most pages, the other settings, and the fault.
+type Refusing<'a> = (
+    &'a [u8],
+    u32,
+    &'static Settings<'static, 'static>,
+    Option<SessionFault>,
+);
 
 #[test]
 fn refuses_in_order(rt: HostRuntime) {
@@ -330,20 +437,20 @@ fn refuses_in_order(rt: HostRuntime) {
     other[51] = b'2';
     let none = SessionFault::Preopen;
     let setting = SessionFault::Setting;
-    let rows: [(&[u8], u32, &'static [u8], Option<SessionFault>); 10] = [
-        (&HELLO[..8], 0, b"/", Some(start)),
-        (&HELLO[..8], 65_537, b"/", Some(setting)),
-        (&HELLO, 1, b"/", None),
-        (&HELLO, 0, b"/", Some(limit)),
-        (&far, 1, b"/", Some(data)),
-        (&far, 0, b"/", Some(limit)),
-        (&other, 0, b"/", Some(import)),
-        (&other, 65_537, b"/d", Some(setting)),
+    let rows: [Refusing<'_>; 10] = [
+        (&HELLO[..8], 0, &PLAIN, Some(start)),
+        (&HELLO[..8], 65_537, &PLAIN, Some(setting)),
+        (&HELLO, 1, &PLAIN, None),
+        (&HELLO, 0, &PLAIN, Some(limit)),
+        (&far, 1, &PLAIN, Some(data)),
+        (&far, 0, &PLAIN, Some(limit)),
+        (&other, 0, &PLAIN, Some(import)),
+        (&other, 65_537, &MISSING, Some(setting)),
         // its directory is asked for last
-        (&other, 0, b"/d", Some(import)),
-        (&HELLO, 1, b"/d", Some(none)),
+        (&other, 0, &MISSING, Some(import)),
+        (&HELLO, 1, &MISSING, Some(none)),
     ];
-    for (i, (module, pages, preopened, want)) in rows.into_iter().enumerate() {
-        assert_eq!(rt; refusal(alloc, module, pages, preopened), want, "row {i}");
+    for (i, (module, pages, settings, want)) in rows.iter().enumerate() {
+        assert_eq!(rt; refusal(alloc, module, *pages, settings), *want, "row {i}");
     }
 }

@@ -1,8 +1,8 @@
 //! Guests that use a volume: what they print, what stands in the next session, and what stands where the device fails.
 
 use super::guests::{APPEND, CUT, FILES, INPUT, LARGE, LISTING, LONG};
-use super::sessions::{Disk, faulty, formatted, formatted_with, memory_of, over, working};
-use sandbox_core::{Outcome, Report, Volume, run};
+use super::sessions::{Disk, Ran, faulty, formatted, formatted_with, memory_of, run_over, working};
+use sandbox_core::{Outcome, Report, Volume};
 use std::alloc::Global;
 use std::process::Abort;
 use vol_inode::{Version, is_name};
@@ -12,27 +12,39 @@ use vol_sector::MemoryDevice;
 const FUEL: u64 = 1_000;
 
 /// Whether a guest came to its end and printed exactly this.
-fn is_printed(outcome: Outcome, printed: &[u8], line: &[u8]) -> bool {
-    outcome == Outcome::Exited(0) && printed == line
+fn is_printed(report: &Ran, line: &[u8]) -> bool {
+    report.outcome == Outcome::Exited(0) && report.out.held.as_slice() == line
 }
 
-/// Runs a guest to its end over a volume, and gives the volume back where the guest printed exactly this.
+/// Whether all was committed at a run's end, and the device.
+fn left(report: Ran) -> (bool, MemoryDevice) {
+    let Report { volume, .. } = report;
+    match volume {
+        Ok(volume) => (true, memory_of(volume.into_device())),
+        Err(refused) => (false, memory_of(refused.device)),
+    }
+}
+
+/// Runs a guest to its end over the volume on a device, and gives the device back where the guest printed exactly this
+/// and all was committed.
 fn printed(
     alloc: Global,
     module: &[u8],
-    volume: Volume<Disk>,
+    device: MemoryDevice,
     input: &'static [u8],
     line: &[u8],
-) -> Option<Volume<Disk>> {
-    let session = over(alloc, module, volume, input, 1_000)?;
-    if session.used() > 0 {
-        return None;
-    }
-    let report = run(session, FUEL);
-    if is_printed(report.outcome, report.out.held.as_slice(), line) {
-        report.volume.ok()
-    } else {
-        None
+) -> Option<MemoryDevice> {
+    let report = run_over(alloc, module, faulty(device, 0, u64::MAX), input, FUEL)?;
+    let is_right = is_printed(&report, line);
+    let (is_whole, device) = left(report);
+    (is_right && is_whole).then_some(device)
+}
+
+/// Whether a guest over a fresh volume prints exactly this.
+fn prints(alloc: Global, module: &[u8], input: &'static [u8], line: &[u8]) -> bool {
+    match formatted(alloc) {
+        Some(device) => printed(alloc, module, device, input, line).is_some(),
+        None => false,
     }
 }
 
@@ -48,10 +60,8 @@ fn guests_print_what_files_hold(rt: HostRuntime) {
         ),
         (INPUT, b"abcd", b"abc\0\x03d\0\0\0\x01\0\0\0\0\0"),
     ];
-    for (i, (module, input, line)) in rows.into_iter().enumerate() {
-        let volume = formatted(rt.alloc()).and_then(|it| working(rt.alloc(), it));
-        let ran = volume.and_then(|it| printed(rt.alloc(), module, it, input, line));
-        assert!(rt; ran.is_some(), "row {i}");
+    for (i, (module, input, line)) in rows.iter().enumerate() {
+        assert!(rt; prints(rt.alloc(), module, input, line), "row {i}");
     }
 }
 
@@ -75,38 +85,47 @@ fn print_in_turn(
 ) -> Option<()> {
     let mut device = device;
     for line in lines {
-        let volume = printed(alloc, module, working(alloc, device)?, b"", line)?;
-        device = memory_of(volume.into_device());
+        device = printed(alloc, module, device, b"", line)?;
     }
     Some(())
 }
 
+/// The same on a fresh volume of this many sectors and of this version.
+fn are_printed(
+    alloc: Global,
+    module: &[u8],
+    sectors: u32,
+    version: Version,
+    lines: &[&[u8]],
+) -> bool {
+    match of_version(alloc, sectors, version) {
+        Some(device) => print_in_turn(alloc, module, device, lines).is_some(),
+        None => false,
+    }
+}
+
 #[test]
 fn the_next_session_finds_the_files(rt: HostRuntime) {
-    let alloc = rt.alloc();
     let lines = [b"abc".as_slice(), b"abcabc", b"abcabcabc"];
     for version in [Version::One, Version::Two] {
-        let ran = of_version(alloc, 202, version).and_then(|it| print_in_turn(
-            alloc, APPEND, it, &lines,
-        ));
-        assert!(rt; ran.is_some(), "{version:?}");
+        assert!(rt;
+            are_printed(rt.alloc(), APPEND, 202, version, &lines),
+            "{version:?}"
+        );
     }
 }
 
 #[test]
 fn files_are_larger_on_an_upgraded_volume(rt: HostRuntime) {
-    let alloc = rt.alloc();
     // the errno of each size and of the calls after them, and what was read
     let small = b"\0\x16\x16\x16\x16\x16\0\0\0\0".as_slice();
     let large = b"\0\0\0\x33\x16\0\0abc".as_slice();
     for (version, line) in [(Version::One, small), (Version::Two, large)] {
-        let ran = of_version(alloc, 1_000, version).and_then(|it| print_in_turn(
-            alloc,
-            LARGE,
-            it,
-            &[line, line],
-        ));
-        assert!(rt; ran.is_some(), "{version:?}");
+        let lines = [line, line];
+        assert!(rt;
+            are_printed(rt.alloc(), LARGE, 1_000, version, &lines),
+            "{version:?}"
+        );
     }
 }
 
@@ -154,17 +173,11 @@ fn succeeded(told: &[u8]) -> Option<usize> {
 
 /// How many calls of the guest succeeded, where it told what it should, whether all was committed at the end, and the
 /// device.
-fn ran(alloc: Global, volume: Volume<Disk>) -> Option<(Option<usize>, bool, MemoryDevice)> {
-    let session = over(alloc, FILES, volume, b"", 1_000)?;
-    if session.used() > 0 {
-        return None;
-    }
-    let Report { out, volume, .. } = run(session, FUEL);
-    let count = succeeded(out.held.as_slice());
-    match volume {
-        Ok(volume) => Some((count, true, memory_of(volume.into_device()))),
-        Err(refused) => Some((count, false, memory_of(refused.device))),
-    }
+fn ran(alloc: Global, disk: Disk) -> Option<(Option<usize>, bool, MemoryDevice)> {
+    let report = run_over(alloc, FILES, disk, b"", FUEL)?;
+    let count = succeeded(report.out.held.as_slice());
+    let (is_whole, device) = left(report);
+    Some((count, is_whole, device))
 }
 
 /// Whether a device's volume can be opened and holds what a first part of the calls made.
@@ -182,7 +195,7 @@ fn holds_a_first_part(alloc: Global, device: MemoryDevice, count: Option<usize>)
 /// end. None where it can't begin.
 fn failed(alloc: Global, failing: u64) -> Option<(bool, bool)> {
     let device = faulty(formatted(alloc)?, failing, u64::MAX);
-    let (count, whole, device) = ran(alloc, Volume::open(alloc, device).ok()?)?;
+    let (count, whole, device) = ran(alloc, device)?;
     Some((
         holds_a_first_part(alloc, device, count),
         whole && count == Some(6),
@@ -192,7 +205,7 @@ fn failed(alloc: Global, failing: u64) -> Option<(bool, bool)> {
 /// The same for each of some images that a stop after this many operations may leave.
 fn stopped(alloc: Global, operations: u64) -> Option<(bool, bool)> {
     let device = faulty(formatted(alloc)?, 0, operations);
-    let (count, whole, device) = ran(alloc, Volume::open(alloc, device).ok()?)?;
+    let (count, whole, device) = ran(alloc, device)?;
     let mut is_right = true;
     let rows: [&[u32]; 4] = [
         &[],
