@@ -1,11 +1,11 @@
 /*
  * Makes many calls of one kind, each synced where it changes something.
  *
- *     calls create COUNT     makes so many empty files
+ *     calls create COUNT     makes COUNT empty files
  *     calls write COUNT      writes 16,384 bytes into each
- *     calls again COUNT      writes 16,384 other bytes into the first 200 in turn so many times, and reads them then
- *     calls touch COUNT      writes one byte into the first of them so many times
- *     calls read COUNT       reads one whole so many times, the first 200 in turn
+ *     calls again COUNT      writes 16,384 other bytes into the first 200 in turn COUNT times, and then reads them
+ *     calls touch COUNT      writes one byte into the first of them COUNT times
+ *     calls read COUNT       reads one whole COUNT times, the first 200 in turn
  *     calls rename COUNT     gives each another name
  *     calls none 0           does nothing
  *

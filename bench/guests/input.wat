@@ -11,5 +11,5 @@
     (call $copy)
     (call $copy)
     (call $copy))
-  ;; three bytes at 32; those and the count behind them
+  ;; three bytes at 32; those and the count after them
   (data (i32.const 16) "\20\00\00\00\03\00\00\00\20\00\00\00\05\00\00\00"))

@@ -22,16 +22,9 @@ module _ {D R W1 W2 : Type 0} (honest : D → Type 0) (disk : D → Disk) (secto
   abbrev pub tree_of : HostState D R W1 W2 → Tree
   tree_of h = h.volume.tree
 
-  -- A run from a configuration with these units of fuel, which ends so. Each image that a crash may leave since it began
-  -- could be left before, or stands for a tree that one could leave then, or for that of a host that the run comes by.
-  pub record RunsTo (old : SessionState D R W1 W2) (fuel : ℕ) (new : SessionState D R W1 W2) (outcome : Outcome) : Type 0 where
-    pub honest_after : honest old.host.volume.device → honest new.host.volume.device
-    pub run : (i : Instance) (c : Configuration) → Represents old.machine i c
-        → RunsWithin (HostState D R W1 W2) Calls i old.host c fuel new.host outcome (used_by new)
-    pub crash : honest old.host.volume.device → (i : Instance) (c : Configuration) (stands : Represents old.machine i c)
-        → Leaves (disk_of old.host) (disk_of new.host) (Passed (HostState D R W1 W2) Calls disk_of tree_of i old.host c fuel new.host outcome (used_by new) (run i c stands))
-
-  -- The same of a run and the commit at its end, and what is left.
+  -- From each configuration that the session stands for there is a run with these units of fuel, which ends so; then the
+  -- volume is committed. Each image that a crash may leave since the run began could be left before, or stands for a tree
+  -- that one could leave then, or for that of a host that the run comes by. What is left is handed back.
   pub record Reports (session : SessionState D R W1 W2) (fuel : ℕ) (report : Report D R W1 W2) : Type 0 where
     pub last : SessionState D R W1 W2
     pub used : report.used ≡ used_by last

@@ -10,8 +10,7 @@ use Rattle.wasm_module.specs.declared.module.Module.{Module}
 use Rattle.wasm_store.specs.declared.fault.InstanceFault.TheVariants.{Memory as NoMemory}
 use Rattle.wasm_store.specs.Instantiation.{RefusedFor}
 use Rattle.wasm_interp.specs.declared.pause.Pause.{Pause}
-use Rattle.wasm_interp.specs.Configuration.{Instance, Configuration}
-use Rattle.wasm_interp.specs.Machine.{Snapshot, Represents}
+use Rattle.wasm_interp.specs.Machine.{Snapshot}
 use Rattle.wasm_interp.specs.Promise.{Starts, Resumed}
 use Rattle.wasi_fd.specs.Table.{table_of}
 use Rattle.wasi_calls.specs.declared.settings.Settings.{Settings}
@@ -31,12 +30,6 @@ use Rattle.sandbox_core.specs.declared.session.Finished.{Finished}
 pub record SessionState (D R W1 W2 : Type 0) : Type 0 where
   pub machine : Snapshot
   pub host : HostState D R W1 W2
-
--- the machine stands for some configuration
-pub record HasConfiguration (machine : Snapshot) : Type 0 where
-  pub instance : Instance
-  pub configuration : Configuration
-  pub stands : Represents machine instance configuration
 
 -- a module can be instantiated: some machine stands for its first configuration
 abbrev pub IsInstantiable : Module → ℕ → Type 0

@@ -1,1 +1,3 @@
+-- Definitions that only private contracts and proofs cite.
 pub mod Faults
+pub mod Running

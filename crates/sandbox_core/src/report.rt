@@ -2,7 +2,8 @@
 
 ghost use Rattle.std.specs.Prelude.{◌≡◌, ◌≤◌};
 ghost use Rattle.sandbox_core.specs.Session.{used_by};
-ghost use Rattle.sandbox_core.specs.Report.{RunsTo, Reports};
+ghost use Rattle.sandbox_core.specs.Report.{Reports};
+ghost use Rattle.sandbox_core.specs.internal.Running.{RunsTo};
 
 use crate::session::{Finished, Session};
 use std::io::{Read, Write};

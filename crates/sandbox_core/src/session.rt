@@ -22,7 +22,8 @@ pub struct Session<'a, 's, 't, D: Device, R: Read, W1: Write, W2: Write> {
 
 impl<'a, 's, 't, D: Device, R: Read, W1: Write, W2: Write> Model
     for Session<'a, 's, 't, D, R, W1, W2> {
-    ghost use Rattle.sandbox_core.specs.Session.{SessionState, HasConfiguration};
+    ghost use Rattle.sandbox_core.specs.Session.{SessionState};
+    ghost use Rattle.sandbox_core.specs.internal.Running.{HasConfiguration};
 
     ghost Value = { SessionState D R W1 W2 };
 

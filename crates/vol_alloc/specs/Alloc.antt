@@ -1,4 +1,4 @@
--- What a caller sees of the free sectors.
+-- What a caller sees of the free sectors (`docs/VOLUME.md`, "Space").
 use Rattle.std.specs.Prelude.{ℕ, ◌-◌, Bool, false, not, count_by, nat_lt, slice_index_or, if◌then◌else◌}
 use Rattle.vol_alloc.specs.declared.sectors.Alloc.{Alloc}
 

@@ -9,7 +9,7 @@ use Rattle.vol_alloc.specs.declared.sectors.Alloc.{Alloc}
 use Rattle.vol_alloc.specs.Alloc.{end_of, taken_of}
 use Rattle.vol_inode.specs.declared.entry.Entry.{Entry}
 use Rattle.vol_body.specs.Body.{BlockPosition, data_block, indirect_block, double_indirect_block, inner_block, IsPosition, first_served, named, number_in}
-use Rattle.vol_body.specs.internal.Shorter.{Gives, StandsFrom, GoesWithList, GoesWithLater, Goes}
+use Rattle.vol_body.specs.internal.Truncated.{Gives, IsAmong, GoesWithBlock, GoesWithLater, Goes}
 use Rattle.vol_body.proofs.Places.{number_there, part_direct, part_listed, part_later}
 
 -- where nothing goes
@@ -37,9 +37,9 @@ gives_these a b P Q gives to from = record {
 }
 
 -- one more number of a list
-pub gives_next : (a b c : ℕ → Bool) (numbers : ℕ → ℕ) (from end : ℕ) → from ≤ end → Gives a b (StandsFrom numbers from end) → Gives b c (λ k. k ≡ numbers end) → Gives a c (StandsFrom numbers from (end + 1))
+pub gives_next : (a b c : ℕ → Bool) (numbers : ℕ → ℕ) (from end : ℕ) → from ≤ end → Gives a b (IsAmong numbers from end) → Gives b c (λ k. k ≡ numbers end) → Gives a c (IsAmong numbers from (end + 1))
 gives_next a b c numbers from end le first second =
-    gives_these a c (λ n. StandsFrom numbers from end n ⊎ (n ≡ numbers end)) (StandsFrom numbers from (end + 1)) (gives_then a b c (StandsFrom numbers from end) (λ k. k ≡ numbers end) first second)
+    gives_these a c (λ n. IsAmong numbers from end n ⊎ (n ≡ numbers end)) (IsAmong numbers from (end + 1)) (gives_then a b c (IsAmong numbers from end) (λ k. k ≡ numbers end) first second)
     (λ n either. ⊎_elim (λ s. (s.0, s.1, omega (arith, s.2), s.3)) (λ is. (end, le, omega arith, sym is)) either)
     (λ n s. elim (cases_lt s.0 end) [
       | inl lt ↦ inl (s.0, s.1, lt, s.3)
@@ -48,15 +48,15 @@ gives_next a b c numbers from end le first second =
 
 -- one more inner block
 pub gives_next_list : (a b c : ℕ → Bool) (content : Image) (numbers : ℕ → ℕ) (count i : ℕ)
-    → Gives a b (GoesWithLater content numbers count i) → Gives b c (GoesWithList content (numbers i) (count - (186 + 128 * i))) → Gives a c (GoesWithLater content numbers count (i + 1))
+    → Gives a b (GoesWithLater content numbers count i) → Gives b c (GoesWithBlock content (numbers i) (count - (186 + 128 * i))) → Gives a c (GoesWithLater content numbers count (i + 1))
 gives_next_list a b c content numbers count i first second =
     let P = GoesWithLater content numbers count i in
-    let Q = GoesWithList content (numbers i) (count - (186 + 128 * i)) in
+    let Q = GoesWithBlock content (numbers i) (count - (186 + 128 * i)) in
     gives_these a c (λ n. P n ⊎ Q n) (GoesWithLater content numbers count (i + 1)) (gives_then a b c P Q first second)
     (λ n either. ⊎_elim (λ s. (s.0, omega (arith, s.1), s.2)) (λ goes. (i, omega arith, goes)) either)
     (λ n s. elim (cases_lt s.0 i) [
       | inl lt ↦ inl (s.0, lt, s.2)
-      | inr ge ↦ inr (let at : s.0 ≡ i = omega (arith, s.1, ge) in subst (λ (k : ℕ). GoesWithList content (numbers k) (count - (186 + 128 * k)) n) at s.2)
+      | inr ge ↦ inr (let at : s.0 ≡ i = omega (arith, s.1, ge) in subst (λ (k : ℕ). GoesWithBlock content (numbers k) (count - (186 + 128 * k)) n) at s.2)
     ])
 
 -- the same lists by other numbers
@@ -64,20 +64,20 @@ pub gives_lists : (a b : ℕ → Bool) (content : Image) (numbers others : ℕ �
     → Gives a b (GoesWithLater content numbers count 128) → Gives a b (GoesWithLater content others count 128)
 gives_lists a b content numbers others count same gives =
     gives_these a b (GoesWithLater content numbers count 128) (GoesWithLater content others count 128) gives
-    (λ n s. (s.0, s.1, subst (λ (k : ℕ). GoesWithList content k (count - (186 + 128 * s.0)) n) (same s.0 s.1) s.2))
-    (λ n s. (s.0, s.1, subst (λ (k : ℕ). GoesWithList content k (count - (186 + 128 * s.0)) n) (sym (same s.0 s.1)) s.2))
+    (λ n s. (s.0, s.1, subst (λ (k : ℕ). GoesWithBlock content k (count - (186 + 128 * s.0)) n) (same s.0 s.1) s.2))
+    (λ n s. (s.0, s.1, subst (λ (k : ℕ). GoesWithBlock content k (count - (186 + 128 * s.0)) n) (sym (same s.0 s.1)) s.2))
 
 -- what a list's image lists
 pub gives_read : (a b : ℕ → Bool) (content : Image) (of_list from : ℕ) (image : List ℕ) → of_list ≢ 0 → image ≡ content of_list
-    → Gives a b (StandsFrom (λ i. little_number 4 (drop (4 * i) image)) from 128) → Gives a b (StandsFrom (number_in content of_list) from 128)
+    → Gives a b (IsAmong (λ i. little_number 4 (drop (4 * i) image)) from 128) → Gives a b (IsAmong (number_in content of_list) from 128)
 gives_read a b content of_list from image there is gives =
     let same : (i : ℕ) → little_number 4 (drop (4 * i) image) ≡ number_in content of_list i = λ i. ap (λ (bytes : List ℕ). little_number 4 (drop (4 * i) bytes)) is ∙ sym (number_there content of_list i there) in
-    gives_these a b (StandsFrom (λ i. little_number 4 (drop (4 * i) image)) from 128) (StandsFrom (number_in content of_list) from 128) gives
+    gives_these a b (IsAmong (λ i. little_number 4 (drop (4 * i) image)) from 128) (IsAmong (number_in content of_list) from 128) gives
     (λ n s. (s.0, s.1, s.2, sym (same s.0) ∙ s.3)) (λ n s. (s.0, s.1, s.2, same s.0 ∙ s.3))
 
-pub gives_at : (a b : ℕ → Bool) (one other : Image) (of_list x y : ℕ) → one ≡ other → x ≡ y → Gives a b (GoesWithList one of_list x) → Gives a b (GoesWithList other of_list y)
+pub gives_at : (a b : ℕ → Bool) (one other : Image) (of_list x y : ℕ) → one ≡ other → x ≡ y → Gives a b (GoesWithBlock one of_list x) → Gives a b (GoesWithBlock other of_list y)
 gives_at a b one other of_list x y same is gives =
-    subst (λ (k : ℕ). Gives a b (GoesWithList other of_list k)) is (subst (λ (m : Image). Gives a b (GoesWithList m of_list x)) same gives)
+    subst (λ (k : ℕ). Gives a b (GoesWithBlock other of_list k)) is (subst (λ (m : Image). Gives a b (GoesWithBlock m of_list x)) same gives)
 
 -- a number that is taken wherever it isn't 0 is known
 pub known_number : (taken : ℕ → Bool) (m n : ℕ) → m ≡ n → (n ≢ 0 → taken n ≡ true) → (if taken m then m else 0) ≡ n
@@ -112,10 +112,10 @@ known_there a n k end is le some = elim (cases_lt n (end_of a)) [
 pub none_taken : (first : ℕ) (flags : List Bool) (n : ℕ) → 0 < first → 0 ≡ n → (if nat_lt n first then false else get_or flags (n - first) false) ≡ true → ⊥
 none_taken first flags n lt is taken = grind (arith, nat_tests)
 
-pub no_list : (content : Image) (from n : ℕ) → GoesWithList content 0 from n → 0 ≡ n
+pub no_list : (content : Image) (from n : ℕ) → GoesWithBlock content 0 from n → 0 ≡ n
 no_list content from n goes = ⊎_elim (λ s. s.3) (λ s. s.1) goes
 
-pub short_list : (content : Image) (of_list from n : ℕ) → 128 ≤ from → GoesWithList content of_list from n → ⊥
+pub short_list : (content : Image) (of_list from n : ℕ) → 128 ≤ from → GoesWithBlock content of_list from n → ⊥
 short_list content of_list from n le goes = ⊎_elim (λ s. omega (arith, s.1, s.2)) (λ s. omega (arith, s.0)) goes
 
 module _ (content : Image) (e : Entry) (count : ℕ) where
@@ -123,10 +123,10 @@ module _ (content : Image) (e : Entry) (count : ℕ) where
   abbrev pub GoesLater : ℕ → Type 0
   GoesLater n = GoesWithLater content (number_in content (named content e double_indirect_block)) count 128 n ⊎ ((count ≤ 186) × (named content e double_indirect_block ≡ n))
 
-  abbrev pub GoesByLists : ℕ → Type 0
-  GoesByLists n = (GoesLater n ⊎ GoesWithList content (named content e indirect_block) (count - 58) n) ⊎ StandsFrom (slice_index e.pointers) count 58 n
+  abbrev pub GoesByBlocks : ℕ → Type 0
+  GoesByBlocks n = (GoesLater n ⊎ GoesWithBlock content (named content e indirect_block) (count - 58) n) ⊎ IsAmong (slice_index e.pointers) count 58 n
 
-  from_part : (j n : ℕ) → j < 16570 → count ≤ j → named content e (data_block j) ≡ n → GoesByLists n
+  from_part : (j n : ℕ) → j < 16570 → count ≤ j → named content e (data_block j) ≡ n → GoesByBlocks n
   from_part j n there le is = elim (cases_lt j 58) [
     | inl direct ↦ inr (j, le, direct, sym (part_direct content e j direct) ∙ is)
     | inr past ↦ elim (cases_lt j 186) [
@@ -135,7 +135,7 @@ module _ (content : Image) (e : Entry) (count : ℕ) where
     ]
   ]
 
-  from_place : (p : BlockPosition) (n : ℕ) → IsPosition p → count ≤ first_served p → named content e p ≡ n → GoesByLists n
+  from_place : (p : BlockPosition) (n : ℕ) → IsPosition p → count ≤ first_served p → named content e p ≡ n → GoesByBlocks n
   from_place (data_block j) n there le is = from_part j n there le is
   from_place indirect_block n there le is = inl (inr (inr (omega arith, is)))
   from_place double_indirect_block n there le is = inl (inl (inr (le, is)))
@@ -157,7 +157,7 @@ module _ (content : Image) (e : Entry) (count : ℕ) where
   to_later : (n : ℕ) → GoesWithLater content (number_in content (named content e double_indirect_block)) count 128 n → Goes content e count n
   to_later n s = ⊎_elim (λ r. to_later_part s.0 r.0 n s.1 r.2 r.1 r.3) (λ r. (inner_block s.0, s.1, omega (arith, r.0), r.1)) s.2
 
-  to_list : (n : ℕ) → GoesWithList content (named content e indirect_block) (count - 58) n → Goes content e count n
+  to_list : (n : ℕ) → GoesWithBlock content (named content e indirect_block) (count - 58) n → Goes content e count n
   to_list n goes = ⊎_elim (λ s.
       let back : s.0 + 58 - 58 ≡ s.0 = omega arith in (
         data_block (s.0 + 58),
@@ -167,8 +167,8 @@ module _ (content : Image) (e : Entry) (count : ℕ) where
       ))
       (λ s. (indirect_block, tt, omega (arith, s.0), s.1)) goes
 
-  pub gives_all : (a b : ℕ → Bool) → Gives a b GoesByLists → Gives a b (Goes content e count)
-  gives_all a b gives = gives_these a b GoesByLists (Goes content e count) gives
+  pub gives_all : (a b : ℕ → Bool) → Gives a b GoesByBlocks → Gives a b (Goes content e count)
+  gives_all a b gives = gives_these a b GoesByBlocks (Goes content e count) gives
       (λ n either. ⊎_elim (λ listed. ⊎_elim (λ later. ⊎_elim (to_later n) (λ s. (double_indirect_block, tt, s.0, s.1)) later) (to_list n) listed)
       (λ s. (data_block s.0, omega (arith, s.2), s.1, part_direct content e s.0 s.2 ∙ s.3)) either)
       (λ n s. from_place s.0 n s.1 s.2 s.3)

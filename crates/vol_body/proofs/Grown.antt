@@ -11,7 +11,7 @@ use Rattle.vol_body.specs.Bytes.{resized_bytes}
 use Rattle.vol_body.specs.Change.{OthersStay, TakesAndGives}
 use Rattle.vol_body.proofs.Parts.{length-bytes_of, get_or-bytes_of}
 use Rattle.vol_body.proofs.Same.{same_file}
-use Rattle.vol_body.proofs.Cuts.{put_past, in_range}
+use Rattle.vol_body.proofs.CutSectors.{put_past, in_range}
 use Rattle.vol_inode.specs.declared.version.TheConstants.{LARGEST_SIZE}
 
 -- a file's names don't go by its size

@@ -17,9 +17,10 @@ pub mod Loads
 pub mod Written
 pub mod Finished
 pub mod GivenBack
-pub mod Cuts
+pub mod CutSectors
 pub mod Zeros
-pub mod Shorter
+pub mod Truncated
 pub mod Shrunk
+pub mod NoneLost
 pub mod Stagings
 pub mod Rights

@@ -6,7 +6,7 @@ use Rattle.byteorder.specs.Endian.{little_bytes, little_number}
 use Rattle.byteorder.specs.Numbers.{little_number-reads_back, length-bytes_low_first}
 use Rattle.vol_sector.specs.Disk.{Image}
 use Rattle.vol_inode.specs.declared.entry.Entry.{Entry}
-use Rattle.vol_inode.specs.internal.Writes.{overwritten}
+use Rattle.vol_inode.specs.Writes.{overwritten}
 use Rattle.vol_body.specs.Body.{number_in, block_bytes}
 use Rattle.vol_body.specs.internal.Naming.{SetsPointer, ListsOneMore}
 use Rattle.vol_body.proofs.Places.{number_there, bytes_there}

@@ -7,7 +7,7 @@ use Rattle.std.proofs.lemmas.List.FromFn.{length-range_with_len, get_or-map-rang
 use Rattle.std.specs.List.{range_with_len, Contains}
 use Rattle.vol_sector.specs.Disk.{Image}
 use Rattle.vol_inode.specs.declared.entry.Entry.{Entry}
-use Rattle.vol_inode.specs.Space.{blocks_for_size, lists_of, need_of}
+use Rattle.vol_inode.specs.Space.{blocks_for_size, inner_blocks_for, need_of}
 use Rattle.vol_body.specs.Body.{BlockPosition, data_block, indirect_block, double_indirect_block, inner_block, IsPosition, first_served, named, IsBody, positions_of}
 
 take_it : (a b : ℕ) (x y : List BlockPosition) → a < b → (if nat_lt a b then x else y) ≡ x
@@ -16,43 +16,43 @@ take_it a b x y lt = grind (arith, nat_tests)
 leave_it : (a b : ℕ) (x y : List BlockPosition) → b ≤ a → (if nat_lt a b then x else y) ≡ y
 leave_it a b x y le = grind (arith, nat_tests)
 
-long_parts : (count : ℕ) → length (map data_block (range_with_len 0 count)) ≡ count
+pub long_parts : (count : ℕ) → length (map data_block (range_with_len 0 count)) ≡ count
 long_parts count = length-map (range_with_len 0 count) data_block ∙ length-range_with_len 0 count
 
 long_later : (n : ℕ) → length (map inner_block (range_with_len 0 n)) ≡ n
 long_later n = length-map (range_with_len 0 n) inner_block ∙ length-range_with_len 0 n
 
 -- the list, by how many data blocks there are
-few : (count : ℕ) → count ≤ 58 → map data_block (range_with_len 0 count) ++ (if nat_lt 58 count then indirect_block ∷ [] else []) ++ (if nat_lt 186 count then double_indirect_block ∷ map inner_block (range_with_len 0 (lists_of (count - 186))) else []) ≡ map data_block (range_with_len 0 count) ++ [] ++ []
+pub few : (count : ℕ) → count ≤ 58 → map data_block (range_with_len 0 count) ++ (if nat_lt 58 count then indirect_block ∷ [] else []) ++ (if nat_lt 186 count then double_indirect_block ∷ map inner_block (range_with_len 0 (inner_blocks_for (count - 186))) else []) ≡ map data_block (range_with_len 0 count) ++ [] ++ []
 few count le =
     let a = leave_it 58 count (indirect_block ∷ []) [] le in
-    let b = leave_it 186 count (double_indirect_block ∷ map inner_block (range_with_len 0 (lists_of (count - 186)))) [] (omega arith) in
+    let b = leave_it 186 count (double_indirect_block ∷ map inner_block (range_with_len 0 (inner_blocks_for (count - 186)))) [] (omega arith) in
     λ i. map data_block (range_with_len 0 count) ++ a i ++ b i
 
-some : (count : ℕ) → 58 < count → count ≤ 186 → map data_block (range_with_len 0 count) ++ (if nat_lt 58 count then indirect_block ∷ [] else []) ++ (if nat_lt 186 count then double_indirect_block ∷ map inner_block (range_with_len 0 (lists_of (count - 186))) else []) ≡ map data_block (range_with_len 0 count) ++ (indirect_block ∷ []) ++ []
+pub some : (count : ℕ) → 58 < count → count ≤ 186 → map data_block (range_with_len 0 count) ++ (if nat_lt 58 count then indirect_block ∷ [] else []) ++ (if nat_lt 186 count then double_indirect_block ∷ map inner_block (range_with_len 0 (inner_blocks_for (count - 186))) else []) ≡ map data_block (range_with_len 0 count) ++ (indirect_block ∷ []) ++ []
 some count lt le =
     let a = take_it 58 count (indirect_block ∷ []) [] lt in
-    let b = leave_it 186 count (double_indirect_block ∷ map inner_block (range_with_len 0 (lists_of (count - 186)))) [] le in
+    let b = leave_it 186 count (double_indirect_block ∷ map inner_block (range_with_len 0 (inner_blocks_for (count - 186)))) [] le in
     λ i. map data_block (range_with_len 0 count) ++ a i ++ b i
 
-many : (count : ℕ) → 186 < count → map data_block (range_with_len 0 count) ++ (if nat_lt 58 count then indirect_block ∷ [] else []) ++ (if nat_lt 186 count then double_indirect_block ∷ map inner_block (range_with_len 0 (lists_of (count - 186))) else []) ≡ map data_block (range_with_len 0 count) ++ (indirect_block ∷ []) ++ (double_indirect_block ∷ map inner_block (range_with_len 0 (lists_of (count - 186))))
+pub many : (count : ℕ) → 186 < count → map data_block (range_with_len 0 count) ++ (if nat_lt 58 count then indirect_block ∷ [] else []) ++ (if nat_lt 186 count then double_indirect_block ∷ map inner_block (range_with_len 0 (inner_blocks_for (count - 186))) else []) ≡ map data_block (range_with_len 0 count) ++ (indirect_block ∷ []) ++ (double_indirect_block ∷ map inner_block (range_with_len 0 (inner_blocks_for (count - 186))))
 many count lt =
     let a = take_it 58 count (indirect_block ∷ []) [] (omega arith) in
-    let b = take_it 186 count (double_indirect_block ∷ map inner_block (range_with_len 0 (lists_of (count - 186)))) [] lt in
+    let b = take_it 186 count (double_indirect_block ∷ map inner_block (range_with_len 0 (inner_blocks_for (count - 186)))) [] lt in
     λ i. map data_block (range_with_len 0 count) ++ a i ++ b i
 
 pub length-positions_of : (size : ℕ) → length (positions_of size) ≡ need_of size
 length-positions_of size = by_count (blocks_for_size size)
   where
-    by_count : (count : ℕ) → length (map data_block (range_with_len 0 count) ++ (if nat_lt 58 count then indirect_block ∷ [] else []) ++ (if nat_lt 186 count then double_indirect_block ∷ map inner_block (range_with_len 0 (lists_of (count - 186))) else []))
-        ≡ (if nat_le count 58 then count else (if nat_le count 186 then count + 1 else count + 2 + lists_of (count - 186)))
+    by_count : (count : ℕ) → length (map data_block (range_with_len 0 count) ++ (if nat_lt 58 count then indirect_block ∷ [] else []) ++ (if nat_lt 186 count then double_indirect_block ∷ map inner_block (range_with_len 0 (inner_blocks_for (count - 186))) else []))
+        ≡ (if nat_le count 58 then count else (if nat_le count 186 then count + 1 else count + 2 + inner_blocks_for (count - 186)))
     by_count count = elim (cases_lt 58 count) [
       | inr le ↦ ap length (few count le) ∙ (omega (arith, length-append (map data_block (range_with_len 0 count) ++ []) [], length-append (map data_block (range_with_len 0 count)) [], long_parts count)) ∙ sym (first count _ le)
       | inl lt ↦ elim (cases_lt 186 count) [
         | inr le ↦ ap length (some count lt le) ∙ (omega (arith, length-append (map data_block (range_with_len 0 count) ++ indirect_block ∷ []) [], length-append (map data_block (range_with_len 0 count)) (indirect_block ∷ []), long_parts count)) ∙ sym (second count _ _ lt le)
         | inl more ↦ ap length (many count more)
-            ∙ (omega (arith, length-append (map data_block (range_with_len 0 count) ++ indirect_block ∷ []) (double_indirect_block ∷ map inner_block (range_with_len 0 (lists_of (count - 186)))), length-append (map data_block (range_with_len 0 count)) (indirect_block ∷ []), long_parts count, long_later (lists_of (count - 186))))
-            ∙ sym (third count (count + 2 + lists_of (count - 186)) more)
+            ∙ (omega (arith, length-append (map data_block (range_with_len 0 count) ++ indirect_block ∷ []) (double_indirect_block ∷ map inner_block (range_with_len 0 (inner_blocks_for (count - 186)))), length-append (map data_block (range_with_len 0 count)) (indirect_block ∷ []), long_parts count, long_later (inner_blocks_for (count - 186))))
+            ∙ sym (third count (count + 2 + inner_blocks_for (count - 186)) more)
       ]
     ]
       where
@@ -110,14 +110,14 @@ pub place_there : (size : ℕ) (p : BlockPosition) → first_served p < blocks_f
 place_there size (data_block j) lt = at_part (blocks_for_size size) j _ _ lt
 place_there size indirect_block lt =
     let count = blocks_for_size size in
-    let B = λ (l : List BlockPosition). Contains (map data_block (range_with_len 0 count) ++ l ++ (if nat_lt 186 count then double_indirect_block ∷ map inner_block (range_with_len 0 (lists_of (count - 186))) else [])) indirect_block in
+    let B = λ (l : List BlockPosition). Contains (map data_block (range_with_len 0 count) ++ l ++ (if nat_lt 186 count then double_indirect_block ∷ map inner_block (range_with_len 0 (inner_blocks_for (count - 186))) else [])) indirect_block in
     subst B (sym (take_it 58 count (indirect_block ∷ []) [] lt)) (at_list count _)
 place_there size double_indirect_block lt =
     let count = blocks_for_size size in
-    subst (λ (l : List BlockPosition). Contains l double_indirect_block) (sym (many count lt)) (at_last count 0 (double_indirect_block ∷ map inner_block (range_with_len 0 (lists_of (count - 186)))) double_indirect_block (omega arith) refl)
+    subst (λ (l : List BlockPosition). Contains l double_indirect_block) (sym (many count lt)) (at_last count 0 (double_indirect_block ∷ map inner_block (range_with_len 0 (inner_blocks_for (count - 186)))) double_indirect_block (omega arith) refl)
 place_there size (inner_block i) lt =
     let count = blocks_for_size size in
-    let n = lists_of (count - 186) in
+    let n = inner_blocks_for (count - 186) in
     let below : i < n = omega arith in
     subst (λ (l : List BlockPosition). Contains l (inner_block i)) (sym (many count (omega arith)))
     (at_last count (suc i) (double_indirect_block ∷ map inner_block (range_with_len 0 n)) (inner_block i) (omega (arith, long_later n)) (get_or-map-range_with_len inner_block 0 n i i (inner_block i) below (omega arith)))

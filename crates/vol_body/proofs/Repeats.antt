@@ -11,7 +11,7 @@ use Rattle.std.proofs.lemmas.Map.Steps.{length-le_from_distinct_below}
 use Rattle.vol_sector.specs.Disk.{Image}
 use Rattle.vol_alloc.specs.Numbers.{AreDistinct}
 use Rattle.vol_inode.specs.declared.entry.Entry.{Entry}
-use Rattle.vol_body.specs.Body.{BlockPosition, data_block, indirect_block, double_indirect_block, inner_block, named, IsBody}
+use Rattle.vol_body.specs.Body.{BlockPosition, data_block, indirect_block, double_indirect_block, inner_block, IsPosition, named, IsBody}
 use Rattle.vol_body.specs.Survey.{data_blocks_from, inner_positions, all_inner_positions, every_position, nonzero, sectors_named}
 use Rattle.vol_body.proofs.Surveys.{nonzero-append, one_number}
 use Rattle.vol_body.proofs.Surveyed.{every_is, was_there}
@@ -39,37 +39,43 @@ later_number : (j : ℕ) → 186 ≤ j → part_number j ≡ 189 + 129 * ((j - 1
 unfolding part_number
 later_number j le = grind (arith, nat_tests)
 
-Numbered : ℕ → List BlockPosition → Type 0
-Numbered a xs = (k : ℕ) → k < length xs → number_of (get_or xs k indirect_block) ≡ a + k
+-- the positions of a list have these numbers, one after another
+unfoldable pub Numbered : (BlockPosition → ℕ) → ℕ → List BlockPosition → Type 0
+Numbered number a xs = (k : ℕ) → k < length xs → number (get_or xs k indirect_block) ≡ a + k
 
-numbered_append : (a n : ℕ) (xs ys : List BlockPosition) → length xs ≡ n → Numbered a xs → Numbered (a + n) ys → Numbered a (xs ++ ys)
+pub numbered_append : (number : BlockPosition → ℕ) (a n : ℕ) (xs ys : List BlockPosition) → length xs ≡ n → Numbered number a xs → Numbered number (a + n) ys → Numbered number a (xs ++ ys)
 unfolding Numbered
-numbered_append a n xs ys long one two k lt = elim (cases_lt k (length xs)) [
-  | inl below ↦ ap number_of (get_or_append_left xs ys indirect_block k below) ∙ one k below
+numbered_append number a n xs ys long one two k lt = elim (cases_lt k (length xs)) [
+  | inl below ↦ ap number (get_or_append_left xs ys indirect_block k below) ∙ one k below
   | inr past ↦
       let there : k - length xs < length ys = omega (arith, lt, past, length-append xs ys) in
       let sums : a + n + (k - length xs) ≡ a + k = omega (arith, past, long) in
-      ap number_of (get_or-append_right xs ys (length xs) k indirect_block refl past) ∙ two (k - length xs) there ∙ sums
+      ap number (get_or-append_right xs ys (length xs) k indirect_block refl past) ∙ two (k - length xs) there ∙ sums
 ]
 
 long_parts : (first count : ℕ) → length (data_blocks_from first count) ≡ count
 unfolding data_blocks_from
 long_parts first count = length-map-range_with_len data_block first count
 
-numbered_parts : (a first count : ℕ) → ((i : ℕ) → i < count → part_number (first + i) ≡ a + i) → Numbered a (data_blocks_from first count)
-unfolding Numbered data_blocks_from number_of
-numbered_parts a first count are k lt =
-    let below : k < count = omega (arith, lt, length-map-range_with_len data_block first count) in
-    ap number_of (get_or-map-range_with_len data_block first count k (first + k) indirect_block below (omega arith)) ∙ are k below
-
-numbered_one : (p : BlockPosition) → Numbered (number_of p) (p ∷ [])
+-- positions that are made of the numbers from one on
+pub numbered_made : (number : BlockPosition → ℕ) (make : ℕ → BlockPosition) (a first count : ℕ) → ((i : ℕ) → i < count → number (make (first + i)) ≡ a + i) → Numbered number a (map make (range_with_len first count))
 unfolding Numbered
-numbered_one p zero lt = omega arith
-numbered_one p (suc k) lt = absurd (omega (arith, lt))
+numbered_made number make a first count are k lt =
+    let below : k < count = omega (arith, lt, length-map-range_with_len make first count) in
+    ap number (get_or-map-range_with_len make first count k (first + k) indirect_block below (omega arith)) ∙ are k below
 
-numbered_later : (i : ℕ) → Numbered (188 + 129 * i) (inner_positions i)
+numbered_parts : (a first count : ℕ) → ((i : ℕ) → i < count → part_number (first + i) ≡ a + i) → Numbered number_of a (data_blocks_from first count)
+unfolding data_blocks_from number_of
+numbered_parts a first count are = numbered_made number_of data_block a first count are
+
+pub numbered_one : (number : BlockPosition → ℕ) (a : ℕ) (p : BlockPosition) → number p ≡ a → Numbered number a (p ∷ [])
+unfolding Numbered
+numbered_one number a p is zero lt = omega (arith, is)
+numbered_one number a p is (suc k) lt = absurd (omega (arith, lt))
+
+numbered_later : (i : ℕ) → Numbered number_of (188 + 129 * i) (inner_positions i)
 unfolding number_of
-numbered_later i = numbered_append (188 + 129 * i) 1 (inner_block i ∷ []) (data_blocks_from (186 + 128 * i) 128) refl (numbered_one (inner_block i))
+numbered_later i = numbered_append number_of (188 + 129 * i) 1 (inner_block i ∷ []) (data_blocks_from (186 + 128 * i) 128) refl (numbered_one number_of (188 + 129 * i) (inner_block i) refl)
     (numbered_parts (188 + 129 * i + 1) (186 + 128 * i) 128 (λ k lt.
     let j = 186 + 128 * i + k in
     let is = later_number j (omega arith) in
@@ -80,23 +86,23 @@ numbered_later i = numbered_append (188 + 129 * i) 1 (inner_block i ∷ []) (dat
 long_later : (i : ℕ) → length (inner_positions i) ≡ 129
 long_later i = omega (arith, long_parts (186 + 128 * i) 128)
 
-numbered_flat : (b n : ℕ) → Numbered (188 + 129 * b) (flat_map inner_positions (range_with_len b n))
+numbered_flat : (b n : ℕ) → Numbered number_of (188 + 129 * b) (flat_map inner_positions (range_with_len b n))
 unfolding Numbered
 numbered_flat b zero k lt = absurd (omega (arith, lt))
 numbered_flat b (suc n) k lt =
     let next : 188 + 129 * (b + 1) ≡ 188 + 129 * b + 129 = omega arith in
-    numbered_append (188 + 129 * b) 129 (inner_positions b) (flat_map inner_positions (range_with_len (b + 1) n)) (long_later b) (numbered_later b)
-    (subst (λ (a : ℕ). Numbered a (flat_map inner_positions (range_with_len (b + 1) n))) next (numbered_flat (b + 1) n)) k lt
+    numbered_append number_of (188 + 129 * b) 129 (inner_positions b) (flat_map inner_positions (range_with_len (b + 1) n)) (long_later b) (numbered_later b)
+    (subst (λ (a : ℕ). Numbered number_of a (flat_map inner_positions (range_with_len (b + 1) n))) next (numbered_flat (b + 1) n)) k lt
 
-numbered_places : Numbered 0 every_position
+numbered_places : Numbered number_of 0 every_position
 unfolding all_inner_positions number_of
 numbered_places =
-    numbered_append 0 187 (data_blocks_from 0 58 ++ (indirect_block ∷ data_blocks_from 58 128)) (double_indirect_block ∷ all_inner_positions) (omega (arith, length-append (data_blocks_from 0 58) (indirect_block ∷ data_blocks_from 58 128), long_parts 0 58, long_parts 58 128))
-    (numbered_append 0 58 (data_blocks_from 0 58) (indirect_block ∷ data_blocks_from 58 128) (long_parts 0 58)
+    numbered_append number_of 0 187 (data_blocks_from 0 58 ++ (indirect_block ∷ data_blocks_from 58 128)) (double_indirect_block ∷ all_inner_positions) (omega (arith, length-append (data_blocks_from 0 58) (indirect_block ∷ data_blocks_from 58 128), long_parts 0 58, long_parts 58 128))
+    (numbered_append number_of 0 58 (data_blocks_from 0 58) (indirect_block ∷ data_blocks_from 58 128) (long_parts 0 58)
     (numbered_parts 0 0 58 (λ i lt. let is = direct_number (0 + i) (omega (arith, lt)) in omega (arith, is)))
-    (numbered_append 58 1 (indirect_block ∷ []) (data_blocks_from 58 128) refl (numbered_one indirect_block)
+    (numbered_append number_of 58 1 (indirect_block ∷ []) (data_blocks_from 58 128) refl (numbered_one number_of 58 indirect_block refl)
     (numbered_parts 59 58 128 (λ i lt. let is = listed_number (58 + i) (omega arith) (omega (arith, lt)) in omega (arith, is)))))
-    (numbered_append 187 1 (double_indirect_block ∷ []) all_inner_positions refl (numbered_one double_indirect_block) (numbered_flat 0 128))
+    (numbered_append number_of 187 1 (double_indirect_block ∷ []) all_inner_positions refl (numbered_one number_of 187 double_indirect_block refl) (numbered_flat 0 128))
 
 -- ---- numbers without the zeros
 
@@ -120,20 +126,24 @@ distinct_nonzero (x ∷ xs) differ j k lt below =
     ] in
     all j k lt below
 
-pub names_none_twice : (content : Image) (e : Entry) → IsBody content e → AreDistinct (sectors_named content e)
+-- a list that has no position twice has no sector twice
+pub names_distinct : (number : BlockPosition → ℕ) (ps : List BlockPosition) → Numbered number 0 ps → ((p : BlockPosition) → Contains ps p → IsPosition p) → (content : Image) (e : Entry) → IsBody content e → AreDistinct (nonzero (map (named content e) ps))
 unfolding Numbered
-names_none_twice content e body = distinct_nonzero (map (named content e) every_position) (λ j k lt below some same.
+names_distinct number ps numbers are content e body = distinct_nonzero (map (named content e) ps) (λ j k lt below some same.
     let g = named content e in
-    let long = length-map every_position g in
-    let k_in : k < length every_position = omega (arith, below, long) in
-    let j_in : j < length every_position = omega (arith, lt, k_in) in
-    let p = get_or every_position j indirect_block in
-    let q = get_or every_position k indirect_block in
-    let at_j : get_or (map g every_position) j 0 ≡ g p = get_or-map g every_position j indirect_block 0 j_in in
-    let at_k : get_or (map g every_position) k 0 ≡ g q = get_or-map g every_position k indirect_block 0 k_in in
-    let one : p ≡ q = body.distinct p q (every_is p (Contains-get_or every_position j indirect_block j_in)) (every_is q (Contains-get_or every_position k indirect_block k_in)) (λ none. some (at_j ∙ none)) (sym at_j ∙ same ∙ at_k) in
-    let numbers : 0 + j ≡ 0 + k = sym (numbered_places j j_in) ∙ ap number_of one ∙ numbered_places k k_in in
-    omega (arith, lt, numbers))
+    let long = length-map ps g in
+    let k_in : k < length ps = omega (arith, below, long) in
+    let j_in : j < length ps = omega (arith, lt, k_in) in
+    let p = get_or ps j indirect_block in
+    let q = get_or ps k indirect_block in
+    let at_j : get_or (map g ps) j 0 ≡ g p = get_or-map g ps j indirect_block 0 j_in in
+    let at_k : get_or (map g ps) k 0 ≡ g q = get_or-map g ps k indirect_block 0 k_in in
+    let one : p ≡ q = body.distinct p q (are p (Contains-get_or ps j indirect_block j_in)) (are q (Contains-get_or ps k indirect_block k_in)) (λ none. some (at_j ∙ none)) (sym at_j ∙ same ∙ at_k) in
+    let both : 0 + j ≡ 0 + k = sym (numbers j j_in) ∙ ap number one ∙ numbers k k_in in
+    omega (arith, lt, both))
+
+pub names_none_twice : (content : Image) (e : Entry) → IsBody content e → AreDistinct (sectors_named content e)
+names_none_twice = names_distinct number_of every_position numbered_places every_is
 
 -- ---- distinct numbers of a range are no more than it has
 

@@ -8,7 +8,7 @@ use Rattle.vol_inode.specs.declared.entry.Entry.{Entry}
 use Rattle.vol_inode.specs.declared.entry.Kind.TheVariants.{Directory, File}
 use Rattle.vol_inode.specs.declared.version.Version.{Version}
 use Rattle.vol_inode.specs.declared.version.Version.TheVariants.{One, Two}
-use Rattle.vol_inode.specs.Entry.{IsEntry, HasWidths, first_part}
+use Rattle.vol_inode.specs.Entry.{IsEntry, HasWidths, first_block_of_pointer}
 use Rattle.vol_inode.specs.Space.{size_limit, blocks_for_size}
 use Rattle.vol_body.specs.Body.{data_block, indirect_block, double_indirect_block, IsBody}
 use Rattle.vol_body.proofs.Places.{part_direct}
@@ -18,17 +18,17 @@ small_limit : (version : Version) → size_limit version ≤ LARGEST_SIZE
 small_limit One = omega arith
 small_limit Two = omega arith
 
-first_direct : (k : ℕ) → k < 59 → first_part k ≡ k
+first_direct : (k : ℕ) → k < 59 → first_block_of_pointer k ≡ k
 first_direct k lt = grind (arith, nat_tests)
 
 -- a pointer past the size is zero
-pointer_past : (content : Image) (e : Entry) → IsBody content e → (k : ℕ) → k < 60 → blocks_for_size e.size ≤ first_part k → get_or e.pointers k 0 ≡ 0
+pointer_past : (content : Image) (e : Entry) → IsBody content e → (k : ℕ) → k < 60 → blocks_for_size e.size ≤ first_block_of_pointer k → get_or e.pointers k 0 ≡ 0
 pointer_past content e body k lt le = elim (cases_lt k 58) [
   | inl direct ↦ sym (part_direct content e k direct) ∙ body.past (data_block k) (omega arith) (omega (arith, first_direct k (omega arith)))
   | inr past ↦ elim (cases_eq k 58) [
-    | inl is ↦ ap (λ (j : ℕ). get_or e.pointers j 0) is ∙ body.past indirect_block tt (let one : first_part k ≡ 58 = ap first_part is in omega arith)
+    | inl is ↦ ap (λ (j : ℕ). get_or e.pointers j 0) is ∙ body.past indirect_block tt (let one : first_block_of_pointer k ≡ 58 = ap first_block_of_pointer is in omega arith)
     | inr other ↦ let last : k ≡ 59 = omega arith in
-        ap (λ (j : ℕ). get_or e.pointers j 0) last ∙ body.past double_indirect_block tt (let one : first_part k ≡ 186 = ap first_part last in omega arith)
+        ap (λ (j : ℕ). get_or e.pointers j 0) last ∙ body.past double_indirect_block tt (let one : first_block_of_pointer k ≡ 186 = ap first_block_of_pointer last in omega arith)
   ]
 ]
 
@@ -38,8 +38,8 @@ not_both e file directory = let same : File ≡ Directory = sym file ∙ directo
 pub right_file : (version : Version) (content : Image) (e changed : Entry) (size : ℕ) → IsEntry version e → (e.kind ≡ Directory → size ≡ 0) → size ≤ size_limit version
     → changed ≡ record e { size = size; pointers = changed.pointers } → HasWidths changed → IsBody content changed → IsEntry version changed
 right_file version content e changed size right none small is widths body =
-    let pasts : (k : ℕ) → k < 60 → blocks_for_size size ≤ first_part k → get_or changed.pointers k 0 ≡ 0 = λ k lt le.
-    pointer_past content changed body k lt (subst (λ (x : Entry). blocks_for_size x.size ≤ first_part k) (sym is) le) in
+    let pasts : (k : ℕ) → k < 60 → blocks_for_size size ≤ first_block_of_pointer k → get_or changed.pointers k 0 ≡ 0 = λ k lt le.
+    pointer_past content changed body k lt (subst (λ (x : Entry). blocks_for_size x.size ≤ first_block_of_pointer k) (sym is) le) in
     subst (IsEntry version) (sym is) (record {
       widths = record {
         parent = right.widths.parent;
@@ -57,6 +57,10 @@ right_file version content e changed size right none small is widths body =
     })
 
 -- facts on one success
+pub one : (r : Result (Unit {0}) DeviceFault) (P Q : Type 0) → (P → Q) → OnOk r P → OnOk r Q
+one (Ok x) P Q f p = f p
+one (Err x) P Q f p = tt
+
 pub both : (r : Result (Unit {0}) DeviceFault) (P Q S : Type 0) → (P → Q → S) → OnOk r P → OnOk r Q → OnOk r S
 both (Ok x) P Q S f p q = f p q
 both (Err x) P Q S f p q = tt

@@ -6,26 +6,27 @@ use Rattle.std.proofs.lemmas.List.{ext_get_or, length-append, length-take-le, ge
 use Rattle.vol_sector.specs.Disk.{Image, put}
 use Rattle.vol_inode.specs.declared.entry.Entry.{Entry}
 use Rattle.vol_inode.specs.Space.{blocks_for_size}
-use Rattle.vol_body.specs.declared.cutting.Cut.{Cut}
-use Rattle.vol_body.specs.declared.cutting.Cuts.{Cuts}
+use Rattle.vol_body.specs.declared.truncation.Cut.{Cut}
+use Rattle.vol_body.specs.declared.truncation.Truncation.{Truncation}
 use Rattle.vol_body.specs.Body.{BlockPosition, data_block, indirect_block, double_indirect_block, inner_block, IsPosition, first_served, named, bytes_of, IsBody, NamesTaken}
 use Rattle.vol_body.specs.Bytes.{resized_bytes}
 use Rattle.vol_body.specs.Change.{OthersStay, TakesAndGives}
-use Rattle.vol_body.specs.internal.Shorter.{kept_bytes, first_of_pointer, last_data_block, cut_indirect_block, last_inner_block, cut, IsCut, AreCuts, AreWithin, with_cut, with_cuts, Gives, Goes}
+use Rattle.vol_body.specs.internal.Truncated.{kept_bytes, last_data_block, cut_indirect_block, last_inner_block, cut, IsCut, IsTruncation, AreWithin, with_cut, with_truncation, Gives, Goes}
+use Rattle.vol_inode.specs.Entry.{first_block_of_pointer}
 use Rattle.vol_body.proofs.Parts.{length-bytes_of, get_or-bytes_of}
-use Rattle.vol_body.proofs.Cuts.{put_past, cut_elsewhere, cut_there}
-use Rattle.vol_body.proofs.Shorter.{IsShorter, keeps, loses, kept_byte_at, lost_byte_at}
+use Rattle.vol_body.proofs.CutSectors.{put_past, cut_elsewhere, cut_there}
+use Rattle.vol_body.proofs.Truncated.{IsTruncated, keeps, loses, kept_byte_at, lost_byte_at}
 use Rattle.vol_inode.specs.declared.version.TheConstants.{LARGEST_SIZE}
 
 -- how a file is made shorter
-pub record Shrinks (size place first end : ℕ) (content : Image) (e changed : Entry) (cuts : Cuts) (was now : ℕ → Bool) : Type 0 where
+pub record Shrinks (size place first end : ℕ) (content : Image) (e changed : Entry) (truncation : Truncation) (was now : ℕ → Bool) : Type 0 where
   pub body : IsBody content e
   pub names : NamesTaken was content e
-  pub are_cut : AreCuts content e size cuts
-  pub within : AreWithin first end cuts
+  pub are_cut : IsTruncation content e size truncation
+  pub within : AreWithin first end truncation
   pub gives : Gives was now (Goes content e (blocks_for_size size))
   pub new_size : changed.size ≡ size
-  pub pointers : (j : ℕ) → j < 60 → get_or changed.pointers j 0 ≡ (if nat_lt (first_of_pointer j) (blocks_for_size size) then get_or e.pointers j 0 else 0)
+  pub pointers : (j : ℕ) → j < 60 → get_or changed.pointers j 0 ≡ (if nat_lt (first_block_of_pointer j) (blocks_for_size size) then get_or e.pointers j 0 else 0)
   pub shorter : size < e.size
   pub small : e.size ≤ LARGEST_SIZE
   pub slot : (n : ℕ) → was n ≡ true → n ≢ place
@@ -66,9 +67,9 @@ out_of_range : (first end n : ℕ) → (n < first) ⊎ (end ≤ n) → (k : ℕ)
 out_of_range first end n (inl before) k within is = omega (arith, before, within.0, is)
 out_of_range first end n (inr past) k within is = omega (arith, past, within.1, is)
 
-module _ (size place first end : ℕ) (content : Image) (e changed : Entry) (cuts : Cuts) (was now : ℕ → Bool) (s : Shrinks size place first end content e changed cuts was now) (bytes : List ℕ) where
+module _ (size place first end : ℕ) (content : Image) (e changed : Entry) (truncation : Truncation) (was now : ℕ → Bool) (s : Shrinks size place first end content e changed truncation was now) (bytes : List ℕ) where
   abbrev pub after : Image
-  after = put place bytes (with_cuts cuts content)
+  after = put place bytes (with_truncation truncation content)
 
   part_there : IsPosition (last_data_block size)
   part_there = omega (arith, s.shorter, s.small)
@@ -80,14 +81,14 @@ module _ (size place first end : ℕ) (content : Image) (e changed : Entry) (cut
   apart : (p q : BlockPosition) (kept : ℕ) (c : Cut) → IsPosition p → IsPosition q → (p ≡ q → ⊥) → named content e p ≢ 0 → IsCut content (named content e q) kept c → c.sector ≢ 0 → c.sector ≢ named content e p
   apart p q kept c a b other some is set same = other (s.body.distinct p q a b some (sym same ∙ is.sector set))
 
-  untouched : (n : ℕ) → (cuts.data_block.sector ≢ 0 → cuts.data_block.sector ≢ n) → (cuts.indirect_block.sector ≢ 0 → cuts.indirect_block.sector ≢ n) → (cuts.last.sector ≢ 0 → cuts.last.sector ≢ n) → with_cuts cuts content n ≡ content n
+  untouched : (n : ℕ) → (truncation.data_block.sector ≢ 0 → truncation.data_block.sector ≢ n) → (truncation.indirect_block.sector ≢ 0 → truncation.indirect_block.sector ≢ n) → (truncation.last.sector ≢ 0 → truncation.last.sector ≢ n) → with_truncation truncation content n ≡ content n
   untouched n a b c =
-      cut_elsewhere cuts.last (with_cut cuts.indirect_block (with_cut cuts.data_block content)) n c ∙ cut_elsewhere cuts.indirect_block (with_cut cuts.data_block content) n b ∙ cut_elsewhere cuts.data_block content n a
+      cut_elsewhere truncation.last (with_cut truncation.indirect_block (with_cut truncation.data_block content)) n c ∙ cut_elsewhere truncation.indirect_block (with_cut truncation.data_block content) n b ∙ cut_elsewhere truncation.data_block content n a
 
-  elsewhere : (n : ℕ) → n ≢ place → after n ≡ with_cuts cuts content n
-  elsewhere n other = put_past place n bytes (with_cuts cuts content) other
+  elsewhere : (n : ℕ) → n ≢ place → after n ≡ with_truncation truncation content n
+  elsewhere n other = put_past place n bytes (with_truncation truncation content) other
 
-  named_elsewhere : (p : BlockPosition) → IsPosition p → named content e p ≢ 0 → after (named content e p) ≡ with_cuts cuts content (named content e p)
+  named_elsewhere : (p : BlockPosition) → IsPosition p → named content e p ≢ 0 → after (named content e p) ≡ with_truncation truncation content (named content e p)
   named_elsewhere p there some = elsewhere (named content e p) (s.slot (named content e p) (s.names p there some))
 
   whole_stays : (p : BlockPosition) → IsPosition p → named content e p ≢ 0 → kept_bytes size p ≡ 512 → after (named content e p) ≡ content (named content e p)
@@ -96,48 +97,48 @@ module _ (size place first end : ℕ) (content : Image) (e changed : Entry) (cut
       let kept : kept_bytes size p ≡ kept_bytes size q = ap (kept_bytes size) same in omega (arith, is.short set, kept, whole) in
       named_elsewhere p there some
       ∙ untouched (named content e p)
-      (λ set. apart p (last_data_block size) (kept_bytes size (last_data_block size)) cuts.data_block there part_there (long (last_data_block size) cuts.data_block s.are_cut.data_block set) some s.are_cut.data_block set)
-      (λ set. apart p (cut_indirect_block size) (kept_bytes size (cut_indirect_block size)) cuts.indirect_block there (list_there (nat_lt 186 (blocks_for_size size))) (long (cut_indirect_block size) cuts.indirect_block s.are_cut.indirect_block set) some s.are_cut.indirect_block set)
-      (λ set. apart p (last_inner_block size) (kept_bytes size (last_inner_block size)) cuts.last there last_there (long (last_inner_block size) cuts.last s.are_cut.last set) some s.are_cut.last set)
+      (λ set. apart p (last_data_block size) (kept_bytes size (last_data_block size)) truncation.data_block there part_there (long (last_data_block size) truncation.data_block s.are_cut.data_block set) some s.are_cut.data_block set)
+      (λ set. apart p (cut_indirect_block size) (kept_bytes size (cut_indirect_block size)) truncation.indirect_block there (list_there (nat_lt 186 (blocks_for_size size))) (long (cut_indirect_block size) truncation.indirect_block s.are_cut.indirect_block set) some s.are_cut.indirect_block set)
+      (λ set. apart p (last_inner_block size) (kept_bytes size (last_inner_block size)) truncation.last there last_there (long (last_inner_block size) truncation.last s.are_cut.last set) some s.are_cut.last set)
 
   -- each of the three sectors is cut
   abbrev IsCutAt : BlockPosition → Type 0
-  IsCutAt p = named content e p ≢ 0 → 0 < kept_bytes size p → kept_bytes size p < 512 → with_cuts cuts content (named content e p) ≡ cut (kept_bytes size p) (content (named content e p))
+  IsCutAt p = named content e p ≢ 0 → 0 < kept_bytes size p → kept_bytes size p < 512 → with_truncation truncation content (named content e p) ≡ cut (kept_bytes size p) (content (named content e p))
 
   cuts_part : IsCutAt (last_data_block size)
   cuts_part some kept short =
       let p = last_data_block size in
       let n = named content e p in
-      let two = λ (set : cuts.indirect_block.sector ≢ 0). apart p (cut_indirect_block size) (kept_bytes size (cut_indirect_block size)) cuts.indirect_block part_there (list_there (nat_lt 186 (blocks_for_size size))) (part_no_list (nat_lt 186 (blocks_for_size size)) (blocks_for_size size - 1)) some s.are_cut.indirect_block set in
-      let three = λ (set : cuts.last.sector ≢ 0). apart p (last_inner_block size) (kept_bytes size (last_inner_block size)) cuts.last part_there last_there (part_no_later ((blocks_for_size size - 187) / 128) (blocks_for_size size - 1)) some s.are_cut.last set in
-      cut_elsewhere cuts.last (with_cut cuts.indirect_block (with_cut cuts.data_block content)) n three
-      ∙ cut_elsewhere cuts.indirect_block (with_cut cuts.data_block content) n two
-      ∙ cut_there content n (kept_bytes size p) cuts.data_block content s.are_cut.data_block some kept short refl
+      let two = λ (set : truncation.indirect_block.sector ≢ 0). apart p (cut_indirect_block size) (kept_bytes size (cut_indirect_block size)) truncation.indirect_block part_there (list_there (nat_lt 186 (blocks_for_size size))) (part_no_list (nat_lt 186 (blocks_for_size size)) (blocks_for_size size - 1)) some s.are_cut.indirect_block set in
+      let three = λ (set : truncation.last.sector ≢ 0). apart p (last_inner_block size) (kept_bytes size (last_inner_block size)) truncation.last part_there last_there (part_no_later ((blocks_for_size size - 187) / 128) (blocks_for_size size - 1)) some s.are_cut.last set in
+      cut_elsewhere truncation.last (with_cut truncation.indirect_block (with_cut truncation.data_block content)) n three
+      ∙ cut_elsewhere truncation.indirect_block (with_cut truncation.data_block content) n two
+      ∙ cut_there content n (kept_bytes size p) truncation.data_block content s.are_cut.data_block some kept short refl
 
   cuts_list : IsCutAt (cut_indirect_block size)
   cuts_list some kept short =
       let p = cut_indirect_block size in
       let n = named content e p in
       let there = list_there (nat_lt 186 (blocks_for_size size)) in
-      let one = λ (set : cuts.data_block.sector ≢ 0). apart p (last_data_block size) (kept_bytes size (last_data_block size)) cuts.data_block there part_there (λ is. part_no_list (nat_lt 186 (blocks_for_size size)) (blocks_for_size size - 1) (sym is)) some s.are_cut.data_block set in
-      let three = λ (set : cuts.last.sector ≢ 0). apart p (last_inner_block size) (kept_bytes size (last_inner_block size)) cuts.last there last_there (λ is. later_no_list (nat_lt 186 (blocks_for_size size)) ((blocks_for_size size - 187) / 128) (sym is)) some s.are_cut.last set in
-      cut_elsewhere cuts.last (with_cut cuts.indirect_block (with_cut cuts.data_block content)) n three
-      ∙ cut_there content n (kept_bytes size p) cuts.indirect_block (with_cut cuts.data_block content) s.are_cut.indirect_block some kept short (cut_elsewhere cuts.data_block content n one)
+      let one = λ (set : truncation.data_block.sector ≢ 0). apart p (last_data_block size) (kept_bytes size (last_data_block size)) truncation.data_block there part_there (λ is. part_no_list (nat_lt 186 (blocks_for_size size)) (blocks_for_size size - 1) (sym is)) some s.are_cut.data_block set in
+      let three = λ (set : truncation.last.sector ≢ 0). apart p (last_inner_block size) (kept_bytes size (last_inner_block size)) truncation.last there last_there (λ is. later_no_list (nat_lt 186 (blocks_for_size size)) ((blocks_for_size size - 187) / 128) (sym is)) some s.are_cut.last set in
+      cut_elsewhere truncation.last (with_cut truncation.indirect_block (with_cut truncation.data_block content)) n three
+      ∙ cut_there content n (kept_bytes size p) truncation.indirect_block (with_cut truncation.data_block content) s.are_cut.indirect_block some kept short (cut_elsewhere truncation.data_block content n one)
 
   cuts_last : IsCutAt (last_inner_block size)
   cuts_last some kept short =
       let p = last_inner_block size in
       let n = named content e p in
-      let one = λ (set : cuts.data_block.sector ≢ 0). apart p (last_data_block size) (kept_bytes size (last_data_block size)) cuts.data_block last_there part_there (λ is. part_no_later ((blocks_for_size size - 187) / 128) (blocks_for_size size - 1) (sym is)) some s.are_cut.data_block set in
-      let two = λ (set : cuts.indirect_block.sector ≢ 0). apart p (cut_indirect_block size) (kept_bytes size (cut_indirect_block size)) cuts.indirect_block last_there (list_there (nat_lt 186 (blocks_for_size size))) (later_no_list (nat_lt 186 (blocks_for_size size)) ((blocks_for_size size - 187) / 128)) some s.are_cut.indirect_block set in
-      cut_there content n (kept_bytes size p) cuts.last (with_cut cuts.indirect_block (with_cut cuts.data_block content)) s.are_cut.last some kept short (cut_elsewhere cuts.indirect_block (with_cut cuts.data_block content) n two ∙ cut_elsewhere cuts.data_block content n one)
+      let one = λ (set : truncation.data_block.sector ≢ 0). apart p (last_data_block size) (kept_bytes size (last_data_block size)) truncation.data_block last_there part_there (λ is. part_no_later ((blocks_for_size size - 187) / 128) (blocks_for_size size - 1) (sym is)) some s.are_cut.data_block set in
+      let two = λ (set : truncation.indirect_block.sector ≢ 0). apart p (cut_indirect_block size) (kept_bytes size (cut_indirect_block size)) truncation.indirect_block last_there (list_there (nat_lt 186 (blocks_for_size size))) (later_no_list (nat_lt 186 (blocks_for_size size)) ((blocks_for_size size - 187) / 128)) some s.are_cut.indirect_block set in
+      cut_there content n (kept_bytes size p) truncation.last (with_cut truncation.indirect_block (with_cut truncation.data_block content)) s.are_cut.last some kept short (cut_elsewhere truncation.indirect_block (with_cut truncation.data_block content) n two ∙ cut_elsewhere truncation.data_block content n one)
 
   cuts_place : (p : BlockPosition) → IsCutAt p
   cuts_place p some kept short = ⊎_elim (λ is. subst IsCutAt (sym is) cuts_part some kept short)
       (λ either. ⊎_elim (λ is. subst IsCutAt (sym is) cuts_list some kept short) (λ is. subst IsCutAt (sym is) cuts_last some kept short) either)
       (one_of_three size p kept short)
 
-  shorter : IsShorter size content after e changed
+  shorter : IsTruncated size content after e changed
   shorter = record {
     pointers = s.pointers;
     whole = whole_stays;
@@ -148,7 +149,7 @@ module _ (size place first end : ℕ) (content : Image) (e changed : Entry) (cut
   shrunk_others = record {
     outside = λ n other out.
         let out_of = out_of_range first end n out in
-        elsewhere n other ∙ untouched n (λ set. out_of cuts.data_block.sector (s.within.data_block set)) (λ set. out_of cuts.indirect_block.sector (s.within.indirect_block set)) (λ set. out_of cuts.last.sector (s.within.last set));
+        elsewhere n other ∙ untouched n (λ set. out_of truncation.data_block.sector (s.within.data_block set)) (λ set. out_of truncation.indirect_block.sector (s.within.indirect_block set)) (λ set. out_of truncation.last.sector (s.within.last set));
     taken = λ n other is_taken foreign. elsewhere n other ∙ untouched n
         (λ set is. foreign (last_data_block size) part_there (sym (s.are_cut.data_block.sector set) ∙ is))
         (λ set is. foreign (cut_indirect_block size) (list_there (nat_lt 186 (blocks_for_size size))) (sym (s.are_cut.indirect_block.sector set) ∙ is))

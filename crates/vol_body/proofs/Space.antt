@@ -9,7 +9,7 @@ use Rattle.std.proofs.lemmas.List.Sums.{sum_by-cons, sum_by-append, sum_by-take-
 use Rattle.std.proofs.lemmas.List.FromFn.{take-map-range_with_len, length-range_with_len, get_or-range_with_len}
 use Rattle.vol_sector.specs.Disk.{Image}
 use Rattle.vol_inode.specs.declared.entry.Entry.{Entry}
-use Rattle.vol_inode.specs.Space.{blocks_for_size, lists_of, need_of}
+use Rattle.vol_inode.specs.Space.{blocks_for_size, inner_blocks_for, need_of}
 use Rattle.vol_body.specs.Body.{BlockPosition, data_block, indirect_block, double_indirect_block, inner_block, IsPosition, first_served, named, positions_of}
 use Rattle.vol_body.specs.Change.{used_of}
 use Rattle.vol_body.specs.internal.Naming.{NamesOneMore}
@@ -57,7 +57,7 @@ range_below count bound le = All-from_get_or (λ (j : ℕ). j < bound) (range_wi
 pub are_places : (size : ℕ) → size ≤ LARGEST_SIZE → All IsPosition (positions_of size)
 are_places size small =
     let count = blocks_for_size size in
-    let n = lists_of (count - 186) in
+    let n = inner_blocks_for (count - 186) in
     let parts : All IsPosition (map data_block (range_with_len 0 count)) = All-map IsPosition data_block (range_with_len 0 count) (range_below count 16570 (omega arith)) in
     let later : All IsPosition (map inner_block (range_with_len 0 n)) = All-map IsPosition inner_block (range_with_len 0 n) (range_below n 128 (omega arith)) in
     let first : All IsPosition (if nat_lt 58 count then indirect_block ∷ [] else []) = either (nat_lt 58 count) (indirect_block ∷ []) (All-cons IsPosition indirect_block [] tt (All-nil IsPosition)) in
@@ -116,16 +116,16 @@ count_append : {X : Type 0} (f : X → Bool) (xs ys : List X) → count_by f (xs
 count_append f xs ys = sum_by-append (λ x. cond (f x) 1 0) xs ys
 
 pub count_grown : (f : BlockPosition → Bool) (a b : ℕ) → a ≤ b
-    → count_by f (map data_block (range_with_len 0 a) ++ (if nat_lt 58 a then indirect_block ∷ [] else []) ++ (if nat_lt 186 a then double_indirect_block ∷ map inner_block (range_with_len 0 (lists_of (a - 186))) else []))
-    ≤ count_by f (map data_block (range_with_len 0 b) ++ (if nat_lt 58 b then indirect_block ∷ [] else []) ++ (if nat_lt 186 b then double_indirect_block ∷ map inner_block (range_with_len 0 (lists_of (b - 186))) else []))
+    → count_by f (map data_block (range_with_len 0 a) ++ (if nat_lt 58 a then indirect_block ∷ [] else []) ++ (if nat_lt 186 a then double_indirect_block ∷ map inner_block (range_with_len 0 (inner_blocks_for (a - 186))) else []))
+    ≤ count_by f (map data_block (range_with_len 0 b) ++ (if nat_lt 58 b then indirect_block ∷ [] else []) ++ (if nat_lt 186 b then double_indirect_block ∷ map inner_block (range_with_len 0 (inner_blocks_for (b - 186))) else []))
 count_grown f a b le =
     let parts = λ (c : ℕ). map data_block (range_with_len 0 c) in
     let first = λ (c : ℕ). if nat_lt 58 c then indirect_block ∷ [] else [] in
-    let later = λ (c : ℕ). double_indirect_block ∷ map inner_block (range_with_len 0 (lists_of (c - 186))) in
+    let later = λ (c : ℕ). double_indirect_block ∷ map inner_block (range_with_len 0 (inner_blocks_for (c - 186))) in
     let second = λ (c : ℕ). if nat_lt 186 c then later c else [] in
     let in_parts = count_part f data_block a b le in
     let in_first : count_by f (first a) ≤ count_by f (first b) = either f 58 a b (indirect_block ∷ []) (indirect_block ∷ []) le (omega arith) in
-    let in_later : count_by f (later a) ≤ count_by f (later b) = omega (arith, count_cons f double_indirect_block (map inner_block (range_with_len 0 (lists_of (a - 186)))), count_cons f double_indirect_block (map inner_block (range_with_len 0 (lists_of (b - 186)))), count_part f inner_block (lists_of (a - 186)) (lists_of (b - 186)) (omega arith)) in
+    let in_later : count_by f (later a) ≤ count_by f (later b) = omega (arith, count_cons f double_indirect_block (map inner_block (range_with_len 0 (inner_blocks_for (a - 186)))), count_cons f double_indirect_block (map inner_block (range_with_len 0 (inner_blocks_for (b - 186)))), count_part f inner_block (inner_blocks_for (a - 186)) (inner_blocks_for (b - 186)) (omega arith)) in
     let in_second : count_by f (second a) ≤ count_by f (second b) = either f 186 a b (later a) (later b) le in_later in
     omega (arith, in_parts, in_first, in_second, count_append f (parts a ++ first a) (second a), count_append f (parts a) (first a), count_append f (parts b ++ first b) (second b), count_append f (parts b) (first b))
   where

@@ -59,14 +59,14 @@ in_every indirect_block there = Contains-append_left first_two (double_indirect_
 in_every double_indirect_block there = Contains-append_right first_two (double_indirect_block ∷ all_inner_positions) double_indirect_block (0, omega arith, refl)
 in_every (inner_block i) there = Contains-append_right first_two (double_indirect_block ∷ all_inner_positions) (inner_block i) (Contains-append_right (double_indirect_block ∷ []) all_inner_positions (inner_block i) (in_later i (inner_block i) there (0, omega arith, refl)))
 
-in_map : (g : BlockPosition → ℕ) (xs : List BlockPosition) (p : BlockPosition) → Contains xs p → Contains (map g xs) (g p)
+pub in_map : (g : BlockPosition → ℕ) (xs : List BlockPosition) (p : BlockPosition) → Contains xs p → Contains (map g xs) (g p)
 in_map g xs p has = (has.0, omega (arith, has.1, length-map xs g), get_or-map g xs has.0 p (g p) has.1 ∙ ap g has.2)
 
 only : (x n k : ℕ) → k < 1 → get_or (x ∷ []) k n ≡ n → x ≡ n
 only x n zero lt is = is
 only x n (suc k) lt is = absurd (omega (arith, lt))
 
-in_nonzero : (xs : List ℕ) (n : ℕ) → n ≢ 0 → Contains xs n → Contains (nonzero xs) n
+pub in_nonzero : (xs : List ℕ) (n : ℕ) → n ≢ 0 → Contains xs n → Contains (nonzero xs) n
 in_nonzero [] n some has = absurd (omega (arith, has.1))
 in_nonzero (x ∷ xs) n some has = subst (λ (l : List ℕ). Contains l n) (sym (nonzero-append (x ∷ []) xs)) (elim (Contains-append_cases (x ∷ []) xs n has) [
   | inl one ↦

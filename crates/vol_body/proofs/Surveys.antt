@@ -11,7 +11,7 @@ use Rattle.vol_sector.specs.Disk.{Image}
 use Rattle.vol_sector.specs.declared.fault.VolumeFault.{VolumeFault}
 use Rattle.vol_body.specs.Body.{number_in}
 use Rattle.vol_body.specs.Survey.{nonzero, AreInside}
-use Rattle.vol_inode.specs.Space.{lists_of}
+use Rattle.vol_inode.specs.Space.{inner_blocks_for}
 use Rattle.vol_body.specs.internal.Surveying.{listed, with_listed, all_listed, Pushes, Overflows, ListsNoneFrom, LaterNone}
 use Rattle.vol_body.proofs.Places.{number_there}
 
@@ -147,6 +147,6 @@ lists_none content n from none i le lt = ap (λ (m : ℕ). number_in content m i
 
 pub later_list_none : (content : Image) (n count : ℕ) → n ≡ 0 → LaterNone content n count
 later_list_none content n count none = record {
-  own = lists_none content n (lists_of (count - 186)) none;
+  own = lists_none content n (inner_blocks_for (count - 186)) none;
   later = λ i lt. lists_none content (get_or (listed content n) i 0) (count - (186 + 128 * i)) (number_listed content n i lt ∙ ap (λ (m : ℕ). number_in content m i) none);
 }

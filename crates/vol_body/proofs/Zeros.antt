@@ -3,7 +3,7 @@ use Rattle.std.proofs.Common.{◌≡◌, inl, inr, ◌≤◌, ◌<◌, ◌+◌, 
 use Rattle.std.proofs.lemmas.Bool.{cases_lt}
 use Rattle.std.proofs.lemmas.List.{length-replicate, get_or_append_left, get_or-append_right, get_or-take, get_or-drop, get_or-replicate, get_or_past, length-take}
 use Rattle.byteorder.specs.Endian.{little_from, little_number}
-use Rattle.vol_body.specs.internal.Shorter.{cut}
+use Rattle.vol_body.specs.internal.Truncated.{cut}
 
 pub get_or-zeros : (n i : ℕ) → get_or {A = ℕ} (replicate n 0) i 0 ≡ 0
 get_or-zeros n i = elim (cases_lt i n) [

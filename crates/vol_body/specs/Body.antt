@@ -4,7 +4,7 @@ use Rattle.std.specs.List.{range_with_len}
 use Rattle.byteorder.specs.Endian.{little_number}
 use Rattle.vol_sector.specs.Disk.{Image}
 use Rattle.vol_inode.specs.declared.entry.Entry.{Entry}
-use Rattle.vol_inode.specs.Space.{blocks_for_size, lists_of}
+use Rattle.vol_inode.specs.Space.{blocks_for_size, inner_blocks_for}
 use Rattle.vol_inode.specs.declared.version.TheConstants.{LARGEST_SIZE}
 
 -- Where a file names a sector: for the j-th data block, 512 of its bytes; for the indirect block, which names data blocks
@@ -83,4 +83,4 @@ abbrev pub positions_of : ℕ → List BlockPosition
 positions_of size = let count = blocks_for_size size in
     map data_block (range_with_len 0 count)
     ++ (if nat_lt 58 count then indirect_block ∷ [] else [])
-    ++ (if nat_lt 186 count then double_indirect_block ∷ map inner_block (range_with_len 0 (lists_of (count - 186))) else [])
+    ++ (if nat_lt 186 count then double_indirect_block ∷ map inner_block (range_with_len 0 (inner_blocks_for (count - 186))) else [])

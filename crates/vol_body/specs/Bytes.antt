@@ -1,4 +1,4 @@
--- What changes do to the bytes of a file.
+-- What changes do to the bytes of a file (`docs/VOLUME.md`, "File").
 use Rattle.std.specs.Prelude.{◌-◌, ◌+◌, ◌++◌, ℕ, List, [], ◌∷◌, length, take, drop, replicate}
 
 -- the bytes with zeros after them, up to a length

@@ -1,4 +1,4 @@
--- What a change of one file leaves on a volume.
+-- What a change of one file leaves on a volume (`docs/VOLUME.md`, "File").
 use Rattle.std.specs.Prelude.{◌≡◌, ◌≢◌, ◌≤◌, ◌<◌, ◌+◌, ◌==◌, ◌⊎◌, ℕ, Bool, true, false, not, List, count_by}
 use Rattle.vol_sector.specs.Disk.{Image}
 use Rattle.vol_sector.specs.declared.device.Device.{Ghosts}
@@ -53,7 +53,7 @@ pub record FileBecomes (inode_sector : ℕ) (a b : Alloc) (content after : Image
   -- its entry keeps the rules of a version, where the size is within that version's limit, and 0 for a directory
   pub right : (version : Version) → IsEntry version e → (e.kind ≡ Directory → changed.size ≡ 0) → changed.size ≤ size_limit version → IsEntry version changed
 
--- no free sector is lost: what the file names more was free
+-- No free sector is lost: those that are free and those that the file names are together no fewer than before.
 abbrev pub LosesNoSector : Alloc → Alloc → Image → Image → Entry → Entry → Type 0
 LosesNoSector a b content after e changed = free_of a + used_of content e ≤ free_of b + used_of after changed
 

@@ -7,7 +7,7 @@ ghost use Rattle.vol_log.specs.Log.{view, log_sectors, has_failed, device_of};
 ghost use Rattle.vol_alloc.specs.Alloc.{first_of, end_of, taken_of};
 ghost use Rattle.vol_body.specs.Body.{NamesTaken, number_in};
 ghost use Rattle.vol_log.specs.Reading.{OnlyReads};
-ghost use Rattle.vol_body.specs.internal.Shorter.{Gives, StandsFrom, GoesWithList, GoesWithLater, Goes};
+ghost use Rattle.vol_body.specs.internal.Truncated.{Gives, IsAmong, GoesWithBlock, GoesWithLater, Goes};
 
 use crate::locate::{number_at, taken_or_zero};
 use vol_alloc::Alloc;
@@ -29,7 +29,7 @@ fn free_taken(sectors: &mut Alloc, n: u32)
 /// Frees the sectors that the entry itself names for data blocks from one on.
 fn free_direct(sectors: &mut Alloc, entry: &Entry, from: u32)
     ensures gives { Gives (taken_of sectors.old) (taken_of sectors.new)
-        (StandsFrom (slice_index entry.now.pointers) from 58) }
+        (IsAmong (slice_index entry.now.pointers) from 58) }
     ensures range { (first_of sectors.new ≡ first_of sectors.old)
         × (end_of sectors.new ≡ end_of sectors.old) }
 {
@@ -41,7 +41,7 @@ fn free_direct(sectors: &mut Alloc, entry: &Entry, from: u32)
 /// Frees the sectors whose numbers a pointer sector has from one on.
 fn free_listed(sectors: &mut Alloc, image: &[u8; 512], from: u32)
     ensures gives { Gives (taken_of sectors.old) (taken_of sectors.new)
-        (StandsFrom (λ i. little_number 4 (drop (4 * i) image.now)) from 128) }
+        (IsAmong (λ i. little_number 4 (drop (4 * i) image.now)) from 128) }
     ensures range { (first_of sectors.new ≡ first_of sectors.old)
         × (end_of sectors.new ≡ end_of sectors.old) }
 {
@@ -62,7 +62,7 @@ fn free_indirect_block<D: Device>(
     requires working { has_failed log.old ≡ false }
     requires data { 0 < first_of sectors.old }
     ensures gives { D.honest (device_of log.old) → OnOk result (Gives (taken_of sectors.old)
-        (taken_of sectors.new) (GoesWithList (view log.old) indirect_block from)) }
+        (taken_of sectors.new) (GoesWithBlock (view log.old) indirect_block from)) }
     ensures range { (first_of sectors.new ≡ first_of sectors.old)
         × (end_of sectors.new ≡ end_of sectors.old) }
     ensures reads { OnlyReads log.old log.new }

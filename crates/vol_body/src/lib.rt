@@ -1,7 +1,6 @@
 //! The bytes of a file, over the log and the free sectors of a volume.
 #![tactic(auto)]
 
-mod cutting;
 mod freeing;
 mod growing;
 mod holding;
@@ -13,6 +12,7 @@ mod resizing;
 mod shrinking;
 mod source;
 mod surveying;
+mod truncation;
 mod writing;
 mod writing_blocks;
 mod writing_image;

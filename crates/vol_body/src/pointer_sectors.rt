@@ -11,9 +11,8 @@ ghost use Rattle.vol_sector.specs.Disk.{Image};
 ghost use Rattle.vol_body.specs.internal.Writing.{Mirrors, MirrorsAll, KnowsAll, ListedAt, segment};
 
 use crate::locate::{DIRECT, LISTED, NUMBERS, number_at, read_taken, taken_or_zero};
-use byteorder::{ByteOrder, LittleEndian};
 use vol_alloc::Alloc;
-use vol_inode::Entry;
+use vol_inode::{Entry, put_number};
 use vol_log::Log;
 use vol_sector::{Device, DeviceFault};
 
@@ -44,7 +43,7 @@ pub fn with_number(image: &[u8; 512], i: u32, n: u32) -> [u8; 512]
         → little_number 4 (drop (4 * k) result) ≡ little_number 4 (drop (4 * k) image.now) }
 {
     let mut image = *image;
-    LittleEndian::write_u32(&mut image[4 * i as usize..], n);
+    put_number(&mut image, 4 * i as usize, n);
     image
 }
 

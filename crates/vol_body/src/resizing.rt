@@ -5,7 +5,7 @@ ghost use Rattle.vol_log.specs.Log.{view, log_sectors, room_of, has_failed};
 ghost use Rattle.vol_alloc.specs.Alloc.{first_of, end_of};
 ghost use Rattle.vol_body.specs.Body.{bytes_of};
 ghost use Rattle.vol_body.specs.Bytes.{resized_bytes};
-ghost use Rattle.vol_body.specs.Change.{IfSound, FileBecomes, EntryBecomes};
+ghost use Rattle.vol_body.specs.Change.{IfSound, FileBecomes, LosesNoSector, EntryBecomes};
 ghost use Rattle.vol_log.specs.Reading.{OnlyReads};
 ghost use Rattle.vol_body.specs.Reading.{StagesAtMost};
 ghost use Rattle.vol_log.specs.declared.layout.TheConstants.{FIRST_AFTER_LOG};
@@ -38,10 +38,13 @@ pub fn set_size<D: Device>(
     requires room { 4 ≤ room_of log.old }
     requires small_before { entry.old.size ≤ LARGEST_SIZE }
     requires small { size ≤ LARGEST_SIZE }
-    // Read as a list, the file is cut or has zeros after it.
+    // Read as a list, the file is cut or has zeros after it; no free sector is lost.
     ensures file { IfSound log.old sectors.old entry.old (OnOk result
         (FileBecomes inode_sector sectors.old sectors.new (view log.old) (view log.new) entry.old
         entry.new (resized_bytes size (bytes_of (view log.old) entry.old)))) }
+    ensures none_lost { IfSound log.old sectors.old entry.old (OnOk result
+        (LosesNoSector sectors.old sectors.new (view log.old) (view log.new) entry.old
+        entry.new)) }
     ensures entry { OnOk result (EntryBecomes inode_sector size (view log.new) entry.old entry.new) }
     ensures steps { StagesAtMost 4 log.old log.new sectors.old sectors.new (is_err result) }
     ensures refused { OnErr result ((OnlyReads log.old log.new) × (entry.new ≡ entry.old)) }

@@ -6,15 +6,15 @@ ghost use Rattle.vol_log.specs.Log.{view, log_sectors, room_of, has_failed};
 ghost use Rattle.vol_alloc.specs.Alloc.{first_of, end_of};
 ghost use Rattle.vol_body.specs.Body.{bytes_of};
 ghost use Rattle.vol_body.specs.Bytes.{resized_bytes};
-ghost use Rattle.vol_body.specs.Change.{IfSound, FileBecomes, EntryBecomes};
-ghost use Rattle.vol_body.specs.internal.Shorter.{first_of_pointer};
+ghost use Rattle.vol_body.specs.Change.{IfSound, FileBecomes, LosesNoSector, EntryBecomes};
+ghost use Rattle.vol_inode.specs.Entry.{first_block_of_pointer};
 ghost use Rattle.vol_log.specs.Reading.{OnlyReads};
 ghost use Rattle.vol_body.specs.Reading.{StagesAtMost};
 ghost use Rattle.vol_log.specs.declared.layout.TheConstants.{FIRST_AFTER_LOG};
 ghost use Rattle.vol_inode.specs.declared.version.TheConstants.{LARGEST_SIZE};
 
-use crate::cutting::{read_cuts, stage_cuts};
 use crate::freeing::free_unkept;
+use crate::truncation::{read_truncation, stage_truncation};
 use vol_alloc::Alloc;
 use vol_inode::{Entry, write_entry};
 use vol_log::Log;
@@ -23,7 +23,7 @@ use vol_sector::{Device, DeviceFault};
 /// The pointers of a file that keeps this many data blocks.
 fn kept_pointers(pointers: &[u32; 60], count: u32) -> [u32; 60]
     ensures { (j : ℕ) → j < 60 → slice_index result j
-        ≡ (if nat_lt (first_of_pointer j) count then slice_index pointers.now j else 0) }
+        ≡ (if nat_lt (first_block_of_pointer j) count then slice_index pointers.now j else 0) }
 {
     let mut kept = [0; 60];
     for j in 0..60 {
@@ -58,6 +58,9 @@ pub fn shrink<D: Device>(
     ensures file { IfSound log.old sectors.old entry.old (OnOk result
         (FileBecomes inode_sector sectors.old sectors.new (view log.old) (view log.new) entry.old
         entry.new (resized_bytes size (bytes_of (view log.old) entry.old)))) }
+    ensures none_lost { IfSound log.old sectors.old entry.old (OnOk result
+        (LosesNoSector sectors.old sectors.new (view log.old) (view log.new) entry.old
+        entry.new)) }
     ensures entry { OnOk result (EntryBecomes inode_sector size (view log.new) entry.old entry.new) }
     ensures steps { StagesAtMost 4 log.old log.new sectors.old sectors.new (is_err result) }
     ensures refused { OnErr result ((OnlyReads log.old log.new) × (entry.new ≡ entry.old)) }
@@ -66,10 +69,10 @@ pub fn shrink<D: Device>(
     if log.failed() {
         return Err(DeviceFault);
     }
-    let cuts = read_cuts(log, sectors, entry, size)?;
+    let truncation = read_truncation(log, sectors, entry, size)?;
     let count = size.div_ceil(512);
     free_unkept(log, sectors, entry, count)?;
-    stage_cuts(log, &cuts);
+    stage_truncation(log, &truncation);
     entry.size = size;
     entry.pointers = kept_pointers(&entry.pointers, count);
     log.stage(inode_sector, &write_entry(entry));

@@ -1,4 +1,4 @@
--- What a caller sees of the names of a volume.
+-- What a caller sees of the names of a volume (`docs/VOLUME.md`, "Entry").
 use Rattle.std.specs.Prelude.{◌≡◌, ◌↔◌, ◌+◌, ◌≤◌, ◌<◌, ℕ, List}
 use Rattle.vol_sector.specs.Disk.{Image}
 use Rattle.vol_inode.specs.declared.entry.Entry.{Entry}

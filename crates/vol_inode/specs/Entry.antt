@@ -10,9 +10,9 @@ use Rattle.vol_inode.specs.Space.{blocks_for_size, size_limit}
 abbrev pub name_of : Entry → List ℕ
 name_of e = take e.name_length e.name
 
--- the first part of a file that this pointer serves
-abbrev pub first_part : ℕ → ℕ
-first_part k = if nat_lt k 59 then k else 186
+-- the first data block of a file that this pointer serves
+abbrev pub first_block_of_pointer : ℕ → ℕ
+first_block_of_pointer k = if nat_lt k 59 then k else 186
 
 -- the fields have their widths
 pub record HasWidths (e : Entry) : Type 0 where
@@ -35,7 +35,7 @@ pub record HasSize (version : Version) (e : Entry) : Type 0 where
 
 -- A pointer that serves only parts at or past the size is zero.
 abbrev pub UnusedPointersAreZero : Entry → Type 0
-UnusedPointersAreZero e = (k : ℕ) → k < 60 → blocks_for_size e.size ≤ first_part k → slice_index e.pointers k ≡ 0
+UnusedPointersAreZero e = (k : ℕ) → k < 60 → blocks_for_size e.size ≤ first_block_of_pointer k → slice_index e.pointers k ≡ 0
 
 -- the rules on the values of the fields
 pub record KeepsRules (version : Version) (e : Entry) : Type 0 where

@@ -1,6 +1,6 @@
--- What public contracts cite, in reading order; `internal` serves private contracts and proofs.
+-- What public contracts cite, in reading order.
 pub mod Space
 pub mod Name
 pub mod Entry
 pub mod Spelling
-pub mod internal
+pub mod Writes

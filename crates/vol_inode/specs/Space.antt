@@ -8,15 +8,15 @@ use Rattle.vol_inode.specs.declared.version.Version.TheVariants.{One, Two}
 abbrev pub blocks_for_size : ℕ → ℕ
 blocks_for_size size = (size + 511) / 512
 
--- how many pointer sectors hold this many numbers
-abbrev pub lists_of : ℕ → ℕ
-lists_of count = (count + 127) / 128
+-- how many inner blocks hold this many numbers
+abbrev pub inner_blocks_for : ℕ → ℕ
+inner_blocks_for count = (count + 127) / 128
 
--- The sectors that a file of this size may take: those of its bytes; after the first 58 one that lists the next 128;
--- after these one that lists the lists of all others.
+-- The sectors that a file of this size may take: those of its bytes; after the first 58 an indirect block with the numbers of
+-- the next 128; after these a double-indirect block and its inner blocks for all others.
 abbrev pub need_of : ℕ → ℕ
 need_of size = let count = blocks_for_size size in
-    if nat_le count 58 then count else (if nat_le count 186 then count + 1 else count + 2 + lists_of (count - 186))
+    if nat_le count 58 then count else (if nat_le count 186 then count + 1 else count + 2 + inner_blocks_for (count - 186))
 
 -- the greatest size of a file
 abbrev pub size_limit : Version → ℕ

@@ -1,14 +1,14 @@
 //! Entries as sectors.
 
-ghost use Rattle.std.specs.Prelude.{◌≡◌, ◌≤◌, ◌<◌, ◌+◌, ◌∷◌, ◌↔◌, ◌^◌, ℕ, length, replicate, slice_index, take, drop, ◌*◌};
+ghost use Rattle.std.specs.Prelude.{◌≡◌, ◌<◌, ◌+◌, ◌∷◌, ◌↔◌, ◌^◌, ℕ, length, replicate, slice_index, take, drop, ◌*◌};
 ghost use Rattle.std.specs.Prelude.{IfOk, IfErr, IfSome, Ok, Some, None};
 ghost use Rattle.std.specs.List.{flat_map};
 ghost use Rattle.byteorder.specs.Endian.{little_bytes, little_number};
 ghost use Rattle.vol_inode.specs.Spelling.{spelling, unused};
 ghost use Rattle.vol_inode.specs.Entry.{HasWidths, IsEntry};
-ghost use Rattle.vol_inode.specs.internal.Writes.{overwritten};
 ghost use Rattle.vol_inode.specs.declared.entry.Entry.{Entry};
 
+use crate::image::{put_bytes, put_number};
 use crate::rules::keeps_rules;
 use crate::{Entry, Kind, Version};
 use byteorder::{ByteOrder, LittleEndian};
@@ -44,10 +44,10 @@ pub fn write_entry(entry: &Entry) -> [u8; 512]
     ensures widths { HasWidths entry.now }
 {
     let mut image = headed(entry.kind.byte(), entry.name_length);
-    put(&mut image, 4, &number(entry.parent));
-    put(&mut image, 8, &number(entry.size));
-    put(&mut image, 12, &entry.name);
-    put(&mut image, 268, &numbers(&entry.pointers));
+    put_number(&mut image, 4, entry.parent);
+    put_number(&mut image, 8, entry.size);
+    put_bytes(&mut image, 12, &entry.name);
+    put_bytes(&mut image, 268, &numbers(&entry.pointers));
     image
 }
 
@@ -99,23 +99,6 @@ fn headed(first: u8, second: u8) -> [u8; 512]
     image[0] = first;
     image[1] = second;
     image
-}
-
-/// Copies the bytes into the sector, from a place on.
-fn put(image: &mut [u8; 512], at: usize, bytes: &[u8])
-    requires { at + length bytes.now ≤ 512 }
-    ensures { image.new ≡ overwritten image.old at bytes.now }
-{
-    image[at..at + bytes.len()].copy_from_slice(bytes);
-}
-
-/// The four bytes of a number.
-fn number(n: u32) -> [u8; 4]
-    ensures { result ≡ little_bytes 4 n }
-{
-    let mut bytes = [0u8; 4];
-    LittleEndian::write_u32(&mut bytes, n);
-    bytes
 }
 
 /// The bytes of sixty numbers.

@@ -3,6 +3,7 @@
 
 mod codec;
 mod entry;
+mod image;
 mod names;
 mod rules;
 mod space;
@@ -10,6 +11,7 @@ mod version;
 
 pub use codec::{read_entry, write_entry};
 pub use entry::{Entry, Kind};
+pub use image::{put_bytes, put_number};
 pub use names::is_name;
 pub use space::need;
 pub use version::{LARGEST_SIZE, Version};

@@ -1,7 +1,7 @@
 //! The rules on one entry.
 
 ghost use Rattle.std.specs.Prelude.{◌≡◌, ◌<◌, ◌↔◌, All, IsTrue};
-ghost use Rattle.vol_inode.specs.Entry.{HasName, HasSize, UnusedPointersAreZero, KeepsRules, first_part};
+ghost use Rattle.vol_inode.specs.Entry.{HasName, HasSize, UnusedPointersAreZero, KeepsRules, first_block_of_pointer};
 
 use crate::names::is_name;
 use crate::{Entry, Kind, Version};
@@ -50,17 +50,17 @@ fn unused_pointers_are_zero(entry: &Entry) -> bool
 {
     let count = entry.size.div_ceil(512);
     for (k, pointer) in entry.pointers.iter().enumerate() {
-        if *pointer != 0 && count <= first_part(k) {
+        if *pointer != 0 && count <= first_block_of_pointer(k) {
             return false;
         }
     }
     true
 }
 
-/// The first part of a file that the pointer serves.
-fn first_part(k: usize) -> u32
+/// The first data block of a file that the pointer serves.
+fn first_block_of_pointer(k: usize) -> u32
     requires { k < 60 }
-    ensures { result ≡ first_part k }
+    ensures { result ≡ first_block_of_pointer k }
 {
     if k < 59 { k as u32 } else { 186 }
 }

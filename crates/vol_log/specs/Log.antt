@@ -1,4 +1,4 @@
--- What a log's caller sees.
+-- What a log's caller sees (`docs/VOLUME.md`, "Log").
 use Rattle.std.specs.Prelude.{ℕ, ◌-◌, List, length, Bool}
 use Rattle.vol_sector.specs.Disk.{Image}
 use Rattle.vol_sector.specs.declared.device.Device.{Ghosts}

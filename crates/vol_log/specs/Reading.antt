@@ -1,4 +1,4 @@
--- What stays of a log that is only read.
+-- What stays of a log that is only read (`docs/VOLUME.md`, "Log").
 use Rattle.std.specs.Prelude.{◌≡◌, ◌↔◌, false}
 use Rattle.vol_sector.specs.Disk.{Leaves, counted}
 use Rattle.vol_sector.specs.declared.device.Device.{Ghosts}

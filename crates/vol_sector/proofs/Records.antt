@@ -139,7 +139,7 @@ unused_zeros m long sectors room items zeros same are unused = record {
   sectors_is = unused.sectors_is ∙ same;
   room_is = unused.room_is;
   record_is = unused.record_is;
-  tried_is = unused.tried_is;
+  operations_is = unused.operations_is;
   failures_is = unused.failures_is;
   image_is = λ n lt. unused.image_is n (omega (arith, lt, same)) ∙ ap (λ (l : List (List ℕ)). get_or l n []) are ∙ get_or-replicate sectors n zeros [] lt;
 }

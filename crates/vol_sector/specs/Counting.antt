@@ -1,16 +1,16 @@
--- A disk that counts each operation tried.
+-- A disk that counts each operation tried (`docs/VOLUME.md`, "The device").
 use Rattle.std.specs.Prelude.{ℕ, ◌-◌, List, Bool, length, take, count_by}
 use Rattle.vol_sector.specs.Disk.{Disk}
 
 -- of the operations tried since a moment, the newest first, how many passed to the disk below
 abbrev pub passed_since : List Bool → ℕ → ℕ
-passed_since tried t = count_by (λ passed. passed) (take (length tried - t) tried)
+passed_since operations t = count_by (λ passed. passed) (take (length operations - t) operations)
 
 -- the disk below with each operation counted, also those that didn't pass to it
 abbrev pub counting : List Bool → Disk → Disk
-counting tried below = record {
+counting operations below = record {
   seen = below.seen;
   may_leave = below.may_leave;
-  operation_count = length tried;
-  left_since = λ t. below.left_since (below.operation_count - passed_since tried t);
+  operation_count = length operations;
+  left_since = λ t. below.left_since (below.operation_count - passed_since operations t);
 }

@@ -1,4 +1,4 @@
--- Which image a crash leaves for which picks.
+-- Which image a crash leaves for which picks (`docs/VOLUME.md`, "The device").
 use Rattle.std.specs.Prelude.{ℕ, zero, suc, ◌+◌, ◌-◌, ◌==◌, List, [], ◌∷◌, length, min, slice_index_or, Bool, true, false, if◌then◌else◌}
 use Rattle.vol_sector.specs.Disk.{Image}
 use Rattle.vol_sector.specs.Record.{choices}

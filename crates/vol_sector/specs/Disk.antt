@@ -1,4 +1,4 @@
--- What a disk of sectors may give and leave.
+-- What a disk of sectors may give and leave (`docs/VOLUME.md`, "The device").
 use Rattle.std.specs.Prelude.{◌≡◌, ◌⊎◌, ◌+◌, ◌-◌, ◌^◌, ◌≤◌, ◌==◌, ℕ, List, Bool, min, if◌then◌else◌}
 
 -- the bytes of each sector
@@ -23,10 +23,6 @@ pub record Disk : Type 1 where
 -- what may stand after a step from what may stand before it
 abbrev pub After : (Image → Image → Type 0) → (Image → Type 0) → Image → Type 0
 After step before c = (d : Image) × before d × step d c
-
--- nothing is written
-abbrev pub Stays : Image → Image → Type 0
-Stays before after = after ≡ before
 
 -- a crash around a write: the sector is as it was or rewritten
 abbrev pub Wrote : ℕ → List ℕ → Image → Image → Type 0

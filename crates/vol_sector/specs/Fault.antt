@@ -1,4 +1,4 @@
--- Which refusals are the device's.
+-- Which refusals are the device's (`docs/VOLUME.md`, "The device").
 use Rattle.std.specs.Prelude.{Bool, true, false, Result, Ok, Err}
 use Rattle.vol_sector.specs.declared.fault.VolumeFault.{VolumeFault}
 use Rattle.vol_sector.specs.declared.fault.VolumeFault.TheVariants.{NotAVolume, Version, Damaged, Device, TooSmall, Upgraded, Geometry, Memory}

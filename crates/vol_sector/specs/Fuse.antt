@@ -1,4 +1,4 @@
--- What a caller sees of a device that fails from a chosen operation on.
+-- What a caller sees of a device that fails from a chosen operation on (`docs/VOLUME.md`, "The device").
 use Rattle.std.specs.Prelude.{ℕ, List, Bool}
 use Rattle.vol_sector.specs.Disk.{Disk}
 use Rattle.vol_sector.specs.Counting.{counting}
@@ -17,9 +17,9 @@ abbrev pub failures_of : {D : Type 0} → FuseDevice D → ℕ
 failures_of f = f.inner.failures
 
 -- the operations tried, the newest first: was each passed to the device?
-abbrev pub tried_of : {D : Type 0} → FuseDevice D → List Bool
-tried_of f = f.inner.tried.operations
+abbrev pub operations_of : {D : Type 0} → FuseDevice D → List Bool
+operations_of f = f.inner.operations.outcomes
 
 -- the device's disk, where each operation tried counts
 abbrev pub disk_of : {D : Type 0} → (D → Disk) → FuseDevice D → Disk
-disk_of disk f = counting (tried_of f) (disk (device_of f))
+disk_of disk f = counting (operations_of f) (disk (device_of f))

@@ -1,4 +1,4 @@
--- What a caller sees of a device in memory.
+-- What a caller sees of a device in memory (`docs/VOLUME.md`, "The device").
 use Rattle.std.specs.Prelude.{◌≡◌, ◌<◌, ℕ, List, [], Bool, vec_len}
 use Rattle.vol_sector.specs.Disk.{Image, Disk}
 use Rattle.vol_sector.specs.Counting.{counting}
@@ -13,7 +13,7 @@ first_of m = image_of m.first.items
 
 -- the writes and syncs that were done, in order
 abbrev pub record_of : MemoryDevice → List Operation
-record_of m = m.operations.items
+record_of m = m.history.items
 
 -- how many writes and syncs the record has room for
 abbrev pub room_of : MemoryDevice → ℕ
@@ -26,19 +26,19 @@ abbrev pub failures_of : MemoryDevice → ℕ
 failures_of m = m.failures
 
 -- the operations tried, the newest first: was each recorded?
-abbrev pub tried_of : MemoryDevice → List Bool
-tried_of m = m.tried.operations
+abbrev pub operations_of : MemoryDevice → List Bool
+operations_of m = m.operations.outcomes
 
 -- what its record allows, where each operation tried counts: a crash now may leave what is `LeftBy` the record
 abbrev pub disk_of : MemoryDevice → Disk
-disk_of m = counting (tried_of m) (recorded (first_of m) (record_of m))
+disk_of m = counting (operations_of m) (recorded (first_of m) (record_of m))
 
 -- a device of this many sectors with this image, on which nothing was done
 pub record IsUnused (m : MemoryDevice) (sectors room : ℕ) (image : Image) : Type 0 where
   pub sectors_is : sectors_of m ≡ sectors
   pub room_is : room_of m ≡ room
   pub record_is : record_of m ≡ []
-  pub tried_is : tried_of m ≡ []
+  pub operations_is : operations_of m ≡ []
   pub failures_is : failures_of m ≡ 0
   pub image_is : (n : ℕ) → n < sectors → first_of m n ≡ image n
 

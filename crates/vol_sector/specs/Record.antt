@@ -1,4 +1,4 @@
--- What a device that records its writes and syncs may leave.
+-- What a device that records its writes and syncs may leave (`docs/VOLUME.md`, "The device").
 use Rattle.std.specs.Prelude.{◌≡◌, ◌⊎◌, ◌≤◌, ◌==◌, ℕ, List, [], ◌∷◌, ◌++◌, length, take, slice_index_or, if◌then◌else◌, Bool, true, false}
 use Rattle.vol_sector.specs.Disk.{Image, Disk}
 use Rattle.vol_sector.specs.declared.record.Operation.{Operation}

@@ -1,3 +1,4 @@
 -- Definitions that only private contracts and proofs cite.
 pub mod CountingLaws
 pub mod RecordLaws
+pub mod Breakable

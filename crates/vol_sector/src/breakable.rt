@@ -5,29 +5,29 @@ ghost use Rattle.vol_sector.specs.Disk.{Leaves, Keeps, OneMore, counted};
 ghost use Rattle.vol_sector.specs.Counting.{counting};
 ghost use Rattle.vol_sector.specs.internal.CountingLaws.{counting_now, only_counting};
 
-use crate::tried::Tried;
+use crate::operations::Operations;
 use crate::{Device, DeviceFault};
 
 /// Passes operations to its device, and can fail one without effect.
 #[derive(Drop)]
 pub(crate) struct Breakable<D> {
     device: D,
-    tried: Tried,
+    operations: Operations,
     failures: u64,
 }
 
 impl<D: Device> Breakable<D> {
-    ghost use Rattle.vol_sector.specs.Breakable.{device_of, tried_of, failures_of, disk_of};
+    ghost use Rattle.vol_sector.specs.internal.Breakable.{device_of, operations_of, failures_of, disk_of};
 
     /// The device, on which nothing was tried.
     pub(crate) fn new(device: D) -> Self
         ensures device { device_of result ≡ device }
-        ensures tried { tried_of result ≡ [] }
+        ensures operations { operations_of result ≡ [] }
         ensures failures { failures_of result ≡ 0 }
     {
         Breakable {
             device,
-            tried: Tried::new(),
+            operations: Operations::new(),
             failures: 0,
         }
     }
@@ -38,7 +38,7 @@ impl<D: Device> Breakable<D> {
     {
         let Breakable {
             device,
-            tried: _,
+            operations: _,
             failures: _,
         } = self;
         device
@@ -52,7 +52,7 @@ impl<D: Device> Breakable<D> {
         ensures keeps { Keeps (disk_of D.disk self.old) (disk_of D.disk self.new) }
         ensures operation_count { OneMore (disk_of D.disk self.old) (disk_of D.disk self.new) }
     {
-        self.tried = self.tried.kept();
+        self.operations = self.operations.kept();
         self.failures = self.failures.saturating_add(1);
         DeviceFault
     }
@@ -62,9 +62,9 @@ impl<D: Device> Device for Breakable<D> {
     ghost use Rattle.std.specs.Prelude.{IfOk, OnOk, IsErr, is_err};
     ghost use Rattle.vol_sector.specs.Disk.{Image, put, After, Wrote, Only, Leaves, Keeps};
     ghost use Rattle.vol_sector.specs.Disk.{OneMore, OneOperation, both_counts, counted};
-    ghost use Rattle.vol_sector.specs.Breakable.{device_of, failures_of, disk_of};
+    ghost use Rattle.vol_sector.specs.internal.Breakable.{device_of, failures_of, disk_of};
 
-    ghost disk = { λ b. counting b.tried.operations (D.disk b.device) };
+    ghost disk = { λ b. counting b.operations.outcomes (D.disk b.device) };
 
     ghost honest = { λ b. D.honest b.device };
 
@@ -72,10 +72,10 @@ impl<D: Device> Device for Breakable<D> {
 
     ghost failures = { λ b. both_counts (D.failures b.device) b.failures };
 
-    ghost counts_now = { λ b t c h le may. counting_now b.tried.operations (D.disk b.device)
+    ghost counts_now = { λ b t c h le may. counting_now b.operations.outcomes (D.disk b.device)
         (λ s x past left. D.counts_now b.device s x h past left) t c le may };
 
-    ghost only_now = { λ b c h left. only_counting b.tried.operations (D.disk b.device)
+    ghost only_now = { λ b c h left. only_counting b.operations.outcomes (D.disk b.device)
         (λ x last. D.only_now b.device x h last) c left };
 
     ghost may_stay = { λ b h. D.may_stay b.device h };
@@ -111,7 +111,7 @@ impl<D: Device> Device for Breakable<D> {
         ensures passes_on { D.honest (device_of self.old)
             → OneOperation (D.disk (device_of self.old)) (D.disk (device_of self.new)) (λ c. ⊥) }
     {
-        self.tried = self.tried.passed();
+        self.operations = self.operations.passed();
         self.device.read(n)
     }
 
@@ -120,7 +120,7 @@ impl<D: Device> Device for Breakable<D> {
         ensures written { D.honest (device_of self.old)
             → OnOk result ((disk_of D.disk self.new).seen
             ≡ put n image.now (disk_of D.disk self.old).seen) }
-        ensures tried { D.honest (device_of self.old)
+        ensures seen { D.honest (device_of self.old)
             → Wrote n image.now (disk_of D.disk self.old).seen
             (disk_of D.disk self.new).seen }
         ensures crash { D.honest (device_of self.old)
@@ -142,7 +142,7 @@ impl<D: Device> Device for Breakable<D> {
             → OneOperation (D.disk (device_of self.old)) (D.disk (device_of self.new))
             (After (Wrote n image.now) (D.disk (device_of self.old)).may_leave) }
     {
-        self.tried = self.tried.passed();
+        self.operations = self.operations.passed();
         self.device.write(n, image)
     }
 
@@ -169,7 +169,7 @@ impl<D: Device> Device for Breakable<D> {
         ensures passes_on { D.honest (device_of self.old)
             → OneOperation (D.disk (device_of self.old)) (D.disk (device_of self.new)) (λ c. ⊥) }
     {
-        self.tried = self.tried.passed();
+        self.operations = self.operations.passed();
         self.device.sync()
     }
 }

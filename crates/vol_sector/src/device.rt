@@ -1,7 +1,7 @@
 //! A device as the layers above see it: what a read returns, and what a crash may leave.
 
 ghost use Rattle.std.specs.Prelude.{◌≡◌, ◌⊎◌, ◌≤◌, ◌<◌, ◌↔◌, List, ℕ, IfOk, OnOk, OnErr, is_err};
-ghost use Rattle.vol_sector.specs.Disk.{Image, Disk, put, After, Stays, Wrote, Only, Leaves, Keeps};
+ghost use Rattle.vol_sector.specs.Disk.{Image, Disk, put, After, Wrote, Only, Leaves, Keeps};
 ghost use Rattle.vol_sector.specs.Disk.{counted, OneMore};
 
 use thiserror::Error;
@@ -57,7 +57,7 @@ pub trait Device {
         requires { n < size self.old }
         ensures written { honest self.old
             → OnOk result ((disk self.new).seen ≡ put n image.now (disk self.old).seen) }
-        ensures tried { honest self.old
+        ensures seen { honest self.old
             → Wrote n image.now (disk self.old).seen (disk self.new).seen }
         ensures crash { honest self.old → Leaves (disk self.old) (disk self.new)
             (After (Wrote n image.now) (disk self.old).may_leave) }

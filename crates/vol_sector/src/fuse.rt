@@ -58,7 +58,7 @@ impl<D: Device> Device for FuseDevice<D> {
     ghost use Rattle.vol_sector.specs.Disk.{OneMore, OneOperation, both_counts, counted};
     ghost use Rattle.vol_sector.specs.Fuse.{device_of, left_of, failures_of, disk_of};
 
-    ghost disk = { λ f. counting f.inner.tried.operations (D.disk f.inner.device) };
+    ghost disk = { λ f. counting f.inner.operations.outcomes (D.disk f.inner.device) };
 
     ghost honest = { λ f. D.honest f.inner.device };
 
@@ -66,11 +66,11 @@ impl<D: Device> Device for FuseDevice<D> {
 
     ghost failures = { λ f. both_counts (D.failures f.inner.device) f.inner.failures };
 
-    ghost counts_now = { λ f t c h le may. counting_now f.inner.tried.operations
+    ghost counts_now = { λ f t c h le may. counting_now f.inner.operations.outcomes
         (D.disk f.inner.device) (λ s x past left. D.counts_now f.inner.device s x h past left)
         t c le may };
 
-    ghost only_now = { λ f c h left. only_counting f.inner.tried.operations
+    ghost only_now = { λ f c h left. only_counting f.inner.operations.outcomes
         (D.disk f.inner.device) (λ x last. D.only_now f.inner.device x h last) c left };
 
     ghost may_stay = { λ f h. D.may_stay f.inner.device h };
@@ -120,7 +120,7 @@ impl<D: Device> Device for FuseDevice<D> {
         ensures written { D.honest (device_of self.old)
             → OnOk result ((disk_of D.disk self.new).seen
             ≡ put n image.now (disk_of D.disk self.old).seen) }
-        ensures tried { D.honest (device_of self.old)
+        ensures seen { D.honest (device_of self.old)
             → Wrote n image.now (disk_of D.disk self.old).seen
             (disk_of D.disk self.new).seen }
         ensures crash { D.honest (device_of self.old)

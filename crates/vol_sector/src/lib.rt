@@ -8,8 +8,8 @@ mod flaky;
 mod fuse;
 mod laws;
 mod memory;
+mod operations;
 mod record;
-mod tried;
 
 pub use device::{Device, DeviceFault};
 pub use fault::{Refused, VolumeFault};

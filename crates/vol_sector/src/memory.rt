@@ -11,7 +11,7 @@ ghost use Rattle.vol_sector.specs.internal.RecordLaws.{stays_left, left_now, onl
 ghost use Rattle.vol_sector.specs.Record.{is_write};
 ghost use Rattle.vol_sector.specs.Crash.{written_since, written_below, picked, crashed_image};
 
-use crate::tried::Tried;
+use crate::operations::Operations;
 use crate::{Device, DeviceFault, Operation};
 use std::alloc::{AllocError, Global};
 
@@ -21,23 +21,23 @@ use std::alloc::{AllocError, Global};
 pub struct MemoryDevice {
     first: Vec<[u8; 512]>,
     current: Vec<[u8; 512]>,
-    operations: Vec<Operation>,
+    history: Vec<Operation>,
     limit: usize,
-    tried: Tried,
+    operations: Operations,
     failures: u64,
     ghost same_size: { vec_len first ≡ vec_len current },
     ghost small: { vec_len current < 2 ^ 32 },
-    ghost within: { vec_len operations ≤ limit },
-    ghost reserved: { limit ≤ vec_capacity operations },
+    ghost within: { vec_len history ≤ limit },
+    ghost reserved: { limit ≤ vec_capacity history },
     ghost agrees: { (n : ℕ) → image_of current.items n
-        ≡ newest n (image_of first.items n) operations.items },
+        ≡ newest n (image_of first.items n) history.items },
 }
 
 impl MemoryDevice {
     ghost use Rattle.std.specs.Prelude.{true};
     ghost use Rattle.vol_sector.specs.Disk.{Leaves, Keeps, counted};
     ghost use Rattle.vol_sector.specs.Memory.{first_of, record_of, room_of, sectors_of, IsUnused};
-    ghost use Rattle.vol_sector.specs.Memory.{tried_of, failures_of, disk_of};
+    ghost use Rattle.vol_sector.specs.Memory.{operations_of, failures_of, disk_of};
 
     /// A device of this many sectors of zeros, whose record has room for this many writes and syncs.
     /// It fails only where memory is refused.
@@ -57,13 +57,13 @@ impl MemoryDevice {
         ensures { IfOk result (λ m. IsUnused m (vec_len current) room (image_of current.items)) }
     {
         let first = Vec::from_slice(alloc, current.as_slice())?;
-        let operations = Vec::with_capacity(alloc, room)?;
+        let history = Vec::with_capacity(alloc, room)?;
         Ok(MemoryDevice {
             first,
             current,
-            operations,
+            history,
             limit: room,
-            tried: Tried::new(),
+            operations: Operations::new(),
             failures: 0,
         })
     }
@@ -72,14 +72,14 @@ impl MemoryDevice {
     pub fn recorded(&self) -> usize
         ensures { result ≡ length (record_of self.now) }
     {
-        self.operations.len()
+        self.history.len()
     }
 
     /// How many writes were done.
     pub fn writes(&self) -> usize
         ensures { result ≡ count_by is_write (record_of self.now) }
     {
-        self.operations
+        self.history
             .iter()
             .filter(|operation| is_write(operation))
             .count()
@@ -91,7 +91,7 @@ impl MemoryDevice {
     {
         let mut count: usize = 0;
         for n in 0..self.first.len() {
-            if was_written(&self.operations, n as u32) {
+            if was_written(&self.history, n as u32) {
                 count += 1;
             }
         }
@@ -109,20 +109,20 @@ impl MemoryDevice {
         let mut image = Vec::new(alloc);
         let mut used: usize = 0;
         for n in 0..self.first.len() {
-            let written = was_written(&self.operations, n as u32);
+            let written = was_written(&self.history, n as u32);
             let pick = if written {
                 take_pick(picks, &mut used)
             } else {
                 0
             };
-            image.push(choice(&self.first[n], &self.operations, n as u32, pick))?;
+            image.push(choice(&self.first[n], &self.history, n as u32, pick))?;
         }
         MemoryDevice::from_sectors(alloc, image, self.limit)
     }
 
     /// Counts an operation that fails, which changes nothing else.
     fn fail(&mut self) -> DeviceFault
-        ensures tried { tried_of self.new ≡ false ∷ tried_of self.old }
+        ensures operations { operations_of self.new ≡ false ∷ operations_of self.old }
         ensures failures { failures_of self.new ≡ counted true (failures_of self.old) }
         ensures first { first_of self.new ≡ first_of self.old }
         ensures record { record_of self.new ≡ record_of self.old }
@@ -131,7 +131,7 @@ impl MemoryDevice {
         ensures crash { Leaves (disk_of self.old) (disk_of self.new) (λ c. ⊥) }
         ensures keeps { Keeps (disk_of self.old) (disk_of self.new) }
     {
-        self.tried = self.tried.kept();
+        self.operations = self.operations.kept();
         self.failures = self.failures.saturating_add(1);
         DeviceFault
     }
@@ -211,7 +211,7 @@ impl Device for MemoryDevice {
     ghost use Rattle.vol_sector.specs.declared.record.Operation.TheVariants.{Write, Sync};
 
     ghost disk = { λ m.
-        counting m.tried.operations (recorded (image_of m.first.items) m.operations.items) };
+        counting m.operations.outcomes (recorded (image_of m.first.items) m.history.items) };
 
     ghost honest = { λ m. Unit {0} };
 
@@ -219,15 +219,15 @@ impl Device for MemoryDevice {
 
     ghost failures = { λ m. m.failures };
 
-    ghost counts_now = { λ m t c h le may. counting_now m.tried.operations
-        (recorded (image_of m.first.items) m.operations.items)
-        (left_now (image_of m.first.items) m.operations.items) t c le may };
+    ghost counts_now = { λ m t c h le may. counting_now m.operations.outcomes
+        (recorded (image_of m.first.items) m.history.items)
+        (left_now (image_of m.first.items) m.history.items) t c le may };
 
-    ghost only_now = { λ m c h left. only_counting m.tried.operations
-        (recorded (image_of m.first.items) m.operations.items)
-        (only_left (image_of m.first.items) m.operations.items) c left };
+    ghost only_now = { λ m c h left. only_counting m.operations.outcomes
+        (recorded (image_of m.first.items) m.history.items)
+        (only_left (image_of m.first.items) m.history.items) c left };
 
-    ghost may_stay = { λ m h. stays_left (image_of m.first.items) m.operations.items };
+    ghost may_stay = { λ m h. stays_left (image_of m.first.items) m.history.items };
 
     fn sectors(&self) -> u32 {
         self.current.len() as u32
@@ -250,7 +250,7 @@ impl Device for MemoryDevice {
         ensures never_fails { IsOk result }
         ensures same { IsUnchanged self.old self.new }
     {
-        self.tried = self.tried.kept(); // a read is tried, but not recorded
+        self.operations = self.operations.kept(); // a read is tried, but not recorded
         Ok(self.current[n as usize])
     }
 
@@ -258,7 +258,7 @@ impl Device for MemoryDevice {
         requires { n < sectors_of self.old }
         ensures written { Unit {0}
             → OnOk result ((disk_of self.new).seen ≡ put n image.now (disk_of self.old).seen) }
-        ensures tried { Unit {0}
+        ensures seen { Unit {0}
             → Wrote n image.now (disk_of self.old).seen (disk_of self.new).seen }
         ensures crash { Unit {0} → Leaves (disk_of self.old) (disk_of self.new)
             (After (Wrote n image.now) (disk_of self.old).may_leave) }
@@ -274,14 +274,14 @@ impl Device for MemoryDevice {
         ensures first { first_of self.new ≡ first_of self.old }
         ensures room { room_of self.new ≡ room_of self.old }
     {
-        if self.operations.len() >= self.limit {
+        if self.history.len() >= self.limit {
             return Err(self.fail());
         }
         let image = *image;
-        match self.operations.push(Operation::Write(n, image)) {
+        match self.history.push(Operation::Write(n, image)) {
             Ok(()) => {
                 self.current[n as usize] = image;
-                self.tried = self.tried.passed(); // the write is in the record now
+                self.operations = self.operations.passed(); // the write is in the record now
                 Ok(())
             }
             Err(_) => Err(self.fail()),
@@ -305,12 +305,12 @@ impl Device for MemoryDevice {
         ensures first { first_of self.new ≡ first_of self.old }
         ensures room { room_of self.new ≡ room_of self.old }
     {
-        if self.operations.len() >= self.limit {
+        if self.history.len() >= self.limit {
             return Err(self.fail());
         }
-        match self.operations.push(Operation::Sync) {
+        match self.history.push(Operation::Sync) {
             Ok(()) => {
-                self.tried = self.tried.passed();
+                self.operations = self.operations.passed();
                 Ok(())
             }
             Err(_) => Err(self.fail()),

@@ -1,10 +1,9 @@
--- Laws over the definitions of a tree only.
-use Rattle.std.specs.Prelude.{◌≡◌, ◌≢◌, ◌<◌, ℕ, suc, ◌∷◌, Some, None, Ok, IsSome}
+-- Laws over the definitions of a tree only (`docs/VOLUME.md`, "The tree").
+use Rattle.std.specs.Prelude.{◌≡◌, ◌≢◌, ◌<◌, ℕ, suc, ◌∷◌, length, Some, None, Ok, IsSome, IsTrue}
 use Rattle.std.specs.Option.{option_map}
 use Rattle.vol_tree.specs.Tree.{Tree, Path, Name, Node, Entry, entry, Leads, IsAt, IsTree, IsDirectory}
 use Rattle.vol_inode.specs.Name.{IsName}
 use Rattle.vol_tree.specs.Calls.{created, moved, is_within}
-use Rattle.std.specs.Prelude.{length, IsTrue}
 
 -- After the move of an entry to a name in a directory: what was below it is below it still, by the same names; it
 -- stands at the new name; every other entry stands where it stood; and each node is as it was.

@@ -1,4 +1,4 @@
--- An open volume, as its callers see it and as it keeps itself.
+-- An open volume, as its callers see it and as it keeps itself (`docs/VOLUME.md`, "The tree").
 use Rattle.std.specs.Prelude.{◌≡◌, ◌⊎◌, ◌+◌, ◌-◌, ◌*◌, ◌==◌, ◌≤◌, ◌++◌, ◌↔◌, ℕ, List, length, Bool, true, false, Option, Some, None, Result, Ok, Err, if◌then◌else◌, take, drop, map, slice_index}
 use Rattle.std.specs.List.{range_with_len}
 use Rattle.byteorder.specs.Endian.{little_number}
@@ -13,7 +13,7 @@ use Rattle.vol_tree.specs.Tree.{Tree}
 use Rattle.vol_tree.specs.Stands.{Slots, tree_of, Stands}
 use Rattle.vol_log.specs.declared.layout.TheConstants.{FIRST_AFTER_LOG}
 
--- ---- the slots that sectors spell
+-- ---- the slots that sectors spell (`docs/VOLUME.md`, "Entry")
 
 -- the entry that a sector spells, if it is used
 abbrev pub entry_in : List ℕ → Entry

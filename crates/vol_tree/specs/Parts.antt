@@ -1,4 +1,4 @@
--- What an open volume keeps of its parts.
+-- What an open volume shows of its parts (`docs/VOLUME.md`, "The tree").
 use Rattle.vol_sector.specs.declared.device.Device.{Ghosts}
 use Rattle.vol_log.specs.Log.{view, device_of, has_failed}
 use Rattle.vol_tree.specs.declared.parts.Parts.{Parts}

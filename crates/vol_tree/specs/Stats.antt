@@ -1,4 +1,4 @@
--- What is told of a volume.
+-- What is told of a volume (`docs/VOLUME.md`, "Space").
 use Rattle.std.specs.Prelude.{◌≡◌, ℕ}
 use Rattle.std.specs.Option.{is_some}
 use Rattle.std.specs.List.{count_by}

@@ -1,4 +1,4 @@
--- A tree of directories and files, by serial numbers and by paths.
+-- A tree of directories and files, by serial numbers and by paths (`docs/VOLUME.md`, "The tree").
 use Rattle.std.specs.Prelude.{◌≡◌, ◌≢◌, ℕ, zero, suc, Bool, true, false, ◌&&◌, not, ◌==◌, nat_eq, List, [], ◌∷◌, get_or, set, Option, Some, None, if◌then◌else◌, IsTrue}
 use Rattle.std.specs.Option.{is_some}
 use Rattle.std.specs.List.{list_any}

@@ -14,7 +14,7 @@ use crate::Errno;
 use crate::parts::Parts;
 use crate::stat::ROOT;
 use vol_body::set_size;
-use vol_inode::{Entry, Kind, is_name, need};
+use vol_inode::{Entry, is_name, need};
 use vol_sector::{Device, DeviceFault};
 
 impl<D: Device> Parts<D> {

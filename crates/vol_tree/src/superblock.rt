@@ -1,15 +1,14 @@
 //! The first sector of a volume.
 
-ghost use Rattle.std.specs.Prelude.{◌≡◌, ◌≢◌, ◌⊎◌, ◌≤◌, ◌+◌, ◌↔◌, Ok, IfOk, IfErr, IsErrOf, IsTrue};
-ghost use Rattle.std.specs.Prelude.{length, take, drop};
-ghost use Rattle.byteorder.specs.Endian.{little_bytes, little_number};
-ghost use Rattle.vol_inode.specs.internal.Writes.{overwritten};
+ghost use Rattle.std.specs.Prelude.{◌≡◌, ◌≢◌, ◌⊎◌, ◌↔◌, Ok, IfOk, IfErr, IsErrOf, IsTrue};
+ghost use Rattle.std.specs.Prelude.{take, drop};
+ghost use Rattle.byteorder.specs.Endian.{little_number};
 ghost use Rattle.vol_tree.specs.Superblock.{superblock, HasRanges, IsNoVersion, magic};
 ghost use Rattle.vol_tree.specs.Superblock.{version_number};
 ghost use Rattle.vol_tree.specs.declared.superblock.Superblock.{Superblock};
 
 use byteorder::{ByteOrder, LittleEndian};
-use vol_inode::Version;
+use vol_inode::{Version, put_bytes, put_number};
 use vol_log::FIRST_AFTER_LOG;
 use vol_sector::VolumeFault;
 
@@ -75,10 +74,10 @@ pub(crate) fn write_superblock(numbers: &Superblock) -> [u8; 512]
     ensures { result ≡ superblock numbers.now }
 {
     let mut image = [0; 512];
-    put(&mut image, 0, &MAGIC);
-    put(&mut image, 8, &number(version_number(numbers.version)));
-    put(&mut image, 12, &number(numbers.sectors));
-    put(&mut image, 16, &number(numbers.slots));
+    put_bytes(&mut image, 0, &MAGIC);
+    put_number(&mut image, 8, version_number(numbers.version));
+    put_number(&mut image, 12, numbers.sectors);
+    put_number(&mut image, 16, numbers.slots);
     image
 }
 
@@ -90,21 +89,4 @@ fn version_number(version: Version) -> u32
         Version::One => 1,
         Version::Two => 2,
     }
-}
-
-/// Copies the bytes into the sector, from a place on.
-fn put(image: &mut [u8; 512], at: usize, bytes: &[u8])
-    requires { at + length bytes.now ≤ 512 }
-    ensures { image.new ≡ overwritten image.old at bytes.now }
-{
-    image[at..at + bytes.len()].copy_from_slice(bytes);
-}
-
-/// The four bytes of a number.
-fn number(n: u32) -> [u8; 4]
-    ensures { result ≡ little_bytes 4 n }
-{
-    let mut bytes = [0u8; 4];
-    LittleEndian::write_u32(&mut bytes, n);
-    bytes
 }

@@ -3,7 +3,7 @@ use Rattle.std.specs.Prelude.{ℕ, ◌+◌, ◌==◌, ◌&&◌, Bool, not, nat_l
 use Rattle.std.specs.List.{list_any}
 use denote.Ref.{Bor}
 
--- texts behind references
+-- the texts that references name
 abbrev pub Texts : Type 0
 Texts = List (Bor (List ℕ))
 

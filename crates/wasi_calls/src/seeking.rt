@@ -11,7 +11,7 @@ ghost use Rattle.wasi_calls.specs.Descriptors.{last_position, fd_seek as seek_ro
 ghost use Rattle.wasi_calls.specs.Calls.{Answered};
 ghost use Rattle.wasi_calls.specs.Host.{VolumeStep};
 ghost use Rattle.wasi_calls.specs.internal.Serving.{KnowsEntries, NoMoreEntries, IsFileOf, errno_of, with_volume, with_table};
-ghost use Rattle.wasi_calls.specs.internal.Seeking.{seekable, position_at, TellsFrom, FailsFrom, StandsFor};
+ghost use Rattle.wasi_calls.specs.internal.Seeking.{seekable, position_at, TellsFrom, FailsFrom, IsOpenAs};
 
 use crate::checks::{Takes, check_range, check_that, described, opened_of, write_bytes};
 use crate::errno::{NOTCAPABLE, OVERFLOW};
@@ -143,7 +143,7 @@ pub(crate) fn move_to<'t>(
     opened: &Opened<'t>,
     position: u64,
 )
-    requires { StandsFor (table_of descriptors.old) fd opened.now }
+    requires { IsOpenAs (table_of descriptors.old) fd opened.now }
     ensures moved { (k : ℕ) → table_of descriptors.new k ≡ with_at fd (moved_to opened.now position) (table_of descriptors.old) k }
     ensures entries { NoMoreEntries (table_of descriptors.old) (table_of descriptors.new) }
 {

@@ -14,7 +14,7 @@ ghost use Rattle.wasi_calls.specs.Host.{VolumeStep};
 ghost use Rattle.wasi_calls.specs.internal.Serving.{IsFileOf, NoMoreEntries, errno_of, with_volume, with_table};
 ghost use Rattle.wasi_calls.specs.internal.Buffers.{list_of, AreUsable};
 ghost use Rattle.wasi_calls.specs.internal.Writing.{placed, written_on, written_to};
-ghost use Rattle.wasi_calls.specs.internal.Seeking.{StandsFor};
+ghost use Rattle.wasi_calls.specs.internal.Seeking.{IsOpenAs};
 
 use crate::buffers::{Request, total_len};
 use crate::checks::{Takes, entry_at, write_bytes};
@@ -130,7 +130,7 @@ fn write_on<'t, D: Device>(
     buffers: &[Span],
 ) -> Result<(), Errno>
     requires file { IsFileOf D.honest volume.old opened.now.serial }
-    requires open { StandsFor (table_of descriptors.old) request.now.fd opened.now }
+    requires open { IsOpenAs (table_of descriptors.old) request.now.fd opened.now }
     requires few { length buffers.now ≤ 1024 }
     requires usable { AreUsable memory.old (list_of buffers.now) request.now.result_at }
     ensures step { VolumeStep D.honest D.disk D.size D.failures volume.old volume.new }

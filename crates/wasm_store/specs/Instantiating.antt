@@ -1,4 +1,4 @@
--- What the functions that instantiate a module promise.
+-- What the functions that instantiate a module promise (section 4.5.4).
 use Rattle.std.specs.Prelude.{◌≡◌, ℕ, List, [], ◌∷◌, ◌++◌, Some, slice_get}
 use Rattle.std.specs.List.{AllByRecursion}
 use Rattle.std.specs.Option.{option_to_list}

@@ -1,4 +1,4 @@
--- What it means that a module is refused.
+-- What it means that a module is refused (section 3.4).
 use Rattle.wasm_module.specs.declared.fault.LoadFault.{LoadFault}
 use Rattle.wasm_module.specs.declared.fault.LoadFault.TheVariants.{Memory, Invalid}
 

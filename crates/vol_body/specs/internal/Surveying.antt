@@ -3,7 +3,7 @@ use Rattle.std.specs.Prelude.{◌≡◌, ◌≢◌, ◌/◌, ◌%◌, ◌≤◌,
 use Rattle.std.specs.List.{range_with_len, flat_map}
 use Rattle.vol_sector.specs.Disk.{Image}
 use Rattle.vol_inode.specs.declared.entry.Entry.{Entry}
-use Rattle.vol_inode.specs.Space.{blocks_for_size, lists_of}
+use Rattle.vol_inode.specs.Space.{blocks_for_size, inner_blocks_for}
 use Rattle.vol_body.specs.Body.{BlockPosition, data_block, IsPosition, first_served, named, number_in, block_bytes}
 use Rattle.vol_body.specs.Survey.{nonzero, AreInside}
 
@@ -38,7 +38,7 @@ LaterListNone content numbers count = (i : ℕ) → i < 128 → ListsNoneFrom co
 
 -- the pointer sector of pointer 59 lists no inner block for data blocks from a number on, and neither do these
 pub record LaterNone (content : Image) (double_indirect_block count : ℕ) : Type 0 where
-  pub own : ListsNoneFrom content double_indirect_block (lists_of (count - 186))
+  pub own : ListsNoneFrom content double_indirect_block (inner_blocks_for (count - 186))
   pub later : LaterListNone content (listed content double_indirect_block) count
 
 -- a position that serves only data blocks at or past the size names no sector

@@ -2,10 +2,7 @@
 use Rattle.std.specs.Prelude.{◌-◌, ℕ, Option, None, get_or}
 use Rattle.vol_sector.specs.Disk.{Image}
 use Rattle.vol_inode.specs.declared.entry.Entry.{Entry}
-use Rattle.vol_inode.specs.declared.entry.Kind.TheVariants as kinds
 use Rattle.vol_tree.specs.declared.superblock.Superblock.{Superblock}
-use Rattle.vol_tree.specs.declared.errno.Errno.{Errno}
-use Rattle.vol_tree.specs.declared.errno.Errno.TheVariants as errno
 use Rattle.vol_tree.specs.Opened.{slots_in}
 
 -- the entry of a serial

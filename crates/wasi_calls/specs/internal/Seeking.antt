@@ -52,7 +52,7 @@ pub record FailsFrom {D : Type 0} (old new : Opened D) (w : World) (o : OpenedEn
   pub never : w.volume_failed ≡ false → seek_from w o whence ≢ Err 29
 
 -- a number stands for this entry, at whatever position
-pub record StandsFor (table : Table) (fd : ℕ) (o : OpenedEntry) : Type 0 where
+pub record IsOpenAs (table : Table) (fd : ℕ) (o : OpenedEntry) : Type 0 where
   pub open_as : OpenedEntry
   pub is : table fd ≡ Some (Entry open_as)
   pub moved : o ≡ record open_as { position = o.position }

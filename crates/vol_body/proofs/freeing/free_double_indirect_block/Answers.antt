@@ -4,7 +4,7 @@ use Rattle.vol_sector.specs.Disk.{Image}
 use Rattle.vol_log.specs.Log.{view}
 use Rattle.vol_alloc.specs.Alloc.{taken_of}
 use Rattle.vol_body.specs.Body.{number_in}
-use Rattle.vol_body.specs.internal.Shorter.{Gives, GoesWithLater}
+use Rattle.vol_body.specs.internal.Truncated.{Gives, GoesWithLater}
 use Rattle.vol_body.proofs.Places.{number_there}
 use Rattle.vol_body.proofs.GivenBack.{gives_then, gives_these, gives_lists, known_number}
 use Rattle.vol_body.proofs.freeing.free_double_indirect_block.Goals as goal

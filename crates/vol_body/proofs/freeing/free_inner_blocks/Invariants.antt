@@ -2,7 +2,7 @@ use Rattle.std.proofs.Common.{◌≡◌, false, slice_index}
 use Rattle.vol_log.specs.Log.{view, device_of, has_failed}
 use Rattle.vol_alloc.specs.Alloc.{first_of, end_of, taken_of}
 use Rattle.vol_log.specs.Reading.{OnlyReads}
-use Rattle.vol_body.specs.internal.Shorter.{Gives, GoesWithLater}
+use Rattle.vol_body.specs.internal.Truncated.{Gives, GoesWithLater}
 use Rattle.vol_body.proofs.freeing.free_inner_blocks.Given as goal
 
 abbrev pub invariant-loop-i : goal.invariant-loop-i

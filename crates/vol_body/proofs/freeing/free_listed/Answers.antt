@@ -1,7 +1,7 @@
 use Rattle.std.proofs.Common.{◌*◌, ◌∙◌, ◌≡◌, ◌≤◌, ℕ, drop, subst, arith}
 use Rattle.byteorder.specs.Endian.{little_number}
 use Rattle.vol_alloc.specs.Alloc.{taken_of}
-use Rattle.vol_body.specs.internal.Shorter.{Gives}
+use Rattle.vol_body.specs.internal.Truncated.{Gives}
 use Rattle.vol_body.proofs.GivenBack.{gives_next}
 use Rattle.vol_body.proofs.freeing.free_listed.Goals as goal
 

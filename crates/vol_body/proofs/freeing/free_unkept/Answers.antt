@@ -2,7 +2,7 @@ use Rattle.std.proofs.Common.{◌≡◌, ◌≢◌, ◌∙◌, ◌-◌, ◌≤�
 use Rattle.vol_log.specs.Log.{view, log_sectors}
 use Rattle.vol_alloc.specs.Alloc.{taken_of}
 use Rattle.vol_body.specs.Body.{indirect_block, double_indirect_block, inner_block, named, number_in}
-use Rattle.vol_body.specs.internal.Shorter.{Gives, StandsFrom, GoesWithList, GoesWithLater}
+use Rattle.vol_body.specs.internal.Truncated.{Gives, IsAmong, GoesWithBlock, GoesWithLater}
 use Rattle.vol_body.proofs.Places.{known_at}
 use Rattle.vol_log.proofs.Readings.{reads_then}
 use Rattle.vol_body.proofs.GivenBack.{gives_then, gives_at, gives_all, known_there, GoesLater}
@@ -36,9 +36,9 @@ returns-clause-gives g c h names =
     subst (λ (n : ℕ). (i : ℕ) → i < 128 → number_in content n i ≢ 0 → t0 (number_in content n i) ≡ true) (sym of_lists) (λ i lt. names (inner_block i) lt) in
     let later : Gives t0 t1 (GoesLater content e count) =
     subst (λ (n : ℕ). Gives t0 t1 (λ m. GoesWithLater content (number_in content n) count 128 m ⊎ ((count ≤ 186) × (n ≡ m)))) of_lists (c.in_ok-free_double_indirect_block.ensures.gives h there) in
-    let listed : Gives t1 t2 (GoesWithList content (named content e indirect_block) (count - 58)) =
-    subst (λ (n : ℕ). Gives t1 t2 (GoesWithList content n (count - 58))) of_list
+    let listed : Gives t1 t2 (GoesWithBlock content (named content e indirect_block) (count - 58)) =
+    subst (λ (n : ℕ). Gives t1 t2 (GoesWithBlock content n (count - 58))) of_list
     (gives_at t1 t2 (view c.free_double_indirect_block.new.log) content c.taken_or_zero-indirect_block.result c.saturating_sub.result (count - 58) (c.in_ok-free_double_indirect_block.ensures.reads.view h) c.saturating_sub.ensures
     (c.in_ok-free_indirect_block.ensures.gives (c.in_ok-free_double_indirect_block.ensures.reads.honest.0 h))) in
     gives_all content e count t0 t3
-    (gives_then t0 t2 t3 _ (StandsFrom (slice_index e.pointers) count 58) (gives_then t0 t1 t2 (GoesLater content e count) (GoesWithList content (named content e indirect_block) (count - 58)) later listed) c.free_direct.ensures.gives)
+    (gives_then t0 t2 t3 _ (IsAmong (slice_index e.pointers) count 58) (gives_then t0 t1 t2 (GoesLater content e count) (GoesWithBlock content (named content e indirect_block) (count - 58)) later listed) c.free_direct.ensures.gives)

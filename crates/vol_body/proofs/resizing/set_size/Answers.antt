@@ -1,4 +1,4 @@
-use Rattle.std.proofs.Common.{◌∙◌, sym, ap, subst, arith}
+use Rattle.std.proofs.Common.{◌<◌, ◌∙◌, sym, ap, subst, arith}
 use Rattle.vol_sector.specs.Disk.{Image, put}
 use Rattle.vol_log.specs.Log.{view}
 use Rattle.vol_alloc.specs.Alloc.{first_of, end_of, taken_of}
@@ -8,9 +8,10 @@ use Rattle.vol_inode.specs.declared.entry.Entry.{Entry}
 use Rattle.vol_body.specs.Body.{bytes_of}
 use Rattle.vol_body.specs.Change.{OthersStay, TakesAndGives}
 use Rattle.vol_body.proofs.Parts.{length-bytes_of}
-use Rattle.vol_body.proofs.Cuts.{put_there}
+use Rattle.vol_body.proofs.CutSectors.{put_there}
 use Rattle.vol_body.proofs.Grown.{grown_others, grown_taken, grown_resized, slot_is_other}
-use Rattle.vol_body.proofs.Rights.{right_file, both, four}
+use Rattle.vol_body.proofs.NoneLost.{none_lost}
+use Rattle.vol_body.proofs.Rights.{right_file, one, both, four}
 use Rattle.vol_body.proofs.resizing.set_size.Goals as goal
 
 pub returns-clause-entry : goal.returns-clause-entry
@@ -44,3 +45,9 @@ returns-clause-file g c h names body =
           right_file version after e changed size right (λ directory. sym size_is ∙ none directory) (omega (arith, small, size_is))
           (longer ∙ sym (ap (λ (x : Entry). record e { size = size; pointers = x.pointers }) longer)) (subst HasWidths (sym longer) (record { parent = right.widths.parent; size = omega (arith, c.requires.small); name = right.widths.name; pointers = right.widths.pointers; each = right.widths.each })) rules;
     }) c.grow.ensures.staged c.grow.ensures.entry (c.grow.ensures.bytes body others) (c.grow.ensures.rules body others)
+
+pub returns-clause-none_lost : goal.returns-clause-none_lost
+returns-clause-none_lost g c h names body =
+    let sectors = c.args.sectors.now in
+    let some : 0 < first_of sectors = omega (arith, c.requires.slot) in
+    one c.grow.result _ _ (λ file. none_lost sectors sectors (view c.args.log.now) (view c.grow.new.log) c.args.entry.now c.grow.new.entry some (λ i. first_of sectors, λ i. end_of sectors) c.requires.small_before names body file.rules file.taken) (returns-clause-file g c h names body)

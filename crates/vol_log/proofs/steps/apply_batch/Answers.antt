@@ -102,7 +102,7 @@ returns-in_err-write-clause-under g c h =
     let h2 = c.sync.ensures.honest.0 h1 in
     let batch = c.args.batch.now in
     under_header batch c.header_image.result (g.D.Device.disk c.args.device.now).seen (g.D.Device.disk c.sync.new.self).seen (g.D.Device.disk c.write.new.self).seen
-    (ap (over batch) (c.sync.ensures.seen h1) ∙ c.install.ensures.under h) (c.write.ensures.tried h2)
+    (ap (over batch) (c.sync.ensures.seen h1) ∙ c.install.ensures.under h) (c.write.ensures.seen h2)
 
 pub returns-clause-under : goal.returns-clause-under
 returns-clause-under g c h =
@@ -113,4 +113,4 @@ returns-clause-under g c h =
     let a = g.D.Device.disk c.args.device.now in
     subst (λ (x : Image). SameContent (over batch x) (over batch a.seen)) (sym (c.sync-2.ensures.seen h3))
     (under_header batch c.header_image.result a.seen (g.D.Device.disk c.sync.new.self).seen (g.D.Device.disk c.write.new.self).seen
-    (ap (over batch) (c.sync.ensures.seen h1) ∙ c.install.ensures.under h) (c.write.ensures.tried h2))
+    (ap (over batch) (c.sync.ensures.seen h1) ∙ c.install.ensures.under h) (c.write.ensures.seen h2))

@@ -21,7 +21,7 @@ returns-in_err-write-clause-under g c h =
     let batch = c.args.batch.now in
     let i = c.loop-staged.staged-index in
     let lt : i < length batch = omega arith in
-    under_joins batch _ _ _ (c.loop-staged.invariant.under h) (wrote_under batch i lt _ _ (c.write.ensures.tried (c.loop-staged.invariant.honest.0 h)))
+    under_joins batch _ _ _ (c.loop-staged.invariant.under h) (wrote_under batch i lt _ _ (c.write.ensures.seen (c.loop-staged.invariant.honest.0 h)))
 
 pub returns-in_err-write-clause-crash : goal.returns-in_err-write-clause-crash
 returns-in_err-write-clause-crash g c h =
@@ -40,7 +40,7 @@ loop-staged-preserved g c =
     let w = c.in_ok-write.ensures.written in
     record {
       placed = λ h. placed_more batch i _ _ (g.D.Device.size c.args.device.now) lt c.requires (w (so_far.honest.0 h)) (so_far.placed h);
-      under = λ h. under_joins batch _ _ _ (so_far.under h) (wrote_under batch i lt _ _ (e.tried (so_far.honest.0 h)));
+      under = λ h. under_joins batch _ _ _ (so_far.under h) (wrote_under batch i lt _ _ (e.seen (so_far.honest.0 h)));
       crash = λ h. leaves_step _ _ _ (Under batch) _ (wrote_under batch i lt) (under_joins batch) (so_far.crash h) (e.crash (so_far.honest.0 h));
       honest = search rules;
       size = search rules;

@@ -19,7 +19,7 @@ loop-i-preserved g c =
     let w = c.in_ok-write.ensures.written in
     record {
       logged = λ h. ap (λ m. logged (numbers (take (i + 1) batch)) 2 m) (w (so_far.honest.0 h)) ∙ logged_more batch i _ _ lt (so_far.logged h);
-      beside = λ h. outside_joins _ _ _ (so_far.beside h) (wrote_image _ _ low high _ _ (e.tried (so_far.honest.0 h)));
+      beside = λ h. outside_joins _ _ _ (so_far.beside h) (wrote_image _ _ low high _ _ (e.seen (so_far.honest.0 h)));
       crash = λ h. leaves_step _ _ _ OnlyImagesChange _ (wrote_image _ _ low high) outside_joins (so_far.crash h) (e.crash (so_far.honest.0 h));
       honest = search rules;
       size = search rules;

@@ -13,7 +13,7 @@ loop-s-preserved g c =
     let w = c.in_ok-write.ensures.written in
     record {
       written = λ h. slots_more c.loop-s.s _ _ _ (w (so_far.honest.0 h)) c.fresh_slot.ensures (so_far.written h);
-      beside = λ h. after_log_joins _ _ _ (so_far.beside h) (wrote_after_log _ _ after_log _ _ (e.tried (so_far.honest.0 h)));
+      beside = λ h. after_log_joins _ _ _ (so_far.beside h) (wrote_after_log _ _ after_log _ _ (e.seen (so_far.honest.0 h)));
       crash = λ h. leaves_step _ _ _ OnlyAfterLogChanges _ (wrote_after_log _ _ after_log) after_log_joins (so_far.crash h) (e.crash (so_far.honest.0 h));
       honest = search rules;
       size = search rules;
@@ -30,4 +30,4 @@ pub returns-in_err-write-clause-beside : goal.returns-in_err-write-clause-beside
 returns-in_err-write-clause-beside g c h =
     let after_log : FIRST_AFTER_LOG ≤ FIRST_AFTER_LOG + c.loop-s.s = omega arith in
     let so_far = c.loop-s.invariant in
-    after_log_joins _ _ _ (so_far.beside h) (wrote_after_log _ _ after_log _ _ (c.write.ensures.tried (so_far.honest.0 h)))
+    after_log_joins _ _ _ (so_far.beside h) (wrote_after_log _ _ after_log _ _ (c.write.ensures.seen (so_far.honest.0 h)))

@@ -5,8 +5,8 @@ use Rattle.wasm_store.proofs.instantiation.type_index.Goals as goal
 
 pub bounds-as_slice-function : goal.bounds-as_slice-function
 bounds-as_slice-function c =
-    let behind = rw c.as_slice-imports.ensures at c.if-function-imports.false in
-    rw (c.as_slice.ensures, c.as_slice-imports.ensures) (own_inside c.args.guest.now c.args.function c.requires.functions c.requires.fits behind)
+    let own = rw c.as_slice-imports.ensures at c.if-function-imports.false in
+    rw (c.as_slice.ensures, c.as_slice-imports.ensures) (own_inside c.args.guest.now c.args.function c.requires.functions c.requires.fits own)
 
 pub returns-in-Function : goal.returns-in-Function
 returns-in-Function c =
@@ -16,9 +16,9 @@ returns-in-Function c =
 
 pub returns-else-function-imports : goal.returns-else-function-imports
 returns-else-function-imports c =
-    let behind = rw c.as_slice-imports.ensures at c.if-function-imports.false in
+    let own = rw c.as_slice-imports.ensures at c.if-function-imports.false in
     let m = c.args.guest.now in
     let x = c.args.function in
     rw (c.as_slice.ensures, c.as_slice-imports.ensures)
-    (own_index m x (get_or m.functions (x - length m.imports) 0) c.requires.functions behind
-    (slice_get-get_or m.functions (x - length m.imports) 0 (own_inside m x c.requires.functions c.requires.fits behind)))
+    (own_index m x (get_or m.functions (x - length m.imports) 0) c.requires.functions own
+    (slice_get-get_or m.functions (x - length m.imports) 0 (own_inside m x c.requires.functions c.requires.fits own)))

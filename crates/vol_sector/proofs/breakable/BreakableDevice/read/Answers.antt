@@ -1,8 +1,8 @@
-use Rattle.vol_sector.specs.Breakable.{device_of, tried_of}
+use Rattle.vol_sector.specs.internal.Breakable.{device_of, operations_of}
 use Rattle.vol_sector.proofs.Counting.{leaves_passed}
 use Rattle.vol_sector.proofs.breakable.BreakableDevice.read.Goals as goal
 
 pub returns-clause-crash : goal.returns-clause-crash
 returns-clause-crash g c h =
     let b = c.args.self.now in
-    leaves_passed (tried_of b) c.passed-self.result.operations (g.D.Device.disk (device_of b)) (g.D.Device.disk c.read.new.self) (λ x. ⊥) c.passed-self.ensures (c.read.ensures.operation_count h) (c.read.ensures.crash h)
+    leaves_passed (operations_of b) c.passed-self.result.outcomes (g.D.Device.disk (device_of b)) (g.D.Device.disk c.read.new.self) (λ x. ⊥) c.passed-self.ensures (c.read.ensures.operation_count h) (c.read.ensures.crash h)

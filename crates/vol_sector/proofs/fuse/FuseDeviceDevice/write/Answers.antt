@@ -1,4 +1,4 @@
-use Rattle.vol_sector.specs.Breakable.{disk_of}
+use Rattle.vol_sector.specs.internal.Breakable.{disk_of}
 use Rattle.vol_sector.proofs.Counting.{leaves_any}
 use Rattle.vol_sector.proofs.fuse.FuseDeviceDevice.write.Goals as goal
 

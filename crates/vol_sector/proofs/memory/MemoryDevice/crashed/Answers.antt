@@ -11,7 +11,7 @@ use Rattle.vol_sector.proofs.memory.MemoryDevice.crashed.Goals.{then-written, el
 pub loop-n-preserved : goal.loop-n-preserved
 loop-n-preserved c =
     let first = image_of c.args.self.now.first.items in
-    let ops = c.args.self.now.operations.items in
+    let ops = c.args.self.now.history.items in
     let picks = c.args.picks.now in
     let n = c.loop-n.n in
     let counted = c.loop-n.invariant.used in

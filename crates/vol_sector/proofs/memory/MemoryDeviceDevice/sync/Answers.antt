@@ -2,7 +2,7 @@ use Rattle.std.proofs.Common.{◌∙◌, List, sym, subst, ap}
 use Rattle.std.proofs.lemmas.List.{length_push}
 use Rattle.vol_sector.specs.Disk.{Leaves, Keeps, Only}
 use Rattle.vol_sector.specs.Counting.{counting}
-use Rattle.vol_sector.specs.Memory.{first_of, record_of, tried_of, disk_of}
+use Rattle.vol_sector.specs.Memory.{first_of, record_of, operations_of, disk_of}
 use Rattle.vol_sector.specs.Record.{newest, recorded, LeftBy}
 use Rattle.vol_sector.specs.Record.{image_of}
 use Rattle.vol_sector.specs.declared.record.Operation.{Operation}
@@ -14,29 +14,29 @@ use Rattle.vol_sector.proofs.memory.MemoryDeviceDevice.sync.Goals as goal
 pub invariant_of-self-clause-agrees : goal.invariant_of-self-clause-agrees
 invariant_of-self-clause-agrees c n =
     let m = c.args.self.now in
-    m.agrees n ∙ sym (newest_sync n (image_of m.first.items n) m.operations.items)
+    m.agrees n ∙ sym (newest_sync n (image_of m.first.items n) m.history.items)
     ∙ ap (λ (ops : List Operation). newest n (image_of m.first.items n) ops) (sym c.in-Ok.ensures.items)
 
 pub returns-in-Ok-clause-durable : goal.returns-in-Ok-clause-durable
 returns-in-Ok-clause-durable c h =
     let m = c.args.self.now in
     let first = image_of m.first.items in
-    subst (λ (ops : List Operation). Only (recorded first m.operations.items).seen (LeftBy first ops)) (sym c.in-Ok.ensures.items) (only_sync first m.operations.items)
+    subst (λ (ops : List Operation). Only (recorded first m.history.items).seen (LeftBy first ops)) (sym c.in-Ok.ensures.items) (only_sync first m.history.items)
 
 pub returns-in-Ok-clause-crash : goal.returns-in-Ok-clause-crash
 returns-in-Ok-clause-crash c h =
     let m = c.args.self.now in
     let first = first_of m in
     let ops = record_of m in
-    let tried = c.passed-self.result.operations in
-    subst (λ (r : List Operation). Leaves (disk_of m) (counting tried (recorded first r)) (λ x. ⊥)) (sym c.in-Ok.ensures.items)
-    (leaves_passed (tried_of m) tried (recorded first ops) (recorded first _) (λ x. ⊥) c.passed-self.ensures (length_push ops Sync) (leaves_sync first ops))
+    let operations = c.passed-self.result.outcomes in
+    subst (λ (r : List Operation). Leaves (disk_of m) (counting operations (recorded first r)) (λ x. ⊥)) (sym c.in-Ok.ensures.items)
+    (leaves_passed (operations_of m) operations (recorded first ops) (recorded first _) (λ x. ⊥) c.passed-self.ensures (length_push ops Sync) (leaves_sync first ops))
 
 pub returns-in-Ok-clause-keeps : goal.returns-in-Ok-clause-keeps
 returns-in-Ok-clause-keeps c h =
     let m = c.args.self.now in
     let first = first_of m in
     let ops = record_of m in
-    let tried = c.passed-self.result.operations in
-    subst (λ (r : List Operation). Keeps (disk_of m) (counting tried (recorded first r))) (sym c.in-Ok.ensures.items)
-    (keeps_passed (tried_of m) tried (recorded first ops) (recorded first _) c.passed-self.ensures (length_push ops Sync) (keeps_push first ops Sync))
+    let operations = c.passed-self.result.outcomes in
+    subst (λ (r : List Operation). Keeps (disk_of m) (counting operations (recorded first r))) (sym c.in-Ok.ensures.items)
+    (keeps_passed (operations_of m) operations (recorded first ops) (recorded first _) c.passed-self.ensures (length_push ops Sync) (keeps_push first ops Sync))

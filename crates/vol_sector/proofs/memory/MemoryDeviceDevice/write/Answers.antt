@@ -2,7 +2,7 @@ use Rattle.std.proofs.Common.{◌∙◌, List, sym, subst, ap, arith}
 use Rattle.std.proofs.lemmas.List.{length_push}
 use Rattle.vol_sector.specs.Disk.{Leaves, Keeps, After, Wrote}
 use Rattle.vol_sector.specs.Counting.{counting}
-use Rattle.vol_sector.specs.Memory.{first_of, record_of, tried_of, disk_of}
+use Rattle.vol_sector.specs.Memory.{first_of, record_of, operations_of, disk_of}
 use Rattle.vol_sector.specs.Record.{newest, recorded, LeftBy}
 use Rattle.vol_sector.specs.Record.{image_of}
 use Rattle.vol_sector.specs.declared.record.Operation.{Operation}
@@ -14,7 +14,7 @@ use Rattle.vol_sector.proofs.memory.MemoryDeviceDevice.write.Goals as goal
 pub invariant_of-self-clause-agrees : goal.invariant_of-self-clause-agrees
 invariant_of-self-clause-agrees c n =
     let m = c.args.self.now in
-    agrees_write m.first.items m.current.items m.operations.items c.args.n c.args.image.now (omega (arith, c.requires)) m.agrees n
+    agrees_write m.first.items m.current.items m.history.items c.args.n c.args.image.now (omega (arith, c.requires)) m.agrees n
     ∙ ap (λ (ops : List Operation). newest n (image_of m.first.items n) ops) (sym c.in-Ok.ensures.items)
 
 pub returns-in-Ok-clause-crash : goal.returns-in-Ok-clause-crash
@@ -22,19 +22,19 @@ returns-in-Ok-clause-crash c h =
     let m = c.args.self.now in
     let first = first_of m in
     let ops = record_of m in
-    let tried = c.passed-self.result.operations in
+    let operations = c.passed-self.result.outcomes in
     let step = After (Wrote c.args.n c.args.image.now) (LeftBy first ops) in
-    subst (λ (r : List Operation). Leaves (disk_of m) (counting tried (recorded first r)) step) (sym c.in-Ok.ensures.items)
-    (leaves_passed (tried_of m) tried (recorded first ops) (recorded first _) step c.passed-self.ensures (length_push ops (Write c.args.n c.args.image.now)) (leaves_write first ops c.args.n c.args.image.now))
+    subst (λ (r : List Operation). Leaves (disk_of m) (counting operations (recorded first r)) step) (sym c.in-Ok.ensures.items)
+    (leaves_passed (operations_of m) operations (recorded first ops) (recorded first _) step c.passed-self.ensures (length_push ops (Write c.args.n c.args.image.now)) (leaves_write first ops c.args.n c.args.image.now))
 
 pub returns-in-Ok-clause-keeps : goal.returns-in-Ok-clause-keeps
 returns-in-Ok-clause-keeps c h =
     let m = c.args.self.now in
     let first = first_of m in
     let ops = record_of m in
-    let tried = c.passed-self.result.operations in
-    subst (λ (r : List Operation). Keeps (disk_of m) (counting tried (recorded first r))) (sym c.in-Ok.ensures.items)
-    (keeps_passed (tried_of m) tried (recorded first ops) (recorded first _) c.passed-self.ensures (length_push ops (Write c.args.n c.args.image.now)) (keeps_push first ops (Write c.args.n c.args.image.now)))
+    let operations = c.passed-self.result.outcomes in
+    subst (λ (r : List Operation). Keeps (disk_of m) (counting operations (recorded first r))) (sym c.in-Ok.ensures.items)
+    (keeps_passed (operations_of m) operations (recorded first ops) (recorded first _) c.passed-self.ensures (length_push ops (Write c.args.n c.args.image.now)) (keeps_push first ops (Write c.args.n c.args.image.now)))
 
 pub returns-then-len-self-clause-crash : goal.returns-then-len-self-clause-crash
 returns-then-len-self-clause-crash c h = leaves_any (disk_of c.args.self.now) (disk_of c.fail.new.self) _ c.fail.ensures.crash

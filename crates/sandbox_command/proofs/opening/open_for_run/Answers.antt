@@ -1,0 +1,13 @@
+use Rattle.std.proofs.Common.{Option, IfErr, sym, subst}
+use Rattle.std.specs.Borrow.{Bor}
+use Rattle.sandbox_command.specs.Request.{Text}
+use Rattle.sandbox_command.specs.Volumes.{IsRefusedFor}
+use Rattle.sandbox_command.proofs.FreshVolume.{refused_open}
+use Rattle.sandbox_command.proofs.opening.open_for_run.Goals as goal
+
+-- the file's volume was refused
+pub returns-in-Some-clause-refused : goal.returns-in-Some-clause-refused
+returns-in-Some-clause-refused g c =
+    let told = c.open.ensures in
+    subst (λ (file : Option (Bor Text)). IfErr c.open.result (IsRefusedFor g.D.Device.honest g.D.Device.disk g.D.Device.size file c.args.device)) (sym c.in-Some.is)
+    (refused_open g.D.Device.honest g.D.Device.disk g.D.Device.size _ c.args.device c.open.result told.not_a_volume told.version told.damaged told.faults_named told.crash_err told.kept_err)

@@ -1,0 +1,12 @@
+use Rattle.std.proofs.Common.{sym, subst}
+use Rattle.vol_sector.specs.Disk.{Leaves}
+use Rattle.sandbox_command.specs.declared.request.Task.{Task}
+use Rattle.sandbox_command.specs.Tasks.{ReflectsAny}
+use Rattle.sandbox_command.specs.Doing.{IsPartOf}
+use Rattle.sandbox_command.proofs.tasks.done_with.Goals as goal
+
+pub returns-in-Put-clause-crash : goal.returns-in-Put-clause-crash
+returns-in-Put-clause-crash g c h =
+    let v = c.args.volume.now in
+    subst (λ (t : Task). Leaves (g.D.Device.disk v.device) (g.D.Device.disk c.put.new.volume.device)
+    (ReflectsAny (g.D.Device.disk v.device) (IsPartOf t v.numbers v.tree (g.R.Read.remaining c.args.input.now)))) (sym c.in-Put.is) (c.put.ensures.crash h)

@@ -1,0 +1,79 @@
+-- What a task does with the volume on a device.
+use Rattle.std.specs.Prelude.{◌≡◌, ◌⊎◌, ◌↔◌, ℕ, List, Option, Result, Ok, Err, OnOk, IfErr}
+use Rattle.vol_sector.specs.Disk.{Image, Disk, Leaves}
+use Rattle.vol_sector.specs.declared.fault.VolumeFault.{VolumeFault}
+use Rattle.vol_sector.specs.declared.fault.VolumeFault.TheVariants as fault
+use Rattle.vol_inode.specs.declared.version.Version.TheVariants.{One, Two}
+use Rattle.vol_tree.specs.declared.superblock.Superblock.{Superblock}
+use Rattle.vol_tree.specs.Tree.{Tree}
+use Rattle.vol_tree.specs.Stands.{Stands, StandsAs}
+use Rattle.vol_tree.specs.Opening.{StandsOn, NoVolumeOn, HasNoVersion, IsDamaged}
+use Rattle.sandbox_command.specs.declared.request.Task.{Task}
+use Rattle.sandbox_command.specs.declared.request.Task.TheVariants.{List as Ls, Get, Put, Check, Upgrade}
+use Rattle.sandbox_command.specs.declared.failure.Failure.{Failure}
+use Rattle.sandbox_command.specs.declared.failure.Failure.TheVariants.{Volume}
+use Rattle.sandbox_command.specs.Tasks.{IsPartOfPut, Prints, Puts, ReflectsAny, printed_file, printed_listing, summary}
+
+-- An upgrade is refused with 35 for version 2, and else only with 33.
+pub record Upgrades (v : Superblock) (done : Result (Unit {0}) Failure) : Type 0 where
+  pub newest : v.version ≡ Two → done ≡ Err (Volume fault.Upgraded)
+  pub refused : v.version ≡ One → IfErr done (λ f. f ≡ Volume fault.Device)
+
+-- What a task prints of a volume's tree, and the tree that it leaves, by what is known of the input and the output
+-- before it and after.
+abbrev pub Does : Task → Superblock → Tree → Option (List ℕ) → Option (List ℕ) → Option (List ℕ) → Option (List ℕ) → Tree → Result (Unit {0}) Failure → Type 0
+Does (Ls path) v T given unread before after U done = Prints (printed_listing T path.now) before after done × (U ≡ T)
+Does (Get path) v T given unread before after U done = Prints (printed_file T path.now) before after done × (U ≡ T)
+Does (Put path) v T given unread before after U done = Puts v T path.now given unread U done
+Does Check v T given unread before after U done = Prints (Ok (summary v T)) before after done × (U ≡ T)
+Does Upgrade v T given unread before after U done = Upgrades v done × (U ≡ T)
+
+-- the trees that a stop inside a task may leave
+abbrev pub IsPartOf : Task → Superblock → Tree → Option (List ℕ) → Tree → Type 0
+IsPartOf (Ls path) v T given U = U ≡ T
+IsPartOf (Get path) v T given U = U ≡ T
+IsPartOf (Put path) v T given U = IsPartOfPut v T path.now given U
+IsPartOf Check v T given U = U ≡ T
+IsPartOf Upgrade v T given U = U ≡ T
+
+-- what each crash leaves where a task that changes a volume ended with success
+abbrev pub Lasts : Task → Superblock → Tree → (Image → Type 0) → Type 0
+Lasts (Ls path) v U may_leave = Unit {0}
+Lasts (Get path) v U may_leave = Unit {0}
+Lasts (Put path) v U may_leave = (c : Image) → may_leave c → Stands c U
+Lasts Check v U may_leave = Unit {0}
+Lasts Upgrade v U may_leave = (c : Image) → may_leave c → StandsAs c (record v { version = Two }) U
+
+-- why a volume may be refused
+abbrev pub RefusedBy : VolumeFault → ℕ → Image → Type 0
+RefusedBy fault.NotAVolume size seen = NoVolumeOn size seen
+RefusedBy fault.Version size seen = HasNoVersion size seen
+RefusedBy fault.Damaged size seen = IsDamaged size seen
+RefusedBy fault.Device size seen = Unit {0}
+RefusedBy fault.TooSmall size seen = ⊥
+RefusedBy fault.Upgraded size seen = ⊥
+RefusedBy fault.Geometry size seen = ⊥
+RefusedBy fault.Memory size seen = Unit {0}
+
+module _ {D : Type 0} (is_honest : D → Type 0) (disk : D → Disk) (sectors_on : D → ℕ) (task : Task) (device : D) (given unread before after : Option (List ℕ)) (left : D) (done : Result (Unit {0}) Failure) where
+  -- What reads give of the device stands for a tree, and the task was done with it.
+  pub record WasDone : Type 0 where
+    pub numbers : Superblock
+    pub tree : Tree
+    pub stands : StandsOn (sectors_on device) (disk device).seen numbers tree
+    pub new_tree : Tree
+    pub does : Does task numbers tree given unread before after new_tree done
+    pub crash : Leaves (disk device) (disk left) (ReflectsAny (disk device) (IsPartOf task numbers tree given))
+    pub lasts : OnOk done (Lasts task numbers new_tree (disk left).may_leave)
+
+  -- The volume is refused; what stands for a tree stands for it still.
+  pub record WasRefused : Type 0 where
+    pub fault : VolumeFault
+    pub is : done ≡ Err (Volume fault)
+    pub why : RefusedBy fault (sectors_on device) (disk device).seen
+    pub crash : (v : Superblock) (T : Tree) → StandsOn (sectors_on device) (disk device).seen v T → Leaves (disk device) (disk left) (λ c. StandsAs c v T)
+
+  pub record Performs : Type 0 where
+    pub ends : is_honest device → WasDone ⊎ WasRefused
+    pub honest : is_honest device ↔ is_honest left
+    pub size : sectors_on left ≡ sectors_on device

@@ -1,0 +1,80 @@
+-- What a run of a module on an open volume says.
+use Rattle.std.specs.Prelude.{◌≡◌, ◌⊎◌, ℕ, List, Option, Result, Ok, Err}
+use Rattle.std.proofs.Common.{inl, inr}
+use Rattle.vol_sector.specs.Disk.{Image, Disk, Leaves}
+use Rattle.vol_sector.specs.declared.fault.Refused.{Refused}
+use Rattle.vol_tree.specs.Opened.{Opened}
+use Rattle.vol_tree.specs.Stands.{Stands}
+use Rattle.wasm_module.specs.declared.module.Module.{Module}
+use Rattle.wasm_interp.specs.Configuration.{Instance, Configuration, first_configuration}
+use Rattle.wasm_interp.specs.Steps.{CallsOf, Reach}
+use Rattle.wasi_calls.specs.declared.wasi_host.HostParts.{HostParts}
+use Rattle.wasi_calls.specs.World.{World}
+use Rattle.wasi_calls.specs.Calls as world
+use Rattle.wasi_calls.specs.Host.{HostState, StreamBytes, world_of}
+use Rattle.sandbox_core.specs.declared.fault.SessionFault.{SessionFault}
+use Rattle.sandbox_core.specs.declared.report.Report.{Report}
+use Rattle.sandbox_core.specs.Session.{SessionState, Opens, Shares, IsRefused, KeepsVolume}
+use Rattle.sandbox_core.specs.Runs.{ComesBy, RunsWithin}
+use Rattle.sandbox_core.specs.Report.{Calls, Reports}
+use Rattle.sandbox_core.specs.Headline.{TellAll}
+use Rattle.sandbox_command.specs.Status.{EndsWith, session_status}
+
+-- the device of a volume that is handed back, or the device itself
+abbrev pub device_of : {D : Type 0} → Result (Opened D) (Refused D) → D
+device_of (Ok v) = v.device
+device_of (Err refused) = refused.device
+
+module _ {D R W1 W2 : Type 0} (is_honest : D → Type 0) (disk : D → Disk) (sectors_on failures : D → ℕ)
+    (remaining : R → Option (List ℕ)) (out_contents : W1 → Option (List ℕ)) (err_contents : W2 → Option (List ℕ)) where
+  abbrev pub Host : Type 0
+  Host = HostState D R W1 W2
+
+  abbrev pub HostCalls : CallsOf Host
+  HostCalls = Calls is_honest disk sectors_on failures remaining out_contents err_contents
+
+  -- The module gets no session, and nothing but reads was done with the volume.
+  pub record NotOpened (m : Module) (parts : HostParts D R W1 W2) (status : ℕ) (after : D) : Type 0 where
+    pub fault : SessionFault
+    pub refused : IsRefused is_honest fault m parts
+    pub volume : Opened D
+    pub kept : KeepsVolume is_honest disk sectors_on failures fault parts.volume volume
+    pub device : after ≡ volume.device
+    pub ends : status ≡ session_status fault
+
+  -- the hosts that a run from a session comes by, whose trees a crash may leave
+  abbrev pub StandsInRun : (i : Instance) (h : Host) (c : Configuration) (fuel : ℕ) (report : Report D R W1 W2) (last : Host) (used : ℕ) → RunsWithin Host HostCalls i h c fuel last report.outcome used → Image → Type 0
+  StandsInRun i h c fuel report last used run image = (host : Host) × ComesBy Host HostCalls i h c run.answers last run.last host × Stands image host.volume.tree
+
+  -- A session ran from the module's first configuration, with this fuel.
+  pub record Ran (m : Module) (fuel : ℕ) (parts : HostParts D R W1 W2) (status : ℕ) (after : D) : Type 0 where
+    pub session : SessionState D R W1 W2
+    pub opens : Opens m parts session
+    pub shares : Shares is_honest disk sectors_on failures parts session
+    pub report : Report D R W1 W2
+    pub reports : Reports is_honest disk sectors_on failures remaining out_contents err_contents session fuel report
+    pub ends : EndsWith report.outcome report.volume status
+    pub device : after ≡ device_of report.volume
+    -- Where the streams tell their bytes, it is a run over a tree of paths and these bytes.
+    pub over_paths : is_honest parts.volume.device → (before : StreamBytes) → TellAll is_honest disk sectors_on failures remaining out_contents err_contents session.host before
+        → let first = first_configuration opens.starts.entered opens.starts.store in
+        let run = reports.run opens.starts.instance first opens.starts.stands in
+        (bytes : StreamBytes) × TellAll is_honest disk sectors_on failures remaining out_contents err_contents reports.last.host bytes
+        × Reach World world.Calls opens.starts.instance (world_of session.host before) first run.answers (world_of reports.last.host bytes) run.last
+    -- Where a crash at its beginning leaves the volume's tree, one at any moment leaves that of a host that the run comes by.
+    pub crash : is_honest parts.volume.device → ((c : Image) → (disk parts.volume.device).may_leave c → Stands c parts.volume.tree)
+        → let first = first_configuration opens.starts.entered opens.starts.store in
+        Leaves (disk parts.volume.device) (disk after) (StandsInRun opens.starts.instance session.host first fuel report reports.last.host _
+        (reports.run opens.starts.instance first opens.starts.stands))
+
+  -- a valid module gets no session, or runs
+  abbrev pub Launches : Module → ℕ → HostParts D R W1 W2 → ℕ → D → Type 0
+  Launches m fuel parts status after = NotOpened m parts status after ⊎ Ran m fuel parts status after
+
+  -- what a stop after the volume was opened may leave: the tree of a host that the run comes by
+  abbrev pub LeftByRun : (m : Module) (fuel : ℕ) (parts : HostParts D R W1 W2) (status : ℕ) (after : D) → Launches m fuel parts status after → Image → Type 0
+  LeftByRun m fuel parts status after (inl refused) image = ⊥
+  LeftByRun m fuel parts status after (inr ran) image =
+      let first = first_configuration ran.opens.starts.entered ran.opens.starts.store in
+      StandsInRun ran.opens.starts.instance ran.session.host first fuel ran.report ran.reports.last.host _
+      (ran.reports.run ran.opens.starts.instance first ran.opens.starts.stands) image

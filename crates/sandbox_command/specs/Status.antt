@@ -1,0 +1,65 @@
+-- The exit statuses of the program (`README.md`, "The program").
+use Rattle.std.specs.Prelude.{◌≡◌, ◌⊎◌, ℕ, Result, Ok, Err, if◌then◌else◌, nat_le}
+use Rattle.std.specs.declared.io.ErrorKind.{ErrorKind as InputKind}
+use Rattle.std.specs.declared.io.ErrorKind.TheVariants as input
+use Rattle.clap.specs.declared.error.kind.ErrorKind.{ErrorKind as LineKind}
+use Rattle.clap.specs.declared.error.kind.ErrorKind.TheVariants as line
+use Rattle.wasm_module.specs.declared.fault.LoadFault.{LoadFault}
+use Rattle.wasm_module.specs.declared.fault.LoadFault.TheVariants as loading
+use Rattle.wasm_interp.specs.declared.pause.Outcome.{Outcome}
+use Rattle.wasm_interp.specs.declared.pause.Outcome.TheVariants.{Exited, Trapped, OutOfFuel, OutOfMemory}
+use Rattle.sandbox_core.specs.declared.fault.SessionFault.{SessionFault}
+use Rattle.sandbox_core.specs.declared.fault.SessionFault.TheVariants as opening
+use Rattle.vol_sector.specs.declared.fault.VolumeFault.{VolumeFault}
+use Rattle.vol_sector.specs.declared.fault.VolumeFault.TheVariants as volume
+use Rattle.sandbox_command.specs.declared.failure.Failure.{Failure}
+use Rattle.sandbox_command.specs.declared.failure.Failure.TheVariants.{Volume}
+
+-- the guest's own status, where it isn't greater than 119
+abbrev pub status_of : Outcome → ℕ
+status_of (Exited n) = if nat_le n 119 then n else 119
+status_of (Trapped t) = 120
+status_of OutOfFuel = 121
+status_of OutOfMemory = 122
+
+-- The status after a run that left this: 123 where its calls couldn't be committed; else that of its outcome, or 124
+-- where an output couldn't be flushed. When a flush fails, no writer says.
+abbrev pub EndsWith : {V R : Type 0} → Outcome → Result V R → ℕ → Type 0
+EndsWith outcome (Ok volume) status = (status ≡ status_of outcome) ⊎ (status ≡ 124)
+EndsWith outcome (Err refused) status = status ≡ 123
+
+abbrev pub load_status : LoadFault → ℕ
+load_status loading.Memory = 122
+load_status f = 124
+
+abbrev pub session_status : SessionFault → ℕ
+session_status opening.Memory = 122
+session_status f = 124
+
+-- where a volume is refused
+abbrev pub volume_status : VolumeFault → ℕ
+volume_status volume.Memory = 122
+volume_status f = 124
+
+-- where the words of the command line can't be read
+abbrev pub words_status : InputKind → ℕ
+words_status input.OutOfMemory = 122
+words_status k = 125
+
+-- where the command line is refused, or help or the version is asked for
+abbrev pub command_line_status : LineKind → ℕ
+command_line_status line.OutOfMemory = 122
+command_line_status k = 125
+
+-- of a task on a volume
+abbrev pub failure_status : Failure → ℕ
+failure_status (Volume volume.Memory) = 122
+failure_status f = 124
+
+abbrev pub task_status : Result (Unit {0}) Failure → ℕ
+task_status (Ok x) = 0
+task_status (Err f) = failure_status f
+
+-- The status after a task: that of how it ended, or 124 where an output couldn't be flushed.
+abbrev pub TaskEndsWith : Result (Unit {0}) Failure → ℕ → Type 0
+TaskEndsWith done status = (status ≡ task_status done) ⊎ (status ≡ 124)

@@ -1,0 +1,187 @@
+//! Commands on the files that they name, with the streams of the system.
+
+ghost use Rattle.std.specs.Prelude.{◌≡◌, ◌⊎◌, ◌≤◌};
+ghost use Rattle.sandbox_command.specs.declared.file_device.FileDevice.{FileDevice};
+ghost use Rattle.sandbox_command.specs.declared.ram_device.RamDevice.{RamDevice};
+ghost use Rattle.sandbox_command.specs.Execution.{Executes};
+
+use crate::file_device::FileDevice;
+use crate::opening::FRESH_SECTORS;
+use crate::ram_device::RamDevice;
+use crate::request::{Invocation, Run};
+use crate::{program, words};
+use std::fs::File;
+use std::io::{ErrorKind, Read, Write};
+use std::{env, io};
+use vol_sector::Device;
+
+/// How many bytes of a module's file are read at most: one more than a module may have.
+const MODULE_READ: u64 = 67_108_865;
+
+/// How many random bytes are read at most, so that a file with no end gives some, too.
+const RANDOM_READ: u64 = 67_108_864;
+
+/// Does what the words of the command line ask for, and gives the exit status.
+pub fn answer(rt: &HostRuntime) -> u8 {
+    match words_given(rt) {
+        Ok(words) => answer_words(rt, words.as_slice()),
+        Err(error) => program::refuse_words(&mut rt.stderr(), &error),
+    }
+}
+
+/// The words that the program was called with. One that isn't UTF-8 is refused.
+fn words_given(rt: &HostRuntime) -> io::Result<Vec<String>> {
+    Ok(env::args(rt)?.collect(rt.alloc())?)
+}
+
+/// Does what these words ask for, and gives the exit status.
+fn answer_words(rt: &HostRuntime, words: &[String]) -> u8 {
+    match words::invocation(rt.alloc(), words) {
+        Ok(invocation) => perform(rt, &invocation, rt.reader(), io::writer(rt), rt.stderr()),
+        Err(refused) => program::refuse_command_line(&mut rt.stderr(), &refused),
+    }
+}
+
+/// Executes the invocation on the files that it names: a module and its volume, a file that is made or
+/// lengthened for its sectors, or a volume. No contract says what a file holds. Where one can't be
+/// read or written the status is 124, or 122 for want of memory.
+pub fn perform<R: Read + Drop, W1: Write + Drop, W2: Write + Drop>(
+    rt: &HostRuntime,
+    invocation: &Invocation<'_>,
+    input: R,
+    out: W1,
+    err: W2,
+) -> u8
+    ensures { result ≤ 124 }
+{
+    let opened = match invocation {
+        Invocation::Run(run) => return perform_run(rt, invocation, run, input, out, err),
+        Invocation::Format { file, sectors, .. } => FileDevice::make(
+            rt.alloc(),
+            rt,
+            file,
+            *sectors,
+        ),
+        Invocation::Volume { file, .. } => FileDevice::open(rt.alloc(), rt, file),
+    };
+    match opened {
+        Ok(device) => on_file(rt, invocation, b"", b"", device, input, out, err),
+        Err(error) => refuse(&error, err),
+    }
+}
+
+/// Executes a run on the bytes of its files and on the file of its volume, or on one in memory.
+fn perform_run<R: Read + Drop, W1: Write + Drop, W2: Write + Drop>(
+    rt: &HostRuntime,
+    invocation: &Invocation<'_>,
+    run: &Run<'_>,
+    input: R,
+    out: W1,
+    mut err: W2,
+) -> u8
+    ensures { result ≤ 124 }
+{
+    let (module, random) = match read_files(rt, run) {
+        Ok(bytes) => bytes,
+        Err(error) => return refuse(&error, err),
+    };
+    let (module, random) = (module.as_slice(), random.as_slice());
+    let Some(file) = run.volume else {
+        return match RamDevice::new(rt.alloc(), FRESH_SECTORS) {
+            Ok(device) => in_memory(rt, invocation, module, random, device, input, out, err),
+            Err(_) => program::out_of_memory(&mut err),
+        };
+    };
+    match FileDevice::open(rt.alloc(), rt, file) {
+        Ok(device) => on_file(rt, invocation, module, random, device, input, out, err),
+        Err(error) => refuse(&error, err),
+    }
+}
+
+/// Refuses a file that can't be read or written.
+fn refuse<W: Write + Drop>(error: &io::Error, mut err: W) -> u8
+    ensures { (result ≡ 122) ⊎ (result ≡ 124) }
+{
+    if error.kind() == ErrorKind::OutOfMemory {
+        return program::out_of_memory(&mut err);
+    }
+    program::refuse_file(&mut err)
+}
+
+/// Executes a run on a volume in memory.
+fn in_memory<R: Read + Drop, W1: Write + Drop, W2: Write + Drop>(
+    rt: &HostRuntime,
+    invocation: &Invocation<'_>,
+    module: &[u8],
+    random: &[u8],
+    device: RamDevice,
+    input: R,
+    out: W1,
+    err: W2,
+) -> u8
+    ensures tells { (after : RamDevice) × Executes
+        ⟦<RamDevice as Device>⟧.honest ⟦<RamDevice as Device>⟧.disk ⟦<RamDevice as Device>⟧.size
+        ⟦<RamDevice as Device>⟧.failures R.remaining W1.contents W2.contents
+        invocation.now «module».now random.now device input out err result after }
+    ensures within { result ≤ 124 }
+{
+    program::execute(
+        rt.alloc(),
+        invocation,
+        module,
+        random,
+        device,
+        input,
+        out,
+        err,
+    )
+    .0
+}
+
+/// Executes a command on a volume in a file.
+fn on_file<R: Read + Drop, W1: Write + Drop, W2: Write + Drop>(
+    rt: &HostRuntime,
+    invocation: &Invocation<'_>,
+    module: &[u8],
+    random: &[u8],
+    device: FileDevice,
+    input: R,
+    out: W1,
+    err: W2,
+) -> u8
+    ensures tells { (after : FileDevice) × Executes
+        ⟦<FileDevice as Device>⟧.honest ⟦<FileDevice as Device>⟧.disk ⟦<FileDevice as Device>⟧.size
+        ⟦<FileDevice as Device>⟧.failures R.remaining W1.contents W2.contents
+        invocation.now «module».now random.now device input out err result after }
+    ensures within { result ≤ 124 }
+{
+    program::execute(
+        rt.alloc(),
+        invocation,
+        module,
+        random,
+        device,
+        input,
+        out,
+        err,
+    )
+    .0
+}
+
+/// The bytes of the module's file, and of the random bytes' where the run names one.
+fn read_files(rt: &HostRuntime, run: &Run<'_>) -> io::Result<(Vec<u8>, Vec<u8>)> {
+    let module = read_file(rt, run.module, MODULE_READ)?;
+    let random = match run.random {
+        Some(file) => read_file(rt, file, RANDOM_READ)?,
+        None => Vec::new(rt.alloc()),
+    };
+    Ok((module, random))
+}
+
+/// The bytes of a file, or this many of them where it has more. That a module has too many is then for
+/// the decoder to say.
+fn read_file(rt: &HostRuntime, path: &str, most: u64) -> io::Result<Vec<u8>> {
+    let mut bytes = Vec::new(rt.alloc());
+    File::open(rt, path)?.take(most).read_to_end(&mut bytes)?;
+    Ok(bytes)
+}

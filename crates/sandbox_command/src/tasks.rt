@@ -1,0 +1,77 @@
+//! What is done with the volume on a device.
+
+ghost use Rattle.std.specs.Prelude.{◌≡◌, ◌↔◌, OnOk};
+ghost use Rattle.vol_sector.specs.Disk.{Leaves};
+ghost use Rattle.sandbox_command.specs.Tasks.{IsWorking, ReflectsAny};
+ghost use Rattle.sandbox_command.specs.Formatting.{Formats};
+ghost use Rattle.sandbox_command.specs.Doing.{Does, IsPartOf, Lasts, Performs};
+
+use crate::failure::Failure;
+use crate::printing::{check, get, list};
+use crate::putting::put;
+use crate::request::Task;
+use std::alloc::Global;
+use std::io::{Read, Write};
+use vol_sector::{Device, Refused};
+use vol_tree::Volume;
+
+/// Makes the first sectors of a device an empty volume with these numbers of sectors and of slots
+/// for entries, and gives the device back.
+pub(crate) fn format<D: Device>(device: D, sectors: u32, slots: u32) -> (Result<(), Failure>, D)
+    ensures { Formats D.honest D.disk D.size device sectors slots result.1 result.0 }
+{
+    match Volume::format(device, sectors, slots) {
+        Ok(device) => (Ok(()), device),
+        Err(Refused { device, fault }) => (Err(Failure::Volume(fault)), device),
+    }
+}
+
+/// Does a task with an open volume.
+fn done_with<D: Device, R: Read, W: Write>(
+    volume: &mut Volume<D>,
+    task: Task<'_>,
+    input: &mut R,
+    out: &mut W,
+) -> Result<(), Failure>
+    requires { IsWorking volume.old }
+    ensures does { D.honest volume.old.device
+        → Does task.entry volume.old.numbers volume.old.tree (R.remaining input.old)
+        (R.remaining input.new) (W.contents out.old) (W.contents out.new) volume.new.tree result }
+    ensures crash { D.honest volume.old.device
+        → Leaves (D.disk volume.old.device) (D.disk volume.new.device)
+        (ReflectsAny (D.disk volume.old.device)
+        (IsPartOf task.entry volume.old.numbers volume.old.tree (R.remaining input.old))) }
+    ensures lasts { D.honest volume.old.device → OnOk result
+        (Lasts task.entry volume.old.numbers volume.new.tree (D.disk volume.new.device).may_leave) }
+    ensures honest { D.honest volume.old.device ↔ D.honest volume.new.device }
+    ensures size { D.size volume.new.device ≡ D.size volume.old.device }
+{
+    match task {
+        Task::List { path } => list(volume, path, out),
+        Task::Get { path } => get(volume, path, out),
+        Task::Put { path } => put(volume, path, input),
+        Task::Check => check(volume, out),
+        Task::Upgrade => Ok(volume.upgrade()?),
+    }
+}
+
+/// Opens the volume of a device, does a task with it, and gives the device back. What isn't
+/// committed when it ends is given up.
+pub(crate) fn perform<D: Device, R: Read, W: Write>(
+    alloc: Global,
+    device: D,
+    task: Task<'_>,
+    input: &mut R,
+    out: &mut W,
+) -> (Result<(), Failure>, D)
+    ensures { Performs D.honest D.disk D.size task.entry device (R.remaining input.old)
+        (R.remaining input.new) (W.contents out.old) (W.contents out.new) result.1 result.0 }
+{
+    match Volume::open(alloc, device) {
+        Ok(mut volume) => {
+            let done = done_with(&mut volume, task, input, out);
+            (done, volume.into_device())
+        }
+        Err(Refused { device, fault }) => (Err(Failure::Volume(fault)), device),
+    }
+}

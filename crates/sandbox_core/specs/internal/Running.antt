@@ -1,0 +1,30 @@
+-- A session on its way: that it stands for a configuration, and a run of it before the commit at its end.
+use Rattle.std.specs.Prelude.{ℕ, List, Option}
+use Rattle.vol_sector.specs.Disk.{Disk, Leaves}
+use Rattle.wasm_interp.specs.declared.pause.Outcome.{Outcome}
+use Rattle.wasm_interp.specs.Configuration.{Instance, Configuration}
+use Rattle.wasm_interp.specs.Machine.{Snapshot, Represents}
+use Rattle.wasi_calls.specs.Host.{HostState}
+use Rattle.sandbox_core.specs.Session.{SessionState, used_by}
+use Rattle.sandbox_core.specs.Runs.{RunsWithin, Passed}
+use Rattle.sandbox_core.specs.Report.{Calls, disk_of, tree_of}
+
+-- the machine stands for some configuration
+pub record HasConfiguration (machine : Snapshot) : Type 0 where
+  pub instance : Instance
+  pub configuration : Configuration
+  pub stands : Represents machine instance configuration
+
+module _ {D R W1 W2 : Type 0} (honest : D → Type 0) (disk : D → Disk) (sectors_on failures : D → ℕ)
+    (remaining : R → Option (List ℕ)) (out_contents : W1 → Option (List ℕ)) (err_contents : W2 → Option (List ℕ)) where
+  -- A run from a configuration with these units of fuel, which ends so. Each image that a crash may leave since it began
+  -- could be left before, or stands for a tree that one could leave then, or for that of a host that the run comes by.
+  pub record RunsTo (old : SessionState D R W1 W2) (fuel : ℕ) (new : SessionState D R W1 W2) (outcome : Outcome) : Type 0 where
+    pub honest_after : honest old.host.volume.device → honest new.host.volume.device
+    pub run : (i : Instance) (c : Configuration) → Represents old.machine i c
+        → RunsWithin (HostState D R W1 W2) (Calls honest disk sectors_on failures remaining out_contents err_contents) i old.host c fuel new.host outcome (used_by new)
+    pub crash : honest old.host.volume.device → (i : Instance) (c : Configuration) (stands : Represents old.machine i c)
+        → Leaves (disk old.host.volume.device) (disk new.host.volume.device)
+        (Passed (HostState D R W1 W2) (Calls honest disk sectors_on failures remaining out_contents err_contents)
+        (disk_of honest disk sectors_on failures remaining out_contents err_contents) (tree_of honest disk sectors_on failures remaining out_contents err_contents)
+        i old.host c fuel new.host outcome (used_by new) (run i c stands))

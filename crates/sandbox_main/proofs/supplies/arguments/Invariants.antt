@@ -1,7 +1,0 @@
-use Rattle.std.proofs.Common.{◌≡◌, ◌∷◌, take}
-use Rattle.sandbox_main.specs.Request.{texts}
-use Rattle.sandbox_main.proofs.supplies.arguments.Given as goal
-
--- the words so far
-abbrev pub invariant-loop-word : goal.invariant-loop-word
-invariant-loop-word l = texts l.arguments.items ≡ l.run.module.now ∷ texts (take l.word-index l.run.words.items)
