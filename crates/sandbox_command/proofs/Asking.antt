@@ -5,7 +5,7 @@ use Rattle.vol_tree.specs.declared.superblock.Superblock.{Superblock}
 use Rattle.vol_tree.specs.Superblock.{HasRanges}
 use Rattle.vol_tree.specs.Opened.{Opened, Keeps}
 use Rattle.path_walk.specs.Walk.{Asked}
-use Rattle.sandbox_command.specs.Tasks.{IsWorking}
+use Rattle.sandbox_command.specs.internal.Working.{IsWorking}
 
 module _ {D : Type 0} (honest : D → Type 0) (disk : D → Disk) (size failures : D → ℕ) where
   -- a volume still works after a step in which no operation failed

@@ -6,7 +6,6 @@ use Rattle.wasi_calls.specs.declared.settings.Settings.{Settings}
 use Rattle.sandbox_core.specs.declared.fault.SessionFault.{SessionFault}
 use Rattle.sandbox_core.specs.declared.fault.SessionFault.TheVariants.{Setting, Memory}
 use Rattle.sandbox_command.specs.declared.request.Run.{Run}
-use Rattle.sandbox_command.specs.declared.supplies.Supplies.{Supplies}
 use Rattle.sandbox_command.specs.Request.{Text, texts, arguments_of}
 
 -- `=`
@@ -36,11 +35,6 @@ AreDirectories words preopens = map (λ p. Some (names_of p)) preopens ≡ map c
 -- Why the words aren't taken: one of them has no `=`, or memory was refused.
 abbrev pub IsUncut : List Text → SessionFault → Type 0
 IsUncut words fault = ((fault ≡ Setting) × Contains (map cut words) None) ⊎ (fault ≡ Memory)
-
-pub record AreSupplies (run : Run) (supplies : Supplies) : Type 0 where
-  pub args : texts supplies.args.items ≡ arguments_of run
-  pub env : texts supplies.env.items ≡ texts run.env.items
-  pub preopens : AreDirectories (directories_of run) supplies.preopens.items
 
 -- The settings of a run: the module's word and the others, the environment, the directories, the moment, these random
 -- bytes, and the pages.

@@ -6,23 +6,18 @@ use Rattle.vol_sector.specs.Disk.{Image, Disk}
 use Rattle.vol_tree.specs.declared.superblock.Superblock.{Superblock}
 use Rattle.vol_tree.specs.declared.errno.Errno.{Errno}
 use Rattle.vol_tree.specs.declared.errno.Errno.TheVariants as errno
-use Rattle.vol_tree.specs.Superblock.{version_number, HasRanges}
+use Rattle.vol_tree.specs.Superblock.{version_number}
 use Rattle.vol_tree.specs.Tree.{Tree, Node, Directory, File, Entry}
 use Rattle.vol_tree.specs.Space.{Geometry, space, size_of}
 use Rattle.vol_tree.specs.Stats.{entries_of}
 use Rattle.vol_tree.specs.Stands.{Stands}
 use Rattle.vol_tree.specs.Calls.{directory_at, bytes_at, with_bytes, created, resized, if_it_fits}
-use Rattle.vol_tree.specs.Opened.{Opened, Reflects, data_sectors, geometry, is_io}
+use Rattle.vol_tree.specs.Opened.{Opened, Reflects, data_sectors, geometry}
 use Rattle.path_walk.specs.Paths.{Reached, Found, Missing, slash, ◌>>=◌}
 use Rattle.path_walk.specs.Rooted.{reached_from_root}
 use Rattle.sandbox_command.specs.declared.failure.Failure.{Failure}
 use Rattle.sandbox_command.specs.declared.failure.Failure.TheVariants as failure
 use Rattle.sandbox_command.specs.Request.{Text}
-
--- a volume that is open and works
-pub record IsWorking {D : Type 0} (v : Opened D) : Type 0 where
-  pub working : v.failed ≡ false
-  pub ranges : HasRanges v.numbers
 
 -- ---- paths
 
@@ -90,13 +85,6 @@ Prints meant before after (Ok x) = (text : Text) × (meant ≡ Ok text) × Appen
 Prints meant before after (Err (failure.Volume fault)) = ⊥
 Prints meant before after (Err (failure.Tree e)) = (meant ≡ Err e) ⊎ (e ≡ errno.Io)
 Prints meant before after (Err failure.Stream) = Unit {0}
-
--- whether a call on the tree met a device that failed
-abbrev pub io_failed : Result (Unit {0}) Failure → Bool
-io_failed (Ok x) = false
-io_failed (Err (failure.Volume fault)) = false
-io_failed (Err (failure.Tree e)) = is_io {X = Unit {0}} (Err e)
-io_failed (Err failure.Stream) = false
 
 -- ---- putting
 

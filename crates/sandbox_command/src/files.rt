@@ -22,7 +22,9 @@ const MODULE_READ: u64 = 67_108_865;
 const RANDOM_READ: u64 = 67_108_864;
 
 /// Does what the words of the command line ask for, and gives the exit status.
-pub fn answer(rt: &HostRuntime) -> u8 {
+pub fn answer(rt: &HostRuntime) -> u8
+    ensures { result ≤ 125 }
+{
     match words_given(rt) {
         Ok(words) => answer_words(rt, words.as_slice()),
         Err(error) => program::refuse_words(&mut rt.stderr(), &error),
@@ -35,7 +37,9 @@ fn words_given(rt: &HostRuntime) -> io::Result<Vec<String>> {
 }
 
 /// Does what these words ask for, and gives the exit status.
-fn answer_words(rt: &HostRuntime, words: &[String]) -> u8 {
+fn answer_words(rt: &HostRuntime, words: &[String]) -> u8
+    ensures { result ≤ 125 }
+{
     match words::invocation(rt.alloc(), words) {
         Ok(invocation) => perform(rt, &invocation, rt.reader(), io::writer(rt), rt.stderr()),
         Err(refused) => program::refuse_command_line(&mut rt.stderr(), &refused),

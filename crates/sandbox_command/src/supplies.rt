@@ -3,7 +3,8 @@
 ghost use Rattle.std.specs.Prelude.{◌≡◌, IfOk, IfErr, option_map};
 ghost use Rattle.sandbox_command.specs.Request.{texts, arguments_of};
 ghost use Rattle.sandbox_command.specs.Supplies.{cut, names_of, directories_of};
-ghost use Rattle.sandbox_command.specs.Supplies.{AreDirectories, AreSettings, AreSupplies, IsUncut};
+ghost use Rattle.sandbox_command.specs.Supplies.{AreDirectories, AreSettings, IsUncut};
+ghost use Rattle.sandbox_command.specs.internal.Supplies.{AreSupplies};
 
 use crate::request::Run;
 use sandbox_core::{Preopen, SessionFault, Settings};

@@ -2,9 +2,10 @@
 
 ghost use Rattle.std.specs.Prelude.{◌≡◌, ◌↔◌, OnOk};
 ghost use Rattle.vol_sector.specs.Disk.{Leaves};
-ghost use Rattle.sandbox_command.specs.Tasks.{IsWorking, ReflectsAny};
+ghost use Rattle.sandbox_command.specs.Tasks.{ReflectsAny};
 ghost use Rattle.sandbox_command.specs.Formatting.{Formats};
 ghost use Rattle.sandbox_command.specs.Doing.{Does, IsPartOf, Lasts, Performs};
+ghost use Rattle.sandbox_command.specs.internal.Working.{IsWorking};
 
 use crate::failure::Failure;
 use crate::printing::{check, get, list};

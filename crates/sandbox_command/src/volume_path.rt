@@ -4,9 +4,10 @@ ghost use Rattle.std.specs.Prelude.{◌≡◌, IfOk, false};
 ghost use Rattle.path_walk.specs.Walk.{Asked, GivesBoth, IsEntryOf, IsReached};
 ghost use Rattle.vol_tree.specs.Calls.{directory_at};
 ghost use Rattle.vol_tree.specs.Opened.{is_io};
-ghost use Rattle.sandbox_command.specs.Tasks.{IsWorking, reached, serial_named};
+ghost use Rattle.sandbox_command.specs.Tasks.{reached, serial_named};
 ghost use Rattle.sandbox_command.specs.Tasks.{entry_named, directory_named, file_named};
 ghost use Rattle.sandbox_command.specs.internal.Reaching.{Answered};
+ghost use Rattle.sandbox_command.specs.internal.Working.{IsWorking};
 
 use path_walk::{Reached, is_directory, walk_from_root};
 use vol_sector::Device;

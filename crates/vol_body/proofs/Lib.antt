@@ -16,7 +16,7 @@ pub mod Repeats
 pub mod Loads
 pub mod Written
 pub mod Finished
-pub mod GivenBack
+pub mod Freed
 pub mod CutSectors
 pub mod Zeros
 pub mod Truncated

@@ -11,7 +11,7 @@ use Rattle.vol_body.specs.declared.truncation.Truncation.{Truncation}
 use Rattle.vol_body.specs.Body.{BlockPosition, data_block, indirect_block, double_indirect_block, inner_block, IsPosition, first_served, named, bytes_of, IsBody, NamesTaken}
 use Rattle.vol_body.specs.Bytes.{resized_bytes}
 use Rattle.vol_body.specs.Change.{OthersStay, TakesAndGives}
-use Rattle.vol_body.specs.internal.Truncated.{kept_bytes, last_data_block, cut_indirect_block, last_inner_block, cut, IsCut, IsTruncation, AreWithin, with_cut, with_truncation, Gives, Goes}
+use Rattle.vol_body.specs.internal.Truncated.{kept_bytes, last_data_block, cut_indirect_block, last_inner_block, cut, IsCut, IsTruncation, AreWithin, with_cut, with_truncation, Frees, IsFreed}
 use Rattle.vol_inode.specs.Entry.{first_block_of_pointer}
 use Rattle.vol_body.proofs.Parts.{length-bytes_of, get_or-bytes_of}
 use Rattle.vol_body.proofs.CutSectors.{put_past, cut_elsewhere, cut_there}
@@ -24,7 +24,7 @@ pub record Shrinks (size place first end : ℕ) (content : Image) (e changed : E
   pub names : NamesTaken was content e
   pub are_cut : IsTruncation content e size truncation
   pub within : AreWithin first end truncation
-  pub gives : Gives was now (Goes content e (blocks_for_size size))
+  pub frees : Frees was now (IsFreed content e (blocks_for_size size))
   pub new_size : changed.size ≡ size
   pub pointers : (j : ℕ) → j < 60 → get_or changed.pointers j 0 ≡ (if nat_lt (first_block_of_pointer j) (blocks_for_size size) then get_or e.pointers j 0 else 0)
   pub shorter : size < e.size
@@ -185,7 +185,7 @@ module _ (size place first end : ℕ) (content : Image) (e changed : Entry) (tru
       ∙ sym (get_or-take size (old ++ more) k 0 below ∙ get_or_append_left old more 0 k (omega (arith, below, length-bytes_of content e, s.shorter)) ∙ get_or-bytes_of content e k (omega (arith, below, s.shorter))))
 
   -- what goes isn't named any more
-  kept_stays : (p : BlockPosition) → IsPosition p → first_served p < blocks_for_size size → named content e p ≢ 0 → Goes content e (blocks_for_size size) (named content e p) → ⊥
+  kept_stays : (p : BlockPosition) → IsPosition p → first_served p < blocks_for_size size → named content e p ≢ 0 → IsFreed content e (blocks_for_size size) (named content e p) → ⊥
   kept_stays p there kept some goes =
       let same : p ≡ goes.0 = s.body.distinct p goes.0 there goes.1 some (sym goes.3) in
       let at : first_served p ≡ first_served goes.0 = ap first_served same in
@@ -195,7 +195,7 @@ module _ (size place first end : ℕ) (content : Image) (e changed : Entry) (tru
   now_taken p there some =
       let before = named_before p there some in
       let was_some : named content e p ≢ 0 = λ none. some (before.1 ∙ none) in
-      subst (λ (n : ℕ). now n ≡ true) (sym before.1) (s.gives.others (named content e p) (kept_stays p there before.0 was_some) ∙ s.names p there was_some)
+      subst (λ (n : ℕ). now n ≡ true) (sym before.1) (s.frees.others (named content e p) (kept_stays p there before.0 was_some) ∙ s.names p there was_some)
 
   pub shrunk_taken : TakesAndGives was now content after e changed
   shrunk_taken = record {
@@ -208,7 +208,7 @@ module _ (size place first end : ℕ) (content : Image) (e changed : Entry) (tru
         let p = was_named.position.0 in
         elim (cases_lt (first_served p) (blocks_for_size size)) [
           | inl kept ↦ absurd (foreign p was_named.position.1 (keeps size content after e changed shorter p was_named.position.1 kept ∙ was_named.position.2))
-          | inr lost ↦ false_if (now n) (s.gives.given n (p, was_named.position.1, lost, was_named.position.2))
+          | inr lost ↦ false_if (now n) (s.frees.freed n (p, was_named.position.1, lost, was_named.position.2))
         ];
-    others = λ n foreign foreign_now. s.gives.others n (λ goes. foreign goes.0 goes.1 goes.3);
+    others = λ n foreign foreign_now. s.frees.others n (λ goes. foreign goes.0 goes.1 goes.3);
   }

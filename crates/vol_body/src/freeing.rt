@@ -7,7 +7,7 @@ ghost use Rattle.vol_log.specs.Log.{view, log_sectors, has_failed, device_of};
 ghost use Rattle.vol_alloc.specs.Alloc.{first_of, end_of, taken_of};
 ghost use Rattle.vol_body.specs.Body.{NamesTaken, number_in};
 ghost use Rattle.vol_log.specs.Reading.{OnlyReads};
-ghost use Rattle.vol_body.specs.internal.Truncated.{Gives, IsAmong, GoesWithBlock, GoesWithLater, Goes};
+ghost use Rattle.vol_body.specs.internal.Truncated.{Frees, IsAmong, IsFreedWithBlock, IsFreedWithLater, IsFreed};
 
 use crate::locate::{number_at, taken_or_zero};
 use vol_alloc::Alloc;
@@ -17,7 +17,7 @@ use vol_sector::{Device, DeviceFault};
 
 /// Frees the sector if it is taken.
 fn free_taken(sectors: &mut Alloc, n: u32)
-    ensures gives { Gives (taken_of sectors.old) (taken_of sectors.new) (λ k. k ≡ n) }
+    ensures frees { Frees (taken_of sectors.old) (taken_of sectors.new) (λ k. k ≡ n) }
     ensures range { (first_of sectors.new ≡ first_of sectors.old)
         × (end_of sectors.new ≡ end_of sectors.old) }
 {
@@ -28,7 +28,7 @@ fn free_taken(sectors: &mut Alloc, n: u32)
 
 /// Frees the sectors that the entry itself names for data blocks from one on.
 fn free_direct(sectors: &mut Alloc, entry: &Entry, from: u32)
-    ensures gives { Gives (taken_of sectors.old) (taken_of sectors.new)
+    ensures frees { Frees (taken_of sectors.old) (taken_of sectors.new)
         (IsAmong (slice_index entry.now.pointers) from 58) }
     ensures range { (first_of sectors.new ≡ first_of sectors.old)
         × (end_of sectors.new ≡ end_of sectors.old) }
@@ -40,7 +40,7 @@ fn free_direct(sectors: &mut Alloc, entry: &Entry, from: u32)
 
 /// Frees the sectors whose numbers a pointer sector has from one on.
 fn free_listed(sectors: &mut Alloc, image: &[u8; 512], from: u32)
-    ensures gives { Gives (taken_of sectors.old) (taken_of sectors.new)
+    ensures frees { Frees (taken_of sectors.old) (taken_of sectors.new)
         (IsAmong (λ i. little_number 4 (drop (4 * i) image.now)) from 128) }
     ensures range { (first_of sectors.new ≡ first_of sectors.old)
         × (end_of sectors.new ≡ end_of sectors.old) }
@@ -61,8 +61,8 @@ fn free_indirect_block<D: Device>(
     requires there { indirect_block ≢ 0 → indirect_block < log_sectors log.old }
     requires working { has_failed log.old ≡ false }
     requires data { 0 < first_of sectors.old }
-    ensures gives { D.honest (device_of log.old) → OnOk result (Gives (taken_of sectors.old)
-        (taken_of sectors.new) (GoesWithBlock (view log.old) indirect_block from)) }
+    ensures frees { D.honest (device_of log.old) → OnOk result (Frees (taken_of sectors.old)
+        (taken_of sectors.new) (IsFreedWithBlock (view log.old) indirect_block from)) }
     ensures range { (first_of sectors.new ≡ first_of sectors.old)
         × (end_of sectors.new ≡ end_of sectors.old) }
     ensures reads { OnlyReads log.old log.new }
@@ -106,8 +106,8 @@ fn free_inner_blocks<D: Device>(
         → slice_index inner_blocks.now i < log_sectors log.old }
     requires working { has_failed log.old ≡ false }
     requires data { 0 < first_of sectors.old }
-    ensures gives { D.honest (device_of log.old) → OnOk result (Gives (taken_of sectors.old)
-        (taken_of sectors.new) (GoesWithLater (view log.old) (slice_index inner_blocks.now) count 128)) }
+    ensures frees { D.honest (device_of log.old) → OnOk result (Frees (taken_of sectors.old)
+        (taken_of sectors.new) (IsFreedWithLater (view log.old) (slice_index inner_blocks.now) count 128)) }
     ensures range { (first_of sectors.new ≡ first_of sectors.old)
         × (end_of sectors.new ≡ end_of sectors.old) }
     ensures reads { OnlyReads log.old log.new }
@@ -131,11 +131,11 @@ fn free_double_indirect_block<D: Device>(
     requires range { end_of sectors.old ≤ log_sectors log.old }
     requires working { has_failed log.old ≡ false }
     requires data { 0 < first_of sectors.old }
-    ensures gives { D.honest (device_of log.old)
+    ensures frees { D.honest (device_of log.old)
         → ((i : ℕ) → i < 128 → number_in (view log.old) double_indirect_block i ≢ 0
         → taken_of sectors.old (number_in (view log.old) double_indirect_block i) ≡ true)
-        → OnOk result (Gives (taken_of sectors.old) (taken_of sectors.new)
-        (λ n. GoesWithLater (view log.old) (number_in (view log.old) double_indirect_block) count 128 n
+        → OnOk result (Frees (taken_of sectors.old) (taken_of sectors.new)
+        (λ n. IsFreedWithLater (view log.old) (number_in (view log.old) double_indirect_block) count 128 n
         ⊎ ((count ≤ 186) × (double_indirect_block ≡ n)))) }
     ensures range { (first_of sectors.new ≡ first_of sectors.old)
         × (end_of sectors.new ≡ end_of sectors.old) }
@@ -164,10 +164,10 @@ pub fn free_unkept<D: Device>(
     requires there { end_of sectors.old ≤ log_sectors log.old }
     requires working { has_failed log.old ≡ false }
     requires data { 0 < first_of sectors.old }
-    ensures gives { D.honest (device_of log.old)
+    ensures frees { D.honest (device_of log.old)
         → NamesTaken (taken_of sectors.old) (view log.old) entry.now
-        → OnOk result (Gives (taken_of sectors.old) (taken_of sectors.new)
-        (Goes (view log.old) entry.now count)) }
+        → OnOk result (Frees (taken_of sectors.old) (taken_of sectors.new)
+        (IsFreed (view log.old) entry.now count)) }
     ensures range { (first_of sectors.new ≡ first_of sectors.old)
         × (end_of sectors.new ≡ end_of sectors.old) }
     ensures reads { OnlyReads log.old log.new }

@@ -1,10 +1,8 @@
 -- Instances of a module.
-use Rattle.std.specs.Prelude.{◌≡◌, ◌<◌, ◌^◌, List, ◌++◌}
+use Rattle.std.specs.Prelude.{◌≡◌, List, ◌++◌}
 use Rattle.wasm_module.specs.declared.module.Module.{Module}
 use Rattle.wasm_store.specs.declared.call.HostCall.{HostCall}
-use Rattle.wasm_interp.specs.Operators.{width}
-use Rattle.wasm_interp.specs.Configuration.{Val, val, Callee, Instance}
-use Rattle.wasm_interp.specs.Steps.{CallsOf}
+use Rattle.wasm_interp.specs.Configuration.{Callee, Instance}
 use Rattle.wasm_store.specs.Instantiation.{AreOwn}
 pub use Rattle.wasm_store.specs.Instantiating.{IsCallee, AreCallees}
 
@@ -17,11 +15,3 @@ pub record IsInstanceOf (m : Module) (calls : List HostCall) (i : Instance) : Ty
   pub callees : i.callees ≡ linked ++ owned
   pub are_callees : AreCallees m.types m.imports calls linked
   pub are_own : AreOwn m.types m.functions m.bodies owned
-
--- a value's number is one of its type
-abbrev pub IsInRange : Val → Type 0
-IsInRange (val t n) = n < 2 ^ width t
-
--- no call has an answer
-abbrev pub NoCalls : CallsOf (Unit {0})
-NoCalls h memory used call arguments h' memory' answer = ⊥

@@ -1,4 +1,4 @@
--- What a shorter file keeps and gives back.
+-- What a shorter file keeps and frees.
 use Rattle.std.specs.Prelude.{◌≡◌, ◌≢◌, ◌≤◌, ◌<◌, ◌+◌, ◌-◌, ◌*◌, ◌/◌, ◌==◌, ◌⊎◌, ◌++◌, ℕ, Bool, true, List, take, replicate, min, nat_lt, if◌then◌else◌}
 use Rattle.vol_sector.specs.Disk.{Image, put}
 use Rattle.vol_inode.specs.Space.{blocks_for_size, inner_blocks_for}
@@ -55,9 +55,9 @@ abbrev pub with_truncation : Truncation → Image → Image
 with_truncation truncation image = with_cut truncation.last (with_cut truncation.indirect_block (with_cut truncation.data_block image))
 
 -- those of these sectors that were taken are free now, and all others stay
-pub record Gives (before now : ℕ → Bool) (These : ℕ → Type 0) : Type 0 where
+pub record Frees (before now : ℕ → Bool) (These : ℕ → Type 0) : Type 0 where
   pub none_taken : (n : ℕ) → now n ≡ true → before n ≡ true
-  pub given : (n : ℕ) → These n → now n ≡ true → ⊥
+  pub freed : (n : ℕ) → These n → now n ≡ true → ⊥
   pub others : (n : ℕ) → (These n → ⊥) → now n ≡ before n
 
 -- the number stands among these, at this position or after it
@@ -65,13 +65,13 @@ abbrev pub IsAmong : (ℕ → ℕ) → ℕ → ℕ → ℕ → Type 0
 IsAmong numbers from end n = (i : ℕ) × (from ≤ i) × (i < end) × (numbers i ≡ n)
 
 -- the number stands in the block from this position on, or is that of the block itself where it keeps none
-abbrev pub GoesWithBlock : Image → ℕ → ℕ → ℕ → Type 0
-GoesWithBlock content of_list from n = (IsAmong (number_in content of_list) from 128 n) ⊎ ((from ≡ 0) × (of_list ≡ n))
+abbrev pub IsFreedWithBlock : Image → ℕ → ℕ → ℕ → Type 0
+IsFreedWithBlock content of_list from n = (IsAmong (number_in content of_list) from 128 n) ⊎ ((from ≡ 0) × (of_list ≡ n))
 
 -- the number goes with one of the inner blocks before one, where the file keeps this many data blocks
-abbrev pub GoesWithLater : Image → (ℕ → ℕ) → ℕ → ℕ → ℕ → Type 0
-GoesWithLater content numbers count end n = (i : ℕ) × (i < end) × GoesWithBlock content (numbers i) (count - (186 + 128 * i)) n
+abbrev pub IsFreedWithLater : Image → (ℕ → ℕ) → ℕ → ℕ → ℕ → Type 0
+IsFreedWithLater content numbers count end n = (i : ℕ) × (i < end) × IsFreedWithBlock content (numbers i) (count - (186 + 128 * i)) n
 
 -- the number is that of a sector whose position serves no data block that is kept
-abbrev pub Goes : Image → Entry → ℕ → ℕ → Type 0
-Goes content e count n = (p : BlockPosition) × IsPosition p × (count ≤ first_served p) × (named content e p ≡ n)
+abbrev pub IsFreed : Image → Entry → ℕ → ℕ → Type 0
+IsFreed content e count n = (p : BlockPosition) × IsPosition p × (count ≤ first_served p) × (named content e p ≡ n)

@@ -2,8 +2,8 @@ use Rattle.std.proofs.Common.{◌*◌, take, false}
 use Rattle.std.specs.Io.KnownBytes.{Appends}
 use Rattle.vol_tree.specs.Calls.{bytes_at}
 use Rattle.path_walk.specs.Walk.{Asked}
-use Rattle.sandbox_command.specs.Tasks.{IsWorking}
 use Rattle.sandbox_command.proofs.printing.print_bytes.Given as goal
+use Rattle.sandbox_command.specs.internal.Working.{IsWorking}
 
 -- the bytes of the pieces so far are printed
 abbrev pub invariant-loop-n : goal.invariant-loop-n

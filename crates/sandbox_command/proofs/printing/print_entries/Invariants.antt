@@ -2,8 +2,9 @@ use Rattle.std.proofs.Common.{◌≡◌, ◌-◌, ◌++◌, ℕ, List, drop, fal
 use Rattle.std.specs.List.{flat_map}
 use Rattle.std.specs.Io.KnownBytes.{Appends}
 use Rattle.path_walk.specs.Walk.{Asked}
-use Rattle.sandbox_command.specs.Tasks.{IsWorking, line_in, listing}
+use Rattle.sandbox_command.specs.Tasks.{line_in, listing}
 use Rattle.sandbox_command.proofs.printing.print_entries.Given as goal
+use Rattle.sandbox_command.specs.internal.Working.{IsWorking}
 
 -- the lines so far are those up to the last entry
 abbrev pub invariant-loop-serial : goal.invariant-loop-serial

@@ -3,9 +3,10 @@ use Rattle.std.specs.Io.KnownBytes.{Consumes}
 use Rattle.vol_sector.specs.Disk.{Leaves}
 use Rattle.vol_tree.specs.Calls.{with_bytes}
 use Rattle.vol_tree.specs.Opened.{Keeps}
-use Rattle.sandbox_command.specs.Tasks.{HasBeginning, IsWorking, ReflectsAny}
+use Rattle.sandbox_command.specs.Tasks.{HasBeginning, ReflectsAny}
 use Rattle.sandbox_command.proofs.putting.write_input.Given as goal
 use Rattle.vol_inode.specs.declared.version.TheConstants.{LARGEST_SIZE}
+use Rattle.sandbox_command.specs.internal.Working.{IsWorking}
 
 -- the file has the bytes so far
 abbrev pub invariant-loop : goal.invariant-loop

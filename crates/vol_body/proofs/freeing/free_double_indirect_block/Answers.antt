@@ -4,9 +4,9 @@ use Rattle.vol_sector.specs.Disk.{Image}
 use Rattle.vol_log.specs.Log.{view}
 use Rattle.vol_alloc.specs.Alloc.{taken_of}
 use Rattle.vol_body.specs.Body.{number_in}
-use Rattle.vol_body.specs.internal.Truncated.{Gives, GoesWithLater}
+use Rattle.vol_body.specs.internal.Truncated.{Frees, IsFreedWithLater}
 use Rattle.vol_body.proofs.Places.{number_there}
-use Rattle.vol_body.proofs.GivenBack.{gives_then, gives_these, gives_lists, known_number}
+use Rattle.vol_body.proofs.Freed.{frees_then, frees_these, frees_lists, known_number}
 use Rattle.vol_body.proofs.freeing.free_double_indirect_block.Goals as goal
 
 -- the numbers of the image are the list's
@@ -18,32 +18,32 @@ same_numbers taken content of_lists image some is names numbers known i lt =
     known i lt ∙ known_number taken (little_number 4 (drop (4 * i) image)) (number_in content of_lists i)
     (ap (λ (bytes : List ℕ). little_number 4 (drop (4 * i) bytes)) is ∙ sym (number_there content of_lists i some)) (names i lt)
 
-pub returns-then-count-le186-clause-gives : goal.returns-then-count-le186-clause-gives
-returns-then-count-le186-clause-gives g c h names =
+pub returns-then-count-le186-clause-frees : goal.returns-then-count-le186-clause-frees
+returns-then-count-le186-clause-frees g c h names =
     let a = taken_of c.args.sectors.now in
     let b = taken_of c.free_inner_blocks.new.sectors in
     let d = taken_of c.free_taken.new.sectors in
     let content = view c.args.log.now in
     let numbers = slice_index c.known_numbers-numbers.result in
-    let P = GoesWithLater content (number_in content c.args.double_indirect_block) c.args.count 128 in
+    let P = IsFreedWithLater content (number_in content c.args.double_indirect_block) c.args.count 128 in
     let same = same_numbers a content c.args.double_indirect_block c.in_ok-image.image c.if-double_indirect_block-eq0.false (c.in_ok-image.ensures.value h) names numbers c.known_numbers-numbers.ensures in
-    let listed : Gives a b P = gives_lists a b content numbers (number_in content c.args.double_indirect_block) c.args.count same
-    (subst (λ (m : Image). Gives a b (GoesWithLater m numbers c.args.count 128)) (c.in_ok-image.ensures.view h) (c.in_ok-free_inner_blocks.ensures.gives (c.in_ok-image.ensures.honest.0 h))) in
-    gives_these a d (λ n. P n ⊎ (n ≡ c.args.double_indirect_block)) (λ n. P n ⊎ ((c.args.count ≤ 186) × (c.args.double_indirect_block ≡ n)))
-    (gives_then a b d P (λ n. n ≡ c.args.double_indirect_block) listed c.free_taken.ensures.gives)
+    let listed : Frees a b P = frees_lists a b content numbers (number_in content c.args.double_indirect_block) c.args.count same
+    (subst (λ (m : Image). Frees a b (IsFreedWithLater m numbers c.args.count 128)) (c.in_ok-image.ensures.view h) (c.in_ok-free_inner_blocks.ensures.frees (c.in_ok-image.ensures.honest.0 h))) in
+    frees_these a d (λ n. P n ⊎ (n ≡ c.args.double_indirect_block)) (λ n. P n ⊎ ((c.args.count ≤ 186) × (c.args.double_indirect_block ≡ n)))
+    (frees_then a b d P (λ n. n ≡ c.args.double_indirect_block) listed c.free_taken.ensures.frees)
     (λ n either. ⊎_elim (λ s. inl s) (λ is. inr (c.if-count-le186.true, sym is)) either)
     (λ n either. ⊎_elim (λ s. inl s) (λ s. inr (sym s.1)) either)
 
-pub returns-else-count-le186-clause-gives : goal.returns-else-count-le186-clause-gives
-returns-else-count-le186-clause-gives g c h names =
+pub returns-else-count-le186-clause-frees : goal.returns-else-count-le186-clause-frees
+returns-else-count-le186-clause-frees g c h names =
     let a = taken_of c.args.sectors.now in
     let b = taken_of c.free_inner_blocks.new.sectors in
     let content = view c.args.log.now in
     let numbers = slice_index c.known_numbers-numbers.result in
-    let P = GoesWithLater content (number_in content c.args.double_indirect_block) c.args.count 128 in
+    let P = IsFreedWithLater content (number_in content c.args.double_indirect_block) c.args.count 128 in
     let same = same_numbers a content c.args.double_indirect_block c.in_ok-image.image c.if-double_indirect_block-eq0.false (c.in_ok-image.ensures.value h) names numbers c.known_numbers-numbers.ensures in
-    let listed : Gives a b P = gives_lists a b content numbers (number_in content c.args.double_indirect_block) c.args.count same
-    (subst (λ (m : Image). Gives a b (GoesWithLater m numbers c.args.count 128)) (c.in_ok-image.ensures.view h) (c.in_ok-free_inner_blocks.ensures.gives (c.in_ok-image.ensures.honest.0 h))) in
-    gives_these a b P (λ n. P n ⊎ ((c.args.count ≤ 186) × (c.args.double_indirect_block ≡ n))) listed
+    let listed : Frees a b P = frees_lists a b content numbers (number_in content c.args.double_indirect_block) c.args.count same
+    (subst (λ (m : Image). Frees a b (IsFreedWithLater m numbers c.args.count 128)) (c.in_ok-image.ensures.view h) (c.in_ok-free_inner_blocks.ensures.frees (c.in_ok-image.ensures.honest.0 h))) in
+    frees_these a b P (λ n. P n ⊎ ((c.args.count ≤ 186) × (c.args.double_indirect_block ≡ n))) listed
     (λ n s. inl s)
     (λ n either. ⊎_elim (λ s. s) (λ s. absurd (omega (arith, s.0, c.if-count-le186.false))) either)

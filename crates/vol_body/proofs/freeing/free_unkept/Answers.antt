@@ -2,10 +2,10 @@ use Rattle.std.proofs.Common.{◌≡◌, ◌≢◌, ◌∙◌, ◌-◌, ◌≤�
 use Rattle.vol_log.specs.Log.{view, log_sectors}
 use Rattle.vol_alloc.specs.Alloc.{taken_of}
 use Rattle.vol_body.specs.Body.{indirect_block, double_indirect_block, inner_block, named, number_in}
-use Rattle.vol_body.specs.internal.Truncated.{Gives, IsAmong, GoesWithBlock, GoesWithLater}
+use Rattle.vol_body.specs.internal.Truncated.{Frees, IsAmong, IsFreedWithBlock, IsFreedWithLater}
 use Rattle.vol_body.proofs.Places.{known_at}
 use Rattle.vol_log.proofs.Readings.{reads_then}
-use Rattle.vol_body.proofs.GivenBack.{gives_then, gives_at, gives_all, known_there, GoesLater}
+use Rattle.vol_body.proofs.Freed.{frees_then, frees_at, frees_all, known_there, IsFreedLater}
 use Rattle.vol_body.proofs.freeing.free_unkept.Goals as goal
 
 pub free_double_indirect_block-requires-clause-there : goal.free_double_indirect_block-requires-clause-there
@@ -21,8 +21,8 @@ returns-in_err-free_indirect_block-clause-reads g c = reads_then c.args.log.now 
 pub returns-clause-reads : goal.returns-clause-reads
 returns-clause-reads g c = reads_then c.args.log.now c.free_double_indirect_block.new.log c.free_indirect_block.new.log c.in_ok-free_double_indirect_block.ensures.failed c.in_ok-free_double_indirect_block.ensures.reads c.in_ok-free_indirect_block.ensures.reads
 
-pub returns-clause-gives : goal.returns-clause-gives
-returns-clause-gives g c h names =
+pub returns-clause-frees : goal.returns-clause-frees
+returns-clause-frees g c h names =
     let content = view c.args.log.now in
     let e = c.args.entry.now in
     let count = c.args.count in
@@ -34,11 +34,11 @@ returns-clause-gives g c h names =
     let of_lists : c.taken_or_zero-double_indirect_block.result ≡ named content e double_indirect_block = c.taken_or_zero-double_indirect_block.ensures ∙ known_at t0 content e names double_indirect_block tt (get_or e.pointers 59 0) (λ i. get_or e.pointers 59 0) in
     let there : (i : ℕ) → i < 128 → number_in content c.taken_or_zero-double_indirect_block.result i ≢ 0 → t0 (number_in content c.taken_or_zero-double_indirect_block.result i) ≡ true =
     subst (λ (n : ℕ). (i : ℕ) → i < 128 → number_in content n i ≢ 0 → t0 (number_in content n i) ≡ true) (sym of_lists) (λ i lt. names (inner_block i) lt) in
-    let later : Gives t0 t1 (GoesLater content e count) =
-    subst (λ (n : ℕ). Gives t0 t1 (λ m. GoesWithLater content (number_in content n) count 128 m ⊎ ((count ≤ 186) × (n ≡ m)))) of_lists (c.in_ok-free_double_indirect_block.ensures.gives h there) in
-    let listed : Gives t1 t2 (GoesWithBlock content (named content e indirect_block) (count - 58)) =
-    subst (λ (n : ℕ). Gives t1 t2 (GoesWithBlock content n (count - 58))) of_list
-    (gives_at t1 t2 (view c.free_double_indirect_block.new.log) content c.taken_or_zero-indirect_block.result c.saturating_sub.result (count - 58) (c.in_ok-free_double_indirect_block.ensures.reads.view h) c.saturating_sub.ensures
-    (c.in_ok-free_indirect_block.ensures.gives (c.in_ok-free_double_indirect_block.ensures.reads.honest.0 h))) in
-    gives_all content e count t0 t3
-    (gives_then t0 t2 t3 _ (IsAmong (slice_index e.pointers) count 58) (gives_then t0 t1 t2 (GoesLater content e count) (GoesWithBlock content (named content e indirect_block) (count - 58)) later listed) c.free_direct.ensures.gives)
+    let later : Frees t0 t1 (IsFreedLater content e count) =
+    subst (λ (n : ℕ). Frees t0 t1 (λ m. IsFreedWithLater content (number_in content n) count 128 m ⊎ ((count ≤ 186) × (n ≡ m)))) of_lists (c.in_ok-free_double_indirect_block.ensures.frees h there) in
+    let listed : Frees t1 t2 (IsFreedWithBlock content (named content e indirect_block) (count - 58)) =
+    subst (λ (n : ℕ). Frees t1 t2 (IsFreedWithBlock content n (count - 58))) of_list
+    (frees_at t1 t2 (view c.free_double_indirect_block.new.log) content c.taken_or_zero-indirect_block.result c.saturating_sub.result (count - 58) (c.in_ok-free_double_indirect_block.ensures.reads.view h) c.saturating_sub.ensures
+    (c.in_ok-free_indirect_block.ensures.frees (c.in_ok-free_double_indirect_block.ensures.reads.honest.0 h))) in
+    frees_all content e count t0 t3
+    (frees_then t0 t2 t3 _ (IsAmong (slice_index e.pointers) count 58) (frees_then t0 t1 t2 (IsFreedLater content e count) (IsFreedWithBlock content (named content e indirect_block) (count - 58)) later listed) c.free_direct.ensures.frees)

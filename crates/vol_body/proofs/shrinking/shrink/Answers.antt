@@ -7,7 +7,7 @@ use Rattle.vol_inode.specs.Space.{blocks_for_size}
 use Rattle.vol_inode.specs.declared.entry.Entry.{Entry}
 use Rattle.vol_body.specs.Body.{NamesTaken, IsBody, bytes_of}
 use Rattle.vol_body.specs.Change.{OthersStay, TakesAndGives}
-use Rattle.vol_body.specs.internal.Truncated.{with_truncation, Gives, Goes}
+use Rattle.vol_body.specs.internal.Truncated.{with_truncation, Frees, IsFreed}
 use Rattle.vol_inode.specs.Entry.{first_block_of_pointer}
 use Rattle.vol_log.proofs.Readings.{reads_then}
 use Rattle.vol_body.proofs.Rights.{right_file}
@@ -47,7 +47,7 @@ returns-clause-steps g c =
     }
 
 given_back : (g : Over) (c : goal.After-stage g) → g.D.Device.honest (device_of c.args.log.now) → NamesTaken (taken_of c.args.sectors.now) (view c.args.log.now) c.args.entry.now
-    → Gives (taken_of c.args.sectors.now) (taken_of c.free_unkept.new.sectors) (Goes (view c.args.log.now) c.args.entry.now (blocks_for_size c.args.size))
+    → Frees (taken_of c.args.sectors.now) (taken_of c.free_unkept.new.sectors) (IsFreed (view c.args.log.now) c.args.entry.now (blocks_for_size c.args.size))
 given_back g c h names =
     let content = view c.args.log.now in
     let e = c.args.entry.now in
@@ -56,7 +56,7 @@ given_back g c h names =
     let reads = c.in_ok-truncation.ensures.reads in
     let there : NamesTaken was (view c.read_truncation.new.log) e = subst (λ (m : Image). NamesTaken was m e) (sym (reads.view h)) names in
     let count : c.div_ceil-count.result ≡ blocks_for_size c.args.size = omega (arith, c.div_ceil-count.ensures) in
-    subst (λ (k : ℕ). Gives was now_taken (Goes content e k)) count (subst (λ (m : Image). Gives was now_taken (Goes m e c.div_ceil-count.result)) (reads.view h) (c.in_ok-free_unkept.ensures.gives (reads.honest.0 h) there))
+    subst (λ (k : ℕ). Frees was now_taken (IsFreed content e k)) count (subst (λ (m : Image). Frees was now_taken (IsFreed m e c.div_ceil-count.result)) (reads.view h) (c.in_ok-free_unkept.ensures.frees (reads.honest.0 h) there))
 
 made : (g : Over) (c : goal.After-stage g) → g.D.Device.honest (device_of c.args.log.now) → NamesTaken (taken_of c.args.sectors.now) (view c.args.log.now) c.args.entry.now → IsBody (view c.args.log.now) c.args.entry.now
     → Shrinks c.args.size c.args.inode_sector (first_of c.args.sectors.now) (end_of c.args.sectors.now) (view c.args.log.now) c.args.entry.now (changed_of g c) c.in_ok-truncation.truncation (taken_of c.args.sectors.now) (taken_of c.free_unkept.new.sectors)
@@ -67,7 +67,7 @@ made g c h names body =
       names = names;
       are_cut = c.in_ok-truncation.ensures.truncation h names;
       within = c.in_ok-truncation.ensures.within;
-      gives = given_back g c h names;
+      frees = given_back g c h names;
       new_size = λ i. c.args.size;
       pointers = λ j lt. c.kept_pointers-entry.ensures j lt ∙ ap (λ (k : ℕ). if nat_lt (first_block_of_pointer j) k then get_or c.args.entry.now.pointers j 0 else 0) count;
       shorter = c.requires.shorter;

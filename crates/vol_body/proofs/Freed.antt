@@ -1,4 +1,4 @@
--- How giving sectors back goes on.
+-- How freeing sectors goes on.
 use Rattle.std.proofs.Common.{◌≡◌, ◌≢◌, ◌⊎◌, inl, inr, ⊎_elim, ◌≤◌, ◌<◌, ◌+◌, ◌-◌, ◌*◌, ◌/◌, ◌%◌, ℕ, Bool, true, false, nat_lt, if◌then◌else◌, List, drop, get_or, slice_index, refl, sym, ◌∙◌, ap, subst, arith}
 use Rattle.std.proofs.lemmas.Bool.{cases_lt, cases_eq, cond-true}
 use Rattle.std.proofs.lemmas.List.{get_or_past}
@@ -9,37 +9,37 @@ use Rattle.vol_alloc.specs.declared.sectors.Alloc.{Alloc}
 use Rattle.vol_alloc.specs.Alloc.{end_of, taken_of}
 use Rattle.vol_inode.specs.declared.entry.Entry.{Entry}
 use Rattle.vol_body.specs.Body.{BlockPosition, data_block, indirect_block, double_indirect_block, inner_block, IsPosition, first_served, named, number_in}
-use Rattle.vol_body.specs.internal.Truncated.{Gives, IsAmong, GoesWithBlock, GoesWithLater, Goes}
+use Rattle.vol_body.specs.internal.Truncated.{Frees, IsAmong, IsFreedWithBlock, IsFreedWithLater, IsFreed}
 use Rattle.vol_body.proofs.Places.{number_there, part_direct, part_listed, part_later}
 
 -- where nothing goes
-pub gives_none : (before : ℕ → Bool) (These : ℕ → Type 0) → ((n : ℕ) → These n → before n ≡ true → ⊥) → Gives before before These
-gives_none before These none = record {
+pub frees_none : (before : ℕ → Bool) (These : ℕ → Type 0) → ((n : ℕ) → These n → before n ≡ true → ⊥) → Frees before before These
+frees_none before These none = record {
   none_taken = λ n is. is;
-  given = none;
+  freed = none;
   others = λ n not_one. refl;
 }
 
 -- one after another
-pub gives_then : (a b c : ℕ → Bool) (P Q : ℕ → Type 0) → Gives a b P → Gives b c Q → Gives a c (λ n. P n ⊎ Q n)
-gives_then a b c P Q first second = record {
+pub frees_then : (a b c : ℕ → Bool) (P Q : ℕ → Type 0) → Frees a b P → Frees b c Q → Frees a c (λ n. P n ⊎ Q n)
+frees_then a b c P Q first second = record {
   none_taken = λ n is. first.none_taken n (second.none_taken n is);
-  given = λ n either is. ⊎_elim (λ p. first.given n p (second.none_taken n is)) (λ q. second.given n q is) either;
+  freed = λ n either is. ⊎_elim (λ p. first.freed n p (second.none_taken n is)) (λ q. second.freed n q is) either;
   others = λ n none. second.others n (λ q. none (inr q)) ∙ first.others n (λ p. none (inl p));
 }
 
 -- the same sectors in other words
-pub gives_these : (a b : ℕ → Bool) (P Q : ℕ → Type 0) → Gives a b P → ((n : ℕ) → P n → Q n) → ((n : ℕ) → Q n → P n) → Gives a b Q
-gives_these a b P Q gives to from = record {
-  none_taken = gives.none_taken;
-  given = λ n q is. gives.given n (from n q) is;
-  others = λ n none. gives.others n (λ p. none (to n p));
+pub frees_these : (a b : ℕ → Bool) (P Q : ℕ → Type 0) → Frees a b P → ((n : ℕ) → P n → Q n) → ((n : ℕ) → Q n → P n) → Frees a b Q
+frees_these a b P Q frees to from = record {
+  none_taken = frees.none_taken;
+  freed = λ n q is. frees.freed n (from n q) is;
+  others = λ n none. frees.others n (λ p. none (to n p));
 }
 
 -- one more number of a list
-pub gives_next : (a b c : ℕ → Bool) (numbers : ℕ → ℕ) (from end : ℕ) → from ≤ end → Gives a b (IsAmong numbers from end) → Gives b c (λ k. k ≡ numbers end) → Gives a c (IsAmong numbers from (end + 1))
-gives_next a b c numbers from end le first second =
-    gives_these a c (λ n. IsAmong numbers from end n ⊎ (n ≡ numbers end)) (IsAmong numbers from (end + 1)) (gives_then a b c (IsAmong numbers from end) (λ k. k ≡ numbers end) first second)
+pub frees_next : (a b c : ℕ → Bool) (numbers : ℕ → ℕ) (from end : ℕ) → from ≤ end → Frees a b (IsAmong numbers from end) → Frees b c (λ k. k ≡ numbers end) → Frees a c (IsAmong numbers from (end + 1))
+frees_next a b c numbers from end le first second =
+    frees_these a c (λ n. IsAmong numbers from end n ⊎ (n ≡ numbers end)) (IsAmong numbers from (end + 1)) (frees_then a b c (IsAmong numbers from end) (λ k. k ≡ numbers end) first second)
     (λ n either. ⊎_elim (λ s. (s.0, s.1, omega (arith, s.2), s.3)) (λ is. (end, le, omega arith, sym is)) either)
     (λ n s. elim (cases_lt s.0 end) [
       | inl lt ↦ inl (s.0, s.1, lt, s.3)
@@ -47,37 +47,37 @@ gives_next a b c numbers from end le first second =
     ])
 
 -- one more inner block
-pub gives_next_list : (a b c : ℕ → Bool) (content : Image) (numbers : ℕ → ℕ) (count i : ℕ)
-    → Gives a b (GoesWithLater content numbers count i) → Gives b c (GoesWithBlock content (numbers i) (count - (186 + 128 * i))) → Gives a c (GoesWithLater content numbers count (i + 1))
-gives_next_list a b c content numbers count i first second =
-    let P = GoesWithLater content numbers count i in
-    let Q = GoesWithBlock content (numbers i) (count - (186 + 128 * i)) in
-    gives_these a c (λ n. P n ⊎ Q n) (GoesWithLater content numbers count (i + 1)) (gives_then a b c P Q first second)
+pub frees_next_list : (a b c : ℕ → Bool) (content : Image) (numbers : ℕ → ℕ) (count i : ℕ)
+    → Frees a b (IsFreedWithLater content numbers count i) → Frees b c (IsFreedWithBlock content (numbers i) (count - (186 + 128 * i))) → Frees a c (IsFreedWithLater content numbers count (i + 1))
+frees_next_list a b c content numbers count i first second =
+    let P = IsFreedWithLater content numbers count i in
+    let Q = IsFreedWithBlock content (numbers i) (count - (186 + 128 * i)) in
+    frees_these a c (λ n. P n ⊎ Q n) (IsFreedWithLater content numbers count (i + 1)) (frees_then a b c P Q first second)
     (λ n either. ⊎_elim (λ s. (s.0, omega (arith, s.1), s.2)) (λ goes. (i, omega arith, goes)) either)
     (λ n s. elim (cases_lt s.0 i) [
       | inl lt ↦ inl (s.0, lt, s.2)
-      | inr ge ↦ inr (let at : s.0 ≡ i = omega (arith, s.1, ge) in subst (λ (k : ℕ). GoesWithBlock content (numbers k) (count - (186 + 128 * k)) n) at s.2)
+      | inr ge ↦ inr (let at : s.0 ≡ i = omega (arith, s.1, ge) in subst (λ (k : ℕ). IsFreedWithBlock content (numbers k) (count - (186 + 128 * k)) n) at s.2)
     ])
 
 -- the same lists by other numbers
-pub gives_lists : (a b : ℕ → Bool) (content : Image) (numbers others : ℕ → ℕ) (count : ℕ) → ((i : ℕ) → i < 128 → numbers i ≡ others i)
-    → Gives a b (GoesWithLater content numbers count 128) → Gives a b (GoesWithLater content others count 128)
-gives_lists a b content numbers others count same gives =
-    gives_these a b (GoesWithLater content numbers count 128) (GoesWithLater content others count 128) gives
-    (λ n s. (s.0, s.1, subst (λ (k : ℕ). GoesWithBlock content k (count - (186 + 128 * s.0)) n) (same s.0 s.1) s.2))
-    (λ n s. (s.0, s.1, subst (λ (k : ℕ). GoesWithBlock content k (count - (186 + 128 * s.0)) n) (sym (same s.0 s.1)) s.2))
+pub frees_lists : (a b : ℕ → Bool) (content : Image) (numbers others : ℕ → ℕ) (count : ℕ) → ((i : ℕ) → i < 128 → numbers i ≡ others i)
+    → Frees a b (IsFreedWithLater content numbers count 128) → Frees a b (IsFreedWithLater content others count 128)
+frees_lists a b content numbers others count same frees =
+    frees_these a b (IsFreedWithLater content numbers count 128) (IsFreedWithLater content others count 128) frees
+    (λ n s. (s.0, s.1, subst (λ (k : ℕ). IsFreedWithBlock content k (count - (186 + 128 * s.0)) n) (same s.0 s.1) s.2))
+    (λ n s. (s.0, s.1, subst (λ (k : ℕ). IsFreedWithBlock content k (count - (186 + 128 * s.0)) n) (sym (same s.0 s.1)) s.2))
 
 -- what a list's image lists
-pub gives_read : (a b : ℕ → Bool) (content : Image) (of_list from : ℕ) (image : List ℕ) → of_list ≢ 0 → image ≡ content of_list
-    → Gives a b (IsAmong (λ i. little_number 4 (drop (4 * i) image)) from 128) → Gives a b (IsAmong (number_in content of_list) from 128)
-gives_read a b content of_list from image there is gives =
+pub frees_read : (a b : ℕ → Bool) (content : Image) (of_list from : ℕ) (image : List ℕ) → of_list ≢ 0 → image ≡ content of_list
+    → Frees a b (IsAmong (λ i. little_number 4 (drop (4 * i) image)) from 128) → Frees a b (IsAmong (number_in content of_list) from 128)
+frees_read a b content of_list from image there is frees =
     let same : (i : ℕ) → little_number 4 (drop (4 * i) image) ≡ number_in content of_list i = λ i. ap (λ (bytes : List ℕ). little_number 4 (drop (4 * i) bytes)) is ∙ sym (number_there content of_list i there) in
-    gives_these a b (IsAmong (λ i. little_number 4 (drop (4 * i) image)) from 128) (IsAmong (number_in content of_list) from 128) gives
+    frees_these a b (IsAmong (λ i. little_number 4 (drop (4 * i) image)) from 128) (IsAmong (number_in content of_list) from 128) frees
     (λ n s. (s.0, s.1, s.2, sym (same s.0) ∙ s.3)) (λ n s. (s.0, s.1, s.2, same s.0 ∙ s.3))
 
-pub gives_at : (a b : ℕ → Bool) (one other : Image) (of_list x y : ℕ) → one ≡ other → x ≡ y → Gives a b (GoesWithBlock one of_list x) → Gives a b (GoesWithBlock other of_list y)
-gives_at a b one other of_list x y same is gives =
-    subst (λ (k : ℕ). Gives a b (GoesWithBlock other of_list k)) is (subst (λ (m : Image). Gives a b (GoesWithBlock m of_list x)) same gives)
+pub frees_at : (a b : ℕ → Bool) (one other : Image) (of_list x y : ℕ) → one ≡ other → x ≡ y → Frees a b (IsFreedWithBlock one of_list x) → Frees a b (IsFreedWithBlock other of_list y)
+frees_at a b one other of_list x y same is frees =
+    subst (λ (k : ℕ). Frees a b (IsFreedWithBlock other of_list k)) is (subst (λ (m : Image). Frees a b (IsFreedWithBlock m of_list x)) same frees)
 
 -- a number that is taken wherever it isn't 0 is known
 pub known_number : (taken : ℕ → Bool) (m n : ℕ) → m ≡ n → (n ≢ 0 → taken n ≡ true) → (if taken m then m else 0) ≡ n
@@ -112,21 +112,21 @@ known_there a n k end is le some = elim (cases_lt n (end_of a)) [
 pub none_taken : (first : ℕ) (flags : List Bool) (n : ℕ) → 0 < first → 0 ≡ n → (if nat_lt n first then false else get_or flags (n - first) false) ≡ true → ⊥
 none_taken first flags n lt is taken = grind (arith, nat_tests)
 
-pub no_list : (content : Image) (from n : ℕ) → GoesWithBlock content 0 from n → 0 ≡ n
+pub no_list : (content : Image) (from n : ℕ) → IsFreedWithBlock content 0 from n → 0 ≡ n
 no_list content from n goes = ⊎_elim (λ s. s.3) (λ s. s.1) goes
 
-pub short_list : (content : Image) (of_list from n : ℕ) → 128 ≤ from → GoesWithBlock content of_list from n → ⊥
+pub short_list : (content : Image) (of_list from n : ℕ) → 128 ≤ from → IsFreedWithBlock content of_list from n → ⊥
 short_list content of_list from n le goes = ⊎_elim (λ s. omega (arith, s.1, s.2)) (λ s. omega (arith, s.0)) goes
 
 module _ (content : Image) (e : Entry) (count : ℕ) where
   -- what goes, list by list
-  abbrev pub GoesLater : ℕ → Type 0
-  GoesLater n = GoesWithLater content (number_in content (named content e double_indirect_block)) count 128 n ⊎ ((count ≤ 186) × (named content e double_indirect_block ≡ n))
+  abbrev pub IsFreedLater : ℕ → Type 0
+  IsFreedLater n = IsFreedWithLater content (number_in content (named content e double_indirect_block)) count 128 n ⊎ ((count ≤ 186) × (named content e double_indirect_block ≡ n))
 
-  abbrev pub GoesByBlocks : ℕ → Type 0
-  GoesByBlocks n = (GoesLater n ⊎ GoesWithBlock content (named content e indirect_block) (count - 58) n) ⊎ IsAmong (slice_index e.pointers) count 58 n
+  abbrev pub IsFreedByBlocks : ℕ → Type 0
+  IsFreedByBlocks n = (IsFreedLater n ⊎ IsFreedWithBlock content (named content e indirect_block) (count - 58) n) ⊎ IsAmong (slice_index e.pointers) count 58 n
 
-  from_part : (j n : ℕ) → j < 16570 → count ≤ j → named content e (data_block j) ≡ n → GoesByBlocks n
+  from_part : (j n : ℕ) → j < 16570 → count ≤ j → named content e (data_block j) ≡ n → IsFreedByBlocks n
   from_part j n there le is = elim (cases_lt j 58) [
     | inl direct ↦ inr (j, le, direct, sym (part_direct content e j direct) ∙ is)
     | inr past ↦ elim (cases_lt j 186) [
@@ -135,13 +135,13 @@ module _ (content : Image) (e : Entry) (count : ℕ) where
     ]
   ]
 
-  from_place : (p : BlockPosition) (n : ℕ) → IsPosition p → count ≤ first_served p → named content e p ≡ n → GoesByBlocks n
+  from_place : (p : BlockPosition) (n : ℕ) → IsPosition p → count ≤ first_served p → named content e p ≡ n → IsFreedByBlocks n
   from_place (data_block j) n there le is = from_part j n there le is
   from_place indirect_block n there le is = inl (inr (inr (omega arith, is)))
   from_place double_indirect_block n there le is = inl (inl (inr (le, is)))
   from_place (inner_block i) n there le is = inl (inl (inl (i, there, inr (omega arith, is))))
 
-  to_later_part : (i m n : ℕ) → i < 128 → m < 128 → count - (186 + 128 * i) ≤ m → number_in content (named content e (inner_block i)) m ≡ n → Goes content e count n
+  to_later_part : (i m n : ℕ) → i < 128 → m < 128 → count - (186 + 128 * i) ≤ m → number_in content (named content e (inner_block i)) m ≡ n → IsFreed content e count n
   to_later_part i m n a b le is =
       let j = 186 + 128 * i + m in
       let at_list : (j - 186) / 128 ≡ i = omega arith in
@@ -154,10 +154,10 @@ module _ (content : Image) (e : Entry) (count : ℕ) where
             ∙ ap (number_in content (named content e (inner_block i))) at ∙ is,
       )
 
-  to_later : (n : ℕ) → GoesWithLater content (number_in content (named content e double_indirect_block)) count 128 n → Goes content e count n
+  to_later : (n : ℕ) → IsFreedWithLater content (number_in content (named content e double_indirect_block)) count 128 n → IsFreed content e count n
   to_later n s = ⊎_elim (λ r. to_later_part s.0 r.0 n s.1 r.2 r.1 r.3) (λ r. (inner_block s.0, s.1, omega (arith, r.0), r.1)) s.2
 
-  to_list : (n : ℕ) → GoesWithBlock content (named content e indirect_block) (count - 58) n → Goes content e count n
+  to_list : (n : ℕ) → IsFreedWithBlock content (named content e indirect_block) (count - 58) n → IsFreed content e count n
   to_list n goes = ⊎_elim (λ s.
       let back : s.0 + 58 - 58 ≡ s.0 = omega arith in (
         data_block (s.0 + 58),
@@ -167,8 +167,8 @@ module _ (content : Image) (e : Entry) (count : ℕ) where
       ))
       (λ s. (indirect_block, tt, omega (arith, s.0), s.1)) goes
 
-  pub gives_all : (a b : ℕ → Bool) → Gives a b GoesByBlocks → Gives a b (Goes content e count)
-  gives_all a b gives = gives_these a b GoesByBlocks (Goes content e count) gives
+  pub frees_all : (a b : ℕ → Bool) → Frees a b IsFreedByBlocks → Frees a b (IsFreed content e count)
+  frees_all a b frees = frees_these a b IsFreedByBlocks (IsFreed content e count) frees
       (λ n either. ⊎_elim (λ listed. ⊎_elim (λ later. ⊎_elim (to_later n) (λ s. (double_indirect_block, tt, s.0, s.1)) later) (to_list n) listed)
       (λ s. (data_block s.0, omega (arith, s.2), s.1, part_direct content e s.0 s.2 ∙ s.3)) either)
       (λ n s. from_place s.0 n s.1 s.2 s.3)

@@ -1,0 +1,11 @@
+-- What is kept of a run's words until its settings are made.
+use Rattle.std.specs.Prelude.{◌≡◌}
+use Rattle.sandbox_command.specs.declared.request.Run.{Run}
+use Rattle.sandbox_command.specs.declared.supplies.Supplies.{Supplies}
+use Rattle.sandbox_command.specs.Request.{texts, arguments_of}
+use Rattle.sandbox_command.specs.Supplies.{AreDirectories, directories_of}
+
+pub record AreSupplies (run : Run) (supplies : Supplies) : Type 0 where
+  pub args : texts supplies.args.items ≡ arguments_of run
+  pub env : texts supplies.env.items ≡ texts run.env.items
+  pub preopens : AreDirectories (directories_of run) supplies.preopens.items
