@@ -1,4 +1,4 @@
--- A path of a guest, and what it reaches from a directory (`docs/VOLUME.md`, "The tree").
+-- A path of a guest, and what it reaches from a directory (`docs/PATHS.md`, "Reading a path", "Walking").
 use Rattle.std.specs.Prelude.{ℕ, ◌+◌, ◌-◌, Bool, true, ◌&&◌, ◌||◌, not, ◌==◌, nat_lt, List, [], ◌∷◌, length, drop, Result, Ok, Err, if◌then◌else◌, get_or}
 use Rattle.std.specs.Option.{option_map_or}
 use Rattle.std.specs.List.{filter, list_any, slice_split}

@@ -1,4 +1,4 @@
--- Paths from the root of a volume (`docs/VOLUME.md`, "The tree").
+-- Paths from the root of a volume (`docs/PATHS.md`, "From the root").
 use Rattle.std.specs.Prelude.{ℕ, Bool, false, List, [], ◌∷◌, Result, Ok}
 use Rattle.vol_tree.specs.declared.errno.Errno.{Errno}
 use Rattle.vol_tree.specs.Tree.{Tree}
