@@ -1,4 +1,4 @@
--- Laws over walks, by the definitions only.
+-- Laws over walks, by the definitions only (`docs/PATHS.md`, "Walking").
 use Rattle.std.specs.Prelude.{◌≡◌, ◌≢◌, ◌≤◌, ℕ, List, [], ◌∷◌, None, Ok, Bool, true}
 use Rattle.std.specs.List.{Contains}
 use Rattle.vol_inode.specs.Name.{IsName}

@@ -1,4 +1,4 @@
--- What a walk over an open volume gives.
+-- What a walk over an open volume gives (`docs/PATHS.md`, "Walking").
 use Rattle.std.specs.Prelude.{◌≡◌, ◌⊎◌, ℕ, Bool, Result, Ok, Err, IsSome}
 use Rattle.vol_sector.specs.Disk.{Disk, Leaves}
 use Rattle.vol_inode.specs.Name.{IsName}

@@ -1,4 +1,4 @@
--- Sectors of a file that are kept in memory.
+-- Sectors of a file that are kept in memory (`docs/DECISIONS.md`, "The program's runs").
 use Rattle.std.specs.Prelude.{ℕ, List, [], Option, None, ◌/◌, ◌%◌, ◌==◌, slice_get, slice_index_or, if◌then◌else◌}
 use Rattle.sandbox_command.specs.declared.cache.Cache.{Cache}
 use Rattle.sandbox_command.specs.Places.{place}

@@ -1,4 +1,4 @@
--- What a task does with the volume on a device.
+-- What a task does with the volume on a device (`README.md`, "The program").
 use Rattle.std.specs.Prelude.{◌≡◌, ◌⊎◌, ◌↔◌, ℕ, List, Option, Result, Ok, Err, OnOk, IfErr}
 use Rattle.vol_sector.specs.Disk.{Image, Disk, Leaves}
 use Rattle.vol_sector.specs.declared.fault.VolumeFault.{VolumeFault}

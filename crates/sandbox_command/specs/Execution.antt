@@ -1,4 +1,5 @@
--- What the program does: how it ends, and of which run, formatting or task its status tells.
+-- What the program does: how it ends, and of which run, formatting or task its status tells
+-- (`README.md`, "The program").
 use Rattle.std.specs.Prelude.{◌≡◌, ◌≢◌, ◌⊎◌, ℕ, List, Option, Result}
 use Rattle.vol_sector.specs.Disk.{Disk, Leaves}
 use Rattle.vol_sector.specs.declared.fault.Refused.{Refused}

@@ -1,4 +1,4 @@
--- A file as a device.
+-- A file as a device (`docs/VOLUME.md`, "The device").
 use Rattle.std.specs.Prelude.{[]}
 use Rattle.vol_sector.specs.Disk.{Disk}
 

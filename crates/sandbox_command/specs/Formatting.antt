@@ -1,4 +1,4 @@
--- What formatting a device leaves, and how it ends.
+-- What formatting a device leaves, and how it ends (`docs/VOLUME.md`, "Formatting").
 use Rattle.std.specs.Prelude.{◌≡◌, ◌≤◌, ◌<◌, ◌↔◌, ℕ, Result, Err, OnOk, IfErr}
 use Rattle.vol_sector.specs.Disk.{Image, Disk, Leaves}
 use Rattle.vol_sector.specs.declared.fault.VolumeFault.TheVariants as fault

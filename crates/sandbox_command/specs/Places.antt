@@ -1,4 +1,4 @@
--- Where a cache has which sector.
+-- Where a cache has which sector (`docs/DECISIONS.md`, "The program's runs").
 use Rattle.std.specs.Prelude.{ℕ, ◌/◌, ◌%◌}
 
 -- The place of a sector's run, which has 32 sectors.

@@ -1,4 +1,4 @@
--- A disk in memory: each write lasts at once.
+-- A disk in memory: each write lasts at once (`docs/VOLUME.md`, "The device").
 use Rattle.std.specs.Prelude.{◌≡◌, ◌⊎◌, ◌-◌, ℕ, List, [], ◌∷◌, length, take}
 use Rattle.vol_sector.specs.Disk.{Image, Disk}
 use Rattle.vol_sector.specs.Record.{image_of}

@@ -1,4 +1,4 @@
--- What a command line asks for.
+-- What a command line asks for (`README.md`, "The program").
 use Rattle.std.specs.Prelude.{ℕ, List, ◌∷◌, map}
 use Rattle.std.specs.Borrow.{Bor}
 use Rattle.sandbox_command.specs.declared.request.Run.{Run}

@@ -1,4 +1,4 @@
--- What a run of a module on an open volume says.
+-- What a run of a module on an open volume says (`README.md`, "The program").
 use Rattle.std.specs.Prelude.{◌≡◌, ◌⊎◌, ℕ, List, Option, Result, Ok, Err}
 use Rattle.std.proofs.Common.{inl, inr}
 use Rattle.vol_sector.specs.Disk.{Image, Disk, Leaves}

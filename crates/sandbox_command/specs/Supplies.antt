@@ -1,4 +1,4 @@
--- What a guest is given by the words of its command line.
+-- What a guest is given by the words of its command line (`README.md`, "The program").
 use Rattle.std.specs.Prelude.{◌≡◌, ◌⊎◌, ◌==◌, ℕ, Bool, List, [], ◌∷◌, length, map, Option, Some, None, if◌then◌else◌, nat_lt, codes}
 use Rattle.std.specs.List.{Contains, position_or_len, before_first, after_first}
 use Rattle.wasi_calls.specs.declared.settings.Preopen.{Preopen}

@@ -1,4 +1,4 @@
--- What a task on a volume prints, and which tree it leaves.
+-- What a task on a volume prints, and which tree it leaves (`README.md`, "The program").
 use Rattle.std.specs.Prelude.{◌≡◌, ◌⊎◌, ◌==◌, ℕ, Bool, List, [], ◌∷◌, ◌++◌, Option, None, Some, Result, Ok, Err, if◌then◌else◌, codes, decimal, false, true}
 use Rattle.std.specs.List.{concat, flat_map}
 use Rattle.std.specs.Io.KnownBytes.{Appends, Consumes, IsAtEnd}

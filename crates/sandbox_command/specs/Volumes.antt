@@ -1,4 +1,5 @@
--- The volume of a run: that of its file, or, where it names none, an empty one of 202 sectors and 16 slots.
+-- The volume of a run: that of its file, or, where it names none, an empty one of 202 sectors and 16 slots
+-- (`README.md`, "The program").
 use Rattle.std.specs.Prelude.{◌≡◌, ◌↔◌, ◌<◌, ℕ, false, Option, Some, None}
 use Rattle.std.specs.Borrow.{Bor}
 use Rattle.vol_sector.specs.Disk.{Image, Disk, Leaves}

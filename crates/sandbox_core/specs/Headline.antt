@@ -1,5 +1,5 @@
 -- The headline: what a guest does is a run of the reduction rules over a tree of paths, what a crash leaves of its volume is
--- the tree after a first part of its calls, and what it can't reach stays as it is.
+-- the tree after a first part of its calls, and what it can't reach stays as it is (`README.md`, "What is proved").
 use Rattle.std.specs.Prelude.{◌≡◌, ◌==◌, ◌&&◌, ℕ, Bool, false, List, [], ◌∷◌, map, Option, Some}
 use Rattle.vol_sector.specs.Disk.{Disk}
 use Rattle.vol_tree.specs.Tree.{Tree}

@@ -1,4 +1,4 @@
--- What the report of a run says.
+-- What the report of a run says (`README.md`, "The program").
 use Rattle.std.specs.Prelude.{◌≡◌, ℕ, ◌≤◌, List, Option}
 use Rattle.vol_sector.specs.Disk.{Disk, Leaves}
 use Rattle.vol_tree.specs.Tree.{Tree}

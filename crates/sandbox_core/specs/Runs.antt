@@ -1,4 +1,5 @@
--- Runs of a machine over a host: resume by resume, and all of them as one.
+-- Runs of a machine over a host: resume by resume, and all of them as one
+-- (`docs/ARCHITECTURE.md`, "Configurations and the machine").
 use Rattle.std.specs.Prelude.{◌≡◌, ◌⊎◌, ℕ, List, [], ◌∷◌, ◌++◌}
 use Rattle.vol_sector.specs.Disk.{Image, Disk}
 use Rattle.vol_tree.specs.Tree.{Tree}

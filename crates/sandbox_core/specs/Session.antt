@@ -1,4 +1,4 @@
--- Sessions: a machine, and the host that answers its calls.
+-- Sessions: a machine, and the host that answers its calls (`docs/ARCHITECTURE.md`, "The way of the bytes").
 use Rattle.std.specs.Prelude.{◌≡◌, ◌≢◌, ℕ, true, false, Bool, List, Option, None, Result, Ok, Err}
 use Rattle.vol_sector.specs.Disk.{Image, Disk, Leaves}
 use Rattle.vol_sector.specs.declared.fault.Refused.{Refused}

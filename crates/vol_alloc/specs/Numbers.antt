@@ -1,4 +1,4 @@
--- Lists of sector numbers.
+-- Lists of sector numbers (`docs/VOLUME.md`, "Sectors").
 use Rattle.std.specs.Prelude.{◌≡◌, ◌≢◌, ◌≤◌, ◌<◌, ℕ, List, length, slice_index}
 
 -- the number stands in the list

@@ -1,4 +1,4 @@
--- What stays of a log that is read and staged to.
+-- What stays of a log that is read and staged to (`docs/VOLUME.md`, "Log").
 use Rattle.std.specs.Prelude.{◌≡◌, ◌↔◌, ◌≤◌, ◌+◌, ℕ, Bool, false}
 use Rattle.vol_sector.specs.Disk.{Leaves, counted}
 use Rattle.vol_sector.specs.declared.device.Device.{Ghosts}

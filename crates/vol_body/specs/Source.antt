@@ -1,4 +1,4 @@
--- Bytes that stand in spans of a memory.
+-- Bytes that stand in spans of a memory (`ciovec` of WASI preview 1).
 use Rattle.std.specs.Prelude.{ℕ, ◌+◌, ◌≤◌, List, [], ◌∷◌, ◌++◌, length, take, drop}
 use Rattle.vol_body.specs.declared.source.Span.{Span}
 

@@ -1,6 +1,5 @@
 -- The sectors that a file names, in the order of a survey, and the rules on them that one file shows
 -- (`docs/VOLUME.md`, "File").
--- See `docs/VOLUME.md`, "File".
 use Rattle.std.specs.Prelude.{◌≡◌, ◌≤◌, ◌<◌, ◌+◌, ◌-◌, ◌*◌, ◌==◌, ℕ, not, List, ◌++◌, ◌∷◌, length, map, filter}
 use Rattle.std.specs.List.{range_with_len, flat_map, Contains}
 use Rattle.vol_sector.specs.Disk.{Image}

@@ -1,4 +1,4 @@
--- The bytes that a directory and a name are found by.
+-- The bytes that a directory and a name are found by (`docs/VOLUME.md`, "The tree").
 use Rattle.std.specs.Prelude.{◌≤◌, ◌-◌, ℕ, List, ◌++◌, length, replicate}
 use Rattle.std.specs.List.{Contains}
 use Rattle.byteorder.specs.Endian.{big_bytes}

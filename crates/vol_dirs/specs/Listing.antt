@@ -1,4 +1,4 @@
--- The two lists that names are answered from.
+-- The two lists that names are answered from (`docs/VOLUME.md`, "The tree").
 use Rattle.std.specs.Prelude.{◌<◌, ◌^◌, ℕ, List}
 use Rattle.std.specs.List.{Contains}
 use Rattle.vol_dirs.specs.Key.{key_of, IsPlain}

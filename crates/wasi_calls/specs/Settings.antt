@@ -1,4 +1,4 @@
--- The settings that a session can have.
+-- The settings that a session can have (`README.md`, "What it takes").
 use Rattle.std.specs.Prelude.{◌&&◌, Bool, List, nat_le, length}
 use Rattle.std.specs.List.{list_all}
 use Rattle.wasi_calls.specs.declared.settings.Preopen.{Preopen}

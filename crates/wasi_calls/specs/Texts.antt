@@ -1,4 +1,4 @@
--- The texts that a guest can be given.
+-- The texts that a guest can be given (`args_get`, `environ_get` of WASI preview 1).
 use Rattle.std.specs.Prelude.{ℕ, ◌+◌, ◌==◌, ◌&&◌, Bool, not, nat_le, List, length, sum_by, map}
 use Rattle.std.specs.List.{list_any}
 use denote.Ref.{Bor}

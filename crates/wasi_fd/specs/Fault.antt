@@ -1,4 +1,4 @@
--- The error numbers of refused descriptors.
+-- The error numbers of refused descriptors (`errno` of WASI preview 1).
 use Rattle.std.specs.Prelude.{ℕ}
 use Rattle.wasi_fd.specs.declared.fault.DescriptorFault.{DescriptorFault}
 use Rattle.wasi_fd.specs.declared.fault.DescriptorFault.TheVariants.{NotOpen, Full}

@@ -1,4 +1,4 @@
--- The rights of descriptors, as numbers.
+-- The rights of descriptors, as numbers (`rights` of WASI preview 1).
 use Rattle.std.specs.Prelude.{ℕ}
 use Rattle.wasi_fd.specs.declared.rights.Rights.{Rights}
 

@@ -1,4 +1,4 @@
--- The map from numbers to descriptors.
+-- The map from numbers to descriptors (`fd` of WASI preview 1).
 use Rattle.std.specs.Prelude.{◌≡◌, ◌==◌, ℕ, Option, Some, None, slice_index_or, if◌then◌else◌}
 use Rattle.wasi_fd.specs.Rights.{bits_of}
 use Rattle.wasi_fd.specs.declared.descriptor.Stream.{Stream as StreamValue}

@@ -1,4 +1,4 @@
--- Instances of a module.
+-- Module instances (section 4.2.5).
 use Rattle.std.specs.Prelude.{◌≡◌, List, ◌++◌}
 use Rattle.wasm_module.specs.declared.module.Module.{Module}
 use Rattle.wasm_store.specs.declared.call.HostCall.{HostCall}

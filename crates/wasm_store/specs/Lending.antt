@@ -1,4 +1,4 @@
--- What memory ends as, where a part of it is lent to be written.
+-- What memory (section 4.2.8) ends as, where a part of it is lent to be written.
 use Rattle.std.specs.Prelude.{ℕ, List, length, Option}
 use Rattle.std.specs.Borrow.{Lends, LendsIf, Fml, MutBor, Array, u8}
 use Rattle.std.specs.List.{refill}
