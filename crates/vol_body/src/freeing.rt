@@ -102,7 +102,7 @@ fn known_numbers(sectors: &Alloc, image: &[u8; 512]) -> [u32; 128]
 }
 
 /// Frees what the inner blocks name after the data blocks that are kept, and those of the inner blocks that
-/// keep no number. Each of which something goes is read unless it is the one that is held.
+/// keep no number. Those of which something goes are read, but for the one that is held.
 fn free_inner_blocks<D: Device>(
     log: &mut Log<D>,
     sectors: &mut Alloc,

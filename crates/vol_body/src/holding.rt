@@ -1,4 +1,4 @@
-//! The pointer sectors that a call holds while it goes over a file's data blocks in their order.
+//! The pointer sectors that a call holds, so that it reads each of them once.
 
 ghost use Rattle.std.specs.Prelude.{◌≡◌, ◌≢◌, ◌≤◌, ◌<◌, ◌-◌, ◌/◌, ◌%◌, ℕ, true, false, IfOk, OnOk, is_err};
 ghost use Rattle.vol_log.specs.Log.{view, log_sectors, has_failed, device_of};
@@ -116,13 +116,9 @@ pub fn read_held<D: Device>(
     ensures reads { OnlyReads log.old log.new }
     ensures failed { has_failed log.new ≡ is_err result }
 {
-    if j < DIRECT {
-        let n = taken_or_zero(sectors, entry.pointers[j as usize]);
-        return read_taken(log, sectors, n);
-    }
-    let group = (j - DIRECT) / NUMBERS;
+    let group = j.saturating_sub(DIRECT) / NUMBERS;
     hold_group(log, sectors, entry, held, group, last)?;
-    let n = listed_sector(sectors, &held.above, (j - DIRECT) % NUMBERS);
+    let n = held_sector(sectors, entry, held, j);
     read_taken(log, sectors, n)
 }
 

@@ -39,7 +39,7 @@ fn kept_pointers(pointers: &[u32; 60], count: u32) -> [u32; 60]
 
 /// Shortens the file, whose entry is in this sector. It stages the entry, and at most three
 /// sectors of which the file keeps a beginning, with zeros after it; it frees those that the
-/// file names no more. Each pointer sector of which something goes is read once.
+/// file names no more. Each pointer sector that it needs is read once.
 ///
 /// It is refused where a device operation failed, or had failed before. Then nothing was staged, and
 /// the sectors may have been given back.
