@@ -1,27 +1,13 @@
 -- The sectors that are cut.
-use Rattle.std.proofs.Common.{◌≡◌, ◌≢◌, inl, inr, ◌≤◌, ◌<◌, ◌-◌, ◌==◌, ℕ, Bool, true, false, nat_lt, if◌then◌else◌, List, get_or, IfOk, Result, refl, sym, ◌∙◌, ap, subst, arith}
+use Rattle.std.proofs.Common.{◌≡◌, ◌≢◌, inl, inr, ◌≤◌, ◌<◌, ◌-◌, ◌==◌, ℕ, Bool, true, false, nat_lt, if◌then◌else◌, List, get_or, refl, sym, ◌∙◌, ap, arith}
 use Rattle.std.proofs.lemmas.Bool.{cases_lt, cases_eq}
 use Rattle.std.proofs.lemmas.Bool.Decides.{nat_tests}
 use Rattle.std.proofs.lemmas.List.{get_or_past}
 use Rattle.vol_sector.specs.Disk.{Image, put}
-use Rattle.vol_sector.specs.declared.device.DeviceFault.{DeviceFault}
 use Rattle.vol_alloc.specs.declared.sectors.Alloc.{Alloc}
 use Rattle.vol_alloc.specs.Alloc.{first_of, end_of, taken_of}
-use Rattle.vol_inode.specs.declared.entry.Entry.{Entry}
 use Rattle.vol_body.specs.declared.truncation.Cut.{Cut}
-use Rattle.vol_body.specs.Body.{BlockPosition, named, NamesTaken}
 use Rattle.vol_body.specs.internal.Truncated.{IsCut, cut, with_cut}
-
--- the same cut in other words
-pub cut_is : (r : Result Cut DeviceFault) (one other : Image) (n m k l : ℕ) → one ≡ other → n ≡ m → k ≡ l → IfOk r (IsCut one n k) → IfOk r (IsCut other m l)
-cut_is r one other n m k l same is kept ok =
-    subst (λ (x : ℕ). IfOk r (IsCut other m x)) kept (subst (λ (x : ℕ). IfOk r (IsCut other x k)) is (subst (λ (x : Image). IfOk r (IsCut x n k)) same ok))
-
--- a cut that was read after others
-pub cut_after : (taken : ℕ → Bool) (one other : Image) (e : Entry) (p : BlockPosition) (kept : ℕ) (c : Cut) → one ≡ other → NamesTaken taken other e
-    → (NamesTaken taken one e → IsCut one (named one e p) kept c) → IsCut other (named other e p) kept c
-cut_after taken one other e p kept c same names is =
-    subst (λ (m : Image). IsCut m (named m e p) kept c) same (is (subst (λ (m : Image). NamesTaken taken m e) (sym same) names))
 
 -- a taken sector is one of the range
 pub in_range : (a : Alloc) (n : ℕ) → taken_of a n ≡ true → (first_of a ≤ n) × (n < end_of a)

@@ -1,7 +1,6 @@
 -- What a file is after it was made shorter.
-use Rattle.std.proofs.Common.{◌≡◌, ◌≢◌, ◌⊎◌, inl, inr, ⊎_elim, ◌≤◌, ◌<◌, ◌-◌, ◌/◌, ℕ, Bool, true, false, List, ◌++◌, length, take, replicate, get_or, nat_lt, if◌then◌else◌, refl, sym, ◌∙◌, ap, subst, arith}
+use Rattle.std.proofs.Common.{◌≡◌, ◌≢◌, ◌⊎◌, inl, inr, ⊎_elim, ◌≤◌, ◌<◌, ◌-◌, ◌/◌, ℕ, zero, suc, Bool, true, false, List, ◌++◌, length, take, replicate, get_or, nat_lt, if◌then◌else◌, refl, sym, ◌∙◌, ap, subst, arith}
 use Rattle.std.proofs.lemmas.Bool.{cases_lt}
-use Rattle.std.proofs.lemmas.Bool.Decides.{nat_tests}
 use Rattle.std.proofs.lemmas.List.{ext_get_or, length-append, length-take-le, get_or-take, get_or_append_left}
 use Rattle.vol_sector.specs.Disk.{Image, put}
 use Rattle.vol_inode.specs.declared.entry.Entry.{Entry}
@@ -11,7 +10,8 @@ use Rattle.vol_body.specs.declared.truncation.Truncation.{Truncation}
 use Rattle.vol_body.specs.Body.{BlockPosition, data_block, indirect_block, double_indirect_block, inner_block, IsPosition, first_served, named, bytes_of, IsBody, NamesTaken}
 use Rattle.vol_body.specs.Bytes.{resized_bytes}
 use Rattle.vol_body.specs.Change.{OthersStay, TakesAndGives}
-use Rattle.vol_body.specs.internal.Truncated.{kept_bytes, last_data_block, cut_indirect_block, last_inner_block, cut, IsCut, IsTruncation, AreWithin, with_cut, with_truncation, Frees, IsFreed}
+use Rattle.vol_body.specs.internal.Truncated.{kept_bytes, cut_data_block, cut_segment, cut, IsCut, IsTruncation, AreWithin, with_cut, with_truncation, Frees, IsFreed}
+use Rattle.vol_body.specs.internal.Writing.{segment, segment_of}
 use Rattle.vol_inode.specs.Entry.{first_block_of_pointer}
 use Rattle.vol_body.proofs.Parts.{length-bytes_of, get_or-bytes_of}
 use Rattle.vol_body.proofs.CutSectors.{put_past, cut_elsewhere, cut_there}
@@ -31,33 +31,27 @@ pub record Shrinks (size place first end : ℕ) (content : Image) (e changed : E
   pub small : e.size ≤ LARGEST_SIZE
   pub slot : (n : ℕ) → was n ≡ true → n ≢ place
 
-many_lists : (count : ℕ) → 186 < count → (if nat_lt 186 count then double_indirect_block else indirect_block) ≡ double_indirect_block
-many_lists count lt = grind (arith, nat_tests)
-
-one_list : (count : ℕ) → count ≤ 186 → (if nat_lt 186 count then double_indirect_block else indirect_block) ≡ indirect_block
-one_list count le = grind (arith, nat_tests)
-
 -- a position of which only a beginning is kept
-one_of_three : (size : ℕ) (p : BlockPosition) → 0 < kept_bytes size p → kept_bytes size p < 512 → (p ≡ last_data_block size) ⊎ ((p ≡ cut_indirect_block size) ⊎ (p ≡ last_inner_block size))
-one_of_three size (data_block j) some short = inl (let at : j ≡ blocks_for_size size - 1 = omega arith in ap data_block at)
-one_of_three size indirect_block some short = inr (inl (sym (one_list (blocks_for_size size) (omega arith))))
-one_of_three size double_indirect_block some short = inr (inl (sym (many_lists (blocks_for_size size) (omega arith))))
-one_of_three size (inner_block i) some short = inr (inr (let at : i ≡ (blocks_for_size size - 187) / 128 = omega arith in ap inner_block at))
+one_of_three : (size : ℕ) (p : BlockPosition) → 0 < kept_bytes size p → kept_bytes size p < 512 → (p ≡ cut_data_block size) ⊎ ((p ≡ cut_segment size) ⊎ (p ≡ double_indirect_block))
+one_of_three size (data_block j) some short = inl (let at : j ≡ size / 512 = omega arith in ap data_block at)
+one_of_three size indirect_block some short = inr (inl (let at : 0 ≡ segment_of (size / 512) = omega arith in ap segment at))
+one_of_three size double_indirect_block some short = inr (inr refl)
+one_of_three size (inner_block i) some short = inr (inl (let at : suc i ≡ segment_of (size / 512) = omega arith in ap segment at))
 
-part_no_list : (b : Bool) (j : ℕ) → data_block j ≡ (if b then double_indirect_block else indirect_block) → ⊥
-part_no_list true j is = cc
-part_no_list false j is = cc
+part_no_segment : (g j : ℕ) → data_block j ≡ segment g → ⊥
+part_no_segment zero j is = cc
+part_no_segment (suc i) j is = cc
 
-later_no_list : (b : Bool) (i : ℕ) → inner_block i ≡ (if b then double_indirect_block else indirect_block) → ⊥
-later_no_list true i is = cc
-later_no_list false i is = cc
+top_no_segment : (g : ℕ) → double_indirect_block ≡ segment g → ⊥
+top_no_segment zero is = cc
+top_no_segment (suc i) is = cc
 
-part_no_later : (i j : ℕ) → data_block j ≡ inner_block i → ⊥
-part_no_later i j is = cc
+part_no_top : (j : ℕ) → data_block j ≡ double_indirect_block → ⊥
+part_no_top j is = cc
 
-list_there : (b : Bool) → IsPosition (if b then double_indirect_block else indirect_block)
-list_there true = tt
-list_there false = tt
+segment_there : (g : ℕ) → g < 129 → IsPosition (segment g)
+segment_there zero lt = tt
+segment_there (suc i) lt = omega (arith, lt)
 
 false_if : (b : Bool) → (b ≡ true → ⊥) → b ≡ false
 false_if true never = absurd (never refl)
@@ -71,19 +65,19 @@ module _ (size place first end : ℕ) (content : Image) (e changed : Entry) (tru
   abbrev pub after : Image
   after = put place bytes (with_truncation truncation content)
 
-  part_there : IsPosition (last_data_block size)
+  part_there : IsPosition (cut_data_block size)
   part_there = omega (arith, s.shorter, s.small)
 
-  last_there : IsPosition (last_inner_block size)
-  last_there = omega (arith, s.shorter, s.small)
+  above_there : IsPosition (cut_segment size)
+  above_there = segment_there (segment_of (size / 512)) (omega (arith, s.shorter, s.small))
 
   -- what is written for one position isn't the sector of another
   apart : (p q : BlockPosition) (kept : ℕ) (c : Cut) → IsPosition p → IsPosition q → (p ≡ q → ⊥) → named content e p ≢ 0 → IsCut content (named content e q) kept c → c.sector ≢ 0 → c.sector ≢ named content e p
   apart p q kept c a b other some is set same = other (s.body.distinct p q a b some (sym same ∙ is.sector set))
 
-  untouched : (n : ℕ) → (truncation.data_block.sector ≢ 0 → truncation.data_block.sector ≢ n) → (truncation.indirect_block.sector ≢ 0 → truncation.indirect_block.sector ≢ n) → (truncation.last.sector ≢ 0 → truncation.last.sector ≢ n) → with_truncation truncation content n ≡ content n
+  untouched : (n : ℕ) → (truncation.data_block.sector ≢ 0 → truncation.data_block.sector ≢ n) → (truncation.above.sector ≢ 0 → truncation.above.sector ≢ n) → (truncation.top.sector ≢ 0 → truncation.top.sector ≢ n) → with_truncation truncation content n ≡ content n
   untouched n a b c =
-      cut_elsewhere truncation.last (with_cut truncation.indirect_block (with_cut truncation.data_block content)) n c ∙ cut_elsewhere truncation.indirect_block (with_cut truncation.data_block content) n b ∙ cut_elsewhere truncation.data_block content n a
+      cut_elsewhere truncation.top (with_cut truncation.above (with_cut truncation.data_block content)) n c ∙ cut_elsewhere truncation.above (with_cut truncation.data_block content) n b ∙ cut_elsewhere truncation.data_block content n a
 
   elsewhere : (n : ℕ) → n ≢ place → after n ≡ with_truncation truncation content n
   elsewhere n other = put_past place n bytes (with_truncation truncation content) other
@@ -97,45 +91,45 @@ module _ (size place first end : ℕ) (content : Image) (e changed : Entry) (tru
       let kept : kept_bytes size p ≡ kept_bytes size q = ap (kept_bytes size) same in omega (arith, is.short set, kept, whole) in
       named_elsewhere p there some
       ∙ untouched (named content e p)
-      (λ set. apart p (last_data_block size) (kept_bytes size (last_data_block size)) truncation.data_block there part_there (long (last_data_block size) truncation.data_block s.are_cut.data_block set) some s.are_cut.data_block set)
-      (λ set. apart p (cut_indirect_block size) (kept_bytes size (cut_indirect_block size)) truncation.indirect_block there (list_there (nat_lt 186 (blocks_for_size size))) (long (cut_indirect_block size) truncation.indirect_block s.are_cut.indirect_block set) some s.are_cut.indirect_block set)
-      (λ set. apart p (last_inner_block size) (kept_bytes size (last_inner_block size)) truncation.last there last_there (long (last_inner_block size) truncation.last s.are_cut.last set) some s.are_cut.last set)
+      (λ set. apart p (cut_data_block size) (kept_bytes size (cut_data_block size)) truncation.data_block there part_there (long (cut_data_block size) truncation.data_block s.are_cut.data_block set) some s.are_cut.data_block set)
+      (λ set. apart p (cut_segment size) (kept_bytes size (cut_segment size)) truncation.above there above_there (long (cut_segment size) truncation.above s.are_cut.above set) some s.are_cut.above set)
+      (λ set. apart p double_indirect_block (kept_bytes size double_indirect_block) truncation.top there tt (long double_indirect_block truncation.top s.are_cut.top set) some s.are_cut.top set)
 
   -- each of the three sectors is cut
   abbrev IsCutAt : BlockPosition → Type 0
   IsCutAt p = named content e p ≢ 0 → 0 < kept_bytes size p → kept_bytes size p < 512 → with_truncation truncation content (named content e p) ≡ cut (kept_bytes size p) (content (named content e p))
 
-  cuts_part : IsCutAt (last_data_block size)
+  cuts_part : IsCutAt (cut_data_block size)
   cuts_part some kept short =
-      let p = last_data_block size in
+      let p = cut_data_block size in
       let n = named content e p in
-      let two = λ (set : truncation.indirect_block.sector ≢ 0). apart p (cut_indirect_block size) (kept_bytes size (cut_indirect_block size)) truncation.indirect_block part_there (list_there (nat_lt 186 (blocks_for_size size))) (part_no_list (nat_lt 186 (blocks_for_size size)) (blocks_for_size size - 1)) some s.are_cut.indirect_block set in
-      let three = λ (set : truncation.last.sector ≢ 0). apart p (last_inner_block size) (kept_bytes size (last_inner_block size)) truncation.last part_there last_there (part_no_later ((blocks_for_size size - 187) / 128) (blocks_for_size size - 1)) some s.are_cut.last set in
-      cut_elsewhere truncation.last (with_cut truncation.indirect_block (with_cut truncation.data_block content)) n three
-      ∙ cut_elsewhere truncation.indirect_block (with_cut truncation.data_block content) n two
+      let two = λ (set : truncation.above.sector ≢ 0). apart p (cut_segment size) (kept_bytes size (cut_segment size)) truncation.above part_there above_there (part_no_segment (segment_of (size / 512)) (size / 512)) some s.are_cut.above set in
+      let three = λ (set : truncation.top.sector ≢ 0). apart p double_indirect_block (kept_bytes size double_indirect_block) truncation.top part_there tt (part_no_top (size / 512)) some s.are_cut.top set in
+      cut_elsewhere truncation.top (with_cut truncation.above (with_cut truncation.data_block content)) n three
+      ∙ cut_elsewhere truncation.above (with_cut truncation.data_block content) n two
       ∙ cut_there content n (kept_bytes size p) truncation.data_block content s.are_cut.data_block some kept short refl
 
-  cuts_list : IsCutAt (cut_indirect_block size)
-  cuts_list some kept short =
-      let p = cut_indirect_block size in
+  cuts_above : IsCutAt (cut_segment size)
+  cuts_above some kept short =
+      let p = cut_segment size in
       let n = named content e p in
-      let there = list_there (nat_lt 186 (blocks_for_size size)) in
-      let one = λ (set : truncation.data_block.sector ≢ 0). apart p (last_data_block size) (kept_bytes size (last_data_block size)) truncation.data_block there part_there (λ is. part_no_list (nat_lt 186 (blocks_for_size size)) (blocks_for_size size - 1) (sym is)) some s.are_cut.data_block set in
-      let three = λ (set : truncation.last.sector ≢ 0). apart p (last_inner_block size) (kept_bytes size (last_inner_block size)) truncation.last there last_there (λ is. later_no_list (nat_lt 186 (blocks_for_size size)) ((blocks_for_size size - 187) / 128) (sym is)) some s.are_cut.last set in
-      cut_elsewhere truncation.last (with_cut truncation.indirect_block (with_cut truncation.data_block content)) n three
-      ∙ cut_there content n (kept_bytes size p) truncation.indirect_block (with_cut truncation.data_block content) s.are_cut.indirect_block some kept short (cut_elsewhere truncation.data_block content n one)
+      let there = above_there in
+      let one = λ (set : truncation.data_block.sector ≢ 0). apart p (cut_data_block size) (kept_bytes size (cut_data_block size)) truncation.data_block there part_there (λ is. part_no_segment (segment_of (size / 512)) (size / 512) (sym is)) some s.are_cut.data_block set in
+      let three = λ (set : truncation.top.sector ≢ 0). apart p double_indirect_block (kept_bytes size double_indirect_block) truncation.top there tt (λ is. top_no_segment (segment_of (size / 512)) (sym is)) some s.are_cut.top set in
+      cut_elsewhere truncation.top (with_cut truncation.above (with_cut truncation.data_block content)) n three
+      ∙ cut_there content n (kept_bytes size p) truncation.above (with_cut truncation.data_block content) s.are_cut.above some kept short (cut_elsewhere truncation.data_block content n one)
 
-  cuts_last : IsCutAt (last_inner_block size)
-  cuts_last some kept short =
-      let p = last_inner_block size in
+  cuts_top : IsCutAt double_indirect_block
+  cuts_top some kept short =
+      let p = double_indirect_block in
       let n = named content e p in
-      let one = λ (set : truncation.data_block.sector ≢ 0). apart p (last_data_block size) (kept_bytes size (last_data_block size)) truncation.data_block last_there part_there (λ is. part_no_later ((blocks_for_size size - 187) / 128) (blocks_for_size size - 1) (sym is)) some s.are_cut.data_block set in
-      let two = λ (set : truncation.indirect_block.sector ≢ 0). apart p (cut_indirect_block size) (kept_bytes size (cut_indirect_block size)) truncation.indirect_block last_there (list_there (nat_lt 186 (blocks_for_size size))) (later_no_list (nat_lt 186 (blocks_for_size size)) ((blocks_for_size size - 187) / 128)) some s.are_cut.indirect_block set in
-      cut_there content n (kept_bytes size p) truncation.last (with_cut truncation.indirect_block (with_cut truncation.data_block content)) s.are_cut.last some kept short (cut_elsewhere truncation.indirect_block (with_cut truncation.data_block content) n two ∙ cut_elsewhere truncation.data_block content n one)
+      let one = λ (set : truncation.data_block.sector ≢ 0). apart p (cut_data_block size) (kept_bytes size (cut_data_block size)) truncation.data_block tt part_there (λ is. part_no_top (size / 512) (sym is)) some s.are_cut.data_block set in
+      let two = λ (set : truncation.above.sector ≢ 0). apart p (cut_segment size) (kept_bytes size (cut_segment size)) truncation.above tt above_there (top_no_segment (segment_of (size / 512))) some s.are_cut.above set in
+      cut_there content n (kept_bytes size p) truncation.top (with_cut truncation.above (with_cut truncation.data_block content)) s.are_cut.top some kept short (cut_elsewhere truncation.above (with_cut truncation.data_block content) n two ∙ cut_elsewhere truncation.data_block content n one)
 
   cuts_place : (p : BlockPosition) → IsCutAt p
   cuts_place p some kept short = ⊎_elim (λ is. subst IsCutAt (sym is) cuts_part some kept short)
-      (λ either. ⊎_elim (λ is. subst IsCutAt (sym is) cuts_list some kept short) (λ is. subst IsCutAt (sym is) cuts_last some kept short) either)
+      (λ either. ⊎_elim (λ is. subst IsCutAt (sym is) cuts_above some kept short) (λ is. subst IsCutAt (sym is) cuts_top some kept short) either)
       (one_of_three size p kept short)
 
   shorter : IsTruncated size content after e changed
@@ -149,11 +143,11 @@ module _ (size place first end : ℕ) (content : Image) (e changed : Entry) (tru
   shrunk_others = record {
     outside = λ n other out.
         let out_of = out_of_range first end n out in
-        elsewhere n other ∙ untouched n (λ set. out_of truncation.data_block.sector (s.within.data_block set)) (λ set. out_of truncation.indirect_block.sector (s.within.indirect_block set)) (λ set. out_of truncation.last.sector (s.within.last set));
+        elsewhere n other ∙ untouched n (λ set. out_of truncation.data_block.sector (s.within.data_block set)) (λ set. out_of truncation.above.sector (s.within.above set)) (λ set. out_of truncation.top.sector (s.within.top set));
     taken = λ n other is_taken foreign. elsewhere n other ∙ untouched n
-        (λ set is. foreign (last_data_block size) part_there (sym (s.are_cut.data_block.sector set) ∙ is))
-        (λ set is. foreign (cut_indirect_block size) (list_there (nat_lt 186 (blocks_for_size size))) (sym (s.are_cut.indirect_block.sector set) ∙ is))
-        (λ set is. foreign (last_inner_block size) last_there (sym (s.are_cut.last.sector set) ∙ is));
+        (λ set is. foreign (cut_data_block size) part_there (sym (s.are_cut.data_block.sector set) ∙ is))
+        (λ set is. foreign (cut_segment size) above_there (sym (s.are_cut.above.sector set) ∙ is))
+        (λ set is. foreign double_indirect_block tt (sym (s.are_cut.top.sector set) ∙ is));
   }
 
   -- what the file names now it named before, at a position that is kept

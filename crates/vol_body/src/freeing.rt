@@ -5,11 +5,15 @@ ghost use Rattle.std.specs.Prelude.{drop, slice_index};
 ghost use Rattle.byteorder.specs.Endian.{little_number};
 ghost use Rattle.vol_log.specs.Log.{view, log_sectors, has_failed, device_of};
 ghost use Rattle.vol_alloc.specs.Alloc.{first_of, end_of, taken_of};
-ghost use Rattle.vol_body.specs.Body.{NamesTaken, number_in};
+ghost use Rattle.vol_body.specs.Body.{NamesTaken, number_in, block_bytes};
 ghost use Rattle.vol_log.specs.Reading.{OnlyReads};
 ghost use Rattle.vol_body.specs.internal.Truncated.{Frees, IsAmong, IsFreedWithBlock, IsFreedWithLater, IsFreed};
+ghost use Rattle.vol_body.specs.internal.Holding.{IsHeld};
+ghost use Rattle.vol_body.specs.declared.locate.TheConstants.{LAST};
 
+use crate::holding::{Held, read_unless_held};
 use crate::locate::{number_at, taken_or_zero};
+use crate::pointer_sectors::PointerSector;
 use vol_alloc::Alloc;
 use vol_inode::Entry;
 use vol_log::Log;
@@ -51,18 +55,21 @@ fn free_listed(sectors: &mut Alloc, image: &[u8; 512], from: u32)
 }
 
 /// Frees the sectors that a pointer sector names from one on, and the block itself where it keeps no
-/// number.
+/// number. It is read unless it is the one that is held.
 fn free_indirect_block<D: Device>(
     log: &mut Log<D>,
     sectors: &mut Alloc,
+    held: &PointerSector,
     indirect_block: u32,
     from: u32,
 ) -> Result<(), DeviceFault>
     requires there { indirect_block ≢ 0 → indirect_block < log_sectors log.old }
     requires working { has_failed log.old ≡ false }
     requires data { 0 < first_of sectors.old }
-    ensures frees { D.honest (device_of log.old) → OnOk result (Frees (taken_of sectors.old)
-        (taken_of sectors.new) (IsFreedWithBlock (view log.old) indirect_block from)) }
+    ensures frees { D.honest (device_of log.old)
+        → held.now.image ≡ block_bytes (view log.old) held.now.number
+        → OnOk result (Frees (taken_of sectors.old) (taken_of sectors.new)
+        (IsFreedWithBlock (view log.old) indirect_block from)) }
     ensures range { (first_of sectors.new ≡ first_of sectors.old)
         × (end_of sectors.new ≡ end_of sectors.old) }
     ensures reads { OnlyReads log.old log.new }
@@ -74,7 +81,7 @@ fn free_indirect_block<D: Device>(
     if from >= 128 {
         return Ok(());
     }
-    let image = log.read(indirect_block)?;
+    let image = read_unless_held(log, held, indirect_block)?;
     free_listed(sectors, &image, from);
     if from == 0 {
         free_taken(sectors, indirect_block);
@@ -95,10 +102,11 @@ fn known_numbers(sectors: &Alloc, image: &[u8; 512]) -> [u32; 128]
 }
 
 /// Frees what the inner blocks name after the data blocks that are kept, and those of the inner blocks that
-/// keep no number.
+/// keep no number. Those of which something goes are read, but for the one that is held.
 fn free_inner_blocks<D: Device>(
     log: &mut Log<D>,
     sectors: &mut Alloc,
+    held: &PointerSector,
     inner_blocks: &[u32; 128],
     count: u32,
 ) -> Result<(), DeviceFault>
@@ -106,8 +114,10 @@ fn free_inner_blocks<D: Device>(
         → slice_index inner_blocks.now i < log_sectors log.old }
     requires working { has_failed log.old ≡ false }
     requires data { 0 < first_of sectors.old }
-    ensures frees { D.honest (device_of log.old) → OnOk result (Frees (taken_of sectors.old)
-        (taken_of sectors.new) (IsFreedWithLater (view log.old) (slice_index inner_blocks.now) count 128)) }
+    ensures frees { D.honest (device_of log.old)
+        → held.now.image ≡ block_bytes (view log.old) held.now.number
+        → OnOk result (Frees (taken_of sectors.old) (taken_of sectors.new)
+        (IsFreedWithLater (view log.old) (slice_index inner_blocks.now) count 128)) }
     ensures range { (first_of sectors.new ≡ first_of sectors.old)
         × (end_of sectors.new ≡ end_of sectors.old) }
     ensures reads { OnlyReads log.old log.new }
@@ -115,7 +125,7 @@ fn free_inner_blocks<D: Device>(
 {
     for i in 0..128u32 {
         let from = count.saturating_sub(186 + 128 * i);
-        free_indirect_block(log, sectors, inner_blocks[i as usize], from)?;
+        free_indirect_block(log, sectors, held, inner_blocks[i as usize], from)?;
     }
     Ok(())
 }
@@ -124,32 +134,32 @@ fn free_inner_blocks<D: Device>(
 fn free_double_indirect_block<D: Device>(
     log: &mut Log<D>,
     sectors: &mut Alloc,
-    double_indirect_block: u32,
+    held: &Held,
     count: u32,
 ) -> Result<(), DeviceFault>
-    requires there { double_indirect_block ≢ 0 → double_indirect_block < log_sectors log.old }
     requires range { end_of sectors.old ≤ log_sectors log.old }
     requires working { has_failed log.old ≡ false }
     requires data { 0 < first_of sectors.old }
     ensures frees { D.honest (device_of log.old)
-        → ((i : ℕ) → i < 128 → number_in (view log.old) double_indirect_block i ≢ 0
-        → taken_of sectors.old (number_in (view log.old) double_indirect_block i) ≡ true)
+        → held.now.top.image ≡ block_bytes (view log.old) held.now.top.number
+        → held.now.above.image ≡ block_bytes (view log.old) held.now.above.number
+        → ((i : ℕ) → i < 128 → number_in (view log.old) held.now.top.number i ≢ 0
+        → taken_of sectors.old (number_in (view log.old) held.now.top.number i) ≡ true)
         → OnOk result (Frees (taken_of sectors.old) (taken_of sectors.new)
-        (λ n. IsFreedWithLater (view log.old) (number_in (view log.old) double_indirect_block) count 128 n
-        ⊎ ((count ≤ 186) × (double_indirect_block ≡ n)))) }
+        (λ n. IsFreedWithLater (view log.old) (number_in (view log.old) held.now.top.number) count 128 n
+        ⊎ ((count ≤ 186) × (held.now.top.number ≡ n)))) }
     ensures range { (first_of sectors.new ≡ first_of sectors.old)
         × (end_of sectors.new ≡ end_of sectors.old) }
     ensures reads { OnlyReads log.old log.new }
     ensures failed { has_failed log.new ≡ is_err result }
 {
-    if double_indirect_block == 0 {
+    if held.top.number == 0 {
         return Ok(());
     }
-    let image = log.read(double_indirect_block)?;
-    let numbers = known_numbers(sectors, &image);
-    free_inner_blocks(log, sectors, &numbers, count)?;
+    let numbers = known_numbers(sectors, &held.top.image);
+    free_inner_blocks(log, sectors, &held.above, &numbers, count)?;
     if count <= 186 {
-        free_taken(sectors, double_indirect_block);
+        free_taken(sectors, held.top.number);
     }
     Ok(())
 }
@@ -159,13 +169,16 @@ pub fn free_unkept<D: Device>(
     log: &mut Log<D>,
     sectors: &mut Alloc,
     entry: &Entry,
+    held: &Held,
     count: u32,
 ) -> Result<(), DeviceFault>
     requires there { end_of sectors.old ≤ log_sectors log.old }
     requires working { has_failed log.old ≡ false }
     requires data { 0 < first_of sectors.old }
+    requires group { held.now.group < 129 }
     ensures frees { D.honest (device_of log.old)
         → NamesTaken (taken_of sectors.old) (view log.old) entry.now
+        → IsHeld (view log.old) entry.now held.now LAST
         → OnOk result (Frees (taken_of sectors.old) (taken_of sectors.new)
         (IsFreed (view log.old) entry.now count)) }
     ensures range { (first_of sectors.new ≡ first_of sectors.old)
@@ -174,9 +187,9 @@ pub fn free_unkept<D: Device>(
     ensures failed { has_failed log.new ≡ is_err result }
 {
     let indirect_block = taken_or_zero(sectors, entry.pointers[58]);
-    let double_indirect_block = taken_or_zero(sectors, entry.pointers[59]);
-    free_double_indirect_block(log, sectors, double_indirect_block, count)?;
-    free_indirect_block(log, sectors, indirect_block, count.saturating_sub(58))?;
+    free_double_indirect_block(log, sectors, held, count)?;
+    let from = count.saturating_sub(58);
+    free_indirect_block(log, sectors, &held.above, indirect_block, from)?;
     free_direct(sectors, entry, count);
     Ok(())
 }

@@ -1,11 +1,13 @@
-//! The pointer sectors that a call holds while it goes over a file's data blocks in their order.
+//! The pointer sectors that a call holds, so that it reads each of them once.
 
-ghost use Rattle.std.specs.Prelude.{◌≡◌, ◌≤◌, ◌<◌, ◌-◌, ◌/◌, ◌%◌, false, IfOk, OnOk, is_err};
+ghost use Rattle.std.specs.Prelude.{◌≡◌, ◌≢◌, ◌≤◌, ◌<◌, ◌-◌, ◌/◌, ◌%◌, ℕ, true, false, IfOk, OnOk, is_err};
 ghost use Rattle.vol_log.specs.Log.{view, log_sectors, has_failed, device_of};
 ghost use Rattle.vol_alloc.specs.Alloc.{end_of, taken_of};
 ghost use Rattle.vol_body.specs.Body.{NamesTaken, data_block, named, block_bytes};
 ghost use Rattle.vol_log.specs.Reading.{OnlyReads};
-ghost use Rattle.vol_body.specs.internal.Holding.{IsHeld};
+ghost use Rattle.vol_sector.specs.Disk.{Image};
+ghost use Rattle.vol_body.specs.internal.Writing.{segment_of};
+ghost use Rattle.vol_body.specs.internal.Holding.{IsHeld, KnowsHeld};
 
 use crate::locate::{DIRECT, NUMBERS, read_taken, taken_or_zero};
 use crate::pointer_sectors::{PointerSector, listed_sector, load_segment, load_top};
@@ -40,6 +42,8 @@ pub fn hold<D: Device>(
     ensures held { D.honest (device_of log.old)
         → NamesTaken (taken_of sectors.now) (view log.old) entry.now
         → IfOk result (λ held. IsHeld (view log.old) entry.now held last) }
+    ensures group { IfOk result (λ held. held.group ≡ segment_of first) }
+    ensures known { IfOk result (λ held. KnowsHeld sectors.now held) }
     ensures reads { OnlyReads log.old log.new }
     ensures failed { has_failed log.new ≡ is_err result }
 {
@@ -47,6 +51,44 @@ pub fn hold<D: Device>(
     let top = load_top(log, sectors, entry, last)?;
     let above = load_segment(log, sectors, entry, &top, group, last)?;
     Ok(Held { top, group, above })
+}
+
+/// The sector of a data block, or 0 where it was never written, where the pointer sector that lists it
+/// is held.
+pub fn held_sector(sectors: &Alloc, entry: &Entry, held: &Held, j: u32) -> u32
+    requires place { j < 16570 }
+    requires group { held.now.group ≡ segment_of j }
+    ensures number { (content : Image) (last : ℕ) → j ≤ last
+        → NamesTaken (taken_of sectors.now) content entry.now
+        → IsHeld content entry.now held.now last
+        → result ≡ named content entry.now (data_block j) }
+    ensures taken { result ≢ 0 → taken_of sectors.now result ≡ true }
+{
+    if j < DIRECT {
+        return taken_or_zero(sectors, entry.pointers[j as usize]);
+    }
+    listed_sector(sectors, &held.above, (j - DIRECT) % NUMBERS)
+}
+
+/// The bytes of a sector, which is read unless it is the pointer sector that is held.
+pub fn read_unless_held<D: Device>(
+    log: &mut Log<D>,
+    held: &PointerSector,
+    n: u32,
+) -> Result<[u8; 512], DeviceFault>
+    requires some { n ≢ 0 }
+    requires there { n < log_sectors log.old }
+    requires working { has_failed log.old ≡ false }
+    ensures bytes { D.honest (device_of log.old)
+        → held.now.image ≡ block_bytes (view log.old) held.now.number
+        → IfOk result (λ image. image ≡ view log.old n) }
+    ensures reads { OnlyReads log.old log.new }
+    ensures failed { has_failed log.new ≡ is_err result }
+{
+    if n == held.number {
+        return Ok(held.image);
+    }
+    log.read(n)
 }
 
 /// Reads a data block, and before it the pointer sector that lists it, where that isn't held.
@@ -74,13 +116,9 @@ pub fn read_held<D: Device>(
     ensures reads { OnlyReads log.old log.new }
     ensures failed { has_failed log.new ≡ is_err result }
 {
-    if j < DIRECT {
-        let n = taken_or_zero(sectors, entry.pointers[j as usize]);
-        return read_taken(log, sectors, n);
-    }
-    let group = (j - DIRECT) / NUMBERS;
+    let group = j.saturating_sub(DIRECT) / NUMBERS;
     hold_group(log, sectors, entry, held, group, last)?;
-    let n = listed_sector(sectors, &held.above, (j - DIRECT) % NUMBERS);
+    let n = held_sector(sectors, entry, held, j);
     read_taken(log, sectors, n)
 }
 

@@ -5,12 +5,11 @@ ghost use Rattle.std.specs.Prelude.{drop, ◌*◌};
 ghost use Rattle.byteorder.specs.Endian.{little_number};
 ghost use Rattle.vol_log.specs.Log.{view, log_sectors, has_failed, device_of};
 ghost use Rattle.vol_alloc.specs.Alloc.{end_of, taken_of};
-ghost use Rattle.vol_body.specs.Body.{NamesTaken, named, number_in, data_block, block_bytes};
+ghost use Rattle.vol_body.specs.Body.{block_bytes};
 ghost use Rattle.vol_log.specs.Reading.{OnlyReads};
 
 use byteorder::{ByteOrder, LittleEndian};
 use vol_alloc::Alloc;
-use vol_inode::Entry;
 use vol_log::Log;
 use vol_sector::{Device, DeviceFault};
 
@@ -19,6 +18,9 @@ pub const DIRECT: u32 = 58;
 
 /// How many data blocks are named by the entry and by the indirect block.
 pub const LISTED: u32 = 186;
+
+/// The last data block that a file may have.
+pub const LAST: u32 = 16569;
 
 /// How many numbers a pointer sector has.
 pub const NUMBERS: u32 = 128;
@@ -36,61 +38,6 @@ pub fn number_at(image: &[u8; 512], i: u32) -> u32
     ensures { result ≡ little_number 4 (drop (4 * i) image.now) }
 {
     LittleEndian::read_u32(&image[4 * i as usize..])
-}
-
-/// The `i`-th number of a pointer sector, where it is that of a taken sector. Sector 0 stands for
-/// none.
-pub fn read_number<D: Device>(
-    log: &mut Log<D>,
-    sectors: &Alloc,
-    indirect_block: u32,
-    i: u32,
-) -> Result<u32, DeviceFault>
-    requires place { i < 128 }
-    requires taken { indirect_block ≢ 0 → taken_of sectors.now indirect_block ≡ true }
-    requires there { end_of sectors.now ≤ log_sectors log.old }
-    requires working { has_failed log.old ≡ false }
-    ensures number { D.honest (device_of log.old) → IfOk result (λ n.
-        let m = number_in (view log.old) indirect_block i in
-        n ≡ (if taken_of sectors.now m then m else 0)) }
-    ensures taken { IfOk result (λ n. n ≢ 0 → taken_of sectors.now n ≡ true) }
-    ensures reads { OnlyReads log.old log.new }
-    ensures failed { has_failed log.new ≡ is_err result }
-{
-    if indirect_block == 0 {
-        return Ok(0);
-    }
-    let image = log.read(indirect_block)?;
-    Ok(taken_or_zero(sectors, number_at(&image, i)))
-}
-
-/// The sector of a data block of the file, or 0 where it was never written.
-pub fn sector_of_block<D: Device>(
-    log: &mut Log<D>,
-    sectors: &Alloc,
-    entry: &Entry,
-    j: u32,
-) -> Result<u32, DeviceFault>
-    requires place { j < 16570 }
-    requires there { end_of sectors.now ≤ log_sectors log.old }
-    requires working { has_failed log.old ≡ false }
-    ensures sector { D.honest (device_of log.old)
-        → NamesTaken (taken_of sectors.now) (view log.old) entry.now
-        → IfOk result (λ n. n ≡ named (view log.old) entry.now (data_block j)) }
-    ensures taken { IfOk result (λ n. n ≢ 0 → taken_of sectors.now n ≡ true) }
-    ensures reads { OnlyReads log.old log.new }
-    ensures failed { has_failed log.new ≡ is_err result }
-{
-    if j < DIRECT {
-        return Ok(taken_or_zero(sectors, entry.pointers[j as usize]));
-    }
-    if j < LISTED {
-        let indirect_block = taken_or_zero(sectors, entry.pointers[58]);
-        return read_number(log, sectors, indirect_block, j - DIRECT);
-    }
-    let double_indirect_block = taken_or_zero(sectors, entry.pointers[59]);
-    let indirect_block = read_number(log, sectors, double_indirect_block, (j - LISTED) / NUMBERS)?;
-    read_number(log, sectors, indirect_block, (j - LISTED) % NUMBERS)
 }
 
 /// The bytes of a taken sector. Sector 0 stands for none, which reads as zeros.

@@ -14,6 +14,8 @@ ghost use Rattle.vol_log.specs.declared.layout.TheConstants.{FIRST_AFTER_LOG};
 ghost use Rattle.vol_inode.specs.declared.version.TheConstants.{LARGEST_SIZE};
 
 use crate::freeing::free_unkept;
+use crate::holding::hold;
+use crate::locate::LAST;
 use crate::truncation::{read_truncation, stage_truncation};
 use vol_alloc::Alloc;
 use vol_inode::{Entry, write_entry};
@@ -37,7 +39,7 @@ fn kept_pointers(pointers: &[u32; 60], count: u32) -> [u32; 60]
 
 /// Shortens the file, whose entry is in this sector. It stages the entry, and at most three
 /// sectors of which the file keeps a beginning, with zeros after it; it frees those that the
-/// file names no more.
+/// file names no more. Each pointer sector that it needs is read once.
 ///
 /// It is refused where a device operation failed, or had failed before. Then nothing was staged, and
 /// the sectors may have been given back.
@@ -69,9 +71,10 @@ pub fn shrink<D: Device>(
     if log.failed() {
         return Err(DeviceFault);
     }
-    let truncation = read_truncation(log, sectors, entry, size)?;
+    let held = hold(log, sectors, entry, size / 512, LAST)?;
+    let truncation = read_truncation(log, sectors, entry, &held, size)?;
     let count = size.div_ceil(512);
-    free_unkept(log, sectors, entry, count)?;
+    free_unkept(log, sectors, entry, &held, count)?;
     stage_truncation(log, &truncation);
     entry.size = size;
     entry.pointers = kept_pointers(&entry.pointers, count);

@@ -3,14 +3,20 @@
 ghost use Rattle.std.specs.Prelude.{◌≡◌, ◌≢◌, ◌≤◌, ◌<◌, ◌+◌, ◌-◌, ◌*◌, ◌/◌, true, false, IfOk, is_err};
 ghost use Rattle.vol_log.specs.Log.{view, log_sectors, room_of, has_failed, device_of};
 ghost use Rattle.vol_alloc.specs.Alloc.{first_of, end_of, taken_of};
-ghost use Rattle.vol_body.specs.Body.{NamesTaken, named};
+ghost use Rattle.vol_sector.specs.Disk.{Image};
+ghost use Rattle.vol_inode.specs.declared.entry.Entry.{Entry};
+ghost use Rattle.vol_body.specs.Body.{NamesTaken, double_indirect_block, named, block_bytes};
 ghost use Rattle.vol_log.specs.Reading.{OnlyReads};
-ghost use Rattle.vol_body.specs.internal.Truncated.{kept_bytes, cut, IsCut, with_cut, last_data_block, cut_indirect_block, last_inner_block};
+ghost use Rattle.vol_body.specs.internal.Truncated.{kept_bytes, cut, IsCut, with_cut, cut_data_block, cut_segment};
 ghost use Rattle.vol_body.specs.internal.Truncated.{IsTruncation, AreWithin, with_truncation};
+ghost use Rattle.vol_body.specs.internal.Writing.{segment_of};
+ghost use Rattle.vol_body.specs.internal.Holding.{IsHeld, KnowsHeld};
+ghost use Rattle.vol_body.specs.declared.locate.TheConstants.{LAST};
 ghost use Rattle.vol_log.specs.declared.layout.TheConstants.{FIRST_AFTER_LOG};
 ghost use Rattle.vol_inode.specs.declared.version.TheConstants.{LARGEST_SIZE};
 
-use crate::locate::{read_number, sector_of_block, taken_or_zero};
+use crate::holding::{Held, held_sector};
+use crate::locate::{DIRECT, LISTED, NUMBERS, read_taken};
 use vol_alloc::Alloc;
 use vol_inode::Entry;
 use vol_log::Log;
@@ -23,13 +29,15 @@ pub struct Cut {
     pub image: [u8; 512],
 }
 
-/// What is to be written for a file that is made shorter: for its last data block, for its
-/// indirect or double-indirect block, and for the last of the inner blocks.
+/// What is to be written for a file that is made shorter.
 #[derive(Drop)]
 pub struct Truncation {
+    /// For the data block that the new size ends in.
     pub data_block: Cut,
-    pub indirect_block: Cut,
-    pub last: Cut,
+    /// For the pointer sector that lists this data block.
+    pub above: Cut,
+    /// For the double-indirect block.
+    pub top: Cut,
 }
 
 /// The bytes before a place, and zeros from it on.
@@ -44,114 +52,80 @@ fn cut_at(image: &[u8; 512], kept: usize) -> [u8; 512]
 
 /// What is to be written for a sector of which this many bytes are kept: nothing where it is sector
 /// 0, is kept whole or not at all, or has zeros after them already.
-fn read_cut<D: Device>(
-    log: &mut Log<D>,
-    sectors: &Alloc,
-    n: u32,
-    kept: u32,
-) -> Result<Cut, DeviceFault>
-    requires taken { n ≢ 0 → taken_of sectors.now n ≡ true }
-    requires there { end_of sectors.now ≤ log_sectors log.old }
-    requires working { has_failed log.old ≡ false }
+fn cut_of(number: u32, old: &[u8; 512], kept: u32) -> Cut
     requires within { kept ≤ 512 }
-    ensures cut { D.honest (device_of log.old) → IfOk result (IsCut (view log.old) n kept) }
-    ensures taken { IfOk result (λ cut. cut.sector ≢ 0
-        → taken_of sectors.now cut.sector ≡ true) }
-    ensures reads { OnlyReads log.old log.new }
-    ensures failed { has_failed log.new ≡ is_err result }
+    ensures cut { (content : Image) → old.now ≡ block_bytes content number
+        → IsCut content number kept result }
+    ensures sector { result.sector ≢ 0 → result.sector ≡ number }
 {
-    if n == 0 || kept == 0 || kept == 512 {
-        return Ok(Cut {
+    if number == 0 || kept == 0 || kept == 512 {
+        return Cut {
             sector: 0,
             image: [0; 512],
-        });
+        };
     }
-    let old = log.read(n)?;
-    let image = cut_at(&old, kept as usize);
-    let sector = if image == old { 0 } else { n };
-    Ok(Cut { sector, image })
+    let image = cut_at(old, kept as usize);
+    let sector = if image == *old { 0 } else { number };
+    Cut { sector, image }
 }
 
-/// What is to be written for the last data block of a file of this size.
+/// What is to be written for the data block that this size ends in. It is read only where a part of it
+/// is kept.
 fn cut_of_data_block<D: Device>(
     log: &mut Log<D>,
     sectors: &Alloc,
     entry: &Entry,
+    held: &Held,
     size: u32,
 ) -> Result<Cut, DeviceFault>
     requires there { end_of sectors.now ≤ log_sectors log.old }
     requires working { has_failed log.old ≡ false }
-    requires small { size ≤ LARGEST_SIZE }
+    requires small { size < LARGEST_SIZE }
+    requires group { held.now.group ≡ segment_of (size / 512) }
     ensures cut { D.honest (device_of log.old)
         → NamesTaken (taken_of sectors.now) (view log.old) entry.now
-        → IfOk result (IsCut (view log.old) (named (view log.old) entry.now (last_data_block size))
-        (kept_bytes size (last_data_block size))) }
+        → IsHeld (view log.old) entry.now held.now LAST
+        → IfOk result (IsCut (view log.old) (named (view log.old) entry.now (cut_data_block size))
+        (kept_bytes size (cut_data_block size))) }
     ensures taken { IfOk result (λ cut. cut.sector ≢ 0
         → taken_of sectors.now cut.sector ≡ true) }
     ensures reads { OnlyReads log.old log.new }
     ensures failed { has_failed log.new ≡ is_err result }
 {
-    let j = size.div_ceil(512).saturating_sub(1);
-    let n = sector_of_block(log, sectors, entry, j)?;
-    let kept = (size - 512 * j).min(512);
-    read_cut(log, sectors, n, kept)
+    let kept = size % 512;
+    let sector = held_sector(sectors, entry, held, size / 512);
+    let n = if kept == 0 { 0 } else { sector };
+    let old = read_taken(log, sectors, n)?;
+    Ok(cut_of(n, &old, kept))
 }
 
-/// What is to be written for the indirect or the double-indirect block of a file of this size.
-fn cut_of_indirect_block<D: Device>(
-    log: &mut Log<D>,
-    sectors: &Alloc,
-    entry: &Entry,
-    size: u32,
-) -> Result<Cut, DeviceFault>
-    requires there { end_of sectors.now ≤ log_sectors log.old }
-    requires working { has_failed log.old ≡ false }
-    requires small { size ≤ LARGEST_SIZE }
-    ensures cut { D.honest (device_of log.old)
-        → NamesTaken (taken_of sectors.now) (view log.old) entry.now
-        → IfOk result (IsCut (view log.old) (named (view log.old) entry.now (cut_indirect_block size))
-        (kept_bytes size (cut_indirect_block size))) }
-    ensures taken { IfOk result (λ cut. cut.sector ≢ 0
-        → taken_of sectors.now cut.sector ≡ true) }
-    ensures reads { OnlyReads log.old log.new }
-    ensures failed { has_failed log.new ≡ is_err result }
+/// What is to be written for the pointer sector that lists the data block that this size ends in.
+fn cut_of_above(held: &Held, size: u32) -> Cut
+    requires small { size < LARGEST_SIZE }
+    requires group { held.now.group ≡ segment_of (size / 512) }
+    ensures cut { (content : Image) (e : Entry) → IsHeld content e held.now LAST
+        → IsCut content (named content e (cut_segment size)) (kept_bytes size (cut_segment size))
+        result }
+    ensures sector { result.sector ≢ 0 → result.sector ≡ held.now.above.number }
 {
-    let count = size.div_ceil(512);
-    if count > 186 {
-        let kept = 4 * (count - 186).div_ceil(128).min(128);
-        let double_indirect_block = taken_or_zero(sectors, entry.pointers[59]);
-        return read_cut(log, sectors, double_indirect_block, kept);
-    }
-    let kept = 4 * count.saturating_sub(58).min(128);
-    let indirect_block = taken_or_zero(sectors, entry.pointers[58]);
-    read_cut(log, sectors, indirect_block, kept)
+    let listed_before = DIRECT + NUMBERS * held.group;
+    let kept = size
+        .div_ceil(512)
+        .saturating_sub(listed_before)
+        .min(NUMBERS);
+    cut_of(held.above.number, &held.above.image, 4 * kept)
 }
 
-/// What is to be written for the last of the inner blocks of a file of this size.
-fn cut_of_inner_block<D: Device>(
-    log: &mut Log<D>,
-    sectors: &Alloc,
-    entry: &Entry,
-    size: u32,
-) -> Result<Cut, DeviceFault>
-    requires there { end_of sectors.now ≤ log_sectors log.old }
-    requires working { has_failed log.old ≡ false }
-    requires small { size ≤ LARGEST_SIZE }
-    ensures cut { D.honest (device_of log.old)
-        → NamesTaken (taken_of sectors.now) (view log.old) entry.now
-        → IfOk result (IsCut (view log.old) (named (view log.old) entry.now (last_inner_block size))
-        (kept_bytes size (last_inner_block size))) }
-    ensures taken { IfOk result (λ cut. cut.sector ≢ 0
-        → taken_of sectors.now cut.sector ≡ true) }
-    ensures reads { OnlyReads log.old log.new }
-    ensures failed { has_failed log.new ≡ is_err result }
+/// What is to be written for the double-indirect block of a file of this size.
+fn cut_of_top(held: &Held, size: u32) -> Cut
+    ensures cut { (content : Image) (e : Entry) → IsHeld content e held.now LAST
+        → IsCut content (named content e double_indirect_block)
+        (kept_bytes size double_indirect_block) result }
+    ensures sector { result.sector ≢ 0 → result.sector ≡ held.now.top.number }
 {
-    let count = size.div_ceil(512);
-    let i = count.saturating_sub(187) / 128;
-    let kept = 4 * count.saturating_sub(186 + 128 * i).min(128);
-    let double_indirect_block = taken_or_zero(sectors, entry.pointers[59]);
-    let n = read_number(log, sectors, double_indirect_block, i)?;
-    read_cut(log, sectors, n, kept)
+    let count = size.div_ceil(512).saturating_sub(LISTED);
+    let kept = count.div_ceil(NUMBERS).min(NUMBERS);
+    cut_of(held.top.number, &held.top.image, 4 * kept)
 }
 
 /// Stages what is to be written for a sector, if anything is.
@@ -171,30 +145,35 @@ fn stage_cut<D: Device>(log: &mut Log<D>, cut: &Cut)
     }
 }
 
-/// What is to be written where the file keeps this many bytes.
+/// What is to be written where the file keeps this many bytes. At most the last data block that it
+/// keeps is read.
 pub fn read_truncation<D: Device>(
     log: &mut Log<D>,
     sectors: &Alloc,
     entry: &Entry,
+    held: &Held,
     size: u32,
 ) -> Result<Truncation, DeviceFault>
     requires there { end_of sectors.now ≤ log_sectors log.old }
     requires working { has_failed log.old ≡ false }
-    requires small { size ≤ LARGEST_SIZE }
+    requires small { size < LARGEST_SIZE }
+    requires group { held.now.group ≡ segment_of (size / 512) }
+    requires known { KnowsHeld sectors.now held.now }
     ensures truncation { D.honest (device_of log.old)
         → NamesTaken (taken_of sectors.now) (view log.old) entry.now
+        → IsHeld (view log.old) entry.now held.now LAST
         → IfOk result (IsTruncation (view log.old) entry.now size) }
     ensures within { IfOk result (AreWithin (first_of sectors.now) (end_of sectors.now)) }
     ensures reads { OnlyReads log.old log.new }
     ensures failed { has_failed log.new ≡ is_err result }
 {
-    let data_block = cut_of_data_block(log, sectors, entry, size)?;
-    let indirect_block = cut_of_indirect_block(log, sectors, entry, size)?;
-    let last = cut_of_inner_block(log, sectors, entry, size)?;
+    let data_block = cut_of_data_block(log, sectors, entry, held, size)?;
+    let above = cut_of_above(held, size);
+    let top = cut_of_top(held, size);
     Ok(Truncation {
         data_block,
-        indirect_block,
-        last,
+        above,
+        top,
     })
 }
 
@@ -210,6 +189,6 @@ pub fn stage_truncation<D: Device>(log: &mut Log<D>, truncation: &Truncation)
     ensures sectors { log_sectors log.new ≡ log_sectors log.old }
 {
     stage_cut(log, &truncation.data_block);
-    stage_cut(log, &truncation.indirect_block);
-    stage_cut(log, &truncation.last);
+    stage_cut(log, &truncation.above);
+    stage_cut(log, &truncation.top);
 }

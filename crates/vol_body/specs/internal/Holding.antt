@@ -1,6 +1,8 @@
 -- Pointer sectors that a call holds in memory.
-use Rattle.std.specs.Prelude.{◌≤◌, ◌+◌, ◌*◌, ℕ}
+use Rattle.std.specs.Prelude.{◌≡◌, ◌≢◌, ◌≤◌, ◌+◌, ◌*◌, ℕ, true}
 use Rattle.vol_sector.specs.Disk.{Image}
+use Rattle.vol_alloc.specs.Alloc.{taken_of}
+use Rattle.vol_alloc.specs.declared.sectors.Alloc.{Alloc}
 use Rattle.vol_inode.specs.declared.entry.Entry.{Entry}
 use Rattle.vol_body.specs.declared.holding.Held.{Held}
 use Rattle.vol_body.specs.Body.{double_indirect_block}
@@ -10,3 +12,8 @@ use Rattle.vol_body.specs.internal.Writing.{Mirrors, segment}
 pub record IsHeld (content : Image) (e : Entry) (held : Held) (last : ℕ) : Type 0 where
   pub top : 186 ≤ last → Mirrors content e double_indirect_block held.top.number held.top.image
   pub above : 58 + 128 * held.group ≤ last → Mirrors content e (segment held.group) held.above.number held.above.image
+
+-- those that are there are taken
+pub record KnowsHeld (a : Alloc) (held : Held) : Type 0 where
+  pub top : held.top.number ≢ 0 → taken_of a held.top.number ≡ true
+  pub above : held.above.number ≢ 0 → taken_of a held.above.number ≡ true

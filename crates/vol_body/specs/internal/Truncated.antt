@@ -1,11 +1,12 @@
 -- What a shorter file keeps and frees.
-use Rattle.std.specs.Prelude.{◌≡◌, ◌≢◌, ◌≤◌, ◌<◌, ◌+◌, ◌-◌, ◌*◌, ◌/◌, ◌==◌, ◌⊎◌, ◌++◌, ℕ, Bool, true, List, take, replicate, min, nat_lt, if◌then◌else◌}
+use Rattle.std.specs.Prelude.{◌≡◌, ◌≢◌, ◌≤◌, ◌<◌, ◌+◌, ◌-◌, ◌*◌, ◌/◌, ◌==◌, ◌⊎◌, ◌++◌, ℕ, Bool, true, List, take, replicate, min, if◌then◌else◌}
 use Rattle.vol_sector.specs.Disk.{Image, put}
 use Rattle.vol_inode.specs.Space.{blocks_for_size, inner_blocks_for}
 use Rattle.vol_inode.specs.declared.entry.Entry.{Entry}
 use Rattle.vol_body.specs.declared.truncation.Cut.{Cut}
 use Rattle.vol_body.specs.declared.truncation.Truncation.{Truncation}
 use Rattle.vol_body.specs.Body.{BlockPosition, data_block, indirect_block, double_indirect_block, inner_block, IsPosition, first_served, named, number_in}
+use Rattle.vol_body.specs.internal.Writing.{segment, segment_of}
 
 -- how many bytes of the sector at this position a file of this size keeps
 abbrev pub kept_bytes : ℕ → BlockPosition → ℕ
@@ -14,15 +15,12 @@ kept_bytes size indirect_block = 4 * min 128 (blocks_for_size size - 58)
 kept_bytes size double_indirect_block = 4 * min 128 (inner_blocks_for (blocks_for_size size - 186))
 kept_bytes size (inner_block i) = 4 * min 128 (blocks_for_size size - (186 + 128 * i))
 
--- the only positions of which a file of this size keeps only a beginning
-abbrev pub last_data_block : ℕ → BlockPosition
-last_data_block size = data_block (blocks_for_size size - 1)
+-- the only positions of which a file of this size keeps only a beginning, beside the double-indirect block
+abbrev pub cut_data_block : ℕ → BlockPosition
+cut_data_block size = data_block (size / 512)
 
-abbrev pub cut_indirect_block : ℕ → BlockPosition
-cut_indirect_block size = if nat_lt 186 (blocks_for_size size) then double_indirect_block else indirect_block
-
-abbrev pub last_inner_block : ℕ → BlockPosition
-last_inner_block size = inner_block ((blocks_for_size size - 187) / 128)
+abbrev pub cut_segment : ℕ → BlockPosition
+cut_segment size = segment (segment_of (size / 512))
 
 -- the bytes before a position of a sector, and zeros from it on
 abbrev pub cut : ℕ → List ℕ → List ℕ
@@ -41,18 +39,18 @@ with_cut c image = if c.sector == 0 then image else put c.sector c.image image
 
 -- what is to be written for a file of this size
 pub record IsTruncation (content : Image) (e : Entry) (size : ℕ) (truncation : Truncation) : Type 0 where
-  pub data_block : IsCut content (named content e (last_data_block size)) (kept_bytes size (last_data_block size)) truncation.data_block
-  pub indirect_block : IsCut content (named content e (cut_indirect_block size)) (kept_bytes size (cut_indirect_block size)) truncation.indirect_block
-  pub last : IsCut content (named content e (last_inner_block size)) (kept_bytes size (last_inner_block size)) truncation.last
+  pub data_block : IsCut content (named content e (cut_data_block size)) (kept_bytes size (cut_data_block size)) truncation.data_block
+  pub above : IsCut content (named content e (cut_segment size)) (kept_bytes size (cut_segment size)) truncation.above
+  pub top : IsCut content (named content e double_indirect_block) (kept_bytes size double_indirect_block) truncation.top
 
 -- the sectors that are to be written are among these
 pub record AreWithin (first end : ℕ) (truncation : Truncation) : Type 0 where
   pub data_block : truncation.data_block.sector ≢ 0 → (first ≤ truncation.data_block.sector) × (truncation.data_block.sector < end)
-  pub indirect_block : truncation.indirect_block.sector ≢ 0 → (first ≤ truncation.indirect_block.sector) × (truncation.indirect_block.sector < end)
-  pub last : truncation.last.sector ≢ 0 → (first ≤ truncation.last.sector) × (truncation.last.sector < end)
+  pub above : truncation.above.sector ≢ 0 → (first ≤ truncation.above.sector) × (truncation.above.sector < end)
+  pub top : truncation.top.sector ≢ 0 → (first ≤ truncation.top.sector) × (truncation.top.sector < end)
 
 abbrev pub with_truncation : Truncation → Image → Image
-with_truncation truncation image = with_cut truncation.last (with_cut truncation.indirect_block (with_cut truncation.data_block image))
+with_truncation truncation image = with_cut truncation.top (with_cut truncation.above (with_cut truncation.data_block image))
 
 -- those of these sectors that were taken are free now, and all others stay
 pub record Frees (before now : ℕ → Bool) (These : ℕ → Type 0) : Type 0 where

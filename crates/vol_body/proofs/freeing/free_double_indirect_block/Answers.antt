@@ -1,11 +1,11 @@
-use Rattle.std.proofs.Common.{◌≡◌, ◌≢◌, ◌∙◌, ◌*◌, ◌≤◌, ◌<◌, ◌⊎◌, inl, inr, ⊎_elim, ℕ, Bool, true, if◌then◌else◌, List, drop, slice_index, sym, ap, subst, arith}
+use Rattle.std.proofs.Common.{◌≡◌, ◌≢◌, ◌∙◌, ◌*◌, ◌≤◌, ◌<◌, ◌⊎◌, inl, inr, ⊎_elim, ℕ, Bool, true, if◌then◌else◌, List, drop, slice_index, sym, ap, arith}
 use Rattle.byteorder.specs.Endian.{little_number}
 use Rattle.vol_sector.specs.Disk.{Image}
 use Rattle.vol_log.specs.Log.{view}
 use Rattle.vol_alloc.specs.Alloc.{taken_of}
 use Rattle.vol_body.specs.Body.{number_in}
 use Rattle.vol_body.specs.internal.Truncated.{Frees, IsFreedWithLater}
-use Rattle.vol_body.proofs.Places.{number_there}
+use Rattle.vol_body.proofs.Places.{number_there, bytes_there}
 use Rattle.vol_body.proofs.Freed.{frees_then, frees_these, frees_lists, known_number}
 use Rattle.vol_body.proofs.freeing.free_double_indirect_block.Goals as goal
 
@@ -19,31 +19,29 @@ same_numbers taken content of_lists image some is names numbers known i lt =
     (ap (λ (bytes : List ℕ). little_number 4 (drop (4 * i) bytes)) is ∙ sym (number_there content of_lists i some)) (names i lt)
 
 pub returns-then-count-le186-clause-frees : goal.returns-then-count-le186-clause-frees
-returns-then-count-le186-clause-frees g c h names =
+returns-then-count-le186-clause-frees g c h top above names =
     let a = taken_of c.args.sectors.now in
     let b = taken_of c.free_inner_blocks.new.sectors in
     let d = taken_of c.free_taken.new.sectors in
     let content = view c.args.log.now in
     let numbers = slice_index c.known_numbers-numbers.result in
-    let P = IsFreedWithLater content (number_in content c.args.double_indirect_block) c.args.count 128 in
-    let same = same_numbers a content c.args.double_indirect_block c.in_ok-image.image c.if-double_indirect_block-eq0.false (c.in_ok-image.ensures.value h) names numbers c.known_numbers-numbers.ensures in
-    let listed : Frees a b P = frees_lists a b content numbers (number_in content c.args.double_indirect_block) c.args.count same
-    (subst (λ (m : Image). Frees a b (IsFreedWithLater m numbers c.args.count 128)) (c.in_ok-image.ensures.view h) (c.in_ok-free_inner_blocks.ensures.frees (c.in_ok-image.ensures.honest.0 h))) in
-    frees_these a d (λ n. P n ⊎ (n ≡ c.args.double_indirect_block)) (λ n. P n ⊎ ((c.args.count ≤ 186) × (c.args.double_indirect_block ≡ n)))
-    (frees_then a b d P (λ n. n ≡ c.args.double_indirect_block) listed c.free_taken.ensures.frees)
+    let P = IsFreedWithLater content (number_in content c.args.held.now.top.number) c.args.count 128 in
+    let same = same_numbers a content c.args.held.now.top.number c.args.held.now.top.image c.if-held-eq0.false (top ∙ bytes_there content c.args.held.now.top.number c.if-held-eq0.false) names numbers c.known_numbers-numbers.ensures in
+    let listed : Frees a b P = frees_lists a b content numbers (number_in content c.args.held.now.top.number) c.args.count same (c.in_ok-free_inner_blocks.ensures.frees h above) in
+    frees_these a d (λ n. P n ⊎ (n ≡ c.args.held.now.top.number)) (λ n. P n ⊎ ((c.args.count ≤ 186) × (c.args.held.now.top.number ≡ n)))
+    (frees_then a b d P (λ n. n ≡ c.args.held.now.top.number) listed c.free_taken.ensures.frees)
     (λ n either. ⊎_elim (λ s. inl s) (λ is. inr (c.if-count-le186.true, sym is)) either)
     (λ n either. ⊎_elim (λ s. inl s) (λ s. inr (sym s.1)) either)
 
 pub returns-else-count-le186-clause-frees : goal.returns-else-count-le186-clause-frees
-returns-else-count-le186-clause-frees g c h names =
+returns-else-count-le186-clause-frees g c h top above names =
     let a = taken_of c.args.sectors.now in
     let b = taken_of c.free_inner_blocks.new.sectors in
     let content = view c.args.log.now in
     let numbers = slice_index c.known_numbers-numbers.result in
-    let P = IsFreedWithLater content (number_in content c.args.double_indirect_block) c.args.count 128 in
-    let same = same_numbers a content c.args.double_indirect_block c.in_ok-image.image c.if-double_indirect_block-eq0.false (c.in_ok-image.ensures.value h) names numbers c.known_numbers-numbers.ensures in
-    let listed : Frees a b P = frees_lists a b content numbers (number_in content c.args.double_indirect_block) c.args.count same
-    (subst (λ (m : Image). Frees a b (IsFreedWithLater m numbers c.args.count 128)) (c.in_ok-image.ensures.view h) (c.in_ok-free_inner_blocks.ensures.frees (c.in_ok-image.ensures.honest.0 h))) in
-    frees_these a b P (λ n. P n ⊎ ((c.args.count ≤ 186) × (c.args.double_indirect_block ≡ n))) listed
+    let P = IsFreedWithLater content (number_in content c.args.held.now.top.number) c.args.count 128 in
+    let same = same_numbers a content c.args.held.now.top.number c.args.held.now.top.image c.if-held-eq0.false (top ∙ bytes_there content c.args.held.now.top.number c.if-held-eq0.false) names numbers c.known_numbers-numbers.ensures in
+    let listed : Frees a b P = frees_lists a b content numbers (number_in content c.args.held.now.top.number) c.args.count same (c.in_ok-free_inner_blocks.ensures.frees h above) in
+    frees_these a b P (λ n. P n ⊎ ((c.args.count ≤ 186) × (c.args.held.now.top.number ≡ n))) listed
     (λ n s. inl s)
     (λ n either. ⊎_elim (λ s. s) (λ s. absurd (omega (arith, s.0, c.if-count-le186.false))) either)

@@ -1,6 +1,8 @@
-use Rattle.std.proofs.Common.{◌∙◌, slice_index}
+use Rattle.std.proofs.Common.{◌∙◌, slice_index, sym, ap}
+use Rattle.vol_sector.specs.Disk.{Image}
 use Rattle.vol_log.specs.Log.{view}
 use Rattle.vol_alloc.specs.Alloc.{taken_of}
+use Rattle.vol_body.specs.Body.{block_bytes}
 use Rattle.vol_log.proofs.Readings.{reads_then}
 use Rattle.vol_body.proofs.Freed.{frees_at, frees_next_list}
 use Rattle.vol_body.proofs.freeing.free_inner_blocks.Goals as goal
@@ -14,7 +16,7 @@ loop-i-preserved g c =
       working = c.in_ok-free_indirect_block.ensures.failed;
       reads = reads_then c.args.log.now c.loop-i.log c.free_indirect_block.new.log so_far.working so_far.reads c.in_ok-free_indirect_block.ensures.reads;
       range = (c.in_ok-free_indirect_block.ensures.range.0 ∙ so_far.range.0, c.in_ok-free_indirect_block.ensures.range.1 ∙ so_far.range.1);
-      frees = λ h. frees_next_list (taken_of c.args.sectors.now) (taken_of c.loop-i.sectors) (taken_of c.free_indirect_block.new.sectors) (view c.args.log.now) numbers c.args.count i (so_far.frees h)
+      frees = λ h is_held. frees_next_list (taken_of c.args.sectors.now) (taken_of c.loop-i.sectors) (taken_of c.free_indirect_block.new.sectors) (view c.args.log.now) numbers c.args.count i (so_far.frees h is_held)
           (frees_at (taken_of c.loop-i.sectors) (taken_of c.free_indirect_block.new.sectors) (view c.loop-i.log) (view c.args.log.now) (numbers i) c.saturating_sub-from.result _ (so_far.reads.view h) c.saturating_sub-from.ensures
-          (c.in_ok-free_indirect_block.ensures.frees (so_far.reads.honest.0 h)));
+          (c.in_ok-free_indirect_block.ensures.frees (so_far.reads.honest.0 h) (is_held ∙ sym (ap (λ (m : Image). block_bytes m c.args.held.now.number) (so_far.reads.view h)))));
     }
