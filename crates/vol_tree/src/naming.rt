@@ -1,9 +1,8 @@
 //! What the calls on names do to the parts of an open volume.
 
-ghost use Rattle.std.specs.Prelude.{◌≡◌, ◌≢◌, ◌≤◌, ◌+◌, IsSome, IfOk, MatchResult, Some, true, false, is_err};
+ghost use Rattle.std.specs.Prelude.{◌≡◌, ◌≢◌, ◌≤◌, IsSome, IfOk, MatchResult, Some, true, false, is_err};
 ghost use Rattle.vol_sector.specs.Disk.{Leaves};
 ghost use Rattle.vol_inode.specs.Entry.{IsEntry, name_of};
-ghost use Rattle.vol_inode.specs.declared.entry.Entry.{Entry};
 ghost use Rattle.vol_log.specs.Log.{view, device_of, room_of, has_failed};
 ghost use Rattle.vol_dirs.specs.Names.{Names};
 ghost use Rattle.vol_tree.specs.Tree.{IsDirectory, entry};

@@ -25,7 +25,7 @@ use crate::stat::{is_serial, parent_of};
 use crate::{Errno, Stat, Stats};
 use std::alloc::Global;
 use std::marker::Model;
-use vol_body::Source;
+use vol_body::{Source, read_at};
 use vol_dirs::each_serial_has_one_name;
 use vol_inode::{Kind, Version};
 use vol_log::{FIRST_AFTER_LOG, Log};
@@ -141,7 +141,7 @@ impl<D: Device> Volume<D> {
         ensures count { length self.now.tree ≡ self.now.numbers.slots }
         ensures ranges { HasRanges self.now.numbers }
     {
-        let _parts = &self.parts;
+        let _parts = &self.parts; // says what an open volume keeps of them
     }
 
     /// Has a device operation failed since it was opened?
@@ -326,7 +326,9 @@ impl<D: Device> Volume<D> {
             → Leaves (D.disk self.old.device) (D.disk self.new.device) (λ c. ⊥) }
         ensures kept { Keeps D.honest D.size D.failures self.old self.new (is_io result) }
     {
-        self.parts.read(file, offset, buffer)
+        let entry = self.parts.entry(file)?;
+        let parts = &mut self.parts;
+        Ok(read_at(&mut parts.log, &parts.sectors, &entry, offset, buffer)?)
     }
 
     /// Takes a file out of its directory, and gives its space back.
