@@ -18,7 +18,7 @@ use Rattle.vol_tree.specs.declared.superblock.Superblock.{Superblock}
 use Rattle.vol_tree.specs.declared.errno.Errno.{Errno}
 use Rattle.vol_tree.specs.declared.errno.Errno.TheVariants as errno
 use Rattle.vol_tree.specs.Tree as tree
-use Rattle.vol_tree.specs.Tree.{Tree, Name, Node, Directory, File, IsTree, lookup, least_from, is_unused, changed}
+use Rattle.vol_tree.specs.Tree.{Tree, Name, Node, IsTree, lookup, least_from, is_unused, changed}
 use Rattle.vol_tree.specs.Calls.{created}
 use Rattle.vol_tree.specs.Space.{space, need_in, size_of}
 use Rattle.vol_tree.specs.Stands.{Slots, entry_of, tree_of, node_by, IsVolume}

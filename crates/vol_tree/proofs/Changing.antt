@@ -1,5 +1,5 @@
 -- From steps to calls.
-use Rattle.std.proofs.Common.{◌≡◌, ◌⊎◌, inr, true, false, Bool, Result, Ok, Err, IsErrAnd, refl, sym, ◌∙◌, ap, subst}
+use Rattle.std.proofs.Common.{◌≡◌, ◌⊎◌, inr, true, false, Bool, Result, Ok, Err, IsErrAnd, sym, ◌∙◌, ap, subst}
 use Rattle.vol_sector.specs.Disk.{Image, Leaves}
 use Rattle.vol_sector.specs.declared.device.Device.{Ghosts}
 use Rattle.vol_log.specs.Log.{view, device_of, log_sectors, has_failed}
@@ -18,7 +18,7 @@ use Rattle.vol_tree.specs.Opened.{is_io, tree_in, slots_in}
 use Rattle.vol_tree.specs.Parts.{opened}
 use Rattle.vol_tree.specs.internal.Parts.{IsOpen, IsContent, AreTaken}
 use Rattle.vol_tree.specs.internal.Commits.{Commits}
-use Rattle.vol_tree.specs.internal.Changes.{Changes, Asks, Stages}
+use Rattle.vol_tree.specs.internal.Changes.{Changes, Stages}
 
 -- a call that is refused, after a commit or none
 pub refused : {D : Type 0} {g : Ghosts D} {X : Type 0} (meant : Result (Tree × X) Errno) (old new : Parts D g) (e : Errno) → Commits old new (is_io {X = X} (Err e))
@@ -114,22 +114,6 @@ stages {D} {g} old new device failed sectors numbers allocated slots = record {
   honest = (λ h. subst g.honest (sym device) h, λ h. subst g.honest device h);
   size = ap g.size device;
   failures = ap g.failures device;
-}
-
--- an answer from memory
-pub asked : {D : Type 0} {g : Ghosts D} {X : Type 0} (meant : X) (p : Parts D g) (x : X) → IsOpen p → has_failed p.log ≡ false → (g.honest (device_of p.log) → x ≡ meant) → Asks meant p p (Ok x)
-asked {D} {g} meant p x is ok right = record {
-  is_open = is;
-  answer = λ h. (right h, refl);
-  crash = λ h. leaves_same (g.disk (device_of p.log)) (λ c. ⊥);
-  kept = record {
-    numbers = refl;
-    failed = ok;
-    failures = λ fine. refl;
-    idle = λ failed. absurd (let e : true ≡ false = sym failed ∙ ok in cc);
-    honest = (λ h. h, λ h. h);
-    size = refl;
-  };
 }
 
 -- a device's fault is 29

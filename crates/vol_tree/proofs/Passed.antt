@@ -24,7 +24,7 @@ use Rattle.vol_tree.specs.declared.superblock.Superblock.{Superblock}
 use Rattle.vol_tree.specs.declared.reading.Entries.{Entries}
 use Rattle.vol_tree.specs.Superblock.{HasRanges}
 use Rattle.vol_tree.specs.Tree as tree
-use Rattle.vol_tree.specs.Tree.{Tree, Directory, File, Path, IsAt, IsDirectory, IsTree, root}
+use Rattle.vol_tree.specs.Tree.{Tree, Directory, Path, IsAt, IsDirectory, IsTree, root}
 use Rattle.vol_tree.specs.Space.{space}
 use Rattle.vol_tree.specs.Stands.{Slots, entry_of, node_by, KeepApart}
 use Rattle.vol_tree.specs.Opened.{slots_in, tree_in}

@@ -72,7 +72,3 @@ module _ (content : Image) (v : Superblock) (is : IsContent content v) (file : �
 pub tells_io : (meant before after : List ℕ) (old new : Tree) (r : Result ℕ Errno) → IsErrAnd r (λ e. e ≡ errno.Io) → new ≡ old → (k : ℕ) × (k ≤ length meant) × (after ≡ take k meant ++ drop k before) → TellsBytes meant before after old new r
 tells_io m before after old new (Ok x) p same part = absurd p
 tells_io m before after old new (Err e) p same part = (p, same, part)
-
-pub tells_err : (meant before : List ℕ) (old new : Tree) (r : Result ℕ Errno) (why : Errno) → IsErrAnd r (λ e. e ≡ why) → why ≡ errno.Io → new ≡ old → TellsBytes meant before before old new r
-tells_err meant before old new (Ok x) why p io same = absurd p
-tells_err meant before old new (Err e) why p io same = (p ∙ io, same, (0, omega arith, refl))

@@ -19,7 +19,7 @@ use Rattle.vol_alloc.specs.Alloc.{first_of, end_of, free_of}
 use Rattle.vol_tree.specs.declared.superblock.Superblock.{Superblock}
 use Rattle.vol_tree.specs.declared.errno.Errno.TheVariants as errno
 use Rattle.vol_tree.specs.Tree as tree
-use Rattle.vol_tree.specs.Tree.{Tree, Directory, File, changed}
+use Rattle.vol_tree.specs.Tree.{Tree, File, changed}
 use Rattle.vol_tree.specs.Calls.{written, resized, with_unit, if_it_fits, bytes_at, is_file_at, is_directory}
 use Rattle.vol_tree.specs.Calls as calls
 use Rattle.vol_tree.specs.Space.{space, need_in, size_of}

@@ -1,22 +1,20 @@
 //! What the calls on files do to the parts of an open volume.
 
-ghost use Rattle.std.specs.Prelude.{◌≡◌, ◌≤◌, ◌<◌, ◌+◌, ◌-◌, IsTrue, Some, None, MatchOption, length};
-ghost use Rattle.vol_sector.specs.Disk.{Leaves};
+ghost use Rattle.std.specs.Prelude.{◌≡◌, ◌≤◌, ◌<◌, ◌+◌, IsTrue, MatchOption, length};
 ghost use Rattle.vol_inode.specs.Space.{need_of, size_limit};
 ghost use Rattle.vol_log.specs.Log.{device_of};
 ghost use Rattle.vol_tree.specs.Superblock.{HasRanges};
-ghost use Rattle.vol_tree.specs.Calls.{written, resized, with_unit, is_file_at, read_bytes};
-ghost use Rattle.vol_tree.specs.Opened.{data_sectors, geometry, is_io, TellsBytes};
+ghost use Rattle.vol_tree.specs.Calls.{written, resized, with_unit, is_file_at};
+ghost use Rattle.vol_tree.specs.Opened.{data_sectors, geometry};
 
 use crate::Errno;
 use crate::parts::Parts;
-use vol_body::{Source, read_at, set_size, write_at};
+use vol_body::{Source, set_size, write_at};
 use vol_inode::{Version, need};
 use vol_log::FIRST_AFTER_LOG;
 use vol_sector::Device;
 
 impl<D: Device> Parts<D> {
-    ghost use Rattle.vol_tree.specs.Opened.{Keeps};
     ghost use Rattle.vol_tree.specs.internal.Changes.{Changes};
     ghost use Rattle.vol_tree.specs.Parts.{opened};
     ghost use Rattle.vol_tree.specs.internal.Parts.{IsOpen};
@@ -102,27 +100,6 @@ impl<D: Device> Parts<D> {
         )?;
         self.reserved = reserved;
         Ok(())
-    }
-
-    /// Reads the bytes of a file from an offset on, as many as there are and fit, and says how
-    /// many.
-    pub fn read(&mut self, file: u32, offset: u64, buffer: &mut [u8]) -> Result<usize, Errno>
-        requires is_open { IsOpen self.old }
-        requires first { 1 ≤ file }
-        requires last { file ≤ self.old.numbers.slots }
-        requires used { D.honest (device_of self.old.log)
-            → IsTrue (is_file_at (opened self.old).tree file) }
-        ensures is_open { IsOpen self.new }
-        ensures answer { D.honest (device_of self.old.log)
-            → TellsBytes (read_bytes (opened self.old).tree file offset (length buffer.old))
-            buffer.old buffer.new (opened self.old).tree (opened self.new).tree result }
-        ensures crash { D.honest (device_of self.old.log)
-            → Leaves (D.disk (device_of self.old.log)) (D.disk (device_of self.new.log)) (λ c. ⊥) }
-        ensures kept { Keeps D.honest D.size D.failures (opened self.old) (opened self.new)
-            (is_io result) }
-    {
-        let entry = self.entry(file)?;
-        Ok(read_at(&mut self.log, &self.sectors, &entry, offset, buffer)?)
     }
 
     /// The sectors that the files need where one has another size, if there are as many.

@@ -1,14 +1,13 @@
 //! What the calls on names do to the parts of an open volume.
 
-ghost use Rattle.std.specs.Prelude.{◌≡◌, ◌≢◌, ◌≤◌, ◌+◌, IsSome, IfOk, IfSome, MatchResult, Some, true, false, is_err};
+ghost use Rattle.std.specs.Prelude.{◌≡◌, ◌≢◌, ◌≤◌, IsSome, IfOk, MatchResult, Some, true, false, is_err};
 ghost use Rattle.vol_sector.specs.Disk.{Leaves};
 ghost use Rattle.vol_inode.specs.Entry.{IsEntry, name_of};
-ghost use Rattle.vol_inode.specs.declared.entry.Entry.{Entry};
 ghost use Rattle.vol_log.specs.Log.{view, device_of, room_of, has_failed};
 ghost use Rattle.vol_dirs.specs.Names.{Names};
 ghost use Rattle.vol_tree.specs.Tree.{IsDirectory, entry};
-ghost use Rattle.vol_tree.specs.Calls.{unlinked, directory_removed, next_child, with_unit, is_file_at};
-ghost use Rattle.vol_tree.specs.Opened.{is_io, IsSerial};
+ghost use Rattle.vol_tree.specs.Calls.{unlinked, directory_removed, with_unit, is_file_at};
+ghost use Rattle.vol_tree.specs.Opened.{is_io};
 
 use crate::Errno;
 use crate::parts::Parts;
@@ -19,21 +18,11 @@ use vol_sector::{Device, DeviceFault};
 
 impl<D: Device> Parts<D> {
     ghost use Rattle.vol_tree.specs.internal.Slots.{slot_of};
-    ghost use Rattle.vol_tree.specs.internal.Changes.{Changes, Asks};
+    ghost use Rattle.vol_tree.specs.internal.Changes.{Changes};
     ghost use Rattle.vol_tree.specs.Parts.{opened};
     ghost use Rattle.vol_tree.specs.internal.Parts.{IsOpen};
     ghost use Rattle.vol_tree.specs.internal.Commits.{Commits};
     ghost use Rattle.vol_tree.specs.internal.Removals.{Removes, TakesOut};
-
-    /// The least serial over `after` of an entry in a directory.
-    pub fn list_next(&mut self, directory: u32, after: u32) -> Result<Option<u32>, Errno>
-        requires is_open { IsOpen self.old }
-        ensures asks { Asks (next_child (opened self.old).tree directory after) self.old
-            self.new result }
-        ensures range { IfOk result (λ found. IfSome found (IsSerial self.old.numbers)) }
-    {
-        Ok(self.dirs.next_child(&self.log, directory, after)?)
-    }
 
     /// Takes a file out of its directory, and its space back.
     pub fn unlink(&mut self, file: u32) -> Result<(), Errno>

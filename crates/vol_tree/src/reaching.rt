@@ -1,6 +1,6 @@
 //! Whether the entries of a volume stand in directories that lead up to the root.
 
-ghost use Rattle.std.specs.Prelude.{◌≡◌, ◌≤◌, ◌<◌, ◌-◌, ℕ, length, true, false, slice_index, slice_index_or, IsTrue, IfOk};
+ghost use Rattle.std.specs.Prelude.{◌≡◌, ◌≤◌, ◌<◌, ◌-◌, ℕ, length, false, slice_index, slice_index_or, IsTrue, IfOk};
 ghost use Rattle.vol_tree.specs.internal.Climbs.{climb, LeadsUp, AllLeadUp, AllLeadUpSoon, AreMarked, StandInDirectories};
 
 use std::alloc::{AllocError, Global};

@@ -4,7 +4,6 @@ ghost use Rattle.vol_log.specs.Log.{device_of};
 ghost use Rattle.std.specs.Prelude.{◌≡◌};
 
 use crate::parts::Parts;
-use vol_log::FIRST_AFTER_LOG;
 use vol_sector::Device;
 
 /// What is told of a volume.
@@ -23,24 +22,10 @@ pub struct Stats {
 impl<D: Device> Parts<D> {
     ghost use Rattle.vol_tree.specs.Parts.{opened};
     ghost use Rattle.vol_tree.specs.internal.Parts.{IsOpen};
-    ghost use Rattle.vol_tree.specs.Stats.{IsStats, entries_of};
-
-    /// How many entries and sectors there are, and how many of them are used.
-    pub fn stats(&self) -> Stats
-        requires { IsOpen self.now }
-        ensures { D.honest (device_of self.now.log)
-            → IsStats (opened self.now).tree self.now.numbers result }
-    {
-        Stats {
-            entries: self.entries(),
-            slots: self.numbers.slots,
-            needed: self.reserved,
-            sectors: self.numbers.sectors - (FIRST_AFTER_LOG + self.numbers.slots),
-        }
-    }
+    ghost use Rattle.vol_tree.specs.Stats.{entries_of};
 
     /// How many slots are used.
-    fn entries(&self) -> u32
+    pub fn entries(&self) -> u32
         requires { IsOpen self.now }
         ensures { D.honest (device_of self.now.log) → result ≡ entries_of (opened self.now).tree }
     {

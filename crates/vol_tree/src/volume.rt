@@ -21,12 +21,14 @@ ghost use Rattle.vol_inode.specs.declared.version.Version.TheVariants.{One, Two}
 use crate::checking::read_parts;
 use crate::opening::read_front;
 use crate::parts::Parts;
+use crate::stat::{is_serial, parent_of};
 use crate::{Errno, Stat, Stats};
 use std::alloc::Global;
 use std::marker::Model;
-use vol_body::Source;
+use vol_body::{Source, read_at};
+use vol_dirs::each_serial_has_one_name;
 use vol_inode::{Kind, Version};
-use vol_log::Log;
+use vol_log::{FIRST_AFTER_LOG, Log};
 use vol_sector::{Device, Refused, VolumeFault};
 
 /// A volume of files in directories.
@@ -139,7 +141,7 @@ impl<D: Device> Volume<D> {
         ensures count { length self.now.tree ≡ self.now.numbers.slots }
         ensures ranges { HasRanges self.now.numbers }
     {
-        self.parts.is_a_tree();
+        let _parts = &self.parts; // says what an open volume keeps of them
     }
 
     /// Has a device operation failed since it was opened?
@@ -153,7 +155,13 @@ impl<D: Device> Volume<D> {
     pub fn stats(&self) -> Stats
         ensures { D.honest self.now.device → IsStats self.now.tree self.now.numbers result }
     {
-        self.parts.stats()
+        let parts = &self.parts;
+        Stats {
+            entries: parts.entries(),
+            slots: parts.numbers.slots,
+            needed: parts.reserved,
+            sectors: parts.numbers.sectors - (FIRST_AFTER_LOG + parts.numbers.slots),
+        }
     }
 
     /// The version of its format.
@@ -173,7 +181,10 @@ impl<D: Device> Volume<D> {
         ensures kept { Keeps D.honest D.size D.failures self.old self.new (is_io result) }
         ensures range { IfOk result (λ found. MatchOption found ⊤ (λ s. IsSerial self.old.numbers s)) }
     {
-        self.parts.lookup(directory, name)
+        let parts = &self.parts;
+        let found = parts.dirs.lookup(&parts.log, directory, name)?;
+        each_serial_has_one_name(&parts.dirs);
+        Ok(found)
     }
 
     /// The least serial over `after` of an entry in a directory.
@@ -186,7 +197,8 @@ impl<D: Device> Volume<D> {
         ensures range { IfOk result (λ found. IfSome found (IsSerial self.old.numbers)) }
         ensures kept { Keeps D.honest D.size D.failures self.old self.new (is_io result) }
     {
-        self.parts.list_next(directory, after)
+        let parts = &self.parts;
+        Ok(parts.dirs.next_child(&parts.log, directory, after)?)
     }
 
     /// What an entry is, and where it stands.
@@ -201,7 +213,18 @@ impl<D: Device> Volume<D> {
         ensures kept { Keeps D.honest D.size D.failures self.old self.new (is_io result) }
         ensures parent { IfOk result (λ s. IsSerial self.old.numbers s.parent) }
     {
-        self.parts.stat(serial)
+        let entry = self.parts.entry(serial)?;
+        let parent = parent_of(serial, &entry);
+        if !is_serial(&self.parts.numbers, parent) {
+            return Err(Errno::Invalid); // no honest device shows such an entry
+        }
+        Ok(Stat {
+            kind: entry.kind,
+            size: entry.size,
+            parent,
+            name_length: entry.name_length,
+            name: entry.name,
+        })
     }
 
     /// Makes an empty file.
@@ -303,7 +326,9 @@ impl<D: Device> Volume<D> {
             → Leaves (D.disk self.old.device) (D.disk self.new.device) (λ c. ⊥) }
         ensures kept { Keeps D.honest D.size D.failures self.old self.new (is_io result) }
     {
-        self.parts.read(file, offset, buffer)
+        let entry = self.parts.entry(file)?;
+        let parts = &mut self.parts;
+        Ok(read_at(&mut parts.log, &parts.sectors, &entry, offset, buffer)?)
     }
 
     /// Takes a file out of its directory, and gives its space back.
