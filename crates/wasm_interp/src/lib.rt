@@ -16,6 +16,7 @@ mod operands;
 mod operators;
 mod pause;
 mod pending;
+mod perform;
 mod phase;
 mod place;
 mod places;
