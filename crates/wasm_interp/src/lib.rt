@@ -16,7 +16,6 @@ mod operands;
 mod operators;
 mod pause;
 mod pending;
-mod perform;
 mod phase;
 mod place;
 mod places;
