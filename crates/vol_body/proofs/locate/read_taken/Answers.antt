@@ -1,10 +1,13 @@
-use Rattle.std.proofs.Common.{◌≡◌, ◌∙◌, ℕ, List, is_err, sym}
+use Rattle.std.proofs.Common.{◌≡◌, ◌∙◌, is_err, sym}
 use Rattle.std.proofs.lemmas.Result.{IfOk-weaker}
 use Rattle.vol_log.specs.Log.{view}
 use Rattle.vol_log.proofs.Readings.{reads_same, reads_of}
 use Rattle.vol_body.specs.Body.{block_bytes}
-use Rattle.vol_body.proofs.Places.{bytes_there}
+use Rattle.vol_body.proofs.Places.{bytes_there, bytes_none}
 use Rattle.vol_body.proofs.locate.read_taken.Goals as goal
+
+pub returns-then-n-eq0-clause-bytes : goal.returns-then-n-eq0-clause-bytes
+returns-then-n-eq0-clause-bytes g c h = bytes_none (view c.args.log.now) c.args.n c.if-n-eq0.true
 
 pub returns-then-n-eq0-clause-reads : goal.returns-then-n-eq0-clause-reads
 returns-then-n-eq0-clause-reads g c = reads_same c.args.log.now

@@ -1,10 +1,11 @@
 use Rattle.std.proofs.Common.{◌≡◌, ◌∙◌, ◌-◌, ◌/◌, ◌%◌, ◌<◌, ℕ, get_or, if◌then◌else◌, sym, ap, arith}
-use Rattle.std.proofs.lemmas.Result.{IfOk-weaker}
+use Rattle.std.proofs.lemmas.Result.{IfOk-weaker, IfOk-from_err}
 use Rattle.vol_sector.specs.Disk.{Image}
 use Rattle.vol_log.specs.Log.{view}
 use Rattle.vol_alloc.specs.Alloc.{taken_of}
 use Rattle.vol_body.specs.Body.{data_block, indirect_block, double_indirect_block, inner_block, named, number_in}
 use Rattle.vol_body.proofs.Places.{part_direct, part_listed, part_later, known_at}
+use Rattle.vol_log.proofs.Readings.{reads_same, reads_then}
 use Rattle.vol_body.proofs.locate.sector_of_block.Goals as goal
 
 pub returns-then-j-lt-DIRECT-clause-sector : goal.returns-then-j-lt-DIRECT-clause-sector
@@ -42,3 +43,38 @@ returns-clause-sector g c h names =
     ∙ ap (λ (n : ℕ). number_in content n ((j - 186) % 128)) second ∙ sym (part_later content e j c.if-j-lt-LISTED.false) in
     let m = number_in (view c.read_number-2.new.log) c.in_ok-indirect_block.indirect_block ((j - 186) % 128) in
     IfOk-weaker c.read_number-3.result (λ n. n ≡ (if taken m then m else 0)) (λ n. n ≡ named content e (data_block j)) (λ n is. is ∙ known_at taken content e names (data_block j) c.requires.place m number) (c.read_number-3.ensures.number (c.read_number-2.ensures.reads.honest.0 h))
+
+pub returns-then-j-lt-DIRECT-clause-reads : goal.returns-then-j-lt-DIRECT-clause-reads
+returns-then-j-lt-DIRECT-clause-reads g c = reads_same c.args.log.now
+
+pub returns-then-j-lt-DIRECT-clause-failed : goal.returns-then-j-lt-DIRECT-clause-failed
+returns-then-j-lt-DIRECT-clause-failed g c = c.requires.working
+
+pub returns-then-j-lt-LISTED-clause-taken : goal.returns-then-j-lt-LISTED-clause-taken
+returns-then-j-lt-LISTED-clause-taken g c = c.read_number.ensures.taken
+
+pub returns-then-j-lt-LISTED-clause-reads : goal.returns-then-j-lt-LISTED-clause-reads
+returns-then-j-lt-LISTED-clause-reads g c = c.read_number.ensures.reads
+
+pub returns-then-j-lt-LISTED-clause-failed : goal.returns-then-j-lt-LISTED-clause-failed
+returns-then-j-lt-LISTED-clause-failed g c = c.read_number.ensures.failed
+
+pub returns-in_err-indirect_block : goal.returns-in_err-indirect_block
+returns-in_err-indirect_block g c =
+    let r = c.from_residual.result in
+    let is_err_now = c.from_residual.ensures.0 in
+    record {
+      sector = λ h names. IfOk-from_err r _ is_err_now;
+      taken = IfOk-from_err r _ is_err_now;
+      reads = c.read_number-2.ensures.reads;
+      failed = c.in_err-indirect_block.ensures.failed ∙ sym is_err_now;
+    }
+
+pub returns-clause-taken : goal.returns-clause-taken
+returns-clause-taken g c = c.read_number-3.ensures.taken
+
+pub returns-clause-reads : goal.returns-clause-reads
+returns-clause-reads g c = reads_then c.args.log.now c.read_number-2.new.log c.read_number-3.new.log c.in_ok-indirect_block.ensures.failed c.read_number-2.ensures.reads c.read_number-3.ensures.reads
+
+pub returns-clause-failed : goal.returns-clause-failed
+returns-clause-failed g c = c.read_number-3.ensures.failed
