@@ -1,10 +1,9 @@
-use Rattle.std.proofs.Common.{◌≡◌, ◌∙◌, List, ℕ, true, refl, sym, ap, subst, arith, true≢false}
+use Rattle.std.proofs.Common.{◌≡◌, ◌∙◌, List, ℕ, refl, sym, ap, subst, arith, true≢false}
 use Rattle.std.proofs.lemmas.List.{with_items_is}
 use Rattle.vol_sector.specs.Disk.{Image, Only}
 use Rattle.vol_log.specs.Header.{IsHeader, Places}
 use Rattle.vol_log.specs.Batch.{logged}
 use Rattle.vol_log.specs.internal.Batch.{numbers}
-use Rattle.vol_log.specs.declared.staged.Staged.{Staged}
 use Rattle.vol_log.proofs.Moments.{only_along, leaves_quiet, both_then, at_ok, counts_one}
 use Rattle.vol_log.proofs.Opening.{only_keeps, full}
 use Rattle.vol_log.proofs.replay.read_log.Goals as goal
