@@ -67,8 +67,8 @@ pub fn replay<D: Device>(
     Ok(())
 }
 
-/// Reads what the log holds into the batch, or says that its header is no right one.
-pub fn read_log<D: Device>(
+/// Syncs and reads what the log holds into the batch, or says that its header is no right one.
+fn read_log<D: Device>(
     device: &mut D,
     sectors: u32,
     batch: &mut Vec<Staged>,

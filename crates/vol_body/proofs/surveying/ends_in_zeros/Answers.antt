@@ -49,9 +49,9 @@ returns-then-end-n g c =
     let place : size / 512 < 16570 = omega (arith, c.requires.small, c.if-from-eq0.false) in
     record {
       yes = λ h below.
-        let is : n ≡ named (view c.args.log.now) c.args.entry.now (data_block (size / 512)) = c.in_ok-n.ensures.sector h below in
-        let lt : n < c.args.end = subst (λ (x : ℕ). x < c.args.end) (sym is) (below (data_block (size / 512)) place (λ none. c.if-n-eq0.false (is ∙ none))) in
-        absurd (omega (arith, lt, c.if-end-n.true));
+          let is : n ≡ named (view c.args.log.now) c.args.entry.now (data_block (size / 512)) = c.in_ok-n.ensures.sector h below in
+          let lt : n < c.args.end = subst (λ (x : ℕ). x < c.args.end) (sym is) (below (data_block (size / 512)) place (λ none. c.if-n-eq0.false (is ∙ none))) in
+          absurd (omega (arith, lt, c.if-end-n.true));
       no = λ h below zeros. refl;
       reads = c.in_ok-n.ensures.reads;
       failed = c.in_ok-n.ensures.failed;

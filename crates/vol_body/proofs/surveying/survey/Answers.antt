@@ -72,11 +72,11 @@ returns-then-not-branch g c =
       trimmed = λ h. tt;
       inside = tt;
       damaged = λ h is trimmed all.
-        let same = first.reads.view h in
-        let below = names_below content e c.args.first c.args.end c.args.named.now.items all in
-        let yes : c.in_ok-ends_in_zeros.field-0 ≡ true = second.no (first.reads.honest.0 h) (subst (λ (m : Image). NamesBelow m e c.args.end) (sym same) below)
-        (subst (λ (m : Image). EndsInZeros m e) (sym same) (ends_trimmed content e c.requires.small trimmed)) in
-        true≢false (sym yes ∙ c.if-not-branch.true);
+          let same = first.reads.view h in
+          let below = names_below content e c.args.first c.args.end c.args.named.now.items all in
+          let yes : c.in_ok-ends_in_zeros.field-0 ≡ true = second.no (first.reads.honest.0 h) (subst (λ (m : Image). NamesBelow m e c.args.end) (sym same) below)
+          (subst (λ (m : Image). EndsInZeros m e) (sym same) (ends_trimmed content e c.requires.small trimmed)) in
+          true≢false (sym yes ∙ c.if-not-branch.true);
       refused = inl refl;
       reads = reads_then c.args.log.now c.survey_sectors.new.log c.ends_in_zeros.new.log first.failed first.reads second.reads;
       failed = second.failed;
@@ -93,12 +93,12 @@ returns g c =
     record {
       named = λ h. let pushed = first.pushes h in pushed.named;
       trimmed = λ h.
-        let same = first.reads.view h in
-        let pushed = first.pushes h in
-        let past = first.past h in
-        let below = names_below content e c.args.first c.args.end c.args.named.now.items (subst (AreInside c.args.first c.args.end) pushed.named pushed.inside) in
-        let ends = second.yes (first.reads.honest.0 h) (subst (λ (m : Image). NamesBelow m e c.args.end) (sym same) below) c.if-not-branch.false in
-        record { past = past; zeros = zeros_past content e past (subst (λ (m : Image). EndsInZeros m e) same ends) };
+          let same = first.reads.view h in
+          let pushed = first.pushes h in
+          let past = first.past h in
+          let below = names_below content e c.args.first c.args.end c.args.named.now.items (subst (AreInside c.args.first c.args.end) pushed.named pushed.inside) in
+          let ends = second.yes (first.reads.honest.0 h) (subst (λ (m : Image). NamesBelow m e c.args.end) (sym same) below) c.if-not-branch.false in
+          record { past = past; zeros = zeros_past content e past (subst (λ (m : Image). EndsInZeros m e) same ends) };
       inside = first.inside;
       damaged = λ h. tt;
       refused = tt;

@@ -79,23 +79,23 @@ returns g c =
     let kept : c.div_ceil-kept.result ≡ inner_blocks_for (c.args.count - 186) = omega (arith, c.div_ceil-kept.ensures, c.saturating_sub.ensures) in
     record {
       pushes = λ h. on_ok_weaker r
-        (λ p. pushes_then first end a b z (n ∷ []) (all_listed content all) c.in_ok-push_number.ensures.pushes
-        (subst (λ (ns : List ℕ). Pushes first end b z (all_listed content ns)) (e.numbers h) (subst (λ (m : Image). Pushes first end b z (all_listed m numbers)) (e.reads.view h) p)))
-        (f.pushes (e.reads.honest.0 h));
+          (λ p. pushes_then first end a b z (n ∷ []) (all_listed content all) c.in_ok-push_number.ensures.pushes
+          (subst (λ (ns : List ℕ). Pushes first end b z (all_listed content ns)) (e.numbers h) (subst (λ (m : Image). Pushes first end b z (all_listed m numbers)) (e.reads.view h) p)))
+          (f.pushes (e.reads.honest.0 h));
       past = λ h. on_ok_weaker r
-        (λ p. record {
-          own = subst (λ (k : ℕ). ListsNoneFrom content n k) kept (e.past h);
-          later = subst (λ (ns : List ℕ). LaterListNone content ns c.args.count) (e.numbers h) (subst (λ (m : Image). LaterListNone m numbers c.args.count) (e.reads.view h) p);
-        })
-        (f.past (e.reads.honest.0 h));
+          (λ p. record {
+            own = subst (λ (k : ℕ). ListsNoneFrom content n k) kept (e.past h);
+            later = subst (λ (ns : List ℕ). LaterListNone content ns c.args.count) (e.numbers h) (subst (λ (m : Image). LaterListNone m numbers c.args.count) (e.reads.view h) p);
+          })
+          (f.past (e.reads.honest.0 h));
       inside = f.inside;
       damaged = λ h. IfErr-weaker r
-        (λ fault. fault ≡ faults.Damaged → LaterListNone later numbers c.args.count → Overflows first end b (all_listed later numbers))
-        (λ fault. fault ≡ faults.Damaged → LaterNone content n c.args.count → Overflows first end a (n ∷ all_listed content all))
-        (λ fault holds is none. overflows_then first end a b (n ∷ []) (all_listed content all) c.in_ok-push_number.ensures.pushes
-        (subst (λ (ns : List ℕ). LaterListNone content ns c.args.count → Overflows first end b (all_listed content ns)) (e.numbers h)
-        (subst (λ (m : Image). LaterListNone m numbers c.args.count → Overflows first end b (all_listed m numbers)) (e.reads.view h) (holds is)) none.later))
-        (f.damaged (e.reads.honest.0 h));
+          (λ fault. fault ≡ faults.Damaged → LaterListNone later numbers c.args.count → Overflows first end b (all_listed later numbers))
+          (λ fault. fault ≡ faults.Damaged → LaterNone content n c.args.count → Overflows first end a (n ∷ all_listed content all))
+          (λ fault holds is none. overflows_then first end a b (n ∷ []) (all_listed content all) c.in_ok-push_number.ensures.pushes
+          (subst (λ (ns : List ℕ). LaterListNone content ns c.args.count → Overflows first end b (all_listed content ns)) (e.numbers h)
+          (subst (λ (m : Image). LaterListNone m numbers c.args.count → Overflows first end b (all_listed m numbers)) (e.reads.view h) (holds is)) none.later))
+          (f.damaged (e.reads.honest.0 h));
       refused = f.refused;
       reads = reads_then c.args.log.now c.read_numbers.new.log c.survey_inner_blocks.new.log e.failed e.reads f.reads;
       failed = f.failed;

@@ -73,10 +73,10 @@ returns g c =
       past = λ h. at_any_ok r (ListsNoneFrom content n c.args.from) (e.past h);
       inside = on_ok_weaker r (λ (p : Pushes first end b z numbers). p.inside) c.push_all.ensures.pushes;
       damaged = λ h. IfErr-weaker r
-        (λ fault. fault ≡ faults.Damaged → Overflows first end b numbers)
-        (λ fault. fault ≡ faults.Damaged → ListsNoneFrom content n c.args.from → Overflows first end a (with_listed content n))
-        (λ fault holds is none. overflows_then first end a b (n ∷ []) (listed content n) c.in_ok-push_number.ensures.pushes (subst (Overflows first end b) (e.numbers h) (holds is)))
-        c.push_all.ensures.damaged;
+          (λ fault. fault ≡ faults.Damaged → Overflows first end b numbers)
+          (λ fault. fault ≡ faults.Damaged → ListsNoneFrom content n c.args.from → Overflows first end a (with_listed content n))
+          (λ fault holds is none. overflows_then first end a b (n ∷ []) (listed content n) c.in_ok-push_number.ensures.pushes (subst (Overflows first end b) (e.numbers h) (holds is)))
+          c.push_all.ensures.damaged;
       refused = IfErr-weaker r (λ fault. (fault ≡ faults.Damaged) ⊎ (fault ≡ faults.Memory)) (λ fault. (fault ≡ faults.Damaged) ⊎ ((fault ≡ faults.Device) ⊎ (fault ≡ faults.Memory))) or_memory c.push_all.ensures.refused;
       reads = e.reads;
       failed = e.failed ∙ sym (no_device_failed r c.push_all.ensures.refused);

@@ -105,20 +105,20 @@ returns g c =
     let same : numbers _ ≡ numbers old = ap numbers whole ∙ third.sectors ∙ ap numbers c.deref_mut.ensures.value in
     record {
       full = λ h yes.
-        let h1 = first.honest.0 h in
-        let h2 = second.honest.0 h1 in
-        let d_is : d.seen ≡ a.seen = second.seen h1 ∙ first.seen h in
-        let e_is : e.seen ≡ d.seen = third.seen h2 in
-        let at_e : header ≡ e.seen 1 = c.in_ok-header.ensures.bytes h1 ∙ ap (λ (x : Image). x 1) (sym (e_is ∙ second.seen h1)) in
-        let read = whole ∙ c.in_ok-read_images.ensures.read h2 ∙ (λ i. logged (numbers (c.deref_mut.ensures.value i)) 2 (sym e_is i)) in
-        let only_b : Only b.seen b.may_leave = only_along a.seen b.seen b.may_leave (first.seen h) (c.in_ok-sync.ensures.durable h) in
-        let only_d : Only d.seen d.may_leave = only_keeps b d only_b (second.crash h1) (second.seen h1) in
-        full s e header _ old (only_keeps d e only_d (third.crash h2) e_is) right at_e same read;
+          let h1 = first.honest.0 h in
+          let h2 = second.honest.0 h1 in
+          let d_is : d.seen ≡ a.seen = second.seen h1 ∙ first.seen h in
+          let e_is : e.seen ≡ d.seen = third.seen h2 in
+          let at_e : header ≡ e.seen 1 = c.in_ok-header.ensures.bytes h1 ∙ ap (λ (x : Image). x 1) (sym (e_is ∙ second.seen h1)) in
+          let read = whole ∙ c.in_ok-read_images.ensures.read h2 ∙ (λ i. logged (numbers (c.deref_mut.ensures.value i)) 2 (sym e_is i)) in
+          let only_b : Only b.seen b.may_leave = only_along a.seen b.seen b.may_leave (first.seen h) (c.in_ok-sync.ensures.durable h) in
+          let only_d : Only d.seen d.may_leave = only_keeps b d only_b (second.crash h1) (second.seen h1) in
+          full s e header _ old (only_keeps d e only_d (third.crash h2) e_is) right at_e same read;
       places = λ yes. subst (λ (ns : List ℕ). Places s ns) (sym same) right.places;
       only = λ ns h is.
-        let at_a = c.in_ok-header.ensures.bytes (first.honest.0 h) ∙ ap (λ (x : Image). x 1) (first.seen h) in
-        let found = c.read_header.ensures.only ns (subst (λ (x : List ℕ). IsHeader s x ns) (sym at_a) is) in
-        (refl, same ∙ found.1);
+          let at_a = c.in_ok-header.ensures.bytes (first.honest.0 h) ∙ ap (λ (x : Image). x 1) (first.seen h) in
+          let found = c.read_header.ensures.only ns (subst (λ (x : List ℕ). IsHeader s x ns) (sym at_a) is) in
+          (refl, same ∙ found.1);
       seen = λ h. let h1 = first.honest.0 h in third.seen (second.honest.0 h1) ∙ second.seen h1 ∙ first.seen h;
       crash = λ h. let h1 = first.honest.0 h in leaves_quiet a d e (λ m. ⊥) (leaves_quiet a b d (λ m. ⊥) (first.crash h) (second.crash h1)) (third.crash (second.honest.0 h1));
       honest = both_then first.honest (both_then second.honest third.honest);

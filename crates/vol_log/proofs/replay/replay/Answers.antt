@@ -69,7 +69,7 @@ returns-then-is_empty g c =
     record {
       settled = λ h. settled_of s b batch none (e.full h yes);
       content = λ m h has k is.
-        ap (λ (l : List Staged). over l b.seen k) (sym none) ∙ content_of s a.seen m b batch (e.seen h) has (e.only has.log h has.header).1 (e.full h yes) k is;
+          ap (λ (l : List Staged). over l b.seen k) (sym none) ∙ content_of s a.seen m b batch (e.seen h) has (e.only has.log h has.header).1 (e.full h yes) k is;
       right = λ h. let logs : Logged s batch b = e.full h yes in has_of s a.seen b.seen batch (e.seen h) logs.header;
       damaged = λ h is m has. ok_not_damaged tt _ refl is;
       quiet = λ h is. e.crash h;
@@ -104,14 +104,14 @@ returns-in_err-apply_batch g c =
       damaged = λ h is m has. not_damaged r device is;
       quiet = λ h is. not_damaged r device is;
       crash = λ m h has.
-        leaves_then a b d (λ x. ⊥) (λ x. HasContent s x (over now b.seen)) (λ x. HasContent s x m) (e.crash h) (f.crash s (e.honest.0 h) (logs h))
-        (λ x none. absurd none) (λ x p. has_same s x (over now b.seen) m (content m h has) p);
+          leaves_then a b d (λ x. ⊥) (λ x. HasContent s x (over now b.seen)) (λ x. HasContent s x m) (e.crash h) (f.crash s (e.honest.0 h) (logs h))
+          (λ x none. absurd none) (λ x p. has_same s x (over now b.seen) m (content m h has) p);
       kept_content = λ m h has.
-        let h1 = e.honest.0 h in
-        let logs1 : Logged s now b = logs h in
-        let steps : Leaves b d (λ x. HasContent s x (over now b.seen)) = f.crash s h1 logs1 in
-        at_err r _ (⊎_elim (λ was. subst (λ (x : Image). HasContent s x m) (sym (logs1.durable d.seen was ∙ e.seen h)) has) (λ p. has_same s d.seen (over now b.seen) m (content m h has) p)
-        (steps.now d.seen (g.met.D.Device.may_stay c.apply_batch.new.device (f.honest.0 h1))));
+          let h1 = e.honest.0 h in
+          let logs1 : Logged s now b = logs h in
+          let steps : Leaves b d (λ x. HasContent s x (over now b.seen)) = f.crash s h1 logs1 in
+          at_err r _ (⊎_elim (λ was. subst (λ (x : Image). HasContent s x m) (sym (logs1.durable d.seen was ∙ e.seen h)) has) (λ p. has_same s d.seen (over now b.seen) m (content m h has) p)
+          (steps.now d.seen (g.met.D.Device.may_stay c.apply_batch.new.device (f.honest.0 h1))));
       honest = both_then e.honest f.honest;
       size = f.size ∙ e.size;
       named = device_named r device;
@@ -138,8 +138,8 @@ returns g c =
       damaged = λ h is m has. ok_not_damaged tt _ refl is;
       quiet = λ h is. ok_not_damaged tt _ refl is;
       crash = λ m h has.
-        leaves_then a b d (λ x. ⊥) (λ x. HasContent s x (over now b.seen)) (λ x. HasContent s x m) (e.crash h) (f.crash s (e.honest.0 h) (logs h))
-        (λ x none. absurd none) (λ x p. has_same s x (over now b.seen) m (content m h has) p);
+          leaves_then a b d (λ x. ⊥) (λ x. HasContent s x (over now b.seen)) (λ x. HasContent s x m) (e.crash h) (f.crash s (e.honest.0 h) (logs h))
+          (λ x none. absurd none) (λ x p. has_same s x (over now b.seen) m (content m h has) p);
       kept_content = λ m h has. tt;
       honest = both_then e.honest f.honest;
       size = f.size ∙ e.size;
