@@ -19,9 +19,6 @@ bytes_there content n there = pick n (replicate 512 0) (content n) there
     pick : (n : ℕ) (z x : List ℕ) → n ≢ 0 → (if n == 0 then z else x) ≡ x
     pick n z x there = grind (arith, nat_tests)
 
-pub bytes_none : (content : Image) (n : ℕ) → n ≡ 0 → replicate 512 0 ≡ block_bytes content n
-bytes_none content n none = ap (block_bytes content) (sym none)
-
 pub part_direct : (content : Image) (e : Entry) (j : ℕ) → j < 58 → named content e (data_block j) ≡ get_or e.pointers j 0
 part_direct content e j lt = pick j (get_or e.pointers j 0) _ lt
   where

@@ -1,10 +1,14 @@
-use Rattle.std.proofs.Common.{◌≡◌, ◌∙◌, is_err, sym}
+use Rattle.std.proofs.Common.{◌≡◌, ◌∙◌, ℕ, replicate, is_err, sym, ap}
 use Rattle.std.proofs.lemmas.Result.{IfOk-weaker}
+use Rattle.vol_sector.specs.Disk.{Image}
 use Rattle.vol_log.specs.Log.{view}
 use Rattle.vol_log.proofs.Readings.{reads_same, reads_of}
 use Rattle.vol_body.specs.Body.{block_bytes}
-use Rattle.vol_body.proofs.Places.{bytes_there, bytes_none}
+use Rattle.vol_body.proofs.Places.{bytes_there}
 use Rattle.vol_body.proofs.locate.read_taken.Goals as goal
+
+bytes_none : (content : Image) (n : ℕ) → n ≡ 0 → replicate 512 0 ≡ block_bytes content n
+bytes_none content n none = ap (block_bytes content) (sym none)
 
 pub returns-then-n-eq0-clause-bytes : goal.returns-then-n-eq0-clause-bytes
 returns-then-n-eq0-clause-bytes g c h = bytes_none (view c.args.log.now) c.args.n c.if-n-eq0.true
