@@ -1,5 +1,5 @@
 -- Steps of a survey.
-use Rattle.std.proofs.Common.{◌≡◌, ◌≢◌, ⊎_elim, ◌≤◌, ◌<◌, ◌+◌, ◌-◌, ◌*◌, ◌==◌, not, ℕ, zero, suc, List, [], ◌∷◌, ◌++◌, length, take, drop, map, get_or, replicate, Result, Ok, Err, IfErr, IsErrAnd, refl, sym, ◌∙◌, ap, subst, arith}
+use Rattle.std.proofs.Common.{◌≡◌, ◌≢◌, ◌⊎◌, inl, inr, ⊎_elim, Bool, false, OnOk, ◌≤◌, ◌<◌, ◌+◌, ◌-◌, ◌*◌, ◌==◌, not, ℕ, zero, suc, List, [], ◌∷◌, ◌++◌, length, take, drop, map, get_or, replicate, Result, Ok, Err, IfErr, IsErrAnd, refl, sym, ◌∙◌, ap, subst, arith}
 use Rattle.std.proofs.lemmas.List.{append_assoc, append-nil, length-append, take_more, take-append-drop, ext_get_or, flat_map_more, length-replicate, get_or-replicate}
 use Rattle.std.proofs.lemmas.List.FromFn.{length-map-range_with_len, get_or-map-range_with_len}
 use Rattle.std.proofs.lemmas.Grind.{flat_map-append}
@@ -8,7 +8,9 @@ use Rattle.std.proofs.lemmas.Bool.Decides.{nat_tests}
 use Rattle.std.specs.List.{range_with_len}
 use Rattle.byteorder.specs.Endian.{little_number}
 use Rattle.vol_sector.specs.Disk.{Image}
+use Rattle.vol_sector.specs.Fault.{is_device, device_failed}
 use Rattle.vol_sector.specs.declared.fault.VolumeFault.{VolumeFault}
+use Rattle.vol_sector.specs.declared.fault.VolumeFault.TheVariants as faults
 use Rattle.vol_body.specs.Body.{number_in}
 use Rattle.vol_body.specs.Survey.{nonzero, AreInside}
 use Rattle.vol_inode.specs.Space.{inner_blocks_for}
@@ -80,6 +82,33 @@ overflows_next first end a b xs i lt one over =
 pub handed_on : {T : Type 0} (r : Result T VolumeFault) (P : VolumeFault → Type 0) (x : VolumeFault) → IsErrAnd r (λ y. y ≡ x) → P x → IfErr r P
 handed_on (Ok t) P x is holds = tt
 handed_on (Err e) P x is holds = subst P (sym is) holds
+
+pub device_not_damaged : {X : Type 0} → faults.Device ≡ faults.Damaged → X
+device_not_damaged is = cc
+
+-- whether the device failed, where the fault is handed on
+pub failed_on : {T : Type 0} (r : Result T VolumeFault) (x : VolumeFault) (failed : Bool) → IsErrAnd r (λ y. y ≡ x) → failed ≡ is_device x → failed ≡ device_failed r
+failed_on (Ok t) x failed is now = absurd is
+failed_on (Err e) x failed is now = now ∙ ap is_device (sym is)
+
+pub not_device : (x : VolumeFault) → (x ≡ faults.Damaged) ⊎ (x ≡ faults.Memory) → is_device x ≡ false
+not_device x is = ⊎_elim (λ damaged. ap is_device damaged) (λ memory. ap is_device memory) is
+
+pub no_device_failed : {T : Type 0} (r : Result T VolumeFault) → IfErr r (λ x. (x ≡ faults.Damaged) ⊎ (x ≡ faults.Memory)) → device_failed r ≡ false
+no_device_failed (Ok t) is = refl
+no_device_failed (Err x) is = not_device x is
+
+-- two of the three faults
+pub or_memory : (x : VolumeFault) → (x ≡ faults.Damaged) ⊎ (x ≡ faults.Memory) → (x ≡ faults.Damaged) ⊎ ((x ≡ faults.Device) ⊎ (x ≡ faults.Memory))
+or_memory x is = ⊎_elim (λ damaged. inl damaged) (λ memory. inr (inr memory)) is
+
+pub or_device : (x : VolumeFault) → (x ≡ faults.Damaged) ⊎ (x ≡ faults.Device) → (x ≡ faults.Damaged) ⊎ ((x ≡ faults.Device) ⊎ (x ≡ faults.Memory))
+or_device x is = ⊎_elim (λ damaged. inl damaged) (λ device. inr (inl device)) is
+
+-- what holds anyway holds at Ok
+pub at_any_ok : {T E : Type 0} (r : Result T E) (P : Type 0) → P → OnOk r P
+at_any_ok (Ok x) P holds = holds
+at_any_ok (Err e) P holds = tt
 
 numbers_of : (f : ℕ → ℕ) (m : ℕ) (numbers : List ℕ) → length numbers ≡ m → ((i : ℕ) → i < m → get_or numbers i 0 ≡ f i) → numbers ≡ map f (range_with_len 0 m)
 numbers_of f m numbers long same =

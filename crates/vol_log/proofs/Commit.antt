@@ -54,6 +54,16 @@ pub images_keep : (sectors : ℕ) (a m : Image) → IsHeader sectors (a 1) [] �
 images_keep sectors a m empty outside =
     has_own sectors m a (subst (λ (b : List ℕ). IsHeader sectors b []) (sym (outside 1 (inl (omega arith)))) empty) (λ k is. ⊎_elim (λ low. outside k (inl (omega arith))) (λ high. outside k (inr high)) is)
 
+-- the images are in the log
+pub outside_log : (a m : Image) → OnlyImagesChange a m → OutsideLog a m
+outside_log a m outside k (inl small) = outside k (inl (omega (arith, small)))
+outside_log a m outside k (inr high) = outside k (inr high)
+
+-- so is the header
+pub beside_header : (header : List ℕ) (d e : Image) → Wrote 1 header d e → OutsideLog d e
+beside_header header d e wrote k (inl small) = let ne : k ≢ 1 = omega (arith, small) in wrote_other 1 k header d e wrote ne
+beside_header header d e wrote k (inr high) = let ne : k ≢ 1 = omega (arith, high) in wrote_other 1 k header d e wrote ne
+
 -- while the header is written
 pub header_either : (sectors : ℕ) (batch : List Staged) (header : List ℕ) (a c m : Image) → IsHeader sectors (a 1) [] → Places sectors (numbers batch) → header ≡ header_bytes (numbers batch) → OnlyImagesChange a c → logged (numbers batch) 2 c ≡ batch → Wrote 1 header c m → HasEither sectors a (over batch a) m
 header_either sectors batch header a c m empty places spelled outside images (inl same) =

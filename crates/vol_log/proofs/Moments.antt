@@ -1,6 +1,7 @@
 -- How what a crash may leave goes on from call to call.
-use Rattle.std.proofs.Common.{◌≡◌, ◌⊎◌, inl, inr, ⊎_elim, sym, ◌∙◌, subst, arith, Result, Ok, Err, OnOk, OnErr}
-use Rattle.vol_sector.specs.Disk.{Image, Disk, After, Leaves, Only}
+use Rattle.std.proofs.Common.{◌≡◌, ◌⊎◌, ◌↔◌, inl, inr, ⊎_elim, ℕ, Bool, true, sym, ◌∙◌, ap, subst, arith, Result, Ok, Err, OnOk, OnErr, IfOk, is_err}
+use Rattle.std.proofs.lemmas.Result.{IfOk-from_err}
+use Rattle.vol_sector.specs.Disk.{Image, Disk, After, Leaves, Only, counted}
 
 -- before the first call
 pub leaves_same : (d : Disk) (P : Image → Type 0) → Leaves d d P
@@ -51,3 +52,19 @@ on_ok (Err e) P Q f p = p
 pub at_err : {T E : Type 0} (r : Result T E) (P : Type 0) → P → OnErr r P
 at_err (Ok x) P p = tt
 at_err (Err e) P p = p
+
+-- one step after another
+pub both_then : {A B C : Type 0} → (A ↔ B) → (B ↔ C) → A ↔ C
+both_then one other = (λ a. other.0 (one.0 a), λ c. one.1 (other.1 c))
+
+-- nothing is said of Ok where the operation failed
+pub at_ok : {T E : Type 0} (r : Result T E) (P : T → Type 0) → is_err r ≡ true → IfOk r P
+at_ok r P failed = IfOk-from_err r P failed
+
+-- a failed operation more, after operations that succeeded
+pub counts_one : {T E : Type 0} (r : Result T E) (before between after : ℕ) → is_err r ≡ true → between ≡ before → after ≡ counted true between → after ≡ counted (is_err r) before
+counts_one r before between after failed same one = one ∙ ap (λ (n : ℕ). counted true n) same ∙ ap (λ (b : Bool). counted b before) (sym failed)
+
+-- a call after which a crash leaves nothing new, where something new may be left
+pub leaves_any : (a b : Disk) (P : Image → Type 0) → Leaves a b (λ m. ⊥) → Leaves a b P
+leaves_any a b P quiet = leaves_quiet a a b P (leaves_same a P) quiet

@@ -1,8 +1,13 @@
 -- What opening finds and leaves.
-use Rattle.std.proofs.Common.{◌≡◌, ⊎_elim, ℕ, List, refl, sym, ◌∙◌, ap, subst}
-use Rattle.vol_sector.specs.Disk.{Image, Disk, Only, Leaves}
+use Rattle.std.proofs.Common.{◌≡◌, ◌⊎◌, inr, ⊎_elim, ℕ, true, List, [], refl, sym, ◌∙◌, ap, subst, Result, Ok, Err}
+use Rattle.std.proofs.lemmas.Result.{err_from_is_err_and}
+use Rattle.std.specs.Prelude.{IfErr, IsErrAnd, IsErrOf}
+use Rattle.vol_sector.specs.Disk.{Image, Disk, Only, Leaves, counted}
+use Rattle.vol_sector.specs.Fault.{device_failed}
+use Rattle.vol_sector.specs.declared.fault.VolumeFault.{VolumeFault}
+use Rattle.vol_sector.specs.declared.fault.VolumeFault.TheVariants.{Damaged, Device}
 use Rattle.vol_log.specs.Header.{IsHeader}
-use Rattle.vol_log.specs.Batch.{over, logged, SameContent, HasContent}
+use Rattle.vol_log.specs.Batch.{over, logged, SameContent, HasContent, Settled}
 use Rattle.vol_log.specs.internal.Batch.{numbers}
 use Rattle.vol_log.specs.internal.Steps.{Logged}
 use Rattle.vol_log.specs.declared.staged.Staged.{Staged}
@@ -26,3 +31,32 @@ full s e header batch old only right spelled same read = record {
   header = subst (λ (ns : List ℕ). IsHeader s (e.seen 1) ns) (sym same) (subst (λ (b : List ℕ). IsHeader s b (numbers old)) spelled right);
   images = ap (λ (ns : List ℕ). logged ns 2 e.seen) same ∙ sym read;
 }
+
+-- the header of a full log gives a content
+pub has_of : (s : ℕ) (a d : Image) (batch : List Staged) → d ≡ a → IsHeader s (d 1) (numbers batch) → (m : Image) × HasContent s a m
+has_of s a d batch same header = has_some s a (numbers batch) (subst (λ (x : Image). IsHeader s (x 1) (numbers batch)) same header)
+
+-- the content of a full log
+pub content_of : (s : ℕ) (a m : Image) (d : Disk) (batch : List Staged) → d.seen ≡ a → (has : HasContent s a m) → numbers batch ≡ has.log → Logged s batch d → SameContent (over batch d.seen) m
+content_of s a m d batch same has named logs = content_is s a d.seen m batch same has (sym logs.images ∙ (λ i. logged (named i) 2 (same i)))
+
+-- a log that holds nothing
+pub settled_of : (s : ℕ) (d : Disk) (batch : List Staged) → batch ≡ [] → Logged s batch d → Settled s d
+settled_of s d batch none logs = record { durable = logs.durable; empty = subst (λ (b : List Staged). IsHeader s (d.seen 1) (numbers b)) none logs.header }
+
+-- what the device refused
+pub is_device_err : {T : Type 0} (r : Result T VolumeFault) → IsErrAnd r (λ f. f ≡ Device) → r ≡ Err Device
+is_device_err r is = let e = err_from_is_err_and r is in e.1 ∙ ap (λ (f : VolumeFault). Err f) e.2
+
+pub not_damaged : {T X : Type 0} (r : Result T VolumeFault) → r ≡ Err Device → IsErrOf r Damaged → X
+not_damaged r device damaged = cc
+
+pub ok_not_damaged : {T X : Type 0} (x : T) (r : Result T VolumeFault) → r ≡ Ok x → IsErrOf r Damaged → X
+ok_not_damaged x r ok damaged = cc
+
+pub device_named : {T : Type 0} (r : Result T VolumeFault) → r ≡ Err Device → IfErr r (λ f. (f ≡ Damaged) ⊎ (f ≡ Device))
+device_named {T = T} r device = subst (λ (x : Result T VolumeFault). IfErr x (λ f. (f ≡ Damaged) ⊎ (f ≡ Device))) (sym device) (inr refl)
+
+-- a failed operation more, after operations that succeeded
+pub counts_device : {T : Type 0} (r : Result T VolumeFault) (before between after : ℕ) → r ≡ Err Device → between ≡ before → after ≡ counted true between → after ≡ counted (device_failed r) before
+counts_device {T = T} r before between after device same one = one ∙ ap (λ (n : ℕ). counted true n) same ∙ ap (λ (x : Result T VolumeFault). counted (device_failed x) before) (sym device)

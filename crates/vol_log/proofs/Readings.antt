@@ -1,5 +1,5 @@
 -- How what stays of a log goes on from read to read.
-use Rattle.std.proofs.Common.{◌≡◌, inl, inr, ⊎_elim, Bool, false, sym, ◌∙◌, ap, arith}
+use Rattle.std.proofs.Common.{◌≡◌, ◌↔◌, inl, inr, ⊎_elim, Bool, false, sym, ◌∙◌, ap, arith}
 use Rattle.vol_sector.specs.Disk.{Disk, Leaves, counted}
 use Rattle.vol_sector.specs.declared.device.Device.{Ghosts}
 use Rattle.vol_log.specs.Log.{view, staged_of, device_of, log_sectors, has_failed}
@@ -41,4 +41,28 @@ module _ {D : Type 0} {g : Ghosts D} where
     honest = (λ h. second.honest.0 (first.honest.0 h), λ h. first.honest.1 (second.honest.1 h));
     size = second.size ∙ first.size;
     failures = λ working. second.failures still ∙ ap (counted (has_failed c)) (first.failures working ∙ ap (λ (b : Bool). counted b (g.failures (device_of a))) still);
+  }
+
+  -- one read of a sector, as it answers
+  pub reads_of :
+      (a b : Log D g) (failed : Bool) →
+      (g.honest (device_of a) → view b ≡ view a) →
+      staged_of b ≡ staged_of a →
+      (g.honest (device_of a) → (g.disk (device_of b)).seen ≡ (g.disk (device_of a)).seen) →
+      (g.honest (device_of a) → Leaves (g.disk (device_of a)) (g.disk (device_of b)) (λ c. ⊥)) →
+      log_sectors b ≡ log_sectors a →
+      (g.honest (device_of a) ↔ g.honest (device_of b)) →
+      g.size (device_of b) ≡ g.size (device_of a) →
+      (has_failed a ≡ false → g.failures (device_of b) ≡ counted failed (g.failures (device_of a))) →
+      has_failed b ≡ failed →
+      OnlyReads a b
+  reads_of a b failed same staged seen crash sectors honest size failures now = record {
+    view = same;
+    staged = staged;
+    seen = seen;
+    crash = crash;
+    sectors = sectors;
+    honest = honest;
+    size = size;
+    failures = λ working. failures working ∙ sym (ap (λ (x : Bool). counted x (g.failures (device_of a))) now);
   }

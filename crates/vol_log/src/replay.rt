@@ -1,17 +1,20 @@
 //! What opening does with a log that a crash may have left.
 
-ghost use Rattle.std.specs.Prelude.{◌≡◌, ◌⊎◌, ◌≤◌, ◌<◌, ◌↔◌, []};
-ghost use Rattle.std.specs.Prelude.{OnOk, OnErr, IfErr, IsErrOf, vec_capacity};
+ghost use Rattle.std.specs.Prelude.{◌≡◌, ◌⊎◌, ◌≤◌, ◌<◌, ◌↔◌, List, ℕ, []};
+ghost use Rattle.std.specs.Prelude.{IsTrue, OnOk, OnErr, IfOk, IfErr, IsErrOf, is_err, vec_capacity};
 ghost use Rattle.vol_sector.specs.Disk.{Image, Leaves, counted};
 ghost use Rattle.vol_sector.specs.Fault.{device_failed};
+ghost use Rattle.vol_log.specs.Header.{Places, IsHeader};
 ghost use Rattle.vol_log.specs.Batch.{SameContent, HasContent, Settled};
+ghost use Rattle.vol_log.specs.internal.Batch.{numbers};
+ghost use Rattle.vol_log.specs.internal.Steps.{Logged};
 ghost use Rattle.vol_log.specs.declared.layout.TheConstants.{FIRST_AFTER_LOG};
 
 use crate::Staged;
 use crate::header::read_header;
 use crate::layout::HEADER;
 use crate::steps::{apply_batch, read_images};
-use vol_sector::{Device, VolumeFault};
+use vol_sector::{Device, DeviceFault, VolumeFault};
 
 /// Puts what the log holds into its places, and empties the log.
 pub fn replay<D: Device>(
@@ -52,17 +55,48 @@ pub fn replay<D: Device>(
     ensures emptied { OnOk result (batch.new.items ≡ []) }
     ensures room_kept { OnOk result (120 ≤ vec_capacity batch.new) }
 {
-    // Nothing may be pending when the log is installed.
-    device.sync()?;
-    let header = device.read(HEADER)?;
-    if !read_header(&header, sectors, batch) {
+    let is_right = read_log(device, sectors, batch)?;
+    if !is_right {
         return Err(VolumeFault::Damaged);
     }
     if batch.is_empty() {
         return Ok(());
     }
-    read_images(device, batch)?;
     apply_batch(device, batch)?;
     batch.clear();
     Ok(())
+}
+
+/// Syncs and reads what the log holds into the batch, or says that its header is no right one.
+fn read_log<D: Device>(
+    device: &mut D,
+    sectors: u32,
+    batch: &mut Vec<Staged>,
+) -> Result<bool, DeviceFault>
+    requires geometry { FIRST_AFTER_LOG < sectors }
+    requires on_device { sectors ≤ D.size device.old }
+    requires empty { batch.old.items ≡ [] }
+    requires room { 120 ≤ vec_capacity batch.old }
+    ensures full { D.honest device.old → IfOk result (λ right. IsTrue right
+        → Logged sectors batch.new.items (D.disk device.new)) }
+    ensures places { IfOk result (λ right. IsTrue right
+        → Places sectors (numbers batch.new.items)) }
+    ensures only { (ns : List ℕ) → D.honest device.old
+        → IsHeader sectors ((D.disk device.old).seen 1) ns
+        → IfOk result (λ right. IsTrue right × (numbers batch.new.items ≡ ns)) }
+    ensures seen { D.honest device.old → (D.disk device.new).seen ≡ (D.disk device.old).seen }
+    ensures crash { D.honest device.old → Leaves (D.disk device.old) (D.disk device.new) (λ c. ⊥) }
+    ensures honest { D.honest device.old ↔ D.honest device.new }
+    ensures size { D.size device.new ≡ D.size device.old }
+    ensures failures { D.failures device.new ≡ counted (is_err result) (D.failures device.old) }
+    ensures room_kept { 120 ≤ vec_capacity batch.new }
+{
+    // Nothing may be pending when the log is installed.
+    device.sync()?;
+    let header = device.read(HEADER)?;
+    if !read_header(&header, sectors, batch) {
+        return Ok(false);
+    }
+    read_images(device, batch)?;
+    Ok(true)
 }

@@ -2,9 +2,10 @@ use Rattle.std.proofs.Common.{ℕ, ◌≡◌, ◌-◌, ◌+◌, ◌*◌, ◌<◌
 use Rattle.std.proofs.lemmas.Bool.{cases_lt}
 use Rattle.vol_sector.specs.Disk.{Image}
 use Rattle.vol_log.specs.Log.{view}
-use Rattle.vol_log.proofs.Readings.{reads_then}
+use Rattle.vol_log.proofs.Readings.{reads_then, reads_same}
 use Rattle.vol_body.specs.internal.Surveying.{with_listed, Pushes, Overflows, ListsNoneFrom}
-use Rattle.vol_body.proofs.Surveys.{pushes_list, overflows_list, handed_on}
+use Rattle.vol_body.proofs.Surveys.{pushes_list, overflows_list, handed_on, pushes_none, failed_on}
+use Rattle.std.proofs.lemmas.Result.{IfOk-from_err}
 use Rattle.vol_body.proofs.surveying.survey_inner_blocks.Goals as goal
 
 pub returns-in_err-survey_indirect_block-clause-damaged : goal.returns-in_err-survey_indirect_block-clause-damaged
@@ -43,3 +44,42 @@ loop-i-preserved g c =
                 subst (λ (j : ℕ). ListsNoneFrom content (slice_index c.args.inner_blocks.now j) (c.args.count - (186 + 128 * j))) same this
           ];
     }
+
+pub returns-in_err-survey_indirect_block-clause-pushes : goal.returns-in_err-survey_indirect_block-clause-pushes
+returns-in_err-survey_indirect_block-clause-pushes g c h = IfOk-from_err c.from_residual.result _ c.from_residual.ensures.0
+
+pub returns-in_err-survey_indirect_block-clause-past : goal.returns-in_err-survey_indirect_block-clause-past
+returns-in_err-survey_indirect_block-clause-past g c h = IfOk-from_err c.from_residual.result _ c.from_residual.ensures.0
+
+pub returns-in_err-survey_indirect_block-clause-inside : goal.returns-in_err-survey_indirect_block-clause-inside
+returns-in_err-survey_indirect_block-clause-inside g c = IfOk-from_err c.from_residual.result _ c.from_residual.ensures.0
+
+pub returns-in_err-survey_indirect_block-clause-refused : goal.returns-in_err-survey_indirect_block-clause-refused
+returns-in_err-survey_indirect_block-clause-refused g c = handed_on c.from_residual.result _ c.in_err-survey_indirect_block.field-0.0 c.from_residual.ensures.1 c.in_err-survey_indirect_block.ensures.refused
+
+pub returns-in_err-survey_indirect_block-clause-reads : goal.returns-in_err-survey_indirect_block-clause-reads
+returns-in_err-survey_indirect_block-clause-reads g c = reads_then c.args.log.now c.loop-i.log c.survey_indirect_block.new.log c.loop-i.invariant.working c.loop-i.invariant.reads c.survey_indirect_block.ensures.reads
+
+pub returns-in_err-survey_indirect_block-clause-failed : goal.returns-in_err-survey_indirect_block-clause-failed
+returns-in_err-survey_indirect_block-clause-failed g c = failed_on c.from_residual.result c.in_err-survey_indirect_block.field-0.0 _ c.from_residual.ensures.1 c.in_err-survey_indirect_block.ensures.failed
+
+pub returns-clause-inside : goal.returns-clause-inside
+returns-clause-inside g c = c.loop-i.invariant.inside
+
+pub returns-clause-reads : goal.returns-clause-reads
+returns-clause-reads g c = c.loop-i.invariant.reads
+
+pub returns-clause-failed : goal.returns-clause-failed
+returns-clause-failed g c = c.loop-i.invariant.working
+
+pub returns-clause-past : goal.returns-clause-past
+returns-clause-past g c h i lt = c.loop-i.invariant.past h i (omega (arith, lt, c.loop-i-test.false))
+
+pub loop-i-init : goal.loop-i-init
+loop-i-init g c = record {
+  working = c.requires.working;
+  reads = reads_same c.args.log.now;
+  inside = c.requires.inside;
+  pushes = λ h. pushes_none c.args.first c.args.end c.args.named.now.items c.requires.inside;
+  past = λ h k lt. absurd (omega (arith, lt));
+}

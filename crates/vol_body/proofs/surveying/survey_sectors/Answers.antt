@@ -1,5 +1,5 @@
-use Rattle.std.proofs.Common.{◌≡◌, ◌-◌, ℕ, ◌∷◌, ◌++◌, length, take, map, Result, Ok, Err, OnOk, sym, subst, arith}
-use Rattle.std.proofs.lemmas.Result.{IfErr-weaker}
+use Rattle.std.proofs.Common.{◌≡◌, ◌-◌, ℕ, ◌∷◌, ◌++◌, length, take, map, Result, Ok, Err, OnOk, sym, subst, arith, ◌∙◌}
+use Rattle.std.proofs.lemmas.Result.{IfErr-weaker, IfOk-from_err}
 use Rattle.vol_sector.specs.Disk.{Image}
 use Rattle.vol_sector.specs.declared.fault.VolumeFault.TheVariants as faults
 use Rattle.vol_inode.specs.Space.{blocks_for_size}
@@ -7,8 +7,9 @@ use Rattle.vol_log.specs.Log.{view}
 use Rattle.vol_body.specs.Body.{indirect_block, double_indirect_block, named}
 use Rattle.vol_body.specs.Survey.{every_position}
 use Rattle.vol_body.specs.internal.Surveying.{listed, with_listed, all_listed, Pushes, Overflows, ListsNoneFrom, LaterNone, NamesNonePast}
-use Rattle.vol_body.proofs.Surveys.{pushes_then, overflows_before, overflows_then, handed_on}
+use Rattle.vol_body.proofs.Surveys.{pushes_then, overflows_before, overflows_then, handed_on, failed_on, not_device, or_memory}
 use Rattle.vol_body.proofs.Surveyed.{at_every, none_past, past_list, past_later}
+use Rattle.vol_log.proofs.Readings.{reads_same, reads_then}
 use Rattle.vol_body.proofs.surveying.survey_sectors.Goals as goal
 
 on_ok : {T E : Type 0} (P Q : Type 0) (r : Result T E) → (P → Q) → OnOk r P → OnOk r Q
@@ -106,3 +107,51 @@ returns-clause-damaged g c h =
     (subst (λ (m : Image). LaterNone m n count → Overflows first end d (n ∷ all_listed m (listed m n))) (reads.view h) (holds is)
     (subst (λ (k : ℕ). LaterNone content n k) (sym is_count) (past_later content e past)))))
     (c.survey_double_indirect_block.ensures.damaged (reads.honest.0 h))
+
+pub returns-in_err-push_all-clause-pushes : goal.returns-in_err-push_all-clause-pushes
+returns-in_err-push_all-clause-pushes g c h = IfOk-from_err c.from_residual.result _ c.from_residual.ensures.0
+
+pub returns-in_err-push_all-clause-past : goal.returns-in_err-push_all-clause-past
+returns-in_err-push_all-clause-past g c h = IfOk-from_err c.from_residual.result _ c.from_residual.ensures.0
+
+pub returns-in_err-push_all-clause-inside : goal.returns-in_err-push_all-clause-inside
+returns-in_err-push_all-clause-inside g c = IfOk-from_err c.from_residual.result _ c.from_residual.ensures.0
+
+pub returns-in_err-push_all-clause-refused : goal.returns-in_err-push_all-clause-refused
+returns-in_err-push_all-clause-refused g c = handed_on c.from_residual.result _ c.in_err-push_all.field-0.0 c.from_residual.ensures.1 (or_memory c.in_err-push_all.field-0.0 c.in_err-push_all.ensures.refused)
+
+pub returns-in_err-push_all-clause-reads : goal.returns-in_err-push_all-clause-reads
+returns-in_err-push_all-clause-reads g c = reads_same c.args.log.now
+
+pub returns-in_err-push_all-clause-failed : goal.returns-in_err-push_all-clause-failed
+returns-in_err-push_all-clause-failed g c = failed_on c.from_residual.result c.in_err-push_all.field-0.0 _ c.from_residual.ensures.1 (c.requires.working ∙ sym (not_device c.in_err-push_all.field-0.0 c.in_err-push_all.ensures.refused))
+
+pub returns-in_err-survey_indirect_block-clause-pushes : goal.returns-in_err-survey_indirect_block-clause-pushes
+returns-in_err-survey_indirect_block-clause-pushes g c h = IfOk-from_err c.from_residual-in_err-survey_indirect_block.result _ c.from_residual-in_err-survey_indirect_block.ensures.0
+
+pub returns-in_err-survey_indirect_block-clause-past : goal.returns-in_err-survey_indirect_block-clause-past
+returns-in_err-survey_indirect_block-clause-past g c h = IfOk-from_err c.from_residual-in_err-survey_indirect_block.result _ c.from_residual-in_err-survey_indirect_block.ensures.0
+
+pub returns-in_err-survey_indirect_block-clause-inside : goal.returns-in_err-survey_indirect_block-clause-inside
+returns-in_err-survey_indirect_block-clause-inside g c = IfOk-from_err c.from_residual-in_err-survey_indirect_block.result _ c.from_residual-in_err-survey_indirect_block.ensures.0
+
+pub returns-in_err-survey_indirect_block-clause-refused : goal.returns-in_err-survey_indirect_block-clause-refused
+returns-in_err-survey_indirect_block-clause-refused g c = handed_on c.from_residual-in_err-survey_indirect_block.result _ c.in_err-survey_indirect_block.field-0.0 c.from_residual-in_err-survey_indirect_block.ensures.1 (c.in_err-survey_indirect_block.ensures.refused)
+
+pub returns-in_err-survey_indirect_block-clause-reads : goal.returns-in_err-survey_indirect_block-clause-reads
+returns-in_err-survey_indirect_block-clause-reads g c = c.survey_indirect_block.ensures.reads
+
+pub returns-in_err-survey_indirect_block-clause-failed : goal.returns-in_err-survey_indirect_block-clause-failed
+returns-in_err-survey_indirect_block-clause-failed g c = failed_on c.from_residual-in_err-survey_indirect_block.result c.in_err-survey_indirect_block.field-0.0 _ c.from_residual-in_err-survey_indirect_block.ensures.1 (c.in_err-survey_indirect_block.ensures.failed)
+
+pub returns-clause-inside : goal.returns-clause-inside
+returns-clause-inside g c = c.survey_double_indirect_block.ensures.inside
+
+pub returns-clause-refused : goal.returns-clause-refused
+returns-clause-refused g c = c.survey_double_indirect_block.ensures.refused
+
+pub returns-clause-reads : goal.returns-clause-reads
+returns-clause-reads g c = reads_then c.args.log.now c.survey_indirect_block.new.log c.survey_double_indirect_block.new.log c.in_ok-survey_indirect_block.ensures.failed c.in_ok-survey_indirect_block.ensures.reads c.survey_double_indirect_block.ensures.reads
+
+pub returns-clause-failed : goal.returns-clause-failed
+returns-clause-failed g c = c.survey_double_indirect_block.ensures.failed

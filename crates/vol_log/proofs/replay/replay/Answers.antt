@@ -1,194 +1,150 @@
-use Rattle.std.proofs.Common.{⊎_elim, ◌≡◌, ◌∙◌, List, ℕ, sym, ap, subst, arith}
-use Rattle.std.proofs.lemmas.List.{with_items_is}
-use Rattle.vol_sector.specs.Disk.{Image, Only, Leaves}
-use Rattle.vol_log.specs.Header.{IsHeader}
-use Rattle.vol_log.specs.Batch.{SameContent, HasContent, over, logged}
+use Rattle.std.proofs.Common.{◌≡◌, ◌∙◌, inl, ⊎_elim, List, [], refl, rules, sym, ap, subst, arith, true≢false}
+use Rattle.std.proofs.lemmas.Grind.{common_steps}
+use Rattle.vol_sector.specs.Disk.{Image, Leaves}
+use Rattle.vol_log.specs.Batch.{HasContent, over}
 use Rattle.vol_log.specs.internal.Batch.{numbers}
 use Rattle.vol_log.specs.internal.Steps.{Logged}
 use Rattle.vol_log.specs.declared.staged.Staged.{Staged}
-use Rattle.vol_log.proofs.Moments.{only_along, leaves_quiet, leaves_then, at_err}
+use Rattle.vol_log.proofs.Moments.{leaves_any, leaves_then, both_then, at_ok, at_err}
 use Rattle.vol_log.proofs.Commit.{has_same}
-use Rattle.vol_log.proofs.Opening.{only_keeps, content_is, has_some, full}
+use Rattle.vol_log.proofs.Opening.{has_of, content_of, settled_of, is_device_err, not_damaged, ok_not_damaged, device_named, counts_device}
 use Rattle.vol_log.proofs.replay.replay.Goals as goal
 
-pub returns-then-is_empty-clause-right : goal.returns-then-is_empty-clause-right
-returns-then-is_empty-clause-right g c h =
+pub returns-in_err-is_right : goal.returns-in_err-is_right
+returns-in_err-is_right g c =
+    let r = c.from_residual.result in
+    let failed = c.from_residual.ensures.0 in
+    let device = is_device_err r c.from_residual.ensures.1 in
     let s = c.args.sectors in
     let a = g.D.Device.disk c.args.device.now in
-    let b = g.D.Device.disk c.sync.new.self in
-    let d = g.D.Device.disk c.read.new.self in
-    let h1 = c.sync.ensures.honest.0 h in
-    let h2 = c.read.ensures.honest.0 h1 in
-    let old = c.read_header.new.batch.items in
-    let header = c.in_ok-header.header in
-    let at_a : header ≡ a.seen 1 = c.in_ok-header.ensures.bytes h1 ∙ ap (λ (x : Image). x 1) (c.sync.ensures.seen h) in
-    let right : IsHeader s header (numbers old) = c.read_header.ensures.right c.if-not-read_header.false in
-    has_some s a.seen (numbers old) (subst (λ (x : List ℕ). IsHeader s x (numbers old)) at_a right)
+    let b = g.D.Device.disk c.read_log.new.device in
+    let e = c.read_log.ensures in
+    record {
+      settled = λ h. at_ok r _ failed;
+      content = λ m h has. at_ok r _ failed;
+      right = λ h. at_ok r _ failed;
+      damaged = λ h is m has. not_damaged r device is;
+      quiet = λ h is. e.crash h;
+      crash = λ m h has. leaves_any a b (λ x. HasContent s x m) (e.crash h);
+      kept_content = λ m h has. at_err r _ (subst (λ (x : Image). HasContent s x m) (sym (e.seen h)) has);
+      honest = e.honest;
+      size = e.size;
+      named = device_named r device;
+      failures = counts_device r (g.D.Device.failures c.args.device.now) (g.D.Device.failures c.args.device.now) (g.D.Device.failures c.read_log.new.device) device refl c.in_err-is_right.ensures.failures;
+      emptied = at_ok r _ failed;
+      room_kept = at_ok r _ failed;
+    }
 
-pub returns-clause-right : goal.returns-clause-right
-returns-clause-right g c h =
+pub returns-then-not-is_right : goal.returns-then-not-is_right
+returns-then-not-is_right g c =
     let s = c.args.sectors in
     let a = g.D.Device.disk c.args.device.now in
-    let b = g.D.Device.disk c.sync.new.self in
-    let d = g.D.Device.disk c.read.new.self in
-    let h1 = c.sync.ensures.honest.0 h in
-    let h2 = c.read.ensures.honest.0 h1 in
-    let old = c.read_header.new.batch.items in
-    let header = c.in_ok-header.header in
-    let at_a : header ≡ a.seen 1 = c.in_ok-header.ensures.bytes h1 ∙ ap (λ (x : Image). x 1) (c.sync.ensures.seen h) in
-    let right : IsHeader s header (numbers old) = c.read_header.ensures.right c.if-not-read_header.false in
-    has_some s a.seen (numbers old) (subst (λ (x : List ℕ). IsHeader s x (numbers old)) at_a right)
+    let b = g.D.Device.disk c.read_log.new.device in
+    let e = c.read_log.ensures in
+    record {
+      settled = λ h. tt;
+      content = λ m h has. tt;
+      right = λ h. tt;
+      damaged = λ h is m has. true≢false (sym (c.in_ok-is_right.ensures.only has.log h has.header).0 ∙ c.if-not-is_right.true);
+      quiet = λ h is. e.crash h;
+      crash = λ m h has. leaves_any a b (λ x. HasContent s x m) (e.crash h);
+      kept_content = λ m h has. subst (λ (x : Image). HasContent s x m) (sym (e.seen h)) has;
+      honest = e.honest;
+      size = e.size;
+      named = inl refl;
+      failures = c.in_ok-is_right.ensures.failures;
+      emptied = tt;
+      room_kept = tt;
+    }
 
-pub returns-clause-settled : goal.returns-clause-settled
-returns-clause-settled g c h =
+pub returns-then-is_empty : goal.returns-then-is_empty
+returns-then-is_empty g c =
     let s = c.args.sectors in
     let a = g.D.Device.disk c.args.device.now in
-    let b = g.D.Device.disk c.sync.new.self in
-    let d = g.D.Device.disk c.read.new.self in
-    let h1 = c.sync.ensures.honest.0 h in
-    let h2 = c.read.ensures.honest.0 h1 in
-    let old = c.read_header.new.batch.items in
-    let header = c.in_ok-header.header in
-    let at_a : header ≡ a.seen 1 = c.in_ok-header.ensures.bytes h1 ∙ ap (λ (x : Image). x 1) (c.sync.ensures.seen h) in
-    let right : IsHeader s header (numbers old) = c.read_header.ensures.right c.if-not-read_header.false in
-    let e = g.D.Device.disk c.read_images.new.device in
-    let f = g.D.Device.disk c.apply_batch.new.device in
-    let h3 = c.read_images.ensures.honest.0 h2 in
+    let b = g.D.Device.disk c.read_log.new.device in
+    let batch = c.read_log.new.batch.items in
+    let e = c.in_ok-is_right.ensures in
+    let yes = c.if-not-is_right.false in
+    let none : batch ≡ [] = grind (arith, common_steps) in
+    record {
+      settled = λ h. settled_of s b batch none (e.full h yes);
+      content = λ m h has k is.
+          ap (λ (l : List Staged). over l b.seen k) (sym none) ∙ content_of s a.seen m b batch (e.seen h) has (e.only has.log h has.header).1 (e.full h yes) k is;
+      right = λ h. let logs : Logged s batch b = e.full h yes in has_of s a.seen b.seen batch (e.seen h) logs.header;
+      damaged = λ h is m has. ok_not_damaged tt _ refl is;
+      quiet = λ h is. e.crash h;
+      crash = λ m h has. leaves_any a b (λ x. HasContent s x m) (e.crash h);
+      kept_content = λ m h has. tt;
+      honest = e.honest;
+      size = e.size;
+      named = tt;
+      failures = e.failures;
+      emptied = none;
+      room_kept = e.room_kept;
+    }
+
+pub returns-in_err-apply_batch : goal.returns-in_err-apply_batch
+returns-in_err-apply_batch g c =
+    let r = c.from_residual-in_err-apply_batch.result in
+    let failed = c.from_residual-in_err-apply_batch.ensures.0 in
+    let device = is_device_err r c.from_residual-in_err-apply_batch.ensures.1 in
+    let s = c.args.sectors in
+    let a = g.D.Device.disk c.args.device.now in
+    let b = g.D.Device.disk c.read_log.new.device in
+    let d = g.D.Device.disk c.apply_batch.new.device in
     let now = c.deref.result.now in
-    let d_is : d.seen ≡ a.seen = c.read.ensures.seen h1 ∙ c.sync.ensures.seen h in
-    let e_is : e.seen ≡ a.seen = c.read_images.ensures.seen h2 ∙ d_is in
-    let whole : now ≡ c.read_images.new.batch = c.deref.ensures.value ∙ with_items_is c.read_header.new.batch c.read_images.new.batch (omega (arith, c.read_images.auto.batch, c.deref_mut.ensures.len)) in
-    let read : now ≡ logged (numbers old) 2 d.seen = whole ∙ c.in_ok-read_images.ensures.read h2 ∙ ap (λ (l : List Staged). logged (numbers l) 2 d.seen) c.deref_mut.ensures.value in
-    let same : numbers now ≡ numbers old = ap numbers whole ∙ c.read_images.ensures.sectors ∙ ap numbers c.deref_mut.ensures.value in
-    let only_b : Only b.seen b.may_leave = only_along a.seen b.seen b.may_leave (c.sync.ensures.seen h) (c.in_ok-sync.ensures.durable h) in
-    let only_d : Only d.seen d.may_leave = only_keeps b d only_b (c.read.ensures.crash h1) (c.read.ensures.seen h1) in
-    let only_e : Only e.seen e.may_leave = only_keeps d e only_d (c.read_images.ensures.crash h2) (c.read_images.ensures.seen h2) in
-    let logs : Logged s now e = full s e header now old only_e right (at_a ∙ ap (λ (x : Image). x 1) (sym e_is)) same (read ∙ ap (λ (x : Image). logged (numbers old) 2 x) (d_is ∙ sym e_is)) in
-    (c.in_ok-apply_batch.ensures.settled s h3 logs).0
+    let e = c.in_ok-is_right.ensures in
+    let f = c.apply_batch.ensures in
+    let logs = λ (h : g.D.Device.honest c.args.device.now). subst (λ (l : List Staged). Logged s l b) (sym c.deref.ensures.value) (e.full h c.if-not-is_right.false) in
+    let content = λ (m : Image) (h : g.D.Device.honest c.args.device.now) (has : HasContent s a.seen m). content_of s a.seen m b now (e.seen h) has (ap numbers c.deref.ensures.value ∙ (e.only has.log h has.header).1) (logs h) in
+    record {
+      settled = λ h. at_ok r _ failed;
+      content = λ m h has. at_ok r _ failed;
+      right = λ h. at_ok r _ failed;
+      damaged = λ h is m has. not_damaged r device is;
+      quiet = λ h is. not_damaged r device is;
+      crash = λ m h has.
+          leaves_then a b d (λ x. ⊥) (λ x. HasContent s x (over now b.seen)) (λ x. HasContent s x m) (e.crash h) (f.crash s (e.honest.0 h) (logs h))
+          (λ x none. absurd none) (λ x p. has_same s x (over now b.seen) m (content m h has) p);
+      kept_content = λ m h has.
+          let h1 = e.honest.0 h in
+          let logs1 : Logged s now b = logs h in
+          let steps : Leaves b d (λ x. HasContent s x (over now b.seen)) = f.crash s h1 logs1 in
+          at_err r _ (⊎_elim (λ was. subst (λ (x : Image). HasContent s x m) (sym (logs1.durable d.seen was ∙ e.seen h)) has) (λ p. has_same s d.seen (over now b.seen) m (content m h has) p)
+          (steps.now d.seen (g.met.D.Device.may_stay c.apply_batch.new.device (f.honest.0 h1))));
+      honest = both_then e.honest f.honest;
+      size = f.size ∙ e.size;
+      named = device_named r device;
+      failures = counts_device r (g.D.Device.failures c.args.device.now) (g.D.Device.failures c.read_log.new.device) (g.D.Device.failures c.apply_batch.new.device) device e.failures c.in_err-apply_batch.ensures.failures;
+      emptied = at_ok r _ failed;
+      room_kept = at_ok r _ failed;
+    }
 
-pub returns-clause-content : goal.returns-clause-content
-returns-clause-content g c m h has =
+pub returns : goal.returns
+returns g c =
     let s = c.args.sectors in
     let a = g.D.Device.disk c.args.device.now in
-    let b = g.D.Device.disk c.sync.new.self in
-    let d = g.D.Device.disk c.read.new.self in
-    let h1 = c.sync.ensures.honest.0 h in
-    let h2 = c.read.ensures.honest.0 h1 in
-    let old = c.read_header.new.batch.items in
-    let header = c.in_ok-header.header in
-    let at_a : header ≡ a.seen 1 = c.in_ok-header.ensures.bytes h1 ∙ ap (λ (x : Image). x 1) (c.sync.ensures.seen h) in
-    let right : IsHeader s header (numbers old) = c.read_header.ensures.right c.if-not-read_header.false in
-    let e = g.D.Device.disk c.read_images.new.device in
-    let f = g.D.Device.disk c.apply_batch.new.device in
-    let h3 = c.read_images.ensures.honest.0 h2 in
+    let b = g.D.Device.disk c.read_log.new.device in
+    let d = g.D.Device.disk c.apply_batch.new.device in
     let now = c.deref.result.now in
-    let d_is : d.seen ≡ a.seen = c.read.ensures.seen h1 ∙ c.sync.ensures.seen h in
-    let e_is : e.seen ≡ a.seen = c.read_images.ensures.seen h2 ∙ d_is in
-    let whole : now ≡ c.read_images.new.batch = c.deref.ensures.value ∙ with_items_is c.read_header.new.batch c.read_images.new.batch (omega (arith, c.read_images.auto.batch, c.deref_mut.ensures.len)) in
-    let read : now ≡ logged (numbers old) 2 d.seen = whole ∙ c.in_ok-read_images.ensures.read h2 ∙ ap (λ (l : List Staged). logged (numbers l) 2 d.seen) c.deref_mut.ensures.value in
-    let same : numbers now ≡ numbers old = ap numbers whole ∙ c.read_images.ensures.sectors ∙ ap numbers c.deref_mut.ensures.value in
-    let only_b : Only b.seen b.may_leave = only_along a.seen b.seen b.may_leave (c.sync.ensures.seen h) (c.in_ok-sync.ensures.durable h) in
-    let only_d : Only d.seen d.may_leave = only_keeps b d only_b (c.read.ensures.crash h1) (c.read.ensures.seen h1) in
-    let only_e : Only e.seen e.may_leave = only_keeps d e only_d (c.read_images.ensures.crash h2) (c.read_images.ensures.seen h2) in
-    let logs : Logged s now e = full s e header now old only_e right (at_a ∙ ap (λ (x : Image). x 1) (sym e_is)) same (read ∙ ap (λ (x : Image). logged (numbers old) 2 x) (d_is ∙ sym e_is)) in
-    let named : numbers old ≡ has.log = (c.read_header.ensures.only has.log (subst (λ (x : List ℕ). IsHeader s x has.log) (sym at_a) has.header)).1 in
-    let content : SameContent (over now e.seen) m = content_is s a.seen e.seen m now e_is has (read ∙ (λ i. logged (named i) 2 (d_is i))) in
-    λ k is. (c.in_ok-apply_batch.ensures.settled s h3 logs).1 k is ∙ content k is
-
-pub returns-in_err-apply_batch-clause-crash : goal.returns-in_err-apply_batch-clause-crash
-returns-in_err-apply_batch-clause-crash g c m h has =
-    let s = c.args.sectors in
-    let a = g.D.Device.disk c.args.device.now in
-    let b = g.D.Device.disk c.sync.new.self in
-    let d = g.D.Device.disk c.read.new.self in
-    let h1 = c.sync.ensures.honest.0 h in
-    let h2 = c.read.ensures.honest.0 h1 in
-    let old = c.read_header.new.batch.items in
-    let header = c.in_ok-header.header in
-    let at_a : header ≡ a.seen 1 = c.in_ok-header.ensures.bytes h1 ∙ ap (λ (x : Image). x 1) (c.sync.ensures.seen h) in
-    let right : IsHeader s header (numbers old) = c.read_header.ensures.right c.if-not-read_header.false in
-    let e = g.D.Device.disk c.read_images.new.device in
-    let f = g.D.Device.disk c.apply_batch.new.device in
-    let h3 = c.read_images.ensures.honest.0 h2 in
-    let now = c.deref.result.now in
-    let d_is : d.seen ≡ a.seen = c.read.ensures.seen h1 ∙ c.sync.ensures.seen h in
-    let e_is : e.seen ≡ a.seen = c.read_images.ensures.seen h2 ∙ d_is in
-    let whole : now ≡ c.read_images.new.batch = c.deref.ensures.value ∙ with_items_is c.read_header.new.batch c.read_images.new.batch (omega (arith, c.read_images.auto.batch, c.deref_mut.ensures.len)) in
-    let read : now ≡ logged (numbers old) 2 d.seen = whole ∙ c.in_ok-read_images.ensures.read h2 ∙ ap (λ (l : List Staged). logged (numbers l) 2 d.seen) c.deref_mut.ensures.value in
-    let same : numbers now ≡ numbers old = ap numbers whole ∙ c.read_images.ensures.sectors ∙ ap numbers c.deref_mut.ensures.value in
-    let only_b : Only b.seen b.may_leave = only_along a.seen b.seen b.may_leave (c.sync.ensures.seen h) (c.in_ok-sync.ensures.durable h) in
-    let only_d : Only d.seen d.may_leave = only_keeps b d only_b (c.read.ensures.crash h1) (c.read.ensures.seen h1) in
-    let only_e : Only e.seen e.may_leave = only_keeps d e only_d (c.read_images.ensures.crash h2) (c.read_images.ensures.seen h2) in
-    let logs : Logged s now e = full s e header now old only_e right (at_a ∙ ap (λ (x : Image). x 1) (sym e_is)) same (read ∙ ap (λ (x : Image). logged (numbers old) 2 x) (d_is ∙ sym e_is)) in
-    let named : numbers old ≡ has.log = (c.read_header.ensures.only has.log (subst (λ (x : List ℕ). IsHeader s x has.log) (sym at_a) has.header)).1 in
-    let content : SameContent (over now e.seen) m = content_is s a.seen e.seen m now e_is has (read ∙ (λ i. logged (named i) 2 (d_is i))) in
-    let quiet_b : Leaves a b (λ x. ⊥) = c.sync.ensures.crash h in
-    let quiet_d : Leaves a d (λ x. ⊥) = leaves_quiet a b d (λ x. ⊥) quiet_b (c.read.ensures.crash h1) in
-    let quiet_e : Leaves a e (λ x. ⊥) = leaves_quiet a d e (λ x. ⊥) quiet_d (c.read_images.ensures.crash h2) in
-    leaves_then a e f (λ x. ⊥) (λ x. HasContent s x (over now e.seen)) (λ x. HasContent s x m) quiet_e (c.apply_batch.ensures.crash s h3 logs)
-    (λ x none. absurd none) (λ x p. has_same s x (over now e.seen) m content p)
-
-pub returns-in_err-apply_batch-clause-kept_content : goal.returns-in_err-apply_batch-clause-kept_content
-returns-in_err-apply_batch-clause-kept_content g c m h has =
-    let s = c.args.sectors in
-    let a = g.D.Device.disk c.args.device.now in
-    let b = g.D.Device.disk c.sync.new.self in
-    let d = g.D.Device.disk c.read.new.self in
-    let h1 = c.sync.ensures.honest.0 h in
-    let h2 = c.read.ensures.honest.0 h1 in
-    let old = c.read_header.new.batch.items in
-    let header = c.in_ok-header.header in
-    let at_a : header ≡ a.seen 1 = c.in_ok-header.ensures.bytes h1 ∙ ap (λ (x : Image). x 1) (c.sync.ensures.seen h) in
-    let right : IsHeader s header (numbers old) = c.read_header.ensures.right c.if-not-read_header.false in
-    let e = g.D.Device.disk c.read_images.new.device in
-    let f = g.D.Device.disk c.apply_batch.new.device in
-    let h3 = c.read_images.ensures.honest.0 h2 in
-    let now = c.deref.result.now in
-    let d_is : d.seen ≡ a.seen = c.read.ensures.seen h1 ∙ c.sync.ensures.seen h in
-    let e_is : e.seen ≡ a.seen = c.read_images.ensures.seen h2 ∙ d_is in
-    let whole : now ≡ c.read_images.new.batch = c.deref.ensures.value ∙ with_items_is c.read_header.new.batch c.read_images.new.batch (omega (arith, c.read_images.auto.batch, c.deref_mut.ensures.len)) in
-    let read : now ≡ logged (numbers old) 2 d.seen = whole ∙ c.in_ok-read_images.ensures.read h2 ∙ ap (λ (l : List Staged). logged (numbers l) 2 d.seen) c.deref_mut.ensures.value in
-    let same : numbers now ≡ numbers old = ap numbers whole ∙ c.read_images.ensures.sectors ∙ ap numbers c.deref_mut.ensures.value in
-    let only_b : Only b.seen b.may_leave = only_along a.seen b.seen b.may_leave (c.sync.ensures.seen h) (c.in_ok-sync.ensures.durable h) in
-    let only_d : Only d.seen d.may_leave = only_keeps b d only_b (c.read.ensures.crash h1) (c.read.ensures.seen h1) in
-    let only_e : Only e.seen e.may_leave = only_keeps d e only_d (c.read_images.ensures.crash h2) (c.read_images.ensures.seen h2) in
-    let logs : Logged s now e = full s e header now old only_e right (at_a ∙ ap (λ (x : Image). x 1) (sym e_is)) same (read ∙ ap (λ (x : Image). logged (numbers old) 2 x) (d_is ∙ sym e_is)) in
-    let named : numbers old ≡ has.log = (c.read_header.ensures.only has.log (subst (λ (x : List ℕ). IsHeader s x has.log) (sym at_a) has.header)).1 in
-    let content : SameContent (over now e.seen) m = content_is s a.seen e.seen m now e_is has (read ∙ (λ i. logged (named i) 2 (d_is i))) in
-    let h4 = c.apply_batch.ensures.honest.0 h3 in
-    let steps : Leaves e f (λ x. HasContent s x (over now e.seen)) = c.apply_batch.ensures.crash s h3 logs in
-    at_err c.from_residual-in_err-apply_batch.result _ (⊎_elim (λ was. subst (λ (x : Image). HasContent s x m) (sym (only_e f.seen was)) (subst (λ (x : Image). HasContent s x m) (sym e_is) has)) (λ p. has_same s f.seen (over now e.seen) m content p)
-    (steps.now f.seen (g.met.D.Device.may_stay c.apply_batch.new.device h4)))
-
-pub returns-clause-crash : goal.returns-clause-crash
-returns-clause-crash g c m h has =
-    let s = c.args.sectors in
-    let a = g.D.Device.disk c.args.device.now in
-    let b = g.D.Device.disk c.sync.new.self in
-    let d = g.D.Device.disk c.read.new.self in
-    let h1 = c.sync.ensures.honest.0 h in
-    let h2 = c.read.ensures.honest.0 h1 in
-    let old = c.read_header.new.batch.items in
-    let header = c.in_ok-header.header in
-    let at_a : header ≡ a.seen 1 = c.in_ok-header.ensures.bytes h1 ∙ ap (λ (x : Image). x 1) (c.sync.ensures.seen h) in
-    let right : IsHeader s header (numbers old) = c.read_header.ensures.right c.if-not-read_header.false in
-    let e = g.D.Device.disk c.read_images.new.device in
-    let f = g.D.Device.disk c.apply_batch.new.device in
-    let h3 = c.read_images.ensures.honest.0 h2 in
-    let now = c.deref.result.now in
-    let d_is : d.seen ≡ a.seen = c.read.ensures.seen h1 ∙ c.sync.ensures.seen h in
-    let e_is : e.seen ≡ a.seen = c.read_images.ensures.seen h2 ∙ d_is in
-    let whole : now ≡ c.read_images.new.batch = c.deref.ensures.value ∙ with_items_is c.read_header.new.batch c.read_images.new.batch (omega (arith, c.read_images.auto.batch, c.deref_mut.ensures.len)) in
-    let read : now ≡ logged (numbers old) 2 d.seen = whole ∙ c.in_ok-read_images.ensures.read h2 ∙ ap (λ (l : List Staged). logged (numbers l) 2 d.seen) c.deref_mut.ensures.value in
-    let same : numbers now ≡ numbers old = ap numbers whole ∙ c.read_images.ensures.sectors ∙ ap numbers c.deref_mut.ensures.value in
-    let only_b : Only b.seen b.may_leave = only_along a.seen b.seen b.may_leave (c.sync.ensures.seen h) (c.in_ok-sync.ensures.durable h) in
-    let only_d : Only d.seen d.may_leave = only_keeps b d only_b (c.read.ensures.crash h1) (c.read.ensures.seen h1) in
-    let only_e : Only e.seen e.may_leave = only_keeps d e only_d (c.read_images.ensures.crash h2) (c.read_images.ensures.seen h2) in
-    let logs : Logged s now e = full s e header now old only_e right (at_a ∙ ap (λ (x : Image). x 1) (sym e_is)) same (read ∙ ap (λ (x : Image). logged (numbers old) 2 x) (d_is ∙ sym e_is)) in
-    let named : numbers old ≡ has.log = (c.read_header.ensures.only has.log (subst (λ (x : List ℕ). IsHeader s x has.log) (sym at_a) has.header)).1 in
-    let content : SameContent (over now e.seen) m = content_is s a.seen e.seen m now e_is has (read ∙ (λ i. logged (named i) 2 (d_is i))) in
-    let quiet_b : Leaves a b (λ x. ⊥) = c.sync.ensures.crash h in
-    let quiet_d : Leaves a d (λ x. ⊥) = leaves_quiet a b d (λ x. ⊥) quiet_b (c.read.ensures.crash h1) in
-    let quiet_e : Leaves a e (λ x. ⊥) = leaves_quiet a d e (λ x. ⊥) quiet_d (c.read_images.ensures.crash h2) in
-    leaves_then a e f (λ x. ⊥) (λ x. HasContent s x (over now e.seen)) (λ x. HasContent s x m) quiet_e (c.apply_batch.ensures.crash s h3 logs)
-    (λ x none. absurd none) (λ x p. has_same s x (over now e.seen) m content p)
+    let e = c.in_ok-is_right.ensures in
+    let f = c.apply_batch.ensures in
+    let logs = λ (h : g.D.Device.honest c.args.device.now). subst (λ (l : List Staged). Logged s l b) (sym c.deref.ensures.value) (e.full h c.if-not-is_right.false) in
+    let content = λ (m : Image) (h : g.D.Device.honest c.args.device.now) (has : HasContent s a.seen m). content_of s a.seen m b now (e.seen h) has (ap numbers c.deref.ensures.value ∙ (e.only has.log h has.header).1) (logs h) in
+    record {
+      settled = λ h. (c.in_ok-apply_batch.ensures.settled s (e.honest.0 h) (logs h)).0;
+      content = λ m h has k is. (c.in_ok-apply_batch.ensures.settled s (e.honest.0 h) (logs h)).1 k is ∙ content m h has k is;
+      right = λ h. let logs1 : Logged s now b = logs h in has_of s a.seen b.seen now (e.seen h) logs1.header;
+      damaged = λ h is m has. ok_not_damaged tt _ refl is;
+      quiet = λ h is. ok_not_damaged tt _ refl is;
+      crash = λ m h has.
+          leaves_then a b d (λ x. ⊥) (λ x. HasContent s x (over now b.seen)) (λ x. HasContent s x m) (e.crash h) (f.crash s (e.honest.0 h) (logs h))
+          (λ x none. absurd none) (λ x p. has_same s x (over now b.seen) m (content m h has) p);
+      kept_content = λ m h has. tt;
+      honest = both_then e.honest f.honest;
+      size = f.size ∙ e.size;
+      named = tt;
+      failures = c.in_ok-apply_batch.ensures.failures ∙ e.failures;
+      emptied = search rules;
+      room_kept = search rules;
+    }

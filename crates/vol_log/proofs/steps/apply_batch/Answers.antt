@@ -1,9 +1,9 @@
-use Rattle.std.proofs.Common.{◌≡◌, ◌∙◌, ap, subst, sym, []}
-use Rattle.vol_sector.specs.Disk.{Image, Wrote, Only, Leaves}
+use Rattle.std.proofs.Common.{◌≡◌, ◌∙◌, ap, subst, sym, [], refl, is_err}
+use Rattle.vol_sector.specs.Disk.{Image, Wrote, Only, Leaves, counted}
 use Rattle.vol_log.specs.Header.{IsHeader}
 use Rattle.vol_log.specs.Batch.{over, SameContent, HasContent, Settled}
 use Rattle.vol_log.specs.internal.Steps.{Under}
-use Rattle.vol_log.proofs.Moments.{leaves_from, leaves_quiet, leaves_on, only_along, on_ok}
+use Rattle.vol_log.proofs.Moments.{leaves_from, leaves_quiet, leaves_on, only_along, on_ok, both_then, counts_one, at_ok}
 use Rattle.vol_log.proofs.Commit.{install_keeps, emptied, emptied_done, under_same, under_header}
 use Rattle.vol_log.proofs.steps.apply_batch.Goals as goal
 
@@ -114,3 +114,48 @@ returns-clause-under g c h =
     subst (λ (x : Image). SameContent (over batch x) (over batch a.seen)) (sym (c.sync-2.ensures.seen h3))
     (under_header batch c.header_image.result a.seen (g.D.Device.disk c.sync.new.self).seen (g.D.Device.disk c.write.new.self).seen
     (ap (over batch) (c.sync.ensures.seen h1) ∙ c.install.ensures.under h) (c.write.ensures.seen h2))
+
+pub returns-in_err-install-clause-settled : goal.returns-in_err-install-clause-settled
+returns-in_err-install-clause-settled g c s h full = at_ok c.from_residual.result _ c.from_residual.ensures.0
+
+pub returns-in_err-install-clause-honest : goal.returns-in_err-install-clause-honest
+returns-in_err-install-clause-honest g c = c.install.ensures.honest
+
+pub returns-in_err-install-clause-size : goal.returns-in_err-install-clause-size
+returns-in_err-install-clause-size g c = c.install.ensures.size
+
+pub returns-in_err-install-clause-failures : goal.returns-in_err-install-clause-failures
+returns-in_err-install-clause-failures g c = counts_one c.from_residual.result (g.D.Device.failures c.args.device.now) (g.D.Device.failures c.args.device.now) (g.D.Device.failures c.install.new.device) c.from_residual.ensures.0 refl c.in_err-install.ensures.failures
+
+pub returns-in_err-sync-clause-settled : goal.returns-in_err-sync-clause-settled
+returns-in_err-sync-clause-settled g c s h full = at_ok c.from_residual-in_err-sync.result _ c.from_residual-in_err-sync.ensures.0
+
+pub returns-in_err-sync-clause-honest : goal.returns-in_err-sync-clause-honest
+returns-in_err-sync-clause-honest g c = both_then c.install.ensures.honest c.sync.ensures.honest
+
+pub returns-in_err-sync-clause-size : goal.returns-in_err-sync-clause-size
+returns-in_err-sync-clause-size g c = c.sync.ensures.size ∙ c.install.ensures.size
+
+pub returns-in_err-sync-clause-failures : goal.returns-in_err-sync-clause-failures
+returns-in_err-sync-clause-failures g c = counts_one c.from_residual-in_err-sync.result (g.D.Device.failures c.args.device.now) (g.D.Device.failures c.install.new.device) (g.D.Device.failures c.sync.new.self) c.from_residual-in_err-sync.ensures.0 c.in_ok-install.ensures.failures c.in_err-sync.ensures.failures
+
+pub returns-in_err-write-clause-settled : goal.returns-in_err-write-clause-settled
+returns-in_err-write-clause-settled g c s h full = at_ok c.from_residual-in_err-write.result _ c.from_residual-in_err-write.ensures.0
+
+pub returns-in_err-write-clause-honest : goal.returns-in_err-write-clause-honest
+returns-in_err-write-clause-honest g c = both_then c.install.ensures.honest (both_then c.sync.ensures.honest c.write.ensures.honest)
+
+pub returns-in_err-write-clause-size : goal.returns-in_err-write-clause-size
+returns-in_err-write-clause-size g c = c.write.ensures.size ∙ c.sync.ensures.size ∙ c.install.ensures.size
+
+pub returns-in_err-write-clause-failures : goal.returns-in_err-write-clause-failures
+returns-in_err-write-clause-failures g c = counts_one c.from_residual-in_err-write.result (g.D.Device.failures c.args.device.now) (g.D.Device.failures c.sync.new.self) (g.D.Device.failures c.write.new.self) c.from_residual-in_err-write.ensures.0 (c.in_ok-sync.ensures.failures ∙ c.in_ok-install.ensures.failures) c.in_err-write.ensures.failures
+
+pub returns-clause-honest : goal.returns-clause-honest
+returns-clause-honest g c = both_then c.install.ensures.honest (both_then c.sync.ensures.honest (both_then c.write.ensures.honest c.sync-2.ensures.honest))
+
+pub returns-clause-size : goal.returns-clause-size
+returns-clause-size g c = c.sync-2.ensures.size ∙ c.write.ensures.size ∙ c.sync.ensures.size ∙ c.install.ensures.size
+
+pub returns-clause-failures : goal.returns-clause-failures
+returns-clause-failures g c = c.sync-2.ensures.failures ∙ ap (counted (is_err c.sync-2.result)) (c.in_ok-write.ensures.failures ∙ c.in_ok-sync.ensures.failures ∙ c.in_ok-install.ensures.failures)

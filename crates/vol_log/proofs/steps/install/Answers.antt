@@ -1,9 +1,9 @@
-use Rattle.std.proofs.Common.{◌≡◌, ◌<◌, ◌≤◌, ◌∙◌, sym, length, get_or, arith, rules}
+use Rattle.std.proofs.Common.{◌≡◌, ◌<◌, ◌≤◌, ◌∙◌, sym, length, get_or, arith}
 use Rattle.std.proofs.lemmas.List.{get_or-map, length-map}
 use Rattle.vol_log.specs.internal.Steps.{Under}
 use Rattle.vol_log.specs.internal.Batch.{numbers}
 use Rattle.vol_log.specs.declared.staged.Staged.{Staged}
-use Rattle.vol_log.proofs.Moments.{leaves_step}
+use Rattle.vol_log.proofs.Moments.{leaves_step, both_then, counts_one, at_ok}
 use Rattle.vol_log.proofs.Images.{blank, Placed, wrote_under, under_joins, placed_more, over_placed}
 use Rattle.vol_log.proofs.steps.install.Goals as goal
 
@@ -42,9 +42,9 @@ loop-staged-preserved g c =
       placed = λ h. placed_more batch i _ _ (g.D.Device.size c.args.device.now) lt c.requires (w (so_far.honest.0 h)) (so_far.placed h);
       under = λ h. under_joins batch _ _ _ (so_far.under h) (wrote_under batch i lt _ _ (e.seen (so_far.honest.0 h)));
       crash = λ h. leaves_step _ _ _ (Under batch) _ (wrote_under batch i lt) (under_joins batch) (so_far.crash h) (e.crash (so_far.honest.0 h));
-      honest = search rules;
-      size = search rules;
-      failures = search rules;
+      honest = both_then so_far.honest e.honest;
+      size = e.size ∙ so_far.size;
+      failures = c.in_ok-write.ensures.failures ∙ so_far.failures;
     }
 
 pub returns-clause-installed : goal.returns-clause-installed
@@ -54,3 +54,15 @@ returns-clause-installed g c h =
     let so_far = c.loop-staged.invariant in
     let placed : Placed batch (length batch) (g.D.Device.disk c.loop-staged.device).seen = λ j lt. so_far.placed h j (omega arith) in
     sym (over_placed batch _ placed) ∙ so_far.under h
+
+pub returns-in_err-write-clause-installed : goal.returns-in_err-write-clause-installed
+returns-in_err-write-clause-installed g c h = at_ok c.from_residual.result _ c.from_residual.ensures.0
+
+pub returns-in_err-write-clause-honest : goal.returns-in_err-write-clause-honest
+returns-in_err-write-clause-honest g c = both_then c.loop-staged.invariant.honest c.write.ensures.honest
+
+pub returns-in_err-write-clause-size : goal.returns-in_err-write-clause-size
+returns-in_err-write-clause-size g c = c.write.ensures.size ∙ c.loop-staged.invariant.size
+
+pub returns-in_err-write-clause-failures : goal.returns-in_err-write-clause-failures
+returns-in_err-write-clause-failures g c = counts_one c.from_residual.result (g.D.Device.failures c.args.device.now) (g.D.Device.failures c.loop-staged.device) (g.D.Device.failures c.write.new.self) c.from_residual.ensures.0 c.loop-staged.invariant.failures c.in_err-write.ensures.failures

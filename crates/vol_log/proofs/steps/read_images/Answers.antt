@@ -1,5 +1,5 @@
-use Rattle.std.proofs.Common.{◌∙◌, ◌<◌, ◌+◌, ap, length, arith, rules}
-use Rattle.vol_log.proofs.Moments.{leaves_quiet}
+use Rattle.std.proofs.Common.{◌∙◌, ◌<◌, ◌+◌, ap, length, arith}
+use Rattle.vol_log.proofs.Moments.{leaves_quiet, both_then, counts_one, at_ok}
 use Rattle.vol_log.proofs.Read.{numbers_set, read_more, all_read}
 use Rattle.vol_log.proofs.steps.read_images.Goals as goal
 
@@ -18,12 +18,31 @@ loop-i-preserved g c =
       sectors = numbers_set now i _ lt ∙ so_far.sectors;
       seen = λ h. e.seen (so_far.honest.0 h) ∙ so_far.seen h;
       crash = λ h. leaves_quiet a b d _ (so_far.crash h) (e.crash (so_far.honest.0 h));
-      honest = search rules;
-      size = search rules;
-      failures = search rules;
+      honest = both_then so_far.honest e.honest;
+      size = e.size ∙ so_far.size;
+      failures = c.in_ok-staged.ensures.failures ∙ so_far.failures;
     }
 
 pub returns-clause-read : goal.returns-clause-read
 returns-clause-read g c h =
     let now = c.loop-i.batch in
     all_read now c.args.batch.now (g.D.Device.disk c.args.device.now).seen c.loop-i.invariant.sectors (λ j lt. c.loop-i.invariant.read h j (omega arith))
+
+pub returns-in_err-staged-clause-read : goal.returns-in_err-staged-clause-read
+returns-in_err-staged-clause-read g c h = at_ok c.from_residual.result _ c.from_residual.ensures.0
+
+pub returns-in_err-staged-clause-honest : goal.returns-in_err-staged-clause-honest
+returns-in_err-staged-clause-honest g c = both_then c.loop-i.invariant.honest c.read.ensures.honest
+
+pub returns-in_err-staged-clause-size : goal.returns-in_err-staged-clause-size
+returns-in_err-staged-clause-size g c = c.read.ensures.size ∙ c.loop-i.invariant.size
+
+pub returns-in_err-staged-clause-failures : goal.returns-in_err-staged-clause-failures
+returns-in_err-staged-clause-failures g c = counts_one c.from_residual.result (g.D.Device.failures c.args.device.now) (g.D.Device.failures c.loop-i.device) (g.D.Device.failures c.read.new.self) c.from_residual.ensures.0 c.loop-i.invariant.failures c.in_err-staged.ensures.failures
+
+pub returns-in_err-staged-clause-seen : goal.returns-in_err-staged-clause-seen
+returns-in_err-staged-clause-seen g c h = c.read.ensures.seen (c.loop-i.invariant.honest.0 h) ∙ c.loop-i.invariant.seen h
+
+pub returns-in_err-staged-clause-crash : goal.returns-in_err-staged-clause-crash
+returns-in_err-staged-clause-crash g c h =
+    leaves_quiet (g.D.Device.disk c.args.device.now) (g.D.Device.disk c.loop-i.device) (g.D.Device.disk c.read.new.self) (λ m. ⊥) (c.loop-i.invariant.crash h) (c.read.ensures.crash (c.loop-i.invariant.honest.0 h))
