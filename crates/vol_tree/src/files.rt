@@ -19,28 +19,8 @@ impl<D: Device> Parts<D> {
     ghost use Rattle.vol_tree.specs.Parts.{opened};
     ghost use Rattle.vol_tree.specs.internal.Parts.{IsOpen};
 
-    /// Writes bytes into a file. Of no bytes nothing changes.
-    pub fn write(&mut self, file: u32, offset: u64, bytes: &Source<'_>) -> Result<(), Errno>
-        requires is_open { IsOpen self.old }
-        requires first { 1 ≤ file }
-        requires last { file ≤ self.old.numbers.slots }
-        requires piece { length bytes.now ≤ 16384 }
-        requires used { D.honest (device_of self.old.log)
-            → IsTrue (is_file_at (opened self.old).tree file) }
-        ensures { Changes (with_unit (written (geometry self.old.numbers) (opened self.old).tree
-            file offset bytes.now)) self.old self.new result }
-    {
-        if self.log.failed() {
-            return Err(Errno::Io);
-        }
-        if bytes.is_empty() {
-            return Ok(());
-        }
-        self.write_some(file, offset, bytes)
-    }
-
     /// Writes some bytes into a file.
-    fn write_some(&mut self, file: u32, offset: u64, bytes: &Source<'_>) -> Result<(), Errno>
+    pub fn write(&mut self, file: u32, offset: u64, bytes: &Source<'_>) -> Result<(), Errno>
         requires is_open { IsOpen self.old }
         requires first { 1 ≤ file }
         requires last { file ≤ self.old.numbers.slots }

@@ -276,7 +276,7 @@ impl<D: Device> Volume<D> {
             (ReflectsOr (D.disk self.old.device) self.old.tree) }
         ensures kept { Keeps D.honest D.size D.failures self.old self.new (is_io result) }
     {
-        self.parts.write(file, offset, &Source::of(bytes))
+        self.write_from(file, offset, &Source::of(bytes))
     }
 
     /// Writes at most 16,384 bytes, which stand in one slice or in several, into a file, as `write`
@@ -294,6 +294,12 @@ impl<D: Device> Volume<D> {
             (ReflectsOr (D.disk self.old.device) self.old.tree) }
         ensures kept { Keeps D.honest D.size D.failures self.old self.new (is_io result) }
     {
+        if self.parts.log.failed() {
+            return Err(Errno::Io);
+        }
+        if bytes.is_empty() {
+            return Ok(());
+        }
         self.parts.write(file, offset, bytes)
     }
 

@@ -20,7 +20,7 @@ use Rattle.vol_tree.specs.Space.{space}
 use Rattle.vol_tree.specs.Tree.{Tree}
 use Rattle.vol_body.proofs.Rights.{not_both}
 use Rattle.vol_inode.specs.Entry.{name_of}
-use Rattle.vol_tree.proofs.parts.Parts.write_some.Goals as goal
+use Rattle.vol_tree.proofs.parts.Parts.write.Goals as goal
 use Rattle.vol_log.specs.declared.layout.TheConstants.{FIRST_AFTER_LOG}
 
 pub returns-in_default : goal.returns-in_default
