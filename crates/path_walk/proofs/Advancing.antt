@@ -7,7 +7,7 @@ use Rattle.vol_sector.specs.Disk.{Disk, counted}
 use Rattle.vol_log.proofs.Moments.{leaves_same}
 use Rattle.vol_tree.specs.declared.errno.Errno.{Errno}
 use Rattle.vol_tree.specs.declared.errno.Errno.TheVariants as errno
-use Rattle.vol_tree.specs.Tree.{Tree, Name, Entry, entry, lookup, same_name}
+use Rattle.vol_tree.specs.Tree.{Tree, Name, entry, lookup, same_name}
 use Rattle.vol_tree.specs.Calls.{directory_at}
 use Rattle.vol_tree.specs.Opened.{Opened, IsSerial, is_io}
 use Rattle.vol_tree.proofs.Taking.{passed_io}
@@ -99,3 +99,11 @@ module _ (T : Tree) (here : ℕ) (gone : Option (Bor (List ℕ))) (part : Name) 
       → (ends T here (now_of gone) (counting part names) ≡ Err e) ⊎ (e ≡ errno.Io)
   goes_wrong is counted e why names = ⊎_elim (λ turns. inl (begins is counted names
       ∙ stops (directory_at T here) (same_name part dots) (parent_at T here) (lookup T here part) e (λ child. stepped T child names) (missing here part names) turns)) (λ io. inr io) why
+
+-- ---- one component
+
+pub from_a_file : (T : Tree) (here : ℕ) (part : Name) → directory_at T here ≡ false → turned T here part ≡ Err errno.NotDirectory
+from_a_file T here part file = cond-true _ _ _ (ap not file)
+
+pub turns_up : (T : Tree) (here : ℕ) (part : Name) (up : ℕ) → directory_at T here ≡ true → same_name part dots ≡ true → up ≡ parent_at T here → turned T here part ≡ Ok (Some up)
+turns_up T here part up directory is_up is = cond-false _ _ _ (ap not directory) ∙ (cond-true _ _ _ is_up ∙ ap (λ (p : ℕ). Ok (Some p)) (sym is))
