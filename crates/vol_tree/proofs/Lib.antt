@@ -43,4 +43,4 @@ pub mod AllNamed
 pub mod Passes
 pub mod Passed
 pub mod Openings
-pub mod Fronts
+mod Fronts

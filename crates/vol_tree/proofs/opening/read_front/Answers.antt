@@ -1,4 +1,4 @@
-use Rattle.std.proofs.Common.{◌≡◌, inr, refl}
+use Rattle.std.proofs.Common.{◌≡◌, inl, inr, ⊎_elim, refl}
 use Rattle.vol_sector.specs.declared.fault.VolumeFault.TheVariants as faults
 use Rattle.vol_tree.proofs.Fronts.{none_read, refused_as}
 use Rattle.vol_tree.proofs.opening.read_front.Goals as goal
@@ -38,3 +38,54 @@ returns-in_err-image-clause-honest g c = c.read.ensures.honest
 
 pub returns-in_err-image-clause-size : goal.returns-in_err-image-clause-size
 returns-in_err-image-clause-size g c = c.read.ensures.size
+
+pub returns-in_err-numbers-clause-ranges : goal.returns-in_err-numbers-clause-ranges
+returns-in_err-numbers-clause-ranges g c = none_read _ c.from_residual-in_err-numbers.result c.in_err-numbers.field-0.0 c.from_residual-in_err-numbers.ensures.1
+
+pub returns-in_err-numbers-clause-room : goal.returns-in_err-numbers-clause-room
+returns-in_err-numbers-clause-room g c = none_read _ c.from_residual-in_err-numbers.result c.in_err-numbers.field-0.0 c.from_residual-in_err-numbers.ensures.1
+
+pub returns-in_err-numbers-clause-front : goal.returns-in_err-numbers-clause-front
+returns-in_err-numbers-clause-front g c = λ h. none_read _ c.from_residual-in_err-numbers.result c.in_err-numbers.field-0.0 c.from_residual-in_err-numbers.ensures.1
+
+pub returns-in_err-numbers-clause-begins : goal.returns-in_err-numbers-clause-begins
+returns-in_err-numbers-clause-begins g c = λ h. none_read _ c.from_residual-in_err-numbers.result c.in_err-numbers.field-0.0 c.from_residual-in_err-numbers.ensures.1
+
+pub returns-in_err-numbers-clause-refused : goal.returns-in_err-numbers-clause-refused
+returns-in_err-numbers-clause-refused g c = refused_as _ c.from_residual-in_err-numbers.result c.in_err-numbers.field-0.0 c.from_residual-in_err-numbers.ensures.1 (⊎_elim (λ none. inl none) (λ other. inr (⊎_elim (λ version. inl version) (λ damaged. inr (inl damaged)) other)) c.in_err-numbers.ensures.named)
+
+pub returns-in_err-numbers-clause-seen : goal.returns-in_err-numbers-clause-seen
+returns-in_err-numbers-clause-seen g c = c.read.ensures.seen
+
+pub returns-in_err-numbers-clause-crash : goal.returns-in_err-numbers-clause-crash
+returns-in_err-numbers-clause-crash g c = c.read.ensures.crash
+
+pub returns-in_err-numbers-clause-honest : goal.returns-in_err-numbers-clause-honest
+returns-in_err-numbers-clause-honest g c = c.read.ensures.honest
+
+pub returns-in_err-numbers-clause-size : goal.returns-in_err-numbers-clause-size
+returns-in_err-numbers-clause-size g c = c.read.ensures.size
+
+pub returns-then-sectors-numbers-clause-seen : goal.returns-then-sectors-numbers-clause-seen
+returns-then-sectors-numbers-clause-seen g c = c.read.ensures.seen
+
+pub returns-then-sectors-numbers-clause-crash : goal.returns-then-sectors-numbers-clause-crash
+returns-then-sectors-numbers-clause-crash g c = c.read.ensures.crash
+
+pub returns-then-sectors-numbers-clause-honest : goal.returns-then-sectors-numbers-clause-honest
+returns-then-sectors-numbers-clause-honest g c = c.read.ensures.honest
+
+pub returns-then-sectors-numbers-clause-size : goal.returns-then-sectors-numbers-clause-size
+returns-then-sectors-numbers-clause-size g c = c.read.ensures.size
+
+pub returns-clause-seen : goal.returns-clause-seen
+returns-clause-seen g c = c.read.ensures.seen
+
+pub returns-clause-crash : goal.returns-clause-crash
+returns-clause-crash g c = c.read.ensures.crash
+
+pub returns-clause-honest : goal.returns-clause-honest
+returns-clause-honest g c = c.read.ensures.honest
+
+pub returns-clause-size : goal.returns-clause-size
+returns-clause-size g c = c.read.ensures.size
