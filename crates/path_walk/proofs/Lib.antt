@@ -5,3 +5,4 @@ pub mod Turning
 pub mod Entered
 pub mod Chaining
 pub mod FromRoot
+pub mod Advancing

@@ -43,3 +43,4 @@ pub mod AllNamed
 pub mod Passes
 pub mod Passed
 pub mod Openings
+mod Fronts
