@@ -1,4 +1,4 @@
-use Rattle.std.proofs.Common.{◌≡◌, ◌≤◌, ◌<◌, ◌∙◌, ℕ, false, nat_lt, if◌then◌else◌, get_or, is_err, true≢false, refl, sym, ap, subst, arith, rules}
+use Rattle.std.proofs.Common.{◌≡◌, ◌≤◌, ◌<◌, ◌∙◌, ℕ, false, nat_lt, if◌then◌else◌, get_or, is_err, true≢false, refl, sym, ap, subst, arith}
 use Rattle.std.proofs.lemmas.Result.{IfOk-from_err}
 use Rattle.vol_sector.specs.Disk.{Image, put}
 use Rattle.vol_log.specs.Log.{view, device_of, log_sectors, room_of, is_staged, has_failed}
