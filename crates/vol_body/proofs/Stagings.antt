@@ -1,11 +1,14 @@
 -- What stays of a log that is read, and then staged to.
-use Rattle.std.proofs.Common.{◌≡◌, ◌↔◌, Bool, false, sym, ◌∙◌, ap, subst}
+use Rattle.std.proofs.Common.{◌≡◌, ◌↔◌, ◌-◌, ℕ, Bool, true, false, length, refl, sym, ◌∙◌, ap, subst, arith}
 use Rattle.vol_sector.specs.Disk.{Leaves, counted}
 use Rattle.vol_sector.specs.declared.device.Device.{Ghosts}
-use Rattle.vol_log.specs.Log.{device_of, log_sectors, has_failed}
+use Rattle.vol_log.specs.Log.{device_of, log_sectors, room_of, has_failed}
 use Rattle.vol_log.specs.declared.log.Log.{Log}
 use Rattle.vol_log.specs.Reading.{OnlyReads}
-use Rattle.vol_body.specs.Reading.{OnlyStages}
+use Rattle.vol_log.proofs.Readings.{reads_same}
+use Rattle.vol_alloc.specs.Alloc.{first_of, end_of}
+use Rattle.vol_alloc.specs.declared.sectors.Alloc.{Alloc}
+use Rattle.vol_body.specs.Reading.{OnlyStages, StagesAtMost}
 
 pub stages_then : {D : Type 0} {g : Ghosts D} (a b c : Log D g) → OnlyReads a b → has_failed b ≡ false → device_of c ≡ device_of b → log_sectors c ≡ log_sectors b → has_failed c ≡ false → OnlyStages a c
 stages_then {D = D} {g = g} a b c reads still device sectors working = record {
@@ -16,3 +19,20 @@ stages_then {D = D} {g = g} a b c reads still device sectors working = record {
   size = ap g.size device ∙ reads.size;
   failures = λ was_working. ap g.failures device ∙ reads.failures was_working ∙ ap (λ (b : Bool). counted b (g.failures (device_of a))) (still ∙ sym working);
 }
+
+-- reads leave the room for sectors to stage
+pub room_read : {D : Type 0} {g : Ghosts D} (a b : Log D g) → OnlyReads a b → room_of b ≡ room_of a
+room_read a b reads = ap (λ l. 120 - length l) reads.staged
+
+-- a change that is refused after it has only read
+pub stages_none : {D : Type 0} {g : Ghosts D} (most : ℕ) (a b : Log D g) (s t : Alloc) (refused : Bool) → OnlyReads a b → has_failed b ≡ refused → first_of t ≡ first_of s → end_of t ≡ end_of s → StagesAtMost most a b s t refused
+stages_none most a b s t refused reads failed first end = record {
+  room = let same : room_of b ≡ room_of a = room_read a b reads in omega (arith, same);
+  log = record { seen = reads.seen; crash = reads.crash; sectors = reads.sectors; honest = reads.honest; size = reads.size; failures = reads.failures };
+  failed = failed;
+  range = (first, end);
+}
+
+-- a change that is refused at once
+pub stages_idle : {D : Type 0} {g : Ghosts D} (most : ℕ) (a : Log D g) (s : Alloc) → has_failed a ≡ true → StagesAtMost most a a s s true
+stages_idle most a s failed = stages_none most a a s s true (reads_same a) failed refl refl

@@ -51,3 +51,35 @@ returns-clause-none_lost g c h names body =
     let sectors = c.args.sectors.now in
     let some : 0 < first_of sectors = omega (arith, c.requires.slot) in
     one c.grow.result _ _ (λ file. none_lost sectors sectors (view c.args.log.now) (view c.grow.new.log) c.args.entry.now c.grow.new.entry some (λ i. first_of sectors, λ i. end_of sectors) c.requires.small_before names body file.rules file.taken) (returns-clause-file g c h names body)
+
+pub shrink-requires : goal.shrink-requires
+shrink-requires g c = record {
+  after_log = c.requires.after_log;
+  slot = c.requires.slot;
+  within = c.requires.within;
+  there = c.requires.there;
+  room = c.requires.room;
+  shorter = c.if-size-entry.true;
+  small_before = c.requires.small_before;
+}
+
+pub returns-then-size-entry : goal.returns-then-size-entry
+returns-then-size-entry g c =
+    let e = c.shrink.ensures in
+    record {
+      file = e.file;
+      none_lost = e.none_lost;
+      entry = e.entry;
+      steps = e.steps;
+      refused = e.refused;
+      idle = e.idle;
+    }
+
+pub grow-requires : goal.grow-requires
+grow-requires g c = record {
+  after_log = c.requires.after_log;
+  there = c.requires.within;
+  room = omega (arith, c.requires.room);
+  grows = c.if-size-entry.false;
+  small = c.requires.small;
+}

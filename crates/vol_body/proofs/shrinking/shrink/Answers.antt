@@ -1,37 +1,157 @@
-use Rattle.std.proofs.Common.{◌≡◌, ◌<◌, ◌∙◌, ℕ, nat_lt, if◌then◌else◌, get_or, OnErr, Ok, Err, Result, sym, ap, subst, arith, rules}
+use Rattle.std.proofs.Common.{◌≡◌, ◌≤◌, ◌<◌, ◌∙◌, ℕ, false, nat_lt, if◌then◌else◌, get_or, is_err, true≢false, refl, sym, ap, subst, arith}
+use Rattle.std.proofs.lemmas.Result.{IfOk-from_err}
 use Rattle.vol_sector.specs.Disk.{Image, put}
-use Rattle.vol_sector.specs.declared.device.DeviceFault.{DeviceFault}
-use Rattle.vol_log.specs.Log.{view, device_of}
+use Rattle.vol_log.specs.Log.{view, device_of, log_sectors, room_of, is_staged, has_failed}
+use Rattle.vol_log.specs.declared.layout.TheConstants.{FIRST_AFTER_LOG}
 use Rattle.vol_alloc.specs.Alloc.{first_of, end_of, taken_of}
 use Rattle.vol_inode.specs.Space.{blocks_for_size}
 use Rattle.vol_inode.specs.declared.entry.Entry.{Entry}
+use Rattle.vol_body.specs.declared.truncation.Truncation.{Truncation}
 use Rattle.vol_body.specs.Body.{NamesTaken, IsBody, bytes_of}
 use Rattle.vol_body.specs.Change.{OthersStay, TakesAndGives}
-use Rattle.vol_body.specs.internal.Truncated.{IsTruncation, with_truncation, Frees, IsFreed}
+use Rattle.vol_body.specs.internal.Truncated.{IsTruncation, AreWithin, with_truncation, Frees, IsFreed}
 use Rattle.vol_inode.specs.Entry.{first_block_of_pointer}
 use Rattle.vol_log.specs.Reading.{OnlyReads}
-use Rattle.vol_log.proofs.Readings.{reads_then}
+use Rattle.vol_log.proofs.Readings.{reads_same, reads_then}
 use Rattle.vol_body.proofs.Loads.{held_in}
 use Rattle.vol_body.proofs.Rights.{right_file}
-use Rattle.vol_body.proofs.Stagings.{stages_then}
+use Rattle.vol_body.proofs.Stagings.{stages_then, stages_none, stages_idle, room_read}
+use Rattle.vol_body.proofs.Steps.{room_left, on_err}
 use Rattle.vol_body.proofs.CutSectors.{put_there, in_range}
 use Rattle.vol_body.proofs.Shrunk.{Shrinks, shrunk_bytes, shrunk_rules, shrunk_others, shrunk_taken}
 use Rattle.vol_body.proofs.NoneLost.{none_lost}
 use Rattle.vol_body.proofs.shrinking.shrink.Given.{Over}
 use Rattle.vol_body.proofs.shrinking.shrink.Goals as goal
 
-on_err : (r : Result (Unit {0}) DeviceFault) (P : Type 0) → P → OnErr r P
-on_err (Ok x) P p = tt
-on_err (Err x) P p = p
+-- what is within a narrower range
+wider : (first end more : ℕ) (truncation : Truncation) → FIRST_AFTER_LOG ≤ first → end ≤ more → AreWithin first end truncation → AreWithin FIRST_AFTER_LOG more truncation
+wider first end more truncation from to within = record {
+  data_block = λ some. let is = within.data_block some in (omega (arith, from, is.0), omega (arith, to, is.1));
+  above = λ some. let is = within.above some in (omega (arith, from, is.0), omega (arith, to, is.1));
+  top = λ some. let is = within.top some in (omega (arith, from, is.0), omega (arith, to, is.1));
+}
 
-pub returns-in_err-truncation-clause-refused : goal.returns-in_err-truncation-clause-refused
-returns-in_err-truncation-clause-refused g c =
-    on_err c.from_residual-in_err-truncation.result _ (reads_then c.args.log.now c.hold.new.log c.read_truncation.new.log c.in_ok-held.ensures.failed c.in_ok-held.ensures.reads c.in_err-truncation.ensures.reads, λ i. c.args.entry.now)
+pub returns-then-failed : goal.returns-then-failed
+returns-then-failed g c = record {
+  file = λ h names body. tt;
+  none_lost = λ h names body. tt;
+  entry = tt;
+  steps = stages_idle 4 c.args.log.now c.args.sectors.now (sym c.failed.ensures ∙ c.if-failed.true);
+  refused = (reads_same c.args.log.now, refl);
+  idle = λ failed. (refl, refl);
+}
 
-pub returns-in_err-free_unkept-clause-refused : goal.returns-in_err-free_unkept-clause-refused
-returns-in_err-free_unkept-clause-refused g c =
-    let two = reads_then c.args.log.now c.hold.new.log c.read_truncation.new.log c.in_ok-held.ensures.failed c.in_ok-held.ensures.reads c.in_ok-truncation.ensures.reads in
-    on_err c.from_residual-in_err-free_unkept.result _ (reads_then c.args.log.now c.read_truncation.new.log c.free_unkept.new.log c.in_ok-truncation.ensures.failed two c.in_err-free_unkept.ensures.reads, λ i. c.args.entry.now)
+pub hold-requires : goal.hold-requires
+hold-requires g c = record { small = omega arith; there = c.requires.there; working = sym c.failed.ensures ∙ c.if-failed.false }
+
+pub returns-in_err-held : goal.returns-in_err-held
+returns-in_err-held g c =
+    let r = c.from_residual.result in
+    let is_err_now = c.from_residual.ensures.0 in
+    let e = c.in_err-held.ensures in
+    let working : has_failed c.args.log.now ≡ false = sym c.failed.ensures ∙ c.if-failed.false in
+    record {
+      file = λ h names body. IfOk-from_err r _ is_err_now;
+      none_lost = λ h names body. IfOk-from_err r _ is_err_now;
+      entry = IfOk-from_err r _ is_err_now;
+      steps = stages_none 4 c.args.log.now c.hold.new.log c.args.sectors.now c.args.sectors.now (is_err r) e.reads (e.failed ∙ sym is_err_now) refl refl;
+      refused = on_err r (e.reads, refl);
+      idle = λ failed. absurd (true≢false (sym failed ∙ working));
+    }
+
+pub read_truncation-requires : goal.read_truncation-requires
+read_truncation-requires g c =
+    let e = c.in_ok-held.ensures in
+    record {
+      there = omega (arith, c.requires.there, e.reads.sectors);
+      working = e.failed;
+      small = omega (arith, c.requires.shorter, c.requires.small_before);
+      group = e.group;
+      known = e.known;
+    }
+
+pub returns-in_err-truncation : goal.returns-in_err-truncation
+returns-in_err-truncation g c =
+    let r = c.from_residual-in_err-truncation.result in
+    let is_err_now = c.from_residual-in_err-truncation.ensures.0 in
+    let first = c.in_ok-held.ensures in
+    let second = c.in_err-truncation.ensures in
+    let reads = reads_then c.args.log.now c.hold.new.log c.read_truncation.new.log first.failed first.reads second.reads in
+    let working : has_failed c.args.log.now ≡ false = sym c.failed.ensures ∙ c.if-failed.false in
+    record {
+      file = λ h names body. IfOk-from_err r _ is_err_now;
+      none_lost = λ h names body. IfOk-from_err r _ is_err_now;
+      entry = IfOk-from_err r _ is_err_now;
+      steps = stages_none 4 c.args.log.now c.read_truncation.new.log c.args.sectors.now c.args.sectors.now (is_err r) reads (second.failed ∙ sym is_err_now) refl refl;
+      refused = on_err r (reads, refl);
+      idle = λ failed. absurd (true≢false (sym failed ∙ working));
+    }
+
+pub free_unkept-requires : goal.free_unkept-requires
+free_unkept-requires g c =
+    let first = c.in_ok-held.ensures in
+    let second = c.in_ok-truncation.ensures in
+    record {
+      there = omega (arith, c.requires.there, first.reads.sectors, second.reads.sectors);
+      working = second.failed;
+      «data» = omega (arith, c.requires.slot);
+      group = omega (arith, first.group, c.requires.shorter, c.requires.small_before);
+    }
+
+pub returns-in_err-free_unkept : goal.returns-in_err-free_unkept
+returns-in_err-free_unkept g c =
+    let r = c.from_residual-in_err-free_unkept.result in
+    let is_err_now = c.from_residual-in_err-free_unkept.ensures.0 in
+    let first = c.in_ok-held.ensures in
+    let second = c.in_ok-truncation.ensures in
+    let third = c.in_err-free_unkept.ensures in
+    let two = reads_then c.args.log.now c.hold.new.log c.read_truncation.new.log first.failed first.reads second.reads in
+    let reads = reads_then c.args.log.now c.read_truncation.new.log c.free_unkept.new.log second.failed two third.reads in
+    let working : has_failed c.args.log.now ≡ false = sym c.failed.ensures ∙ c.if-failed.false in
+    record {
+      file = λ h names body. IfOk-from_err r _ is_err_now;
+      none_lost = λ h names body. IfOk-from_err r _ is_err_now;
+      entry = IfOk-from_err r _ is_err_now;
+      steps = stages_none 4 c.args.log.now c.free_unkept.new.log c.args.sectors.now c.free_unkept.new.sectors (is_err r) reads (third.failed ∙ sym is_err_now) third.range.0 third.range.1;
+      refused = on_err r (reads, refl);
+      idle = λ failed. absurd (true≢false (sym failed ∙ working));
+    }
+
+pub stage_truncation-requires : goal.stage_truncation-requires
+stage_truncation-requires g c =
+    let first = c.in_ok-held.ensures in
+    let second = c.in_ok-truncation.ensures in
+    let third = c.in_ok-free_unkept.ensures in
+    let one = room_read c.args.log.now c.hold.new.log first.reads in
+    let two = room_read c.hold.new.log c.read_truncation.new.log second.reads in
+    let three = room_read c.read_truncation.new.log c.free_unkept.new.log third.reads in
+    record {
+      there = wider (first_of c.args.sectors.now) (end_of c.args.sectors.now) (log_sectors c.free_unkept.new.log) c.in_ok-truncation.truncation
+          (omega (arith, c.requires.after_log, c.requires.slot)) (omega (arith, c.requires.there, first.reads.sectors, second.reads.sectors, third.reads.sectors)) second.within;
+      room = omega (arith, one, two, three, c.requires.room);
+      working = third.failed;
+    }
+
+pub stage-requires : goal.stage-requires
+stage-requires g c =
+    let first = c.in_ok-held.ensures in
+    let second = c.in_ok-truncation.ensures in
+    let third = c.in_ok-free_unkept.ensures in
+    let one = room_read c.args.log.now c.hold.new.log first.reads in
+    let two = room_read c.hold.new.log c.read_truncation.new.log second.reads in
+    let three = room_read c.read_truncation.new.log c.free_unkept.new.log third.reads in
+    record {
+      place = c.requires.after_log;
+      there = omega (arith, c.requires.within, first.reads.sectors, second.reads.sectors, third.reads.sectors, c.stage_truncation.ensures.sectors);
+      room = omega (arith, one, two, three, c.requires.room, c.stage_truncation.ensures.room);
+      working = c.stage_truncation.ensures.failed;
+    }
+
+pub returns-clause-refused : goal.returns-clause-refused
+returns-clause-refused g c = tt
+
+pub returns-clause-idle : goal.returns-clause-idle
+returns-clause-idle g c failed = absurd (true≢false (sym failed ∙ sym c.failed.ensures ∙ c.if-failed.false))
 
 -- what is read first changes nothing
 first_reads : (g : Over) (c : goal.After-stage g) → OnlyReads c.args.log.now c.read_truncation.new.log
@@ -50,11 +170,13 @@ returns-clause-entry g c = record {
 pub returns-clause-steps : goal.returns-clause-steps
 returns-clause-steps g c =
     let reads = reads_then c.args.log.now c.read_truncation.new.log c.free_unkept.new.log c.in_ok-truncation.ensures.failed (first_reads g c) c.in_ok-free_unkept.ensures.reads in
+    let same = room_read c.args.log.now c.free_unkept.new.log reads in
+    let last = room_left (is_staged c.stage_truncation.new.log c.args.inode_sector) (room_of c.stage_truncation.new.log) (room_of c.stage.new.self) c.stage.ensures.room in
     record {
-      room = search rules;
+      room = omega (arith, same, last, c.stage_truncation.ensures.room);
       log = stages_then c.args.log.now c.free_unkept.new.log c.stage.new.self reads c.in_ok-free_unkept.ensures.failed (c.stage.ensures.device ∙ c.stage_truncation.ensures.device) (c.stage.ensures.sectors ∙ c.stage_truncation.ensures.sectors) c.stage.ensures.failed;
       failed = c.stage.ensures.failed;
-      range = search rules;
+      range = c.free_unkept.ensures.range;
     }
 
 given_back : (g : Over) (c : goal.After-stage g) → g.D.Device.honest (device_of c.args.log.now) → NamesTaken (taken_of c.args.sectors.now) (view c.args.log.now) c.args.entry.now

@@ -1,4 +1,6 @@
-use Rattle.std.proofs.Common.{◌+◌, length, max, ap, arith}
+use Rattle.std.proofs.Common.{◌+◌, length, max, ap, arith, ◌∙◌, false, true≢false, refl, sym}
+use Rattle.vol_body.proofs.Stagings.{stages_none, stages_idle}
+use Rattle.vol_log.proofs.Readings.{reads_same}
 use Rattle.vol_log.specs.Log.{view}
 use Rattle.vol_inode.specs.declared.entry.Entry.{Entry}
 use Rattle.vol_body.proofs.Rights.{right_file, all_three}
@@ -22,3 +24,64 @@ returns-clause-file g c h names body =
       leaves.count,
     ))
     c.write_some.ensures.entry c.write_some.ensures.widths (c.write_some.ensures.done h names body (c.requires.space h names body))
+
+pub returns-then-failed : goal.returns-then-failed
+returns-then-failed g c = record {
+  file = λ h names body. tt;
+  entry = λ some. tt;
+  nothing = λ none. (refl, refl, refl);
+  steps = stages_idle 37 c.args.log.now c.args.sectors.now (sym c.failed.ensures ∙ c.if-failed.true);
+  refused = (reads_same c.args.log.now, refl, refl);
+  idle = λ failed. (refl, refl);
+}
+
+pub returns-then-is_empty-clause-nothing : goal.returns-then-is_empty-clause-nothing
+returns-then-is_empty-clause-nothing g c none = (refl, refl, refl)
+
+pub returns-then-is_empty-clause-steps : goal.returns-then-is_empty-clause-steps
+returns-then-is_empty-clause-steps g c = stages_none 37 c.args.log.now c.args.log.now c.args.sectors.now c.args.sectors.now false (reads_same c.args.log.now) (sym c.failed.ensures ∙ c.if-failed.false) refl refl
+
+pub returns-then-is_empty-clause-refused : goal.returns-then-is_empty-clause-refused
+returns-then-is_empty-clause-refused g c = tt
+
+pub returns-then-is_empty-clause-idle : goal.returns-then-is_empty-clause-idle
+returns-then-is_empty-clause-idle g c failed = absurd (true≢false (sym failed ∙ sym c.failed.ensures ∙ c.if-failed.false))
+
+pub returns-clause-entry : goal.returns-clause-entry
+returns-clause-entry g c some = c.write_some.ensures.entry
+
+pub returns-clause-steps : goal.returns-clause-steps
+returns-clause-steps g c = c.write_some.ensures.steps
+
+pub returns-clause-refused : goal.returns-clause-refused
+returns-clause-refused g c = c.write_some.ensures.refused
+
+pub returns-clause-idle : goal.returns-clause-idle
+returns-clause-idle g c failed = absurd (true≢false (sym failed ∙ sym c.failed.ensures ∙ c.if-failed.false))
+
+pub write_some-requires-clause-working : goal.write_some-requires-clause-working
+write_some-requires-clause-working g c = sym c.failed.ensures ∙ c.if-failed.false
+
+pub write_some-requires-clause-after_log : goal.write_some-requires-clause-after_log
+write_some-requires-clause-after_log g c = c.requires.after_log
+
+pub write_some-requires-clause-slot : goal.write_some-requires-clause-slot
+write_some-requires-clause-slot g c = c.requires.slot
+
+pub write_some-requires-clause-within : goal.write_some-requires-clause-within
+write_some-requires-clause-within g c = c.requires.within
+
+pub write_some-requires-clause-there : goal.write_some-requires-clause-there
+write_some-requires-clause-there g c = c.requires.there
+
+pub write_some-requires-clause-room : goal.write_some-requires-clause-room
+write_some-requires-clause-room g c = c.requires.room
+
+pub write_some-requires-clause-small_before : goal.write_some-requires-clause-small_before
+write_some-requires-clause-small_before g c = c.requires.small_before
+
+pub write_some-requires-clause-small : goal.write_some-requires-clause-small
+write_some-requires-clause-small g c = c.requires.small
+
+pub write_some-requires-clause-few : goal.write_some-requires-clause-few
+write_some-requires-clause-few g c = c.requires.few

@@ -1,4 +1,5 @@
-use Rattle.std.proofs.Common.{◌≡◌, ◌≤◌, ◌+◌, ◌-◌, ◌*◌, ◌/◌, ◌⊎◌, ℕ, length, max, refl, sym, ◌∙◌, ap, subst, arith, rules}
+use Rattle.std.proofs.Common.{◌≡◌, ◌≤◌, ◌+◌, ◌-◌, ◌*◌, ◌/◌, ◌⊎◌, ℕ, length, max, is_err, refl, sym, ◌∙◌, ap, subst, arith, rules}
+use Rattle.std.proofs.lemmas.Result.{IfOk-from_err}
 use Rattle.vol_sector.specs.Disk.{Image}
 use Rattle.vol_log.specs.Log.{view, room_of, is_staged}
 use Rattle.vol_alloc.specs.Alloc.{taken_of, free_of}
@@ -8,26 +9,94 @@ use Rattle.vol_body.specs.Body.{data_block, named, block_bytes, NamesTaken}
 use Rattle.vol_body.specs.Change.{used_of}
 use Rattle.vol_body.specs.internal.Writing.{IsReady, MirrorsAll, Changes, IsBlockIn, IsPointer, HasBlocks, image_of}
 use Rattle.vol_log.proofs.Readings.{reads_then}
-use Rattle.vol_body.proofs.Stagings.{stages_then}
+use Rattle.vol_body.proofs.Stagings.{stages_then, stages_none, room_read}
 use Rattle.vol_body.proofs.Steps.{put_here, room_left, on_err}
 use Rattle.vol_body.proofs.Finished.{write_leaves, ready_to_write, mirrors_all_by}
 use Rattle.vol_body.proofs.writing.write_some.Goals as goal
 use Rattle.vol_inode.specs.declared.version.TheConstants.{LARGEST_SIZE}
 
-pub returns-in_err-edges-clause-steps : goal.returns-in_err-edges-clause-steps
-returns-in_err-edges-clause-steps g c =
-    let reads = reads_then c.args.log.now c.load_pointer_sectors.new.log c.read_edges.new.log c.in_ok-all.ensures.failed c.in_ok-all.ensures.reads c.in_err-edges.ensures.reads in
+pub load_pointer_sectors-requires : goal.load_pointer_sectors-requires
+load_pointer_sectors-requires g c = record {
+  some = omega (arith, c.len.ensures, c.requires.some);
+  small = omega (arith, c.len.ensures, c.requires.small, c.requires.some);
+  there = c.requires.there;
+  working = c.requires.working;
+}
+
+pub returns-in_err-all : goal.returns-in_err-all
+returns-in_err-all g c =
+    let r = c.from_residual.result in
+    let is_err_now = c.from_residual.ensures.0 in
+    let e = c.in_err-all.ensures in
     record {
-      room = let same : room_of c.read_edges.new.log ≡ room_of c.args.log.now = ap (λ l. 120 - length l) reads.staged in omega (arith, same);
-      log = record { seen = reads.seen; crash = reads.crash; sectors = reads.sectors; honest = reads.honest; size = reads.size; failures = reads.failures };
-      failed = search rules;
-      range = (refl, refl);
+      done = λ h names body space. IfOk-from_err r _ is_err_now;
+      entry = IfOk-from_err r _ is_err_now;
+      widths = IfOk-from_err r _ is_err_now;
+      steps = stages_none 37 c.args.log.now c.load_pointer_sectors.new.log c.args.sectors.now c.args.sectors.now (is_err r) e.reads (e.failed ∙ sym is_err_now) refl refl;
+      refused = on_err r (e.reads, refl, refl);
     }
 
-pub returns-in_err-edges-clause-refused : goal.returns-in_err-edges-clause-refused
-returns-in_err-edges-clause-refused g c =
-    on_err c.from_residual-in_err-edges.result
-    (reads_then c.args.log.now c.load_pointer_sectors.new.log c.read_edges.new.log c.in_ok-all.ensures.failed c.in_ok-all.ensures.reads c.in_err-edges.ensures.reads, refl, refl)
+pub read_edges-requires : goal.read_edges-requires
+read_edges-requires g c =
+    let e = c.in_ok-all.ensures in
+    record {
+      some = omega (arith, c.len.ensures, c.requires.some);
+      few = omega (arith, c.len.ensures, c.requires.few);
+      small = omega (arith, c.len.ensures, c.requires.small);
+      there = omega (arith, c.requires.there, e.reads.sectors);
+      working = e.failed;
+    }
+
+pub returns-in_err-edges : goal.returns-in_err-edges
+returns-in_err-edges g c =
+    let r = c.from_residual-in_err-edges.result in
+    let is_err_now = c.from_residual-in_err-edges.ensures.0 in
+    let e = c.in_err-edges.ensures in
+    let reads = reads_then c.args.log.now c.load_pointer_sectors.new.log c.read_edges.new.log c.in_ok-all.ensures.failed c.in_ok-all.ensures.reads e.reads in
+    record {
+      done = λ h names body space. IfOk-from_err r _ is_err_now;
+      entry = IfOk-from_err r _ is_err_now;
+      widths = IfOk-from_err r _ is_err_now;
+      steps = stages_none 37 c.args.log.now c.read_edges.new.log c.args.sectors.now c.args.sectors.now (is_err r) reads (e.failed ∙ sym is_err_now) refl refl;
+      refused = on_err r (reads, refl, refl);
+    }
+
+pub write_blocks-requires : goal.write_blocks-requires
+write_blocks-requires g c =
+    let first = c.in_ok-all.ensures in
+    let second = c.in_ok-edges.ensures in
+    let one = room_read c.args.log.now c.load_pointer_sectors.new.log first.reads in
+    let two = room_read c.load_pointer_sectors.new.log c.read_edges.new.log second.reads in
+    record {
+      after_log = omega (arith, c.requires.after_log, c.requires.slot);
+      there = omega (arith, c.requires.there, first.reads.sectors, second.reads.sectors);
+      room = omega (arith, one, two, c.requires.room);
+      working = second.failed;
+      few = omega (arith, c.len.ensures, c.requires.few, c.requires.some);
+      some = omega (arith, c.len.ensures, c.requires.some);
+      last = omega (arith, c.len.ensures, c.requires.small, c.requires.some);
+      touched_first = omega arith;
+      touched_last = omega (arith, c.len.ensures, c.requires.some);
+      small = c.requires.small;
+      known = first.known;
+    }
+
+pub stage-requires : goal.stage-requires
+stage-requires g c =
+    let first = c.in_ok-all.ensures in
+    let second = c.in_ok-edges.ensures in
+    let one = room_read c.args.log.now c.load_pointer_sectors.new.log first.reads in
+    let two = room_read c.load_pointer_sectors.new.log c.read_edges.new.log second.reads in
+    let puts = c.write_blocks.ensures.puts in
+    record {
+      place = c.requires.after_log;
+      there = omega (arith, c.requires.within, first.reads.sectors, second.reads.sectors, puts.sectors);
+      room = omega (arith, one, two, c.requires.room, c.write_blocks.ensures.room);
+      working = puts.failed ∙ second.failed;
+    }
+
+pub returns-clause-refused : goal.returns-clause-refused
+returns-clause-refused g c = tt
 
 pub returns-clause-entry : goal.returns-clause-entry
 returns-clause-entry g c = record {
