@@ -1,6 +1,7 @@
 //! Commands on the files that they name, with the streams of the system.
 
 ghost use Rattle.std.specs.Prelude.{◌≡◌, ◌⊎◌, ◌≤◌};
+ghost use Rattle.std.specs.Process.{exit_status};
 ghost use Rattle.sandbox_command.specs.declared.file_device.FileDevice.{FileDevice};
 ghost use Rattle.sandbox_command.specs.declared.ram_device.RamDevice.{RamDevice};
 ghost use Rattle.sandbox_command.specs.Execution.{Executes};
@@ -12,6 +13,7 @@ use crate::request::{Invocation, Run};
 use crate::{program, words};
 use std::fs::File;
 use std::io::{ErrorKind, Read, Write};
+use std::process::ExitCode;
 use std::{env, io};
 use vol_sector::Device;
 
@@ -21,8 +23,15 @@ const MODULE_READ: u64 = 67_108_865;
 /// How many random bytes are read at most, so that a file with no end gives some, too.
 const RANDOM_READ: u64 = 67_108_864;
 
-/// Does what the words of the command line ask for, and gives the exit status.
-pub fn answer(rt: &HostRuntime) -> u8
+/// Does what the words of the command line ask for, and gives the exit status. The statuses from 126 on are those
+/// of shells and of the script that builds the program, so that none of them comes from here.
+pub fn exit_code(rt: &HostRuntime) -> ExitCode
+    ensures { exit_status result ≤ 125 }
+{
+    ExitCode::from(answer(rt))
+}
+
+fn answer(rt: &HostRuntime) -> u8
     ensures { result ≤ 125 }
 {
     match words_given(rt) {

@@ -19,7 +19,7 @@ mod volume_path;
 mod words;
 
 pub use file_device::FileDevice;
-pub use files::{answer, perform};
+pub use files::{exit_code, perform};
 pub use opening::FRESH_SECTORS;
 pub use program::{execute, refuse_command_line, refuse_words};
 pub use ram_device::RamDevice;
