@@ -1,5 +1,8 @@
 pub mod Powers
 pub mod Laws
+pub mod Exits
+pub mod ModuleOf
+pub mod Numbers
 pub mod Combine
 pub mod Loop
 pub mod Texts

@@ -71,3 +71,37 @@ code_no_op front count i fs bytes total lt none so_far = sym so_far ∙ code_mor
 -- where an instruction closes what is not open, no code can be read
 pub code_no_step : (front : List Instruction) (count i : ℕ) (fs : List OpenBlock) (bytes : List ℕ) (o : Instruction) (rest : List ℕ) (total : Option (List Instruction × List ℕ)) → i < count → instruction_at bytes ≡ Some (o, rest) → after_instruction o fs ≡ None → with_front front (code_from (count - i) fs bytes) ≡ total → total ≡ None
 code_no_step front count i fs bytes o rest total lt is none so_far = sym so_far ∙ code_more front count i fs bytes lt ∙ rw (is, none) refl
+
+-- nothing was read before
+front_none : {X : Type 0} (read : Option (List X × List ℕ)) → with_front [] read ≡ read
+front_none None = refl
+front_none (Some x) = refl
+
+-- a loop begins with nothing read, and all still to be read
+pub begins_loop : {X : Type 0} (front : List X) (read : ℕ → Option (List X × List ℕ)) (count : ℕ) → front ≡ [] → with_front front (read (count - 0)) ≡ read count
+begins_loop front read count none = let all : count - 0 ≡ count = omega arith in rw (none, all) (front_none (read count))
+
+-- where no item can be read, no list can
+pub many_no_item : {X : Type 0} (a : Reader X) (front : List X) (count i : ℕ) (bytes : List ℕ) (total : Option (List X × List ℕ)) → i < count → a bytes ≡ None → with_front front (many_at a (count - i) bytes) ≡ total → total ≡ None
+many_no_item a front count i bytes total lt none so_far = sym so_far ∙ many_more a front count i bytes lt ∙ rw none refl
+
+-- an item more is read
+pub many_goes_on : {X : Type 0} (a : Reader X) (front more : List X) (count i : ℕ) (bytes : List ℕ) (x : X) (rest : List ℕ) (total : Option (List X × List ℕ)) → i < count → a bytes ≡ Some (x, rest) → more ≡ front ++ x ∷ [] → with_front front (many_at a (count - i) bytes) ≡ total → with_front more (many_at a (count - (i + 1)) rest) ≡ total
+many_goes_on a front more count i bytes x rest total lt is pushed so_far =
+    let turn : with_front front (many_at a (count - i) bytes) ≡ with_front (front ++ x ∷ []) (many_at a (count - (i + 1)) rest) = many_more a front count i bytes lt ∙ rw is refl in
+    rw pushed (sym turn ∙ so_far)
+
+-- an instruction more is read, and blocks are still open
+pub code_goes_on : (front more : List Instruction) (count i : ℕ) (fs gs : List OpenBlock) (bytes : List ℕ) (o : Instruction) (rest : List ℕ) (total : Option (List Instruction × List ℕ)) → i < count → instruction_at bytes ≡ Some (o, rest) → after_instruction o fs ≡ Some gs → false ≡ eqb (length gs) 0 → more ≡ front ++ o ∷ []
+    → with_front front (code_from (count - i) fs bytes) ≡ total → with_front more (code_from (count - (i + 1)) gs rest) ≡ total
+code_goes_on front more count i fs gs bytes o rest total lt is goes more_open pushed so_far =
+    let turn : with_front front (code_from (count - i) fs bytes) ≡ with_front (front ++ o ∷ []) (code_from (count - (i + 1)) gs rest) = code_more front count i fs bytes lt ∙ rw (is, goes, ← more_open) refl in
+    rw pushed (sym turn ∙ so_far)
+
+-- an instruction closes the last open block
+pub code_closes : (front : List Instruction) (count i : ℕ) (fs gs : List OpenBlock) (bytes : List ℕ) (o : Instruction) (rest : List ℕ) (total : Option (List Instruction × List ℕ)) → i < count → instruction_at bytes ≡ Some (o, rest) → after_instruction o fs ≡ Some gs → true ≡ eqb (length gs) 0 → with_front front (code_from (count - i) fs bytes) ≡ total → total ≡ Some (front ++ o ∷ [], rest)
+code_closes front count i fs gs bytes o rest total lt is goes closed so_far = sym so_far ∙ code_more front count i fs bytes lt ∙ rw (is, goes, ← closed) refl
+
+-- the bytes end while blocks are open
+pub code_breaks_off : (front : List Instruction) (count i : ℕ) (fs : List OpenBlock) (bytes : List ℕ) (total : Option (List Instruction × List ℕ)) → count ≤ i → with_front front (code_from (count - i) fs bytes) ≡ total → total ≡ None
+code_breaks_off front count i fs bytes total le so_far = sym so_far ∙ code_done front count i fs bytes le

@@ -1,0 +1,28 @@
+use Rattle.std.proofs.Common.{refl}
+use Rattle.wasm_module.specs.internal.CodeReading.{instruction_at, instruction_after}
+use Rattle.wasm_module.proofs.Exits.{handed_on}
+use Rattle.wasm_module.proofs.code.InstructionDecode.decode.Goals as goal
+
+pub returns-in_err-byte : goal.returns-in_err-byte
+unfolding instruction_at instruction_after
+returns-in_err-byte c = handed_on _ _ c.from_residual.result _ c.from_residual.ensures.1 (λ other. rw (c.in_err-byte.ensures other) refl)
+
+pub returns-in_err-s32-in-65 : goal.returns-in_err-s32-in-65
+unfolding instruction_at instruction_after
+returns-in_err-s32-in-65 c = handed_on _ _ c.from_residual-in_err-s32-in-65.result _ c.from_residual-in_err-s32-in-65.ensures.1 (λ other. rw (c.in_ok-byte.ensures, c.in-65.is, c.in_err-s32-in-65.ensures other) refl)
+
+pub returns-in_ok-s32-in-65 : goal.returns-in_ok-s32-in-65
+unfolding instruction_at instruction_after
+returns-in_ok-s32-in-65 c = rw (c.in_ok-byte.ensures, c.in-65.is, c.in_ok-s32-in-65.ensures) refl
+
+pub returns-in_err-s64-in-66 : goal.returns-in_err-s64-in-66
+unfolding instruction_at instruction_after
+returns-in_err-s64-in-66 c = handed_on _ _ c.from_residual-in_err-s64-in-66.result _ c.from_residual-in_err-s64-in-66.ensures.1 (λ other. rw (c.in_ok-byte.ensures, c.in-66.is, c.in_err-s64-in-66.ensures other) refl)
+
+pub returns-in_ok-s64-in-66 : goal.returns-in_ok-s64-in-66
+unfolding instruction_at instruction_after
+returns-in_ok-s64-in-66 c = rw (c.in_ok-byte.ensures, c.in-66.is, c.in_ok-s64-in-66.ensures) refl
+
+pub returns-in-252 : goal.returns-in-252
+unfolding instruction_at instruction_after
+returns-in-252 c = rw (c.in_ok-byte.ensures, c.in-252.is) c.bulk.ensures
