@@ -1,15 +1,16 @@
 -- What reading one slot says of it.
-use Rattle.std.proofs.Common.{inl, inr, ◌≡◌, ◌≢◌, ◌+◌, ◌<◌, ℕ, List, [], ◌∷◌, ◌++◌, length, take, map, Option, Some, None, refl, sym, ◌∙◌, ap, subst, arith}
+use Rattle.std.proofs.Common.{inl, inr, ◌≡◌, ◌≢◌, ◌+◌, ◌<◌, ℕ, List, [], ◌∷◌, ◌++◌, length, take, map, Option, Some, None, refl, sym, ◌∙◌, ap, subst, rules, arith}
 use Rattle.std.specs.List.{flat_map}
 use Rattle.std.proofs.lemmas.Bool.{cases_lt}
 use Rattle.std.proofs.lemmas.Option.{same_Some, none-some}
 use Rattle.std.proofs.lemmas.List.{take_more, flat_map_more, map-append}
 use Rattle.std.proofs.lemmas.List.Sums.{sum_by_more}
+use Rattle.std.proofs.lemmas.List.Elements.{All-contains}
 use Rattle.vol_sector.specs.Disk.{Image}
 use Rattle.vol_inode.specs.declared.entry.Entry.{Entry}
 use Rattle.vol_inode.specs.Entry.{IsEntry, HasWidths, name_of}
 use Rattle.vol_inode.specs.Spelling.{spelling, unused}
-use Rattle.vol_body.specs.Survey.{IsTrimmed}
+use Rattle.vol_body.specs.Survey.{AreInside, IsTrimmed}
 use Rattle.vol_dirs.specs.declared.dirs.Dirs.{Dirs}
 use Rattle.vol_dirs.specs.Names.{Names, Shows}
 use Rattle.vol_tree.specs.declared.superblock.Superblock.{Superblock}
@@ -72,6 +73,9 @@ refused_contradicts content v dirs s no_entry not_unused is = go (held_at conten
     go (Some e) is = no_entry e (is.entry e refl) is.bytes
 
 -- ---- from slot to slot
+
+pub none_inside : (first end : ℕ) (numbers : List ℕ) → numbers ≡ [] → AreInside first end numbers
+none_inside first end numbers none = subst (AreInside first end) (sym none) (record { inside = λ n has. absurd (All-contains (λ m. ⊥) [] n (search rules) has); few = omega arith })
 
 pub none_read : (content : Image) (v : Superblock) (dirs : Dirs) (found : Entries) → found.named.items ≡ [] → found.parents.items ≡ [] → found.directories.items ≡ [] → found.reserved ≡ 0 → HaveRead content v dirs 0 found
 none_read content v dirs found named parents directories reserved = record {

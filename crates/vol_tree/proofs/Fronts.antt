@@ -1,11 +1,48 @@
 -- The numbers of a volume, where they were refused.
-use Rattle.std.proofs.Common.{◌≡◌, Result, Ok, Err, IfOk, IsErrAnd, sym, subst}
-use Rattle.std.specs.Prelude.{IfErr}
+use Rattle.std.proofs.Common.{◌≡◌, ◌≢◌, ◌⊎◌, ◌≤◌, ◌++◌, ◌∙◌, ℕ, List, take, drop, inl, inr, ⊎_elim, Result, Err, false, refl, sym, ap, subst, arith}
+use Rattle.byteorder.specs.Endian.{little_number, little_bytes}
+use Rattle.vol_inode.specs.declared.version.Version.{Version}
+use Rattle.vol_inode.specs.declared.version.Version.TheVariants.{One, Two}
+use Rattle.vol_sector.specs.Disk.{Image}
+use Rattle.vol_sector.specs.Fault.{is_device}
+use Rattle.vol_sector.specs.declared.fault.VolumeFault.{VolumeFault}
+use Rattle.vol_sector.specs.declared.fault.VolumeFault.TheVariants as faults
+use Rattle.vol_tree.specs.declared.superblock.Superblock.{Superblock}
+use Rattle.vol_tree.specs.Superblock.{superblock, magic, version_number, IsNoVersion}
+use Rattle.vol_tree.specs.Opening.{BeginsRight, version_in}
 
-pub none_read : {X F : Type 0} (P : X → Type 0) (r : Result X F) (why : F) → IsErrAnd r (λ e. e ≡ why) → IfOk r P
-none_read P (Ok x) why p = absurd p
-none_read P (Err e) why p = tt
+known_version : (version : Version) (rest : List ℕ) → IsNoVersion (little_number 4 (little_bytes 4 (version_number version) ++ rest)) → ⊥
+known_version One rest unknown = unknown.0 refl
+known_version Two rest unknown = unknown.1 refl
 
-pub refused_as : {X F : Type 0} (P : F → Type 0) (r : Result X F) (why : F) → IsErrAnd r (λ e. e ≡ why) → P why → IfErr r P
-refused_as P (Ok x) why p q = absurd p
-refused_as P (Err e) why p q = subst P (sym p) q
+-- an image that begins with the numbers of a volume
+pub begins_right : (size : ℕ) (image : Image) (v : Superblock) → 137 ≤ size → image 0 ≡ superblock v → BeginsRight size image
+begins_right size image v room front = record {
+  volume = λ none. ⊎_elim (λ few. omega arith) (λ other. other (ap (take 8) front)) none;
+  version = λ unknown. known_version v.version (drop 12 (superblock v)) (subst (λ (b : List ℕ). IsNoVersion (little_number 4 (drop 8 b))) front unknown);
+}
+
+-- what is refused as damaged
+pub damaged_alone : {T X : Type 0} (x : VolumeFault) → x ≡ faults.Damaged → (◌≡◌ {A = Result T VolumeFault} (Err x) (Err faults.NotAVolume)) ⊎ (◌≡◌ {A = Result T VolumeFault} (Err x) (Err faults.Version)) → X
+damaged_alone x damaged is = absurd (⊎_elim (λ none. cc) (λ version. cc) is)
+
+-- what the first sector is refused as
+pub front_not_device : (x : VolumeFault) → (x ≡ faults.NotAVolume) ⊎ ((x ≡ faults.Version) ⊎ (x ≡ faults.Damaged)) → is_device x ≡ false
+front_not_device x is = ⊎_elim (λ none. (λ i. is_device (none i))) (λ other. ⊎_elim (λ version. (λ i. is_device (version i))) (λ damaged. (λ i. is_device (damaged i))) other) is
+
+pub or_device_last : (x : VolumeFault) → (x ≡ faults.NotAVolume) ⊎ ((x ≡ faults.Version) ⊎ (x ≡ faults.Damaged)) → (x ≡ faults.NotAVolume) ⊎ ((x ≡ faults.Version) ⊎ ((x ≡ faults.Damaged) ⊎ (x ≡ faults.Device)))
+or_device_last x is = ⊎_elim (λ none. inl none) (λ other. inr (⊎_elim (λ version. inl version) (λ damaged. inr (inl damaged)) other)) is
+
+pub or_memory_last : (x : VolumeFault) → (x ≡ faults.NotAVolume) ⊎ ((x ≡ faults.Version) ⊎ ((x ≡ faults.Damaged) ⊎ (x ≡ faults.Device)))
+    → (x ≡ faults.NotAVolume) ⊎ ((x ≡ faults.Version) ⊎ ((x ≡ faults.Damaged) ⊎ ((x ≡ faults.Device) ⊎ (x ≡ faults.Memory))))
+or_memory_last x is =
+    ⊎_elim (λ none. inl none) (λ other. inr (⊎_elim (λ version. inl version) (λ rest. inr (⊎_elim (λ damaged. inl damaged) (λ device. inr (inl device)) rest)) other)) is
+
+-- what is refused later is a volume of a known version
+pub not_the_front : {X : Type 0} (x : VolumeFault) → (x ≡ faults.Damaged) ⊎ ((x ≡ faults.Device) ⊎ (x ≡ faults.Memory)) → (x ≡ faults.NotAVolume) ⊎ (x ≡ faults.Version) → X
+not_the_front x named front =
+    absurd (⊎_elim (λ damaged. ⊎_elim (λ none. cc) (λ version. cc) front)
+    (λ other. ⊎_elim (λ device. ⊎_elim (λ none. cc) (λ version. cc) front) (λ memory. ⊎_elim (λ none. cc) (λ version. cc) front) other) named)
+
+pub device_not_front : {X : Type 0} → (faults.Device ≡ faults.NotAVolume) ⊎ ((faults.Device ≡ faults.Version) ⊎ (faults.Device ≡ faults.Damaged)) → X
+device_not_front is = absurd (⊎_elim (λ none. cc) (λ other. ⊎_elim (λ version. cc) (λ damaged. cc) other) is)

@@ -40,6 +40,7 @@ pub mod Ranges
 pub mod WaysUp
 pub mod Checked
 pub mod AllNamed
+pub mod Refusals
 pub mod Passes
 pub mod Passed
 pub mod Openings

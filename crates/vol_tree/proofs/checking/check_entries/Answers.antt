@@ -1,49 +1,127 @@
-use Rattle.std.proofs.Common.{◌≡◌, ◌↔◌, ◌+◌, ℕ, List, IsTrue, true, sym, subst, rules}
-use Rattle.vol_log.specs.Log.{view}
+use Rattle.std.proofs.Common.{◌≡◌, ◌↔◌, ◌+◌, ◌<◌, ◌≤◌, ◌∙◌, ℕ, List, IsTrue, true, false, true≢false, inl, inr, refl, sym, subst, arith}
+use Rattle.std.proofs.lemmas.Result.{IfOk-from_err}
+use Rattle.vol_sector.specs.declared.fault.VolumeFault.TheVariants as faults
+use Rattle.vol_log.specs.Log.{view, device_of}
+use Rattle.vol_dirs.specs.Names.{Shows}
 use Rattle.vol_alloc.specs.Numbers.{AreDistinct, ArePlaces, Names}
 use Rattle.vol_alloc.specs.Alloc.{taken_of}
-use Rattle.vol_body.proofs.Surveys.{handed_on}
+use Rattle.vol_body.proofs.Surveys.{handed_on, failed_on, not_device, or_memory}
 use Rattle.vol_tree.proofs.Passes.{tree_passes, places_pass}
 use Rattle.vol_tree.proofs.Passed.{HasPassed, is_content, space_found, taken_found}
+use Rattle.vol_tree.proofs.Refusals.{memory_not_damage}
 use Rattle.vol_tree.proofs.checking.check_entries.Goals as goal
 use Rattle.vol_log.specs.declared.layout.TheConstants.{FIRST_AFTER_LOG}
 
-pub returns-then-not-branch-clause-damaged : goal.returns-then-not-branch-clause-damaged
-returns-then-not-branch-clause-damaged g c h shows is volume =
-    let content = view c.args.log.now in
-    let read = c.in_ok-found.ensures.read h in
-    let yes : c.in_ok-make_a_tree.field-0 ≡ true = c.in_ok-make_a_tree.ensures.no (tree_passes content c.args.numbers.now c.args.dirs.now volume shows c.in_ok-found.found read) in
-    search (rules, yes, c.if-not-branch.true)
+pub make_a_tree-requires : goal.make_a_tree-requires
+make_a_tree-requires g c =
+    let ranges = c.requires.ranges in
+    let count = c.in_ok-found.ensures.count in
+    record {
+      some = subst (λ (n : ℕ). 0 < n) (sym count) ranges.some_slots;
+      few = subst (λ (n : ℕ). n ≤ 8192) (sym count) ranges.few_slots;
+    }
 
-pub returns-in_err-sectors-clause-damaged : goal.returns-in_err-sectors-clause-damaged
-returns-in_err-sectors-clause-damaged g c h shows =
-    let content = view c.args.log.now in
+pub returns-in_err-found : goal.returns-in_err-found
+returns-in_err-found g c =
+    let r = c.from_residual.result in
+    let is_err_now = c.from_residual.ensures.0 in
+    let is = c.from_residual.ensures.1 in
+    let x = c.in_err-found.field-0.0 in
+    let e = c.in_err-found.ensures in
+    record {
+      first = IfOk-from_err r _ is_err_now;
+      end = IfOk-from_err r _ is_err_now;
+      parts = λ h shows. IfOk-from_err r _ is_err_now;
+      damaged = λ h shows. handed_on r _ x is (e.damaged h shows);
+      refused = handed_on r _ x is e.refused;
+      reads = e.reads;
+      failed = failed_on r x _ is e.failed;
+    }
+
+pub returns-in_err-make_a_tree : goal.returns-in_err-make_a_tree
+returns-in_err-make_a_tree g c =
+    let r = c.from_residual-in_err-make_a_tree.result in
+    let is_err_now = c.from_residual-in_err-make_a_tree.ensures.0 in
+    let is = c.from_residual-in_err-make_a_tree.ensures.1 in
+    let read = c.in_ok-found.ensures in
+    record {
+      first = IfOk-from_err r _ is_err_now;
+      end = IfOk-from_err r _ is_err_now;
+      parts = λ h shows. IfOk-from_err r _ is_err_now;
+      damaged = λ h shows. handed_on r _ faults.Memory is (λ damaged. memory_not_damage damaged);
+      refused = handed_on r _ faults.Memory is (inr (inr refl));
+      reads = read.reads;
+      failed = failed_on r faults.Memory _ is read.failed;
+    }
+
+pub returns-then-not-branch : goal.returns-then-not-branch
+returns-then-not-branch g c =
+    let read = c.in_ok-found.ensures in
+    record {
+      first = tt;
+      end = tt;
+      parts = λ h shows. tt;
+      damaged = λ h shows is volume.
+          let yes : c.in_ok-make_a_tree.field-0 ≡ true = c.in_ok-make_a_tree.ensures.no (tree_passes (view c.args.log.now) c.args.numbers.now c.args.dirs.now volume shows c.in_ok-found.found (read.read h)) in
+          true≢false (sym yes ∙ c.if-not-branch.true);
+      refused = inl refl;
+      reads = read.reads;
+      failed = read.failed;
+    }
+
+pub returns-in_err-sectors : goal.returns-in_err-sectors
+returns-in_err-sectors g c =
     let v = c.args.numbers.now in
-    let read = c.in_ok-found.ensures.read h in
-    handed_on c.from_residual-in_err-sectors.result _ c.in_err-sectors.field-0.0 c.from_residual-in_err-sectors.ensures.1
-    (λ is volume. c.in_err-sectors.ensures.damaged is (subst (ArePlaces (FIRST_AFTER_LOG + v.slots) v.sectors) (sym c.deref.ensures.value) (places_pass content v c.args.dirs.now volume shows c.in_ok-found.found read)))
+    let r = c.from_residual-in_err-sectors.result in
+    let is_err_now = c.from_residual-in_err-sectors.ensures.0 in
+    let is = c.from_residual-in_err-sectors.ensures.1 in
+    let x = c.in_err-sectors.field-0.0 in
+    let e = c.in_err-sectors.ensures in
+    let read = c.in_ok-found.ensures in
+    record {
+      first = IfOk-from_err r _ is_err_now;
+      end = IfOk-from_err r _ is_err_now;
+      parts = λ h shows. IfOk-from_err r _ is_err_now;
+      damaged = λ h shows. handed_on r _ x is
+          (λ yes volume. e.damaged yes (subst (ArePlaces (FIRST_AFTER_LOG + v.slots) v.sectors) (sym c.deref.ensures.value) (places_pass (view c.args.log.now) v c.args.dirs.now volume shows c.in_ok-found.found (read.read h))));
+      refused = handed_on r _ x is (or_memory x e.faults_named);
+      reads = read.reads;
+      failed = failed_on r x _ is (read.failed ∙ sym (not_device x e.faults_named));
+    }
 
-pub returns-clause-parts : goal.returns-clause-parts
-returns-clause-parts g c h shows =
+pub returns : goal.returns
+returns g c =
     let content = view c.args.log.now in
     let v = c.args.numbers.now in
     let dirs = c.args.dirs.now in
     let found = c.in_ok-found.found in
+    let read = c.in_ok-found.ensures in
+    let e = c.in_ok-sectors.ensures in
     let same = c.deref.ensures.value in
-    let tree = c.in_ok-make_a_tree.ensures.yes (search (rules, c.if-not-branch.false)) in
-    let passed : HasPassed content v dirs found = record {
+    let tree = c.in_ok-make_a_tree.ensures.yes c.if-not-branch.false in
+    let passed = λ (h : g.D.Device.honest (device_of c.args.log.now)) (shows : Shows v.version content v.slots dirs).
+    let is : HasPassed content v dirs found = record {
       ranges = c.requires.ranges;
-      read = c.in_ok-found.ensures.read h;
-      within = c.in_ok-found.ensures.within;
+      read = read.read h;
+      within = read.within;
       shows = shows;
-      distinct = subst AreDistinct same c.in_ok-sectors.ensures.right.distinct;
+      distinct = subst AreDistinct same e.right.distinct;
       top = tree.top;
       stand = tree.stand;
       lead = tree.lead;
     } in
+    is in
     record {
-      volume = is_content content v dirs found passed;
-      shows = shows;
-      taken = taken_found content v dirs found passed c.in_ok-sectors.sectors (subst (λ (l : List ℕ). (n : ℕ) → IsTrue (taken_of c.in_ok-sectors.sectors n) ↔ Names l n) same c.in_ok-sectors.ensures.taken);
-      reserved = space_found content v dirs found passed;
+      first = e.range.0;
+      end = e.range.1;
+      parts = λ h shows. record {
+        volume = is_content content v dirs found (passed h shows);
+        shows = shows;
+        taken = taken_found content v dirs found (passed h shows) c.in_ok-sectors.sectors (subst (λ (l : List ℕ). (n : ℕ) → IsTrue (taken_of c.in_ok-sectors.sectors n) ↔ Names l n) same e.taken);
+        reserved = space_found content v dirs found (passed h shows);
+      };
+      damaged = λ h shows. tt;
+      refused = tt;
+      reads = read.reads;
+      failed = read.failed;
     }

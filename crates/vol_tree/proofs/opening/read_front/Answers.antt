@@ -1,91 +1,148 @@
-use Rattle.std.proofs.Common.{◌≡◌, inl, inr, ⊎_elim, refl}
+use Rattle.std.proofs.Common.{◌≡◌, ◌≢◌, ◌<◌, ◌∙◌, ⊎_elim, Bool, true, false, ℕ, List, take, drop, inl, inr, refl, sym, ap, subst, Err, arith}
+use Rattle.std.proofs.lemmas.Result.{IfOk-from_err}
+use Rattle.byteorder.specs.Endian.{little_number}
+use Rattle.vol_sector.specs.Disk.{counted}
 use Rattle.vol_sector.specs.declared.fault.VolumeFault.TheVariants as faults
-use Rattle.vol_tree.proofs.Fronts.{none_read, refused_as}
+use Rattle.vol_body.proofs.Surveys.{handed_on, failed_on}
+use Rattle.vol_log.proofs.Moments.{leaves_same}
+use Rattle.vol_tree.specs.declared.superblock.Superblock.{Superblock}
+use Rattle.vol_tree.specs.Superblock.{magic, IsNoVersion}
+use Rattle.vol_tree.proofs.Fronts.{begins_right, damaged_alone, front_not_device, or_device_last, device_not_front}
+use Rattle.vol_tree.proofs.Openings.{one_superblock}
+use Rattle.vol_tree.proofs.Refusals.{err_not_ok}
 use Rattle.vol_tree.proofs.opening.read_front.Goals as goal
 
-pub returns-in_err-image-clause-ranges : goal.returns-in_err-image-clause-ranges
-returns-in_err-image-clause-ranges g c = none_read _ c.from_residual.result faults.Device c.from_residual.ensures.1
+pub returns-then-sectors-lt-LEAST_SECTORS : goal.returns-then-sectors-lt-LEAST_SECTORS
+returns-then-sectors-lt-LEAST_SECTORS g c =
+    let few : g.D.Device.size c.args.device.now < 137 = omega arith in
+    let d = g.D.Device.disk c.args.device.now in
+    record {
+      ranges = tt;
+      room = tt;
+      front = λ h. tt;
+      begins = λ h. tt;
+      not_a_volume = λ h is. inl few;
+      version = λ h is. absurd (cc);
+      damaged = λ h is. absurd (cc);
+      few_sectors = λ same. (refl, refl);
+      refused = inl refl;
+      seen = λ h. refl;
+      crash = λ h. leaves_same d (λ m. ⊥);
+      honest = (λ h. h, λ h. h);
+      size = refl;
+      failures = refl;
+    }
 
-pub returns-in_err-image-clause-room : goal.returns-in_err-image-clause-room
-returns-in_err-image-clause-room g c = none_read _ c.from_residual.result faults.Device c.from_residual.ensures.1
+pub returns-in_err-image : goal.returns-in_err-image
+returns-in_err-image g c =
+    let r = c.from_residual.result in
+    let is_err_now = c.from_residual.ensures.0 in
+    let is = c.from_residual.ensures.1 in
+    let read = c.in_err-image.ensures in
+    record {
+      ranges = IfOk-from_err r _ is_err_now;
+      room = IfOk-from_err r _ is_err_now;
+      front = λ h. IfOk-from_err r _ is_err_now;
+      begins = λ h. IfOk-from_err r _ is_err_now;
+      not_a_volume = λ h. handed_on r _ faults.Device is (λ none. device_not_front (inl none));
+      version = λ h. handed_on r _ faults.Device is (λ version. device_not_front (inr (inl version)));
+      damaged = λ h. handed_on r _ faults.Device is (λ damaged. device_not_front (inr (inr damaged)));
+      few_sectors = λ few. absurd (omega arith);
+      refused = handed_on r _ faults.Device is (inr (inr (inr refl)));
+      seen = read.seen;
+      crash = read.crash;
+      honest = read.honest;
+      size = read.size;
+      failures = read.failures ∙ ap (λ (b : Bool). counted b (g.D.Device.failures c.args.device.now)) (failed_on r faults.Device true is refl);
+    }
 
-pub returns-in_err-image-clause-front : goal.returns-in_err-image-clause-front
-returns-in_err-image-clause-front g c = λ h. none_read _ c.from_residual.result faults.Device c.from_residual.ensures.1
+pub returns-in_err-numbers : goal.returns-in_err-numbers
+returns-in_err-numbers g c =
+    let r = c.from_residual-in_err-numbers.result in
+    let is_err_now = c.from_residual-in_err-numbers.ensures.0 in
+    let is = c.from_residual-in_err-numbers.ensures.1 in
+    let x = c.in_err-numbers.field-0.0 in
+    let e = c.in_err-numbers.ensures in
+    let read = c.in_ok-image.ensures in
+    record {
+      ranges = IfOk-from_err r _ is_err_now;
+      room = IfOk-from_err r _ is_err_now;
+      front = λ h. IfOk-from_err r _ is_err_now;
+      begins = λ h. IfOk-from_err r _ is_err_now;
+      not_a_volume = λ h. handed_on r _ x is (λ none. inr (subst (λ (b : List ℕ). take 8 b ≢ magic) (read.bytes h) (e.not_a_volume.0 (λ i. Err (none i)))));
+      version = λ h. handed_on r _ x is (λ version.
+          let both = e.version.0 (λ i. Err (version i)) in
+          record {
+            begins = λ none. ⊎_elim (λ few. omega arith) (λ other. other (subst (λ (b : List ℕ). take 8 b ≡ magic) (read.bytes h) both.0)) none;
+            version = subst (λ (b : List ℕ). IsNoVersion (little_number 4 (drop 8 b))) (read.bytes h) both.1;
+          });
+      damaged = λ h. handed_on r _ x is (λ damaged.
+          let same = read.bytes h in
+          record {
+            begins = record {
+              volume = λ none. ⊎_elim (λ few. omega arith) (λ other. damaged_alone x damaged (inl (e.not_a_volume.1 (subst (λ (b : List ℕ). take 8 b ≢ magic) (sym same) other)))) none;
+              version = λ no.
+                  let unknown = subst (λ (b : List ℕ). IsNoVersion (little_number 4 (drop 8 b))) (sym same) no in
+                  damaged_alone x damaged (inl (e.not_a_volume.1 (λ begins. damaged_alone x damaged (inr (e.version.1 (begins, unknown))))));
+            };
+            none = λ w T on. err_not_ok x w (e.every w on.stands.ranges (same ∙ on.stands.front));
+          });
+      few_sectors = λ few. absurd (omega arith);
+      refused = handed_on r _ x is (or_device_last x e.named);
+      seen = read.seen;
+      crash = read.crash;
+      honest = read.honest;
+      size = read.size;
+      failures = read.failures ∙ ap (λ (b : Bool). counted b (g.D.Device.failures c.args.device.now)) (failed_on r x false is (sym (front_not_device x e.named)));
+    }
 
-pub returns-in_err-image-clause-begins : goal.returns-in_err-image-clause-begins
-returns-in_err-image-clause-begins g c = λ h. none_read _ c.from_residual.result faults.Device c.from_residual.ensures.1
+pub returns-then-sectors-numbers : goal.returns-then-sectors-numbers
+returns-then-sectors-numbers g c =
+    let read = c.in_ok-image.ensures in
+    let e = c.in_ok-numbers.ensures in
+    let v = c.in_ok-numbers.numbers in
+    let size = g.D.Device.size c.args.device.now in
+    record {
+      ranges = tt;
+      room = tt;
+      front = λ h. tt;
+      begins = λ h. tt;
+      not_a_volume = λ h is. absurd (cc);
+      version = λ h is. absurd (cc);
+      damaged = λ h is.
+          let front = sym (read.bytes h) ∙ e.right.1 in
+          record {
+            begins = begins_right size (g.D.Device.disk c.args.device.now).seen v (omega arith) front;
+            none = λ w T on.
+                let same : w.sectors ≡ v.sectors = ap (λ (s : Superblock). s.sectors) (one_superblock size (g.D.Device.disk c.args.device.now).seen v w T e.right.0 front on) in
+                omega (arith, on.room, same, read.size);
+          };
+      few_sectors = λ few. absurd (omega arith);
+      refused = inr (inr (inl refl));
+      seen = read.seen;
+      crash = read.crash;
+      honest = read.honest;
+      size = read.size;
+      failures = read.failures;
+    }
 
-pub returns-in_err-image-clause-not_a_volume : goal.returns-in_err-image-clause-not_a_volume
-returns-in_err-image-clause-not_a_volume g c = λ h. refused_as _ c.from_residual.result faults.Device c.from_residual.ensures.1 (λ is. absurd (let same : faults.Device ≡ faults.NotAVolume = is in cc))
-
-pub returns-in_err-image-clause-version : goal.returns-in_err-image-clause-version
-returns-in_err-image-clause-version g c = λ h. refused_as _ c.from_residual.result faults.Device c.from_residual.ensures.1 (λ is. absurd (let same : faults.Device ≡ faults.Version = is in cc))
-
-pub returns-in_err-image-clause-damaged : goal.returns-in_err-image-clause-damaged
-returns-in_err-image-clause-damaged g c = λ h. refused_as _ c.from_residual.result faults.Device c.from_residual.ensures.1 (λ is. absurd (let same : faults.Device ≡ faults.Damaged = is in cc))
-
-pub returns-in_err-image-clause-refused : goal.returns-in_err-image-clause-refused
-returns-in_err-image-clause-refused g c = refused_as _ c.from_residual.result faults.Device c.from_residual.ensures.1 (inr (inr (inr refl)))
-
-pub returns-in_err-image-clause-seen : goal.returns-in_err-image-clause-seen
-returns-in_err-image-clause-seen g c = c.read.ensures.seen
-
-pub returns-in_err-image-clause-crash : goal.returns-in_err-image-clause-crash
-returns-in_err-image-clause-crash g c = c.read.ensures.crash
-
-pub returns-in_err-image-clause-honest : goal.returns-in_err-image-clause-honest
-returns-in_err-image-clause-honest g c = c.read.ensures.honest
-
-pub returns-in_err-image-clause-size : goal.returns-in_err-image-clause-size
-returns-in_err-image-clause-size g c = c.read.ensures.size
-
-pub returns-in_err-numbers-clause-ranges : goal.returns-in_err-numbers-clause-ranges
-returns-in_err-numbers-clause-ranges g c = none_read _ c.from_residual-in_err-numbers.result c.in_err-numbers.field-0.0 c.from_residual-in_err-numbers.ensures.1
-
-pub returns-in_err-numbers-clause-room : goal.returns-in_err-numbers-clause-room
-returns-in_err-numbers-clause-room g c = none_read _ c.from_residual-in_err-numbers.result c.in_err-numbers.field-0.0 c.from_residual-in_err-numbers.ensures.1
-
-pub returns-in_err-numbers-clause-front : goal.returns-in_err-numbers-clause-front
-returns-in_err-numbers-clause-front g c = λ h. none_read _ c.from_residual-in_err-numbers.result c.in_err-numbers.field-0.0 c.from_residual-in_err-numbers.ensures.1
-
-pub returns-in_err-numbers-clause-begins : goal.returns-in_err-numbers-clause-begins
-returns-in_err-numbers-clause-begins g c = λ h. none_read _ c.from_residual-in_err-numbers.result c.in_err-numbers.field-0.0 c.from_residual-in_err-numbers.ensures.1
-
-pub returns-in_err-numbers-clause-refused : goal.returns-in_err-numbers-clause-refused
-returns-in_err-numbers-clause-refused g c = refused_as _ c.from_residual-in_err-numbers.result c.in_err-numbers.field-0.0 c.from_residual-in_err-numbers.ensures.1 (⊎_elim (λ none. inl none) (λ other. inr (⊎_elim (λ version. inl version) (λ damaged. inr (inl damaged)) other)) c.in_err-numbers.ensures.named)
-
-pub returns-in_err-numbers-clause-seen : goal.returns-in_err-numbers-clause-seen
-returns-in_err-numbers-clause-seen g c = c.read.ensures.seen
-
-pub returns-in_err-numbers-clause-crash : goal.returns-in_err-numbers-clause-crash
-returns-in_err-numbers-clause-crash g c = c.read.ensures.crash
-
-pub returns-in_err-numbers-clause-honest : goal.returns-in_err-numbers-clause-honest
-returns-in_err-numbers-clause-honest g c = c.read.ensures.honest
-
-pub returns-in_err-numbers-clause-size : goal.returns-in_err-numbers-clause-size
-returns-in_err-numbers-clause-size g c = c.read.ensures.size
-
-pub returns-then-sectors-numbers-clause-seen : goal.returns-then-sectors-numbers-clause-seen
-returns-then-sectors-numbers-clause-seen g c = c.read.ensures.seen
-
-pub returns-then-sectors-numbers-clause-crash : goal.returns-then-sectors-numbers-clause-crash
-returns-then-sectors-numbers-clause-crash g c = c.read.ensures.crash
-
-pub returns-then-sectors-numbers-clause-honest : goal.returns-then-sectors-numbers-clause-honest
-returns-then-sectors-numbers-clause-honest g c = c.read.ensures.honest
-
-pub returns-then-sectors-numbers-clause-size : goal.returns-then-sectors-numbers-clause-size
-returns-then-sectors-numbers-clause-size g c = c.read.ensures.size
-
-pub returns-clause-seen : goal.returns-clause-seen
-returns-clause-seen g c = c.read.ensures.seen
-
-pub returns-clause-crash : goal.returns-clause-crash
-returns-clause-crash g c = c.read.ensures.crash
-
-pub returns-clause-honest : goal.returns-clause-honest
-returns-clause-honest g c = c.read.ensures.honest
-
-pub returns-clause-size : goal.returns-clause-size
-returns-clause-size g c = c.read.ensures.size
+pub returns : goal.returns
+returns g c =
+    let read = c.in_ok-image.ensures in
+    let e = c.in_ok-numbers.ensures in
+    record {
+      ranges = e.right.0;
+      room = omega arith;
+      front = λ h. sym (read.bytes h) ∙ e.right.1;
+      begins = λ h. begins_right (g.D.Device.size c.args.device.now) (g.D.Device.disk c.args.device.now).seen c.in_ok-numbers.numbers (omega arith) (sym (read.bytes h) ∙ e.right.1);
+      not_a_volume = λ h. tt;
+      version = λ h. tt;
+      damaged = λ h. tt;
+      few_sectors = λ few. absurd (omega arith);
+      refused = tt;
+      seen = read.seen;
+      crash = read.crash;
+      honest = read.honest;
+      size = read.size;
+      failures = read.failures;
+    }

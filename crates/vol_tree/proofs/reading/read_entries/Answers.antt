@@ -1,14 +1,17 @@
-use Rattle.std.proofs.Common.{◌≡◌, subst, arith}
+use Rattle.std.proofs.Common.{◌≡◌, ◌≤◌, ◌∙◌, ◌+◌, ℕ, length, refl, sym, ap, subst, arith}
+use Rattle.std.proofs.lemmas.Result.{IfOk-from_err}
 use Rattle.vol_sector.specs.Disk.{Image}
 use Rattle.vol_sector.specs.declared.fault.VolumeFault.TheVariants.{Damaged}
 use Rattle.vol_log.specs.Log.{view}
-use Rattle.vol_log.proofs.Readings.{reads_then}
-use Rattle.vol_body.proofs.Surveys.{handed_on}
+use Rattle.vol_log.proofs.Readings.{reads_same, reads_then}
+use Rattle.vol_body.proofs.Surveys.{handed_on, failed_on}
 use Rattle.vol_dirs.specs.Names.{Shows}
-use Rattle.vol_tree.specs.internal.Reads.{held_at, Adds, IsRight, FitIn}
-use Rattle.vol_tree.proofs.Checked.{more_read}
+use Rattle.vol_tree.specs.declared.reading.Entries.{Entries}
+use Rattle.vol_tree.specs.internal.Reads.{held_at, Adds, IsRight, FitIn, HaveRead}
+use Rattle.vol_tree.proofs.Checked.{none_inside, none_read, more_read}
 use Rattle.vol_tree.proofs.Passes.{not_refused}
 use Rattle.vol_tree.proofs.reading.read_entries.Goals as goal
+use Rattle.vol_log.specs.declared.layout.TheConstants.{FIRST_AFTER_LOG}
 
 pub loop-slot-preserved : goal.loop-slot-preserved
 loop-slot-preserved g c =
@@ -29,16 +32,65 @@ loop-slot-preserved g c =
           (subst (λ (m : Image). IsRight m v c.args.dirs.now s (held_at m v s)) (so_far.reads.view h) (done.right h1));
     }
 
-pub returns-in_err-read_slot-clause-damaged : goal.returns-in_err-read_slot-clause-damaged
-returns-in_err-read_slot-clause-damaged g c h shows =
+pub read_slot-requires : goal.read_slot-requires
+read_slot-requires g c =
+    let so_far = c.loop-slot.invariant in
+    record {
+      there = subst (λ (n : ℕ). c.args.numbers.now.sectors ≤ n) (sym so_far.reads.sectors) c.requires.there;
+      ranges = c.requires.ranges;
+      working = so_far.working;
+      slot = c.loop-slot-test.true;
+      within = so_far.within;
+    }
+
+pub returns-in_err-read_slot : goal.returns-in_err-read_slot
+returns-in_err-read_slot g c =
     let content = view c.args.log.now in
     let v = c.args.numbers.now in
     let dirs = c.args.dirs.now in
     let s = c.loop-slot.slot in
     let so_far = c.loop-slot.invariant in
-    let h1 = so_far.reads.honest.0 h in
-    let same = so_far.reads.view h in
-    let damaged = subst (λ (m : Image). Shows v.version m v.slots dirs → (c.in_err-read_slot.field-0.0 ≡ Damaged
-    → IsRight m v dirs s (held_at m v s) → FitIn m v (held_at m v s) c.loop-slot.found → ⊥)) same (c.in_err-read_slot.ensures.damaged h1) shows in
-    handed_on c.from_residual.result _ c.in_err-read_slot.field-0.0 c.from_residual.ensures.1
-    (λ is volume. not_refused content v dirs volume shows s c.loop-slot.found c.loop-slot-test.true (so_far.read h) (damaged is))
+    let r = c.from_residual.result in
+    let is_err_now = c.from_residual.ensures.0 in
+    let is = c.from_residual.ensures.1 in
+    let x = c.in_err-read_slot.field-0.0 in
+    let e = c.in_err-read_slot.ensures in
+    record {
+      read = λ h. IfOk-from_err r _ is_err_now;
+      within = IfOk-from_err r _ is_err_now;
+      count = IfOk-from_err r _ is_err_now;
+      damaged = λ h shows.
+          let damaged = subst (λ (m : Image). Shows v.version m v.slots dirs → (x ≡ Damaged → IsRight m v dirs s (held_at m v s) → FitIn m v (held_at m v s) c.loop-slot.found → ⊥)) (so_far.reads.view h)
+          (e.damaged (so_far.reads.honest.0 h)) shows in
+          handed_on r _ x is (λ yes volume. not_refused content v dirs volume shows s c.loop-slot.found c.loop-slot-test.true (so_far.read h) (damaged yes));
+      refused = handed_on r _ x is e.refused;
+      reads = reads_then c.args.log.now c.loop-slot.log c.read_slot.new.log so_far.working so_far.reads e.reads;
+      failed = failed_on r x _ is e.failed;
+    }
+
+pub returns : goal.returns
+returns g c =
+    let so_far = c.loop-slot.invariant in
+    let v = c.args.numbers.now in
+    let all : c.loop-slot.slot ≡ v.slots = omega (arith, c.loop-slot-test.false, c.loop-slot.auto.slot-end) in
+    record {
+      read = λ h. subst (λ (n : ℕ). HaveRead (view c.args.log.now) v c.args.dirs.now n c.loop-slot.found) all (so_far.read h);
+      within = so_far.within;
+      count = so_far.count ∙ all;
+      damaged = λ h shows. tt;
+      refused = tt;
+      reads = so_far.reads;
+      failed = so_far.working;
+    }
+
+pub loop-slot-init : goal.loop-slot-init
+loop-slot-init g c =
+    let v = c.args.numbers.now in
+    let found : Entries = record { named = c.new.result; parents = c.new-2.result; directories = c.new-3.result; reserved = 0 } in
+    record {
+      working = c.requires.working;
+      reads = reads_same c.args.log.now;
+      count = ap length c.new-2.ensures.items;
+      within = record { inside = none_inside (FIRST_AFTER_LOG + v.slots) v.sectors c.new.result.items c.new.ensures.items; room = omega arith };
+      read = λ h. none_read (view c.args.log.now) v c.args.dirs.now found c.new.ensures.items c.new-2.ensures.items c.new-3.ensures.items refl;
+    }

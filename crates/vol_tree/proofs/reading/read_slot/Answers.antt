@@ -1,69 +1,126 @@
-use Rattle.std.proofs.Common.{◌≡◌, ◌≢◌, ◌+◌, ◌∙◌, Option, Some, IfSome, Ok, OnOk, IfErr, sym, ap, subst}
-use Rattle.std.proofs.lemmas.Result.{IfErr-weaker, on_ok_weaker}
+use Rattle.std.proofs.Common.{◌≡◌, ◌≢◌, ◌≤◌, ◌+◌, ◌∙◌, ℕ, true, false, inl, inr, refl, Option, Some, None, IfSome, Ok, OnOk, IfErr, sym, ap, subst, arith}
+use Rattle.std.proofs.lemmas.Result.{IfOk-from_err, IfErr-weaker, on_ok_weaker}
 use Rattle.vol_sector.specs.Disk.{Image}
-use Rattle.vol_sector.specs.declared.fault.VolumeFault.TheVariants.{Damaged}
+use Rattle.vol_sector.specs.declared.fault.VolumeFault.TheVariants.{Damaged, Device}
 use Rattle.vol_inode.specs.declared.entry.Entry.{Entry}
 use Rattle.vol_inode.specs.Entry.{IsEntry, name_of}
 use Rattle.vol_inode.specs.Spelling.{spelling, unused}
-use Rattle.vol_log.specs.Log.{view}
-use Rattle.vol_body.specs.Survey.{IsTrimmed}
+use Rattle.vol_log.specs.Log.{view, device_of}
+use Rattle.vol_log.proofs.Readings.{reads_of, reads_then}
+use Rattle.vol_body.specs.Survey.{AreInside, IsTrimmed}
+use Rattle.vol_body.proofs.Surveys.{handed_on, failed_on, device_not_damaged, no_device_failed}
 use Rattle.vol_dirs.specs.Names.{Names}
+use Rattle.vol_tree.specs.Opened.{data_sectors}
 use Rattle.vol_tree.specs.internal.Reads.{Adds, IsPlaced, FitIn}
-use Rattle.vol_tree.proofs.Checked.{held_none, right_none, held_some, right_some, some_contradicts}
+use Rattle.vol_tree.proofs.Checked.{held_none, right_none, held_some, right_some, some_contradicts, refused_contradicts}
 use Rattle.vol_tree.proofs.Committing.{at_ok, on_ok}
+use Rattle.vol_tree.proofs.Refusals.{memory_not_damage, err_not_ok}
 use Rattle.vol_tree.proofs.reading.read_slot.Goals as goal
 use Rattle.vol_log.specs.declared.layout.TheConstants.{FIRST_AFTER_LOG}
 
-pub returns-in-Ok-Some-clause-adds : goal.returns-in-Ok-Some-clause-adds
-returns-in-Ok-Some-clause-adds g c h =
-    let content = view c.args.log.now in
-    let read = c.in_ok-image.ensures in
-    let v = c.args.numbers.now in
-    let e = c.in-Ok-Some.entry in
-    let both = subst (λ (o : Option Entry). IfSome o (λ d. IsEntry v.version d × (c.in_ok-image.image ≡ spelling d))) c.in-Ok-Some.field-0-is c.in-Ok-Some.ensures.right in
-    let spelled : content (FIRST_AFTER_LOG + c.args.slot) ≡ spelling e = sym (read.value h) ∙ both.1 in
-    let is = held_some content v c.args.dirs.now c.args.slot c.requires.slot e both.0 spelled in
-    let adds = c.take_up.ensures.adds (read.honest.0 h) in
-    subst (λ (o : Option Entry). OnOk c.take_up.result (Adds content o c.args.found.now c.take_up.new.found)) (sym is)
-    (subst (λ (m : Image). OnOk c.take_up.result (Adds m (Some e) c.args.found.now c.take_up.new.found)) (read.view h) adds)
+pub read-requires : goal.read-requires
+read-requires g c = omega (arith, c.requires.there, c.requires.ranges.room, c.requires.slot)
 
-pub returns-in-Ok-Some-clause-right : goal.returns-in-Ok-Some-clause-right
-returns-in-Ok-Some-clause-right g c h =
-    let content = view c.args.log.now in
-    let read = c.in_ok-image.ensures in
+pub take_up-requires : goal.take_up-requires
+take_up-requires g c =
     let v = c.args.numbers.now in
-    let e = c.in-Ok-Some.entry in
     let both = subst (λ (o : Option Entry). IfSome o (λ d. IsEntry v.version d × (c.in_ok-image.image ≡ spelling d))) c.in-Ok-Some.field-0-is c.in-Ok-Some.ensures.right in
-    let spelled : content (FIRST_AFTER_LOG + c.args.slot) ≡ spelling e = sym (read.value h) ∙ both.1 in
-    let trimmed = subst (λ (m : Image). OnOk c.take_up.result (IsTrimmed m e)) (read.view h) (c.take_up.ensures.trimmed (read.honest.0 h)) in
-    on_ok c.take_up.result _ (λ done. right_some content v c.args.dirs.now c.args.slot c.requires.slot e both.0 spelled
-    (at_ok c.take_up.result _ c.take_up.ensures.placed done) (at_ok c.take_up.result _ trimmed done))
+    record {
+      there = subst (λ (n : ℕ). v.sectors ≤ n) (sym c.in_ok-image.ensures.sectors) c.requires.there;
+      ranges = c.requires.ranges;
+      working = c.in_ok-image.ensures.failed;
+      right = both.0;
+      within = c.requires.within;
+    }
 
-pub returns-in-Ok-Some-clause-damaged : goal.returns-in-Ok-Some-clause-damaged
-returns-in-Ok-Some-clause-damaged g c h shows =
+pub returns-in_err-image : goal.returns-in_err-image
+returns-in_err-image g c =
+    let r = c.from_residual.result in
+    let is_err_now = c.from_residual.ensures.0 in
+    let is = c.from_residual.ensures.1 in
+    let read = c.in_err-image.ensures in
+    record {
+      adds = λ h. IfOk-from_err r _ is_err_now;
+      within = IfOk-from_err r _ is_err_now;
+      count = IfOk-from_err r _ is_err_now;
+      right = λ h. IfOk-from_err r _ is_err_now;
+      damaged = λ h shows. handed_on r _ Device is (λ damaged. device_not_damaged damaged);
+      refused = handed_on r _ Device is (inr (inl refl));
+      reads = reads_of c.args.log.now c.read.new.self true read.view read.staged read.seen read.crash read.sectors read.honest read.size read.failures read.failed;
+      failed = failed_on r Device _ is read.failed;
+    }
+
+pub returns-in-Ok-Some : goal.returns-in-Ok-Some
+returns-in-Ok-Some g c =
     let content = view c.args.log.now in
     let read = c.in_ok-image.ensures in
     let v = c.args.numbers.now in
-    let e = c.in-Ok-Some.entry in
     let dirs = c.args.dirs.now in
     let found = c.args.found.now in
+    let e = c.in-Ok-Some.entry in
+    let r = c.take_up.result in
+    let taken = c.take_up.ensures in
     let both = subst (λ (o : Option Entry). IfSome o (λ d. IsEntry v.version d × (c.in_ok-image.image ≡ spelling d))) c.in-Ok-Some.field-0-is c.in-Ok-Some.ensures.right in
-    let spelled : content (FIRST_AFTER_LOG + c.args.slot) ≡ spelling e = sym (read.value h) ∙ both.1 in
-    let damaged = subst (λ (m : Image). IfErr c.take_up.result (λ fault. fault ≡ Damaged
-    → (e.parent ≢ 0 → Names dirs e.parent (name_of e) (c.args.slot + 1)) → IsPlaced dirs (c.args.slot + 1) e → IsTrimmed m e → FitIn m v (Some e) found → ⊥)) (read.view h) (c.take_up.ensures.damaged (read.honest.0 h)) in
-    IfErr-weaker c.take_up.result _ _ (λ fault none is. some_contradicts content v dirs c.args.slot c.requires.slot e both.0 spelled found shows (none is)) damaged
+    let spelled = λ (h : g.D.Device.honest (device_of c.args.log.now)). let is : content (FIRST_AFTER_LOG + c.args.slot) ≡ spelling e = sym (read.value h) ∙ both.1 in is in
+    record {
+      adds = λ h.
+          let is = held_some content v dirs c.args.slot c.requires.slot e both.0 (spelled h) in
+          subst (λ (o : Option Entry). OnOk r (Adds content o found c.take_up.new.found)) (sym is)
+          (subst (λ (m : Image). OnOk r (Adds m (Some e) found c.take_up.new.found)) (read.view h) (taken.adds (read.honest.0 h)));
+      within = taken.within;
+      count = taken.count;
+      right = λ h.
+          let trimmed = subst (λ (m : Image). OnOk r (IsTrimmed m e)) (read.view h) (taken.trimmed (read.honest.0 h)) in
+          on_ok r _ (λ done. right_some content v dirs c.args.slot c.requires.slot e both.0 (spelled h) (at_ok r _ taken.placed done) (at_ok r _ trimmed done));
+      damaged = λ h shows.
+          let damaged = subst (λ (m : Image). IfErr r (λ fault. fault ≡ Damaged
+          → (e.parent ≢ 0 → Names dirs e.parent (name_of e) (c.args.slot + 1)) → IsPlaced dirs (c.args.slot + 1) e → IsTrimmed m e → FitIn m v (Some e) found → ⊥)) (read.view h) (taken.damaged (read.honest.0 h)) in
+          IfErr-weaker r _ _ (λ fault none is. some_contradicts content v dirs c.args.slot c.requires.slot e both.0 (spelled h) found shows (none is)) damaged;
+      refused = taken.refused;
+      reads = reads_then c.args.log.now c.read.new.self c.take_up.new.log read.failed (reads_of c.args.log.now c.read.new.self false read.view read.staged read.seen read.crash read.sectors read.honest read.size read.failures read.failed) taken.reads;
+      failed = taken.failed;
+    }
 
-pub returns-in-Ok-None-clause-adds : goal.returns-in-Ok-None-clause-adds
-returns-in-Ok-None-clause-adds g c h =
+pub returns-in-Ok-None : goal.returns-in-Ok-None
+returns-in-Ok-None g c =
     let content = view c.args.log.now in
     let read = c.in_ok-image.ensures in
-    let none : content (FIRST_AFTER_LOG + c.args.slot) ≡ unused = sym (read.value h) ∙ c.in-Ok-None.ensures.unused.0 (ap Ok c.in-Ok-None.field-0-is) in
-    let is = held_none content c.args.numbers.now c.args.dirs.now c.args.slot c.requires.slot none in
-    on_ok_weaker c.pass.result (λ adds. subst (λ (o : Option Entry). Adds content o c.args.found.now c.pass.new.self) (sym is) (adds content)) c.pass.ensures.adds
+    let v = c.args.numbers.now in
+    let dirs = c.args.dirs.now in
+    let found = c.args.found.now in
+    let r = c.pass.result in
+    let passed = c.pass.ensures in
+    let none = λ (h : g.D.Device.honest (device_of c.args.log.now)). let is : content (FIRST_AFTER_LOG + c.args.slot) ≡ unused = sym (read.value h) ∙ c.in-Ok-None.ensures.unused.0 (ap Ok c.in-Ok-None.field-0-is) in is in
+    record {
+      adds = λ h.
+          let is = held_none content v dirs c.args.slot c.requires.slot (none h) in
+          on_ok_weaker r (λ adds. subst (λ (o : Option Entry). Adds content o found c.pass.new.self) (sym is) (adds content)) passed.adds;
+      within = on_ok r _ (λ done. record {
+          inside = subst (AreInside (FIRST_AFTER_LOG + v.slots) v.sectors) (sym passed.named) c.requires.within.inside;
+          room = subst (λ (n : ℕ). n ≤ data_sectors v) (sym passed.reserved) c.requires.within.room;
+        });
+      count = passed.count;
+      right = λ h. on_ok r _ (λ done. right_none content v dirs c.args.slot c.requires.slot (none h));
+      damaged = λ h shows. IfErr-weaker r _ _ (λ fault is damaged. memory_not_damage (sym is ∙ damaged)) passed.refused;
+      refused = IfErr-weaker r _ _ (λ fault is. inr (inr is)) passed.refused;
+      reads = reads_of c.args.log.now c.read.new.self false read.view read.staged read.seen read.crash read.sectors read.honest read.size read.failures read.failed;
+      failed = read.failed ∙ sym (no_device_failed r (IfErr-weaker r _ _ (λ fault is. inr is) passed.refused));
+    }
 
-pub returns-in-Ok-None-clause-right : goal.returns-in-Ok-None-clause-right
-returns-in-Ok-None-clause-right g c h =
-    let content = view c.args.log.now in
+pub returns-in-Err : goal.returns-in-Err
+returns-in-Err g c =
     let read = c.in_ok-image.ensures in
-    let none : content (FIRST_AFTER_LOG + c.args.slot) ≡ unused = sym (read.value h) ∙ c.in-Ok-None.ensures.unused.0 (ap Ok c.in-Ok-None.field-0-is) in
-    on_ok c.pass.result _ (λ done. right_none content c.args.numbers.now c.args.dirs.now c.args.slot c.requires.slot none)
+    let e = c.in-Err.ensures in
+    let why = c.in-Err.field-0 in
+    record {
+      adds = λ h. tt;
+      within = tt;
+      count = tt;
+      right = λ h. tt;
+      damaged = λ h shows is right fits.
+          refused_contradicts (view c.args.log.now) c.args.numbers.now c.args.dirs.now c.args.slot (λ d is_entry spelled. err_not_ok why (Some d) (e.every d is_entry (read.value h ∙ spelled)))
+          (λ none. err_not_ok why None (e.unused.1 (read.value h ∙ none))) right;
+      refused = inl refl;
+      reads = reads_of c.args.log.now c.read.new.self false read.view read.staged read.seen read.crash read.sectors read.honest read.size read.failures read.failed;
+      failed = read.failed;
+    }

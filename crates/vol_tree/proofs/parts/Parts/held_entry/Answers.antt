@@ -1,42 +1,115 @@
-use Rattle.std.proofs.Common.{◌≡◌, ◌∙◌, ◌-◌, get_or, Some, None, sym, ap}
+use Rattle.std.proofs.Common.{◌≡◌, ◌∙◌, ◌-◌, ℕ, Bool, true≢false, get_or, Option, Some, None, MatchOption, sym, ap, subst}
+use Rattle.std.proofs.lemmas.Result.{IfOk-from_err}
 use Rattle.std.proofs.lemmas.Bool.{false≢true}
 use Rattle.std.proofs.lemmas.Option.{same_Some, none-some}
 use Rattle.vol_log.specs.Log.{view}
+use Rattle.vol_inode.specs.declared.entry.Entry.{Entry}
 use Rattle.vol_inode.specs.Entry.{name_of}
+use Rattle.vol_dirs.specs.Names.{Names}
 use Rattle.vol_tree.specs.internal.Slots.{slot_of}
+use Rattle.vol_tree.specs.internal.Commits.{Commits}
 use Rattle.vol_tree.specs.Stands.{Slots}
 use Rattle.vol_tree.proofs.Children.{is_found}
 use Rattle.vol_tree.proofs.Finding.{looks_up}
+use Rattle.vol_tree.proofs.Taking.{passed_io, passed_err}
 use Rattle.vol_tree.proofs.parts.Parts.held_entry.Goals as goal
 
-pub returns-then-not-is_name-clause-found : goal.returns-then-not-is_name-clause-found
-returns-then-not-is_name-clause-found g c h other used =
-    let mid = c.entry.new.self in
-    let commits = c.in_ok-entry.ensures.commits in
-    let h1 = commits.kept.honest.0 h in
-    let d = c.in_ok-entry.entry in
-    let slot : slot_of (view mid.log) mid.numbers c.args.serial ≡ Some d = ap (λ (s : Slots). get_or s (c.args.serial - 1) None) (commits.slots h) ∙ c.in_ok-entry.ensures.found h used in
-    let there = is_found (view mid.log) mid.numbers mid.dirs (commits.is_open.content h1) (commits.is_open.shows h1) c.args.serial d c.requires.first other slot in
-    absurd (false≢true (sym c.if-not-is_name.true ∙ c.is_name.ensures.1 there.0))
+pub entry-requires : goal.entry-requires
+entry-requires g c = record { is_open = c.requires.is_open; first = c.requires.first; last = c.requires.last }
 
-pub returns-in_default-clause-found : goal.returns-in_default-clause-found
-returns-in_default-clause-found g c h other used =
-    let mid = c.entry.new.self in
-    let commits = c.in_ok-entry.ensures.commits in
-    let h1 = commits.kept.honest.0 h in
-    let d = c.in_ok-entry.entry in
-    let slot : slot_of (view mid.log) mid.numbers c.args.serial ≡ Some d = ap (λ (s : Slots). get_or s (c.args.serial - 1) None) (commits.slots h) ∙ c.in_ok-entry.ensures.found h used in
-    let there = is_found (view mid.log) mid.numbers mid.dirs (commits.is_open.content h1) (commits.is_open.shows h1) c.args.serial d c.requires.first other slot in
-    let looks = looks_up (view mid.log) mid.numbers mid.dirs (commits.is_open.content h1) (commits.is_open.shows h1) c.in_ok-found.field-0 d.parent (name_of d) c.in_ok-found.ensures.found in
-    absurd (c.if-found-serial.false (same_Some c.in-Some.found c.args.serial (sym c.in-Some.is ∙ looks ∙ there.1)))
+pub lookup-requires : goal.lookup-requires
+lookup-requires g c = c.is_name.ensures.0 c.if-not-is_name.false
 
-pub returns-in_default-2-clause-found : goal.returns-in_default-2-clause-found
-returns-in_default-2-clause-found g c h other used =
+pub returns-in_err-entry : goal.returns-in_err-entry
+returns-in_err-entry g c =
+    let r = c.from_residual.result in
+    let is_err_now = c.from_residual.ensures.0 in
+    let is = c.from_residual.ensures.1 in
+    let x = c.in_err-entry.field-0.0 in
+    let e = c.in_err-entry.ensures in
+    record {
+      commits = subst (λ (io : Bool). Commits c.args.self.now c.entry.new.self io) (passed_io Entry r x is) e.commits;
+      quiet = e.quiet;
+      view = e.view;
+      right = IfOk-from_err r _ is_err_now;
+      held = IfOk-from_err r _ is_err_now;
+      found = λ h other used. passed_err r x _ is (e.found h used);
+    }
+
+pub returns-then-not-is_name : goal.returns-then-not-is_name
+returns-then-not-is_name g c =
     let mid = c.entry.new.self in
-    let commits = c.in_ok-entry.ensures.commits in
-    let h1 = commits.kept.honest.0 h in
+    let e = c.in_ok-entry.ensures in
+    let commits = e.commits in
     let d = c.in_ok-entry.entry in
-    let slot : slot_of (view mid.log) mid.numbers c.args.serial ≡ Some d = ap (λ (s : Slots). get_or s (c.args.serial - 1) None) (commits.slots h) ∙ c.in_ok-entry.ensures.found h used in
-    let there = is_found (view mid.log) mid.numbers mid.dirs (commits.is_open.content h1) (commits.is_open.shows h1) c.args.serial d c.requires.first other slot in
-    let looks = looks_up (view mid.log) mid.numbers mid.dirs (commits.is_open.content h1) (commits.is_open.shows h1) c.in_ok-found.field-0 d.parent (name_of d) c.in_ok-found.ensures.found in
-    absurd (none-some c.args.serial (sym c.in_default.is ∙ looks ∙ there.1))
+    record {
+      commits = commits;
+      quiet = e.quiet;
+      view = e.view;
+      right = tt;
+      held = tt;
+      found = λ h other used.
+          let h1 = commits.kept.honest.0 h in
+          let slot : slot_of (view mid.log) mid.numbers c.args.serial ≡ Some d = ap (λ (s : Slots). get_or s (c.args.serial - 1) None) (commits.slots h) ∙ e.found h used in
+          let there = is_found (view mid.log) mid.numbers mid.dirs (commits.is_open.content h1) (commits.is_open.shows h1) c.args.serial d c.requires.first other slot in
+          absurd (false≢true (sym c.if-not-is_name.true ∙ c.is_name.ensures.1 there.0));
+    }
+
+-- The log has not failed, as the entry was read.
+pub returns-in_err-found : goal.returns-in_err-found
+returns-in_err-found g c = absurd (true≢false (c.in_err-found.ensures.failed ∙ c.in_ok-entry.ensures.commits.kept.failed))
+
+pub returns-in-Some : goal.returns-in-Some
+returns-in-Some g c =
+    let dirs = c.entry.new.self.dirs in
+    let e = c.in_ok-entry.ensures in
+    let d = c.in_ok-entry.entry in
+    let names : Names dirs d.parent (name_of d) c.in-Some.found = subst (λ (o : Option ℕ). MatchOption o ((s : ℕ) → Names dirs d.parent (name_of d) s → ⊥) (λ s. Names dirs d.parent (name_of d) s)) c.in-Some.is c.in_ok-found.ensures.found in
+    record {
+      commits = e.commits;
+      quiet = e.quiet;
+      view = e.view;
+      right = e.right;
+      held = subst (Names dirs d.parent (name_of d)) c.if-found-serial.true names;
+      found = λ h other used. e.found h used;
+    }
+
+pub returns-in_default : goal.returns-in_default
+returns-in_default g c =
+    let mid = c.entry.new.self in
+    let e = c.in_ok-entry.ensures in
+    let commits = e.commits in
+    let d = c.in_ok-entry.entry in
+    record {
+      commits = commits;
+      quiet = e.quiet;
+      view = e.view;
+      right = tt;
+      held = tt;
+      found = λ h other used.
+          let h1 = commits.kept.honest.0 h in
+          let slot : slot_of (view mid.log) mid.numbers c.args.serial ≡ Some d = ap (λ (s : Slots). get_or s (c.args.serial - 1) None) (commits.slots h) ∙ e.found h used in
+          let there = is_found (view mid.log) mid.numbers mid.dirs (commits.is_open.content h1) (commits.is_open.shows h1) c.args.serial d c.requires.first other slot in
+          let looks = looks_up (view mid.log) mid.numbers mid.dirs (commits.is_open.content h1) (commits.is_open.shows h1) c.in_ok-found.field-0 d.parent (name_of d) c.in_ok-found.ensures.found in
+          absurd (c.if-found-serial.false (same_Some c.in-Some.found c.args.serial (sym c.in-Some.is ∙ looks ∙ there.1)));
+    }
+
+pub returns-in_default-2 : goal.returns-in_default-2
+returns-in_default-2 g c =
+    let mid = c.entry.new.self in
+    let e = c.in_ok-entry.ensures in
+    let commits = e.commits in
+    let d = c.in_ok-entry.entry in
+    record {
+      commits = commits;
+      quiet = e.quiet;
+      view = e.view;
+      right = tt;
+      held = tt;
+      found = λ h other used.
+          let h1 = commits.kept.honest.0 h in
+          let slot : slot_of (view mid.log) mid.numbers c.args.serial ≡ Some d = ap (λ (s : Slots). get_or s (c.args.serial - 1) None) (commits.slots h) ∙ e.found h used in
+          let there = is_found (view mid.log) mid.numbers mid.dirs (commits.is_open.content h1) (commits.is_open.shows h1) c.args.serial d c.requires.first other slot in
+          let looks = looks_up (view mid.log) mid.numbers mid.dirs (commits.is_open.content h1) (commits.is_open.shows h1) c.in_ok-found.field-0 d.parent (name_of d) c.in_ok-found.ensures.found in
+          absurd (none-some c.args.serial (sym c.in_default.is ∙ looks ∙ there.1));
+    }

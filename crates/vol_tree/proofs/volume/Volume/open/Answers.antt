@@ -1,128 +1,228 @@
-use Rattle.std.proofs.Common.{◌≡◌, ◌∙◌, List, sym, subst, ap}
-use Rattle.vol_sector.specs.Disk.{Image, Leaves}
+use Rattle.std.proofs.Common.{◌≡◌, ◌↔◌, ◌≤◌, ◌∙◌, ℕ, List, Bool, inl, inr, sym, subst, ap, arith}
+use Rattle.vol_sector.specs.Disk.{Image, Leaves, counted}
+use Rattle.vol_sector.specs.Fault.{is_device}
 use Rattle.vol_log.specs.Log.{view, device_of}
 use Rattle.vol_log.specs.Batch.{over}
 use Rattle.vol_log.specs.declared.staged.Staged.{Staged}
-use Rattle.vol_log.proofs.Moments.{leaves_quiet}
+use Rattle.vol_log.proofs.Moments.{leaves_quiet, both_then}
 use Rattle.vol_tree.specs.Stands.{StandsAs}
 use Rattle.vol_tree.specs.Opening.{StandsOn}
 use Rattle.vol_tree.specs.internal.Reads.{HasParts}
-use Rattle.vol_tree.proofs.Openings.{crash_over, kept_over, none_over, volume_over, settled_has, log_finds, finds_stands, finds_lasting, finds_working}
+use Rattle.vol_tree.proofs.Openings.{leaves_nothing, crash_over, kept_over, none_over, volume_over, settled_has, log_finds, finds_stands, finds_lasting, finds_working}
+use Rattle.vol_tree.proofs.Fronts.{or_memory_last, not_the_front}
 use Rattle.vol_tree.proofs.volume.Volume.open.Goals as goal
+
+-- ---- no volume begins here
+
+pub returns-in-Err : goal.returns-in-Err
+returns-in-Err g c =
+    let e = c.in-Err.ensures in
+    let x = c.in-Err.fault in
+    let d0 = g.D.Device.disk c.args.device in
+    let d1 = g.D.Device.disk c.read_front.new.device in
+    record {
+      stands = λ h. tt;
+      working = tt;
+      ranges = tt;
+      not_a_volume = e.not_a_volume;
+      version = e.version;
+      damaged = e.damaged;
+      few_sectors = λ few. let same = e.few_sectors few in cc;
+      faults_named = or_memory_last x e.refused;
+      durable = λ h. tt;
+      crash_ok = λ w T h on. tt;
+      crash_err = λ w T h on. leaves_nothing d0 d1 (λ m. StandsAs m w T) (e.crash h);
+      kept_tree = λ w T h on.
+          subst (λ (m : Image). StandsOn (g.D.Device.size c.read_front.new.device) m w T) (sym (e.seen h)) (subst (λ (n : ℕ). StandsOn n d0.seen w T) (sym e.size) on);
+      unwritten = λ h front. e.crash h;
+      kept_ok = tt;
+      kept_err = (e.honest, e.size, e.failures);
+    }
+
+pub open-requires : goal.open-requires
+open-requires g c = record { geometry = omega (arith, c.in-Ok.ensures.ranges.room); on_device = subst (λ (n : ℕ). c.in-Ok.numbers.sectors ≤ n) (sym c.in-Ok.ensures.size) c.in-Ok.ensures.room }
+
+pub read_parts-requires : goal.read_parts-requires
+read_parts-requires g c =
+    let installed = c.in-Ok-open.ensures in
+    record {
+      there = subst (λ (n : ℕ). c.in-Ok.numbers.sectors ≤ n) (sym installed.fresh.2) (omega arith);
+      ranges = c.in-Ok.ensures.ranges;
+      working = installed.fresh.0;
+    }
 
 -- ---- the log was refused
 
-pub returns-in-Err-open-clause-damaged : goal.returns-in-Err-open-clause-damaged
-returns-in-Err-open-clause-damaged g c h is =
-    let d0 = g.D.Device.disk c.args.device in
-    let d1 = g.D.Device.disk c.read_front.new.device in
+pub returns-in-Err-open : goal.returns-in-Err-open
+returns-in-Err-open g c =
     let read = c.in-Ok.ensures in
+    let e = c.in-Err-open.ensures in
+    let x = c.in-Err-open.refused.fault in
+    let named = e.faults_named in
     record {
-      begins = read.begins h;
-      none = λ w T on. none_over d0 d1 (g.D.Device.size c.args.device) c.in-Ok.numbers w T read.ranges (read.front h) (read.seen h) on (c.in-Err-open.ensures.damaged (read.honest.0 h) is).0;
+      stands = λ h. tt;
+      working = tt;
+      ranges = tt;
+      not_a_volume = λ h is. not_the_front x named (inl is);
+      version = λ h is. not_the_front x named (inr is);
+      damaged = λ h is.
+          let d0 = g.D.Device.disk c.args.device in
+          let d1 = g.D.Device.disk c.read_front.new.device in
+          let read = c.in-Ok.ensures in
+          record {
+            begins = read.begins h;
+            none = λ w T on. none_over d0 d1 (g.D.Device.size c.args.device) c.in-Ok.numbers w T read.ranges (read.front h) (read.seen h) on (c.in-Err-open.ensures.damaged (read.honest.0 h) is).0;
+          };
+      few_sectors = λ few. absurd (omega (arith, few, read.ranges.least, read.room));
+      faults_named = inr (inr named);
+      durable = λ h. tt;
+      crash_ok = λ w T h on. tt;
+      crash_err = λ w T h on.
+          let d0 = g.D.Device.disk c.args.device in
+          let d1 = g.D.Device.disk c.read_front.new.device in
+          let read = c.in-Ok.ensures in
+          crash_over d0 d1 (g.D.Device.size c.args.device) c.in-Ok.numbers w T read.ranges (read.front h) (read.seen h) on (g.D.Device.disk c.in-Err-open.refused.device) (read.crash h)
+          (λ m has. c.in-Err-open.ensures.crash_err m (read.honest.0 h) has);
+      kept_tree = λ w T h on.
+          let d0 = g.D.Device.disk c.args.device in
+          let d1 = g.D.Device.disk c.read_front.new.device in
+          let read = c.in-Ok.ensures in
+          let after = c.in-Err-open.refused.device in
+          kept_over d0 d1 (g.D.Device.size c.args.device) c.in-Ok.numbers w T read.ranges (read.front h) (read.seen h) on (g.D.Device.disk after).seen (g.D.Device.size after)
+          (c.in-Err-open.ensures.kept_err.1 ∙ read.size)
+          (λ m has. c.in-Err-open.ensures.kept_content m (read.honest.0 h) has);
+      unwritten = λ h front. not_the_front x named front;
+      kept_ok = tt;
+      kept_err = (both_then read.honest e.kept_err.0, e.kept_err.1 ∙ read.size, e.kept_err.2 ∙ ap (counted (is_device x)) read.failures);
     }
-
-pub returns-in-Err-open-clause-crash_err : goal.returns-in-Err-open-clause-crash_err
-returns-in-Err-open-clause-crash_err g c w T h on =
-    let d0 = g.D.Device.disk c.args.device in
-    let d1 = g.D.Device.disk c.read_front.new.device in
-    let read = c.in-Ok.ensures in
-    crash_over d0 d1 (g.D.Device.size c.args.device) c.in-Ok.numbers w T read.ranges (read.front h) (read.seen h) on (g.D.Device.disk c.in-Err-open.refused.device) (read.crash h)
-    (λ m has. c.in-Err-open.ensures.crash_err m (read.honest.0 h) has)
-
-pub returns-in-Err-open-clause-kept_tree : goal.returns-in-Err-open-clause-kept_tree
-returns-in-Err-open-clause-kept_tree g c w T h on =
-    let d0 = g.D.Device.disk c.args.device in
-    let d1 = g.D.Device.disk c.read_front.new.device in
-    let read = c.in-Ok.ensures in
-    let after = c.in-Err-open.refused.device in
-    kept_over d0 d1 (g.D.Device.size c.args.device) c.in-Ok.numbers w T read.ranges (read.front h) (read.seen h) on (g.D.Device.disk after).seen (g.D.Device.size after)
-    (c.in-Err-open.ensures.kept_err.1 ∙ read.size)
-    (λ m has. c.in-Err-open.ensures.kept_content m (read.honest.0 h) has)
 
 -- ---- it was opened, and a rule is broken
 
-pub returns-in-Err-read_parts-clause-damaged : goal.returns-in-Err-read_parts-clause-damaged
-returns-in-Err-read_parts-clause-damaged g c h is =
-    let d0 = g.D.Device.disk c.args.device in
-    let d1 = g.D.Device.disk c.read_front.new.device in
+pub returns-in-Err-read_parts : goal.returns-in-Err-read_parts
+returns-in-Err-read_parts g c =
     let read = c.in-Ok.ensures in
-    let h1 = read.honest.0 h in
     let installed = c.in-Ok-open.ensures in
-    let h2 = installed.kept_ok.0.0 h1 in
+    let e = c.in-Err-read_parts.ensures in
+    let x = c.in-Err-read_parts.fault in
+    let named = e.refused in
+    let before = g.D.Device.failures (device_of c.in-Ok-open.log) in
     record {
-      begins = read.begins h;
-      none = λ w T on. c.in-Err-read_parts.ensures.damaged h2 is
-          (volume_over d0 d1 (g.D.Device.size c.args.device) c.in-Ok.numbers w T read.ranges (read.front h) (read.seen h) on (view c.in-Ok-open.log) (λ m has. installed.content m h1 has));
+      stands = λ h. tt;
+      working = tt;
+      ranges = tt;
+      not_a_volume = λ h is. not_the_front x named (inl is);
+      version = λ h is. not_the_front x named (inr is);
+      damaged = λ h is.
+          let d0 = g.D.Device.disk c.args.device in
+          let d1 = g.D.Device.disk c.read_front.new.device in
+          let read = c.in-Ok.ensures in
+          let h1 = read.honest.0 h in
+          let installed = c.in-Ok-open.ensures in
+          let h2 = installed.kept_ok.0.0 h1 in
+          record {
+            begins = read.begins h;
+            none = λ w T on. c.in-Err-read_parts.ensures.damaged h2 is
+                (volume_over d0 d1 (g.D.Device.size c.args.device) c.in-Ok.numbers w T read.ranges (read.front h) (read.seen h) on (view c.in-Ok-open.log) (λ m has. installed.content m h1 has));
+          };
+      few_sectors = λ few. absurd (omega (arith, few, read.ranges.least, read.room));
+      faults_named = inr (inr named);
+      durable = λ h. tt;
+      crash_ok = λ w T h on. tt;
+      crash_err = λ w T h on.
+          let d0 = g.D.Device.disk c.args.device in
+          let d1 = g.D.Device.disk c.read_front.new.device in
+          let d2 = g.D.Device.disk (device_of c.in-Ok-open.log) in
+          let read = c.in-Ok.ensures in
+          let h1 = read.honest.0 h in
+          let installed = c.in-Ok-open.ensures in
+          let h2 = installed.kept_ok.0.0 h1 in
+          let first = crash_over d0 d1 (g.D.Device.size c.args.device) c.in-Ok.numbers w T read.ranges (read.front h) (read.seen h) on d2 (read.crash h) (λ m has. installed.crash_ok m h1 has) in
+          subst (λ d. Leaves d0 (g.D.Device.disk d) (λ m. StandsAs m w T)) (sym c.into_device.ensures)
+          (leaves_quiet d0 d2 (g.D.Device.disk (device_of c.read_parts.new.log)) (λ m. StandsAs m w T) first (c.in-Err-read_parts.ensures.reads.crash h2));
+      kept_tree = λ w T h on.
+          let d0 = g.D.Device.disk c.args.device in
+          let d1 = g.D.Device.disk c.read_front.new.device in
+          let d2 = g.D.Device.disk (device_of c.in-Ok-open.log) in
+          let read = c.in-Ok.ensures in
+          let h1 = read.honest.0 h in
+          let installed = c.in-Ok-open.ensures in
+          let h2 = installed.kept_ok.0.0 h1 in
+          let reads = c.in-Err-read_parts.ensures.reads in
+          let v = c.in-Ok.numbers in
+          let content = view c.in-Ok-open.log in
+          let plain : content ≡ d2.seen = ap (λ (batch : List Staged). over batch d2.seen) installed.fresh.1 in
+          let after = device_of c.read_parts.new.log in
+          subst (λ d. StandsOn (g.D.Device.size d) (g.D.Device.disk d).seen w T) (sym c.into_device.ensures)
+          (kept_over d0 d1 (g.D.Device.size c.args.device) v w T read.ranges (read.front h) (read.seen h) on (g.D.Device.disk after).seen (g.D.Device.size after)
+          (reads.size ∙ installed.kept_ok.1 ∙ read.size)
+          (λ m has. settled_has v.sectors d2 (g.D.Device.disk after).seen content m (installed.settled h1) (reads.seen h2) plain (installed.content m h1 has)));
+      unwritten = λ h front. not_the_front x named front;
+      kept_ok = tt;
+      kept_err = 
+          subst (λ d. (g.D.Device.honest c.args.device ↔ g.D.Device.honest d) × (g.D.Device.size d ≡ g.D.Device.size c.args.device) × (g.D.Device.failures d ≡ counted (is_device x) (g.D.Device.failures c.args.device)))
+          (sym c.into_device.ensures)
+          (
+            both_then (both_then read.honest installed.kept_ok.0) e.reads.honest,
+            e.reads.size ∙ installed.kept_ok.1 ∙ read.size,
+            e.reads.failures installed.fresh.0 ∙ ap (λ (b : Bool). counted b before) e.failed ∙ ap (counted (is_device x)) (installed.kept_ok.2 ∙ read.failures),
+          );
     }
-
-pub returns-in-Err-read_parts-clause-crash_err : goal.returns-in-Err-read_parts-clause-crash_err
-returns-in-Err-read_parts-clause-crash_err g c w T h on =
-    let d0 = g.D.Device.disk c.args.device in
-    let d1 = g.D.Device.disk c.read_front.new.device in
-    let d2 = g.D.Device.disk (device_of c.in-Ok-open.log) in
-    let read = c.in-Ok.ensures in
-    let h1 = read.honest.0 h in
-    let installed = c.in-Ok-open.ensures in
-    let h2 = installed.kept_ok.0.0 h1 in
-    let first = crash_over d0 d1 (g.D.Device.size c.args.device) c.in-Ok.numbers w T read.ranges (read.front h) (read.seen h) on d2 (read.crash h) (λ m has. installed.crash_ok m h1 has) in
-    subst (λ d. Leaves d0 (g.D.Device.disk d) (λ m. StandsAs m w T)) (sym c.into_device.ensures)
-    (leaves_quiet d0 d2 (g.D.Device.disk (device_of c.read_parts.new.log)) (λ m. StandsAs m w T) first (c.in-Err-read_parts.ensures.reads.crash h2))
-
-pub returns-in-Err-read_parts-clause-kept_tree : goal.returns-in-Err-read_parts-clause-kept_tree
-returns-in-Err-read_parts-clause-kept_tree g c w T h on =
-    let d0 = g.D.Device.disk c.args.device in
-    let d1 = g.D.Device.disk c.read_front.new.device in
-    let d2 = g.D.Device.disk (device_of c.in-Ok-open.log) in
-    let read = c.in-Ok.ensures in
-    let h1 = read.honest.0 h in
-    let installed = c.in-Ok-open.ensures in
-    let h2 = installed.kept_ok.0.0 h1 in
-    let reads = c.in-Err-read_parts.ensures.reads in
-    let v = c.in-Ok.numbers in
-    let content = view c.in-Ok-open.log in
-    let plain : content ≡ d2.seen = ap (λ (batch : List Staged). over batch d2.seen) installed.fresh.1 in
-    let after = device_of c.read_parts.new.log in
-    subst (λ d. StandsOn (g.D.Device.size d) (g.D.Device.disk d).seen w T) (sym c.into_device.ensures)
-    (kept_over d0 d1 (g.D.Device.size c.args.device) v w T read.ranges (read.front h) (read.seen h) on (g.D.Device.disk after).seen (g.D.Device.size after)
-    (reads.size ∙ installed.kept_ok.1 ∙ read.size)
-    (λ m has. settled_has v.sectors d2 (g.D.Device.disk after).seen content m (installed.settled h1) (reads.seen h2) plain (installed.content m h1 has)))
 
 -- ---- all rules are kept
 
-pub returns-in-Ok-read_parts-clause-stands : goal.returns-in-Ok-read_parts-clause-stands
-returns-in-Ok-read_parts-clause-stands g c h =
-    let d0 = g.D.Device.disk c.args.device in
-    let log = c.read_parts.new.log in
+pub returns-in-Ok-read_parts : goal.returns-in-Ok-read_parts
+returns-in-Ok-read_parts g c =
     let read = c.in-Ok.ensures in
     let installed = c.in-Ok-open.ensures in
-    finds_stands (g.D.Device.size c.args.device) d0 (g.D.Device.disk (device_of log)) (view log) c.in-Ok.numbers
-    (log_finds c.args.device c.read_front.new.device c.in-Ok-open.log log c.in-Ok.numbers c.in-Ok-read_parts.dirs c.in-Ok-read_parts.sectors c.in-Ok-read_parts.reserved h (read.honest.0 h) (installed.kept_ok.0.0 (read.honest.0 h))
-    read.ranges read.room (read.front h) (read.seen h) installed.fresh.1 (λ m has. installed.content m (read.honest.0 h) has) (installed.right (read.honest.0 h)) (installed.settled (read.honest.0 h))
-    c.in-Ok-read_parts.ensures.reads (c.in-Ok-read_parts.ensures.parts (installed.kept_ok.0.0 (read.honest.0 h))))
-
-pub returns-in-Ok-read_parts-clause-durable : goal.returns-in-Ok-read_parts-clause-durable
-returns-in-Ok-read_parts-clause-durable g c h =
-    let d0 = g.D.Device.disk c.args.device in
-    let log = c.read_parts.new.log in
-    let read = c.in-Ok.ensures in
-    let installed = c.in-Ok-open.ensures in
-    finds_lasting (g.D.Device.size c.args.device) d0 (g.D.Device.disk (device_of log)) (view log) c.in-Ok.numbers
-    (log_finds c.args.device c.read_front.new.device c.in-Ok-open.log log c.in-Ok.numbers c.in-Ok-read_parts.dirs c.in-Ok-read_parts.sectors c.in-Ok-read_parts.reserved h (read.honest.0 h) (installed.kept_ok.0.0 (read.honest.0 h))
-    read.ranges read.room (read.front h) (read.seen h) installed.fresh.1 (λ m has. installed.content m (read.honest.0 h) has) (installed.right (read.honest.0 h)) (installed.settled (read.honest.0 h))
-    c.in-Ok-read_parts.ensures.reads (c.in-Ok-read_parts.ensures.parts (installed.kept_ok.0.0 (read.honest.0 h))))
-
-pub returns-in-Ok-read_parts-clause-crash_ok : goal.returns-in-Ok-read_parts-clause-crash_ok
-returns-in-Ok-read_parts-clause-crash_ok g c w T h on =
-    let d0 = g.D.Device.disk c.args.device in
-    let d1 = g.D.Device.disk c.read_front.new.device in
-    let d2 = g.D.Device.disk (device_of c.in-Ok-open.log) in
-    let read = c.in-Ok.ensures in
-    let h1 = read.honest.0 h in
-    let installed = c.in-Ok-open.ensures in
-    let h2 = installed.kept_ok.0.0 h1 in
-    let first = crash_over d0 d1 (g.D.Device.size c.args.device) c.in-Ok.numbers w T read.ranges (read.front h) (read.seen h) on d2 (read.crash h) (λ m has. installed.crash_ok m h1 has) in
-    leaves_quiet d0 d2 (g.D.Device.disk (device_of c.read_parts.new.log)) (λ m. StandsAs m w T) first (c.in-Ok-read_parts.ensures.reads.crash h2)
+    let done = c.in-Ok-read_parts.ensures in
+    let before = g.D.Device.failures (device_of c.in-Ok-open.log) in
+    record {
+      stands = λ h.
+          let d0 = g.D.Device.disk c.args.device in
+          let log = c.read_parts.new.log in
+          let read = c.in-Ok.ensures in
+          let installed = c.in-Ok-open.ensures in
+          finds_stands (g.D.Device.size c.args.device) d0 (g.D.Device.disk (device_of log)) (view log) c.in-Ok.numbers
+          (log_finds c.args.device c.read_front.new.device c.in-Ok-open.log log c.in-Ok.numbers c.in-Ok-read_parts.dirs c.in-Ok-read_parts.sectors c.in-Ok-read_parts.reserved h (read.honest.0 h) (installed.kept_ok.0.0 (read.honest.0 h))
+          read.ranges read.room (read.front h) (read.seen h) installed.fresh.1 (λ m has. installed.content m (read.honest.0 h) has) (installed.right (read.honest.0 h)) (installed.settled (read.honest.0 h))
+          c.in-Ok-read_parts.ensures.reads (c.in-Ok-read_parts.ensures.parts (installed.kept_ok.0.0 (read.honest.0 h))));
+      working = done.failed;
+      ranges = (read.ranges, read.room);
+      not_a_volume = λ h. tt;
+      version = λ h. tt;
+      damaged = λ h. tt;
+      few_sectors = λ few. absurd (omega (arith, few, read.ranges.least, read.room));
+      faults_named = tt;
+      durable = λ h.
+          let d0 = g.D.Device.disk c.args.device in
+          let log = c.read_parts.new.log in
+          let read = c.in-Ok.ensures in
+          let installed = c.in-Ok-open.ensures in
+          finds_lasting (g.D.Device.size c.args.device) d0 (g.D.Device.disk (device_of log)) (view log) c.in-Ok.numbers
+          (log_finds c.args.device c.read_front.new.device c.in-Ok-open.log log c.in-Ok.numbers c.in-Ok-read_parts.dirs c.in-Ok-read_parts.sectors c.in-Ok-read_parts.reserved h (read.honest.0 h) (installed.kept_ok.0.0 (read.honest.0 h))
+          read.ranges read.room (read.front h) (read.seen h) installed.fresh.1 (λ m has. installed.content m (read.honest.0 h) has) (installed.right (read.honest.0 h)) (installed.settled (read.honest.0 h))
+          c.in-Ok-read_parts.ensures.reads (c.in-Ok-read_parts.ensures.parts (installed.kept_ok.0.0 (read.honest.0 h))));
+      crash_ok = λ w T h on.
+          let d0 = g.D.Device.disk c.args.device in
+          let d1 = g.D.Device.disk c.read_front.new.device in
+          let d2 = g.D.Device.disk (device_of c.in-Ok-open.log) in
+          let read = c.in-Ok.ensures in
+          let h1 = read.honest.0 h in
+          let installed = c.in-Ok-open.ensures in
+          let h2 = installed.kept_ok.0.0 h1 in
+          let first = crash_over d0 d1 (g.D.Device.size c.args.device) c.in-Ok.numbers w T read.ranges (read.front h) (read.seen h) on d2 (read.crash h) (λ m has. installed.crash_ok m h1 has) in
+          leaves_quiet d0 d2 (g.D.Device.disk (device_of c.read_parts.new.log)) (λ m. StandsAs m w T) first (c.in-Ok-read_parts.ensures.reads.crash h2);
+      crash_err = λ w T h on. tt;
+      kept_tree = λ w T h on. tt;
+      unwritten = λ h. tt;
+      kept_ok = 
+          (
+            both_then (both_then read.honest installed.kept_ok.0) done.reads.honest,
+            done.reads.size ∙ installed.kept_ok.1 ∙ read.size,
+            done.reads.failures installed.fresh.0 ∙ ap (λ (b : Bool). counted b before) done.failed ∙ installed.kept_ok.2 ∙ read.failures,
+          );
+      kept_err = tt;
+    }
 
 pub invariant_of-result : goal.invariant_of-result
 invariant_of-result g c =
