@@ -42,9 +42,11 @@ returns-then-not-elements_fit-clause-refused g c =
     let initial : c.minimum-initial_pages.result ≡ minimum m.memories = c.minimum-initial_pages.ensures ∙ ap minimum c.as_slice-memories.ensures in
     let size : c.minimum-table_size.result ≡ minimum m.tables = c.minimum-table_size.ensures ∙ ap minimum c.as_slice.ensures in
     let outside = c.if-not-elements_fit.ensures.outside first.values (first.numbers_are ∙ sym c.as_slice-2.ensures) in
-    subst (λ (y : Module). RefusedFor (g.H.Host.links c.args.host.now) c.args.pages y faults.ElementOutOfBounds) c.module-guest.ensures.value
-    (((f.linked, f.are_linked), (c.in-Some.main, c.in-Some.ensures.found)), subst (λ (k : ℕ). k ≤ c.args.pages) initial c.if-pages-initial_pages.false,
-    (first.values, first.are_first, subst (λ (k : ℕ). ElementsOutside first.values k m.element_segments) size outside))
+    subst (λ (y : Module). RefusedFor (g.H.Host.links c.args.host.now) c.args.pages y faults.ElementOutOfBounds) c.module-guest.ensures.value (
+      ((f.linked, f.are_linked), (c.in-Some.main, c.in-Some.ensures.found)),
+      subst (λ (k : ℕ). k ≤ c.args.pages) initial c.if-pages-initial_pages.false,
+      (first.values, first.are_first, subst (λ (k : ℕ). ElementsOutside first.values k m.element_segments) size outside),
+    )
 
 pub returns-then-not-data_fits-clause-refused : goal.returns-then-not-data_fits-clause-refused
 returns-then-not-data_fits-clause-refused g c =
@@ -55,10 +57,16 @@ returns-then-not-data_fits-clause-refused g c =
     let size : c.minimum-table_size.result ≡ minimum m.tables = c.minimum-table_size.ensures ∙ ap minimum c.as_slice.ensures in
     let inside = c.if-not-elements_fit.ensures.inside first.values (first.numbers_are ∙ sym c.as_slice-2.ensures) in
     let outside = c.if-not-data_fits.ensures.outside first.values (first.numbers_are ∙ sym c.as_slice-3.ensures) in
-    subst (λ (y : Module). RefusedFor (g.H.Host.links c.args.host.now) c.args.pages y faults.DataOutOfBounds) c.module-guest.ensures.value
-    (((f.linked, f.are_linked), (c.in-Some.main, c.in-Some.ensures.found)), subst (λ (k : ℕ). k ≤ c.args.pages) initial c.if-pages-initial_pages.false,
-    (first.values, first.are_first, subst (λ (k : ℕ). ElementsInside first.values k m.element_segments) size inside,
-    subst (λ (k : ℕ). DataOutside first.values (k * 65536) m.data_segments) initial outside))
+    subst (λ (y : Module). RefusedFor (g.H.Host.links c.args.host.now) c.args.pages y faults.DataOutOfBounds) c.module-guest.ensures.value (
+      ((f.linked, f.are_linked), (c.in-Some.main, c.in-Some.ensures.found)),
+      subst (λ (k : ℕ). k ≤ c.args.pages) initial c.if-pages-initial_pages.false,
+      (
+        first.values,
+        first.are_first,
+        subst (λ (k : ℕ). ElementsInside first.values k m.element_segments) size inside,
+        subst (λ (k : ℕ). DataOutside first.values (k * 65536) m.data_segments) initial outside,
+      ),
+    )
 
 pub returns-in_default-clause-refused : goal.returns-in_default-clause-refused
 returns-in_default-clause-refused g c =

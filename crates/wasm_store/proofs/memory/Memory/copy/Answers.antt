@@ -16,6 +16,6 @@ returns-clause-inside c =
       subst (λ (l : List ℕ). source + len ≤ length l) c.self.view_is read,
       subst (λ (l : List ℕ). target + len ≤ length l) c.self.view_is put,
       rw (← c.self.view_is) (c.copy_within.ensures.items ∙ append_assoc (take target xs) (take ((source + len) - source) (drop source xs)) (drop (target + ((source + len) - source)) xs)
-      ∙ ap (λ (k : ℕ). take target xs ++ (take k (drop source xs) ++ drop (target + k) xs)) cut
-      ∙ ap (λ (k : ℕ). take target xs ++ (bytes_at xs source len ++ drop (target + k) xs)) (sym part)),
+          ∙ ap (λ (k : ℕ). take target xs ++ (take k (drop source xs) ++ drop (target + k) xs)) cut
+          ∙ ap (λ (k : ℕ). take target xs ++ (bytes_at xs source len ++ drop (target + k) xs)) (sym part)),
     )

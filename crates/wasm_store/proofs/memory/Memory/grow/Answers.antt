@@ -12,7 +12,7 @@ returns-clause-grown c =
       ap (λ n. n / 65536) (c.len-before.ensures ∙ bytes.ok.0 ∙ ap length c.self.view_is),
       omega arith,
       rw (← c.self.view_is) (resized ∙ grown_bytes reserved.len (c.len.result + more) more reserved.items reserved.ok.0 (ap (λ k. k + more) c.len.ensures)
-      ∙ ap (λ (l : List ℕ). l ++ replicate more 0) c.reserve_exact.ensures.items),
+          ∙ ap (λ (l : List ℕ). l ++ replicate more 0) c.reserve_exact.ensures.items),
     )
 
 pub invariant_of-self-2 : goal.invariant_of-self-2

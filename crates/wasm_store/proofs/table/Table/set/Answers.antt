@@ -11,6 +11,6 @@ returns-clause-inside c =
     let inside : c.args.start + length functions ≤ length elements.items = omega (arith, elements.ok.0) in (
       subst (λ (l : List (Option ℕ)). c.args.start + length functions ≤ length l) c.self.view_is inside,
       rw (← c.self.view_is, c.set_all.ensures, c.as_mut_slice.ensures.value) (
-      part_replaced elements.len c.args.start (length functions) elements.items (map Some functions) elements.ok.0 (sym as_many) inside
-      ∙ ap (λ (n : ℕ). take c.args.start elements.items ++ (map Some functions ++ drop (c.args.start + n) elements.items)) as_many),
+          part_replaced elements.len c.args.start (length functions) elements.items (map Some functions) elements.ok.0 (sym as_many) inside
+          ∙ ap (λ (n : ℕ). take c.args.start elements.items ++ (map Some functions ++ drop (c.args.start + n) elements.items)) as_many),
     )
