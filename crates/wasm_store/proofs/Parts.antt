@@ -1,6 +1,7 @@
 -- A part of memory that is lent.
-use Rattle.std.proofs.Common.{◌≡◌, ℕ, ◌+◌, ◌-◌, List, ◌++◌, length, take, drop, ap, ◌∙◌, arith}
-use Rattle.std.proofs.lemmas.List.{drop-drop}
+use Rattle.std.proofs.Common.{◌≡◌, ℕ, ◌+◌, ◌-◌, ◌≤◌, List, ◌++◌, length, take, drop, replicate, sym, ap, ◌∙◌, arith, length-append, length-take, length-drop}
+use Rattle.std.proofs.Math.Seq.{take-append_seam}
+use Rattle.std.proofs.lemmas.List.{drop-drop, take_all}
 use Rattle.wasm_store.specs.Bytes.{bytes_at, written}
 use Rattle.wasm_store.specs.Lending.{rewritten}
 
@@ -13,3 +14,19 @@ part_written n a items w e =
 -- a part by its end
 pub part_read : (items : List ℕ) (a n : ℕ) → take ((a + n) - a) (drop a items) ≡ bytes_at items a n
 part_read items a n = let e : (a + n) - a ≡ n = omega arith in ap (λ k. take k (drop a items)) e
+
+-- what the vector ends as when the code put as many elements in the place of a part
+pub part_replaced : {A : Type 0} (n a k : ℕ) (items new : List A) → n ≡ length items → k ≡ length new → a + k ≤ length items
+    → take n ((take a items ++ (new ++ drop ((a + k) - a) (drop a items))) ++ drop (length (take a items ++ (new ++ drop ((a + k) - a) (drop a items)))) items) ≡ take a items ++ (new ++ drop (a + length new) items)
+part_replaced n a k items new len size inside =
+    let replaced = take a items ++ (new ++ drop ((a + k) - a) (drop a items)) in
+    let whole : length replaced ≡ n = simp (length-append, length-take, length-drop) (omega (arith, len, size, inside)) in
+    let cut : (a + k) - a ≡ length new = omega arith in
+    ap (λ m. take m (replaced ++ drop (length replaced) items)) (sym whole) ∙ take-append_seam replaced (drop (length replaced) items)
+    ∙ ap (λ l. take a items ++ (new ++ l)) (ap (λ j. drop j (drop a items)) cut ∙ drop-drop (length new) a items)
+
+-- bytes that were filled up with zeros to a greater length
+pub grown_bytes : (len n more : ℕ) (bytes : List ℕ) → len ≡ length bytes → n ≡ len + more → take n bytes ++ replicate (n - len) 0 ≡ bytes ++ replicate more 0
+grown_bytes len n more bytes size to =
+    let added : n - len ≡ more = omega (arith, to) in
+    ap (λ l. l ++ replicate (n - len) 0) (take_all n bytes (omega (arith, size, to))) ∙ ap (λ k. bytes ++ replicate k 0) added

@@ -1,7 +1,7 @@
 use Rattle.std.proofs.Common.{◌<◌, ◌≤◌, length, refl, sym, subst, inr}
 use Rattle.std.proofs.lemmas.Option.{slice_get_within}
 use Rattle.wasm_store.proofs.Functions.{import_typed}
-use Rattle.wasm_store.proofs.Imports.{linked_next, linked_all, one_unlinked}
+use Rattle.wasm_store.proofs.Imports.{linked_next, linked_all, one_unlinked, one_other, linked_none}
 use Rattle.wasm_store.proofs.Starting.{item_at}
 use Rattle.wasm_store.proofs.instantiation.link.Goals as goal
 
@@ -31,3 +31,11 @@ loop-import-preserved g c =
 
 pub returns-clause-found : goal.returns-clause-found
 returns-clause-found g c = linked_all _ _ _ _ (subst (λ y. length y ≤ c.loop-import.import-index) c.as_slice-import-items.ensures c.loop-import-test.false) c.loop-import.invariant
+
+pub returns-in_default : goal.returns-in_default
+returns-in_default g c =
+    let e = item_at _ _ _ _ c.as_slice-import-items.ensures c.loop-import-test.true c.import-item.is in
+    record { found = tt; missing = inr (refl, one_other _ _ _ _ c.import-item.result e c.in_default.not-Function c.loop-import.invariant) }
+
+pub loop-import-init : goal.loop-import-init
+loop-import-init g c = rw c.new-calls.ensures.items (linked_none (g.H.Host.links c.args.host.now) c.args.guest.now)
