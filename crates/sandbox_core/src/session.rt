@@ -146,19 +146,27 @@ where
         self.machine.used()
     }
 
+    /// The host of a session that is done with.
+    fn into_host(self) -> WasiHost<'s, 't, D, R, W1, W2>
+        ensures { result ≡ self.entry.host }
+    {
+        let Session { machine, host } = self;
+        let _ = machine.into_valid();
+        host
+    }
+
     /// Commits all calls so far, and gives the volume back and the streams. Where the device fails, or had failed, the
     /// device itself is given back as `Device`.
     pub fn finish(self) -> Finished<D, R, W1, W2>
         ensures { Finishes D.honest D.disk D.size D.failures self.entry result }
     {
-        let Session { machine: _, host } = self;
         let HostParts {
             settings: _,
             volume,
             input,
             out,
             err,
-        } = host.into_parts();
+        } = self.into_host().into_parts();
         Finished {
             volume: committed(volume),
             input,
