@@ -17,6 +17,7 @@ use Rattle.wasm_valid.specs.internal.Effects.{after}
 use Rattle.wasm_valid.specs.internal.Blocks.{OpenBlock, label_of, labels_of, opened, with_stack, may_end, ends, is_if, ended, elsed, on_stack, opened_in, stepped, is_finished}
 use Rattle.wasm_valid.specs.internal.Fits.{Fits}
 use Rattle.wasm_valid.specs.internal.Bodies.{Split, IsNone, Run, Part, Ending, Going}
+use Rattle.wasm_valid.proofs.Heads.{same_head, same_tail, same_some, some_not_none, same_block, same_loop, same_if, block_not_loop, block_not_if, loop_not_if, else_not_end, some_first}
 use Rattle.wasm_valid.proofs.Fitting.{pop_complete, pop_sound, push_complete, push_sound, can_be_fits, fits_can_be}
 use Rattle.wasm_valid.proofs.Instructed.{op_walks, and_true}
 
@@ -34,12 +35,12 @@ plain_last op.Else p l = p
 plain_last i p l = l
 
 not_empty : (last : Instruction) (code : Instructions) → IsWritten code → flatten last code ≡ [] → ⊥
-not_empty last done w e = cc
-not_empty last (plain i rest) w e = cc
-not_empty last (block t body rest) w e = cc
-not_empty last (loop t body rest) w e = cc
-not_empty last (if_then t body rest) w e = cc
-not_empty last (if_else t body other rest) w e = cc
+not_empty last done w e = some_first e
+not_empty last (plain i rest) w e = some_first e
+not_empty last (block t body rest) w e = some_first e
+not_empty last (loop t body rest) w e = some_first e
+not_empty last (if_then t body rest) w e = some_first e
+not_empty last (if_else t body other rest) w e = some_first e
 not_empty last (invoke x rest) w e = absurd w
 
 -- What an instruction makes of what may stand before it: the code after it has a first part A, and goes on from another stack.
@@ -54,23 +55,23 @@ Never c ls i s = (last : Instruction) (rs : List ValueType) (flat : List Instruc
 
 plain_goes : (c : Context) (ls : Labels) (i : Instruction) (s : Stack) → IsPlain i → (last : Instruction) (rs : List ValueType) (flat : List Instruction) → IsLast last → (code : Instructions) (a : List ValueType) → IsWritten code → flatten last code ≡ i ∷ flat → Fits s a → Typed c ls code a rs
     → (r : Stack) × (after c ls i s ≡ Some r) × Run last c ls r rs flat
-plain_goes c ls i s p last rs flat l done a w e f t = absurd (plain_last i p (subst IsLast (let g : last ≡ i = cc in g) l))
+plain_goes c ls i s p last rs flat l done a w e f t = absurd (plain_last i p (subst IsLast (same_head e) l))
 plain_goes c ls i s p last rs flat l (plain j rest) a w e f t =
-    let same : j ≡ i = cc in
-    let more : flatten last rest ≡ flat = cc in
+    let same : j ≡ i = same_head e in
+    let more : flatten last rest ≡ flat = same_tail e in
     let x = (op_walks c ls i s).complete a t.0 f (subst (λ (k : Instruction). OpTyped c ls k a t.0) same t.1) in
     (x.0, x.1, record { code = rest; written = w.1; is = more; from = t.0; fits = x.2; typed = t.2 })
-plain_goes c ls i s p last rs flat l (block t body rest) a w e f h = absurd (subst IsPlain (let g : i ≡ op.Block t = cc in g) p)
-plain_goes c ls i s p last rs flat l (loop t body rest) a w e f h = absurd (subst IsPlain (let g : i ≡ op.Loop t = cc in g) p)
-plain_goes c ls i s p last rs flat l (if_then t body rest) a w e f h = absurd (subst IsPlain (let g : i ≡ op.If t = cc in g) p)
-plain_goes c ls i s p last rs flat l (if_else t body other rest) a w e f h = absurd (subst IsPlain (let g : i ≡ op.If t = cc in g) p)
+plain_goes c ls i s p last rs flat l (block t body rest) a w e f h = absurd (subst IsPlain (sym (same_head e)) p)
+plain_goes c ls i s p last rs flat l (loop t body rest) a w e f h = absurd (subst IsPlain (sym (same_head e)) p)
+plain_goes c ls i s p last rs flat l (if_then t body rest) a w e f h = absurd (subst IsPlain (sym (same_head e)) p)
+plain_goes c ls i s p last rs flat l (if_else t body other rest) a w e f h = absurd (subst IsPlain (sym (same_head e)) p)
 plain_goes c ls i s p last rs flat l (invoke x rest) a w e f h = absurd w
 
 plain_turns : (c : Context) (ls : Labels) (i : Instruction) (s r : Stack) → IsPlain i → after c ls i s ≡ Some r → Turns c ls i s IsNone r
 plain_turns c ls i s r p e = record {
   goes = λ last rs flat l q.
       let x = plain_goes c ls i s p last rs flat l q.code q.from q.written q.is q.fits q.typed in
-      let same : x.0 ≡ r = (let h = x.1 in cc) in
+      let same : x.0 ≡ r = same_some x.1 e in
       record { front = []; back = flat; is = refl; first = refl; second = subst (λ (y : Stack). Run last c ls y rs flat) same x.2 };
   comes = λ last rs flat q.
       let k = q.second in
@@ -82,7 +83,7 @@ plain_turns c ls i s r p e = record {
 plain_never : (c : Context) (ls : Labels) (i : Instruction) (s : Stack) → IsPlain i → after c ls i s ≡ None → Never c ls i s
 plain_never c ls i s p e last rs flat l q =
     let x = plain_goes c ls i s p last rs flat l q.code q.from q.written q.is q.fits q.typed in
-    let h = x.1 in cc
+    some_not_none x.1 e
 
 -- ---- the beginning of a block
 
@@ -94,11 +95,11 @@ abbrev BlockTurn : Context → Labels → BlockType → Stack → Instruction �
 BlockTurn c ls t s last rs flat = Split (Run op.End c (results_of t ∷ ls) nothing (results_of t)) (Run last c ls (push (results_of t) s) rs) flat
 
 block_goes : (c : Context) (ls : Labels) (t : BlockType) (s : Stack) (last : Instruction) (rs : List ValueType) (flat : List Instruction) → IsLast last → (code : Instructions) (a : List ValueType) → IsWritten code → flatten last code ≡ op.Block t ∷ flat → Fits s a → Typed c ls code a rs → BlockTurn c ls t s last rs flat
-block_goes c ls t s last rs flat l done a w e f h = absurd (subst IsLast (let g : last ≡ op.Block t = cc in g) l)
-block_goes c ls t s last rs flat l (plain j rest) a w e f h = absurd (subst IsPlain (let g : j ≡ op.Block t = cc in g) w.0)
+block_goes c ls t s last rs flat l done a w e f h = absurd (subst IsLast (same_head e) l)
+block_goes c ls t s last rs flat l (plain j rest) a w e f h = absurd (subst IsPlain (same_head e) w.0)
 block_goes c ls t s last rs flat l (block u body rest) a w e f h =
-    let same : u ≡ t = cc in
-    let more : flatten op.End body ++ flatten last rest ≡ flat = cc in
+    let same : u ≡ t = same_block (same_head e) in
+    let more : flatten op.End body ++ flatten last rest ≡ flat = same_tail e in
     let made : BlockTurn c ls u s last rs flat = record {
       front = flatten op.End body;
       back = flatten last rest;
@@ -107,9 +108,9 @@ block_goes c ls t s last rs flat l (block u body rest) a w e f h =
       second = record { code = rest; written = w.1; is = refl; from = results_of u ++ a; fits = push_complete (results_of u) s a f; typed = h.1 };
     } in
     subst (λ (v : BlockType). BlockTurn c ls v s last rs flat) same made
-block_goes c ls t s last rs flat l (loop u body rest) a w e f h = cc
-block_goes c ls t s last rs flat l (if_then u body rest) a w e f h = cc
-block_goes c ls t s last rs flat l (if_else u body other rest) a w e f h = cc
+block_goes c ls t s last rs flat l (loop u body rest) a w e f h = absurd (block_not_loop (sym (same_head e)))
+block_goes c ls t s last rs flat l (if_then u body rest) a w e f h = absurd (block_not_if (sym (same_head e)))
+block_goes c ls t s last rs flat l (if_else u body other rest) a w e f h = absurd (block_not_if (sym (same_head e)))
 block_goes c ls t s last rs flat l (invoke x rest) a w e f h = absurd w
 
 -- a beginning, what it begins, and what follows
@@ -140,11 +141,11 @@ abbrev LoopTurn : Context → Labels → BlockType → Stack → Instruction →
 LoopTurn c ls t s last rs flat = Split (Run op.End c ([] ∷ ls) nothing (results_of t)) (Run last c ls (push (results_of t) s) rs) flat
 
 loop_goes : (c : Context) (ls : Labels) (t : BlockType) (s : Stack) (last : Instruction) (rs : List ValueType) (flat : List Instruction) → IsLast last → (code : Instructions) (a : List ValueType) → IsWritten code → flatten last code ≡ op.Loop t ∷ flat → Fits s a → Typed c ls code a rs → LoopTurn c ls t s last rs flat
-loop_goes c ls t s last rs flat l done a w e f h = absurd (subst IsLast (let g : last ≡ op.Loop t = cc in g) l)
-loop_goes c ls t s last rs flat l (plain j rest) a w e f h = absurd (subst IsPlain (let g : j ≡ op.Loop t = cc in g) w.0)
+loop_goes c ls t s last rs flat l done a w e f h = absurd (subst IsLast (same_head e) l)
+loop_goes c ls t s last rs flat l (plain j rest) a w e f h = absurd (subst IsPlain (same_head e) w.0)
 loop_goes c ls t s last rs flat l (loop u body rest) a w e f h =
-    let same : u ≡ t = cc in
-    let more : flatten op.End body ++ flatten last rest ≡ flat = cc in
+    let same : u ≡ t = same_loop (same_head e) in
+    let more : flatten op.End body ++ flatten last rest ≡ flat = same_tail e in
     let made : LoopTurn c ls u s last rs flat = record {
       front = flatten op.End body;
       back = flatten last rest;
@@ -153,9 +154,9 @@ loop_goes c ls t s last rs flat l (loop u body rest) a w e f h =
       second = record { code = rest; written = w.1; is = refl; from = results_of u ++ a; fits = push_complete (results_of u) s a f; typed = h.1 };
     } in
     subst (λ (v : BlockType). LoopTurn c ls v s last rs flat) same made
-loop_goes c ls t s last rs flat l (block u body rest) a w e f h = cc
-loop_goes c ls t s last rs flat l (if_then u body rest) a w e f h = cc
-loop_goes c ls t s last rs flat l (if_else u body other rest) a w e f h = cc
+loop_goes c ls t s last rs flat l (block u body rest) a w e f h = absurd (block_not_loop (same_head e))
+loop_goes c ls t s last rs flat l (if_then u body rest) a w e f h = absurd (loop_not_if (sym (same_head e)))
+loop_goes c ls t s last rs flat l (if_else u body other rest) a w e f h = absurd (loop_not_if (sym (same_head e)))
 loop_goes c ls t s last rs flat l (invoke x rest) a w e f h = absurd w
 
 loop_comes : (c : Context) (ls : Labels) (t : BlockType) (s : Stack) (last : Instruction) (rs : List ValueType) (flat : List Instruction) → LoopTurn c ls t s last rs flat → Run last c ls s rs (op.Loop t ∷ flat)
@@ -187,11 +188,11 @@ abbrev IfGoes : Context → Labels → BlockType → Stack → Instruction → L
 IfGoes c ls t s last rs flat = (r : Stack) × (pop I32 s ≡ Some r) × IfTurn c ls t r last rs flat
 
 if_goes : (c : Context) (ls : Labels) (t : BlockType) (s : Stack) (last : Instruction) (rs : List ValueType) (flat : List Instruction) → IsLast last → (code : Instructions) (a : List ValueType) → IsWritten code → flatten last code ≡ op.If t ∷ flat → Fits s a → Typed c ls code a rs → IfGoes c ls t s last rs flat
-if_goes c ls t s last rs flat l done a w e f h = absurd (subst IsLast (let g : last ≡ op.If t = cc in g) l)
-if_goes c ls t s last rs flat l (plain j rest) a w e f h = absurd (subst IsPlain (let g : j ≡ op.If t = cc in g) w.0)
+if_goes c ls t s last rs flat l done a w e f h = absurd (subst IsLast (same_head e) l)
+if_goes c ls t s last rs flat l (plain j rest) a w e f h = absurd (subst IsPlain (same_head e) w.0)
 if_goes c ls t s last rs flat l (if_then u body rest) a w e f h =
     let none : Empty ≡ t = (let k = h.2 in cc) in
-    let more : flatten op.End body ++ flatten last rest ≡ flat = cc in
+    let more : flatten op.End body ++ flatten last rest ≡ flat = same_tail e in
     let x = pop_complete s I32 h.0 (subst (λ (y : List ValueType). Fits s y) h.1 f) in
     let made : IfTurn c ls Empty x.0 last rs flat = record {
       front = flatten op.End body;
@@ -202,8 +203,8 @@ if_goes c ls t s last rs flat l (if_then u body rest) a w e f h =
     } in
     (x.0, x.1, subst (λ (v : BlockType). IfTurn c ls v x.0 last rs flat) none made)
 if_goes c ls t s last rs flat l (if_else u body other rest) a w e f h =
-    let same : u ≡ t = cc in
-    let more : (flatten op.Else body ++ flatten op.End other) ++ flatten last rest ≡ flat = cc in
+    let same : u ≡ t = same_if (same_head e) in
+    let more : (flatten op.Else body ++ flatten op.End other) ++ flatten last rest ≡ flat = same_tail e in
     let x = pop_complete s I32 h.0 (subst (λ (y : List ValueType). Fits s y) h.1 f) in
     let made : IfTurn c ls u x.0 last rs flat = record {
       front = flatten op.Else body ++ flatten op.End other;
@@ -219,8 +220,8 @@ if_goes c ls t s last rs flat l (if_else u body other rest) a w e f h =
       second = record { code = rest; written = w.2; is = refl; from = results_of u ++ h.0; fits = push_complete (results_of u) x.0 h.0 x.2; typed = h.4 };
     } in
     (x.0, x.1, subst (λ (v : BlockType). IfTurn c ls v x.0 last rs flat) same made)
-if_goes c ls t s last rs flat l (block u body rest) a w e f h = cc
-if_goes c ls t s last rs flat l (loop u body rest) a w e f h = cc
+if_goes c ls t s last rs flat l (block u body rest) a w e f h = absurd (block_not_if (same_head e))
+if_goes c ls t s last rs flat l (loop u body rest) a w e f h = absurd (loop_not_if (same_head e))
 if_goes c ls t s last rs flat l (invoke x rest) a w e f h = absurd w
 
 then_comes : (c : Context) (ls : Labels) (s r : Stack) (last : Instruction) (rs : List ValueType) (flat front back : List Instruction) → pop I32 s ≡ Some r → flat ≡ front ++ back → Run op.End c ([] ∷ ls) nothing [] front → Run last c ls r rs back → Run last c ls s rs (op.If Empty ∷ flat)
@@ -268,7 +269,7 @@ if_turns : (c : Context) (ls : Labels) (t : BlockType) (s r : Stack) → pop I32
 if_turns c ls t s r e = record {
   goes = λ last rs flat l q.
       let x = if_goes c ls t s last rs flat l q.code q.from q.written q.is q.fits q.typed in
-      let same : x.0 ≡ r = (let h = x.1 in cc) in
+      let same : x.0 ≡ r = same_some x.1 e in
       subst (λ (y : Stack). IfTurn c ls t y last rs flat) same x.2;
   comes = λ last rs flat q. if_comes c ls t s r last rs flat e q;
 }
@@ -276,17 +277,17 @@ if_turns c ls t s r e = record {
 if_never : (c : Context) (ls : Labels) (t : BlockType) (s : Stack) → pop I32 s ≡ None → Never c ls (op.If t) s
 if_never c ls t s e last rs flat l q =
     let x = if_goes c ls t s last rs flat l q.code q.from q.written q.is q.fits q.typed in
-    let h = x.1 in cc
+    some_not_none x.1 e
 
 -- ---- the end of a part
 
 last_goes : (c : Context) (ls : Labels) (i : Instruction) (s : Stack) (last : Instruction) (rs : List ValueType) (flat : List Instruction) → IsLast last → IsLast i → (code : Instructions) (a : List ValueType) → IsWritten code → flatten last code ≡ i ∷ flat → Fits s a → Typed c ls code a rs → (last ≡ i) × IsNone flat × Fits s rs
-last_goes c ls i s last rs flat l m done a w e f h = (cc, cc, subst (λ (y : List ValueType). Fits s y) h f)
-last_goes c ls i s last rs flat l m (plain j rest) a w e f h = absurd (plain_last i (subst IsPlain (let g : j ≡ i = cc in g) w.0) m)
-last_goes c ls i s last rs flat l m (block u body rest) a w e f h = absurd (subst IsLast (let g : i ≡ op.Block u = cc in g) m)
-last_goes c ls i s last rs flat l m (loop u body rest) a w e f h = absurd (subst IsLast (let g : i ≡ op.Loop u = cc in g) m)
-last_goes c ls i s last rs flat l m (if_then u body rest) a w e f h = absurd (subst IsLast (let g : i ≡ op.If u = cc in g) m)
-last_goes c ls i s last rs flat l m (if_else u body other rest) a w e f h = absurd (subst IsLast (let g : i ≡ op.If u = cc in g) m)
+last_goes c ls i s last rs flat l m done a w e f h = (same_head e, sym (same_tail e), subst (λ (y : List ValueType). Fits s y) h f)
+last_goes c ls i s last rs flat l m (plain j rest) a w e f h = absurd (plain_last i (subst IsPlain (same_head e) w.0) m)
+last_goes c ls i s last rs flat l m (block u body rest) a w e f h = absurd (subst IsLast (sym (same_head e)) m)
+last_goes c ls i s last rs flat l m (loop u body rest) a w e f h = absurd (subst IsLast (sym (same_head e)) m)
+last_goes c ls i s last rs flat l m (if_then u body rest) a w e f h = absurd (subst IsLast (sym (same_head e)) m)
+last_goes c ls i s last rs flat l m (if_else u body other rest) a w e f h = absurd (subst IsLast (sym (same_head e)) m)
 last_goes c ls i s last rs flat l m (invoke x rest) a w e f h = absurd w
 
 run_last : (c : Context) (ls : Labels) (i : Instruction) (s : Stack) (last : Instruction) (rs : List ValueType) (flat : List Instruction) → IsLast last → IsLast i → Run last c ls s rs (i ∷ flat) → (last ≡ i) × IsNone flat × Fits s rs
@@ -305,8 +306,8 @@ split_goes A P O Q i flat some f q = by_front q.front q.back q.is q.first q.seco
   by_front : (front back : List Instruction) → i ∷ flat ≡ front ++ back → P front → Q back → Split A (Split O Q) flat
   by_front [] back e p k = absurd (some p)
   by_front (j ∷ x) back e p k =
-      let same : j ≡ i = cc in
-      let more : flat ≡ x ++ back = cc in
+      let same : j ≡ i = sym (same_head e) in
+      let more : flat ≡ x ++ back = same_tail e in
       let y = f x (subst (λ (o : Instruction). P (o ∷ x)) same p) in
       record {
         front = y.front;
@@ -370,8 +371,8 @@ part_comes c ls i s r A turn If t flat q =
 before_else : (c : Context) (ls : Labels) (t : BlockType) (s : Stack) (i : Instruction) (flat front back : List Instruction) → IsLast i → i ∷ flat ≡ front ++ back → Run op.Else c ls s (results_of t) front → (op.Else ≡ i) × (flat ≡ back) × Fits s (results_of t)
 before_else c ls t s i flat [] back l e k = absurd (run_some c ls s op.Else (results_of t) k)
 before_else c ls t s i flat (j ∷ x) back l e k =
-    let same : j ≡ i = cc in
-    let more : flat ≡ x ++ back = cc in
+    let same : j ≡ i = sym (same_head e) in
+    let more : flat ≡ x ++ back = same_tail e in
     let r = run_last c ls i s op.Else (results_of t) x tt l (subst (λ (o : Instruction). Run op.Else c ls s (results_of t) (o ∷ x)) same k) in
     (r.0, more ∙ ap (λ (y : List Instruction). y ++ back) r.1, r.2)
 
@@ -381,12 +382,12 @@ part_ends c ls Loop t s flat q = let r = run_last c ls op.End s op.End (results_
 part_ends c ls If Empty s flat q =
     elim q [
       | inl p ↦ let r = run_last c ls op.End s op.End [] flat tt tt p.1 in (r.1, fits_can_be [] s r.2)
-      | inr p ↦ let r = before_else c ls Empty s op.End flat p.front p.back tt p.is p.first in let e = r.0 in cc
+      | inr p ↦ let r = before_else c ls Empty s op.End flat p.front p.back tt p.is p.first in absurd (else_not_end r.0)
     ]
 part_ends c ls If (Value v) s flat q =
     elim q [
       | inl p ↦ let e = p.0 in cc
-      | inr p ↦ let r = before_else c ls (Value v) s op.End flat p.front p.back tt p.is p.first in let e = r.0 in cc
+      | inr p ↦ let r = before_else c ls (Value v) s op.End flat p.front p.back tt p.is p.first in absurd (else_not_end r.0)
     ]
 
 ends_part : (c : Context) (ls : Labels) (k : BlockKind) (t : BlockType) (s : Stack) → may_end k t && can_be (results_of t) s ≡ true → Part c ls k t s (op.End ∷ [])
@@ -396,11 +397,11 @@ ends_part c ls If Empty s e = inl (refl, last_run c ls s op.End [] (can_be_fits 
 ends_part c ls If (Value v) s e = cc
 
 part_elses : (c : Context) (ls : Labels) (k : BlockKind) (t : BlockType) (s : Stack) (flat : List Instruction) → Part c ls k t s (op.Else ∷ flat) → (is_if k && can_be (results_of t) s ≡ true) × Run op.End c ls nothing (results_of t) flat
-part_elses c ls Block t s flat q = let r = run_last c ls op.Else s op.End (results_of t) flat tt tt q in let e = r.0 in cc
-part_elses c ls Loop t s flat q = let r = run_last c ls op.Else s op.End (results_of t) flat tt tt q in let e = r.0 in cc
+part_elses c ls Block t s flat q = let r = run_last c ls op.Else s op.End (results_of t) flat tt tt q in absurd (else_not_end (sym r.0))
+part_elses c ls Loop t s flat q = let r = run_last c ls op.Else s op.End (results_of t) flat tt tt q in absurd (else_not_end (sym r.0))
 part_elses c ls If t s flat q =
     elim q [
-      | inl p ↦ let r = run_last c ls op.Else s op.End (results_of t) flat tt tt p.1 in let e = r.0 in cc
+      | inl p ↦ let r = run_last c ls op.Else s op.End (results_of t) flat tt tt p.1 in absurd (else_not_end (sym r.0))
       | inr p ↦
           let r = before_else c ls t s op.Else flat p.front p.back tt p.is p.first in
           (fits_can_be (results_of t) s r.2, subst (λ (y : List Instruction). Run op.End c ls nothing (results_of t) y) (sym r.1) p.second)
@@ -442,7 +443,7 @@ part_never c ls i s If t flat never q =
       by_front : (c : Context) (ls : Labels) (i : Instruction) (s : Stack) (t : BlockType) (flat : List Instruction) → Never c ls i s → (front back : List Instruction) → i ∷ flat ≡ front ++ back → Run op.Else c ls s (results_of t) front → ⊥
       by_front c ls i s t flat never [] back e k = run_some c ls s op.Else (results_of t) k
       by_front c ls i s t flat never (j ∷ x) back e k =
-          let same : j ≡ i = cc in
+          let same : j ≡ i = sym (same_head e) in
           never op.Else (results_of t) x tt (subst (λ (o : Instruction). Run op.Else c ls s (results_of t) (o ∷ x)) same k)
 
 never_goes : (c : Context) (i : Instruction) (b : OpenBlock) (bs : List OpenBlock) (flat : List Instruction) → Never c (labels_of (b ∷ bs)) i b.stack → Going c (b ∷ bs) (i ∷ flat) → ⊥
@@ -450,7 +451,7 @@ never_goes c i b bs flat never q = by_front q.front q.back q.is q.first where
   by_front : (front back : List Instruction) → i ∷ flat ≡ front ++ back → Part c (labels_of (b ∷ bs)) b.kind b.block_type b.stack front → ⊥
   by_front [] back e k = part_some c (labels_of (b ∷ bs)) b.kind b.block_type b.stack k
   by_front (j ∷ x) back e k =
-      let same : j ≡ i = cc in
+      let same : j ≡ i = sym (same_head e) in
       part_never c (labels_of (b ∷ bs)) i b.stack b.kind b.block_type x never (subst (λ (o : Instruction). Part c (labels_of (b ∷ bs)) b.kind b.block_type b.stack (o ∷ x)) same k)
 
 -- ---- one instruction
@@ -485,8 +486,8 @@ end_goes c b bs flat q = by_front q.front q.back q.is q.first q.second where
   by_front : (front back : List Instruction) → op.End ∷ flat ≡ front ++ back → Part c (labels_of (b ∷ bs)) b.kind b.block_type b.stack front → Ending c bs (results_of b.block_type) back → (ends b ≡ true) × Ending c bs (results_of b.block_type) flat
   by_front [] back e k m = absurd (part_some c (labels_of (b ∷ bs)) b.kind b.block_type b.stack k)
   by_front (j ∷ x) back e k m =
-      let same : j ≡ op.End = cc in
-      let more : flat ≡ x ++ back = cc in
+      let same : j ≡ op.End = sym (same_head e) in
+      let more : flat ≡ x ++ back = same_tail e in
       let r = part_ends c (labels_of (b ∷ bs)) b.kind b.block_type b.stack x (subst (λ (o : Instruction). Part c (labels_of (b ∷ bs)) b.kind b.block_type b.stack (o ∷ x)) same k) in
       (r.1, subst (Ending c bs (results_of b.block_type)) (sym (more ∙ ap (λ (l : List Instruction). l ++ back) r.0)) m)
 
@@ -506,8 +507,8 @@ else_goes c b bs flat q = by_front q.front q.back q.is q.first q.second where
   by_front : (front back : List Instruction) → op.Else ∷ flat ≡ front ++ back → Part c (labels_of (b ∷ bs)) b.kind b.block_type b.stack front → Ending c bs (results_of b.block_type) back → (is_if b.kind && can_be (results_of b.block_type) b.stack ≡ true) × Split (Run op.End c (labels_of (b ∷ bs)) nothing (results_of b.block_type)) (Ending c bs (results_of b.block_type)) flat
   by_front [] back e k m = absurd (part_some c (labels_of (b ∷ bs)) b.kind b.block_type b.stack k)
   by_front (j ∷ x) back e k m =
-      let same : j ≡ op.Else = cc in
-      let more : flat ≡ x ++ back = cc in
+      let same : j ≡ op.Else = sym (same_head e) in
+      let more : flat ≡ x ++ back = same_tail e in
       let r = part_elses c (labels_of (b ∷ bs)) b.kind b.block_type b.stack x (subst (λ (o : Instruction). Part c (labels_of (b ∷ bs)) b.kind b.block_type b.stack (o ∷ x)) same k) in
       (r.0, record { front = x; back = back; is = more; first = r.1; second = m })
 

@@ -1,3 +1,4 @@
+pub mod Heads
 pub mod Apart
 pub mod Contexts
 pub mod Refusals

@@ -36,3 +36,8 @@ refused r e P Q left h f =
 pub settles_same : {T : Type 0} (r : Result T LoadFault) (P Q : Type 0) → (P → Q) → (Q → P) → Decides r P → Decides r Q
 settles_same (Ok x) P Q to from h = to h
 settles_same (Err e) P Q to from h = Refutes-more e P Q from h
+
+-- memory was refused, which settles nothing
+pub unsettled : {T : Type 0} (r : Result T LoadFault) (Q : Type 0) → IsErrAnd r (λ y. y ≡ Memory) → Decides r Q
+unsettled (Ok x) Q left = absurd left
+unsettled (Err e) Q left = rw left tt

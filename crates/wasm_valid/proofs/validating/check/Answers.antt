@@ -1,8 +1,23 @@
+use Rattle.std.proofs.Common.{◌∙◌}
 use Rattle.wasm_valid.specs.Validity.{IsValid}
-use Rattle.wasm_valid.specs.internal.Rules.{TypesFit, GlobalsHold, ListsFit}
-use Rattle.wasm_valid.proofs.Refusals.{refused}
-use Rattle.wasm_valid.proofs.Assembled.{types_of, globals_hold, lists_of, start_settled, settled}
+use Rattle.wasm_valid.specs.internal.Rules.{TypesFit, LimitsHold, GlobalsHold, ListsFit}
+use Rattle.wasm_valid.proofs.Refusals.{refused, unsettled}
+use Rattle.wasm_valid.proofs.Assembled.{types_of, limits_of, globals_hold, lists_of, start_settled, settled}
 use Rattle.wasm_valid.proofs.validating.check.Goals as goal
+
+pub returns-in_err-tables : goal.returns-in_err-tables
+returns-in_err-tables c = unsettled c.from_residual.result (IsValid c.args.module.now) c.from_residual.ensures.1
+
+pub returns-in_err-memories : goal.returns-in_err-memories
+returns-in_err-memories c = unsettled c.from_residual-in_err-memories.result (IsValid c.args.module.now) c.from_residual-in_err-memories.ensures.1
+
+pub returns-in_err-check_limits : goal.returns-in_err-check_limits
+returns-in_err-check_limits c =
+    let m = c.args.module.now in
+    refused c.from_residual-in_err-check_limits.result c.in_err-check_limits.field-0.0 (LimitsHold m) (IsValid m) c.from_residual-in_err-check_limits.ensures.1 c.in_err-check_limits.ensures (limits_of m)
+
+pub check_limits-requires : goal.check_limits-requires
+check_limits-requires c = record { tables = c.as_slice.ensures.value ∙ c.in_ok-tables.ensures; memories = c.as_slice-2.ensures.value ∙ c.in_ok-memories.ensures }
 
 pub returns-in_err-check_globals : goal.returns-in_err-check_globals
 returns-in_err-check_globals c =

@@ -1,0 +1,13 @@
+use Rattle.std.proofs.Common.{ℕ, List, ◌++◌, length, refl, ap}
+use Rattle.std.proofs.lemmas.Result.{IfOk-from_err}
+use Rattle.wasm_valid.specs.internal.Ends.{ends_from}
+use Rattle.wasm_valid.proofs.locals.LocalTypes.new.Goals as goal
+
+pub returns-in_err-push : goal.returns-in_err-push
+returns-in_err-push c = IfOk-from_err c.from_residual.result _ c.from_residual.ensures.0
+
+pub loop-group-init : goal.loop-group-init
+loop-group-init c = ap (λ (es : List ℕ). es ++ ends_from (length c.args.params.now) c.args.groups.now) c.new-ends.ensures.items
+
+pub returns : goal.returns
+returns c = refl
