@@ -24,3 +24,4 @@ pub mod Shrunk
 pub mod NoneLost
 pub mod Stagings
 pub mod Rights
+pub mod OneStaged

@@ -1,5 +1,5 @@
 -- The numbers of a volume, where they were refused.
-use Rattle.std.proofs.Common.{◌≡◌, ◌≢◌, ◌⊎◌, ◌≤◌, ◌++◌, ◌∙◌, ℕ, List, take, drop, inl, inr, ⊎_elim, Result, Err, false, refl, sym, ap, subst, arith}
+use Rattle.std.proofs.Common.{◌≡◌, ◌≢◌, ◌⊎◌, ◌≤◌, ◌<◌, ◌++◌, ◌∙◌, ℕ, List, take, drop, inl, inr, ⊎_elim, Result, Err, false, refl, sym, ap, subst, arith}
 use Rattle.byteorder.specs.Endian.{little_number, little_bytes}
 use Rattle.vol_inode.specs.declared.version.Version.{Version}
 use Rattle.vol_inode.specs.declared.version.Version.TheVariants.{One, Two}
@@ -10,6 +10,19 @@ use Rattle.vol_sector.specs.declared.fault.VolumeFault.TheVariants as faults
 use Rattle.vol_tree.specs.declared.superblock.Superblock.{Superblock}
 use Rattle.vol_tree.specs.Superblock.{superblock, magic, version_number, IsNoVersion}
 use Rattle.vol_tree.specs.Opening.{BeginsRight, version_in}
+
+-- how many sectors the device has
+pub not_few : {X : Type 0} (n size : ℕ) → n ≡ size → 137 ≤ n → size < 137 → X
+not_few n size is enough few = absurd (omega arith)
+
+pub not_enough : {X : Type 0} (n size sectors : ℕ) → n ≡ size → n < sectors → sectors ≤ size → X
+not_enough n size sectors is less room = absurd (omega arith)
+
+pub none_not_later : {X : Type 0} → (faults.NotAVolume ≡ faults.Version) ⊎ (faults.NotAVolume ≡ faults.Damaged) → X
+none_not_later is = absurd (⊎_elim (λ version. cc) (λ damaged. cc) is)
+
+pub damaged_not_front : {X : Type 0} → (faults.Damaged ≡ faults.NotAVolume) ⊎ (faults.Damaged ≡ faults.Version) → X
+damaged_not_front is = absurd (⊎_elim (λ none. cc) (λ version. cc) is)
 
 known_version : (version : Version) (rest : List ℕ) → IsNoVersion (little_number 4 (little_bytes 4 (version_number version) ++ rest)) → ⊥
 known_version One rest unknown = unknown.0 refl

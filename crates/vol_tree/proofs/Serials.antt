@@ -1,5 +1,5 @@
 -- Which numbers the entries of a volume have.
-use Rattle.std.proofs.Common.{◌≡◌, ◌==◌, if◌then◌else◌, ◌≤◌, ℕ, zero, suc, Some, None, MatchOption, Option, inl, inr, sym, ◌∙◌, subst, arith, List}
+use Rattle.std.proofs.Common.{◌≡◌, ◌==◌, if◌then◌else◌, ◌≤◌, ℕ, zero, suc, Some, None, MatchOption, Option, Result, Ok, Err, IsErrAnd, inl, inr, sym, ◌∙◌, subst, arith, List}
 use Rattle.std.proofs.lemmas.Bool.{cases_eq, cond-true, cond-false, eq-eqb, ne_eqb}
 use Rattle.std.proofs.lemmas.Option.{none-some}
 use Rattle.vol_sector.specs.Disk.{Image}
@@ -7,7 +7,12 @@ use Rattle.vol_inode.specs.declared.entry.Entry.{Entry}
 use Rattle.vol_dirs.specs.declared.dirs.Dirs.{Dirs}
 use Rattle.vol_dirs.specs.Names.{slots_of, Names}
 use Rattle.vol_tree.specs.declared.superblock.Superblock.{Superblock}
+use Rattle.vol_tree.specs.declared.errno.Errno.{Errno}
+use Rattle.vol_tree.specs.declared.errno.Errno.TheVariants as errno
+use Rattle.vol_tree.specs.declared.stat.Stat.{Stat}
+use Rattle.vol_tree.specs.Stat.{TellsStat}
 use Rattle.vol_tree.specs.Tree as tree
+use Rattle.vol_tree.specs.Tree.{Tree}
 use Rattle.vol_tree.specs.Opened.{IsSerial, tree_in}
 use Rattle.vol_tree.specs.internal.Slots.{slot_of}
 use Rattle.vol_tree.specs.internal.Parts.{IsContent}
@@ -39,3 +44,8 @@ pub held_serial : (dirs : Dirs) (v : Superblock) (parent : ℕ) (name : List ℕ
     → MatchOption found ((s : ℕ) → Names dirs parent name s → ⊥) (λ s. Names dirs parent name s) → MatchOption found (Unit {0}) (λ s. IsSerial v s)
 held_serial dirs v parent name None slots first last is = tt
 held_serial dirs v parent name (Some s) slots first last is = record { first = first parent name s is; last = omega (arith, last parent name s is, slots) }
+
+-- where the entry was refused, so is what is told of it
+pub stat_refused : (serial : ℕ) (old new : Tree) (r : Result Stat Errno) (x : Errno) → IsErrAnd r (λ y. y ≡ x) → x ≡ errno.Io → new ≡ old → TellsStat serial old new r
+stat_refused serial old new (Ok s) x p io same = absurd p
+stat_refused serial old new (Err e) x p io same = (p ∙ io, same)

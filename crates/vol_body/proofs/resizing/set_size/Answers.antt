@@ -1,6 +1,10 @@
-use Rattle.std.proofs.Common.{◌<◌, ◌∙◌, sym, ap, subst, arith}
+use Rattle.std.proofs.Common.{◌≡◌, ◌<◌, ◌∙◌, Result, Ok, Err, OnErr, is_err, true, sym, ap, subst, arith}
+use Rattle.std.proofs.lemmas.Bool.{false≢true}
+use Rattle.std.proofs.lemmas.Result.{on_err_weaker}
 use Rattle.vol_sector.specs.Disk.{Image, put}
-use Rattle.vol_log.specs.Log.{view}
+use Rattle.vol_log.specs.Log.{view, room_of, is_staged}
+use Rattle.vol_log.specs.Reading.{OnlyReads}
+use Rattle.vol_log.proofs.Readings.{reads_same}
 use Rattle.vol_alloc.specs.Alloc.{first_of, end_of, taken_of}
 use Rattle.vol_inode.specs.Spelling.{spelling}
 use Rattle.vol_inode.specs.Entry.{HasWidths}
@@ -12,6 +16,7 @@ use Rattle.vol_body.proofs.CutSectors.{put_there}
 use Rattle.vol_body.proofs.Grown.{grown_others, grown_taken, grown_resized, slot_is_other}
 use Rattle.vol_body.proofs.NoneLost.{none_lost}
 use Rattle.vol_body.proofs.Rights.{right_file, one, both, four}
+use Rattle.vol_body.proofs.Stagings.{stages_one}
 use Rattle.vol_body.proofs.resizing.set_size.Goals as goal
 
 pub returns-clause-entry : goal.returns-clause-entry
@@ -83,3 +88,22 @@ grow-requires g c = record {
   grows = c.if-size-entry.false;
   small = c.requires.small;
 }
+
+pub returns-clause-steps : goal.returns-clause-steps
+returns-clause-steps g c =
+    let grown = c.grow.ensures in
+    stages_one 4 c.args.log.now c.grow.new.log c.args.sectors.now c.grow.result (is_staged c.args.log.now c.args.inode_sector) (omega arith) grown.device grown.sectors grown.failed grown.fails grown.room
+    (on_err_weaker c.grow.result (λ same. ap room_of same.0) grown.refused)
+
+pub returns-clause-refused : goal.returns-clause-refused
+returns-clause-refused g c = on_err_weaker c.grow.result (λ same. (subst (OnlyReads c.args.log.now) (sym same.0) (reads_same c.args.log.now), same.1)) c.grow.ensures.refused
+
+-- what holds where it is refused
+where_err : {T E : Type 0} (r : Result T E) (P : Type 0) → is_err r ≡ true → OnErr r P → P
+where_err (Ok x) P is holds = absurd (false≢true is)
+where_err (Err e) P is holds = holds
+
+pub returns-clause-idle : goal.returns-clause-idle
+returns-clause-idle g c failed =
+    let is_err_now = c.grow.ensures.fails ∙ failed in
+    ((where_err c.grow.result _ is_err_now c.grow.ensures.refused).0, is_err_now)

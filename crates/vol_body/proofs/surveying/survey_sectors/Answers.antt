@@ -1,4 +1,4 @@
-use Rattle.std.proofs.Common.{◌≡◌, ◌-◌, ℕ, ◌∷◌, ◌++◌, length, take, map, Result, Ok, Err, OnOk, sym, subst, arith, ◌∙◌}
+use Rattle.std.proofs.Common.{◌≡◌, ◌≤◌, ◌-◌, ℕ, ◌∷◌, ◌++◌, length, take, map, Result, Ok, Err, OnOk, sym, subst, arith, ◌∙◌}
 use Rattle.std.proofs.lemmas.Result.{IfErr-weaker, IfOk-from_err}
 use Rattle.vol_sector.specs.Disk.{Image}
 use Rattle.vol_sector.specs.declared.fault.VolumeFault.TheVariants as faults
@@ -155,3 +155,14 @@ returns-clause-reads g c = reads_then c.args.log.now c.survey_indirect_block.new
 
 pub returns-clause-failed : goal.returns-clause-failed
 returns-clause-failed g c = c.survey_double_indirect_block.ensures.failed
+
+pub push_all-requires : goal.push_all-requires
+push_all-requires g c = c.requires.inside
+
+pub survey_indirect_block-requires : goal.survey_indirect_block-requires
+survey_indirect_block-requires g c = record { there = c.requires.there; working = c.requires.working; inside = c.in_ok-push_all.ensures.pushes.inside }
+
+pub survey_double_indirect_block-requires : goal.survey_double_indirect_block-requires
+survey_double_indirect_block-requires g c =
+    let e = c.in_ok-survey_indirect_block.ensures in
+    record { there = subst (λ (n : ℕ). c.args.end ≤ n) (sym e.reads.sectors) c.requires.there; working = e.failed; inside = e.inside }

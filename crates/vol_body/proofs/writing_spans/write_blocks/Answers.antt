@@ -5,13 +5,10 @@ use Rattle.vol_inode.specs.Space.{blocks_for_size}
 use Rattle.vol_body.specs.Body.{BlockPosition, data_block, double_indirect_block}
 use Rattle.vol_body.specs.internal.Writing.{Mirrors, HasBlocks, IsBlockIn, IsPointer, segment, segment_of, image_of}
 use Rattle.vol_body.proofs.Added.{mirror_stays}
-use Rattle.vol_body.proofs.Steps.{puts_then, range_then, changes_then, segment_no_part, segment_not_lists, segments_differ, segment_is_place, segment_is_pointer, lists_is_pointer, segment_other, part_in_span}
+use Rattle.vol_body.proofs.Steps.{placed_most, puts_then, range_then, changes_then, segment_no_part, segment_not_lists, segments_differ, segment_is_place, segment_is_pointer, lists_is_pointer, segment_other, part_in_span}
+use Rattle.vol_inode.specs.declared.entry.Entry.{Entry}
+use Rattle.vol_log.specs.declared.layout.TheConstants.{FIRST_AFTER_LOG}
 use Rattle.vol_body.proofs.writing_spans.write_blocks.Goals as goal
-
-pub returns-clause-puts : goal.returns-clause-puts
-returns-clause-puts g c =
-    puts_then c.args.log.now c.write_segment.new.log c.write_segment-2.new.log
-    (puts_then c.args.log.now c.write_direct.new.log c.write_segment.new.log c.write_direct.ensures.puts c.write_segment.ensures.puts) c.write_segment-2.ensures.puts
 
 -- what each data block of a write touches is a data block or a pointer sector
 span_touched : (from to first last s : ℕ) (p : BlockPosition) → first ≤ from → to ≤ last + 1 → IsBlockIn from to p ⊎ ((p ≡ segment s) ⊎ (p ≡ double_indirect_block)) → IsBlockIn first (last + 1) p ⊎ IsPointer p
@@ -31,69 +28,137 @@ next_apart from to s (inl there) = segment_no_part from to (s + 1) there
 next_apart from to s (inr (inl is)) = segments_differ s is
 next_apart from to s (inr (inr is)) = segment_not_lists (s + 1) (sym is)
 
-pub returns-clause-written : goal.returns-clause-written
-returns-clause-written g c ready fits all =
-    let first = c.args.first in
-    let last = c.args.last in
-    let s = c.saturating_sub-group.result / 128 in
-    let group : s ≡ segment_of first = ap (λ (x : ℕ). x / 128) c.saturating_sub-group.ensures in
-    let low = c.min.ensures in
-    let middle_from = c.max.ensures in
-    let middle_to = c.min-2.ensures in
-    let a = c.args.sectors.now in
-    let b = c.write_direct.new.sectors in
-    let d = c.write_segment.new.sectors in
-    let f = c.write_segment-2.new.sectors in
-    let c0 = view c.args.log.now in
-    let c1 = view c.write_direct.new.log in
-    let c2 = view c.write_segment.new.log in
-    let c3 = view c.write_segment-2.new.log in
-    let e0 = c.args.entry.now in
-    let e1 = c.write_direct.new.entry in
-    let e2 = c.write_segment.new.entry in
-    let e3 = c.write_segment-2.new.entry in
-    let top = c.args.all.now.double_indirect_block in
-    let early = c.args.all.now.early in
-    let late = c.args.all.now.late in
-    let to1 = c.min.result in
-    let from2 = c.max.result in
-    let to2 = c.min-2.result in
-    let from3 = 186 + 128 * s in
-    let one = c.write_direct.ensures.written ready (omega (arith, low, fits)) in
-    let size1 : blocks_for_size e1.size ≡ blocks_for_size e0.size = ap blocks_for_size one.0.size in
-    let lists_one = λ (reaches : 186 ≤ last). mirror_stays c0 c1 e0 e1 double_indirect_block top.number top.image (one.0.stays double_indirect_block tt (λ touched. touched)) (all.double_indirect_block reaches) in
-    let two = c.write_segment.ensures.written one.0.ready (omega (arith, middle_to, size1, fits))
-    (λ some.
-    let reaches : 58 + 128 * s ≤ last = omega (arith, some, middle_from, middle_to, c.saturating_sub-group.ensures) in
-    mirror_stays c0 c1 e0 e1 (segment s) early.number early.image (one.0.stays (segment s) (segment_is_place s last reaches c.requires.last) (λ touched. segment_no_part first to1 s touched))
-    (subst (λ (x : ℕ). Mirrors c0 e0 (segment x) early.number early.image) (sym group) (all.early (omega (arith, reaches, group)))))
-    (λ later. lists_one (omega (arith, later, middle_to))) in
-    let size2 : blocks_for_size e2.size ≡ blocks_for_size e1.size = ap blocks_for_size two.0.size in
-    let three = c.write_segment-2.ensures.written two.0.ready (omega (arith, size1, size2, fits))
-    (λ some.
-    let reaches : 58 + 128 * (s + 1) ≤ last = omega (arith, some) in
-    let there = segment_is_place (s + 1) last reaches c.requires.last in
-    mirror_stays c1 c2 e1 e2 (segment (s + 1)) late.number late.image (two.0.stays (segment (s + 1)) there (λ touched. next_apart from2 to2 s touched))
-    (mirror_stays c0 c1 e0 e1 (segment (s + 1)) late.number late.image (one.0.stays (segment (s + 1)) there (λ touched. segment_no_part first to1 (s + 1) touched))
-    (subst (λ (x : ℕ). Mirrors c0 e0 (segment (x + 1)) late.number late.image) (sym group) (all.late (omega (arith, reaches, group))))))
-    (λ later. two.2 (lists_one (omega arith))) in
-    let Both = λ (p : BlockPosition). IsBlockIn first (last + 1) p ⊎ IsPointer p in
-    let first_two = changes_then a b d c0 c1 c2 e0 e1 e2 (IsBlockIn first to1) (λ p. IsBlockIn from2 to2 p ⊎ ((p ≡ segment s) ⊎ (p ≡ double_indirect_block))) Both c.requires.after_log c.write_direct.ensures.range c.write_segment.ensures.range
-    (λ p there. inl (part_in_span first to1 first last p (omega arith) (omega (arith, low)) there))
-    (λ p touched. span_touched from2 to2 first last s p (omega (arith, middle_from)) (omega (arith, middle_to)) touched) one.0 two.0 in
-    let changes = changes_then a d f c0 c2 c3 e0 e2 e3 Both (λ p. IsBlockIn from3 (last + 1) p ⊎ ((p ≡ segment (s + 1)) ⊎ (p ≡ double_indirect_block))) Both c.requires.after_log
-    (range_then a b d c.write_direct.ensures.range c.write_segment.ensures.range) c.write_segment-2.ensures.range
-    (λ p touched. touched)
-    (λ p touched. span_touched from3 (last + 1) first last (s + 1) p (omega (arith, c.saturating_sub-group.ensures)) (omega arith) touched) first_two three.0 in
-    let piece = c.args.piece.now in
-    let image = image_of piece.offset piece.bytes.now piece.first piece.last in
-    let parts : HasBlocks c3 e3 first (last + 1) image = λ j from to.
-    let there : j < 16570 = omega (arith, to, c.requires.last) in
-    elim (cases_lt j from3) [
-      | inr le ↦ three.1 j le to
-      | inl before ↦ (three.0.stays (data_block j) there (λ touched. part_apart from3 (last + 1) (s + 1) j before touched)).bytes ∙ elim (cases_lt j 58) [
-        | inr le ↦ two.1 j (omega (arith, middle_from)) (omega (arith, middle_to))
-        | inl direct ↦ (two.0.stays (data_block j) there (λ touched. part_apart from2 to2 s j (omega (arith, middle_from)) touched)).bytes ∙ one.1 j from (omega (arith, low))
-      ]
-    ] in
-    (changes, parts)
+pub returns : goal.returns
+returns g c =
+    let done_direct = c.write_direct.ensures in
+    let done_early = c.write_segment.ensures in
+    let done_late = c.write_segment-2.ensures in
+    let log0 = c.args.log.now in
+    let log1 = c.write_direct.new.log in
+    let log2 = c.write_segment.new.log in
+    let log3 = c.write_segment-2.new.log in
+    let entry2 = c.write_segment.new.entry in
+    let entry3 = c.write_segment-2.new.entry in
+    let most = placed_most log3 c.write_segment-2.new.all.number in
+    record {
+      written = λ ready fits all.
+          let first = c.args.first in
+          let last = c.args.last in
+          let s = c.saturating_sub-group.result / 128 in
+          let group : s ≡ segment_of first = ap (λ (x : ℕ). x / 128) c.saturating_sub-group.ensures in
+          let low = c.min.ensures in
+          let middle_from = c.max.ensures in
+          let middle_to = c.min-2.ensures in
+          let a = c.args.sectors.now in
+          let b = c.write_direct.new.sectors in
+          let d = c.write_segment.new.sectors in
+          let f = c.write_segment-2.new.sectors in
+          let c0 = view c.args.log.now in
+          let c1 = view c.write_direct.new.log in
+          let c2 = view c.write_segment.new.log in
+          let c3 = view c.write_segment-2.new.log in
+          let e0 = c.args.entry.now in
+          let e1 = c.write_direct.new.entry in
+          let e2 = c.write_segment.new.entry in
+          let e3 = c.write_segment-2.new.entry in
+          let top = c.args.all.now.double_indirect_block in
+          let early = c.args.all.now.early in
+          let late = c.args.all.now.late in
+          let to1 = c.min.result in
+          let from2 = c.max.result in
+          let to2 = c.min-2.result in
+          let from3 = 186 + 128 * s in
+          let one = c.write_direct.ensures.written ready (omega (arith, low, fits)) in
+          let size1 : blocks_for_size e1.size ≡ blocks_for_size e0.size = ap blocks_for_size one.0.size in
+          let lists_one = λ (reaches : 186 ≤ last). mirror_stays c0 c1 e0 e1 double_indirect_block top.number top.image (one.0.stays double_indirect_block tt (λ touched. touched)) (all.double_indirect_block reaches) in
+          let two = c.write_segment.ensures.written one.0.ready (omega (arith, middle_to, size1, fits))
+          (λ some.
+          let reaches : 58 + 128 * s ≤ last = omega (arith, some, middle_from, middle_to, c.saturating_sub-group.ensures) in
+          mirror_stays c0 c1 e0 e1 (segment s) early.number early.image (one.0.stays (segment s) (segment_is_place s last reaches c.requires.last) (λ touched. segment_no_part first to1 s touched))
+          (subst (λ (x : ℕ). Mirrors c0 e0 (segment x) early.number early.image) (sym group) (all.early (omega (arith, reaches, group)))))
+          (λ later. lists_one (omega (arith, later, middle_to))) in
+          let size2 : blocks_for_size e2.size ≡ blocks_for_size e1.size = ap blocks_for_size two.0.size in
+          let three = c.write_segment-2.ensures.written two.0.ready (omega (arith, size1, size2, fits))
+          (λ some.
+          let reaches : 58 + 128 * (s + 1) ≤ last = omega (arith, some) in
+          let there = segment_is_place (s + 1) last reaches c.requires.last in
+          mirror_stays c1 c2 e1 e2 (segment (s + 1)) late.number late.image (two.0.stays (segment (s + 1)) there (λ touched. next_apart from2 to2 s touched))
+          (mirror_stays c0 c1 e0 e1 (segment (s + 1)) late.number late.image (one.0.stays (segment (s + 1)) there (λ touched. segment_no_part first to1 (s + 1) touched))
+          (subst (λ (x : ℕ). Mirrors c0 e0 (segment (x + 1)) late.number late.image) (sym group) (all.late (omega (arith, reaches, group))))))
+          (λ later. two.2 (lists_one (omega arith))) in
+          let Both = λ (p : BlockPosition). IsBlockIn first (last + 1) p ⊎ IsPointer p in
+          let first_two = changes_then a b d c0 c1 c2 e0 e1 e2 (IsBlockIn first to1) (λ p. IsBlockIn from2 to2 p ⊎ ((p ≡ segment s) ⊎ (p ≡ double_indirect_block))) Both c.requires.after_log c.write_direct.ensures.range c.write_segment.ensures.range
+          (λ p there. inl (part_in_span first to1 first last p (omega arith) (omega (arith, low)) there))
+          (λ p touched. span_touched from2 to2 first last s p (omega (arith, middle_from)) (omega (arith, middle_to)) touched) one.0 two.0 in
+          let changes = changes_then a d f c0 c2 c3 e0 e2 e3 Both (λ p. IsBlockIn from3 (last + 1) p ⊎ ((p ≡ segment (s + 1)) ⊎ (p ≡ double_indirect_block))) Both c.requires.after_log
+          (range_then a b d c.write_direct.ensures.range c.write_segment.ensures.range) c.write_segment-2.ensures.range
+          (λ p touched. touched)
+          (λ p touched. span_touched from3 (last + 1) first last (s + 1) p (omega (arith, c.saturating_sub-group.ensures)) (omega arith) touched) first_two three.0 in
+          let piece = c.args.piece.now in
+          let image = image_of piece.offset piece.bytes.now piece.first piece.last in
+          let parts : HasBlocks c3 e3 first (last + 1) image = λ j from to.
+          let there : j < 16570 = omega (arith, to, c.requires.last) in
+          elim (cases_lt j from3) [
+            | inr le ↦ three.1 j le to
+            | inl before ↦ (three.0.stays (data_block j) there (λ touched. part_apart from3 (last + 1) (s + 1) j before touched)).bytes ∙ elim (cases_lt j 58) [
+              | inr le ↦ two.1 j (omega (arith, middle_from)) (omega (arith, middle_to))
+              | inl direct ↦ (two.0.stays (data_block j) there (λ touched. part_apart from2 to2 s j (omega (arith, middle_from)) touched)).bytes ∙ one.1 j from (omega (arith, low))
+            ]
+          ] in
+          (changes, parts);
+      entry = done_late.entry ∙ ap (λ (e : Entry). record e { pointers = entry3.pointers }) (done_early.entry ∙ ap (λ (e : Entry). record e { pointers = entry2.pointers }) done_direct.entry);
+      room = omega (arith, c.requires.few, done_direct.room, done_early.room, done_late.room, most, c.min.ensures, c.max.ensures, c.min-2.ensures);
+      puts = puts_then log0 log2 log3 (puts_then log0 log1 log2 done_direct.puts done_early.puts) done_late.puts;
+      range = range_then c.args.sectors.now c.write_segment.new.sectors c.write_segment-2.new.sectors (range_then c.args.sectors.now c.write_direct.new.sectors c.write_segment.new.sectors done_direct.range done_early.range) done_late.range;
+    }
+
+pub write_direct-requires : goal.write_direct-requires
+write_direct-requires g c = record {
+  direct = omega (arith, c.min.ensures);
+  after_log = c.requires.after_log;
+  there = c.requires.there;
+  room = omega (arith, c.requires.room, c.requires.few, c.min.ensures);
+  working = c.requires.working;
+  touched_first = c.requires.touched_first;
+  touched_last = omega (arith, c.requires.touched_last, c.min.ensures);
+  small = c.requires.small;
+}
+
+pub write_segment-requires : goal.write_segment-requires
+write_segment-requires g c =
+    let one = c.write_direct.ensures in
+    let all = c.args.all.now in
+    record {
+      after_log = subst (λ (n : ℕ). FIRST_AFTER_LOG ≤ n) (sym one.range.first) c.requires.after_log;
+      there = omega (arith, c.requires.there, one.range.end, one.puts.sectors);
+      room = omega (arith, c.requires.room, c.requires.few, one.room, c.min.ensures, c.max.ensures, c.min-2.ensures);
+      working = one.puts.failed ∙ c.requires.working;
+      starts = omega (arith, c.max.ensures, c.saturating_sub-group.ensures);
+      ends = omega (arith, c.min-2.ensures);
+      last = omega (arith, c.requires.last, c.min-2.ensures);
+      touched_first = omega (arith, c.requires.touched_first, c.max.ensures);
+      touched_last = omega (arith, c.requires.touched_last, c.min-2.ensures);
+      small = c.requires.small;
+      known = λ some. one.keeps all.early.number (c.requires.known.early some);
+      known_all = λ some. one.keeps all.double_indirect_block.number (c.requires.known.double_indirect_block some);
+    }
+
+pub write_segment-requires-2 : goal.write_segment-requires-2
+write_segment-requires-2 g c =
+    let one = c.write_direct.ensures in
+    let two = c.write_segment.ensures in
+    let late = c.args.all.now.late.number in
+    record {
+      after_log = subst (λ (n : ℕ). FIRST_AFTER_LOG ≤ n) (sym (two.range.first ∙ one.range.first)) c.requires.after_log;
+      there = omega (arith, c.requires.there, one.range.end, two.range.end, one.puts.sectors, two.puts.sectors);
+      room = omega (arith, c.requires.room, c.requires.few, one.room, two.room, c.min.ensures, c.max.ensures, c.min-2.ensures);
+      working = two.puts.failed ∙ one.puts.failed ∙ c.requires.working;
+      starts = omega arith;
+      ends = omega (arith, c.requires.few, c.saturating_sub-group.ensures);
+      last = omega (arith, c.requires.last);
+      touched_first = omega (arith, c.requires.touched_first, c.saturating_sub-group.ensures);
+      touched_last = omega (arith, c.requires.touched_last);
+      small = c.requires.small;
+      known = λ some. two.keeps late (one.keeps late (c.requires.known.late some));
+      known_all = two.known_all;
+    }

@@ -1,10 +1,11 @@
-use Rattle.std.proofs.Common.{◌≡◌, ◌≤◌, ◌<◌, ◌+◌, ◌∙◌, ap, arith, ℕ}
+use Rattle.std.proofs.Common.{◌≡◌, ◌≤◌, ◌<◌, ◌+◌, ◌∙◌, sym, ap, subst, arith, ℕ}
 use Rattle.vol_log.specs.Log.{view}
 use Rattle.vol_inode.specs.Space.{blocks_for_size}
 use Rattle.vol_inode.specs.declared.entry.Entry.{Entry}
 use Rattle.vol_body.specs.Body.{data_block}
 use Rattle.vol_body.specs.internal.Writing.{IsBlockIn, image_of}
 use Rattle.vol_body.proofs.Steps.{puts_then, range_then, changes_then, changes_wider, part_in_more, part_in_here, part_in_all, parts_more, parts_shorter}
+use Rattle.vol_log.specs.declared.layout.TheConstants.{FIRST_AFTER_LOG}
 use Rattle.vol_body.proofs.writing_spans.write_direct.Goals as goal
 
 pub loop-j-preserved : goal.loop-j-preserved
@@ -48,12 +49,40 @@ loop-j-preserved g c =
     different : (k j : ℕ) → k < j → data_block k ≡ data_block j → ⊥
     different k j below is = let same : k ≡ j = cc in omega arith
 
-pub returns-clause-written : goal.returns-clause-written
-returns-clause-written g c ready fits =
-    let from = c.args.from in
-    let piece = c.args.piece.now in
-    let done = c.loop-j.invariant.written ready fits in (
-      changes_wider c.args.sectors.now c.loop-j.sectors (view c.args.log.now) (view c.loop-j.log) c.args.entry.now c.loop-j.entry (IsBlockIn from c.loop-j.j) (IsBlockIn from c.args.to)
-          (λ p there. part_in_all from c.args.to c.loop-j.j p c.loop-j.invariant.few there) done.0,
-      parts_shorter (view c.loop-j.log) c.loop-j.entry from c.args.to c.loop-j.j (image_of piece.offset piece.bytes.now piece.first piece.last) c.loop-j-test.false done.1,
-    )
+pub image_of_block-image-requires : goal.image_of_block-image-requires
+image_of_block-image-requires g c = record {
+  before = omega (arith, c.requires.touched_last, c.loop-j-test.true);
+  starts_before = omega (arith, c.requires.touched_first, c.loop-j.auto.j);
+  small = c.requires.small;
+  rest = c.loop-j.invariant.rest;
+}
+
+pub write_direct_block-requires : goal.write_direct_block-requires
+write_direct_block-requires g c =
+    let so_far = c.loop-j.invariant in
+    record {
+      direct = omega (arith, c.requires.direct, c.loop-j-test.true);
+      after_log = subst (λ (n : ℕ). FIRST_AFTER_LOG ≤ n) (sym so_far.range.first) c.requires.after_log;
+      there = omega (arith, c.requires.there, so_far.range.end, so_far.puts.sectors);
+      room = omega (arith, c.requires.room, so_far.room, c.loop-j-test.true, c.loop-j.auto.j);
+      working = so_far.working;
+    }
+
+pub returns : goal.returns
+returns g c =
+    let so_far = c.loop-j.invariant in
+    record {
+      written = λ ready fits.
+          let from = c.args.from in
+          let piece = c.args.piece.now in
+          let done = c.loop-j.invariant.written ready fits in (
+            changes_wider c.args.sectors.now c.loop-j.sectors (view c.args.log.now) (view c.loop-j.log) c.args.entry.now c.loop-j.entry (IsBlockIn from c.loop-j.j) (IsBlockIn from c.args.to)
+                (λ p there. part_in_all from c.args.to c.loop-j.j p c.loop-j.invariant.few there) done.0,
+            parts_shorter (view c.loop-j.log) c.loop-j.entry from c.args.to c.loop-j.j (image_of piece.offset piece.bytes.now piece.first piece.last) c.loop-j-test.false done.1,
+          );
+      keeps = so_far.keeps;
+      entry = so_far.entry;
+      room = omega (arith, so_far.room, so_far.few);
+      puts = so_far.puts;
+      range = so_far.range;
+    }

@@ -1,8 +1,10 @@
-use Rattle.std.proofs.Common.{◌≡◌, ◌⊎◌, inl, inr, ◌≤◌, ◌<◌, ◌+◌, ◌-◌, ◌∙◌, sym, subst, arith, ℕ}
+use Rattle.std.proofs.Common.{◌≡◌, ◌⊎◌, inl, inr, ◌≤◌, ◌<◌, ◌+◌, ◌-◌, ◌∙◌, sym, true, subst, arith, ℕ}
 use Rattle.vol_log.specs.Log.{view, room_of}
+use Rattle.vol_alloc.specs.Alloc.{taken_of}
 use Rattle.vol_body.specs.Body.{BlockPosition, data_block}
 use Rattle.vol_body.specs.internal.Writing.{IsBlockIn, segment, placed, image_of}
-use Rattle.vol_body.proofs.Steps.{puts_then, range_then, changes_then, changes_wider, part_in_more, part_in_here, part_in_all, parts_more, parts_shorter, segment_lists, segment_place, segment_other}
+use Rattle.vol_body.proofs.Steps.{placed_most, puts_then, range_then, changes_then, changes_wider, part_in_more, part_in_here, part_in_all, parts_more, parts_shorter, segment_lists, segment_place, segment_other}
+use Rattle.vol_log.specs.declared.layout.TheConstants.{FIRST_AFTER_LOG}
 use Rattle.vol_body.proofs.writing_spans.write_listed.Goals as goal
 
 pub loop-j-preserved : goal.loop-j-preserved
@@ -59,16 +61,46 @@ loop-j-preserved g c =
     different k j s below (inl is) = let same : k ≡ j = cc in omega arith
     different k j s below (inr is) = segment_other s k (sym is)
 
-pub returns-clause-written : goal.returns-clause-written
-returns-clause-written g c e s starts fits ready mirror =
-    let from = c.args.from in
-    let piece = c.args.piece.now in
-    let done = c.loop-j.invariant.written e s starts fits ready mirror in (
-      changes_wider c.args.sectors.now c.loop-j.sectors (view c.args.log.now) (view c.loop-j.log) e e (λ p. IsBlockIn from c.loop-j.j p ⊎ (p ≡ segment s)) (λ p. IsBlockIn from c.args.to p ⊎ (p ≡ segment s))
-          (λ p touched. shorter from c.args.to c.loop-j.j p (segment s) c.loop-j.invariant.few touched) done.0,
-      parts_shorter (view c.loop-j.log) e from c.args.to c.loop-j.j (image_of piece.offset piece.bytes.now piece.first piece.last) c.loop-j-test.false done.1,
-    )
-  where
-    shorter : (from to j : ℕ) (p q : BlockPosition) → j - from ≤ to - from → IsBlockIn from j p ⊎ (p ≡ q) → IsBlockIn from to p ⊎ (p ≡ q)
-    shorter from to j p q few (inl there) = inl (part_in_all from to j p few there)
-    shorter from to j p q few (inr is) = inr is
+shorter : (from to j : ℕ) (p q : BlockPosition) → j - from ≤ to - from → IsBlockIn from j p ⊎ (p ≡ q) → IsBlockIn from to p ⊎ (p ≡ q)
+shorter from to j p q few (inl there) = inl (part_in_all from to j p few there)
+shorter from to j p q few (inr is) = inr is
+
+pub image_of_block-image-requires : goal.image_of_block-image-requires
+image_of_block-image-requires g c = record {
+  before = omega (arith, c.requires.touched_last, c.loop-j-test.true);
+  starts_before = omega (arith, c.requires.touched_first, c.loop-j.auto.j);
+  small = c.requires.small;
+  rest = c.loop-j.invariant.rest;
+}
+
+pub write_listed_block-requires : goal.write_listed_block-requires
+write_listed_block-requires g c =
+    let so_far = c.loop-j.invariant in
+    let number = c.args.above.now.number in
+    let most = placed_most c.loop-j.log number in
+    record {
+      place = omega (arith, c.requires.starts, c.requires.ends, c.loop-j-test.true, c.loop-j.auto.j);
+      after_log = subst (λ (n : ℕ). FIRST_AFTER_LOG ≤ n) (sym so_far.range.first) c.requires.after_log;
+      there = omega (arith, c.requires.there, so_far.range.end, so_far.puts.sectors);
+      known = subst (λ (n : ℕ). taken_of c.loop-j.sectors n ≡ true) (sym so_far.number) (so_far.keeps number c.requires.known);
+      room = omega (arith, c.requires.room, so_far.room, most, c.loop-j-test.true, c.loop-j.auto.j);
+      working = so_far.working;
+    }
+
+pub returns : goal.returns
+returns g c =
+    let so_far = c.loop-j.invariant in
+    record {
+      written = λ e s starts fits ready mirror.
+          let from = c.args.from in
+          let piece = c.args.piece.now in
+          let done = c.loop-j.invariant.written e s starts fits ready mirror in (
+            changes_wider c.args.sectors.now c.loop-j.sectors (view c.args.log.now) (view c.loop-j.log) e e (λ p. IsBlockIn from c.loop-j.j p ⊎ (p ≡ segment s)) (λ p. IsBlockIn from c.args.to p ⊎ (p ≡ segment s))
+                (λ p touched. shorter from c.args.to c.loop-j.j p (segment s) c.loop-j.invariant.few touched) done.0,
+            parts_shorter (view c.loop-j.log) e from c.args.to c.loop-j.j (image_of piece.offset piece.bytes.now piece.first piece.last) c.loop-j-test.false done.1,
+          );
+      keeps = so_far.keeps;
+      room = omega (arith, so_far.room, so_far.few);
+      puts = so_far.puts;
+      range = so_far.range;
+    }

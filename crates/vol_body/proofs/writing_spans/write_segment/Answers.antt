@@ -1,41 +1,122 @@
-use Rattle.std.proofs.Common.{◌≡◌, ◌⊎◌, inl, inr, ◌<◌, ℕ, refl, ap, arith}
+use Rattle.std.proofs.Common.{◌≡◌, ◌⊎◌, inl, inr, ◌<◌, ◌≤◌, ℕ, refl, ◌∙◌, sym, ap, subst, arith}
 use Rattle.vol_log.specs.Log.{view}
 use Rattle.vol_inode.specs.Space.{blocks_for_size}
 use Rattle.vol_body.specs.Body.{BlockPosition, double_indirect_block}
-use Rattle.vol_body.specs.internal.Writing.{IsBlockIn, segment}
+use Rattle.vol_body.specs.internal.Writing.{IsBlockIn, segment, placed}
 use Rattle.vol_body.proofs.Added.{mirror_stays}
-use Rattle.vol_body.proofs.Steps.{changes_then, segment_not_lists}
+use Rattle.vol_body.proofs.Steps.{puts_none, puts_then, range_then, placed_most, placed_stays, changes_none, changes_then, segment_not_lists}
+use Rattle.vol_log.specs.declared.layout.TheConstants.{FIRST_AFTER_LOG}
 use Rattle.vol_body.proofs.writing_spans.write_segment.Goals as goal
 
-pub returns-then-above-ne0-clause-written : goal.returns-then-above-ne0-clause-written
-returns-then-above-ne0-clause-written g c ready fits mirror mirror_all =
-    let a = c.args.sectors.now in
-    let b = c.open_segment.new.sectors in
-    let d = c.write_listed.new.sectors in
-    let c0 = view c.args.log.now in
-    let c1 = view c.open_segment.new.log in
-    let c2 = view c.write_listed.new.log in
-    let e0 = c.args.entry.now in
-    let e1 = c.open_segment.new.entry in
-    let s = c.args.group in
-    let q = segment s in
-    let from = c.args.from in
-    let to = c.args.to in
-    let some : from < to = c.if-to-from.false in
-    let new_all = c.open_segment.new.all in
-    let opened = c.open_segment.ensures.opened ready (omega (arith, some, c.requires.starts, fits)) (mirror some) (λ later. mirror_all (omega (arith, some, c.requires.starts, later))) in
-    let size : blocks_for_size e1.size ≡ blocks_for_size e0.size = ap blocks_for_size opened.0.changes.size in
-    let listed = c.write_listed.ensures.written e1 s refl (omega (arith, size, fits)) opened.0.changes.ready opened.0.mirror in (
-      changes_then a b d c0 c1 c2 e0 e1 e1 (λ p. (p ≡ q) ⊎ (p ≡ double_indirect_block)) (λ p. IsBlockIn from to p ⊎ (p ≡ q)) (λ p. IsBlockIn from to p ⊎ ((p ≡ q) ⊎ (p ≡ double_indirect_block))) c.requires.after_log c.open_segment.ensures.range c.write_listed.ensures.range
-          (λ p touched. inr touched) (λ p touched. parts_or from to q p touched) opened.0.changes listed.0,
-      listed.1,
-      λ held. mirror_stays c1 c2 e1 e1 double_indirect_block new_all.number new_all.image (listed.0.stays double_indirect_block tt (λ touched. apart from to s touched)) (opened.1 held),
-    )
-  where
-    parts_or : (from to : ℕ) (q p : BlockPosition) → IsBlockIn from to p ⊎ (p ≡ q) → IsBlockIn from to p ⊎ ((p ≡ q) ⊎ (p ≡ double_indirect_block))
-    parts_or from to q p (inl there) = inl there
-    parts_or from to q p (inr is) = inr (inl is)
+parts_or : (from to : ℕ) (q p : BlockPosition) → IsBlockIn from to p ⊎ (p ≡ q) → IsBlockIn from to p ⊎ ((p ≡ q) ⊎ (p ≡ double_indirect_block))
+parts_or from to q p (inl there) = inl there
+parts_or from to q p (inr is) = inr (inl is)
 
-    apart : (from to s : ℕ) → IsBlockIn from to double_indirect_block ⊎ (double_indirect_block ≡ segment s) → ⊥
-    apart from to s (inl there) = there
-    apart from to s (inr is) = segment_not_lists s is
+apart : (from to s : ℕ) → IsBlockIn from to double_indirect_block ⊎ (double_indirect_block ≡ segment s) → ⊥
+apart from to s (inl there) = there
+apart from to s (inr is) = segment_not_lists s is
+
+pub returns-then-above-ne0 : goal.returns-then-above-ne0
+returns-then-above-ne0 g c =
+    let log0 = c.args.log.now in
+    let log1 = c.open_segment.new.log in
+    let log2 = c.write_listed.new.log in
+    let one = c.open_segment.ensures in
+    let two = c.write_listed.ensures in
+    let all_number = c.open_segment.new.all.number in
+    let above_number = c.open_segment.new.above.number in
+    let stays = placed_stays log1 log2 all_number (two.puts.staged all_number) in
+    let most = placed_most log2 above_number in
+    record {
+      written = λ ready fits mirror mirror_all.
+          let a = c.args.sectors.now in
+          let b = c.open_segment.new.sectors in
+          let d = c.write_listed.new.sectors in
+          let c0 = view c.args.log.now in
+          let c1 = view c.open_segment.new.log in
+          let c2 = view c.write_listed.new.log in
+          let e0 = c.args.entry.now in
+          let e1 = c.open_segment.new.entry in
+          let s = c.args.group in
+          let q = segment s in
+          let from = c.args.from in
+          let to = c.args.to in
+          let some : from < to = c.if-to-from.false in
+          let new_all = c.open_segment.new.all in
+          let opened = c.open_segment.ensures.opened ready (omega (arith, some, c.requires.starts, fits)) (mirror some) (λ later. mirror_all (omega (arith, some, c.requires.starts, later))) in
+          let size : blocks_for_size e1.size ≡ blocks_for_size e0.size = ap blocks_for_size opened.0.changes.size in
+          let listed = c.write_listed.ensures.written e1 s refl (omega (arith, size, fits)) opened.0.changes.ready opened.0.mirror in (
+            changes_then a b d c0 c1 c2 e0 e1 e1 (λ p. (p ≡ q) ⊎ (p ≡ double_indirect_block)) (λ p. IsBlockIn from to p ⊎ (p ≡ q)) (λ p. IsBlockIn from to p ⊎ ((p ≡ q) ⊎ (p ≡ double_indirect_block))) c.requires.after_log c.open_segment.ensures.range c.write_listed.ensures.range
+                (λ p touched. inr touched) (λ p touched. parts_or from to q p touched) opened.0.changes listed.0,
+            listed.1,
+            λ held. mirror_stays c1 c2 e1 e1 double_indirect_block new_all.number new_all.image (listed.0.stays double_indirect_block tt (λ touched. apart from to s touched)) (opened.1 held),
+          );
+      keeps = λ n is. two.keeps n (one.keeps n is);
+      known_all = λ some. two.keeps all_number (one.known_all some);
+      entry = one.entry;
+      room = omega (arith, one.room, two.room, stays, most);
+      puts = puts_then log0 log1 log2 one.puts two.puts;
+      range = range_then c.args.sectors.now c.open_segment.new.sectors c.write_listed.new.sectors one.range two.range;
+    }
+
+pub returns-then-to-from : goal.returns-then-to-from
+returns-then-to-from g c = record {
+  written = λ ready fits mirror mirror_all. (
+      changes_none c.args.sectors.now (view c.args.log.now) c.args.entry.now (λ p. IsBlockIn c.args.from c.args.to p ⊎ ((p ≡ segment c.args.group) ⊎ (p ≡ double_indirect_block))) ready,
+      λ j from to. absurd (omega (arith, from, to, c.if-to-from.true)),
+      λ held. held,
+    );
+  keeps = λ n is. is;
+  known_all = c.requires.known_all;
+  entry = refl;
+  room = omega arith;
+  puts = puts_none c.args.log.now;
+  range = record { first = refl; end = refl };
+}
+
+pub open_segment-requires : goal.open_segment-requires
+open_segment-requires g c = record {
+  place = omega (arith, c.requires.starts, c.requires.last, c.if-to-from.false);
+  after_log = c.requires.after_log;
+  there = c.requires.there;
+  room = omega (arith, c.requires.room, c.if-to-from.false);
+  working = c.requires.working;
+  known = c.requires.known;
+  known_all = c.requires.known_all;
+}
+
+pub write_listed-requires : goal.write_listed-requires
+write_listed-requires g c =
+    let one = c.open_segment.ensures in
+    let most = placed_most c.open_segment.new.log c.open_segment.new.all.number in
+    record {
+      after_log = subst (λ (n : ℕ). FIRST_AFTER_LOG ≤ n) (sym one.range.first) c.requires.after_log;
+      there = omega (arith, c.requires.there, one.range.end, one.puts.sectors);
+      known = one.known c.if-above-ne0.true;
+      room = omega (arith, c.requires.room, one.room, most, c.if-to-from.false);
+      working = one.puts.failed ∙ c.requires.working;
+      starts = c.requires.starts;
+      ends = omega (arith, c.requires.ends);
+      last = c.requires.last;
+      touched_first = c.requires.touched_first;
+      touched_last = c.requires.touched_last;
+      small = c.requires.small;
+    }
+
+-- There was no sector left for a pointer sector.
+pub returns-else-above-ne0 : goal.returns-else-above-ne0
+returns-else-above-ne0 g c =
+    let one = c.open_segment.ensures in
+    let none = ap (placed c.open_segment.new.log) c.if-above-ne0.false in
+    record {
+      written = λ ready fits mirror mirror_all.
+          let some : c.args.from < c.args.to = c.if-to-from.false in
+          let opened = one.opened ready (omega (arith, some, c.requires.starts, fits)) (mirror some) (λ later. mirror_all (omega (arith, some, c.requires.starts, later))) in
+          absurd (opened.0.some c.if-above-ne0.false);
+      keeps = one.keeps;
+      known_all = one.known_all;
+      entry = one.entry;
+      room = omega (arith, one.room, none);
+      puts = one.puts;
+      range = one.range;
+    }

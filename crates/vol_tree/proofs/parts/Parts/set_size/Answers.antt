@@ -1,4 +1,4 @@
-use Rattle.std.proofs.Common.{◌≡◌, ◌∙◌, ◌+◌, ◌-◌, ◌≤◌, ◌<◌, ℕ, List, get_or, None, true, false, inl, sym, ap, subst, arith}
+use Rattle.std.proofs.Common.{◌≡◌, ◌∙◌, ◌+◌, ◌-◌, ◌≤◌, ◌<◌, ℕ, List, get_or, None, true, false, inl, inr, sym, ap, subst, arith}
 use Rattle.vol_log.specs.Log.{view, device_of}
 use Rattle.vol_alloc.specs.Alloc.{first_of, end_of, taken_of}
 use Rattle.vol_inode.specs.declared.entry.Entry.{Entry}
@@ -14,6 +14,8 @@ use Rattle.vol_tree.specs.Stands.{Slots}
 use Rattle.vol_tree.proofs.Committing.{commits_then}
 use Rattle.vol_tree.proofs.Changing.{refused, refused_io}
 use Rattle.vol_tree.proofs.WriteCalls.{file_used, sized_too_big, sized_no_space, need_le, is_sized, is_file, old_bytes, space_sized}
+use Rattle.vol_tree.proofs.OneTree.{limit_small}
+use Rattle.vol_tree.proofs.Taking.{refused_by}
 use Rattle.vol_tree.proofs.Filling.{fails_after, fails_io, fills}
 use Rattle.vol_tree.specs.Space.{space}
 use Rattle.vol_body.proofs.Rights.{not_both}
@@ -21,6 +23,21 @@ use Rattle.vol_tree.specs.Tree.{Tree}
 use Rattle.vol_inode.specs.Entry.{name_of}
 use Rattle.vol_tree.proofs.parts.Parts.set_size.Goals as goal
 use Rattle.vol_log.specs.declared.layout.TheConstants.{FIRST_AFTER_LOG}
+
+pub entry-requires : goal.entry-requires
+entry-requires g c = record { is_open = c.requires.is_open; first = c.requires.first; last = c.requires.last }
+
+pub returns-in_err-entry : goal.returns-in_err-entry
+returns-in_err-entry g c =
+    let old = c.args.self.now in
+    refused_by Entry _ old c.entry.new.self c.from_residual.result c.in_err-entry.field-0.0 c.from_residual.ensures.1 c.in_err-entry.ensures.commits (λ h.
+    inr (c.in_err-entry.ensures.found h (file_used (tree_in (view old.log) old.numbers) c.args.file (c.requires.used h))))
+
+pub reserved_with-requires : goal.reserved_with-requires
+reserved_with-requires g c = record { ranges = c.in_ok-entry.ensures.commits.is_open.ranges }
+
+pub make_room-requires : goal.make_room-requires
+make_room-requires g c = record { «open» = c.in_ok-entry.ensures.commits.is_open }
 
 pub returns-in_default : goal.returns-in_default
 returns-in_default g c =
@@ -56,6 +73,23 @@ returns-in_err-make_room g c =
     let old = c.args.self.now in
     let commits = commits_then old c.entry.new.self c.make_room.new.self true c.in_ok-entry.ensures.commits c.in_err-make_room.ensures.commits in
     refused_io _ old c.make_room.new.self c.from_residual-in_err-make_room.result c.from_residual-in_err-make_room.ensures.1 commits
+
+pub set_size-requires : goal.set_size-requires
+set_size-requires g c =
+    let first = c.in_ok-entry.ensures.commits in
+    let second = c.in_ok-make_room.ensures.commits in
+    let is = second.is_open in
+    let last = subst (λ (w : Superblock). c.args.file ≤ w.slots) (sym (second.kept.numbers ∙ first.kept.numbers)) c.requires.last in
+    let limit = limit_small c.entry.new.self.numbers.version in
+    record {
+      after_log = omega (arith, c.requires.first);
+      slot = omega (arith, last, is.first);
+      within = omega (arith, last, is.sectors, is.ranges.room);
+      there = omega (arith, is.end, is.sectors);
+      room = omega (arith, c.in_ok-make_room.ensures.room);
+      small_before = omega (arith, c.in_ok-entry.ensures.right.rules.size.small, limit_small c.args.self.now.numbers.version);
+      small = omega (arith, c.in-Some.ensures.1, limit);
+    }
 
 pub returns-in_err-set_size : goal.returns-in_err-set_size
 returns-in_err-set_size g c =

@@ -1,4 +1,4 @@
-use Rattle.std.proofs.Common.{◌≡◌, ◌∙◌, ◌+◌, ◌-◌, ◌≤◌, ◌<◌, ℕ, List, length, get_or, max, Some, None, true, false, inl, sym, ap, subst, arith}
+use Rattle.std.proofs.Common.{◌≡◌, ◌∙◌, ◌+◌, ◌-◌, ◌≤◌, ◌<◌, ℕ, List, length, get_or, max, Some, None, true, false, inl, inr, sym, ap, subst, arith}
 use Rattle.vol_log.specs.Log.{view, device_of}
 use Rattle.vol_alloc.specs.Alloc.{first_of, end_of, taken_of, free_of}
 use Rattle.vol_inode.specs.declared.entry.Entry.{Entry}
@@ -15,6 +15,8 @@ use Rattle.vol_tree.specs.Stands.{Slots}
 use Rattle.vol_tree.proofs.Committing.{commits_then}
 use Rattle.vol_tree.proofs.Changing.{refused, refused_io}
 use Rattle.vol_tree.proofs.WriteCalls.{file_used, is_too_big, has_no_space, need_le, enough, is_written, is_file, old_bytes, space_after}
+use Rattle.vol_tree.proofs.OneTree.{limit_small}
+use Rattle.vol_tree.proofs.Taking.{refused_by}
 use Rattle.vol_tree.proofs.Filling.{fails_after, fails_io, fills}
 use Rattle.vol_tree.specs.Space.{space}
 use Rattle.vol_tree.specs.Tree.{Tree}
@@ -22,6 +24,24 @@ use Rattle.vol_body.proofs.Rights.{not_both}
 use Rattle.vol_inode.specs.Entry.{name_of}
 use Rattle.vol_tree.proofs.parts.Parts.write.Goals as goal
 use Rattle.vol_log.specs.declared.layout.TheConstants.{FIRST_AFTER_LOG}
+
+pub entry-requires : goal.entry-requires
+entry-requires g c = record { is_open = c.requires.is_open; first = c.requires.first; last = c.requires.last }
+
+pub returns-in_err-entry : goal.returns-in_err-entry
+returns-in_err-entry g c =
+    let old = c.args.self.now in
+    refused_by Entry _ old c.entry.new.self c.from_residual.result c.in_err-entry.field-0.0 c.from_residual.ensures.1 c.in_err-entry.ensures.commits (λ h.
+    inr (c.in_err-entry.ensures.found h (file_used (tree_in (view old.log) old.numbers) c.args.file (c.requires.used h))))
+
+pub reserved_with-requires : goal.reserved_with-requires
+reserved_with-requires g c = record { ranges = c.in_ok-entry.ensures.commits.is_open.ranges }
+
+pub make_room-requires : goal.make_room-requires
+make_room-requires g c = record { «open» = c.in_ok-entry.ensures.commits.is_open }
+
+pub end_of_write-requires : goal.end_of_write-requires
+end_of_write-requires g c = subst (λ (n : ℕ). n ≤ 16384) (sym c.len-count.ensures) c.requires.piece
 
 pub returns-in_default : goal.returns-in_default
 returns-in_default g c =
@@ -62,34 +82,50 @@ returns-in_err-make_room g c =
     let commits = commits_then old c.entry.new.self c.make_room.new.self true c.in_ok-entry.ensures.commits c.in_err-make_room.ensures.commits in
     refused_io _ old c.make_room.new.self c.from_residual-in_err-make_room.result c.from_residual-in_err-make_room.ensures.1 commits
 
-pub write_at-requires-clause-space : goal.write_at-requires-clause-space
-write_at-requires-clause-space g c h1 names body =
-    let old = c.args.self.now in
-    let mid = c.make_room.new.self in
-    let commits = commits_then old c.entry.new.self mid false c.in_ok-entry.ensures.commits c.in_ok-make_room.ensures.commits in
-    let h = commits.kept.honest.1 h1 in
-    let file = c.requires.used h in
-    let d = c.in_ok-entry.entry in
-    let n = c.args.file in
-    let v = mid.numbers in
-    let found = c.in_ok-entry.ensures.found h (file_used (tree_in (view old.log) old.numbers) n file) in
-    let slot : slot_of (view mid.log) v n ≡ Some d = ap (λ (s : Slots). get_or s (n - 1) None) (commits.slots h) ∙ found in
-    let file1 : is_file_at (tree_in (view mid.log) v) n ≡ true = ap (λ (T : Tree). is_file_at T n) (commits.tree h) ∙ file in
-    let content = commits.is_open.content h1 in
-    let total : mid.reserved ≡ space (tree_in (view mid.log) v) = commits.is_open.reserved h1 in
-    let working = commits.is_open.working h1 commits.kept.failed in
-    let same_v : v ≡ c.entry.new.self.numbers = c.in_ok-make_room.ensures.commits.kept.numbers in
-    let same_r : mid.reserved ≡ c.entry.new.self.reserved = c.in_ok-make_room.ensures.commits.reserved in
-    let le : need_of d.size ≤ c.entry.new.self.reserved = omega (arith, need_le (view mid.log) v content n c.requires.first d slot file1, total, same_r) in
-    let space_for = c.in-Some-reserved_with.ensures le in
-    let room_is : data_sectors v ≡ data_sectors c.entry.new.self.numbers = ap data_sectors same_v in
-    let end_is : c.in-Some.end ≡ c.args.offset + length c.args.bytes.now = c.in-Some.ensures.0 ∙ ap (λ (k : ℕ). c.args.offset + k) c.len-count.ensures in
-    let count = c.len-count.result in
-    let back : c.in-Some.end - count + length c.args.bytes.now ≡ c.in-Some.end = omega (arith, end_is, c.len-count.ensures) in
-    let size_is : max d.size (c.in-Some.end - count + length c.args.bytes.now) ≡ c.max-size.result = ap (max d.size) back ∙ sym c.max-size.ensures in
-    subst (λ (size : ℕ). need_of size ≤ free_of mid.sectors + used_of (view mid.log) d) (sym size_is)
-    (enough (view mid.log) v content n c.requires.first d slot file1 mid.sectors c.max-size.result working.taken commits.is_open.first commits.is_open.end
-    (omega (arith, space_for.0, space_for.1, room_is, total, same_r)))
+pub write_at-requires : goal.write_at-requires
+write_at-requires g c =
+    let first = c.in_ok-entry.ensures.commits in
+    let second = c.in_ok-make_room.ensures.commits in
+    let is = second.is_open in
+    let last = subst (λ (w : Superblock). c.args.file ≤ w.slots) (sym (second.kept.numbers ∙ first.kept.numbers)) c.requires.last in
+    let limit = limit_small c.entry.new.self.numbers.version in
+    record {
+      after_log = omega (arith, c.requires.first);
+      slot = omega (arith, last, is.first);
+      within = omega (arith, last, is.sectors, is.ranges.room);
+      there = omega (arith, is.end, is.sectors);
+      room = omega (arith, c.in_ok-make_room.ensures.room);
+      small_before = omega (arith, c.in_ok-entry.ensures.right.rules.size.small, limit_small c.args.self.now.numbers.version);
+      small = omega (arith, c.in-Some.ensures.0, c.in-Some.ensures.1, c.len-count.ensures, limit);
+      few = c.requires.piece;
+      space = λ h1 names body.
+          let old = c.args.self.now in
+          let mid = c.make_room.new.self in
+          let commits = commits_then old c.entry.new.self mid false c.in_ok-entry.ensures.commits c.in_ok-make_room.ensures.commits in
+          let h = commits.kept.honest.1 h1 in
+          let file = c.requires.used h in
+          let d = c.in_ok-entry.entry in
+          let n = c.args.file in
+          let v = mid.numbers in
+          let found = c.in_ok-entry.ensures.found h (file_used (tree_in (view old.log) old.numbers) n file) in
+          let slot : slot_of (view mid.log) v n ≡ Some d = ap (λ (s : Slots). get_or s (n - 1) None) (commits.slots h) ∙ found in
+          let file1 : is_file_at (tree_in (view mid.log) v) n ≡ true = ap (λ (T : Tree). is_file_at T n) (commits.tree h) ∙ file in
+          let content = commits.is_open.content h1 in
+          let total : mid.reserved ≡ space (tree_in (view mid.log) v) = commits.is_open.reserved h1 in
+          let working = commits.is_open.working h1 commits.kept.failed in
+          let same_v : v ≡ c.entry.new.self.numbers = c.in_ok-make_room.ensures.commits.kept.numbers in
+          let same_r : mid.reserved ≡ c.entry.new.self.reserved = c.in_ok-make_room.ensures.commits.reserved in
+          let le : need_of d.size ≤ c.entry.new.self.reserved = omega (arith, need_le (view mid.log) v content n c.requires.first d slot file1, total, same_r) in
+          let space_for = c.in-Some-reserved_with.ensures le in
+          let room_is : data_sectors v ≡ data_sectors c.entry.new.self.numbers = ap data_sectors same_v in
+          let end_is : c.in-Some.end ≡ c.args.offset + length c.args.bytes.now = c.in-Some.ensures.0 ∙ ap (λ (k : ℕ). c.args.offset + k) c.len-count.ensures in
+          let count = c.len-count.result in
+          let back : c.in-Some.end - count + length c.args.bytes.now ≡ c.in-Some.end = omega (arith, end_is, c.len-count.ensures) in
+          let size_is : max d.size (c.in-Some.end - count + length c.args.bytes.now) ≡ c.max-size.result = ap (max d.size) back ∙ sym c.max-size.ensures in
+          subst (λ (size : ℕ). need_of size ≤ free_of mid.sectors + used_of (view mid.log) d) (sym size_is)
+          (enough (view mid.log) v content n c.requires.first d slot file1 mid.sectors c.max-size.result working.taken commits.is_open.first commits.is_open.end
+          (omega (arith, space_for.0, space_for.1, room_is, total, same_r)));
+    }
 
 pub returns-in_err-write_at : goal.returns-in_err-write_at
 returns-in_err-write_at g c =

@@ -1,4 +1,13 @@
+use Rattle.std.proofs.Common.{◌∙◌, true, inr, refl, sym}
+use Rattle.vol_tree.proofs.Committing.{no_commit}
 use Rattle.vol_tree.proofs.volume.Volume.write_from.Goals as goal
 
-pub returns-clause-answer : goal.returns-clause-answer
-returns-clause-answer g c = let r = c.write.ensures.answer in rw (← c.self.view_is) r
+pub returns-then-failed : goal.returns-then-failed
+returns-then-failed g c =
+    let same = no_commit c.self.inside.parts true c.self.invariant (sym c.failed.ensures ∙ c.if-failed.true) in
+    rw (← c.self.view_is) (record { answer = λ h. (refl, inr refl); crash = same.crash; kept = same.kept })
+
+pub returns : goal.returns
+returns g c =
+    let e = c.write.ensures in
+    rw (← c.self.view_is) (record { answer = e.answer; crash = e.crash; kept = e.kept })
