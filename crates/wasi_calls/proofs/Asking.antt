@@ -111,6 +111,21 @@ module _ {D : Type 0} (honest : D → Type 0) (disk : D → Disk) (sectors_on fa
     crash = λ _. record { later = omega arith; since = λ t c _ left. inl left; now = λ c left. inl left };
   }
 
+  -- a volume that has failed already is asked nothing
+  pub asked_failed : (v : Opened D) → v.failed ≡ true → Asked honest disk sectors_on failures v v true
+  asked_failed v failed = record {
+    tree = λ _. refl;
+    crash = λ _. record { later = omega arith; since = λ t c _ left. inl left; now = λ c left. inl left };
+    kept = record {
+      numbers = refl;
+      failed = failed;
+      failures = λ working. absurd (false≢true (sym working ∙ failed));
+      idle = λ _. (refl, refl);
+      honest = ((λ h. h), (λ h. h));
+      size = refl;
+    };
+  }
+
   leaves_nothing : (a b c : Disk) → Leaves a b (λ i. ⊥) → Leaves b c (λ i. ⊥) → Leaves a c (λ i. ⊥)
   leaves_nothing a b c first second = record {
     later = omega (arith, first.later, second.later);

@@ -1,14 +1,14 @@
 -- Buffers that are filled from a file, one after another.
 use Rattle.std.proofs.Common.{◌≡◌, ◌⊎◌, ℕ, ◌+◌, ◌-◌, ◌<◌, ◌≤◌, Bool, true, false, ◌&&◌, ◌||◌, nat_le, nat_lt, min, List, [], ◌∷◌, length, take, drop, get_or, inl, inr, refl, sym, ap, ◌∙◌, arith}
-use Rattle.std.proofs.lemmas.Bool.{cond-true, cond-false, leb-true, le-ltb, lt-leb, and_parts, cases_lt}
+use Rattle.std.proofs.lemmas.Bool.{false≢true, cond-true, cond-false, leb-true, le-ltb, lt-leb, and_parts, cases_lt}
 use Rattle.std.proofs.lemmas.List.{length-take, length-drop, get_or-take, get_or-drop, drop-drop, take-take, drop-take}
 use Rattle.std.proofs.lemmas.List.Sums.{sum_by-cons}
 use Rattle.std.specs.List.{list_all}
 use Rattle.wasm_store.specs.Bytes.{written}
 use Rattle.wasi_calls.specs.Checks.{Buffer, put, total, scattered, is_inside}
 use Rattle.wasi_calls.specs.Calls.{IsMixed}
-use Rattle.wasi_calls.specs.internal.Reading.{cut, received, covered, HalfFilled, BufferFilled, BufferBegun}
-use Rattle.wasi_calls.proofs.Overlaps.{length_written, written_inside, untouched, either, or_true, is_in, half_begun, half_mixed, half_done, cut_scattered, cut_total}
+use Rattle.wasi_calls.specs.internal.Reading.{cut, received, covered, HalfFilled, HasAll, IsBegun, BufferFilled, BufferBegun}
+use Rattle.wasi_calls.proofs.Overlaps.{length_written, written_before, written_inside, written_past, untouched, either, or_true, is_in, half_begun, half_mixed, half_done, cut_scattered, cut_total}
 
 -- a byte of a part of a file
 part_byte : (file : List ℕ) (from n j : ℕ) → j < n → get_or (take n (drop from file)) j 0 ≡ get_or file (from + j) 0
@@ -140,3 +140,113 @@ module _ (file : List ℕ) (from n : ℕ) (bs : List Buffer) (count : n ≡ min 
       let xs : List ℕ = take (total bs) (drop from file) in
       let long = as_many in
       ap (put m) (sym (scattered_take (total bs) (cut n bs) (drop from file) (omega (arith, all, count))) ∙ cut_scattered n bs xs (omega (arith, long)))
+
+-- ---- one stretch of a buffer, which is in no later buffer
+
+-- its bytes are in the file
+pub stretch_inside : (file : List ℕ) (from place until end : ℕ) (later : List Buffer) → HasAll place until end later false → end - place ≤ length file - from → from + (until - place) ≤ length file
+stretch_inside file from place until end later free enough = omega (arith, free.some, free.within, enough)
+
+module _ (file m m' : List ℕ) (from place until end : ℕ) (later : List Buffer) (free : HasAll place until end later false) (inside : end ≤ length m) (enough : end - place ≤ length file - from) where
+  stretch_long : length (take (until - place) (drop from file)) ≡ until - place
+  stretch_long =
+      let all = length-take (until - place) (drop from file) in
+      let left = length-drop from file in
+      omega (arith, all, left, free.some, free.within, enough)
+
+  -- all of it was filled
+  pub filled_stretch : m' ≡ written m place (take (until - place) (drop from file)) → BufferFilled file from place until later m m'
+  filled_stretch is =
+      let xs : List ℕ = take (until - place) (drop from file) in
+      let long : length xs ≡ until - place = stretch_long in
+      let some : place < until = free.some in
+      let within : until ≤ end = free.within in
+      let low : place ≤ length m = omega (arith, some, within, inside) in
+      let at : (k : ℕ) → get_or m' k 0 ≡ get_or (written m place xs) k 0 = λ k. ap (λ (l : List ℕ). get_or l k 0) is in
+      let before : (k : ℕ) → k < place → get_or m' k 0 ≡ get_or m k 0 = λ k lt. at k ∙ written_before m xs place k low lt in
+      let past : (k : ℕ) → until ≤ k → get_or m' k 0 ≡ get_or m k 0 = λ k le. at k ∙ written_past m xs place k low (omega (arith, long, some, le)) in
+      record {
+        as_long = ap length is ∙ length_written m xs place (omega (arith, long, some, within, inside));
+        filled = λ k le lt out. at k ∙ (written_inside m xs place k low le (omega (arith, long, some, lt)) ∙ part_byte file from (until - place) (k - place) (omega (arith, le, lt)));
+        beyond = λ k out. elim out [ inl lt ↦ before k lt | inr le ↦ past k le ];
+        hidden = λ k is_covered. elim (cases_lt k place) [
+          | inl lt ↦ before k lt
+          | inr le ↦ elim (cases_lt k until) [ inl lt ↦ absurd (false≢true (sym (free.each k le lt) ∙ is_covered)) | inr out ↦ past k out ]
+        ];
+      }
+
+  -- some of it was
+  pub begun_stretch : IsBegun m place (take (until - place) (drop from file)) m' → BufferBegun file from place end later m m'
+  begun_stretch begun =
+      let all : List ℕ = take (until - place) (drop from file) in
+      let xs : List ℕ = take begun.count all in
+      let long : length all ≡ until - place = stretch_long in
+      let some : place < until = free.some in
+      let within : until ≤ end = free.within in
+      let few : begun.count ≤ length all = begun.few in
+      let so_many : length xs ≡ begun.count = let taken = length-take begun.count all in omega (arith, taken, few) in
+      let low : place ≤ length m = omega (arith, some, within, inside) in
+      let at : (k : ℕ) → get_or m' k 0 ≡ get_or (written m place xs) k 0 = λ k. ap (λ (l : List ℕ). get_or l k 0) begun.is in
+      record {
+        as_long = ap length begun.is ∙ length_written m xs place (omega (arith, so_many, few, long, some, within, inside));
+        each = λ k. elim (cases_lt k place) [
+          | inl lt ↦ inl (at k ∙ written_before m xs place k low lt)
+          | inr le ↦ elim (cases_lt k (place + length xs)) [
+            | inl lt ↦
+                let lt_until : k < until = omega (arith, lt, so_many, few, long, some) in
+                inr (record {
+                  low = le;
+                  high = omega (arith, lt_until, within);
+                  apart = free.each k le lt_until;
+                  byte = at k ∙ (written_inside m xs place k low le lt ∙ (get_or-take begun.count all (k - place) 0 (omega (arith, le, lt, so_many)) ∙ part_byte file from (until - place) (k - place) (omega (arith, le, lt_until))));
+                })
+            | inr out ↦ inl (at k ∙ written_past m xs place k low out)
+          ]
+        ];
+      }
+
+-- ---- one stretch after another
+
+pub filled_none : (file : List ℕ) (from start : ℕ) (later : List Buffer) (m : List ℕ) → BufferFilled file from start start later m m
+filled_none file from start later m = record {
+  as_long = refl;
+  filled = λ k le lt out. absurd (omega (arith, le, lt));
+  beyond = λ k out. refl;
+  hidden = λ k is. refl;
+}
+
+module _ (file : List ℕ) (from at start place : ℕ) (later : List Buffer) (m m1 m2 : List ℕ) (low : start ≤ place) (so_far : at ≡ from + (place - start)) (before : BufferFilled file from start place later m m1) where
+  same_byte : (k : ℕ) → place ≤ k → get_or file (at + (k - place)) 0 ≡ get_or file (from + (k - start)) 0
+  same_byte k le = let same : at + (k - place) ≡ from + (k - start) = omega (arith, le, low, so_far) in ap (λ (n : ℕ). get_or file n 0) same
+
+  pub filled_more : (until : ℕ) → place ≤ until → BufferFilled file at place until later m1 m2 → BufferFilled file from start until later m m2
+  filled_more until more next = record {
+    as_long = next.as_long ∙ before.as_long;
+    filled = λ k le lt out. elim (cases_lt k place) [
+      | inl earlier ↦ next.beyond k (inl earlier) ∙ before.filled k le earlier out
+      | inr now ↦ next.filled k now lt out ∙ same_byte k now
+    ];
+    beyond = λ k out. elim out [
+      | inl lt ↦ next.beyond k (inl (omega (arith, lt, low))) ∙ before.beyond k (inl lt)
+      | inr le ↦ next.beyond k (inr le) ∙ before.beyond k (inr (omega (arith, le, more)))
+    ];
+    hidden = λ k is. next.hidden k is ∙ before.hidden k is;
+  }
+
+  pub begun_more : (end : ℕ) → place ≤ end → BufferBegun file at place end later m1 m2 → BufferBegun file from start end later m m2
+  begun_more end within next = record {
+    as_long = next.as_long ∙ before.as_long;
+    each = λ k. elim (next.each k) [
+      | inr h ↦ inr (record { low = omega (arith, h.low, low); high = h.high; apart = h.apart; byte = h.byte ∙ same_byte k h.low })
+      | inl same ↦ elim (either (covered k later)) [
+        | inl is ↦ inl (same ∙ before.hidden k is)
+        | inr out ↦ elim (cases_lt k start) [
+          | inl lt ↦ inl (same ∙ before.beyond k (inl lt))
+          | inr le ↦ elim (cases_lt k place) [
+            | inl lt ↦ inr (record { low = le; high = omega (arith, lt, within); apart = out; byte = same ∙ before.filled k le lt out })
+            | inr past ↦ inl (same ∙ before.beyond k (inr past))
+          ]
+        ]
+      ]
+    ];
+  }

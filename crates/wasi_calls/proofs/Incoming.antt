@@ -17,7 +17,7 @@ none_long (x ∷ l) h = absurd (omega (arith, h))
 
 -- ---- bytes written after others
 
-written_none : (m : List ℕ) (p : ℕ) → written m p [] ≡ m
+pub written_none : (m : List ℕ) (p : ℕ) → written m p [] ≡ m
 written_none m p = ap (λ (n : ℕ). take p m ++ drop n m) (add-zero p) ∙ take-append-drop p m
 
 written_more : (m xs ys : List ℕ) (p : ℕ) → p ≤ length m → written (written m p xs) (p + length xs) ys ≡ written m p (xs ++ ys)

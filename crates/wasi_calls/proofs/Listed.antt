@@ -1,7 +1,7 @@
 -- The list of a directory, as it is put into memory.
 use Rattle.std.proofs.Common.{◌≡◌, ◌⊎◌, ◌≤◌, ◌<◌, ◌+◌, ◌-◌, ◌^◌, ℕ, zero, suc, Bool, true, false, List, [], ◌∷◌, ◌++◌, length, take, drop, min, get_or, Option, Some, IsSome, Ok, Err, inl, inr, refl, sym, ◌∙◌, ap, subst, append-nil, append_assoc, arith}
 use Rattle.std.proofs.lemmas.Bool.{cases_lt}
-use Rattle.std.proofs.lemmas.List.{length-append, length-take, length-drop, take_all, take-take, take-append-le, take-append-drop, take_at, drop_all, drop-drop}
+use Rattle.std.proofs.lemmas.List.{length-append, length-take, length-drop, take_all, take_min, take-take, take-append-le, take-append-drop, take_at, drop_all, drop-drop}
 use Rattle.std.proofs.Math.Seq.{take-append-add, drop-append-add}
 use Rattle.byteorder.specs.Endian.{little_bytes}
 use Rattle.vol_sector.specs.Disk.{Disk}
@@ -291,3 +291,48 @@ module _ {D : Type 0} (honest : D → Type 0) (disk : D → Disk) (sectors_on fa
               bytes = subst (λ (r : Checked Done). IsMixed m (filled r m) m') (sym (row_is working)) (begun_mixed m (take a.len all) m' a.buffer (omega (arith, most, inside)) begun);
             })
       ]
+
+-- ---- where the list has been told so far
+
+module _ (T : Tree) (directory cookie after filled : ℕ) (before part : List ℕ) (so_far : HasTold T directory cookie after filled before part) where
+  -- it has ended
+  pub list_ended : dirents T directory after ≡ []
+      → (filled ≡ length (take (length before) (dirents T directory cookie))) × (part ≡ take (length before) (dirents T directory cookie) ++ drop filled before)
+  list_ended none =
+      let all = dirents T directory cookie in
+      let told = so_far.told in
+      let is : all ≡ told = so_far.parts ∙ (ap (λ (l : List ℕ). told ++ l) none ∙ append-nil told) in
+      let least : filled ≡ min (length before) (length told) = so_far.count in
+      let same : take filled told ≡ take (length before) all = ap (λ (n : ℕ). take n told) least ∙ (take_min (length before) told ∙ ap (take (length before)) (sym is)) in
+      (least ∙ (sym (length-take (length before) told) ∙ ap (λ (l : List ℕ). length (take (length before) l)) (sym is)), so_far.stands ∙ ap (λ (l : List ℕ). l ++ drop filled before) same)
+
+  -- no more of it is told than there is room for
+  told_fits : (n : ℕ) → n ≤ length so_far.told → take n (dirents T directory cookie) ≡ take n so_far.told
+  told_fits n few = ap (take n) so_far.parts ∙ take-append-le n so_far.told (dirents T directory after) few
+
+  -- there is no room left
+  pub list_full : length before ≤ filled
+      → (filled ≡ length (take (length before) (dirents T directory cookie))) × (part ≡ take (length before) (dirents T directory cookie) ++ drop filled before)
+  list_full full =
+      let count : filled ≡ min (length before) (length so_far.told) = so_far.count in
+      let all : filled ≡ length before = omega (arith, count, full) in
+      let same : take (length before) (dirents T directory cookie) ≡ take (length before) so_far.told = told_fits (length before) (omega (arith, count, full)) in
+      let long = length-take (length before) so_far.told in (
+        omega (arith, count, long) ∙ ap length (sym same),
+        so_far.stands ∙ ap (λ (l : List ℕ). l ++ drop filled before) (ap (λ (n : ℕ). take n so_far.told) all ∙ sym same),
+      )
+
+  -- a beginning of it stands there
+  pub list_begun : (n : ℕ) × (n ≤ length (take (length before) (dirents T directory cookie))) × (part ≡ take n (take (length before) (dirents T directory cookie)) ++ drop n before)
+  list_begun =
+      let all = dirents T directory cookie in
+      let count : filled ≡ min (length before) (length so_far.told) = so_far.count in
+      let few : filled ≤ length so_far.told = omega (arith, count) in
+      let fits : filled ≤ length before = omega (arith, count) in
+      let parts = ap length so_far.parts in
+      let sum = length-append so_far.told (dirents T directory after) in
+      let long = length-take (length before) all in (
+        filled,
+        omega (arith, few, fits, parts, sum, long),
+        so_far.stands ∙ ap (λ (l : List ℕ). l ++ drop filled before) (sym (take-take filled (length before) all fits ∙ told_fits filled few)),
+      )

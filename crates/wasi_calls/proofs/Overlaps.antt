@@ -3,14 +3,15 @@ use Rattle.std.proofs.Common.{◌≡◌, ◌⊎◌, ℕ, zero, suc, ◌+◌, ◌
 use Rattle.std.proofs.lemmas.Bool.{cond-true, cond-false, leb-true, le-leb, lt-ltb, and_parts, or_parts, cases_lt, false≢true}
 use Rattle.std.proofs.lemmas.List.{ext_get_or, take_more_set, map-append, take_all, drop_all, length-append, length-take, length-drop, take-append-drop, drop-append-le, drop-drop, get_or_append_left, get_or-append_right, get_or-drop}
 use Rattle.std.proofs.lemmas.List.Sums.{sum_by-cons}
-use Rattle.std.specs.List.{list_all}
+use Rattle.std.specs.List.{list_all, refill}
 use Rattle.wasi_calls.specs.Checks.{Buffer, put, total, is_inside, scattered}
 use Rattle.wasi_calls.specs.internal.Reading.{cut, covered, HalfFilled}
 use Rattle.wasi_calls.specs.Calls.{IsMixed}
-use Rattle.std.proofs.Math.Seq.{drop-cons}
+use Rattle.std.proofs.Math.Seq.{drop-cons, take-append_seam}
 use Rattle.vol_body.specs.declared.source.Span.{Span}
 use Rattle.wasi_calls.specs.internal.Buffers.{pair_of, list_of}
 use Rattle.wasm_store.specs.Bytes.{written}
+use Rattle.wasm_store.specs.Lending.{rewritten}
 
 both_so : (a b : Bool) → a ≡ true → b ≡ true → a && b ≡ true
 both_so true b h k = k
@@ -61,6 +62,25 @@ length_written m xs p h =
     let three = length-take p m in
     let four = length-drop (p + length xs) m in
     omega (arith, one, two, three, four)
+
+-- memory of which a part was lent to be written is as long, and has in its place what the part ended as
+length_refill : (xs ws : List ℕ) → length (refill (length xs) xs ws) ≡ length xs
+length_refill xs ws = simp (length-take, length-append, length-drop) (omega arith)
+
+pub part_long : (m part : List ℕ) (p len : ℕ) → part ≡ take len (drop p m) → p + len ≤ length m → length part ≡ len
+part_long m part p len is inside =
+    let same = ap length is in
+    let least = length-take len (drop p m) in
+    let left = length-drop p m in
+    omega (arith, same, least, left, inside)
+
+pub length_rewritten : (m xs : List ℕ) (p : ℕ) → length (rewritten m p xs) ≡ length m
+length_rewritten m xs p = length_refill m (written m p xs)
+
+pub rewritten_is : (m xs : List ℕ) (p : ℕ) → p + length xs ≤ length m → rewritten m p xs ≡ written m p xs
+rewritten_is m xs p h =
+    let ws : List ℕ = written m p xs in
+    ap (λ (n : ℕ). take n (ws ++ drop (length ws) m)) (sym (length_written m xs p h)) ∙ take-append_seam ws (drop (length ws) m)
 
 pub written_before : (m xs : List ℕ) (p at : ℕ) → p ≤ length m → at < p → get_or (written m p xs) at 0 ≡ get_or m at 0
 written_before m xs p at inside h =

@@ -11,7 +11,7 @@ use Rattle.vol_tree.specs.declared.errno.Errno.TheVariants as errno
 use Rattle.vol_tree.specs.Tree.{Tree, Name, IsTree, Entry as TreeEntry, entry}
 use Rattle.vol_tree.specs.Calls.{directory_at, is_directory}
 use Rattle.vol_tree.specs.declared.superblock.Superblock.{Superblock}
-use Rattle.vol_tree.specs.Opened.{Opened, IsSerial}
+use Rattle.vol_tree.specs.Opened.{Opened, IsSerial, is_io}
 use Rattle.path_walk.specs.Paths.{Reached, Found, Missing, slash, path_read, wants_directory, resolved, ◌>>=◌}
 use Rattle.path_walk.specs.Rooted.{reached_from_root}
 use Rattle.wasi_fd.specs.declared.descriptor.Descriptor.{Descriptor}
@@ -24,7 +24,7 @@ use Rattle.wasi_calls.specs.declared.fault.HostFault.{HostFault}
 use Rattle.wasi_calls.specs.declared.fault.HostFault.TheVariants.{Setting, Preopen, Device, Memory}
 use Rattle.wasi_calls.specs.declared.settings.Preopen.{Preopen as PreopenValue}
 use Rattle.path_walk.specs.Walk.{Asked}
-use Rattle.wasi_calls.specs.Making.{HasPreopens, directory_named, from_root, found_directory, preopens_of, preopened, table_with}
+use Rattle.wasi_calls.specs.Making.{HasPreopens, is_device, directory_named, from_root, found_directory, preopens_of, preopened, table_with}
 use Rattle.wasi_calls.specs.internal.Preopening.{fault_as, Finds, FindsAll, AreFound, AreNumbers, AreOpen, FoundSoFar, opened_from}
 use Rattle.wasi_calls.specs.internal.Serving.{IsThere, KnowsEntries, is_directory_kind}
 use Rattle.wasi_calls.proofs.Entries.{no_entries}
@@ -55,6 +55,26 @@ module _ {D : Type 0} (honest : D → Type 0) (disk : D → Disk) (sectors_on fa
 -- ---- what a path names
 
 -- a walk from the root that was refused
+-- a refusal of the volume is a fault of the device where it failed
+device_as : (X Y : Type 0) (e : Errno) → is_io {X = X} (Err e) ≡ is_device {X = Y} (Err (fault_as e))
+device_as X Y errno.Exist = refl
+device_as X Y errno.TooBig = refl
+device_as X Y errno.BadText = refl
+device_as X Y errno.Invalid = refl
+device_as X Y errno.Io = refl
+device_as X Y errno.IsDirectory = refl
+device_as X Y errno.NameTooLong = refl
+device_as X Y errno.NotFound = refl
+device_as X Y errno.NoSpace = refl
+device_as X Y errno.NotDirectory = refl
+device_as X Y errno.NotEmpty = refl
+device_as X Y errno.NotCapable = refl
+
+pub asked_device : {D : Type 0} (X Y : Type 0) (honest : D → Type 0) (disk : D → Disk) (sectors_on failures : D → ℕ) (a b : Opened D) (e : Errno) (fault : HostFault) → fault ≡ fault_as e
+    → Asked honest disk sectors_on failures a b (is_io {X = X} (Err e)) → Asked honest disk sectors_on failures a b (is_device {X = Y} (Err fault))
+asked_device X Y honest disk sectors_on failures a b e fault is asked =
+    subst (Asked honest disk sectors_on failures a b) (device_as X Y e ∙ ap (λ (f : HostFault). is_device {X = Y} (Err f)) (sym is)) asked
+
 pub root_refused : (T : Tree) (rest : List ℕ) (e : Errno) → reached_from_root T rest ≡ Err e → from_root T rest ≡ None
 root_refused T [] e is = absurd (cc)
 root_refused T (c ∷ rest) e is = go (path_read (c ∷ rest)) is
@@ -194,6 +214,13 @@ opened_get n (p ∷ ps) serials (suc k) = opened_get (suc n) ps serials k ∙ ap
 
 pub streams_past : (n : ℕ) → 3 ≤ n → streams n ≡ None
 streams_past n h = cond-false _ _ _ (ne_eqb n 0 (λ is. omega (arith, is))) ∙ (cond-false _ _ _ (ne_eqb n 1 (λ is. omega (arith, is))) ∙ cond-false _ _ _ (ne_eqb n 2 (λ is. omega (arith, is))))
+
+-- the streams are no entries
+pub streams_known : {D : Type 0} (honest : D → Type 0) (v : Opened D) (table : Table) → ((n : ℕ) → table n ≡ streams n) → KnowsEntries honest v table
+streams_known honest v table is = record {
+  numbers = λ fd o at. absurd (no_entries table is fd o at);
+  there = λ h fd o at. absurd (no_entries table is fd o at);
+}
 
 pub none_open : (ps : List PreopenValue) (serials : List ℕ) (table : Table) → ((n : ℕ) → table n ≡ streams n) → AreOpen ps serials 0 table
 none_open ps serials table is n = elim (cases_lt n 3) [

@@ -1,5 +1,5 @@
 -- No refusal has the number of success.
-use Rattle.std.proofs.Common.{◌≡◌, ◌≢◌, ℕ, Bool, true, false, Option, Some, None, Ok, Err, refl, subst}
+use Rattle.std.proofs.Common.{◌≡◌, ◌≢◌, ℕ, Bool, true, false, Option, Some, None, Result, Ok, Err, refl, subst, sym, ◌∙◌}
 use Rattle.std.specs.Option.{option_map_or, ok_or}
 use Rattle.vol_tree.specs.declared.errno.Errno.{Errno}
 use Rattle.vol_tree.specs.declared.errno.Errno.TheVariants as errno
@@ -10,6 +10,10 @@ use Rattle.wasi_fd.specs.declared.descriptor.EntryKind.{EntryKind}
 use Rattle.wasi_fd.specs.declared.descriptor.EntryKind.TheVariants as kinds
 use Rattle.wasi_calls.specs.World.{World}
 use Rattle.wasi_calls.specs.Checks.{Checked, and_then, guard, get, of_kind, has, descriptor, opened, entry_at, by_kind, no_streams}
+
+-- an answer is no refusal
+pub ok_no_err : {X E : Type 0} (r : Result X E) (x : X) (e : E) → r ≡ Ok x → r ≡ Err e → ⊥
+ok_no_err {X = X} {E = E} r x e is also = let both : ◌≡◌ {A = Result X E} (Ok x) (Err e) = sym is ∙ also in cc
 
 -- a refusal has another number than 0
 abbrev pub NeverZero : {X : Type 0} → Checked X → Type 0

@@ -15,7 +15,8 @@ use Rattle.wasi_calls.specs.declared.inner.Inner.{Inner}
 use Rattle.wasi_calls.specs.Settings.{settings_fit}
 use Rattle.wasi_calls.specs.World.{World}
 use Rattle.wasi_calls.specs.Checks.{Checked, Done}
-use Rattle.wasi_calls.specs.Calls.{Answers, Answered, by_row}
+use Rattle.wasm_store.specs.declared.call.HostCall.{HostCall}
+use Rattle.wasi_calls.specs.Calls.{Answers, Answered, by_row, row}
 use Rattle.wasi_calls.specs.Host.{StreamBytes, Tells, StreamsTell, world_of, VolumeStep}
 use Rattle.wasi_calls.specs.internal.Serving.{NoMoreEntries, state_of, with_volume, IsSetUp, Serves}
 use Rattle.wasi_calls.specs.internal.Opening.{AreSerials, with_both}
@@ -198,3 +199,12 @@ module _ {D R W1 W2 : Type 0} (honest : D → Type 0) (disk : D → Disk) (secto
         );
         volume = step;
       }
+
+-- a call by the name that it has
+pub serves_as : {D R W1 W2 : Type 0} (honest : D → Type 0) (disk : D → Disk) (sectors_on failures : D → ℕ)
+    (remaining : R → Option (List ℕ)) (out_contents : W1 → Option (List ℕ)) (err_contents : W2 → Option (List ℕ))
+    (m : List ℕ) (used : ℕ) (args : List ℕ) (call named : HostCall) → call ≡ named → (old new : Inner D R W1 W2) (m' : List ℕ) (e : ℕ)
+    → Serves honest disk sectors_on failures remaining out_contents err_contents (λ w. row named w m used args) old m new m' e
+    → Serves honest disk sectors_on failures remaining out_contents err_contents (λ w. row call w m used args) old m new m' e
+serves_as honest disk sectors_on failures remaining out_contents err_contents m used args call named is old new m' e served =
+    subst (λ (x : HostCall). Serves honest disk sectors_on failures remaining out_contents err_contents (λ w. row x w m used args) old m new m' e) (sym is) served

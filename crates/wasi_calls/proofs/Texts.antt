@@ -1,7 +1,7 @@
 -- Texts that references name.
 use Rattle.std.proofs.Common.{◌≡◌, ◌≤◌, true, ℕ, ◌+◌, ◌<◌, List, [], ◌∷◌, ◌++◌, length, take, get_or, arith, add-one, add-zero, append-nil, append_assoc, refl, ap, ◌∙◌, sym}
 use Rattle.std.proofs.lemmas.List.{length-map}
-use Rattle.std.proofs.lemmas.List.Sums.{sum_by-cons, sum_by-append}
+use Rattle.std.proofs.lemmas.List.Sums.{sum_by-cons, sum_by-append, sum_by_more_le}
 use Rattle.std.proofs.Math.Seq.{take-suc}
 use Rattle.byteorder.specs.Endian.{little_bytes}
 use Rattle.std.proofs.lemmas.Bool.{and_parts, leb-true}
@@ -33,6 +33,10 @@ pub sum_more : (ts : Texts) (i : ℕ) (d : Bor (List ℕ)) → i < length ts →
 sum_more ts i d h =
     let f : Bor (List ℕ) → ℕ = λ t. length t.now + 1 in
     ap references.ended_bytes (taken_more ts i d h) ∙ (sum_by-append f (take i ts) (get_or ts i d ∷ []) ∙ ap (λ (n : ℕ). references.ended_bytes (take i ts) + n) (sum_by-cons f (get_or ts i d) [] ∙ add-zero _))
+
+-- none of the texts is past the last
+pub within_all : (ts : Texts) (i : ℕ) (d : Bor (List ℕ)) → i < length ts → references.ended_bytes (take i ts) + (length (get_or ts i d).now + 1) ≤ references.ended_bytes ts
+within_all ts i d h = sum_by_more_le (λ (t : Bor (List ℕ)). length t.now + 1) ts i d h
 
 pointers_push : (first : ℕ) (ts : Texts) (t : Bor (List ℕ)) → pointers first (texts_of (ts ++ t ∷ [])) ≡ pointers first (texts_of ts) ++ little_bytes 4 (first + references.ended_bytes ts)
 pointers_push first [] t = append-nil _ ∙ ap (little_bytes 4) (sym (add-zero first))

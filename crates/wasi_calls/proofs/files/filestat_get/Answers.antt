@@ -9,6 +9,8 @@ use Rattle.wasi_calls.specs.internal.Serving.{with_volume}
 use Rattle.wasi_calls.proofs.Yields.{goes_on, stops}
 use Rattle.wasi_calls.proofs.Entries.{at_descriptor, is_used}
 use Rattle.wasi_calls.proofs.Volumes.{is_no_err, was_working, same_volume, refused_first, done_by, tree_refuses, tree_called_alive, tree_called_gone}
+use Rattle.wasi_calls.proofs.Served.{volume_rests}
+use Rattle.wasi_calls.proofs.Asking.{asked_step}
 use Rattle.wasi_calls.proofs.files.filestat_get.Goals as goal
 
 pub returns-in-Err-clause-answered : goal.returns-in-Err-clause-answered
@@ -72,3 +74,22 @@ returns-in-Err-stat_entry-clause-answered g c = λ h w table shown.
     ∙ stops _ _ 29 (ap (stat_of (volume_gone w)) c.in-Entry.is ∙ tree_called_gone w (Ok bytes))))
     (λ alive. is_no_err _ (with_result w at bytes) 29 (goes_on _ _ c.in-Ok.descriptor (c.in-Ok.ensures w table) ∙ (goes_on _ _ tt c.in_default.ensures.range
     ∙ goes_on _ _ bytes (ap (stat_of w) c.in-Entry.is ∙ tree_called_alive w (Ok bytes) alive)))))
+
+pub returns-in-Err-clause-step : goal.returns-in-Err-clause-step
+returns-in-Err-clause-step g c = volume_rests g.D.Device.honest g.D.Device.disk g.D.Device.size g.D.Device.failures c.args.volume.now
+
+pub returns-in-Err-check_range-clause-step : goal.returns-in-Err-check_range-clause-step
+returns-in-Err-check_range-clause-step g c = volume_rests g.D.Device.honest g.D.Device.disk g.D.Device.size g.D.Device.failures c.args.volume.now
+
+pub returns-in-Stream-clause-step : goal.returns-in-Stream-clause-step
+returns-in-Stream-clause-step g c = volume_rests g.D.Device.honest g.D.Device.disk g.D.Device.size g.D.Device.failures c.args.volume.now
+
+pub returns-in-Ok-stat_entry-clause-step : goal.returns-in-Ok-stat_entry-clause-step
+returns-in-Ok-stat_entry-clause-step g c =
+    let told = c.in-Ok-stat_entry.ensures in
+    asked_step g.D.Device.honest g.D.Device.disk g.D.Device.size g.D.Device.failures c.args.volume.now c.stat_entry.new.volume _ (record { tree = λ h. (told.answer h).1; crash = told.crash; kept = told.kept })
+
+pub returns-in-Err-stat_entry-clause-step : goal.returns-in-Err-stat_entry-clause-step
+returns-in-Err-stat_entry-clause-step g c =
+    let told = c.in-Err-stat_entry.ensures in
+    asked_step g.D.Device.honest g.D.Device.disk g.D.Device.size g.D.Device.failures c.args.volume.now c.stat_entry.new.volume _ (record { tree = λ h. (told.answer h).1; crash = told.crash; kept = told.kept })

@@ -8,7 +8,8 @@ use Rattle.wasi_calls.specs.Checks.{sized}
 use Rattle.wasi_calls.specs.internal.Serving.{with_volume}
 use Rattle.wasi_calls.proofs.Yields.{goes_on, stops}
 use Rattle.wasi_calls.proofs.Entries.{file_of}
-use Rattle.wasi_calls.proofs.Volumes.{refused_first, changed_ok, changed_err, resized_never}
+use Rattle.wasi_calls.proofs.Volumes.{steps, refused_first, changed_ok, changed_err, resized_never}
+use Rattle.wasi_calls.proofs.Served.{volume_rests}
 use Rattle.wasi_calls.proofs.files.set_size.Goals as goal
 
 pub set_size-requires : goal.set_size-requires
@@ -38,3 +39,12 @@ returns-in-Err-set_size-clause-answered g c = λ h w m table shown.
     (changed_err g.D.Device.honest g.D.Device.size g.D.Device.failures w m (λ v. fd_filestat_set_size v c.args.fd size) (λ v. resized v.volume v.tree o.serial size)
     c.args.volume.now c.set_size.new.self shown (goes_on _ _ o (c.in-Ok.ensures w table))
     (goes_on _ _ o (c.in-Ok.ensures (volume_gone w) table)) (resized_never w.volume w.tree o.serial size) e c.in-Err-set_size.ensures.kept tree meant)
+
+pub returns-in-Err-clause-step : goal.returns-in-Err-clause-step
+returns-in-Err-clause-step g c = volume_rests g.D.Device.honest g.D.Device.disk g.D.Device.size g.D.Device.failures c.args.volume.now
+
+pub returns-in-Ok-set_size-clause-step : goal.returns-in-Ok-set_size-clause-step
+returns-in-Ok-set_size-clause-step g c = steps g.D.Device.honest g.D.Device.disk g.D.Device.size g.D.Device.failures c.args.volume.now c.set_size.new.self _ c.in-Ok-set_size.ensures.kept c.in-Ok-set_size.ensures.crash
+
+pub returns-in-Err-set_size-clause-step : goal.returns-in-Err-set_size-clause-step
+returns-in-Err-set_size-clause-step g c = steps g.D.Device.honest g.D.Device.disk g.D.Device.size g.D.Device.failures c.args.volume.now c.set_size.new.self _ c.in-Err-set_size.ensures.kept c.in-Err-set_size.ensures.crash

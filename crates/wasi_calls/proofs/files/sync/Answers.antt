@@ -8,10 +8,11 @@ use Rattle.wasi_calls.specs.Files.{fd_sync}
 use Rattle.wasi_calls.specs.Calls.{Answered}
 use Rattle.wasi_calls.specs.internal.Serving.{with_volume}
 use Rattle.wasi_calls.proofs.Yields.{guard_passes, guard_fails, goes_on, stops}
-use Rattle.wasi_calls.proofs.Volumes.{is_no_err, same_tree, was_working, same_volume, refused_first, done_by, tree_refuses}
+use Rattle.wasi_calls.proofs.Volumes.{steps, is_no_err, same_tree, was_working, same_volume, refused_first, done_by, tree_refuses}
 use Rattle.wasi_fd.specs.Table.{table_of}
 use Rattle.wasi_calls.proofs.Entries.{some_world}
-use Rattle.wasi_calls.proofs.Refusals.{not_zero, entry_never_zero, number_never_zero}
+use Rattle.wasi_calls.proofs.Refusals.{not_zero, entry_never_zero, number_never_zero, ok_no_err}
+use Rattle.wasi_calls.proofs.Served.{volume_rests}
 use Rattle.wasi_calls.proofs.files.sync.Goals as goal
 
 pub returns-in-Err-clause-answered : goal.returns-in-Err-clause-answered
@@ -48,7 +49,7 @@ returns-in-Err-sync-clause-answered g c = λ h w m table shown.
     let e = c.in-Err-sync.errno in
     let ok = λ (alive : w.volume_failed ≡ false). done w c.args.fd right o (c.in_default.ensures w table) alive in
     let (tree, meant) = c.in-Err-sync.ensures.answer h in
-    let is_io : e ≡ errno.Io = elim meant [ inl never ↦ cc | inr io ↦ io ] in
+    let is_io : e ≡ errno.Io = elim meant [ inl never ↦ absurd (ok_no_err _ (c.args.volume.now.tree, tt) e refl never) | inr io ↦ io ] in
     subst (λ (n : ℕ). Answered (λ v. fd_sync v c.args.fd right) w m (with_volume new w) m n) (sym c.refused.ensures)
     (tree_refuses w m g.D.Device.honest g.D.Device.size g.D.Device.failures (Unit {0}) (λ v. fd_sync v c.args.fd right) old new e c.in-Err-sync.ensures.kept shown tree
     (λ alive other. absurd (other is_io))
@@ -62,3 +63,12 @@ returns-in-Err-clause-durable g c = λ h zero. absurd (not_zero _ _ (entry_never
 
 pub returns-in-Err-sync-clause-durable : goal.returns-in-Err-sync-clause-durable
 returns-in-Err-sync-clause-durable g c = λ h zero. absurd (number_never_zero c.in-Err-sync.errno (sym c.refused.ensures ∙ zero))
+
+pub returns-in-Err-clause-step : goal.returns-in-Err-clause-step
+returns-in-Err-clause-step g c = volume_rests g.D.Device.honest g.D.Device.disk g.D.Device.size g.D.Device.failures c.args.volume.now
+
+pub returns-in-Ok-clause-step : goal.returns-in-Ok-clause-step
+returns-in-Ok-clause-step g c = steps g.D.Device.honest g.D.Device.disk g.D.Device.size g.D.Device.failures c.args.volume.now c.sync.new.self _ c.in-Ok.ensures.kept c.in-Ok.ensures.crash
+
+pub returns-in-Err-sync-clause-step : goal.returns-in-Err-sync-clause-step
+returns-in-Err-sync-clause-step g c = steps g.D.Device.honest g.D.Device.disk g.D.Device.size g.D.Device.failures c.args.volume.now c.sync.new.self _ c.in-Err-sync.ensures.kept c.in-Err-sync.ensures.crash

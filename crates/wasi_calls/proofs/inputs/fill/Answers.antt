@@ -1,5 +1,6 @@
-use Rattle.std.proofs.Common.{◌∙◌, arith}
-use Rattle.wasi_calls.proofs.Incoming.{came_more}
+use Rattle.std.proofs.Common.{◌∙◌, arith, ◌+◌, ◌-◌, subst, refl}
+use Rattle.wasi_calls.proofs.Incoming.{came_more, came_end, came_none}
+use Rattle.wasi_calls.specs.internal.Inputs.{Came}
 use Rattle.wasi_calls.proofs.inputs.fill.Goals as goal
 
 pub loop-filled-preserved : goal.loop-filled-preserved
@@ -13,3 +14,14 @@ loop-filled-preserved g c =
       mark = before.mark;
       came = came_more _ _ _ c.args.memory.now c.loop-filled.memory c.read_some.new.memory c.args.start c.args.len c.loop-filled.filled c.in-Ok.count c.requires.inside before.few before.came more;
     }
+
+pub returns-in-Ok-eq0-clause-came : goal.returns-in-Ok-eq0-clause-came
+returns-in-Ok-eq0-clause-came g c =
+    let was = c.loop-filled.invariant in
+    let none = subst (Came (g.R.Read.remaining c.loop-filled.input.reader) (g.R.Read.remaining c.read_some.new.reader) c.loop-filled.memory (c.args.start + c.loop-filled.filled) (c.args.len - c.loop-filled.filled) c.read_some.new.memory)
+    c.in-Ok-eq0.field-0-test c.in-Ok-eq0.ensures.came in
+    came_end _ _ _ c.args.memory.now c.loop-filled.memory c.read_some.new.memory c.args.start c.args.len c.loop-filled.filled c.requires.inside was.few was.came none
+
+pub loop-filled-init : goal.loop-filled-init
+loop-filled-init g c =
+    record { long = refl; few = omega arith; goes_on = c.requires.goes_on; mark = refl; came = came_none _ c.args.memory.now c.args.start c.args.len }

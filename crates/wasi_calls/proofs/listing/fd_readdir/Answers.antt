@@ -13,6 +13,8 @@ use Rattle.wasi_calls.specs.internal.Reading.{IsBegun}
 use Rattle.wasi_calls.proofs.Yields.{stops}
 use Rattle.wasi_calls.proofs.Volumes.{refused_first}
 use Rattle.wasi_calls.proofs.Listed.{list_row, row_of_list, list_done, list_fails}
+use Rattle.wasi_calls.proofs.Asking.{asked_step}
+use Rattle.wasi_calls.proofs.Served.{volume_rests}
 use Rattle.wasi_calls.proofs.listing.fd_readdir.Goals as goal
 
 pub returns-in-Err-clause-answered : goal.returns-in-Err-clause-answered
@@ -49,3 +51,12 @@ returns-in-Err-list_from-clause-answered g c = λ h w table shown.
     (list_fails g.D.Device.honest g.D.Device.disk g.D.Device.size g.D.Device.failures old new w m a o h shown (c.in-Ok.ensures.checked w table)
     asked (c.in-Ok.ensures.checked (volume_gone w) table) after c.in-Ok.ensures.buffer fails.idle
     (subst (λ (v : World). IsBegun m a.buffer (take a.len (dirents v.tree o.serial a.cookie)) after) (sym shown) begun))
+
+pub returns-in-Ok-list_from-clause-step : goal.returns-in-Ok-list_from-clause-step
+returns-in-Ok-list_from-clause-step g c = asked_step g.D.Device.honest g.D.Device.disk g.D.Device.size g.D.Device.failures c.args.volume.now c.list_from.new.volume _ c.in-Ok-list_from.ensures.asked
+
+pub returns-in-Err-list_from-clause-step : goal.returns-in-Err-list_from-clause-step
+returns-in-Err-list_from-clause-step g c = asked_step g.D.Device.honest g.D.Device.disk g.D.Device.size g.D.Device.failures c.args.volume.now c.list_from.new.volume _ c.in-Err-list_from.ensures.asked
+
+pub returns-in-Err-clause-step : goal.returns-in-Err-clause-step
+returns-in-Err-clause-step g c = volume_rests g.D.Device.honest g.D.Device.disk g.D.Device.size g.D.Device.failures c.args.volume.now

@@ -1,8 +1,10 @@
-use Rattle.std.proofs.Common.{◌≤◌, ℕ, List, length, min, take, ap, ◌∙◌, subst, arith}
+use Rattle.std.proofs.Common.{◌≤◌, ℕ, List, length, min, take, ap, ◌∙◌, subst, arith, sym, refl}
 use Rattle.vol_tree.specs.Tree.{Tree}
 use Rattle.wasm_store.specs.Bytes.{written}
 use Rattle.wasi_calls.specs.internal.Reading.{IsBegun}
 use Rattle.wasi_calls.proofs.Listed.{cut_cookie}
+use Rattle.wasi_calls.proofs.Asking.{asked_failed}
+use Rattle.wasi_calls.proofs.Incoming.{written_none}
 use Rattle.wasi_calls.proofs.listing.list_from.Goals as goal
 
 pub returns-in-Ok-clause-count : goal.returns-in-Ok-clause-count
@@ -24,3 +26,9 @@ returns-in-Err-clause-broke g c = λ h.
     let few : length T ≤ 8192 = omega (arith, c.is_a_tree.ensures.count, c.is_a_tree.ensures.ranges.few_slots) in
     let (io, begun) = c.in-Err.ensures.broke h in
     (io, subst (λ (all : List ℕ). IsBegun c.args.memory.now c.args.start (take c.args.len all) c.list_part.new.memory) (cut_cookie T c.args.directory c.args.cookie c.last_told-last.result few c.last_told-last.ensures) begun)
+
+pub returns-then-failed-clause-broke : goal.returns-then-failed-clause-broke
+returns-then-failed-clause-broke g c = λ h. (refl, record { count = 0; few = omega arith; is = sym (written_none c.args.memory.now c.args.start) })
+
+pub returns-then-failed-clause-asked : goal.returns-then-failed-clause-asked
+returns-then-failed-clause-asked g c = asked_failed g.D.Device.honest g.D.Device.disk g.D.Device.size g.D.Device.failures c.args.volume.now (sym c.failed.ensures ∙ c.if-failed.true)

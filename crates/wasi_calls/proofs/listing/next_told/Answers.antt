@@ -3,6 +3,7 @@ use Rattle.vol_tree.specs.Tree.{Tree, entry}
 use Rattle.vol_tree.specs.Calls.{next_child}
 use Rattle.wasi_calls.proofs.Dirents.{list_ends}
 use Rattle.wasi_calls.proofs.Listed.{next_used, told_next}
+use Rattle.wasi_calls.proofs.Asking.{asked_on}
 use Rattle.wasi_calls.proofs.listing.next_told.Goals as goal
 
 pub stat-requires-clause-used : goal.stat-requires-clause-used
@@ -25,3 +26,23 @@ returns-in-Ok-clause-told g c = λ h.
 
 pub returns-in-Ok-None-clause-told : goal.returns-in-Ok-None-clause-told
 returns-in-Ok-None-clause-told g c = λ h. list_ends c.args.volume.now.tree c.args.directory c.args.after (sym (c.in-Ok-None.ensures.answer h).0 ∙ c.in-Ok-None.field-0-is)
+
+pub returns-in-Ok-clause-asked : goal.returns-in-Ok-clause-asked
+returns-in-Ok-clause-asked g c =
+    let next = c.in-Ok-Some.ensures in
+    let told = c.in-Ok.ensures in
+    asked_on g.D.Device.honest g.D.Device.disk g.D.Device.size g.D.Device.failures c.args.volume.now c.list_next.new.self c.stat.new.self _ (record { kept = next.kept; tree = λ h. (next.answer h).1; crash = next.crash })
+    (record { tree = λ h. (told.answer h).1; crash = told.crash; kept = told.kept })
+
+pub returns-in-Err-stat-clause-asked : goal.returns-in-Err-stat-clause-asked
+returns-in-Err-stat-clause-asked g c =
+    let next = c.in-Ok-Some.ensures in
+    let told = c.in-Err-stat.ensures in
+    asked_on g.D.Device.honest g.D.Device.disk g.D.Device.size g.D.Device.failures c.args.volume.now c.list_next.new.self c.stat.new.self _ (record { kept = next.kept; tree = λ h. (next.answer h).1; crash = next.crash })
+    (record { tree = λ h. (told.answer h).1; crash = told.crash; kept = told.kept })
+
+pub returns-in-Ok-None-clause-asked : goal.returns-in-Ok-None-clause-asked
+returns-in-Ok-None-clause-asked g c = let told = c.in-Ok-None.ensures in record { tree = λ h. (told.answer h).1; crash = told.crash; kept = told.kept }
+
+pub returns-in-Err-clause-asked : goal.returns-in-Err-clause-asked
+returns-in-Err-clause-asked g c = let told = c.in-Err.ensures in record { tree = λ h. (told.answer h).1; crash = told.crash; kept = told.kept }

@@ -13,8 +13,9 @@ use Rattle.wasi_calls.proofs.Yields.{goes_on, stops}
 use Rattle.wasi_calls.proofs.Entries.{opened_at}
 use Rattle.wasi_calls.proofs.Parts.{walked_to}
 use Rattle.wasi_calls.proofs.Volumes.{steps_after}
-use Rattle.wasi_calls.proofs.Asking.{ends_part, stops_as, passes_as, passes_on, refuses_on, walk_passes, walk_stops}
+use Rattle.wasi_calls.proofs.Asking.{ends_part, stops_as, passes_as, passes_on, refuses_on, walk_passes, walk_stops, works_on}
 use Rattle.wasi_calls.proofs.Targets.{entered_part, after_walk, after_walk_never, checks_stop, no_number, some_number}
+use Rattle.wasi_calls.proofs.Served.{volume_rests}
 use Rattle.wasi_calls.proofs.opening.find_target.Goals as goal
 
 pub returns-in-Err-clause-targets : goal.returns-in-Err-clause-targets
@@ -123,3 +124,12 @@ returns-clause-targets g c = λ h w table shown.
           (goes_on _ _ tt checks.0 ∙ goes_on _ _ number.0 number.1));
       target = checks.1;
     }
+
+pub returns-clause-works : goal.returns-clause-works
+returns-clause-works g c = works_on g.D.Device.honest g.D.Device.disk g.D.Device.size g.D.Device.failures c.args.volume.now c.reach.new.volume c.reached_target.new.volume c.in-Ok-reach.ensures.works c.in-Ok-reached_target.ensures.asked
+
+pub returns-in-Err-clause-step : goal.returns-in-Err-clause-step
+returns-in-Err-clause-step g c = volume_rests g.D.Device.honest g.D.Device.disk g.D.Device.size g.D.Device.failures c.args.volume.now
+
+pub returns-clause-inside : goal.returns-clause-inside
+returns-clause-inside g c = c.in-Ok.ensures.inside

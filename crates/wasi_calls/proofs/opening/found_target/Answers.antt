@@ -6,7 +6,7 @@ use Rattle.path_walk.specs.Paths.{Found}
 use Rattle.wasi_calls.specs.Paths.{open_checks}
 use Rattle.path_walk.specs.Walk.{Asked}
 use Rattle.wasi_calls.specs.internal.Asking.{StopsNext}
-use Rattle.wasi_calls.proofs.Asking.{asked_gone}
+use Rattle.wasi_calls.proofs.Asking.{asked_gone, asked_step}
 use Rattle.wasi_calls.proofs.Targets.{found_checked_never}
 use Rattle.wasi_calls.proofs.opening.found_target.Goals as goal
 
@@ -23,3 +23,12 @@ returns-in-Err-clause-checks g c = λ h w slash alive shown.
       never = found_checked_never c.args.oflags (directory_at w.tree c.args.serial);
       after = asked_gone g.D.Device.honest g.D.Device.disk g.D.Device.size g.D.Device.failures w old new shown h asked;
     }))
+
+pub returns-in-Err-check_found-clause-step : goal.returns-in-Err-check_found-clause-step
+returns-in-Err-check_found-clause-step g c = asked_step g.D.Device.honest g.D.Device.disk g.D.Device.size g.D.Device.failures c.args.volume.now c.is_directory.new.volume _ c.in-Ok.ensures.asked
+
+pub returns-in-Ok-check_found-clause-step : goal.returns-in-Ok-check_found-clause-step
+returns-in-Ok-check_found-clause-step g c = asked_step g.D.Device.honest g.D.Device.disk g.D.Device.size g.D.Device.failures c.args.volume.now c.is_directory.new.volume _ c.in-Ok.ensures.asked
+
+pub returns-in-Err-clause-step : goal.returns-in-Err-clause-step
+returns-in-Err-clause-step g c = asked_step g.D.Device.honest g.D.Device.disk g.D.Device.size g.D.Device.failures c.args.volume.now c.is_directory.new.volume _ c.in-Err.ensures.asked

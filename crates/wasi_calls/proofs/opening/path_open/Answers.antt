@@ -18,6 +18,7 @@ use Rattle.wasi_calls.proofs.Serving.{answers_done}
 use Rattle.wasi_calls.proofs.Volumes.{steps_after, steps, tree_refuses}
 use Rattle.wasi_calls.proofs.Asking.{ends_call}
 use Rattle.wasi_calls.proofs.Targets.{open_by, to_opening, after_part, after_part_never, opened_done, both_same, opens_as, opened_is, serials_stand, opened_world, same_number, not_full}
+use Rattle.vol_tree.specs.declared.superblock.Superblock.{Superblock}
 use Rattle.wasi_calls.proofs.opening.path_open.Goals as goal
 
 pub returns-in-Err-clause-answered : goal.returns-in-Err-clause-answered
@@ -106,3 +107,7 @@ pub returns-in-Err-open-clause-answered : goal.returns-in-Err-open-clause-answer
 returns-in-Err-open-clause-answered g c = λ h w table shown.
     let r = c.in-Ok.ensures.targets h w table shown in
     absurd (not_full w (table_of c.args.descriptors.now) r.number table r.free c.in-Err-open.ensures.full.1)
+
+pub returns-in-Err-settle-clause-serials : goal.returns-in-Err-settle-clause-serials
+returns-in-Err-settle-clause-serials g c = λ fd o at.
+    subst (λ (n : Superblock). IsSerial n o.serial) (sym (c.in-Err-settle.ensures.kept.numbers ∙ c.in-Ok.ensures.works.kept.numbers)) (c.requires.numbers fd o at)

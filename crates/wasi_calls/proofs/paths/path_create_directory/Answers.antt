@@ -4,7 +4,7 @@ use Rattle.vol_tree.specs.Numbers.{number_of}
 use Rattle.vol_tree.specs.Tree.{Tree, Name, Directory}
 use Rattle.vol_tree.specs.Calls.{created}
 use Rattle.path_walk.specs.declared.walking.Reached.{Reached as ReachedValue}
-use Rattle.path_walk.specs.Walk.{reached_as}
+use Rattle.path_walk.specs.Walk.{reached_as, IsReached}
 use Rattle.path_walk.specs.Paths.{Reached}
 use Rattle.wasi_fd.specs.Table.{table_of}
 use Rattle.wasi_fd.specs.declared.descriptor.Opened.{Opened}
@@ -18,6 +18,7 @@ use Rattle.wasi_calls.proofs.Yields.{goes_on, stops}
 use Rattle.wasi_calls.proofs.Entries.{entered_row, entry_of}
 use Rattle.wasi_calls.proofs.Walked.{missing_name_never}
 use Rattle.wasi_calls.proofs.Volumes.{never_after, was_working, same_volume, refused_first, refused_by, tree_refuses, steps, steps_after, created_never, making, making_never, made_ok, made_err}
+use Rattle.wasi_calls.proofs.Served.{volume_rests}
 use Rattle.wasi_calls.proofs.paths.path_create_directory.Goals as goal
 
 -- the row from the walk on
@@ -133,3 +134,9 @@ returns-in-Err-reach-clause-answered g c = λ h w table shown.
           (λ alive is. never_after (path_at w m o c.args.path c.args.len) (of_reached w) (λ no. r.never alive (sym (text w) ∙ no))
           (λ x _. rest_never w alive x) (sym (goes w table) ∙ is))
     ])
+
+pub returns-in-Err-clause-step : goal.returns-in-Err-clause-step
+returns-in-Err-clause-step g c = volume_rests g.D.Device.honest g.D.Device.disk g.D.Device.size g.D.Device.failures c.args.volume.now
+
+pub create_dir-requires-clause-name : goal.create_dir-requires-clause-name
+create_dir-requires-clause-name g c = let reached = subst (IsReached g.D.Device.honest c.reach.new.volume) c.in-Ok-Missing.field-0-is c.in-Ok-Missing.ensures.reached in reached.1

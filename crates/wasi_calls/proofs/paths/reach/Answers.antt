@@ -2,6 +2,7 @@ use Rattle.std.proofs.Common.{◌≡◌, ℕ, List, refl, sym, ap, ◌∙◌, su
 use Rattle.path_walk.specs.Paths.{components_of, wants_directory, resolved, stays_inside}
 use Rattle.path_walk.specs.Walk.{Gives}
 use Rattle.wasi_calls.proofs.Walked.{by_text, reaches_by, step_by, places}
+use Rattle.wasi_calls.proofs.Served.{volume_rests}
 use Rattle.wasi_calls.proofs.paths.reach.Goals as goal
 
 pub returns-in-Ok-clause-reaches : goal.returns-in-Ok-clause-reaches
@@ -28,3 +29,6 @@ returns-in-Err-clause-reaches g c = λ h w o serial shown.
 pub returns-in-Ok-clause-place : goal.returns-in-Ok-clause-place
 returns-in-Ok-clause-place g c = λ h.
     places c.args.volume.now.tree c.args.directory (wants_directory c.in-Ok.path) (components_of c.in-Ok.path) c.walk.result (c.walk.ensures.answer h)
+
+pub returns-in-Err-clause-step : goal.returns-in-Err-clause-step
+returns-in-Err-clause-step g c = volume_rests g.D.Device.honest g.D.Device.disk g.D.Device.size g.D.Device.failures c.args.volume.now

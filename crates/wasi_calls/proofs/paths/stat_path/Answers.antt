@@ -2,7 +2,7 @@ use Rattle.std.proofs.Common.{◌≡◌, ◌≢◌, ◌^◌, ℕ, List, true, fa
 use Rattle.vol_tree.specs.Numbers.{number_of}
 use Rattle.vol_tree.specs.Opened.{is_io}
 use Rattle.path_walk.specs.declared.walking.Reached.{Reached as ReachedValue}
-use Rattle.path_walk.specs.Walk.{reached_as}
+use Rattle.path_walk.specs.Walk.{reached_as, IsReached}
 use Rattle.path_walk.specs.Paths.{Reached}
 use Rattle.wasi_fd.specs.Table.{table_of}
 use Rattle.wasi_fd.specs.declared.descriptor.Opened.{Opened}
@@ -17,6 +17,9 @@ use Rattle.wasi_calls.proofs.Yields.{goes_on, stops}
 use Rattle.wasi_calls.proofs.Entries.{entered_row, entry_of}
 use Rattle.wasi_calls.proofs.Walked.{found_never}
 use Rattle.wasi_calls.proofs.Volumes.{is_no_err, never_after, was_working, same_volume, refused_first, refused_by, failed_by, tree_refuses, tree_called_alive}
+use Rattle.wasi_calls.proofs.Served.{volume_rests}
+use Rattle.wasi_calls.proofs.Asking.{asked_after}
+use Rattle.wasi_calls.proofs.Refusals.{ok_no_err}
 use Rattle.wasi_calls.proofs.paths.stat_path.Goals as goal
 
 -- the row from the walk on
@@ -91,7 +94,7 @@ returns-in-Err-stat_entry-clause-finds g c = λ h w table shown.
     (to_rest (volume_gone w) m c.args.fd c.args.path c.args.len at o (c.in-Ok.ensures.row (volume_gone w) table) c.in_default.ensures.range
     ∙ stops _ _ 29 (ap (walk (volume_gone w) o) (sym c.in-Ok.ensures.text) ∙ reaches.1))
     (λ alive is. never_after (path_at w m o c.args.path c.args.len) (of_reached w at)
-    (λ no. let never : ◌≡◌ {A = Checked Reached} (Ok (reached_as c.in-Ok-Found.field-0)) (Err 29) = sym (ap (walk w o) (sym c.in-Ok.ensures.text) ∙ reaches.0 alive) ∙ no in cc)
+    (λ no. ok_no_err _ (reached_as c.in-Ok-Found.field-0) 29 (ap (walk w o) (sym c.in-Ok.ensures.text) ∙ reaches.0 alive) no)
     (λ r _. rest_never w at alive r)
     (sym (to_rest w m c.args.fd c.args.path c.args.len at o (c.in-Ok.ensures.row w table) c.in_default.ensures.range) ∙ is)))
 
@@ -132,3 +135,25 @@ returns-in-Err-reach-clause-finds g c = λ h w table shown.
           (λ alive is. never_after (path_at w m o c.args.path c.args.len) (of_reached w at) (λ no. r.never alive (sym (text w) ∙ no))
           (λ x _. rest_never w at alive x) (sym (goes w table) ∙ is))
     ])
+
+pub returns-in-Ok-stat_entry-clause-step : goal.returns-in-Ok-stat_entry-clause-step
+returns-in-Ok-stat_entry-clause-step g c =
+    let told = c.in-Ok-stat_entry.ensures in
+    asked_after g.D.Device.honest g.D.Device.disk g.D.Device.size g.D.Device.failures c.args.volume.now c.reach.new.volume c.stat_entry.new.volume _ c.in-Ok-Found.ensures.works (record { tree = λ h. (told.answer h).1; crash = told.crash; kept = told.kept })
+
+pub returns-in-Err-stat_entry-clause-step : goal.returns-in-Err-stat_entry-clause-step
+returns-in-Err-stat_entry-clause-step g c =
+    let told = c.in-Err-stat_entry.ensures in
+    asked_after g.D.Device.honest g.D.Device.disk g.D.Device.size g.D.Device.failures c.args.volume.now c.reach.new.volume c.stat_entry.new.volume _ c.in-Ok-Found.ensures.works (record { tree = λ h. (told.answer h).1; crash = told.crash; kept = told.kept })
+
+pub returns-in-Err-check_range-clause-step : goal.returns-in-Err-check_range-clause-step
+returns-in-Err-check_range-clause-step g c = volume_rests g.D.Device.honest g.D.Device.disk g.D.Device.size g.D.Device.failures c.args.volume.now
+
+pub returns-in-Err-clause-step : goal.returns-in-Err-clause-step
+returns-in-Err-clause-step g c = volume_rests g.D.Device.honest g.D.Device.disk g.D.Device.size g.D.Device.failures c.args.volume.now
+
+pub stat_entry-requires-clause-last : goal.stat_entry-requires-clause-last
+stat_entry-requires-clause-last g c = let reached = subst (IsReached g.D.Device.honest c.reach.new.volume) c.in-Ok-Found.field-0-is c.in-Ok-Found.ensures.reached in reached.number.last
+
+pub stat_entry-requires-clause-first : goal.stat_entry-requires-clause-first
+stat_entry-requires-clause-first g c = let reached = subst (IsReached g.D.Device.honest c.reach.new.volume) c.in-Ok-Found.field-0-is c.in-Ok-Found.ensures.reached in reached.number.first

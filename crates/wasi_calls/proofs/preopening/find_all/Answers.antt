@@ -2,7 +2,7 @@ use Rattle.std.proofs.Common.{get_or, Err, subst, arith}
 use Rattle.std.proofs.lemmas.Option.{slice_get-get_or}
 use Rattle.vol_tree.specs.Tree.{Tree}
 use Rattle.wasi_calls.specs.internal.Preopening.{FindsAll}
-use Rattle.wasi_calls.proofs.Preopens.{no_preopen, refused_one, so_far_more}
+use Rattle.wasi_calls.proofs.Preopens.{no_preopen, refused_one, so_far_more, reads_then}
 use Rattle.wasi_calls.proofs.preopening.find_all.Goals as goal
 
 pub returns-in-Err-clause-found : goal.returns-in-Err-clause-found
@@ -19,3 +19,6 @@ loop-i-preserved g c =
     let i = c.loop-i.i in
     so_far_more g.D.Device.honest g.D.Device.disk g.D.Device.size g.D.Device.failures c.args.volume.now c.loop-i.volume c.directory_named.new.volume ps c.loop-i.serials i c.in-Ok.serial
     (get_or ps i no_preopen) (omega arith) (slice_get-get_or ps i no_preopen c.loop-i-test.true) c.loop-i.invariant c.in-Ok.ensures.reads c.in-Ok.ensures.found c.in-Ok.ensures.number
+
+pub returns-in-Err-clause-reads : goal.returns-in-Err-clause-reads
+returns-in-Err-clause-reads g c = reads_then g.D.Device.honest g.D.Device.disk g.D.Device.size g.D.Device.failures c.args.volume.now c.loop-i.volume c.directory_named.new.volume _ c.loop-i.invariant.reads c.in-Err.ensures.reads

@@ -1,8 +1,9 @@
-use Rattle.std.proofs.Common.{length, sym, subst}
+use Rattle.std.proofs.Common.{length, sym, subst, ◌∙◌}
 use Rattle.vol_tree.specs.Tree.{Tree, IsTree}
 use Rattle.wasi_fd.specs.Table.{table_of}
 use Rattle.wasi_calls.specs.internal.Preopening.{AreFound}
-use Rattle.wasi_calls.proofs.Preopens.{has_preopens, knows_preopens}
+use Rattle.wasi_calls.proofs.Preopens.{has_preopens, knows_preopens, streams_known}
+use Rattle.wasi_calls.proofs.Asking.{asked_failed}
 use Rattle.wasi_calls.proofs.preopening.open_directories.Goals as goal
 
 pub returns-in-Ok-clause-opened : goal.returns-in-Ok-clause-opened
@@ -18,3 +19,12 @@ returns-in-Ok-clause-known g c =
     (λ h'.
     let h = reads.kept.honest.1 h' in
     subst (λ (T : Tree). IsTree T × AreFound T ps serials (length ps)) (sym (reads.tree h)) (c.is_a_tree.ensures.tree h, c.in-Ok.ensures.found h))
+
+pub returns-in-Err-clause-known : goal.returns-in-Err-clause-known
+returns-in-Err-clause-known g c = streams_known g.D.Device.honest c.find_all.new.volume (table_of c.args.descriptors.now) c.requires.streams
+
+pub returns-then-failed-clause-known : goal.returns-then-failed-clause-known
+returns-then-failed-clause-known g c = streams_known g.D.Device.honest c.args.volume.now (table_of c.args.descriptors.now) c.requires.streams
+
+pub returns-then-failed-clause-reads : goal.returns-then-failed-clause-reads
+returns-then-failed-clause-reads g c = asked_failed g.D.Device.honest g.D.Device.disk g.D.Device.size g.D.Device.failures c.args.volume.now (sym c.failed.ensures ∙ c.if-failed.true)

@@ -9,7 +9,7 @@ use Rattle.wasi_calls.specs.Checks.{Buffer, total, put, scattered}
 use Rattle.wasi_calls.specs.internal.Buffers.{pair_of, list_of}
 use Rattle.wasi_calls.specs.internal.Reading.{BufferFilled, BufferBegun}
 use Rattle.wasi_calls.proofs.Arrays.{inside_at}
-use Rattle.wasi_calls.proofs.Asking.{still_works, works_on}
+use Rattle.wasi_calls.proofs.Asking.{still_works, works_on, asked_on}
 use Rattle.wasi_calls.proofs.Filling.{Filling, filling_begins, filling_ends, filling_goes_on, filling_breaks}
 use Rattle.wasi_calls.proofs.reading.fill_buffers.Goals as goal
 
@@ -96,3 +96,16 @@ returns-clause-filled g c = λ h enough.
     let last = put m (scattered (drop c.args.from F) (list_of bs)) in
     let none : list_of (drop c.loop-index.index bs) ≡ [] = ap list_of (drop_all c.loop-index.index bs c.loop-index-test.false) in
     filling_ends F m last c.loop-index.memory c.loop-index.at (subst (Filling F m last c.loop-index.memory c.loop-index.at) none (c.loop-index.invariant.filling h enough))
+
+pub overflow_add-at : goal.overflow_add-at
+overflow_add-at g c =
+    let sums = next_total c.args.buffers.now c.loop-index.index c.loop-index-test.true in
+    record { fits = omega (arith, sums, c.loop-index.invariant.place, c.requires.small) }
+
+pub returns-in-Err-clause-asked : goal.returns-in-Err-clause-asked
+returns-in-Err-clause-asked g c = asked_on g.D.Device.honest g.D.Device.disk g.D.Device.size g.D.Device.failures c.args.volume.now c.loop-index.volume c.fill_buffer.new.volume _ c.loop-index.invariant.works c.in-Err.ensures.asked
+
+pub fill_buffer-requires-clause-small : goal.fill_buffer-requires-clause-small
+fill_buffer-requires-clause-small g c =
+    let sums = next_total c.args.buffers.now c.loop-index.index c.loop-index-test.true in
+    omega (arith, sums, c.loop-index.invariant.place, c.requires.small)

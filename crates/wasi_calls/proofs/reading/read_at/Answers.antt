@@ -9,6 +9,7 @@ use Rattle.wasi_calls.specs.internal.Buffers.{list_of}
 use Rattle.wasi_calls.specs.internal.Reading.{cut}
 use Rattle.wasi_calls.proofs.Overlaps.{cut_total, cut_inside}
 use Rattle.wasi_calls.proofs.Filling.{as_many, cut_fits, cut_received}
+use Rattle.wasi_calls.proofs.Asking.{asked_on}
 use Rattle.wasi_calls.proofs.reading.read_at.Goals as goal
 
 pub fill_buffers-requires-clause-small : goal.fill_buffers-requires-clause-small
@@ -63,3 +64,16 @@ returns-in-Err-fill_buffers-clause-broke g c = λ h.
     let broke = subst (λ (U : Tree). meant U (cut n bs)) tree (subst (meant T) c.cut_to.ensures (c.in-Err-fill_buffers.ensures.broke (c.in-Ok.ensures.kept.honest.0 h))) in
     let both = broke (cut_fits F from n bs count) in
     (both.0, subst (λ (l : List ℕ). IsMixed m l m') (cut_received F from n bs count m) both.1)
+
+pub returns-in-Err-fill_buffers-clause-asked : goal.returns-in-Err-fill_buffers-clause-asked
+returns-in-Err-fill_buffers-clause-asked g c =
+    let told = c.in-Ok.ensures in
+    asked_on g.D.Device.honest g.D.Device.disk g.D.Device.size g.D.Device.failures c.args.volume.now c.size_of.new.volume c.fill_buffers.new.volume _ (record { kept = told.kept; tree = λ h. (told.answer h).1; crash = told.crash }) c.in-Err-fill_buffers.ensures.asked
+
+pub returns-in-Ok-fill_buffers-clause-asked : goal.returns-in-Ok-fill_buffers-clause-asked
+returns-in-Ok-fill_buffers-clause-asked g c =
+    let told = c.in-Ok.ensures in
+    asked_on g.D.Device.honest g.D.Device.disk g.D.Device.size g.D.Device.failures c.args.volume.now c.size_of.new.volume c.fill_buffers.new.volume _ (record { kept = told.kept; tree = λ h. (told.answer h).1; crash = told.crash }) c.in-Ok-fill_buffers.ensures.asked
+
+pub returns-in-Err-clause-asked : goal.returns-in-Err-clause-asked
+returns-in-Err-clause-asked g c = let told = c.in-Err.ensures in record { tree = λ h. (told.answer h).1; crash = told.crash; kept = told.kept }

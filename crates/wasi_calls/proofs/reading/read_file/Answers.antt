@@ -67,3 +67,6 @@ returns-in-Err-clause-answered g c = λ h w table shown.
     (in_table run w m (with_volume new w) m' 29 _ table
     (broke_off g.D.Device.honest g.D.Device.disk g.D.Device.size g.D.Device.failures w m run meant (done_file fd o bs result) old new shown (row_file fd o bs result)
     h asked m' c.in-Err.ensures.idle (subst (λ (T : Tree). IsMixed m (received m (wanted T o.serial o.position bs) bs) m') (sym tree) mixed)))
+
+pub returns-in-Ok-clause-step : goal.returns-in-Ok-clause-step
+returns-in-Ok-clause-step g c = asked_step g.D.Device.honest g.D.Device.disk g.D.Device.size g.D.Device.failures c.args.volume.now c.read_at.new.volume _ c.in-Ok.ensures.asked

@@ -3,7 +3,7 @@ use Rattle.std.proofs.lemmas.List.{length-take, length-drop}
 use Rattle.std.specs.List.{refill}
 use Rattle.vol_tree.specs.Calls.{bytes_at, read_bytes}
 use Rattle.wasm_store.specs.Bytes.{written}
-use Rattle.wasi_calls.proofs.Overlaps.{written_over, length_written}
+use Rattle.wasi_calls.proofs.Overlaps.{written_over, length_written, length_rewritten}
 use Rattle.wasi_calls.proofs.Prepared.{refilled}
 use Rattle.wasi_calls.proofs.reading.read_part.Goals as goal
 
@@ -36,3 +36,12 @@ returns-in-Err-clause-broke g c = λ h inside.
       io,
       record { count = n; few = less; is = ap (refill (length m) m) same ∙ refilled (length m) (written m p xs) _ whole },
     )
+
+pub returns-in-Err-clause-long : goal.returns-in-Err-clause-long
+returns-in-Err-clause-long g c = length_rewritten c.args.memory.now c.read.new.buffer c.args.start
+
+pub returns-in-Ok-clause-long : goal.returns-in-Ok-clause-long
+returns-in-Ok-clause-long g c = length_rewritten c.args.memory.now c.read.new.buffer c.args.start
+
+pub returns-in-Err-clause-asked : goal.returns-in-Err-clause-asked
+returns-in-Err-clause-asked g c = record { tree = λ h. (c.in-Err.ensures.answer h).1; crash = c.in-Err.ensures.crash; kept = c.in-Err.ensures.kept }

@@ -63,3 +63,6 @@ returns-in-Err-clause-answered g c = λ h w shown.
     (broke_off g.D.Device.honest g.D.Device.disk g.D.Device.size g.D.Device.failures w m (λ v. read_into v o from bs result) meant
     (λ v xs. record { world = v; fills = scattered xs bs; results = (result, little_bytes 4 (length xs)) ∷ [] }) old new shown (λ u. refl)
     h asked m' c.in-Err.ensures.idle (subst (λ (T : Tree). IsMixed m (received m (wanted T o.serial from bs) bs) m') (sym tree) mixed))
+
+pub returns-in-Ok-clause-step : goal.returns-in-Ok-clause-step
+returns-in-Ok-clause-step g c = asked_step g.D.Device.honest g.D.Device.disk g.D.Device.size g.D.Device.failures c.args.volume.now c.read_at.new.volume _ c.in-Ok.ensures.asked

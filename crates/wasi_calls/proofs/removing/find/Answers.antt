@@ -14,6 +14,7 @@ use Rattle.wasi_calls.proofs.Yields.{goes_on, stops}
 use Rattle.wasi_calls.proofs.Entries.{entered_row, entry_of}
 use Rattle.wasi_calls.proofs.Walked.{found_never}
 use Rattle.wasi_calls.proofs.Asking.{passes_on, refuses_on, ends_part, passes_as, stops_as, walk_passes, walk_stops}
+use Rattle.wasi_calls.proofs.Served.{volume_rests}
 use Rattle.wasi_calls.proofs.removing.find.Goals as goal
 
 to_walk : (w : World) (m : List ℕ) (fd rights path len : ℕ) (o : Opened) → entered w m fd rights path len ≡ Ok o → found_at w m fd rights path len ≡ and_then (path_at w m o path len) found
@@ -64,3 +65,6 @@ returns-in-Err-reach-clause-asks g c = λ h w table shown.
     (ends_part w part (λ v. found) c.reach.new.volume _ (λ alive r. found_never r)
     (walk_stops g.D.Device.honest g.D.Device.disk g.D.Device.size g.D.Device.failures c.args.volume.now c.reach.new.volume w o m c.args.path c.args.len c.in-Ok.entered.1.now
     c.in-Ok.ensures.text h shown c.in-Err-reach.errno (c.in-Err-reach.ensures.reaches h w o refl shown))))
+
+pub returns-in-Err-clause-step : goal.returns-in-Err-clause-step
+returns-in-Err-clause-step g c = volume_rests g.D.Device.honest g.D.Device.disk g.D.Device.size g.D.Device.failures c.args.volume.now

@@ -12,7 +12,7 @@ use Rattle.wasi_calls.specs.internal.Asking.{Stops}
 use Rattle.wasi_calls.specs.internal.Removing.{found_at, is_kind, other_kind, removable}
 use Rattle.wasi_calls.proofs.Yields.{goes_on, stops, guard_passes, guard_fails}
 use Rattle.wasi_calls.proofs.Volumes.{never_after, never_guard}
-use Rattle.wasi_calls.proofs.Asking.{ends_part, passes_on, refuses_on, fails_on, asked_same, asked_gone}
+use Rattle.wasi_calls.proofs.Asking.{ends_part, passes_on, refuses_on, fails_on, asked_same, asked_gone, asked_after, works_on}
 use Rattle.wasi_calls.proofs.removing.removable.Goals as goal
 
 -- the checks on what was found
@@ -91,3 +91,18 @@ returns-clause-asks g c = λ h w table shown.
     passes_on w part (checked c.args.kind) between s passes new s
     (asked_same g.D.Device.honest g.D.Device.disk g.D.Device.size g.D.Device.failures w between new (sym passes.same) passes.working now c.in-Ok-is_directory.ensures.asked)
     (goes_on _ _ tt (guard_passes _ _ (ap (is_kind c.args.kind) told ∙ c.in_default.ensures)) ∙ goes_on _ _ tt (guard_passes _ 10 (ap not free)))
+
+pub returns-in-Err-check_kind-clause-step : goal.returns-in-Err-check_kind-clause-step
+returns-in-Err-check_kind-clause-step g c = asked_after g.D.Device.honest g.D.Device.disk g.D.Device.size g.D.Device.failures c.args.volume.now c.find.new.volume c.is_directory.new.volume _ c.in-Ok.ensures.works c.in-Ok-is_directory.ensures.asked
+
+pub returns-then-is_held-clause-step : goal.returns-then-is_held-clause-step
+returns-then-is_held-clause-step g c = asked_after g.D.Device.honest g.D.Device.disk g.D.Device.size g.D.Device.failures c.args.volume.now c.find.new.volume c.is_directory.new.volume _ c.in-Ok.ensures.works c.in-Ok-is_directory.ensures.asked
+
+pub returns-clause-step : goal.returns-clause-step
+returns-clause-step g c = asked_after g.D.Device.honest g.D.Device.disk g.D.Device.size g.D.Device.failures c.args.volume.now c.find.new.volume c.is_directory.new.volume _ c.in-Ok.ensures.works c.in-Ok-is_directory.ensures.asked
+
+pub returns-in-Err-is_directory-clause-step : goal.returns-in-Err-is_directory-clause-step
+returns-in-Err-is_directory-clause-step g c = asked_after g.D.Device.honest g.D.Device.disk g.D.Device.size g.D.Device.failures c.args.volume.now c.find.new.volume c.is_directory.new.volume _ c.in-Ok.ensures.works c.in-Err-is_directory.ensures.asked
+
+pub returns-clause-works : goal.returns-clause-works
+returns-clause-works g c = works_on g.D.Device.honest g.D.Device.disk g.D.Device.size g.D.Device.failures c.args.volume.now c.find.new.volume c.is_directory.new.volume c.in-Ok.ensures.works c.in-Ok-is_directory.ensures.asked

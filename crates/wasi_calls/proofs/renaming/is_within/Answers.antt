@@ -4,7 +4,7 @@ use Rattle.vol_tree.specs.Tree.{Tree, entry}
 use Rattle.vol_tree.specs.Calls.{is_within}
 use Rattle.vol_tree.specs.Opened.{IsSerial}
 use Rattle.wasi_calls.specs.internal.Climbing.{IsAbove}
-use Rattle.wasi_calls.proofs.Asking.{works_on}
+use Rattle.wasi_calls.proofs.Asking.{works_on, asked_on, works_as, still_works}
 use Rattle.wasi_calls.proofs.Below.{within_here, within_root, within_step, above_used, below_root}
 use Rattle.wasi_calls.proofs.renaming.is_within.Goals as goal
 
@@ -57,3 +57,19 @@ loop-step-preserved g c =
           let more : slots - c.loop-step.step ≡ suc k = omega (arith, c.loop-step-test.true) in
           was.same h ∙ (ap (λ (n : ℕ). is_within n T c.args.top c.loop-step.at) more ∙ within_step k T c.args.top c.loop-step.at c.in-Ok.parent c.if-at-top.false (above h));
     }
+
+pub returns-in-Err-clause-asked : goal.returns-in-Err-clause-asked
+returns-in-Err-clause-asked g c = asked_on g.D.Device.honest g.D.Device.disk g.D.Device.size g.D.Device.failures c.args.volume.now c.loop-step.volume c.above.new.volume _ c.loop-step.invariant.works c.in-Err.ensures.asked
+
+pub loop-step-init : goal.loop-step-init
+loop-step-init g c =
+    let slots = c.stats-slots.result.slots in
+    let all : slots ≡ slots - 0 = omega arith in
+    record {
+      works = still_works g.D.Device.honest g.D.Device.disk g.D.Device.size g.D.Device.failures c.args.volume.now c.requires.works;
+      here = c.requires.serial;
+      same = λ h. ap (λ (k : ℕ). is_within k c.args.volume.now.tree c.args.top c.args.serial) all;
+    }
+
+pub returns-then-top-eq-ROOT-clause-asked : goal.returns-then-top-eq-ROOT-clause-asked
+returns-then-top-eq-ROOT-clause-asked g c = works_as g.D.Device.honest g.D.Device.disk g.D.Device.size g.D.Device.failures c.args.volume.now c.args.volume.now (still_works g.D.Device.honest g.D.Device.disk g.D.Device.size g.D.Device.failures c.args.volume.now c.requires.works)

@@ -6,7 +6,7 @@ use Rattle.wasi_calls.specs.declared.renaming.Facts.{Facts}
 use Rattle.path_walk.specs.Walk.{Asked}
 use Rattle.wasi_calls.specs.internal.Asking.{StopsNext}
 use Rattle.wasi_calls.specs.internal.Renaming.{facts_of, replace_checked, replace_row}
-use Rattle.wasi_calls.proofs.Asking.{asked_same, asked_gone}
+use Rattle.wasi_calls.proofs.Asking.{asked_same, asked_gone, asked_step}
 use Rattle.wasi_calls.proofs.Renames.{facts_are, replaces_as, replace_never}
 use Rattle.wasi_calls.proofs.renaming.may_replace.Goals as goal
 
@@ -34,3 +34,9 @@ returns-in-Err-clause-checks g c = λ h w table alive shown.
       never = replace_never (facts_of w.tree c.args.source c.args.target) (held_open w c.args.target);
       after = asked_gone g.D.Device.honest g.D.Device.disk g.D.Device.size g.D.Device.failures w old new shown h asked;
     }))
+
+pub returns-in-Ok-clause-step : goal.returns-in-Ok-clause-step
+returns-in-Ok-clause-step g c = asked_step g.D.Device.honest g.D.Device.disk g.D.Device.size g.D.Device.failures c.args.volume.now c.ask_facts.new.volume _ c.in-Ok.ensures.asked
+
+pub returns-in-Err-clause-step : goal.returns-in-Err-clause-step
+returns-in-Err-clause-step g c = asked_step g.D.Device.honest g.D.Device.disk g.D.Device.size g.D.Device.failures c.args.volume.now c.ask_facts.new.volume _ c.in-Err.ensures.asked

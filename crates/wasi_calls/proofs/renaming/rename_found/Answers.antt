@@ -9,6 +9,7 @@ use Rattle.wasi_calls.specs.internal.Asking.{StopsNext}
 use Rattle.wasi_calls.proofs.Volumes.{steps_after, steps}
 use Rattle.wasi_calls.proofs.Asking.{asked_works}
 use Rattle.wasi_calls.proofs.Renames.{onto_stops, onto_done, found_never, not_root, world_with, renames_ok, renames_err}
+use Rattle.wasi_calls.proofs.Served.{volume_rests}
 use Rattle.wasi_calls.proofs.renaming.rename_found.Goals as goal
 
 pub returns-in-Err-clause-renames : goal.returns-in-Err-clause-renames
@@ -54,3 +55,6 @@ returns-in-Err-rename_onto-clause-renames g c = λ h w slash table alive shown.
     (renames_err g.D.Device.honest g.D.Device.size g.D.Device.failures w s slash (Found t) c.may_replace.new.volume c.rename_onto.new.volume
     (λ (T : Tree). renamed T s (parent_at T t) (name_at T t)) checks.1 alive (onto_done w s t slash c.if-target-source.false alive checks.0)
     (found_never w s t slash alive c.if-target-source.false) c.in-Err-rename_onto.errno c.in-Err-rename_onto.ensures.kept tree meant)
+
+pub returns-then-target-source-clause-step : goal.returns-then-target-source-clause-step
+returns-then-target-source-clause-step g c = volume_rests g.D.Device.honest g.D.Device.disk g.D.Device.size g.D.Device.failures c.args.volume.now

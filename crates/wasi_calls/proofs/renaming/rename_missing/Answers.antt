@@ -9,7 +9,7 @@ use Rattle.wasi_calls.specs.Paths.{rename_to}
 use Rattle.path_walk.specs.Walk.{Asked}
 use Rattle.wasi_calls.specs.internal.Asking.{StopsNext}
 use Rattle.wasi_calls.proofs.Volumes.{steps_after, steps}
-use Rattle.wasi_calls.proofs.Asking.{asked_works, asked_same, asked_gone}
+use Rattle.wasi_calls.proofs.Asking.{asked_works, asked_same, asked_gone, asked_step}
 use Rattle.wasi_calls.proofs.Renames.{missing_refused, missing_done, missing_never, renames_ok, renames_err}
 use Rattle.wasi_calls.proofs.renaming.rename_missing.Goals as goal
 
@@ -78,3 +78,9 @@ returns-in-Err-rename-clause-renames g c = λ h w alive shown.
     (renames_err g.D.Device.honest g.D.Device.size g.D.Device.failures w s c.args.slash (Missing p n) between c.rename.new.self (λ (T : Tree). renamed T s p n)
     (asked_same g.D.Device.honest g.D.Device.disk g.D.Device.size g.D.Device.failures w old between shown alive h c.in-Ok.ensures.asked) alive
     (missing_done w s p c.args.slash n alive passes) (missing_never w s p c.args.slash n alive) c.in-Err-rename.errno c.in-Err-rename.ensures.kept tree meant)
+
+pub returns-in-Err-check_slash-clause-step : goal.returns-in-Err-check_slash-clause-step
+returns-in-Err-check_slash-clause-step g c = asked_step g.D.Device.honest g.D.Device.disk g.D.Device.size g.D.Device.failures c.args.volume.now c.is_directory.new.volume _ c.in-Ok.ensures.asked
+
+pub returns-in-Err-clause-step : goal.returns-in-Err-clause-step
+returns-in-Err-clause-step g c = asked_step g.D.Device.honest g.D.Device.disk g.D.Device.size g.D.Device.failures c.args.volume.now c.is_directory.new.volume _ c.in-Err.ensures.asked

@@ -1,7 +1,10 @@
-use Rattle.std.proofs.Common.{◌==◌, ◌∙◌}
+use Rattle.std.proofs.Common.{◌==◌, ◌∙◌, subst, refl}
 use Rattle.std.proofs.lemmas.Bool.{cond-false, ne_eqb}
 use Rattle.wasi_calls.proofs.Volumes.{steps_after, steps}
 use Rattle.wasi_calls.proofs.Renames.{onto_answers}
+use Rattle.wasi_calls.proofs.Asking.{asked_step}
+use Rattle.vol_tree.specs.Opened.{Keeps}
+use Rattle.wasi_calls.specs.internal.Reaching.{StillWorks}
 use Rattle.wasi_calls.proofs.renaming.rename_onto.Goals as goal
 
 pub returns-clause-answer : goal.returns-clause-answer
@@ -19,3 +22,25 @@ returns-clause-crash g c =
     (steps_after g.D.Device.honest g.D.Device.disk g.D.Device.size g.D.Device.failures c.args.volume.now c.stat.new.self c.rename.new.self
     (record { kept = c.in-Ok.ensures.kept; tree = λ h. (c.in-Ok.ensures.answer h).1; crash = c.in-Ok.ensures.crash })
     (steps g.D.Device.honest g.D.Device.disk g.D.Device.size g.D.Device.failures c.stat.new.self c.rename.new.self _ c.rename.ensures.kept c.rename.ensures.crash)).crash
+
+pub rename-requires-clause-name : goal.rename-requires-clause-name
+rename-requires-clause-name g c = c.if-not-is_name.ensures.0 refl
+
+pub returns-then-not-is_name-clause-crash : goal.returns-then-not-is_name-clause-crash
+returns-then-not-is_name-clause-crash g c =
+    let told = c.in-Ok.ensures in
+    (asked_step g.D.Device.honest g.D.Device.disk g.D.Device.size g.D.Device.failures c.args.volume.now c.stat.new.self _ (record { tree = λ h. (told.answer h).1; crash = told.crash; kept = told.kept })).crash
+
+pub returns-clause-kept : goal.returns-clause-kept
+returns-clause-kept g c =
+    let told = c.in-Ok.ensures in
+    let mid = c.stat.new.self in
+    let new = c.rename.new.self in
+    let first : StillWorks g.D.Device.honest g.D.Device.disk g.D.Device.size g.D.Device.failures c.args.volume.now mid = record { kept = told.kept; tree = λ h. (told.answer h).1; crash = told.crash } in
+    let second = steps g.D.Device.honest g.D.Device.disk g.D.Device.size g.D.Device.failures mid new _ c.rename.ensures.kept c.rename.ensures.crash in
+    subst (Keeps g.D.Device.honest g.D.Device.size g.D.Device.failures c.args.volume.now new) c.rename.ensures.kept.failed (steps_after g.D.Device.honest g.D.Device.disk g.D.Device.size g.D.Device.failures c.args.volume.now mid new first second).kept
+
+pub returns-in-Err-clause-crash : goal.returns-in-Err-clause-crash
+returns-in-Err-clause-crash g c =
+    let told = c.in-Err.ensures in
+    (asked_step g.D.Device.honest g.D.Device.disk g.D.Device.size g.D.Device.failures c.args.volume.now c.stat.new.self _ (record { tree = λ h. (told.answer h).1; crash = told.crash; kept = told.kept })).crash

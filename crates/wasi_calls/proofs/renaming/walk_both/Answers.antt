@@ -1,4 +1,4 @@
-use Rattle.std.proofs.Common.{◌≡◌, ℕ, refl, sym, ap, ◌∙◌, subst, inl}
+use Rattle.std.proofs.Common.{◌≡◌, ℕ, refl, sym, ap, ◌∙◌, subst, inl, Ok}
 use Rattle.wasm_store.specs.Bytes.{bytes_at}
 use Rattle.path_walk.specs.Paths.{Reached, wants_directory, path_read}
 use Rattle.path_walk.specs.Walk.{reached_as}
@@ -13,8 +13,11 @@ use Rattle.wasi_calls.proofs.Yields.{goes_on, stops}
 use Rattle.wasi_calls.proofs.Entries.{renames_at}
 use Rattle.wasi_calls.proofs.Parts.{walked_to}
 use Rattle.wasi_calls.proofs.Volumes.{steps_after}
-use Rattle.wasi_calls.proofs.Asking.{entry_still, ends_part, stops_as, stops_on, passes_as, passes_on, refuses_on, walk_passes, walk_stops}
+use Rattle.wasi_calls.proofs.Asking.{entry_still, ends_part, stops_as, stops_on, passes_as, passes_on, refuses_on, walk_passes, walk_stops, asked_after, works_as, works_on}
 use Rattle.wasi_calls.proofs.BothWalks.{entered_both, after_first, after_second, first_never, second_never}
+use Rattle.wasi_calls.proofs.Served.{volume_rests}
+use Rattle.vol_tree.specs.Tree.{Tree}
+use Rattle.wasi_calls.specs.internal.Reaching.{Places}
 use Rattle.wasi_calls.proofs.renaming.walk_both.Goals as goal
 
 pub returns-in-Err-clause-walks : goal.returns-in-Err-clause-walks
@@ -120,3 +123,27 @@ returns-clause-walks g c = λ h w table shown.
           (passes_on w (λ v. path_at v m from a.from_path a.from_len) (λ v. after_first v m a both) mid moved one new ends two.same inner.is),
       c.ends_open-slash.ensures read.0 (ap path_read same ∙ read.1) ∙ ap wants_directory same,
     )
+
+pub returns-clause-step : goal.returns-clause-step
+returns-clause-step g c =
+    asked_after g.D.Device.honest g.D.Device.disk g.D.Device.size g.D.Device.failures c.args.volume.now c.reach.new.volume c.reach-2.new.volume _ c.in-Ok-reach.ensures.works
+    (works_as g.D.Device.honest g.D.Device.disk g.D.Device.size g.D.Device.failures c.reach.new.volume c.reach-2.new.volume c.in-Ok-reach-2.ensures.works)
+
+pub returns-in-Err-source_of-clause-step : goal.returns-in-Err-source_of-clause-step
+returns-in-Err-source_of-clause-step g c =
+    asked_after g.D.Device.honest g.D.Device.disk g.D.Device.size g.D.Device.failures c.args.volume.now c.reach.new.volume c.reach-2.new.volume _ c.in-Ok-reach.ensures.works
+    (works_as g.D.Device.honest g.D.Device.disk g.D.Device.size g.D.Device.failures c.reach.new.volume c.reach-2.new.volume c.in-Ok-reach-2.ensures.works)
+
+pub returns-clause-works : goal.returns-clause-works
+returns-clause-works g c =
+    works_on g.D.Device.honest g.D.Device.disk g.D.Device.size g.D.Device.failures c.args.volume.now c.reach.new.volume c.reach-2.new.volume c.in-Ok-reach.ensures.works
+    (works_as g.D.Device.honest g.D.Device.disk g.D.Device.size g.D.Device.failures c.reach.new.volume c.reach-2.new.volume c.in-Ok-reach-2.ensures.works)
+
+pub returns-in-Err-clause-step : goal.returns-in-Err-clause-step
+returns-in-Err-clause-step g c = volume_rests g.D.Device.honest g.D.Device.disk g.D.Device.size g.D.Device.failures c.args.volume.now
+
+pub returns-clause-place : goal.returns-clause-place
+returns-clause-place g c = λ h.
+    let walked = c.in-Ok-reach-2.ensures in
+    let before = walked.works.kept.honest.1 h in
+    subst (λ (T : Tree). Places T (Ok c.in-Ok-reach-2.target)) (sym (walked.works.tree before)) (walked.place before)

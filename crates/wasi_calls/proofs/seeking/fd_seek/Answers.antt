@@ -13,6 +13,7 @@ use Rattle.wasi_calls.proofs.Entries.{seek_open, file_at}
 use Rattle.wasi_calls.proofs.Serving.{answers_done, answers_refused}
 use Rattle.wasi_calls.proofs.Volumes.{refused_first, failed_by}
 use Rattle.wasi_calls.proofs.Positions.{row_of_seek, sought_never, in_table, table_moved}
+use Rattle.wasi_calls.proofs.Served.{volume_rests}
 use Rattle.wasi_calls.proofs.seeking.fd_seek.Goals as goal
 
 pub returns-in-Err-clause-answered : goal.returns-in-Err-clause-answered
@@ -76,3 +77,6 @@ returns-in-Err-position_at-clause-answered g c = λ h w table shown.
     (row_of_seek w m c.args.fd c.args.delta c.args.whence c.args.result_at ∙ (goes_on _ _ o (c.in-Ok.ensures.checked w table)
     ∙ (goes_on _ _ c.in-Ok-seek_from.from t.told ∙ stops _ _ _ c.in-Err-position_at.ensures)))
     t.same refl))
+
+pub returns-in-Err-clause-step : goal.returns-in-Err-clause-step
+returns-in-Err-clause-step g c = volume_rests g.D.Device.honest g.D.Device.disk g.D.Device.size g.D.Device.failures c.args.volume.now

@@ -3,9 +3,11 @@ use Rattle.vol_tree.specs.declared.errno.Errno.{Errno}
 use Rattle.vol_tree.specs.Opened.{is_io}
 use Rattle.vol_tree.specs.Calls.{bytes_at}
 use Rattle.wasi_calls.specs.World.{World, volume_gone}
-use Rattle.wasi_calls.specs.Checks.{Checked}
 use Rattle.wasi_calls.proofs.Volumes.{was_working, same_volume, tree_called_alive, tree_called_gone}
 use Rattle.wasi_calls.proofs.Positions.{from_end}
+use Rattle.wasi_calls.proofs.Asking.{asked_step}
+use Rattle.wasi_calls.proofs.Served.{volume_rests}
+use Rattle.wasi_calls.proofs.Refusals.{ok_no_err}
 use Rattle.wasi_calls.proofs.seeking.seek_from.Goals as goal
 
 pub returns-in-Ok-clause-told : goal.returns-in-Ok-clause-told
@@ -35,5 +37,21 @@ returns-in-Err-clause-failed g c = λ h w shown.
       tree = tree;
       failed = k.failed ∙ ap (λ (e : Errno). is_io {X = ℕ} (Err e)) io;
       gone = from_end (volume_gone w) o c.args.whence (omega arith) ∙ tree_called_gone w (Ok size);
-      never = λ alive is. let both : ◌≡◌ {A = Checked ℕ} (Ok size) (Err 29) = sym (from_end w o c.args.whence (omega arith) ∙ tree_called_alive w (Ok size) alive) ∙ is in cc;
+      never = λ alive is. ok_no_err _ size 29 (from_end w o c.args.whence (omega arith) ∙ tree_called_alive w (Ok size) alive) is;
     }
+
+pub returns-in-Err-clause-step : goal.returns-in-Err-clause-step
+returns-in-Err-clause-step g c =
+    let told = c.in-Err.ensures in
+    asked_step g.D.Device.honest g.D.Device.disk g.D.Device.size g.D.Device.failures c.args.volume.now c.size_of.new.volume _ (record { tree = λ h. (told.answer h).1; crash = told.crash; kept = told.kept })
+
+pub returns-in-Ok-clause-step : goal.returns-in-Ok-clause-step
+returns-in-Ok-clause-step g c =
+    let told = c.in-Ok.ensures in
+    asked_step g.D.Device.honest g.D.Device.disk g.D.Device.size g.D.Device.failures c.args.volume.now c.size_of.new.volume _ (record { tree = λ h. (told.answer h).1; crash = told.crash; kept = told.kept })
+
+pub returns-in-1-clause-step : goal.returns-in-1-clause-step
+returns-in-1-clause-step g c = volume_rests g.D.Device.honest g.D.Device.disk g.D.Device.size g.D.Device.failures c.args.volume.now
+
+pub returns-in-0-clause-step : goal.returns-in-0-clause-step
+returns-in-0-clause-step g c = volume_rests g.D.Device.honest g.D.Device.disk g.D.Device.size g.D.Device.failures c.args.volume.now

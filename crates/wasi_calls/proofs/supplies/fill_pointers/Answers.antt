@@ -2,7 +2,7 @@ use Rattle.std.proofs.Common.{◌≡◌, ℕ, ◌+◌, ◌++◌, List, [], lengt
 use denote.Ref.{Bor}
 use Rattle.byteorder.specs.Endian.{little_bytes}
 use Rattle.wasi_calls.specs.Texts.{ended_bytes}
-use Rattle.wasi_calls.proofs.Texts.{pointers_more, sum_more}
+use Rattle.wasi_calls.proofs.Texts.{pointers_more, sum_more, within_all}
 use Rattle.wasi_calls.proofs.supplies.fill_pointers.Goals as goal
 
 pub loop-text-preserved : goal.loop-text-preserved
@@ -21,3 +21,8 @@ loop-text-preserved c =
       filled = ap (λ (n : ℕ). take (c.loop-text.place + n) c.append_at.new.part) (sym four)
           ∙ (c.append_at.ensures ∙ ((λ j. inv.filled j ++ low j) ∙ sym more));
     }
+
+pub overflow_add-pointer-in-loop-text : goal.overflow_add-pointer-in-loop-text
+overflow_add-pointer-in-loop-text c =
+    let within = within_all c.args.texts.now c.loop-text.text-index (record { ref_ptr = (0, 0); now = [] }) c.loop-text-test.true in
+    record { fits = omega (arith, within, c.loop-text.invariant.pointer, c.requires.fits) }

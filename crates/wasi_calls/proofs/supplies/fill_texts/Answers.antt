@@ -2,7 +2,7 @@ use Rattle.std.proofs.Common.{◌≡◌, ℕ, ◌+◌, ◌++◌, List, [], ◌�
 use denote.Ref.{Bor}
 use Rattle.wasi_calls.specs.Texts.{texts_of}
 use Rattle.wasi_calls.specs.Supplies.{ended}
-use Rattle.wasi_calls.proofs.Texts.{ended_more, sum_more}
+use Rattle.wasi_calls.proofs.Texts.{ended_more, sum_more, within_all}
 use Rattle.wasi_calls.proofs.supplies.fill_texts.Goals as goal
 
 pub loop-text-preserved : goal.loop-text-preserved
@@ -23,3 +23,18 @@ loop-text-preserved c =
           ∙ ((λ j. c.append_at.ensures j ++ 0 ∷ [])
           ∙ ((λ j. (inv.filled j ++ text) ++ 0 ∷ []) ∙ (append_assoc (ended (texts_of (take i ts))) text (0 ∷ []) ∙ sym more))));
     }
+
+pub overflow_add-place-in-loop-text-2 : goal.overflow_add-place-in-loop-text-2
+overflow_add-place-in-loop-text-2 c =
+    let within = within_all c.args.texts.now c.loop-text.text-index (record { ref_ptr = (0, 0); now = [] }) c.loop-text-test.true in
+    record { fits = omega (arith, within, c.loop-text.invariant.place, c.requires) }
+
+pub overflow_add-place : goal.overflow_add-place
+overflow_add-place c =
+    let within = within_all c.args.texts.now c.loop-text.text-index (record { ref_ptr = (0, 0); now = [] }) c.loop-text-test.true in
+    record { fits = omega (arith, within, c.loop-text.invariant.place, c.requires) }
+
+pub append_at-requires-in-loop-text : goal.append_at-requires-in-loop-text
+append_at-requires-in-loop-text c =
+    let within = within_all c.args.texts.now c.loop-text.text-index (record { ref_ptr = (0, 0); now = [] }) c.loop-text-test.true in
+    omega (arith, within, c.loop-text.invariant.place, c.requires, c.loop-text.auto.part, c.append_at.auto.part)

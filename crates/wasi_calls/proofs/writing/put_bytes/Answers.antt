@@ -2,7 +2,6 @@ use Rattle.std.proofs.Common.{◌≤◌, ℕ, List, length, take, sym, ap, ◌�
 use Rattle.vol_body.specs.Source as source
 use Rattle.vol_tree.specs.Opened.{geometry}
 use Rattle.vol_tree.specs.Calls.{written}
-use Rattle.wasi_calls.specs.Checks.{gathered}
 use Rattle.wasi_calls.proofs.Arrays.{source_inside, source_taken}
 use Rattle.wasi_calls.proofs.Written.{unit_gives, unit_refuses}
 use Rattle.wasi_calls.proofs.writing.put_bytes.Goals as goal

@@ -8,7 +8,7 @@ use Rattle.wasi_calls.specs.Calls.{Answered}
 use Rattle.wasi_calls.specs.internal.Serving.{with_volume}
 use Rattle.wasi_calls.specs.internal.Buffers.{list_of}
 use Rattle.wasi_calls.specs.internal.Writing.{placed}
-use Rattle.wasi_calls.proofs.Volumes.{was_working}
+use Rattle.wasi_calls.proofs.Volumes.{was_working, steps}
 use Rattle.wasi_calls.proofs.Written.{one_after, left_ok, left_err, written_never}
 use Rattle.wasi_calls.proofs.writing.write_at.Goals as goal
 
@@ -49,3 +49,9 @@ returns-in-Err-clause-answered g c = λ h w shown.
     (λ v T. with_result (record v { tree = T }) result (little_bytes 4 (length part))) old new shown
     (λ u. one_after (tree_call u (tree_with u.volume u.tree o.serial at part)) (λ T. (record u { tree = T }, length part)) (λ r. with_result r.0 result (little_bytes 4 r.1)))
     (written_never w.volume w.tree o.serial at part) c.in-Err.errno c.in-Err.ensures.kept tree meant)
+
+pub returns-in-Ok-clause-step : goal.returns-in-Ok-clause-step
+returns-in-Ok-clause-step g c = steps g.D.Device.honest g.D.Device.disk g.D.Device.size g.D.Device.failures c.args.volume.now c.put_bytes.new.volume _ c.in-Ok.ensures.kept c.in-Ok.ensures.crash
+
+pub returns-in-Err-clause-step : goal.returns-in-Err-clause-step
+returns-in-Err-clause-step g c = steps g.D.Device.honest g.D.Device.disk g.D.Device.size g.D.Device.failures c.args.volume.now c.put_bytes.new.volume _ c.in-Err.ensures.kept c.in-Err.ensures.crash

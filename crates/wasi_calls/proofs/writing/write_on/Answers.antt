@@ -8,12 +8,13 @@ use Rattle.wasi_fd.specs.Table.{table_of, with_at}
 use Rattle.wasi_calls.specs.World.{World, with_descriptor, moved_to}
 use Rattle.wasi_calls.specs.Checks.{gathered}
 use Rattle.wasi_calls.specs.Calls.{Answered}
-use Rattle.wasi_calls.specs.internal.Serving.{with_volume, with_table}
+use Rattle.wasi_calls.specs.internal.Serving.{with_volume, with_table, NoMoreEntries}
 use Rattle.wasi_calls.specs.internal.Buffers.{list_of}
 use Rattle.wasi_calls.specs.internal.Writing.{written_on}
-use Rattle.wasi_calls.proofs.Volumes.{was_working}
+use Rattle.wasi_calls.proofs.Volumes.{was_working, steps}
 use Rattle.wasi_calls.proofs.Positions.{in_table, table_moved}
 use Rattle.wasi_calls.proofs.Written.{part_of, tree_on, done_on, row_on, left_ok, left_err, written_never, written_small}
+use Rattle.wasi_calls.proofs.Served.{no_more}
 use Rattle.wasi_calls.proofs.writing.write_on.Goals as goal
 use Rattle.wasi_calls.proofs.writing.write_on.Goals.{then-len-gt0, else-len-gt0}
 
@@ -67,3 +68,16 @@ returns-in-Err-clause-answered g c = λ h w table shown.
     (in_table (λ v. written_on v fd o all result) w m (with_volume new w) m _ _ table
     (left_err g.D.Device.honest g.D.Device.size g.D.Device.failures w m (λ v. written_on v fd o all result) (tree_on o all) (done_on fd o all result) old new shown
     (row_on fd o all result) (written_never w.volume w.tree o.serial o.position (part_of all)) c.in-Err.errno c.in-Err.ensures.kept tree meant))
+
+pub returns-after-len-gt0-clause-step : goal.returns-after-len-gt0-clause-step
+returns-after-len-gt0-clause-step g c = steps g.D.Device.honest g.D.Device.disk g.D.Device.size g.D.Device.failures c.args.volume.now c.put_bytes.new.volume _ c.in-Ok.ensures.kept c.in-Ok.ensures.crash
+
+pub returns-in-Err-clause-step : goal.returns-in-Err-clause-step
+returns-in-Err-clause-step g c = steps g.D.Device.honest g.D.Device.disk g.D.Device.size g.D.Device.failures c.args.volume.now c.put_bytes.new.volume _ c.in-Err.ensures.kept c.in-Err.ensures.crash
+
+pub returns-after-len-gt0-clause-entries : goal.returns-after-len-gt0-clause-entries
+returns-after-len-gt0-clause-entries g c =
+    elim c.if-len-gt0.branch [
+      | then-len-gt0 b ↦ subst (λ (d : Descriptors). NoMoreEntries (table_of c.args.descriptors.now) (table_of d)) (sym b.descriptors-is) b.move_to.ensures.entries
+      | else-len-gt0 b ↦ subst (λ (d : Descriptors). NoMoreEntries (table_of c.args.descriptors.now) (table_of d)) (sym b.descriptors-is) (no_more (table_of c.args.descriptors.now))
+    ]

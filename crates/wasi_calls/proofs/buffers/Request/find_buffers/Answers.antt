@@ -1,4 +1,5 @@
 use Rattle.std.proofs.Common.{List, Ok, sym, ap, ◌∙◌, take}
+use Rattle.std.proofs.lemmas.Bool.{leb-true}
 use Rattle.vol_body.specs.declared.source.Span.{Span}
 use Rattle.wasi_calls.specs.internal.Buffers.{list_of, fit}
 use Rattle.wasi_calls.proofs.Yields.{goes_on, stops}
@@ -32,3 +33,12 @@ returns-in-Err-check_range-2-clause-found c =
     ∙ (goes_on _ _ all (ap (λ (bs : List Span). fit m (list_of bs)) (sym c.buffers_in.ensures)
     ∙ (c.in_default-check_buffers.ensures.fit ∙ ap (λ (bs : List Span). Ok (list_of bs)) c.buffers_in.ensures))
     ∙ stops _ _ _ c.in-Err-check_range-2.ensures.range)
+
+pub returns-in-Err-check_range-clause-found : goal.returns-in-Err-check_range-clause-found
+returns-in-Err-check_range-clause-found c = stops _ _ _ (goes_on _ _ tt c.in_default.ensures.meaning ∙ stops _ _ _ c.in-Err-check_range.ensures.range)
+
+pub returns-in-Err-clause-found : goal.returns-in-Err-clause-found
+returns-in-Err-clause-found c = stops _ _ _ (stops _ _ _ c.in-Err.ensures.meaning)
+
+pub returns-in-Ok-clause-few : goal.returns-in-Ok-clause-few
+returns-in-Ok-clause-few c = leb-true _ _ c.in_default.ensures.passed

@@ -15,7 +15,7 @@ use Rattle.wasi_calls.proofs.Entries.{file_of}
 use Rattle.wasi_calls.proofs.Volumes.{refused_first}
 use Rattle.wasi_calls.proofs.Served.{no_more, volume_rests}
 use Rattle.wasi_calls.proofs.Moving.{serves_roomy}
-use Rattle.wasi_calls.proofs.Prepared.{answered_so, usable_row, refilled}
+use Rattle.wasi_calls.proofs.Prepared.{answered_so, usable_row, refilled, few_taken}
 use Rattle.wasi_calls.proofs.inner.Inner.fd_pwrite.Goals as goal
 
 pub returns-in-Err : goal.returns-in-Err
@@ -93,3 +93,6 @@ returns g c = λ used.
     (λ h b.
     let w = world_of (state_of s) b in
     answered_so run (λ v. placed v o offset (gathered m bs) q.result_at) w (λ v table tree. same v table) m _ _ _ (c.write_at.ensures.answered h w refl))
+
+pub write_at-requires-clause-few : goal.write_at-requires-clause-few
+write_at-requires-clause-few g c = few_taken _ _ _ c.buffers_in-buffers.ensures c.in_default.ensures.few

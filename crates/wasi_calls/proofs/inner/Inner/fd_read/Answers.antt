@@ -21,7 +21,7 @@ use Rattle.wasi_calls.proofs.Volumes.{refused_first}
 use Rattle.wasi_calls.proofs.Served.{no_more, volume_rests}
 use Rattle.wasi_calls.proofs.Moving.{serves_roomy}
 use Rattle.wasi_calls.proofs.FromInput.{served_in}
-use Rattle.wasi_calls.proofs.Prepared.{answered_so, usable_row, refilled, has_right}
+use Rattle.wasi_calls.proofs.Prepared.{answered_so, usable_row, refilled, has_right, few_taken}
 use Rattle.wasi_calls.proofs.inner.Inner.fd_read.Goals as goal
 
 pub returns-in-Err : goal.returns-in-Err
@@ -72,13 +72,13 @@ read_file-requires-clause-usable g c =
 
 pub read_file-requires-clause-open : goal.read_file-requires-clause-open
 read_file-requires-clause-open g c =
-    let is : c.in-Ok.target ≡ Entry c.in-Entry.opened = cc in
+    let is : c.in-Ok.target ≡ Entry c.in-Entry.opened = c.in-Entry.is in
     at_descriptor (table_of c.args.self.now.descriptors) c.new-request.result.fd no_directories (2 ^ 1) c.in-Ok.target c.in-Ok.ensures ∙ ap Some is
 
 pub read_file-requires-clause-file : goal.read_file-requires-clause-file
 read_file-requires-clause-file g c =
     let s = c.args.self.now in
-    let is : c.in-Ok.target ≡ Entry c.in-Entry.opened = cc in
+    let is : c.in-Ok.target ≡ Entry c.in-Entry.opened = c.in-Entry.is in
     let w = world_of (state_of s) (record { input = []; output = []; errors = [] }) in
     let both = described w c.new-request.result.fd no_directories (2 ^ 1) c.in-Ok.target (c.in-Ok.ensures w refl) in
     file_at g.D.Device.honest s.volume (table_of s.descriptors) c.requires.known c.new-request.result.fd no_directories 31 c.in-Entry.opened refl (both.0 ∙ ap Some is)
@@ -140,7 +140,7 @@ returns-in-Entry g c = λ used.
     let run : World → Checked Done = λ w. fd_read w m (word a 0) (word a 1) (word a 2) (word a 3) in
     let same_call : (w : World) → run w ≡ fd_read w m q.fd q.iovs q.count q.result_at = λ w i. fd_read w m (sym asked.fd i) (sym asked.iovs i) (sym asked.count i) (sym asked.result_at i) in
     let o = c.in-Entry.opened in
-    let is : c.in-Ok.target ≡ Entry o = cc in
+    let is : c.in-Ok.target ≡ Entry o = c.in-Entry.is in
     let bs = list_of (take q.count c.as_mut_slice-room.result.now) in
     let whole : c.as_mut_slice-room.result.now ≡ c.find_buffers.new.room = c.as_mut_slice-room.ensures.value ∙ refilled _ c.find_buffers.new.room _ (c.find_buffers.auto.room ∙ c.as_mut_slice.ensures.len) in
     let found : list_of (take q.count c.find_buffers.new.room) ≡ bs = ap (λ (bs : List Span). list_of (take q.count bs)) (sym whole) in
@@ -159,3 +159,6 @@ returns-in-Entry g c = λ used.
     (λ h b.
     let w = world_of (state_of s) b in
     answered_so run (λ v. read_to v q.fd (Entry o) bs q.result_at) w (λ v table tree. same v table) m _ _ _ (c.read_file.ensures.answered h w refl refl))
+
+pub read_stream-requires-clause-few : goal.read_stream-requires-clause-few
+read_stream-requires-clause-few g c = few_taken _ _ _ c.buffers_in-buffers.ensures c.in_default.ensures.few

@@ -21,7 +21,7 @@ use Rattle.wasi_calls.proofs.Volumes.{refused_first}
 use Rattle.wasi_calls.proofs.Served.{no_more, volume_rests}
 use Rattle.wasi_calls.proofs.Moving.{serves_roomy}
 use Rattle.wasi_calls.proofs.Streamed.{served_out, served_err}
-use Rattle.wasi_calls.proofs.Prepared.{answered_so, usable_row, refilled, has_right}
+use Rattle.wasi_calls.proofs.Prepared.{answered_so, usable_row, refilled, has_right, few_taken}
 use Rattle.wasi_calls.proofs.inner.Inner.fd_write.Goals as goal
 
 pub returns-in-Err : goal.returns-in-Err
@@ -75,13 +75,13 @@ write_file-requires-clause-usable g c =
 
 pub write_file-requires-clause-open : goal.write_file-requires-clause-open
 write_file-requires-clause-open g c =
-    let is : c.in-Ok.target ≡ Entry c.in-Entry.opened = cc in
+    let is : c.in-Ok.target ≡ Entry c.in-Entry.opened = c.in-Entry.is in
     at_descriptor (table_of c.args.self.now.descriptors) c.new-request.result.fd no_directories (2 ^ 6) c.in-Ok.target c.in-Ok.ensures ∙ ap Some is
 
 pub write_file-requires-clause-file : goal.write_file-requires-clause-file
 write_file-requires-clause-file g c =
     let s = c.args.self.now in
-    let is : c.in-Ok.target ≡ Entry c.in-Entry.opened = cc in
+    let is : c.in-Ok.target ≡ Entry c.in-Entry.opened = c.in-Entry.is in
     let w = world_of (state_of s) (record { input = []; output = []; errors = [] }) in
     let both = described w c.new-request.result.fd no_directories (2 ^ 6) c.in-Ok.target (c.in-Ok.ensures w refl) in
     file_at g.D.Device.honest s.volume (table_of s.descriptors) c.requires.known c.new-request.result.fd no_directories 31 c.in-Entry.opened refl (both.0 ∙ ap Some is)
@@ -152,7 +152,7 @@ returns-in-Entry g c = λ used.
     let run : World → Checked Done = λ w. fd_write w m (word a 0) (word a 1) (word a 2) (word a 3) in
     let same_call : (w : World) → run w ≡ fd_write w m q.fd q.iovs q.count q.result_at = λ w i. fd_write w m (sym asked.fd i) (sym asked.iovs i) (sym asked.count i) (sym asked.result_at i) in
     let o = c.in-Entry.opened in
-    let is : c.in-Ok.target ≡ Entry o = cc in
+    let is : c.in-Ok.target ≡ Entry o = c.in-Entry.is in
     let bs = list_of c.buffers_in-buffers.result.now in
     let found : list_of (take q.count c.find_buffers.new.room) ≡ bs =
     ap list_of (sym (c.buffers_in-buffers.ensures ∙ ap (λ (bs : List Span). take q.count bs) (c.as_slice.ensures.value ∙ refilled _ c.find_buffers.new.room _ (c.find_buffers.auto.room ∙ c.as_mut_slice.ensures.len)))) in
@@ -171,3 +171,12 @@ returns-in-Entry g c = λ used.
     (λ h b.
     let w = world_of (state_of s) b in
     answered_so run (λ v. written_to v q.fd (Entry o) (gathered m bs) q.result_at) w (λ v table tree. same v table) m _ _ _ (c.write_file.ensures.answered h w refl refl))
+
+pub write_file-requires-clause-few : goal.write_file-requires-clause-few
+write_file-requires-clause-few g c = few_taken _ _ _ c.buffers_in-buffers.ensures c.in_default.ensures.few
+
+pub write_stream-requires-in-Stream-Error-clause-few : goal.write_stream-requires-in-Stream-Error-clause-few
+write_stream-requires-in-Stream-Error-clause-few g c = few_taken _ _ _ c.buffers_in-buffers.ensures c.in_default.ensures.few
+
+pub write_stream-requires-clause-few : goal.write_stream-requires-clause-few
+write_stream-requires-clause-few g c = few_taken _ _ _ c.buffers_in-buffers.ensures c.in_default.ensures.few
