@@ -1,18 +1,19 @@
 //! What the program does once the command line is read, and with which status it ends.
 
-ghost use Rattle.std.specs.Prelude.{◌≡◌, ◌≤◌};
+ghost use Rattle.std.specs.Prelude.{◌≡◌, ◌⊎◌, ◌≤◌};
 ghost use Rattle.std.specs.IoError.{error_kind};
 ghost use Rattle.clap.specs.Values.{kind_of};
 ghost use Rattle.sandbox_command.specs.Status.{status_of, EndsWith, load_status, session_status};
 ghost use Rattle.sandbox_command.specs.Status.{volume_status, words_status, command_line_status};
 ghost use Rattle.sandbox_command.specs.Status.{TaskEndsWith};
 ghost use Rattle.sandbox_command.specs.Running.{Launches, device_of};
-ghost use Rattle.sandbox_command.specs.Execution.{Runs, Executes};
+ghost use Rattle.sandbox_command.specs.internal.Supplies.{AreSupplies};
+ghost use Rattle.sandbox_command.specs.Execution.{NoVolume, OnVolume, Runs, Executes};
 
 use crate::failure::Failure;
 use crate::opening::open_for_run;
 use crate::request::{Invocation, Run};
-use crate::supplies::{settings, supplied};
+use crate::supplies::{Supplies, settings, supplied};
 use crate::tasks::{format, perform};
 use sandbox_core::{
     HostParts, LoadFault, Outcome, RefusedSession, Report, Session, SessionFault, Valid,
@@ -206,6 +207,37 @@ fn launch<D: Device + Drop, R: Read + Drop, W1: Write + Drop, W2: Write + Drop>(
     }
 }
 
+/// Runs a valid module on the volume of a device, with random bytes, and gives the device back.
+fn run_valid<D: Device + Drop, R: Read + Drop, W1: Write + Drop, W2: Write + Drop>(
+    alloc: Global,
+    run: &Run<'_>,
+    valid: Valid<'_>,
+    supplies: &Supplies<'_>,
+    random: &[u8],
+    device: D,
+    input: R,
+    out: W1,
+    mut err: W2,
+) -> (u8, D)
+    requires { AreSupplies run.now supplies.now }
+    ensures { NoVolume D.honest D.disk D.size D.failures R.remaining W1.contents W2.contents run.now device result.0 result.1
+        ⊎ OnVolume D.honest D.disk D.size D.failures R.remaining W1.contents W2.contents
+        run.now valid.entry random.now device input out err result.0 result.1 }
+{
+    let volume = match open_for_run(alloc, run.volume, device) {
+        Ok(volume) => volume,
+        Err(Refused { device, fault }) => return (volume_refused(&mut err, fault), device),
+    };
+    let parts = HostParts {
+        settings: settings(run, supplies, random),
+        volume,
+        input,
+        out,
+        err,
+    };
+    launch(alloc, valid, run.limits.fuel, parts)
+}
+
 /// Runs a module on the volume of a device, with random bytes, and gives the device back.
 fn run<D: Device + Drop, R: Read + Drop, W1: Write + Drop, W2: Write + Drop>(
     alloc: Global,
@@ -224,22 +256,10 @@ fn run<D: Device + Drop, R: Read + Drop, W1: Write + Drop, W2: Write + Drop>(
         Ok(supplies) => supplies,
         Err(fault) => return (session_refused(&mut err, fault), device),
     };
-    let valid = match sandbox_core::load(alloc, module) {
-        Ok(valid) => valid,
-        Err(fault) => return (load_refused(&mut err, fault), device),
-    };
-    let volume = match open_for_run(alloc, run.volume, device) {
-        Ok(volume) => volume,
-        Err(Refused { device, fault }) => return (volume_refused(&mut err, fault), device),
-    };
-    let parts = HostParts {
-        settings: settings(run, &supplies, random),
-        volume,
-        input,
-        out,
-        err,
-    };
-    launch(alloc, valid, run.limits.fuel, parts)
+    match sandbox_core::load(alloc, module) {
+        Ok(valid) => run_valid(alloc, run, valid, &supplies, random, device, input, out, err),
+        Err(fault) => (load_refused(&mut err, fault), device),
+    }
 }
 
 /// Ends a task on a volume: a failure's line, and the status.

@@ -1,50 +1,8 @@
-use Rattle.std.proofs.Common.{inl, inr, refl}
-use Rattle.sandbox_core.specs.Session.{given}
-use Rattle.sandbox_command.proofs.Began.{launch_honest, opened_honest, whole_crash}
+use Rattle.std.proofs.Common.{inr}
 use Rattle.sandbox_command.proofs.program.run.Goals as goal
 
--- the volume is refused
-pub returns-in-Err-open_for_run : goal.returns-in-Err-open_for_run
-returns-in-Err-open_for_run g c =
+-- the module is valid
+pub returns-in-Ok-load : goal.returns-in-Ok-load
+returns-in-Ok-load g c =
     let found = c.in-Ok-load.ensures.found in
-    inr (inr (
-      c.in-Ok-load.valid,
-      found.0,
-      found.1,
-      inl (record {
-        refused = c.in-Err-open_for_run.field-0;
-        why = c.in-Err-open_for_run.ensures.refused;
-        device_is = refl;
-        ends = c.volume_refused.ensures;
-      }),
-    ))
-
--- the module was launched
-pub returns : goal.returns
-returns g c =
-    let honest = g.D.Device.honest in
-    let disk = g.D.Device.disk in
-    let size = g.D.Device.size in
-    let failures = g.D.Device.failures in
-    let found = c.in-Ok-load.ensures.found in
-    let file = c.args.run.now.volume in
-    let v = c.in-Ok-open_for_run.volume in
-    let opened = c.in-Ok-open_for_run.ensures.opens in
-    let parts = given c.settings.result v c.args.input c.args.out c.args.err in
-    let fuel = c.args.run.now.limits.fuel in
-    let whole = whole_crash honest disk size failures g.R.Read.remaining g.W1.Write.contents g.W2.Write.contents c.in-Ok-load.valid fuel parts c.launch.result.0 c.launch.result.1 file c.args.device opened c.launch.ensures in
-    inr (inr (
-      c.in-Ok-load.valid,
-      found.0,
-      found.1,
-      inr (record {
-        volume = v;
-        opened = opened;
-        settings = c.settings.result;
-        are_settings = c.settings.ensures;
-        launched = c.launch.ensures;
-        crash = whole;
-        honest = λ h. launch_honest honest disk size failures g.R.Read.remaining g.W1.Write.contents g.W2.Write.contents c.in-Ok-load.valid fuel parts c.launch.result.0 c.launch.result.1
-            c.launch.ensures (opened_honest honest disk size failures file c.args.device v opened h);
-      }),
-    ))
+    inr (inr (c.in-Ok-load.valid, found.0, found.1, c.run_valid.ensures))
