@@ -257,7 +257,9 @@ fn run<D: Device + Drop, R: Read + Drop, W1: Write + Drop, W2: Write + Drop>(
         Err(fault) => return (session_refused(&mut err, fault), device),
     };
     match sandbox_core::load(alloc, module) {
-        Ok(valid) => run_valid(alloc, run, valid, &supplies, random, device, input, out, err),
+        Ok(valid) => run_valid(
+            alloc, run, valid, &supplies, random, device, input, out, err,
+        ),
         Err(fault) => (load_refused(&mut err, fault), device),
     }
 }
