@@ -1,8 +1,9 @@
 -- Locals in groups, found by where each group ends.
-use Rattle.std.proofs.Common.{◌≡◌, ℕ, zero, suc, ◌+◌, ◌-◌, ◌^◌, ◌<◌, ◌≤◌, List, [], ◌∷◌, ◌++◌, length, get_or, Some, true, false, leb, refl, sym, ap, ◌∙◌, subst, arith, min, replicate}
+use Rattle.std.proofs.Common.{◌≡◌, ℕ, zero, suc, ◌+◌, ◌-◌, ◌^◌, ◌<◌, ◌≤◌, List, [], ◌∷◌, ◌++◌, length, drop, get_or, Some, true, false, leb, refl, sym, ap, ◌∙◌, subst, arith, min, replicate, append_assoc}
 use Rattle.std.specs.List.{slice_get}
 use Rattle.std.specs.List.Sorted.{IsPartitionedBy, IsPartitionPoint}
 use Rattle.std.specs.Option.{option_map}
+use Rattle.std.proofs.lemmas.List.{at_drop_more}
 use Rattle.std.proofs.lemmas.Bool.{leb-true, leb-false, le-leb}
 use Rattle.wasm_module.specs.declared.instruction.ValueType.{ValueType}
 use Rattle.wasm_module.specs.declared.module.Locals.{Locals}
@@ -71,3 +72,11 @@ located params gs ends place k past small are p =
 
 pub ends_part_of : (gs : List Locals) (end place : ℕ) (ends : List ℕ) → ends ≡ ends_from end gs → IsPartitionedBy (λ e. leb e place) ends
 ends_part_of gs end place ends are = subst (IsPartitionedBy (λ e. leb e place)) (sym are) (ends_part gs end place)
+
+-- one group more
+pub ends_more : (gs : List Locals) (i end count next : ℕ) (d : Locals) (so_far more total : List ℕ) → i < length gs → count ≡ (get_or gs i d).count → next ≡ min (end + count) most → more ≡ so_far ++ next ∷ []
+    → so_far ++ ends_from end (drop i gs) ≡ total → more ++ ends_from next (drop (i + 1) gs) ≡ total
+ends_more gs i end count next d so_far more total lt has is pushed before =
+    let end-is : next ≡ min (end + (get_or gs i d).count) most = is ∙ ap (λ (n : ℕ). min (end + n) most) has in
+    let turn : ends_from end (drop i gs) ≡ next ∷ ends_from next (drop (i + 1) gs) = at_drop_more (ends_from end) gs i d lt ∙ ap (λ (n : ℕ). n ∷ ends_from n (drop (i + 1) gs)) (sym end-is) in
+    rw pushed (append_assoc so_far (next ∷ []) (ends_from next (drop (i + 1) gs)) ∙ ap (λ (l : List ℕ). so_far ++ l) (sym turn) ∙ before)

@@ -1,5 +1,7 @@
-use Rattle.std.proofs.Common.{◌∙◌}
-use Rattle.wasm_valid.specs.Validity.{IsValid}
+use Rattle.std.proofs.Common.{◌≡◌, ℕ, Bool, not, eqb, List, [], ◌∷◌, length, refl, ap, ◌∙◌, arith}
+use Rattle.std.proofs.lemmas.Bool.{ne_eqb}
+use Rattle.wasm_module.specs.declared.module.Limits.{Limits}
+use Rattle.wasm_valid.specs.Validity.{IsValid, has_any}
 use Rattle.wasm_valid.specs.internal.Rules.{TypesFit, LimitsHold, GlobalsHold, ListsFit}
 use Rattle.wasm_valid.proofs.Refusals.{refused, unsettled}
 use Rattle.wasm_valid.proofs.Assembled.{types_of, limits_of, globals_hold, lists_of, start_settled, settled}
@@ -18,6 +20,19 @@ returns-in_err-check_limits c =
 
 pub check_limits-requires : goal.check_limits-requires
 check_limits-requires c = record { tables = c.as_slice.ensures.value ∙ c.in_ok-tables.ensures; memories = c.as_slice-2.ensures.value ∙ c.in_ok-memories.ensures }
+
+-- whether a list that was counted has any items
+counted : {A : Type 0} (xs : List A) (n : ℕ) (empty : Bool) → empty ≡ eqb n 0 → n ≡ length xs → not empty ≡ has_any xs
+counted [] n empty is long = rw (is, long) refl
+counted (x ∷ xs) n empty is long =
+    let some : n ≡ 0 → ⊥ = (λ none. omega arith) in
+    rw (is, ne_eqb n 0 some) refl
+
+pub module_context-requires : goal.module_context-requires
+module_context-requires c = record {
+  table = counted c.in_ok-tables.tables.items _ c.is_empty.result c.is_empty.ensures c.in_ok-tables.tables.ok.0 ∙ ap (λ (ts : List Limits). has_any ts) c.in_ok-tables.ensures;
+  memory = counted c.in_ok-memories.memories.items _ c.is_empty-2.result c.is_empty-2.ensures c.in_ok-memories.memories.ok.0 ∙ ap (λ (ms : List Limits). has_any ms) c.in_ok-memories.ensures;
+}
 
 pub returns-in_err-check_globals : goal.returns-in_err-check_globals
 returns-in_err-check_globals c =

@@ -1,6 +1,7 @@
 use Rattle.std.proofs.Common.{rules, All, IsTrue, List, length, ◌++◌, ◌<◌, ◌≤◌, ℕ, sym, ap, ◌∙◌, subst}
 use Rattle.wasm_module.specs.declared.module.FuncType.{FuncType}
 use Rattle.wasm_module.specs.declared.module.Import.{Import}
+use Rattle.std.proofs.lemmas.List.Elements.{All-append}
 use Rattle.std.proofs.lemmas.Result.{IfOk-from_err}
 use Rattle.std.specs.List.{filter_map}
 use Rattle.wasm_valid.specs.Validity.{imported_function, kinds_of}
@@ -22,6 +23,19 @@ returns-in_err-extend_from_slice-clause-types c = unsettled c.from_residual-in_e
 
 pub returns-in_err-globals-clause-types : goal.returns-in_err-globals-clause-types
 returns-in_err-globals-clause-types c = unsettled c.from_residual-in_err-globals.result (TypesFit c.args.module.now) c.from_residual-in_err-globals.ensures.1
+
+pub returns-clause-types : goal.returns-clause-types
+returns-clause-types c =
+    let m = c.args.module.now in
+    let types = c.as_slice-types.result.now in
+    let imported = filter_map imported_function (kinds_of m.imports) in
+    let first = c.as_slice-2.ensures.value ∙ c.in_ok-type_indices.ensures ∙ ap (λ (is : List Import). filter_map imported_function (kinds_of is)) c.as_slice.ensures in
+    let front = subst (All (λ (x : ℕ). x < length types)) first (c.are_below.ensures.0 c.in_ok-rule-2.ensures) in
+    let back = subst (All (λ (x : ℕ). x < length types)) c.as_slice-functions.ensures (c.are_below-2.ensures.0 c.in_ok-rule-3.ensures) in
+    record {
+      one_result = subst (All (λ (f : FuncType). length f.results ≤ 1)) c.as_slice-types.ensures (c.have_one_result.ensures.0 c.in_ok-rule.ensures);
+      functions = subst (λ (ts : List FuncType). All (λ (x : ℕ). x < length ts) (imported ++ m.functions)) c.as_slice-types.ensures (All-append (λ (x : ℕ). x < length types) imported m.functions front back);
+    }
 
 pub returns-clause-module_context : goal.returns-clause-module_context
 returns-clause-module_context c =

@@ -1,6 +1,7 @@
 use Rattle.std.proofs.Common.{ℕ, List, ◌++◌, length, refl, ap}
 use Rattle.std.proofs.lemmas.Result.{IfOk-from_err}
 use Rattle.wasm_valid.specs.internal.Ends.{ends_from}
+use Rattle.wasm_valid.proofs.Groups.{ends_more}
 use Rattle.wasm_valid.proofs.locals.LocalTypes.new.Goals as goal
 
 pub returns-in_err-push : goal.returns-in_err-push
@@ -11,3 +12,7 @@ loop-group-init c = ap (λ (es : List ℕ). es ++ ends_from (length c.args.param
 
 pub returns : goal.returns
 returns c = refl
+
+pub loop-group-preserved : goal.loop-group-preserved
+loop-group-preserved c =
+    ends_more c.args.groups.now c.loop-group.group-index c.loop-group.end c.from.result c.saturating_add-end.result _ c.loop-group.ends.items c.push.new.self.items _ c.loop-group-test.true c.from.ensures c.saturating_add-end.ensures c.in_ok-push.ensures.items c.loop-group.invariant
