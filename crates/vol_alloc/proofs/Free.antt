@@ -26,6 +26,12 @@ taken_there first n taken is = elim (cases_lt n first) [
     keep : first ≤ n → (if nat_lt n first then false else get_or taken (n - first) false) ≡ get_or taken (n - first) false
     keep le = grind (arith, nat_tests)
 
+pub is_there : (first n : ℕ) (taken : List Bool) → first ≤ n → get_or taken (n - first) false ≡ true → (if nat_lt n first then false else get_or taken (n - first) false) ≡ true
+is_there first n taken le is = keep ∙ is
+  where
+    keep : (if nat_lt n first then false else get_or taken (n - first) false) ≡ get_or taken (n - first) false
+    keep = grind (arith, nat_tests)
+
 -- how many flags aren't set, when one is cleared or set
 pub cleared : (taken : List Bool) (i : ℕ) (d : Bool) → i < length taken → get_or taken i d ≡ true → count_by not (set taken i false) ≡ count_by not taken + 1
 cleared taken i d lt is =
@@ -43,6 +49,11 @@ counted_more taken i d lt is =
     let one : cond {A = ℕ} (not (get_or taken i d)) 1 0 ≡ 1 = ap (λ (b : Bool). cond {A = ℕ} (not b) 1 0) is in
     omega (arith, sum_by-drop_more (λ (b : Bool). cond (not b) 1 0) taken i d lt, one)
 
+pub counted_same : (taken : List Bool) (i : ℕ) (d : Bool) → i < length taken → get_or taken i d ≡ true → count_by not (drop i taken) ≡ count_by not (drop (i + 1) taken)
+counted_same taken i d lt is =
+    let none : cond {A = ℕ} (not (get_or taken i d)) 1 0 ≡ 0 = ap (λ (b : Bool). cond {A = ℕ} (not b) 1 0) is in
+    omega (arith, sum_by-drop_more (λ (b : Bool). cond (not b) 1 0) taken i d lt, none)
+
 -- a number below the others joins them
 pub above_more : (free : List ℕ) (n : ℕ) → ((k : ℕ) → k < length free → n ≤ get_or free k 0) → (k : ℕ) → k < length (free ++ n ∷ []) → n ≤ get_or (free ++ n ∷ []) k 0
 above_more free n old k lt = elim (cases_eq k (length free)) [
@@ -53,6 +64,15 @@ above_more free n old k lt = elim (cases_eq k (length free)) [
 -- where one is taken, not all are free
 pub some_taken : (taken : List Bool) (i : ℕ) (d : Bool) → i < length taken → get_or taken i d ≡ true → count_by not taken < length taken
 some_taken taken i d lt is = omega (arith, cleared taken i d lt is, count_by-le-length not (set taken i false), length-set taken i false)
+
+-- before the first free number
+pub free_none : (first : ℕ) (taken : List Bool) (free : List ℕ) → free ≡ [] → AreFree first taken free
+free_none first taken free none = subst (AreFree first taken) (sym none) (record {
+  from = λ k lt. absurd (omega (arith, lt));
+  there = λ k lt. absurd (omega (arith, lt));
+  free = λ k lt. absurd (omega (arith, lt));
+  distinct = λ j k less lt. absurd (omega (arith, lt));
+})
 
 -- one more free number
 pub free_more : (first : ℕ) (taken : List Bool) (free : List ℕ) (n : ℕ) → AreFree first taken free → first ≤ n → n - first < length taken → get_or taken (n - first) true ≡ false

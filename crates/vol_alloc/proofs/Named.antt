@@ -1,8 +1,11 @@
 -- Lemmas on flags that are set for numbers, one after another.
-use Rattle.std.proofs.Common.{◌≡◌, ◌≢◌, inl, inr, ℕ, ◌+◌, ◌-◌, ◌≤◌, ◌<◌, Bool, true, false, List, [], ◌∷◌, ◌++◌, length, take, get_or, set, sym, refl, ◌∙◌, ap, subst, arith}
+use Rattle.std.proofs.Common.{◌≡◌, ◌≢◌, ◌↔◌, if◌then◌else◌, nat_lt, Result, Ok, Err, IfErr, IsErrAnd, inl, inr, ℕ, ◌+◌, ◌-◌, ◌≤◌, ◌<◌, Bool, true, false, List, [], ◌∷◌, ◌++◌, length, take, get_or, set, sym, refl, ◌∙◌, ap, subst, arith}
 use Rattle.std.proofs.lemmas.List.{length_push, get_or_push, get_or_append_left, length-set, get_or-set_same, get_or-set_other, take_more, length-take-le, get_or-take}
 use Rattle.std.proofs.lemmas.Bool.{cases_eq, false≢true}
+use Rattle.vol_sector.specs.declared.fault.VolumeFault.{VolumeFault}
+use Rattle.vol_sector.specs.declared.fault.VolumeFault.TheVariants as faults
 use Rattle.vol_alloc.specs.Numbers.{Names, ArePlaces}
+use Rattle.vol_alloc.proofs.Free.{taken_there, is_there}
 
 module _ (first : ℕ) (taken : List Bool) (named : List ℕ) (i : ℕ) (lt : i < length named) where
   number : ℕ
@@ -81,3 +84,34 @@ not_yet first taken named i lt set places is =
     let old = set (get_or named i 0) (places.from i lt) is in
     let below : old.0 < i = omega (arith, old.1, length-take-le i named (omega arith)) in
     places.distinct old.0 i below lt (sym (get_or-take i named old.0 0 below) ∙ old.2)
+
+-- the range, by its end and by how many sectors it has
+pub places_wider : (first end count : ℕ) (named : List ℕ) → count ≡ end - first → ArePlaces first end named → ArePlaces first (first + count) named
+places_wider first end count named is places = record {
+  from = places.from;
+  below = λ k lt. let below = places.below k lt in omega arith;
+  distinct = places.distinct;
+}
+
+pub places_back : (first end count : ℕ) (named : List ℕ) → count ≡ end - first → ArePlaces first (first + count) named → ArePlaces first end named
+places_back first end count named is places = record {
+  from = places.from;
+  below = λ k lt. let from = places.from k lt in let below = places.below k lt in omega arith;
+  distinct = places.distinct;
+}
+
+-- the flags say which numbers are named
+pub flags_name : (first end : ℕ) (taken : List Bool) (named : List ℕ) → ((n : ℕ) → first ≤ n → (get_or taken (n - first) false ≡ true) ↔ Names named n) → ArePlaces first end named
+    → (n : ℕ) → ((if nat_lt n first then false else get_or taken (n - first) false) ≡ true) ↔ Names named n
+flags_name first end taken named flags places n = (
+  λ is. let there = taken_there first n taken is in (flags n there.0).0 there.1,
+  λ names. let from = subst (λ (m : ℕ). first ≤ m) names.2 (places.from names.0 names.1) in is_there first n taken from ((flags n from).1 names),
+)
+
+-- what a `?` hands on
+pub handed_on : {T : Type 0} (r : Result T VolumeFault) (P : VolumeFault → Type 0) (x : VolumeFault) → IsErrAnd r (λ y. y ≡ x) → P x → IfErr r P
+handed_on (Ok t) P x is holds = tt
+handed_on (Err e) P x is holds = subst P (sym is) holds
+
+pub memory_not_damage : {X : Type 0} → faults.Memory ≡ faults.Damaged → X
+memory_not_damage is = cc
