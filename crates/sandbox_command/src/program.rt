@@ -175,7 +175,12 @@ fn not_begun<D: Device + Drop, R: Drop, W1: Drop, W2: Write + Drop>(
     ensures ends { result.0 ≡ session_status refused.entry.fault }
     ensures device { result.1 ≡ refused.entry.parts.volume.device }
 {
-    let RefusedSession { parts, fault, .. } = refused;
+    let RefusedSession {
+        valid,
+        parts,
+        fault,
+    } = refused;
+    drop(valid);
     let HostParts {
         volume,
         mut err,
@@ -226,7 +231,10 @@ fn run_valid<D: Device + Drop, R: Read + Drop, W1: Write + Drop, W2: Write + Dro
 {
     let volume = match open_for_run(alloc, run.volume, device) {
         Ok(volume) => volume,
-        Err(Refused { device, fault }) => return (volume_refused(&mut err, fault), device),
+        Err(Refused { device, fault }) => {
+            drop(valid);
+            return (volume_refused(&mut err, fault), device);
+        }
     };
     let parts = HostParts {
         settings: settings(run, supplies, random),

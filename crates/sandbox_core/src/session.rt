@@ -146,12 +146,12 @@ where
         self.machine.used()
     }
 
-    /// The host of a session that is done with.
+    /// The host of a session that is done with. (What owns much is let go by `drop`, which the checker proves once.)
     fn into_host(self) -> WasiHost<'s, 't, D, R, W1, W2>
         ensures { result ≡ self.entry.host }
     {
         let Session { machine, host } = self;
-        let _ = machine.into_valid();
+        drop(machine);
         host
     }
 

@@ -178,8 +178,14 @@ fn begun<'a>(
     device: MemoryDevice,
     out: Bounded,
 ) -> Option<([bool; 3], Small<'a>)> {
-    let (load, valid) = loaded(alloc, module)?;
-    let (open, volume) = opened(alloc, device)?;
+    let Some((load, valid)) = loaded(alloc, module) else {
+        drop((device, out));
+        return None;
+    };
+    let Some((open, volume)) = opened(alloc, device) else {
+        drop((valid, out));
+        return None;
+    };
     let (new, session) = made(alloc, valid, volume, out)?;
     Some(([load, open, new], session))
 }

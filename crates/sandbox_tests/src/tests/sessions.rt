@@ -219,7 +219,10 @@ fn begun<'a>(
     input: &'static [u8],
     most: usize,
 ) -> Option<Small<'a>> {
-    let volume = Volume::open(alloc, disk).ok()?;
+    let Ok(volume) = Volume::open(alloc, disk) else {
+        drop(valid);
+        return None;
+    };
     let out = Bounded::new(alloc, 100, most, Some(ErrorKind::BrokenPipe));
     let err = Bounded::new(alloc, 1, 1, None);
     Session::new(alloc, valid, PLAIN, volume, input, out, err).ok()
@@ -252,6 +255,7 @@ pub fn whole_run(session: Small<'_>, fuel: u64) -> Option<Ran> {
     if session.used() == 0 {
         Some(run(session, fuel))
     } else {
+        drop(session);
         None
     }
 }
@@ -281,7 +285,9 @@ pub fn ended(
     printed: &[u8],
 ) -> Option<(Outcome, u64, bool)> {
     let report = whole_run(opened(alloc, module, 100)?, fuel)?;
-    Some(end_of(&report, printed))
+    let end = end_of(&report, printed);
+    drop(report);
+    Some(end)
 }
 
 #[test]

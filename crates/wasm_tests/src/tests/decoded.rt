@@ -146,7 +146,11 @@ fn holds(module: &Module<'_>, content: Content) -> bool {
 }
 
 fn is_decoded(alloc: Global, bytes: &[u8], content: Content) -> bool {
-    decode(alloc, bytes).is_ok_and(|module| holds(&module, content))
+    decode(alloc, bytes).is_ok_and(|module| {
+        let as_wanted = holds(&module, content);
+        drop(module);
+        as_wanted
+    })
 }
 
 #[test]
