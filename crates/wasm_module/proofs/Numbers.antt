@@ -34,31 +34,32 @@ too_long sign bits b bytes rest is le narrow = rw (is, le-ltb b 128 le, le-ltb 7
 abbrev pub half_of : ℕ → ℕ
 half_of bits = (1 * 2 ^ (bits - 1)) % 2 ^ 64
 
+-- what is taken without a sign fits
 pub unsigned_within : (bits v : ℕ) → 0 < bits → bits ≤ 64 → v / 2 < half_of bits → v < 2 ^ bits
 unsigned_within bits v some fits small = omega (arith, half_is bits some fits, double bits some)
 
-pub unsigned_takes : (sign : Sign) (bits b v : ℕ) → sign ≡ Unsigned → 0 < bits → bits ≤ 64 → v ≡ b → v / 2 < half_of bits → last_at sign bits b ≡ Some v
-unsigned_takes sign bits b v is some fits same small =
-    let within : b < 2 ^ bits = omega (arith, unsigned_within bits v some fits small) in
-    rw (is, lt-ltb b (2 ^ bits) within, same) refl
-
+-- what does not fit is not taken without a sign
 pub unsigned_refuses : (sign : Sign) (bits b v : ℕ) → sign ≡ Unsigned → 0 < bits → bits ≤ 64 → v ≡ b → half_of bits ≤ v / 2 → last_at sign bits b ≡ None
 unsigned_refuses sign bits b v is some fits same large =
     let past : 2 ^ bits ≤ b = omega (arith, half_is bits some fits, double bits some) in
     rw (is, le-ltb b (2 ^ bits) past) refl
 
+-- what is taken with the sign 0 fits
 pub low_within : (bits v : ℕ) → 0 < bits → bits ≤ 64 → v < half_of bits → v < 2 ^ bits
 low_within bits v some fits small = omega (arith, half_is bits some fits, double bits some)
 
+-- a byte with the sign 0 is taken where it is less than half
 pub low_takes : (sign : Sign) (bits b v : ℕ) → sign ≡ Signed → 0 < bits → bits ≤ 64 → v ≡ b → v < 64 → v < half_of bits → last_at sign bits b ≡ Some v
 low_takes sign bits b v is some fits same low small =
     let before : b < 64 = omega arith in
     let within : b < 2 ^ (bits - 1) = omega (arith, half_is bits some fits) in
     rw (is, lt-ltb b 64 before, lt-ltb b (2 ^ (bits - 1)) within, same) refl
 
+-- what is taken with the sign 1 fits
 pub high_within : (bits v : ℕ) → 0 < bits → bits ≤ 64 → v < 128 → 128 - v ≤ half_of bits → half_of bits - (128 - v) + half_of bits < 2 ^ bits
 high_within bits v some fits below small = omega (arith, half_is bits some fits, double bits some)
 
+-- a byte with the sign 1 is taken where it lacks half at most, and stands for a number modulo the power
 pub high_takes : (sign : Sign) (bits b v : ℕ) → sign ≡ Signed → 0 < bits → bits ≤ 64 → v ≡ b → 64 ≤ v → v < 128 → 128 - v ≤ half_of bits → last_at sign bits b ≡ Some (half_of bits - (128 - v) + half_of bits)
 high_takes sign bits b v is some fits same high below small =
     let past : 64 ≤ b = omega arith in
@@ -66,6 +67,7 @@ high_takes sign bits b v is some fits same high below small =
     let value : b + 2 ^ bits - 128 ≡ half_of bits - (128 - v) + half_of bits = omega (arith, half_is bits some fits, double bits some) in
     rw (is, le-ltb b 64 past, le-leb 128 (b + 2 ^ (bits - 1)) whole, value) refl
 
+-- a byte with the sign 1 that lacks more than half is not taken
 pub high_refuses : (sign : Sign) (bits b v : ℕ) → sign ≡ Signed → 0 < bits → bits ≤ 64 → v ≡ b → 64 ≤ v → half_of bits < 128 - v → last_at sign bits b ≡ None
 high_refuses sign bits b v is some fits same high large =
     let past : 64 ≤ b = omega arith in

@@ -1,9 +1,6 @@
 use Rattle.std.proofs.Common.{◌<◌, arith}
-use Rattle.wasm_module.proofs.Numbers.{unsigned_within, unsigned_takes, unsigned_refuses, low_within, low_takes, high_within, high_takes, high_refuses}
+use Rattle.wasm_module.proofs.Numbers.{unsigned_within, unsigned_refuses, low_within, low_takes, high_within, high_takes, high_refuses}
 use Rattle.wasm_module.proofs.number.last.Goals as goal
-
-pub returns-in-Unsigned-clause-value : goal.returns-in-Unsigned-clause-value
-returns-in-Unsigned-clause-value c = unsigned_takes c.args.sign c.args.bits c.args.byte c.from-value.result c.in-Unsigned.is c.requires.some c.requires.fits c.from-value.ensures c.if-value-half.true
 
 pub returns-in-Unsigned-clause-within : goal.returns-in-Unsigned-clause-within
 returns-in-Unsigned-clause-within c = unsigned_within c.args.bits c.from-value.result c.requires.some c.requires.fits c.if-value-half.true
@@ -18,12 +15,12 @@ pub returns-in-Signed-clause-within : goal.returns-in-Signed-clause-within
 returns-in-Signed-clause-within c = low_within c.args.bits c.from-value.result c.requires.some c.requires.fits c.if-value-half-2.true
 
 pub returns-in-Signed-2-clause-value : goal.returns-in-Signed-2-clause-value
-returns-in-Signed-2-clause-value c = 
+returns-in-Signed-2-clause-value c =
     let below : c.from-value.result < 128 = omega arith in
     high_takes c.args.sign c.args.bits c.args.byte c.from-value.result c.in-Signed-2.is c.requires.some c.requires.fits c.from-value.ensures c.if-value-ge64.true below c.if-value-half-3.true
 
 pub returns-in-Signed-2-clause-within : goal.returns-in-Signed-2-clause-within
-returns-in-Signed-2-clause-within c = 
+returns-in-Signed-2-clause-within c =
     let below : c.from-value.result < 128 = omega arith in
     high_within c.args.bits c.from-value.result c.requires.some c.requires.fits below c.if-value-half-3.true
 
