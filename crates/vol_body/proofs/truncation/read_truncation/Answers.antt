@@ -34,17 +34,17 @@ returns g c = record {
         top = c.cut_of_top-top.ensures.cut content e is_held;
       };
   within =
-        let a = c.args.sectors.now in
-        let held = c.args.held.now in
-        let above = c.cut_of_above-above.ensures.sector in
-        let top = c.cut_of_top-top.ensures.sector in
-        let there : (s n : ℕ) → s ≡ n → (n ≢ 0 → taken_of a n ≡ true) → s ≢ 0 → taken_of a s ≡ true =
-        λ s n is known some. subst (λ (k : ℕ). taken_of a k ≡ true) (sym is) (known (λ none. some (is ∙ none))) in
-        record {
-          data_block = λ some. in_range a c.in_ok-data_block.data_block.sector (c.in_ok-data_block.ensures.taken some);
-          above = λ some. in_range a c.cut_of_above-above.result.sector (there c.cut_of_above-above.result.sector held.above.number (above some) c.requires.known.above some);
-          top = λ some. in_range a c.cut_of_top-top.result.sector (there c.cut_of_top-top.result.sector held.top.number (top some) c.requires.known.top some);
-        };
+      let a = c.args.sectors.now in
+      let held = c.args.held.now in
+      let above = c.cut_of_above-above.ensures.sector in
+      let top = c.cut_of_top-top.ensures.sector in
+      let there : (s n : ℕ) → s ≡ n → (n ≢ 0 → taken_of a n ≡ true) → s ≢ 0 → taken_of a s ≡ true =
+      λ s n is known some. subst (λ (k : ℕ). taken_of a k ≡ true) (sym is) (known (λ none. some (is ∙ none))) in
+      record {
+        data_block = λ some. in_range a c.in_ok-data_block.data_block.sector (c.in_ok-data_block.ensures.taken some);
+        above = λ some. in_range a c.cut_of_above-above.result.sector (there c.cut_of_above-above.result.sector held.above.number (above some) c.requires.known.above some);
+        top = λ some. in_range a c.cut_of_top-top.result.sector (there c.cut_of_top-top.result.sector held.top.number (top some) c.requires.known.top some);
+      };
   reads = c.in_ok-data_block.ensures.reads;
   failed = c.in_ok-data_block.ensures.failed;
 }
