@@ -7,3 +7,4 @@ pub mod Listings
 pub mod Lookups
 pub mod Shown
 pub mod Marks
+pub mod Faults

@@ -7,9 +7,9 @@ use Rattle.vol_inode.specs.declared.entry.Entry.{Entry}
 use Rattle.vol_inode.specs.declared.entry.Kind.{Kind}
 use Rattle.vol_inode.specs.declared.version.Version.{Version}
 use Rattle.vol_inode.specs.declared.version.Version.TheVariants.{One, Two}
-use Rattle.vol_inode.specs.Entry.{IsEntry, name_of}
+use Rattle.vol_inode.specs.Entry.{IsEntry, name_of, first_block_of_pointer}
 use Rattle.vol_inode.specs.Name.{IsName}
-use Rattle.vol_inode.specs.Space.{size_limit}
+use Rattle.vol_inode.specs.Space.{size_limit, blocks_for_size}
 use Rattle.vol_inode.specs.Spelling.{spelling}
 use Rattle.vol_alloc.specs.declared.sectors.Alloc.{Alloc}
 use Rattle.vol_tree.specs.declared.superblock.Superblock.{Superblock}
@@ -73,6 +73,29 @@ new_is_entry version e n some small empty long is name pointers =
         pointers = λ k lt le. each k;
       };
     }
+
+-- an entry with another place and name
+pub renamed_is_entry : (version : Version) (d e : Entry) (n : List ℕ) → IsEntry version d → 1 ≤ e.parent → e.parent < 2 ^ 32 → e.size ≡ d.size → e.kind ≡ d.kind → e.name_length ≡ length n → e.name ≡ n ++ replicate (255 - length n) 0
+    → IsName n → e.pointers ≡ d.pointers → IsEntry version e
+renamed_is_entry version d e n was some small size kind long is name pointers = record {
+  widths = record {
+    parent = small;
+    size = subst (λ (k : ℕ). k < 2 ^ 32) (sym size) was.widths.size;
+    name = ap length is ∙ length-append n (replicate (255 - length n) 0) ∙ (let l = length-replicate {A = ℕ} (255 - length n) 0 in let short = name.short in omega arith);
+    pointers = ap length pointers ∙ was.widths.pointers;
+    each = subst (λ (l : List ℕ). (k : ℕ) → get_or l k 0 < 2 ^ 32) (sym pointers) was.widths.each;
+  };
+  rules = record {
+    name = record {
+      root_kind = λ none. absurd (omega arith);
+      root_name = λ none. absurd (omega arith);
+      name = λ some. subst IsName (sym (name_kept e n long is)) name;
+    };
+    padded = subst (All (λ (b : ℕ). b ≡ 0)) (sym ((λ i. drop (long i) (is i)) ∙ drop_at n (replicate (255 - length n) 0) (length n) refl)) (all_zeros (255 - length n));
+    size = record { directory = λ directory. size ∙ was.rules.size.directory (sym kind ∙ directory); small = subst (λ (k : ℕ). k ≤ size_limit version) (sym size) was.rules.size.small };
+    pointers = λ k lt le. ap (λ (l : List ℕ). get_or l k 0) pointers ∙ was.rules.pointers k lt (subst (λ (m : ℕ). blocks_for_size m ≤ first_block_of_pointer k) size le);
+  };
+}
 
 -- what a creation makes of a content
 pub record Created (a b : Image) (v : Superblock) (sectors : Alloc) (parent : ℕ) (name : Name) (kind : Kind) (serial : ℕ) : Type 0 where

@@ -1,5 +1,5 @@
 -- The numbers of a volume, where they were refused.
-use Rattle.std.proofs.Common.{◌≡◌, ◌≢◌, ◌⊎◌, ◌≤◌, ◌<◌, ◌++◌, ◌∙◌, ℕ, List, take, drop, inl, inr, ⊎_elim, Result, Err, false, refl, sym, ap, subst, arith}
+use Rattle.std.proofs.Common.{◌≡◌, ◌⊎◌, ◌≤◌, ◌<◌, ◌++◌, ℕ, List, take, drop, inl, inr, ⊎_elim, Result, Err, false, refl, ap, subst, arith}
 use Rattle.byteorder.specs.Endian.{little_number, little_bytes}
 use Rattle.vol_inode.specs.declared.version.Version.{Version}
 use Rattle.vol_inode.specs.declared.version.Version.TheVariants.{One, Two}
@@ -8,8 +8,8 @@ use Rattle.vol_sector.specs.Fault.{is_device}
 use Rattle.vol_sector.specs.declared.fault.VolumeFault.{VolumeFault}
 use Rattle.vol_sector.specs.declared.fault.VolumeFault.TheVariants as faults
 use Rattle.vol_tree.specs.declared.superblock.Superblock.{Superblock}
-use Rattle.vol_tree.specs.Superblock.{superblock, magic, version_number, IsNoVersion}
-use Rattle.vol_tree.specs.Opening.{BeginsRight, version_in}
+use Rattle.vol_tree.specs.Superblock.{superblock, version_number, IsNoVersion}
+use Rattle.vol_tree.specs.Opening.{BeginsRight}
 
 -- how many sectors the device has
 pub not_few : {X : Type 0} (n size : ℕ) → n ≡ size → 137 ≤ n → size < 137 → X

@@ -43,9 +43,9 @@ returns c =
     let count : c.loop-n.n-index ≡ length named = omega (arith, c.loop-n-test.false, c.loop-n.auto.n-index-end) in
     record {
       taken = λ yes n from. (
-          λ is. subst (λ (l : List ℕ). Names l n) all (so_far.set n from is),
-          λ names. subst (λ (m : ℕ). get_or taken (m - first) false ≡ true) names.2 (so_far.each names.0 (omega (arith, names.1, count))),
-        );
+        λ is. subst (λ (l : List ℕ). Names l n) all (so_far.set n from is),
+        λ names. subst (λ (m : ℕ). get_or taken (m - first) false ≡ true) names.2 (so_far.each names.0 (omega (arith, names.1, count))),
+      );
       count = λ yes. omega (arith, so_far.counted, count, c.loop-n.auto.taken);
       right = λ yes. subst (ArePlaces first (first + length c.args.taken.now)) all (subst (λ (m : ℕ). ArePlaces first (first + m) (take c.loop-n.n-index named)) c.loop-n.auto.taken so_far.right);
       wrong = λ places. refl;

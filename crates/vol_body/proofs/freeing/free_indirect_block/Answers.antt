@@ -44,16 +44,16 @@ returns-in_err-image g c =
 pub returns-then-from-eq0 : goal.returns-then-from-eq0
 returns-then-from-eq0 g c = record {
   frees = λ h is_held.
-        let a = taken_of c.args.sectors.now in
-        let b = taken_of c.free_listed.new.sectors in
-        let d = taken_of c.free_taken.new.sectors in
-        let content = view c.args.log.now in
-        let of_list = c.args.indirect_block in
-        let P = IsAmong (number_in content of_list) c.args.from 128 in
-        frees_these a d (λ n. P n ⊎ (n ≡ of_list)) (IsFreedWithBlock content of_list c.args.from)
-        (frees_then a b d P (λ n. n ≡ of_list) (frees_read a b content of_list c.args.from c.in_ok-image.image c.if-indirect_block-eq0.false (c.in_ok-image.ensures.bytes h is_held) c.free_listed.ensures.frees) c.free_taken.ensures.frees)
-        (λ n either. ⊎_elim (λ s. inl s) (λ is. inr (c.if-from-eq0.true, sym is)) either)
-        (λ n goes. ⊎_elim (λ s. inl s) (λ s. inr (sym s.1)) goes);
+      let a = taken_of c.args.sectors.now in
+      let b = taken_of c.free_listed.new.sectors in
+      let d = taken_of c.free_taken.new.sectors in
+      let content = view c.args.log.now in
+      let of_list = c.args.indirect_block in
+      let P = IsAmong (number_in content of_list) c.args.from 128 in
+      frees_these a d (λ n. P n ⊎ (n ≡ of_list)) (IsFreedWithBlock content of_list c.args.from)
+      (frees_then a b d P (λ n. n ≡ of_list) (frees_read a b content of_list c.args.from c.in_ok-image.image c.if-indirect_block-eq0.false (c.in_ok-image.ensures.bytes h is_held) c.free_listed.ensures.frees) c.free_taken.ensures.frees)
+      (λ n either. ⊎_elim (λ s. inl s) (λ is. inr (c.if-from-eq0.true, sym is)) either)
+      (λ n goes. ⊎_elim (λ s. inl s) (λ s. inr (sym s.1)) goes);
   range = (c.free_taken.ensures.range.0 ∙ c.free_listed.ensures.range.0, c.free_taken.ensures.range.1 ∙ c.free_listed.ensures.range.1);
   reads = c.in_ok-image.ensures.reads;
   failed = c.in_ok-image.ensures.failed;
@@ -62,14 +62,14 @@ returns-then-from-eq0 g c = record {
 pub returns-else-from-eq0 : goal.returns-else-from-eq0
 returns-else-from-eq0 g c = record {
   frees = λ h is_held.
-        let a = taken_of c.args.sectors.now in
-        let b = taken_of c.free_listed.new.sectors in
-        let content = view c.args.log.now in
-        let of_list = c.args.indirect_block in
-        frees_these a b (IsAmong (number_in content of_list) c.args.from 128) (IsFreedWithBlock content of_list c.args.from)
-        (frees_read a b content of_list c.args.from c.in_ok-image.image c.if-indirect_block-eq0.false (c.in_ok-image.ensures.bytes h is_held) c.free_listed.ensures.frees)
-        (λ n s. inl s)
-        (λ n goes. ⊎_elim (λ s. s) (λ s. absurd (c.if-from-eq0.false s.0)) goes);
+      let a = taken_of c.args.sectors.now in
+      let b = taken_of c.free_listed.new.sectors in
+      let content = view c.args.log.now in
+      let of_list = c.args.indirect_block in
+      frees_these a b (IsAmong (number_in content of_list) c.args.from 128) (IsFreedWithBlock content of_list c.args.from)
+      (frees_read a b content of_list c.args.from c.in_ok-image.image c.if-indirect_block-eq0.false (c.in_ok-image.ensures.bytes h is_held) c.free_listed.ensures.frees)
+      (λ n s. inl s)
+      (λ n goes. ⊎_elim (λ s. s) (λ s. absurd (c.if-from-eq0.false s.0)) goes);
   range = c.free_listed.ensures.range;
   reads = c.in_ok-image.ensures.reads;
   failed = c.in_ok-image.ensures.failed;

@@ -1,8 +1,46 @@
-use Rattle.std.proofs.Common.{◌∙◌, ap}
+use Rattle.std.proofs.Common.{◌∙◌, ◌<◌, ℕ, sym, ap, subst, arith}
 use Rattle.vol_body.specs.internal.Truncated.{with_cut}
 use Rattle.vol_body.proofs.truncation.stage_truncation.Goals as goal
 
-pub returns-clause-view : goal.returns-clause-view
-returns-clause-view g c =
+pub stage_cut-requires : goal.stage_cut-requires
+stage_cut-requires g c = record {
+  after_log = λ some. (c.requires.there.data_block some).0;
+  there = λ some. (c.requires.there.data_block some).1;
+  room = omega (arith, c.requires.room);
+  working = c.requires.working;
+}
+
+pub stage_cut-requires-2 : goal.stage_cut-requires-2
+stage_cut-requires-2 g c =
+    let one = c.stage_cut.ensures in
+    record {
+      after_log = λ some. (c.requires.there.above some).0;
+      there = λ some. subst (λ (n : ℕ). c.args.truncation.now.above.sector < n) (sym one.sectors) (c.requires.there.above some).1;
+      room = omega (arith, c.requires.room, one.room);
+      working = one.failed;
+    }
+
+pub stage_cut-requires-3 : goal.stage_cut-requires-3
+stage_cut-requires-3 g c =
+    let one = c.stage_cut.ensures in
+    let two = c.stage_cut-2.ensures in
+    record {
+      after_log = λ some. (c.requires.there.top some).0;
+      there = λ some. subst (λ (n : ℕ). c.args.truncation.now.top.sector < n) (sym (two.sectors ∙ one.sectors)) (c.requires.there.top some).1;
+      room = omega (arith, c.requires.room, one.room, two.room);
+      working = two.failed;
+    }
+
+pub returns : goal.returns
+returns g c =
     let truncation = c.args.truncation.now in
-    c.stage_cut-3.ensures.view ∙ ap (with_cut truncation.top) (c.stage_cut-2.ensures.view ∙ ap (with_cut truncation.above) c.stage_cut.ensures.view)
+    let one = c.stage_cut.ensures in
+    let two = c.stage_cut-2.ensures in
+    let three = c.stage_cut-3.ensures in
+    record {
+      view = three.view ∙ ap (with_cut truncation.top) (two.view ∙ ap (with_cut truncation.above) one.view);
+      room = omega (arith, one.room, two.room, three.room);
+      device = three.device ∙ two.device ∙ one.device;
+      failed = three.failed;
+      sectors = three.sectors ∙ two.sectors ∙ one.sectors;
+    }

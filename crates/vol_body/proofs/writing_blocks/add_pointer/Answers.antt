@@ -60,7 +60,7 @@ returns g c =
       known = λ some. staged_here number t0 t1 c.take-n.ensures.taken;
       keeps = λ k is. staged_still number k t0 t1 c.take-n.ensures.taken is;
       entry = refl;
-      room = 
+      room =
           let some : number ≢ 0 = λ zero. omega (arith, c.requires.after_log, c.take-n.ensures.from, zero) in
           let place = room_placed log0 log1 number (room_of log0) (room_of log1) some (staged_here number (is_staged log0) (is_staged log1) one.staged) one.room in
           omega (arith, place);

@@ -62,10 +62,10 @@ returns-then-above-ne0 g c =
 pub returns-then-to-from : goal.returns-then-to-from
 returns-then-to-from g c = record {
   written = λ ready fits mirror mirror_all. (
-      changes_none c.args.sectors.now (view c.args.log.now) c.args.entry.now (λ p. IsBlockIn c.args.from c.args.to p ⊎ ((p ≡ segment c.args.group) ⊎ (p ≡ double_indirect_block))) ready,
-      λ j from to. absurd (omega (arith, from, to, c.if-to-from.true)),
-      λ held. held,
-    );
+    changes_none c.args.sectors.now (view c.args.log.now) c.args.entry.now (λ p. IsBlockIn c.args.from c.args.to p ⊎ ((p ≡ segment c.args.group) ⊎ (p ≡ double_indirect_block))) ready,
+    λ j from to. absurd (omega (arith, from, to, c.if-to-from.true)),
+    λ held. held,
+  );
   keeps = λ n is. is;
   known_all = c.requires.known_all;
   entry = refl;

@@ -27,15 +27,15 @@ loop-s-preserved c =
     let items = λ (v : Vec Bool Global). v.items in
     elim c.else-parents-s-ne0.branch [
       | else-parents-s-ne0-via-then-parents-s-ne0+else-not-reaches w ↦
-        let done = w.reaches.ensures in
-        let whole = with_items_is c.loop-s.marks w.reaches.new.marks (omega (arith, w.reaches.auto.marks, w.deref_mut.ensures.len)) in
-        record {
-          marks = subst (AreMarked c.args.parents.now) (sym (ap items w.marks-is ∙ whole)) done.marks;
-          leads = λ t lt some. elim (cases_lt t c.loop-s.s) [
-            | inl below ↦ so_far.leads t below some
-            | inr past ↦ let same : c.loop-s.s ≡ t = omega (arith, lt, past) in subst (λ (k : ℕ). LeadsUp c.args.parents.now (k + 1)) same (done.yes w.if-not-reaches.false)
-          ];
-        }
+          let done = w.reaches.ensures in
+          let whole = with_items_is c.loop-s.marks w.reaches.new.marks (omega (arith, w.reaches.auto.marks, w.deref_mut.ensures.len)) in
+          record {
+            marks = subst (AreMarked c.args.parents.now) (sym (ap items w.marks-is ∙ whole)) done.marks;
+            leads = λ t lt some. elim (cases_lt t c.loop-s.s) [
+              | inl below ↦ so_far.leads t below some
+              | inr past ↦ let same : c.loop-s.s ≡ t = omega (arith, lt, past) in subst (λ (k : ℕ). LeadsUp c.args.parents.now (k + 1)) same (done.yes w.if-not-reaches.false)
+            ];
+          }
       | else-parents-s-ne0-via-else-parents-s-ne0 w ↦ record {
         marks = subst (AreMarked c.args.parents.now) (sym (ap items w.marks-is)) so_far.marks;
         leads = λ t lt some. elim (cases_lt t c.loop-s.s) [

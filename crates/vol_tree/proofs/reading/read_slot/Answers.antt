@@ -96,9 +96,9 @@ returns-in-Ok-None g c =
           let is = held_none content v dirs c.args.slot c.requires.slot (none h) in
           on_ok_weaker r (λ adds. subst (λ (o : Option Entry). Adds content o found c.pass.new.self) (sym is) (adds content)) passed.adds;
       within = on_ok r _ (λ done. record {
-          inside = subst (AreInside (FIRST_AFTER_LOG + v.slots) v.sectors) (sym passed.named) c.requires.within.inside;
-          room = subst (λ (n : ℕ). n ≤ data_sectors v) (sym passed.reserved) c.requires.within.room;
-        });
+        inside = subst (AreInside (FIRST_AFTER_LOG + v.slots) v.sectors) (sym passed.named) c.requires.within.inside;
+        room = subst (λ (n : ℕ). n ≤ data_sectors v) (sym passed.reserved) c.requires.within.room;
+      });
       count = passed.count;
       right = λ h. on_ok r _ (λ done. right_none content v dirs c.args.slot c.requires.slot (none h));
       damaged = λ h shows. IfErr-weaker r _ _ (λ fault is damaged. memory_not_damage (sym is ∙ damaged)) passed.refused;

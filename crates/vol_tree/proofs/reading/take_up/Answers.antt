@@ -1,4 +1,4 @@
-use Rattle.std.proofs.Common.{◌≡◌, ◌+◌, ◌∙◌, length, true≢false, inl, refl, sym, ap, subst, arith}
+use Rattle.std.proofs.Common.{◌+◌, ◌∙◌, length, true≢false, inl, refl, sym, ap, subst, arith}
 use Rattle.std.proofs.lemmas.List.{length_push}
 use Rattle.std.proofs.lemmas.Result.{IfOk-from_err, IfErr-weaker}
 use Rattle.vol_log.proofs.Readings.{reads_same}
@@ -62,15 +62,15 @@ returns g c =
     let added = c.add.ensures in
     record {
       adds = λ h. on_ok r _ (λ ok. record {
-          named = added.named ∙ surveyed.named h;
-          parents = at_ok r _ added.parents ok;
-          directories = at_ok r _ added.directories ok;
-          reserved = at_ok r _ added.reserved ok;
-        });
+        named = added.named ∙ surveyed.named h;
+        parents = at_ok r _ added.parents ok;
+        directories = at_ok r _ added.directories ok;
+        reserved = at_ok r _ added.reserved ok;
+      });
       within = on_ok r _ (λ ok. record {
-          inside = subst (AreInside (FIRST_AFTER_LOG + c.args.numbers.now.slots) c.args.numbers.now.sectors) (sym added.named) surveyed.inside;
-          room = at_ok r _ added.room ok;
-        });
+        inside = subst (AreInside (FIRST_AFTER_LOG + c.args.numbers.now.slots) c.args.numbers.now.sectors) (sym added.named) surveyed.inside;
+        room = at_ok r _ added.room ok;
+      });
       count = on_ok r _ (λ ok. ap length (at_ok r _ added.parents ok) ∙ length_push c.args.found.now.parents.items c.args.entry.now.parent);
       placed = on_ok r _ (λ ok. c.is_placed.ensures.yes c.if-not-is_placed.false);
       trimmed = λ h. on_ok r _ (λ ok. surveyed.trimmed h);

@@ -36,26 +36,38 @@ hold-requires-clause-last g c =
 pub hold-requires-clause-free : goal.hold-requires-clause-free
 hold-requires-clause-free g c p n held = let old = (c.forget.ensures.names p n c.args.serial).0 held in old.1 refl
 
-pub returns-clause-names : goal.returns-clause-names
-returns-clause-names g c p n s =
-    let first = c.forget.ensures.names p n s in
-    let then = c.hold.ensures.names p n s in (
-      λ h. elim (then.0 h) [ inl kept ↦ inl (first.0 kept) | inr that ↦ inr that ],
-      λ either. then.1 (elim either [ inl kept ↦ inl (first.1 kept) | inr that ↦ inr that ]),
-    )
+pub stage-requires-clause-room : goal.stage-requires-clause-room
+stage-requires-clause-room g c = c.requires.room
 
-pub returns-clause-view : goal.returns-clause-view
-returns-clause-view g c = c.stage.ensures.view ∙ ap (λ (b : List ℕ). put (121 + c.args.serial) b (view c.args.log.now)) c.write_entry.ensures.bytes
+pub stage-requires-clause-working : goal.stage-requires-clause-working
+stage-requires-clause-working g c = c.requires.working
 
-pub returns-clause-shows : goal.returns-clause-shows
-returns-clause-shows g c v right shown =
-    let old = c.args.self.now in
-    let bounds = old.listing.numbered (key_of c.args.from.now.parent (name_of c.args.from.now)) c.args.serial c.requires.held.held in
-    let is : view c.stage.new.self ≡ put (121 + c.args.serial) (spelling c.args.to.now) (view c.args.log.now) = c.stage.ensures.view ∙ ap (λ (b : List ℕ). put (121 + c.args.serial) b (view c.args.log.now)) c.write_entry.ensures.bytes in
-    let same : slots_of c.hold.new.self ≡ slots_of old = c.hold.ensures.slots ∙ c.forget.ensures.slots in
-    let names : (p : ℕ) (n : List ℕ) (s : ℕ) → Names c.hold.new.self p n s ↔ (Names old p n s × (s ≢ c.args.serial) ⊎ IsNameOf c.args.to.now c.args.serial p n s) = λ p n s. (
-      λ h. elim ((c.hold.ensures.names p n s).0 h) [ inl kept ↦ inl ((c.forget.ensures.names p n s).0 kept) | inr that ↦ inr that ],
-      λ either. (c.hold.ensures.names p n s).1 (elim either [ inl kept ↦ inl ((c.forget.ensures.names p n s).1 kept) | inr that ↦ inr that ]),
-    ) in
-    subst (λ (k : ℕ). Shows v (view c.stage.new.self) k c.hold.new.self) (sym same)
-    (shown_put v (slots_of old) c.args.serial (view c.args.log.now) (view c.stage.new.self) old c.hold.new.self shown c.args.to.now right bounds.0 bounds.1 is names)
+pub returns : goal.returns
+returns g c =
+    let staged = c.stage.ensures in
+    record {
+      names = λ p n s.
+          let first = c.forget.ensures.names p n s in
+          let then = c.hold.ensures.names p n s in (
+            λ h. elim (then.0 h) [ inl kept ↦ inl (first.0 kept) | inr that ↦ inr that ],
+            λ either. then.1 (elim either [ inl kept ↦ inl (first.1 kept) | inr that ↦ inr that ]),
+          );
+      slots = c.hold.ensures.slots ∙ c.forget.ensures.slots;
+      view = c.stage.ensures.view ∙ ap (λ (b : List ℕ). put (121 + c.args.serial) b (view c.args.log.now)) c.write_entry.ensures.bytes;
+      room = staged.room;
+      staged = staged.staged;
+      device = staged.device;
+      failed = staged.failed;
+      sectors = staged.sectors;
+      shows = λ v right shown.
+          let old = c.args.self.now in
+          let bounds = old.listing.numbered (key_of c.args.from.now.parent (name_of c.args.from.now)) c.args.serial c.requires.held.held in
+          let is : view c.stage.new.self ≡ put (121 + c.args.serial) (spelling c.args.to.now) (view c.args.log.now) = c.stage.ensures.view ∙ ap (λ (b : List ℕ). put (121 + c.args.serial) b (view c.args.log.now)) c.write_entry.ensures.bytes in
+          let same : slots_of c.hold.new.self ≡ slots_of old = c.hold.ensures.slots ∙ c.forget.ensures.slots in
+          let names : (p : ℕ) (n : List ℕ) (s : ℕ) → Names c.hold.new.self p n s ↔ (Names old p n s × (s ≢ c.args.serial) ⊎ IsNameOf c.args.to.now c.args.serial p n s) = λ p n s. (
+            λ h. elim ((c.hold.ensures.names p n s).0 h) [ inl kept ↦ inl ((c.forget.ensures.names p n s).0 kept) | inr that ↦ inr that ],
+            λ either. (c.hold.ensures.names p n s).1 (elim either [ inl kept ↦ inl ((c.forget.ensures.names p n s).1 kept) | inr that ↦ inr that ]),
+          ) in
+          subst (λ (k : ℕ). Shows v (view c.stage.new.self) k c.hold.new.self) (sym same)
+          (shown_put v (slots_of old) c.args.serial (view c.args.log.now) (view c.stage.new.self) old c.hold.new.self shown c.args.to.now right bounds.0 bounds.1 is names);
+    }

@@ -158,10 +158,9 @@ returns-in-Err-read_parts g c =
           (λ m has. settled_has v.sectors d2 (g.D.Device.disk after).seen content m (installed.settled h1) (reads.seen h2) plain (installed.content m h1 has)));
       unwritten = λ h front. not_the_front x named front;
       kept_ok = tt;
-      kept_err = 
+      kept_err =
           subst (λ d. (g.D.Device.honest c.args.device ↔ g.D.Device.honest d) × (g.D.Device.size d ≡ g.D.Device.size c.args.device) × (g.D.Device.failures d ≡ counted (is_device x) (g.D.Device.failures c.args.device)))
-          (sym c.into_device.ensures)
-          (
+          (sym c.into_device.ensures) (
             both_then (both_then read.honest installed.kept_ok.0) e.reads.honest,
             e.reads.size ∙ installed.kept_ok.1 ∙ read.size,
             e.reads.failures installed.fresh.0 ∙ ap (λ (b : Bool). counted b before) e.failed ∙ ap (counted (is_device x)) (installed.kept_ok.2 ∙ read.failures),
@@ -215,12 +214,11 @@ returns-in-Ok-read_parts g c =
       crash_err = λ w T h on. tt;
       kept_tree = λ w T h on. tt;
       unwritten = λ h. tt;
-      kept_ok = 
-          (
-            both_then (both_then read.honest installed.kept_ok.0) done.reads.honest,
-            done.reads.size ∙ installed.kept_ok.1 ∙ read.size,
-            done.reads.failures installed.fresh.0 ∙ ap (λ (b : Bool). counted b before) done.failed ∙ installed.kept_ok.2 ∙ read.failures,
-          );
+      kept_ok = (
+        both_then (both_then read.honest installed.kept_ok.0) done.reads.honest,
+        done.reads.size ∙ installed.kept_ok.1 ∙ read.size,
+        done.reads.failures installed.fresh.0 ∙ ap (λ (b : Bool). counted b before) done.failed ∙ installed.kept_ok.2 ∙ read.failures,
+      );
       kept_err = tt;
     }
 
