@@ -1,5 +1,5 @@
 use Rattle.std.proofs.Common.{◌≡◌, ◌||◌, not, ℕ, Bool, true, Err, refl, sym, ◌∙◌, ap, subst, inl, inr}
-use Rattle.vol_tree.specs.Tree.{Tree}
+use Rattle.vol_tree.specs.Tree.{Tree, IsDirectory}
 use Rattle.vol_tree.specs.Calls.{renamed, directory_at}
 use Rattle.vol_tree.specs.Numbers.{number_of}
 use Rattle.vol_tree.specs.Opened.{is_io}
@@ -9,7 +9,7 @@ use Rattle.wasi_calls.specs.Paths.{rename_to}
 use Rattle.path_walk.specs.Walk.{Asked}
 use Rattle.wasi_calls.specs.internal.Asking.{StopsNext}
 use Rattle.wasi_calls.proofs.Volumes.{steps_after, steps}
-use Rattle.wasi_calls.proofs.Asking.{asked_works, asked_same, asked_gone, asked_step}
+use Rattle.wasi_calls.proofs.Asking.{asked_works, asked_same, asked_gone, asked_step, entry_still}
 use Rattle.wasi_calls.proofs.Renames.{missing_refused, missing_done, missing_never, renames_ok, renames_err}
 use Rattle.wasi_calls.proofs.renaming.rename_missing.Goals as goal
 
@@ -84,3 +84,18 @@ returns-in-Err-check_slash-clause-step g c = asked_step g.D.Device.honest g.D.De
 
 pub returns-in-Err-clause-step : goal.returns-in-Err-clause-step
 returns-in-Err-clause-step g c = asked_step g.D.Device.honest g.D.Device.disk g.D.Device.size g.D.Device.failures c.args.volume.now c.is_directory.new.volume _ c.in-Err.ensures.asked
+
+pub rename-requires : goal.rename-requires
+rename-requires g c =
+    let works = asked_works g.D.Device.honest g.D.Device.disk g.D.Device.size g.D.Device.failures c.args.volume.now c.is_directory.new.volume c.in-Ok.ensures.asked in
+    let source = entry_still g.D.Device.honest g.D.Device.disk g.D.Device.size g.D.Device.failures c.args.volume.now c.is_directory.new.volume c.args.source works c.requires.source in
+    let parent = entry_still g.D.Device.honest g.D.Device.disk g.D.Device.size g.D.Device.failures c.args.volume.now c.is_directory.new.volume c.args.parent works c.requires.parent in
+    record {
+      first = source.number.first;
+      last = source.number.last;
+      used = source.used;
+      parent_first = parent.number.first;
+      parent_last = parent.number.last;
+      directory = λ h. let before = works.kept.honest.1 h in subst (λ (T : Tree). IsDirectory T c.args.parent) (sym (works.tree before)) (c.requires.directory before);
+      name = c.requires.name;
+    }
