@@ -1,7 +1,7 @@
 use Rattle.std.proofs.Common.{◌≡◌, ℕ, refl, sym, ap, ◌∙◌, subst, inl, Ok}
 use Rattle.wasm_store.specs.Bytes.{bytes_at}
 use Rattle.path_walk.specs.Paths.{Reached, wants_directory, path_read}
-use Rattle.path_walk.specs.Walk.{reached_as}
+use Rattle.path_walk.specs.Walk.{reached_as, IsReached}
 use Rattle.wasi_fd.specs.Table.{table_of}
 use Rattle.wasi_fd.specs.declared.descriptor.Opened.{Opened}
 use Rattle.wasi_calls.specs.World.{World, volume_gone}
@@ -121,46 +121,42 @@ returns-in-Err-source_of g c = record {
       (refuses_on w (λ v. path_at v m to a.to_path a.to_len) (λ v. after_second both moved) new target two new _ two.same (stops _ _ _ c.in-Err-source_of.ensures.row)));
 }
 
-pub returns-clause-walks : goal.returns-clause-walks
-returns-clause-walks g c = λ h w table shown.
-    let m = c.args.memory.now in
-    let a = c.args.asked.now in
-    let from : Opened = c.in-Ok.ends.from in
-    let to : Opened = c.in-Ok.ends.to in
-    let both : Opened × Opened = (from, to) in
-    let old = c.args.volume.now in
-    let mid = c.reach.new.volume in
-    let goes = λ (v : World) (same : v.table ≡ table_of c.args.descriptors.now). entered_both v m a both (c.in-Ok.ensures.row v same) in
-    let moved : Reached = reached_as c.in-Ok-reach.moved in
-    let new = c.reach-2.new.volume in
-    let one = walk_passes g.D.Device.honest g.D.Device.disk g.D.Device.size g.D.Device.failures old mid w from m a.from_path a.from_len c.in-Ok.ends.from_text.now c.in-Ok.ensures.from h shown
-    c.in-Ok-reach.moved c.in-Ok-reach.ensures.works (c.in-Ok-reach.ensures.reaches h w from refl shown) in
-    let now = c.in-Ok-reach.ensures.works.kept.honest.0 h in
-    let target : Reached = reached_as c.in-Ok-reach-2.target in
-    let two = walk_passes g.D.Device.honest g.D.Device.disk g.D.Device.size g.D.Device.failures mid new w to m a.to_path a.to_len c.in-Ok.ends.to_text.now c.in-Ok.ensures.to now (sym one.same)
-    c.in-Ok-reach-2.target c.in-Ok-reach-2.ensures.works (c.in-Ok-reach-2.ensures.reaches now w to refl (sym one.same)) in
-    let source = c.in-Ok-source_of.source in
-    let ends : ℕ × Reached = (source, target) in
-    let same : c.in-Ok.ends.to_text.now ≡ bytes_at m a.to_path a.to_len = c.in-Ok.ensures.to in
-    let read = walked_to w to (bytes_at m a.to_path a.to_len) target two.is in
-    let inner = passes_on w (λ v. path_at v m to a.to_path a.to_len) (λ v. after_second both moved) new target two new ends two.same (goes_on _ _ source c.in-Ok-source_of.ensures.row) in (
-      passes_as w (λ v. rename_part v m a) (λ v. and_then (path_at v m from a.from_path a.from_len) (after_first v m a both)) new ends (goes w table) (goes (volume_gone w) table)
-          (passes_on w (λ v. path_at v m from a.from_path a.from_len) (λ v. after_first v m a both) mid moved one new ends two.same inner.is),
-      c.ends_open-slash.ensures read.0 (ap path_read same ∙ read.1) ∙ ap wants_directory same,
-    )
-
-pub returns-clause-step : goal.returns-clause-step
-returns-clause-step g c =
-    asked_after g.D.Device.honest g.D.Device.disk g.D.Device.size g.D.Device.failures c.args.volume.now c.reach.new.volume c.reach-2.new.volume _ c.in-Ok-reach.ensures.works
-    (works_as g.D.Device.honest g.D.Device.disk g.D.Device.size g.D.Device.failures c.reach.new.volume c.reach-2.new.volume c.in-Ok-reach-2.ensures.works)
-
-pub returns-clause-works : goal.returns-clause-works
-returns-clause-works g c =
-    works_on g.D.Device.honest g.D.Device.disk g.D.Device.size g.D.Device.failures c.args.volume.now c.reach.new.volume c.reach-2.new.volume c.in-Ok-reach.ensures.works
-    (works_as g.D.Device.honest g.D.Device.disk g.D.Device.size g.D.Device.failures c.reach.new.volume c.reach-2.new.volume c.in-Ok-reach-2.ensures.works)
-
-pub returns-clause-place : goal.returns-clause-place
-returns-clause-place g c = λ h.
-    let walked = c.in-Ok-reach-2.ensures in
-    let before = walked.works.kept.honest.1 h in
-    subst (λ (T : Tree). Places T (Ok c.in-Ok-reach-2.target)) (sym (walked.works.tree before)) (walked.place before)
+pub returns : goal.returns
+returns g c = record {
+  step = asked_after g.D.Device.honest g.D.Device.disk g.D.Device.size g.D.Device.failures c.args.volume.now c.reach.new.volume c.reach-2.new.volume _ c.in-Ok-reach.ensures.works
+      (works_as g.D.Device.honest g.D.Device.disk g.D.Device.size g.D.Device.failures c.reach.new.volume c.reach-2.new.volume c.in-Ok-reach-2.ensures.works);
+  works = works_on g.D.Device.honest g.D.Device.disk g.D.Device.size g.D.Device.failures c.args.volume.now c.reach.new.volume c.reach-2.new.volume c.in-Ok-reach.ensures.works
+      (works_as g.D.Device.honest g.D.Device.disk g.D.Device.size g.D.Device.failures c.reach.new.volume c.reach-2.new.volume c.in-Ok-reach-2.ensures.works);
+  source = entry_still g.D.Device.honest g.D.Device.disk g.D.Device.size g.D.Device.failures c.reach.new.volume c.reach-2.new.volume c.in-Ok-source_of.source c.in-Ok-reach-2.ensures.works (subst (IsReached g.D.Device.honest c.reach.new.volume) c.in-Ok-source_of.ensures.found c.in-Ok-reach.ensures.reached);
+  reached = c.in-Ok-reach-2.ensures.reached;
+  place = λ h.
+      let walked = c.in-Ok-reach-2.ensures in
+      let before = walked.works.kept.honest.1 h in
+      subst (λ (T : Tree). Places T (Ok c.in-Ok-reach-2.target)) (sym (walked.works.tree before)) (walked.place before);
+  walks = λ h w table shown.
+      let m = c.args.memory.now in
+      let a = c.args.asked.now in
+      let from : Opened = c.in-Ok.ends.from in
+      let to : Opened = c.in-Ok.ends.to in
+      let both : Opened × Opened = (from, to) in
+      let old = c.args.volume.now in
+      let mid = c.reach.new.volume in
+      let goes = λ (v : World) (same : v.table ≡ table_of c.args.descriptors.now). entered_both v m a both (c.in-Ok.ensures.row v same) in
+      let moved : Reached = reached_as c.in-Ok-reach.moved in
+      let new = c.reach-2.new.volume in
+      let one = walk_passes g.D.Device.honest g.D.Device.disk g.D.Device.size g.D.Device.failures old mid w from m a.from_path a.from_len c.in-Ok.ends.from_text.now c.in-Ok.ensures.from h shown
+      c.in-Ok-reach.moved c.in-Ok-reach.ensures.works (c.in-Ok-reach.ensures.reaches h w from refl shown) in
+      let now = c.in-Ok-reach.ensures.works.kept.honest.0 h in
+      let target : Reached = reached_as c.in-Ok-reach-2.target in
+      let two = walk_passes g.D.Device.honest g.D.Device.disk g.D.Device.size g.D.Device.failures mid new w to m a.to_path a.to_len c.in-Ok.ends.to_text.now c.in-Ok.ensures.to now (sym one.same)
+      c.in-Ok-reach-2.target c.in-Ok-reach-2.ensures.works (c.in-Ok-reach-2.ensures.reaches now w to refl (sym one.same)) in
+      let source = c.in-Ok-source_of.source in
+      let ends : ℕ × Reached = (source, target) in
+      let same : c.in-Ok.ends.to_text.now ≡ bytes_at m a.to_path a.to_len = c.in-Ok.ensures.to in
+      let read = walked_to w to (bytes_at m a.to_path a.to_len) target two.is in
+      let inner = passes_on w (λ v. path_at v m to a.to_path a.to_len) (λ v. after_second both moved) new target two new ends two.same (goes_on _ _ source c.in-Ok-source_of.ensures.row) in (
+        passes_as w (λ v. rename_part v m a) (λ v. and_then (path_at v m from a.from_path a.from_len) (after_first v m a both)) new ends (goes w table) (goes (volume_gone w) table)
+            (passes_on w (λ v. path_at v m from a.from_path a.from_len) (λ v. after_first v m a both) mid moved one new ends two.same inner.is),
+        c.ends_open-slash.ensures read.0 (ap path_read same ∙ read.1) ∙ ap wants_directory same,
+      );
+}
