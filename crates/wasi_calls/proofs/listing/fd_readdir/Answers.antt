@@ -17,11 +17,14 @@ use Rattle.wasi_calls.proofs.Asking.{asked_step}
 use Rattle.wasi_calls.proofs.Served.{volume_rests}
 use Rattle.wasi_calls.proofs.listing.fd_readdir.Goals as goal
 
-pub returns-in-Err-clause-answered : goal.returns-in-Err-clause-answered
-returns-in-Err-clause-answered g c = λ h w table shown.
-    let m = c.args.memory.now in
-    let a = c.args.asked.now in
-    refused_first w m (λ v. list_row v m a) c.args.volume.now _ shown (row_of_list w m a ∙ stops _ _ _ (c.in-Err.ensures.checked w table))
+pub returns-in-Err : goal.returns-in-Err
+returns-in-Err g c = record {
+  step = volume_rests g.D.Device.honest g.D.Device.disk g.D.Device.size g.D.Device.failures c.args.volume.now;
+  answered = λ h w table shown.
+      let m = c.args.memory.now in
+      let a = c.args.asked.now in
+      refused_first w m (λ v. list_row v m a) c.args.volume.now _ shown (row_of_list w m a ∙ stops _ _ _ (c.in-Err.ensures.checked w table));
+}
 
 pub returns-in-Ok-list_from : goal.returns-in-Ok-list_from
 returns-in-Ok-list_from g c = record {
@@ -57,6 +60,3 @@ returns-in-Err-list_from g c = record {
       asked (c.in-Ok.ensures.checked (volume_gone w) table) after c.in-Ok.ensures.buffer fails.idle
       (subst (λ (v : World). IsBegun m a.buffer (take a.len (dirents v.tree o.serial a.cookie)) after) (sym shown) begun));
 }
-
-pub returns-in-Err-clause-step : goal.returns-in-Err-clause-step
-returns-in-Err-clause-step g c = volume_rests g.D.Device.honest g.D.Device.disk g.D.Device.size g.D.Device.failures c.args.volume.now

@@ -8,10 +8,15 @@ use Rattle.wasi_calls.proofs.Asking.{works_as, still_works}
 use Rattle.wasi_calls.specs.internal.Reaching.{Places}
 use Rattle.wasi_calls.proofs.opening.reached_target.Goals as goal
 
-pub returns-in-Found-clause-checks : goal.returns-in-Found-clause-checks
-returns-in-Found-clause-checks g c = λ h w names read alive shown.
-    subst (λ (r : Reached). ChecksAs c.args.oflags (wants_directory c.args.text.now) (reached_as r) w c.found_target.new.volume c.found_target.result)
-    (sym c.in-Found.is) (c.found_target.ensures.checks h w (wants_directory c.args.text.now) alive shown)
+pub returns-in-Found : goal.returns-in-Found
+returns-in-Found g c = record {
+  step = c.found_target.ensures.step;
+  asked = c.found_target.ensures.asked;
+  can = c.found_target.ensures.can;
+  checks = λ h w names read alive shown.
+      subst (λ (r : Reached). ChecksAs c.args.oflags (wants_directory c.args.text.now) (reached_as r) w c.found_target.new.volume c.found_target.result)
+      (sym c.in-Found.is) (c.found_target.ensures.checks h w (wants_directory c.args.text.now) alive shown);
+}
 
 pub returns-in-Err-clause-step : goal.returns-in-Err-clause-step
 returns-in-Err-clause-step g c = volume_rests g.D.Device.honest g.D.Device.disk g.D.Device.size g.D.Device.failures c.args.volume.now
