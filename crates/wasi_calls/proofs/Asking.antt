@@ -1,5 +1,5 @@
 -- Bodies that only ask the volume: they go on in the same world, or end the call.
-use Rattle.std.proofs.Common.{◌≡◌, ◌≢◌, ◌⊎◌, ℕ, Bool, true, false, List, [], Option, Some, None, IsSome, IsTrue, Result, Ok, Err, not, refl, sym, ◌∙◌, ap, subst, inl, inr, arith}
+use Rattle.std.proofs.Common.{◌≡◌, ◌≢◌, ◌⊎◌, ℕ, Bool, true, false, List, [], Option, Some, None, IsSome, IsTrue, Result, Ok, Err, IsErrAnd, MatchResult, not, refl, sym, ◌∙◌, ap, subst, inl, inr, arith}
 use Rattle.std.specs.Option.{option_map_or}
 use Rattle.std.proofs.lemmas.Bool.{false≢true}
 use Rattle.vol_sector.specs.Disk.{Disk, Leaves, counted}
@@ -299,3 +299,29 @@ pub next_stops : {D X Y : Type 0} (w : World) (part : World → Checked X) (rest
 next_stops w part rest between new x e p (inl r) = refuses_on w part rest between x p new e r.same r.is
 next_stops w part rest between new x e p (inr f) =
     subst (λ (n : ℕ). Stops (λ v. and_then (part v) (rest v)) w new n) (sym f.answer) (fails_on w part rest between x p new f.after f.never)
+
+-- ---- where a refusal is handed on
+
+io_as : (X Y : Type 0) (e : Errno) → is_io {X = X} (Err e) ≡ is_io {X = Y} (Err e)
+io_as X Y errno.Exist = refl
+io_as X Y errno.TooBig = refl
+io_as X Y errno.BadText = refl
+io_as X Y errno.Invalid = refl
+io_as X Y errno.Io = refl
+io_as X Y errno.IsDirectory = refl
+io_as X Y errno.NameTooLong = refl
+io_as X Y errno.NotFound = refl
+io_as X Y errno.NoSpace = refl
+io_as X Y errno.NotDirectory = refl
+io_as X Y errno.NotEmpty = refl
+io_as X Y errno.NotCapable = refl
+
+pub asked_handed : {D X : Type 0} (Y : Type 0) (honest : D → Type 0) (disk : D → Disk) (sectors_on failures : D → ℕ) (a b : Opened D) (r : Result X Errno) (e : Errno)
+    → IsErrAnd r (λ y. y ≡ e) → Asked honest disk sectors_on failures a b (is_io {X = Y} (Err e)) → Asked honest disk sectors_on failures a b (is_io r)
+asked_handed Y honest disk sectors_on failures a b (Ok x) e is asked = absurd is
+asked_handed {X = X} Y honest disk sectors_on failures a b (Err y) e is asked =
+    subst (Asked honest disk sectors_on failures a b) (io_as Y X e ∙ ap (λ (e : Errno). is_io {X = X} (Err e)) (sym is)) asked
+
+pub io_handed : {X : Type 0} (r : Result X Errno) (P : X → Type 0) (e : Errno) → IsErrAnd r (λ y. y ≡ e) → e ≡ errno.Io → MatchResult r P (λ e. e ≡ errno.Io)
+io_handed (Ok x) P e is io = absurd is
+io_handed (Err y) P e is io = is ∙ io

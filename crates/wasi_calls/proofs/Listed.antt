@@ -28,7 +28,7 @@ use Rattle.wasi_calls.proofs.Serving.{answers_refused}
 use Rattle.path_walk.specs.Walk.{Asked}
 use Rattle.wasi_calls.proofs.Asking.{asked_same, asked_gone}
 use Rattle.wasi_calls.proofs.Volumes.{was_working, done_by, tree_called_alive, tree_called_gone, is_no_err}
-use Rattle.wasi_calls.proofs.Overlaps.{written_over, length_written}
+use Rattle.wasi_calls.proofs.Overlaps.{written_over, length_written, part_long}
 use Rattle.wasi_calls.proofs.Prepared.{refilled}
 use Rattle.std.specs.List.{refill}
 use Rattle.wasi_calls.proofs.Dirents.{told_from, over, list_goes_on}
@@ -161,16 +161,10 @@ part_written m xs before after p len n inside is count few stands =
     let same : written m p after ≡ written m p xs = ap (written m p) over ∙ written_over m xs p len inside (omega arith) in
     ap (refill (length m) m) same ∙ refilled (length m) (written m p xs) _ (length_written m xs p (omega arith))
 
-pub part_long : (m before : List ℕ) (p len : ℕ) → p + len ≤ length m → before ≡ take len (drop p m) → length before ≡ len
-part_long m before p len inside is =
-    let a = length-drop p m in
-    let b = length-take len (drop p m) in
-    ap length is ∙ (let all : length (take len (drop p m)) ≡ len = omega (arith, a, b, inside) in all)
-
 pub part_listed : (m all before after : List ℕ) (p len n : ℕ) → p + len ≤ length m → before ≡ take len (drop p m) → n ≡ length (take (length before) all) → after ≡ take (length before) all ++ drop n before
     → refill (length m) m (written m p after) ≡ written m p (take len all)
 part_listed m all before after p len n inside is count stands =
-    let long = part_long m before p len inside is in
+    let long = part_long m before p len is inside in
     let most = length-take (length before) all in
     part_written m (take (length before) all) before after p len n inside is count (omega (arith, count, most, long)) stands
     ∙ ap (λ (k : ℕ). written m p (take k all)) long
@@ -178,7 +172,7 @@ part_listed m all before after p len n inside is count stands =
 pub part_begun : (m all before after : List ℕ) (p len n : ℕ) → p + len ≤ length m → before ≡ take len (drop p m) → n ≤ length (take (length before) all) → after ≡ take n (take (length before) all) ++ drop n before
     → IsBegun m p (take len all) (refill (length m) m (written m p after))
 part_begun m all before after p len n inside is few stands =
-    let long = part_long m before p len inside is in
+    let long = part_long m before p len is inside in
     let most = length-take (length before) all in
     let count = length-take n (take (length before) all) in
     record {

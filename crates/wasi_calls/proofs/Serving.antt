@@ -1,5 +1,5 @@
 -- What bodies of calls answer.
-use Rattle.std.proofs.Common.{◌≡◌, ◌∙◌, ℕ, List, Result, Ok, Err, IsErrAnd, MatchResult, OnOk, refl, ap, subst, sym}
+use Rattle.std.proofs.Common.{◌≡◌, ◌∙◌, ℕ, List, Result, Ok, Err, IsErr, IsErrAnd, MatchResult, OnOk, true≢false, refl, ap, subst, sym}
 use Rattle.wasm_store.specs.declared.call.Errno.{Errno}
 use Rattle.wasi_calls.specs.World.{World}
 use Rattle.wasi_calls.specs.Checks.{Checked, Done, put}
@@ -35,3 +35,8 @@ last_told {X = X} r part row same told = subst (λ (c : Checked X). MatchResult 
 pub ok_anyway : {X P : Type 0} (r : Result X Errno) → P → OnOk r P
 ok_anyway (Ok x) holds = holds
 ok_anyway (Err e) holds = tt
+
+-- nothing is said of a refusal's answer
+pub no_ok : {X : Type 0} (P : Type 0) (r : Result X Errno) → IsErr r → OnOk r P
+no_ok P (Ok x) is = absurd (true≢false (sym is))
+no_ok P (Err e) is = tt

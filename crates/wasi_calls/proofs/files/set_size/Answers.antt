@@ -17,34 +17,34 @@ set_size-requires g c =
     let f = file_of g.D.Device.honest c.args.volume.now (table_of c.args.descriptors.now) c.requires c.args.fd sized 31 (2 ^ 22) c.in-Ok.opened refl c.in-Ok.ensures in
     record { first = f.first; last = f.last; used = f.used }
 
-pub returns-in-Err-clause-answered : goal.returns-in-Err-clause-answered
-returns-in-Err-clause-answered g c = λ h w m table shown.
-    refused_first w m (λ v. fd_filestat_set_size v c.args.fd c.args.size) c.args.volume.now _ shown (stops _ _ _ (c.in-Err.ensures w table))
+pub returns-in-Err : goal.returns-in-Err
+returns-in-Err g c = record {
+  step = volume_rests g.D.Device.honest g.D.Device.disk g.D.Device.size g.D.Device.failures c.args.volume.now;
+  answered = λ h w m table shown.
+      refused_first w m (λ v. fd_filestat_set_size v c.args.fd c.args.size) c.args.volume.now _ shown (stops _ _ _ (c.in-Err.ensures w table));
+}
 
-pub returns-in-Ok-set_size-clause-answered : goal.returns-in-Ok-set_size-clause-answered
-returns-in-Ok-set_size-clause-answered g c = λ h w m table shown.
-    let o = c.in-Ok.opened in
-    let size = c.args.size in
-    changed_ok g.D.Device.honest g.D.Device.size g.D.Device.failures w m (λ v. fd_filestat_set_size v c.args.fd size) (λ v. resized v.volume v.tree o.serial size)
-    c.args.volume.now c.set_size.new.self shown (goes_on _ _ o (c.in-Ok.ensures w table))
-    c.in-Ok-set_size.ensures.kept (c.in-Ok-set_size.ensures.answer h)
+pub returns-in-Ok-set_size : goal.returns-in-Ok-set_size
+returns-in-Ok-set_size g c = record {
+  step = steps g.D.Device.honest g.D.Device.disk g.D.Device.size g.D.Device.failures c.args.volume.now c.set_size.new.self _ c.in-Ok-set_size.ensures.kept c.in-Ok-set_size.ensures.crash;
+  answered = λ h w m table shown.
+      let o = c.in-Ok.opened in
+      let size = c.args.size in
+      changed_ok g.D.Device.honest g.D.Device.size g.D.Device.failures w m (λ v. fd_filestat_set_size v c.args.fd size) (λ v. resized v.volume v.tree o.serial size)
+      c.args.volume.now c.set_size.new.self shown (goes_on _ _ o (c.in-Ok.ensures w table))
+      c.in-Ok-set_size.ensures.kept (c.in-Ok-set_size.ensures.answer h);
+}
 
-pub returns-in-Err-set_size-clause-answered : goal.returns-in-Err-set_size-clause-answered
-returns-in-Err-set_size-clause-answered g c = λ h w m table shown.
-    let o = c.in-Ok.opened in
-    let size = c.args.size in
-    let e = c.in-Err-set_size.errno in
-    let (tree, meant) = c.in-Err-set_size.ensures.answer h in
-    subst (λ (n : ℕ). Answered (λ v. fd_filestat_set_size v c.args.fd size) w m (with_volume c.set_size.new.self w) m n) (sym c.refused.ensures)
-    (changed_err g.D.Device.honest g.D.Device.size g.D.Device.failures w m (λ v. fd_filestat_set_size v c.args.fd size) (λ v. resized v.volume v.tree o.serial size)
-    c.args.volume.now c.set_size.new.self shown (goes_on _ _ o (c.in-Ok.ensures w table))
-    (goes_on _ _ o (c.in-Ok.ensures (volume_gone w) table)) (resized_never w.volume w.tree o.serial size) e c.in-Err-set_size.ensures.kept tree meant)
-
-pub returns-in-Err-clause-step : goal.returns-in-Err-clause-step
-returns-in-Err-clause-step g c = volume_rests g.D.Device.honest g.D.Device.disk g.D.Device.size g.D.Device.failures c.args.volume.now
-
-pub returns-in-Ok-set_size-clause-step : goal.returns-in-Ok-set_size-clause-step
-returns-in-Ok-set_size-clause-step g c = steps g.D.Device.honest g.D.Device.disk g.D.Device.size g.D.Device.failures c.args.volume.now c.set_size.new.self _ c.in-Ok-set_size.ensures.kept c.in-Ok-set_size.ensures.crash
-
-pub returns-in-Err-set_size-clause-step : goal.returns-in-Err-set_size-clause-step
-returns-in-Err-set_size-clause-step g c = steps g.D.Device.honest g.D.Device.disk g.D.Device.size g.D.Device.failures c.args.volume.now c.set_size.new.self _ c.in-Err-set_size.ensures.kept c.in-Err-set_size.ensures.crash
+pub returns-in-Err-set_size : goal.returns-in-Err-set_size
+returns-in-Err-set_size g c = record {
+  step = steps g.D.Device.honest g.D.Device.disk g.D.Device.size g.D.Device.failures c.args.volume.now c.set_size.new.self _ c.in-Err-set_size.ensures.kept c.in-Err-set_size.ensures.crash;
+  answered = λ h w m table shown.
+      let o = c.in-Ok.opened in
+      let size = c.args.size in
+      let e = c.in-Err-set_size.errno in
+      let (tree, meant) = c.in-Err-set_size.ensures.answer h in
+      subst (λ (n : ℕ). Answered (λ v. fd_filestat_set_size v c.args.fd size) w m (with_volume c.set_size.new.self w) m n) (sym c.refused.ensures)
+      (changed_err g.D.Device.honest g.D.Device.size g.D.Device.failures w m (λ v. fd_filestat_set_size v c.args.fd size) (λ v. resized v.volume v.tree o.serial size)
+      c.args.volume.now c.set_size.new.self shown (goes_on _ _ o (c.in-Ok.ensures w table))
+      (goes_on _ _ o (c.in-Ok.ensures (volume_gone w) table)) (resized_never w.volume w.tree o.serial size) e c.in-Err-set_size.ensures.kept tree meant);
+}

@@ -27,48 +27,47 @@ done w fd right o at working = goes_on _ _ o at ∙ goes_on _ _ tt (goes_on _ _ 
 failed : (w : World) (fd right : ℕ) (o : Opened) → entry_at (volume_gone w) fd no_streams right ≡ Ok o → fd_sync (volume_gone w) fd right ≡ Err 29
 failed w fd right o at = goes_on _ _ o at ∙ stops _ _ 29 (stops _ _ 29 (guard_fails _ 29 refl))
 
-pub returns-in-Ok-clause-answered : goal.returns-in-Ok-clause-answered
-returns-in-Ok-clause-answered g c = λ h w m table shown.
-    let old = c.args.volume.now in
-    let new = c.sync.new.self in
-    let right = bits_of c.args.right in
-    let k = c.in-Ok.ensures.kept in
-    let working : old.failed ≡ false = was_working g.D.Device.honest g.D.Device.size g.D.Device.failures old new false k refl in
-    let alive : w.volume_failed ≡ false = ap (λ (w : World). w.volume_failed) shown ∙ working in
-    let tree : new.tree ≡ old.tree = same_tree old.tree new.tree (c.in-Ok.ensures.answer h) in
-    done_by w m (λ v. fd_sync v c.args.fd right) new m (only_world w)
-    (done w c.args.fd right c.in_default.field-0 (c.in_default.ensures w table) alive)
-    (same_volume w m old new shown k.numbers tree (k.failed ∙ sym working)) refl
+pub returns-in-Ok : goal.returns-in-Ok
+returns-in-Ok g c = record {
+  step = steps g.D.Device.honest g.D.Device.disk g.D.Device.size g.D.Device.failures c.args.volume.now c.sync.new.self _ c.in-Ok.ensures.kept c.in-Ok.ensures.crash;
+  answered = λ h w m table shown.
+      let old = c.args.volume.now in
+      let new = c.sync.new.self in
+      let right = bits_of c.args.right in
+      let k = c.in-Ok.ensures.kept in
+      let working : old.failed ≡ false = was_working g.D.Device.honest g.D.Device.size g.D.Device.failures old new false k refl in
+      let alive : w.volume_failed ≡ false = ap (λ (w : World). w.volume_failed) shown ∙ working in
+      let tree : new.tree ≡ old.tree = same_tree old.tree new.tree (c.in-Ok.ensures.answer h) in
+      done_by w m (λ v. fd_sync v c.args.fd right) new m (only_world w)
+      (done w c.args.fd right c.in_default.field-0 (c.in_default.ensures w table) alive)
+      (same_volume w m old new shown k.numbers tree (k.failed ∙ sym working)) refl;
+  durable = λ h zero. c.in-Ok.ensures.durable h;
+}
 
-pub returns-in-Err-sync-clause-answered : goal.returns-in-Err-sync-clause-answered
-returns-in-Err-sync-clause-answered g c = λ h w m table shown.
-    let old = c.args.volume.now in
-    let new = c.sync.new.self in
-    let right = bits_of c.args.right in
-    let o = c.in_default.field-0 in
-    let e = c.in-Err-sync.errno in
-    let ok = λ (alive : w.volume_failed ≡ false). done w c.args.fd right o (c.in_default.ensures w table) alive in
-    let (tree, meant) = c.in-Err-sync.ensures.answer h in
-    let is_io : e ≡ errno.Io = elim meant [ inl never ↦ absurd (ok_no_err _ (c.args.volume.now.tree, tt) e refl never) | inr io ↦ io ] in
-    subst (λ (n : ℕ). Answered (λ v. fd_sync v c.args.fd right) w m (with_volume new w) m n) (sym c.refused.ensures)
-    (tree_refuses w m g.D.Device.honest g.D.Device.size g.D.Device.failures (Unit {0}) (λ v. fd_sync v c.args.fd right) old new e c.in-Err-sync.ensures.kept shown tree
-    (λ alive other. absurd (other is_io))
-    (failed w c.args.fd right o (c.in_default.ensures (volume_gone w) table))
-    (λ alive. is_no_err _ (only_world w) 29 (ok alive)))
+pub returns-in-Err-sync : goal.returns-in-Err-sync
+returns-in-Err-sync g c = record {
+  step = steps g.D.Device.honest g.D.Device.disk g.D.Device.size g.D.Device.failures c.args.volume.now c.sync.new.self _ c.in-Err-sync.ensures.kept c.in-Err-sync.ensures.crash;
+  answered = λ h w m table shown.
+      let old = c.args.volume.now in
+      let new = c.sync.new.self in
+      let right = bits_of c.args.right in
+      let o = c.in_default.field-0 in
+      let e = c.in-Err-sync.errno in
+      let ok = λ (alive : w.volume_failed ≡ false). done w c.args.fd right o (c.in_default.ensures w table) alive in
+      let (tree, meant) = c.in-Err-sync.ensures.answer h in
+      let is_io : e ≡ errno.Io = elim meant [ inl never ↦ absurd (ok_no_err _ (c.args.volume.now.tree, tt) e refl never) | inr io ↦ io ] in
+      subst (λ (n : ℕ). Answered (λ v. fd_sync v c.args.fd right) w m (with_volume new w) m n) (sym c.refused.ensures)
+      (tree_refuses w m g.D.Device.honest g.D.Device.size g.D.Device.failures (Unit {0}) (λ v. fd_sync v c.args.fd right) old new e c.in-Err-sync.ensures.kept shown tree
+      (λ alive other. absurd (other is_io))
+      (failed w c.args.fd right o (c.in_default.ensures (volume_gone w) table))
+      (λ alive. is_no_err _ (only_world w) 29 (ok alive)));
+  durable = λ h zero. absurd (number_never_zero c.in-Err-sync.errno (sym c.refused.ensures ∙ zero));
+}
 
 -- no refusal has the number of success
 pub returns-in-Err-clause-durable : goal.returns-in-Err-clause-durable
 unfolding some_world
 returns-in-Err-clause-durable g c = λ h zero. absurd (not_zero _ _ (entry_never_zero (some_world (table_of c.args.descriptors.now)) c.args.fd (bits_of c.args.right)) (c.in-Err.ensures (some_world (table_of c.args.descriptors.now)) refl) zero)
 
-pub returns-in-Err-sync-clause-durable : goal.returns-in-Err-sync-clause-durable
-returns-in-Err-sync-clause-durable g c = λ h zero. absurd (number_never_zero c.in-Err-sync.errno (sym c.refused.ensures ∙ zero))
-
 pub returns-in-Err-clause-step : goal.returns-in-Err-clause-step
 returns-in-Err-clause-step g c = volume_rests g.D.Device.honest g.D.Device.disk g.D.Device.size g.D.Device.failures c.args.volume.now
-
-pub returns-in-Ok-clause-step : goal.returns-in-Ok-clause-step
-returns-in-Ok-clause-step g c = steps g.D.Device.honest g.D.Device.disk g.D.Device.size g.D.Device.failures c.args.volume.now c.sync.new.self _ c.in-Ok.ensures.kept c.in-Ok.ensures.crash
-
-pub returns-in-Err-sync-clause-step : goal.returns-in-Err-sync-clause-step
-returns-in-Err-sync-clause-step g c = steps g.D.Device.honest g.D.Device.disk g.D.Device.size g.D.Device.failures c.args.volume.now c.sync.new.self _ c.in-Err-sync.ensures.kept c.in-Err-sync.ensures.crash

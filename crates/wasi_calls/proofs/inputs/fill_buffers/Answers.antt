@@ -1,10 +1,12 @@
-use Rattle.std.proofs.Common.{◌≡◌, ◌⊎◌, take, inl, inr, sym, ◌∙◌, arith}
+use Rattle.std.proofs.lemmas.List.{take_all}
+use Rattle.std.proofs.Common.{◌≡◌, ◌⊎◌, take, inl, inr, sym, ◌∙◌, arith, List, Ok, ap, subst}
 use Rattle.std.proofs.lemmas.Bool.{false≢true}
 use Rattle.vol_body.specs.declared.source.Span.{Span}
 use Rattle.wasi_calls.specs.Checks.{total}
 use Rattle.wasi_calls.specs.internal.Buffers.{list_of}
 use Rattle.wasi_calls.proofs.Arrays.{inside_at, total_more}
 use Rattle.wasi_calls.proofs.Incoming.{dealt_more, dealt_fails, ended_or, same_count, no_count}
+use Rattle.wasi_calls.specs.internal.Inputs.{Dealt}
 use Rattle.wasi_calls.proofs.inputs.fill_buffers.Goals as goal
 
 abbrev no_buffer : Span
@@ -18,14 +20,21 @@ fill_next-requires-clause-inside g c =
 pub overflow_add-count : goal.overflow_add-count
 overflow_add-count g c = omega (arith, c.loop-buffer.invariant.small, c.in-Ok.ensures.small)
 
-pub returns-in-Err-clause-broke : goal.returns-in-Err-clause-broke
-returns-in-Err-clause-broke g c =
-    let before = c.loop-buffer.invariant in
-    dealt_fails _ _ _ c.args.memory.now c.loop-buffer.memory c.fill_next.new.memory c.args.buffers.now c.loop-buffer.buffer-index c.loop-buffer.count no_buffer c.loop-buffer-test.true
-    before.dealt c.in-Err.ensures.broke (elim (ended_or c.loop-buffer.input.ended) [
-      | inl is ↦ absurd (no_count c.in-Err.failed 0 (c.in-Err.ensures.none is).0)
-      | inr goes_on ↦ before.full goes_on
-    ])
+pub returns-in-Err : goal.returns-in-Err
+returns-in-Err g c = record {
+  long = c.in-Err.ensures.long ∙ c.loop-buffer.invariant.long;
+  dealt = tt;
+  full = tt;
+  none = λ ended. absurd (no_count c.in-Err.failed 0 (c.in-Err.ensures.none (c.loop-buffer.invariant.none ended).1).0);
+  end = c.in-Err.ensures.end;
+  broke = let before = c.loop-buffer.invariant in
+      dealt_fails _ _ _ c.args.memory.now c.loop-buffer.memory c.fill_next.new.memory c.args.buffers.now c.loop-buffer.buffer-index c.loop-buffer.count no_buffer c.loop-buffer-test.true
+      before.dealt c.in-Err.ensures.broke (elim (ended_or c.loop-buffer.input.ended) [
+        | inl is ↦ absurd (no_count c.in-Err.failed 0 (c.in-Err.ensures.none is).0)
+        | inr goes_on ↦ before.full goes_on
+      ]);
+  mark = c.in-Err.ensures.mark ∙ c.loop-buffer.invariant.mark;
+}
 
 pub loop-buffer-preserved : goal.loop-buffer-preserved
 loop-buffer-preserved g c =
@@ -50,3 +59,14 @@ loop-buffer-preserved g c =
       end = told.end;
       mark = told.mark ∙ before.mark;
     }
+
+pub returns : goal.returns
+returns g c = record {
+  long = c.loop-buffer.invariant.long;
+  dealt = subst (λ (l : List Span). Dealt (g.R.Read.remaining c.args.input.now.reader) (g.R.Read.remaining c.loop-buffer.input.reader) c.args.memory.now (list_of l) c.loop-buffer.memory c.loop-buffer.count) (take_all c.loop-buffer.buffer-index c.args.buffers.now c.loop-buffer-test.false) c.loop-buffer.invariant.dealt;
+  full = λ goes_on. c.loop-buffer.invariant.full goes_on ∙ ap (λ (l : List Span). total (list_of l)) (take_all c.loop-buffer.buffer-index c.args.buffers.now c.loop-buffer-test.false);
+  none = λ ended. ap Ok (c.loop-buffer.invariant.none ended).0;
+  end = c.loop-buffer.invariant.end;
+  broke = tt;
+  mark = c.loop-buffer.invariant.mark;
+}

@@ -1,5 +1,16 @@
+use Rattle.std.proofs.Common.{refl, sym, ◌∙◌, arith}
+use Rattle.std.proofs.lemmas.Bool.{false≢true}
 use Rattle.wasi_calls.proofs.Incoming.{came_none}
 use Rattle.wasi_calls.proofs.inputs.fill_next.Goals as goal
 
-pub returns-then-input-clause-came : goal.returns-then-input-clause-came
-returns-then-input-clause-came g c = came_none _ c.args.memory.now c.args.buffer.pointer c.args.buffer.len
+pub returns-then-input : goal.returns-then-input
+returns-then-input g c = record {
+  long = refl;
+  came = came_none _ c.args.memory.now c.args.buffer.pointer c.args.buffer.len;
+  full = λ goes_on. absurd (false≢true (sym goes_on ∙ c.if-input.true));
+  small = omega arith;
+  none = λ ended. (refl, ended);
+  end = c.requires.end;
+  broke = tt;
+  mark = refl;
+}

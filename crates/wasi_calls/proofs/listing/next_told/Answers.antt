@@ -14,35 +14,47 @@ stat-requires-clause-used g c = λ h.
     let next : next_child T c.args.directory c.args.after ≡ Some c.in-Ok-Some.serial = sym told.0 ∙ c.in-Ok-Some.field-0-is in
     subst (λ (T : Tree). IsSome (entry T c.in-Ok-Some.serial)) (sym told.1) (next_used T c.args.directory c.args.after c.in-Ok-Some.serial next)
 
-pub returns-in-Ok-clause-told : goal.returns-in-Ok-clause-told
-returns-in-Ok-clause-told g c = λ h.
-    let T : Tree = c.args.volume.now.tree in
-    let serial = c.in-Ok-Some.serial in
-    let told = c.in-Ok-Some.ensures.answer h in
-    let next : next_child T c.args.directory c.args.after ≡ Some serial = sym told.0 ∙ c.in-Ok-Some.field-0-is in
-    let stat = (c.in-Ok.ensures.answer (c.in-Ok-Some.ensures.kept.honest.0 h)).0 in
-    told_next T c.args.directory c.args.after serial stat.0 c.describe.result next (ap (λ (T : Tree). entry T serial) (sym told.1) ∙ stat.1)
-    c.describe.ensures.serial (c.describe.ensures.told stat.0 stat.2)
+pub returns-in-Ok : goal.returns-in-Ok
+returns-in-Ok g c = record {
+  asked = let next = c.in-Ok-Some.ensures in
+      let told = c.in-Ok.ensures in
+      asked_on g.D.Device.honest g.D.Device.disk g.D.Device.size g.D.Device.failures c.args.volume.now c.list_next.new.self c.stat.new.self _ (record { kept = next.kept; tree = λ h. (next.answer h).1; crash = next.crash })
+      (record { tree = λ h. (told.answer h).1; crash = told.crash; kept = told.kept });
+  told = λ h.
+      let T : Tree = c.args.volume.now.tree in
+      let serial = c.in-Ok-Some.serial in
+      let told = c.in-Ok-Some.ensures.answer h in
+      let next : next_child T c.args.directory c.args.after ≡ Some serial = sym told.0 ∙ c.in-Ok-Some.field-0-is in
+      let stat = (c.in-Ok.ensures.answer (c.in-Ok-Some.ensures.kept.honest.0 h)).0 in
+      told_next T c.args.directory c.args.after serial stat.0 c.describe.result next (ap (λ (T : Tree). entry T serial) (sym told.1) ∙ stat.1)
+      c.describe.ensures.serial (c.describe.ensures.told stat.0 stat.2);
+  least = c.describe.ensures.least;
+  most = c.describe.ensures.most;
+}
 
-pub returns-in-Ok-None-clause-told : goal.returns-in-Ok-None-clause-told
-returns-in-Ok-None-clause-told g c = λ h. list_ends c.args.volume.now.tree c.args.directory c.args.after (sym (c.in-Ok-None.ensures.answer h).0 ∙ c.in-Ok-None.field-0-is)
+pub returns-in-Ok-None : goal.returns-in-Ok-None
+returns-in-Ok-None g c = record {
+  asked = let told = c.in-Ok-None.ensures in record { tree = λ h. (told.answer h).1; crash = told.crash; kept = told.kept };
+  told = λ h. list_ends c.args.volume.now.tree c.args.directory c.args.after (sym (c.in-Ok-None.ensures.answer h).0 ∙ c.in-Ok-None.field-0-is);
+  least = tt;
+  most = tt;
+}
 
-pub returns-in-Ok-clause-asked : goal.returns-in-Ok-clause-asked
-returns-in-Ok-clause-asked g c =
-    let next = c.in-Ok-Some.ensures in
-    let told = c.in-Ok.ensures in
-    asked_on g.D.Device.honest g.D.Device.disk g.D.Device.size g.D.Device.failures c.args.volume.now c.list_next.new.self c.stat.new.self _ (record { kept = next.kept; tree = λ h. (next.answer h).1; crash = next.crash })
-    (record { tree = λ h. (told.answer h).1; crash = told.crash; kept = told.kept })
+pub returns-in-Err-stat : goal.returns-in-Err-stat
+returns-in-Err-stat g c = record {
+  asked = let next = c.in-Ok-Some.ensures in
+      let told = c.in-Err-stat.ensures in
+      asked_on g.D.Device.honest g.D.Device.disk g.D.Device.size g.D.Device.failures c.args.volume.now c.list_next.new.self c.stat.new.self _ (record { kept = next.kept; tree = λ h. (next.answer h).1; crash = next.crash })
+      (record { tree = λ h. (told.answer h).1; crash = told.crash; kept = told.kept });
+  told = λ h. (c.in-Err-stat.ensures.answer (c.in-Ok-Some.ensures.kept.honest.0 h)).0;
+  least = tt;
+  most = tt;
+}
 
-pub returns-in-Err-stat-clause-asked : goal.returns-in-Err-stat-clause-asked
-returns-in-Err-stat-clause-asked g c =
-    let next = c.in-Ok-Some.ensures in
-    let told = c.in-Err-stat.ensures in
-    asked_on g.D.Device.honest g.D.Device.disk g.D.Device.size g.D.Device.failures c.args.volume.now c.list_next.new.self c.stat.new.self _ (record { kept = next.kept; tree = λ h. (next.answer h).1; crash = next.crash })
-    (record { tree = λ h. (told.answer h).1; crash = told.crash; kept = told.kept })
-
-pub returns-in-Ok-None-clause-asked : goal.returns-in-Ok-None-clause-asked
-returns-in-Ok-None-clause-asked g c = let told = c.in-Ok-None.ensures in record { tree = λ h. (told.answer h).1; crash = told.crash; kept = told.kept }
-
-pub returns-in-Err-clause-asked : goal.returns-in-Err-clause-asked
-returns-in-Err-clause-asked g c = let told = c.in-Err.ensures in record { tree = λ h. (told.answer h).1; crash = told.crash; kept = told.kept }
+pub returns-in-Err : goal.returns-in-Err
+returns-in-Err g c = record {
+  asked = let told = c.in-Err.ensures in record { tree = λ h. (told.answer h).1; crash = told.crash; kept = told.kept };
+  told = λ h. (c.in-Err.ensures.answer h).0;
+  least = tt;
+  most = tt;
+}

@@ -2,9 +2,17 @@ use Rattle.std.proofs.Common.{subst, sym}
 use Rattle.vol_tree.specs.Opened.{Answers, geometry}
 use Rattle.wasi_calls.specs.declared.opening.Target.{Target}
 use Rattle.wasi_calls.specs.internal.Opening.{made}
+use Rattle.wasi_calls.proofs.Asking.{still_works}
+use Rattle.wasi_calls.proofs.Served.{volume_rests}
 use Rattle.wasi_calls.proofs.opening.settle.Goals as goal
 
 pub returns-in-New-clause-answer : goal.returns-in-New-clause-answer
 returns-in-New-clause-answer g c = λ h.
     subst (λ (t : Target). Answers (made (geometry c.args.volume.now.numbers) c.args.volume.now.tree t) c.args.volume.now.tree c.create_file.new.self.tree c.create_file.result)
     (sym c.in-New.is) (c.create_file.ensures.answer h)
+
+pub returns-in-Entry-clause-kept : goal.returns-in-Entry-clause-kept
+returns-in-Entry-clause-kept g c = (still_works g.D.Device.honest g.D.Device.disk g.D.Device.size g.D.Device.failures c.args.volume.now c.requires.works).kept
+
+pub returns-in-Entry-clause-crash : goal.returns-in-Entry-clause-crash
+returns-in-Entry-clause-crash g c = (volume_rests g.D.Device.honest g.D.Device.disk g.D.Device.size g.D.Device.failures c.args.volume.now).crash

@@ -35,11 +35,14 @@ rest_never : (w : World) → w.volume_failed ≡ false → (r : Reached) → of_
 rest_never w alive r = never_after (missing r) (λ place. making (made_at place) w) (missing_name_never r)
     (λ place _. making_never (made_at place) w alive (created_never w.tree place.0 place.1 Directory))
 
-pub returns-in-Err-clause-answered : goal.returns-in-Err-clause-answered
-returns-in-Err-clause-answered g c = λ h w table shown.
-    let m = c.args.memory.now in
-    refused_first w m (λ v. path_create_directory v m c.args.fd c.args.path c.args.len) c.args.volume.now _ shown
-    (entered_row _ _ _ ∙ stops _ _ _ (c.in-Err.ensures.row w table))
+pub returns-in-Err : goal.returns-in-Err
+returns-in-Err g c = record {
+  step = volume_rests g.D.Device.honest g.D.Device.disk g.D.Device.size g.D.Device.failures c.args.volume.now;
+  answered = λ h w table shown.
+      let m = c.args.memory.now in
+      refused_first w m (λ v. path_create_directory v m c.args.fd c.args.path c.args.len) c.args.volume.now _ shown
+      (entered_row _ _ _ ∙ stops _ _ _ (c.in-Err.ensures.row w table));
+}
 
 pub reach-requires : goal.reach-requires
 reach-requires g c =
@@ -134,9 +137,6 @@ returns-in-Err-reach-clause-answered g c = λ h w table shown.
           (λ alive is. never_after (path_at w m o c.args.path c.args.len) (of_reached w) (λ no. r.never alive (sym (text w) ∙ no))
           (λ x _. rest_never w alive x) (sym (goes w table) ∙ is))
     ])
-
-pub returns-in-Err-clause-step : goal.returns-in-Err-clause-step
-returns-in-Err-clause-step g c = volume_rests g.D.Device.honest g.D.Device.disk g.D.Device.size g.D.Device.failures c.args.volume.now
 
 pub create_dir-requires-clause-name : goal.create_dir-requires-clause-name
 create_dir-requires-clause-name g c = let reached = subst (IsReached g.D.Device.honest c.reach.new.volume) c.in-Ok-Missing.field-0-is c.in-Ok-Missing.ensures.reached in reached.1

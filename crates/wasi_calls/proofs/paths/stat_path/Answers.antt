@@ -37,120 +37,130 @@ rest_never w at alive r =
     never_after (found r) (λ s. and_then (tree_call w (Ok (entry_stat w.tree s))) (λ bytes. Ok (with_result w at bytes))) (found_never r)
     (λ s _. is_no_err _ (with_result w at (entry_stat w.tree s)) 29 (goes_on _ _ (entry_stat w.tree s) (tree_called_alive w (Ok (entry_stat w.tree s)) alive)))
 
-pub returns-in-Err-clause-finds : goal.returns-in-Err-clause-finds
-returns-in-Err-clause-finds g c = λ h w table shown.
-    let m = c.args.memory.now in
-    refused_first w m (λ v. path_filestat_get v m c.args.fd c.args.path c.args.len c.args.result_at) c.args.volume.now _ shown
-    (entered_row _ _ _ ∙ stops _ _ _ (c.in-Err.ensures.row w table))
+pub returns-in-Err : goal.returns-in-Err
+returns-in-Err g c = record {
+  step = volume_rests g.D.Device.honest g.D.Device.disk g.D.Device.size g.D.Device.failures c.args.volume.now;
+  inside = tt;
+  finds = λ h w table shown.
+      let m = c.args.memory.now in
+      refused_first w m (λ v. path_filestat_get v m c.args.fd c.args.path c.args.len c.args.result_at) c.args.volume.now _ shown
+      (entered_row _ _ _ ∙ stops _ _ _ (c.in-Err.ensures.row w table));
+}
 
-pub returns-in-Err-check_range-clause-finds : goal.returns-in-Err-check_range-clause-finds
-returns-in-Err-check_range-clause-finds g c = λ h w table shown.
-    let m = c.args.memory.now in
-    refused_first w m (λ v. path_filestat_get v m c.args.fd c.args.path c.args.len c.args.result_at) c.args.volume.now _ shown
-    (entered_row _ _ _ ∙ (goes_on _ _ c.in-Ok.entered.0 (c.in-Ok.ensures.row w table) ∙ stops _ _ _ c.in-Err-check_range.ensures.range))
+pub returns-in-Err-check_range : goal.returns-in-Err-check_range
+returns-in-Err-check_range g c = record {
+  step = volume_rests g.D.Device.honest g.D.Device.disk g.D.Device.size g.D.Device.failures c.args.volume.now;
+  inside = tt;
+  finds = λ h w table shown.
+      let m = c.args.memory.now in
+      refused_first w m (λ v. path_filestat_get v m c.args.fd c.args.path c.args.len c.args.result_at) c.args.volume.now _ shown
+      (entered_row _ _ _ ∙ (goes_on _ _ c.in-Ok.entered.0 (c.in-Ok.ensures.row w table) ∙ stops _ _ _ c.in-Err-check_range.ensures.range));
+}
 
 pub reach-requires : goal.reach-requires
 reach-requires g c =
     entry_of g.D.Device.honest c.args.volume.now (table_of c.args.descriptors.now) c.requires c.args.memory.now c.args.fd (2 ^ 18) c.args.path c.args.len c.in-Ok.entered.0 c.in-Ok.ensures.row
 
-pub returns-in-Ok-stat_entry-clause-finds : goal.returns-in-Ok-stat_entry-clause-finds
-returns-in-Ok-stat_entry-clause-finds g c = λ h w table shown.
-    let m = c.args.memory.now in
-    let o = c.in-Ok.entered.0 in
-    let at = c.args.result_at in
-    let old = c.args.volume.now in
-    let new = c.stat_entry.new.volume in
-    let s = c.in-Ok-Found.serial in
-    let walked = c.in-Ok-Found.ensures.works in
-    let k = c.in-Ok-stat_entry.ensures.kept in
-    let working : old.failed ≡ false = was_working g.D.Device.honest g.D.Device.size g.D.Device.failures old c.reach.new.volume false walked.kept refl in
-    let alive : w.volume_failed ≡ false = ap (λ (w : World). w.volume_failed) shown ∙ working in
-    let (told, tree) = c.in-Ok-stat_entry.ensures.answer (walked.kept.honest.0 h) in
-    let bytes = entry_stat w.tree s in
-    let same : c.in-Ok-stat_entry.bytes ≡ bytes = told ∙ (ap (λ (T : _). entry_stat T s) (walked.tree h) ∙ ap (λ (w : World). entry_stat w.tree s) (sym shown)) in
-    let reaches = (c.in-Ok-Found.ensures.reaches h w o refl shown).0 alive in
-    let is : found (reached_as c.in-Ok-Found.field-0) ≡ Ok s = ap (λ (r : ReachedValue). found (reached_as r)) c.in-Ok-Found.field-0-is in (
-      to_rest w m c.args.fd c.args.path c.args.len at o (c.in-Ok.ensures.row w table) c.in_default.ensures.range
-          ∙ (goes_on _ _ (reached_as c.in-Ok-Found.field-0) (ap (walk w o) (sym c.in-Ok.ensures.text) ∙ reaches)
-          ∙ (goes_on _ _ s is ∙ (goes_on _ _ bytes (tree_called_alive w (Ok bytes) alive) ∙ ap (λ (l : List ℕ). Ok (with_result w at l)) (sym same)))),
-      same_volume w m old new shown (k.numbers ∙ walked.kept.numbers) (tree ∙ walked.tree h) (k.failed ∙ sym working),
-    )
+pub returns-in-Ok-stat_entry : goal.returns-in-Ok-stat_entry
+returns-in-Ok-stat_entry g c = record {
+  step = let told = c.in-Ok-stat_entry.ensures in
+      asked_after g.D.Device.honest g.D.Device.disk g.D.Device.size g.D.Device.failures c.args.volume.now c.reach.new.volume c.stat_entry.new.volume _ c.in-Ok-Found.ensures.works (record { tree = λ h. (told.answer h).1; crash = told.crash; kept = told.kept });
+  inside = c.in_default.ensures.inside;
+  finds = λ h w table shown.
+      let m = c.args.memory.now in
+      let o = c.in-Ok.entered.0 in
+      let at = c.args.result_at in
+      let old = c.args.volume.now in
+      let new = c.stat_entry.new.volume in
+      let s = c.in-Ok-Found.serial in
+      let walked = c.in-Ok-Found.ensures.works in
+      let k = c.in-Ok-stat_entry.ensures.kept in
+      let working : old.failed ≡ false = was_working g.D.Device.honest g.D.Device.size g.D.Device.failures old c.reach.new.volume false walked.kept refl in
+      let alive : w.volume_failed ≡ false = ap (λ (w : World). w.volume_failed) shown ∙ working in
+      let (told, tree) = c.in-Ok-stat_entry.ensures.answer (walked.kept.honest.0 h) in
+      let bytes = entry_stat w.tree s in
+      let same : c.in-Ok-stat_entry.bytes ≡ bytes = told ∙ (ap (λ (T : _). entry_stat T s) (walked.tree h) ∙ ap (λ (w : World). entry_stat w.tree s) (sym shown)) in
+      let reaches = (c.in-Ok-Found.ensures.reaches h w o refl shown).0 alive in
+      let is : found (reached_as c.in-Ok-Found.field-0) ≡ Ok s = ap (λ (r : ReachedValue). found (reached_as r)) c.in-Ok-Found.field-0-is in (
+        to_rest w m c.args.fd c.args.path c.args.len at o (c.in-Ok.ensures.row w table) c.in_default.ensures.range
+            ∙ (goes_on _ _ (reached_as c.in-Ok-Found.field-0) (ap (walk w o) (sym c.in-Ok.ensures.text) ∙ reaches)
+            ∙ (goes_on _ _ s is ∙ (goes_on _ _ bytes (tree_called_alive w (Ok bytes) alive) ∙ ap (λ (l : List ℕ). Ok (with_result w at l)) (sym same)))),
+        same_volume w m old new shown (k.numbers ∙ walked.kept.numbers) (tree ∙ walked.tree h) (k.failed ∙ sym working),
+      );
+}
 
-pub returns-in-Err-stat_entry-clause-finds : goal.returns-in-Err-stat_entry-clause-finds
-returns-in-Err-stat_entry-clause-finds g c = λ h w table shown.
-    let m = c.args.memory.now in
-    let o = c.in-Ok.entered.0 in
-    let at = c.args.result_at in
-    let old = c.args.volume.now in
-    let new = c.stat_entry.new.volume in
-    let walked = c.in-Ok-Found.ensures.works in
-    let k = c.in-Err-stat_entry.ensures.kept in
-    let run : World → Checked Done = λ v. path_filestat_get v m c.args.fd c.args.path c.args.len at in
-    let (io, tree) = c.in-Err-stat_entry.ensures.answer (walked.kept.honest.0 h) in
-    let reaches = c.in-Ok-Found.ensures.reaches h w o refl shown in
-    let fails : new.failed ≡ true = k.failed ∙ ap (λ (e : _). is_io {X = List ℕ} (Err e)) io in
-    subst (λ (n : ℕ). Answered run w m (with_volume new w) m n) (sym (c.refused.ensures ∙ ap number_of io))
-    (failed_by w m run old new shown (k.numbers ∙ walked.kept.numbers) (tree ∙ walked.tree h) fails
-    (to_rest (volume_gone w) m c.args.fd c.args.path c.args.len at o (c.in-Ok.ensures.row (volume_gone w) table) c.in_default.ensures.range
-    ∙ stops _ _ 29 (ap (walk (volume_gone w) o) (sym c.in-Ok.ensures.text) ∙ reaches.1))
-    (λ alive is. never_after (path_at w m o c.args.path c.args.len) (of_reached w at)
-    (λ no. ok_no_err _ (reached_as c.in-Ok-Found.field-0) 29 (ap (walk w o) (sym c.in-Ok.ensures.text) ∙ reaches.0 alive) no)
-    (λ r _. rest_never w at alive r)
-    (sym (to_rest w m c.args.fd c.args.path c.args.len at o (c.in-Ok.ensures.row w table) c.in_default.ensures.range) ∙ is)))
+pub returns-in-Err-stat_entry : goal.returns-in-Err-stat_entry
+returns-in-Err-stat_entry g c = record {
+  step = let told = c.in-Err-stat_entry.ensures in
+      asked_after g.D.Device.honest g.D.Device.disk g.D.Device.size g.D.Device.failures c.args.volume.now c.reach.new.volume c.stat_entry.new.volume _ c.in-Ok-Found.ensures.works (record { tree = λ h. (told.answer h).1; crash = told.crash; kept = told.kept });
+  inside = tt;
+  finds = λ h w table shown.
+      let m = c.args.memory.now in
+      let o = c.in-Ok.entered.0 in
+      let at = c.args.result_at in
+      let old = c.args.volume.now in
+      let new = c.stat_entry.new.volume in
+      let walked = c.in-Ok-Found.ensures.works in
+      let k = c.in-Err-stat_entry.ensures.kept in
+      let run : World → Checked Done = λ v. path_filestat_get v m c.args.fd c.args.path c.args.len at in
+      let (io, tree) = c.in-Err-stat_entry.ensures.answer (walked.kept.honest.0 h) in
+      let reaches = c.in-Ok-Found.ensures.reaches h w o refl shown in
+      let fails : new.failed ≡ true = k.failed ∙ ap (λ (e : _). is_io {X = List ℕ} (Err e)) io in
+      subst (λ (n : ℕ). Answered run w m (with_volume new w) m n) (sym (c.refused.ensures ∙ ap number_of io))
+      (failed_by w m run old new shown (k.numbers ∙ walked.kept.numbers) (tree ∙ walked.tree h) fails
+      (to_rest (volume_gone w) m c.args.fd c.args.path c.args.len at o (c.in-Ok.ensures.row (volume_gone w) table) c.in_default.ensures.range
+      ∙ stops _ _ 29 (ap (walk (volume_gone w) o) (sym c.in-Ok.ensures.text) ∙ reaches.1))
+      (λ alive is. never_after (path_at w m o c.args.path c.args.len) (of_reached w at)
+      (λ no. ok_no_err _ (reached_as c.in-Ok-Found.field-0) 29 (ap (walk w o) (sym c.in-Ok.ensures.text) ∙ reaches.0 alive) no)
+      (λ r _. rest_never w at alive r)
+      (sym (to_rest w m c.args.fd c.args.path c.args.len at o (c.in-Ok.ensures.row w table) c.in_default.ensures.range) ∙ is)));
+}
 
-pub returns-in-Ok-Missing-clause-finds : goal.returns-in-Ok-Missing-clause-finds
-returns-in-Ok-Missing-clause-finds g c = λ h w table shown.
-    let m = c.args.memory.now in
-    let o = c.in-Ok.entered.0 in
-    let at = c.args.result_at in
-    let old = c.args.volume.now in
-    let new = c.reach.new.volume in
-    let walked = c.in-Ok-Missing.ensures.works in
-    let working : old.failed ≡ false = was_working g.D.Device.honest g.D.Device.size g.D.Device.failures old new false walked.kept refl in
-    let alive : w.volume_failed ≡ false = ap (λ (w : World). w.volume_failed) shown ∙ working in
-    let reaches = (c.in-Ok-Missing.ensures.reaches h w o refl shown).0 alive in
-    let is : found (reached_as c.in-Ok-Missing.field-0) ≡ Err 44 = ap (λ (r : ReachedValue). found (reached_as r)) c.in-Ok-Missing.field-0-is in
-    refused_by w m (λ v. path_filestat_get v m c.args.fd c.args.path c.args.len at) old new 44 shown walked.kept.numbers (walked.tree h) (walked.kept.failed ∙ sym working)
-    (to_rest w m c.args.fd c.args.path c.args.len at o (c.in-Ok.ensures.row w table) c.in_default.ensures.range
-    ∙ (goes_on _ _ (reached_as c.in-Ok-Missing.field-0) (ap (walk w o) (sym c.in-Ok.ensures.text) ∙ reaches) ∙ stops _ _ 44 is))
+pub returns-in-Ok-Missing : goal.returns-in-Ok-Missing
+returns-in-Ok-Missing g c = record {
+  step = c.in-Ok-Missing.ensures.step;
+  inside = tt;
+  finds = λ h w table shown.
+      let m = c.args.memory.now in
+      let o = c.in-Ok.entered.0 in
+      let at = c.args.result_at in
+      let old = c.args.volume.now in
+      let new = c.reach.new.volume in
+      let walked = c.in-Ok-Missing.ensures.works in
+      let working : old.failed ≡ false = was_working g.D.Device.honest g.D.Device.size g.D.Device.failures old new false walked.kept refl in
+      let alive : w.volume_failed ≡ false = ap (λ (w : World). w.volume_failed) shown ∙ working in
+      let reaches = (c.in-Ok-Missing.ensures.reaches h w o refl shown).0 alive in
+      let is : found (reached_as c.in-Ok-Missing.field-0) ≡ Err 44 = ap (λ (r : ReachedValue). found (reached_as r)) c.in-Ok-Missing.field-0-is in
+      refused_by w m (λ v. path_filestat_get v m c.args.fd c.args.path c.args.len at) old new 44 shown walked.kept.numbers (walked.tree h) (walked.kept.failed ∙ sym working)
+      (to_rest w m c.args.fd c.args.path c.args.len at o (c.in-Ok.ensures.row w table) c.in_default.ensures.range
+      ∙ (goes_on _ _ (reached_as c.in-Ok-Missing.field-0) (ap (walk w o) (sym c.in-Ok.ensures.text) ∙ reaches) ∙ stops _ _ 44 is));
+}
 
-pub returns-in-Err-reach-clause-finds : goal.returns-in-Err-reach-clause-finds
-returns-in-Err-reach-clause-finds g c = λ h w table shown.
-    let m = c.args.memory.now in
-    let o = c.in-Ok.entered.0 in
-    let at = c.args.result_at in
-    let old = c.args.volume.now in
-    let new = c.reach.new.volume in
-    let e = c.in-Err-reach.errno in
-    let run : World → Checked Done = λ v. path_filestat_get v m c.args.fd c.args.path c.args.len at in
-    let goes = λ (v : World) (same : v.table ≡ table_of c.args.descriptors.now). to_rest v m c.args.fd c.args.path c.args.len at o (c.in-Ok.ensures.row v same) c.in_default.ensures.range in
-    let text = λ (v : World). ap (walk v o) (sym c.in-Ok.ensures.text) in
-    subst (λ (n : ℕ). Answered run w m (with_volume new w) m n) (sym c.refused-in-Err-reach.ensures)
-    (elim (c.in-Err-reach.ensures.reaches h w o refl shown) [
-      | inl t ↦ subst (λ (v : _). Answered run w m (with_volume v w) m (number_of e)) (sym t.same)
-          (refused_first w m run old (number_of e) shown (goes w table ∙ stops _ _ _ (text w ∙ t.answer)))
-      | inr r ↦ tree_refuses w m g.D.Device.honest g.D.Device.size g.D.Device.failures ReachedValue run old new e r.kept shown r.tree
-          (λ alive other. goes w table ∙ stops _ _ _ (text w ∙ r.answer alive other))
-          (goes (volume_gone w) table ∙ stops _ _ 29 (text (volume_gone w) ∙ r.gone))
-          (λ alive is. never_after (path_at w m o c.args.path c.args.len) (of_reached w at) (λ no. r.never alive (sym (text w) ∙ no))
-          (λ x _. rest_never w at alive x) (sym (goes w table) ∙ is))
-    ])
-
-pub returns-in-Ok-stat_entry-clause-step : goal.returns-in-Ok-stat_entry-clause-step
-returns-in-Ok-stat_entry-clause-step g c =
-    let told = c.in-Ok-stat_entry.ensures in
-    asked_after g.D.Device.honest g.D.Device.disk g.D.Device.size g.D.Device.failures c.args.volume.now c.reach.new.volume c.stat_entry.new.volume _ c.in-Ok-Found.ensures.works (record { tree = λ h. (told.answer h).1; crash = told.crash; kept = told.kept })
-
-pub returns-in-Err-stat_entry-clause-step : goal.returns-in-Err-stat_entry-clause-step
-returns-in-Err-stat_entry-clause-step g c =
-    let told = c.in-Err-stat_entry.ensures in
-    asked_after g.D.Device.honest g.D.Device.disk g.D.Device.size g.D.Device.failures c.args.volume.now c.reach.new.volume c.stat_entry.new.volume _ c.in-Ok-Found.ensures.works (record { tree = λ h. (told.answer h).1; crash = told.crash; kept = told.kept })
-
-pub returns-in-Err-check_range-clause-step : goal.returns-in-Err-check_range-clause-step
-returns-in-Err-check_range-clause-step g c = volume_rests g.D.Device.honest g.D.Device.disk g.D.Device.size g.D.Device.failures c.args.volume.now
-
-pub returns-in-Err-clause-step : goal.returns-in-Err-clause-step
-returns-in-Err-clause-step g c = volume_rests g.D.Device.honest g.D.Device.disk g.D.Device.size g.D.Device.failures c.args.volume.now
+pub returns-in-Err-reach : goal.returns-in-Err-reach
+returns-in-Err-reach g c = record {
+  step = c.in-Err-reach.ensures.step;
+  inside = tt;
+  finds = λ h w table shown.
+      let m = c.args.memory.now in
+      let o = c.in-Ok.entered.0 in
+      let at = c.args.result_at in
+      let old = c.args.volume.now in
+      let new = c.reach.new.volume in
+      let e = c.in-Err-reach.errno in
+      let run : World → Checked Done = λ v. path_filestat_get v m c.args.fd c.args.path c.args.len at in
+      let goes = λ (v : World) (same : v.table ≡ table_of c.args.descriptors.now). to_rest v m c.args.fd c.args.path c.args.len at o (c.in-Ok.ensures.row v same) c.in_default.ensures.range in
+      let text = λ (v : World). ap (walk v o) (sym c.in-Ok.ensures.text) in
+      subst (λ (n : ℕ). Answered run w m (with_volume new w) m n) (sym c.refused-in-Err-reach.ensures)
+      (elim (c.in-Err-reach.ensures.reaches h w o refl shown) [
+        | inl t ↦ subst (λ (v : _). Answered run w m (with_volume v w) m (number_of e)) (sym t.same)
+            (refused_first w m run old (number_of e) shown (goes w table ∙ stops _ _ _ (text w ∙ t.answer)))
+        | inr r ↦ tree_refuses w m g.D.Device.honest g.D.Device.size g.D.Device.failures ReachedValue run old new e r.kept shown r.tree
+            (λ alive other. goes w table ∙ stops _ _ _ (text w ∙ r.answer alive other))
+            (goes (volume_gone w) table ∙ stops _ _ 29 (text (volume_gone w) ∙ r.gone))
+            (λ alive is. never_after (path_at w m o c.args.path c.args.len) (of_reached w at) (λ no. r.never alive (sym (text w) ∙ no))
+            (λ x _. rest_never w at alive x) (sym (goes w table) ∙ is))
+      ]);
+}
 
 pub stat_entry-requires-clause-last : goal.stat_entry-requires-clause-last
 stat_entry-requires-clause-last g c = let reached = subst (IsReached g.D.Device.honest c.reach.new.volume) c.in-Ok-Found.field-0-is c.in-Ok-Found.ensures.reached in reached.number.last

@@ -16,57 +16,60 @@ use Rattle.wasi_calls.proofs.Volumes.{was_working, same_volume}
 use Rattle.wasi_calls.proofs.Asking.{asked_step}
 use Rattle.wasi_calls.proofs.Positions.{in_table, table_moved}
 use Rattle.wasi_calls.proofs.Telling.{told_bytes, broke_off, done_file, row_file}
+use Rattle.wasi_calls.proofs.Served.{no_more}
 use Rattle.wasi_calls.proofs.reading.read_file.Goals as goal
 
-pub returns-in-Err-clause-step : goal.returns-in-Err-clause-step
-returns-in-Err-clause-step g c = asked_step g.D.Device.honest g.D.Device.disk g.D.Device.size g.D.Device.failures c.args.volume.now c.read_at.new.volume _ c.in-Err.ensures.asked
+pub returns-in-Err : goal.returns-in-Err
+returns-in-Err g c = record {
+  step = asked_step g.D.Device.honest g.D.Device.disk g.D.Device.size g.D.Device.failures c.args.volume.now c.read_at.new.volume _ c.in-Err.ensures.asked;
+  entries = no_more (table_of c.args.descriptors.now);
+  answered = λ h w table shown.
+      let m = c.args.memory.now in
+      let m' = c.read_at.new.memory in
+      let old = c.args.volume.now in
+      let new = c.read_at.new.volume in
+      let o = c.args.opened.now in
+      let fd = c.args.request.now.fd in
+      let bs = list_of (take c.args.request.now.count c.args.room.now) in
+      let result = c.args.request.now.result_at in
+      let (io, mixed) = c.in-Err.ensures.broke h in
+      let asked : Asked g.D.Device.honest g.D.Device.disk g.D.Device.size g.D.Device.failures old new true =
+      subst (λ (e : Errno). Asked g.D.Device.honest g.D.Device.disk g.D.Device.size g.D.Device.failures old new (is_io {X = ℕ} (Err e))) io c.in-Err.ensures.asked in
+      let tree : w.tree ≡ old.tree = ap (λ (w : World). w.tree) shown in
+      let meant = λ (v : World). wanted v.tree o.serial o.position bs in
+      let run = λ (v : World). read_file_to v fd o bs result in
+      subst (λ (n : ℕ). Answered run w m (with_table (table_of c.args.descriptors.now) (with_volume new w)) m' n) (sym (c.refused.ensures ∙ ap number_of io))
+      (in_table run w m (with_volume new w) m' 29 _ table
+      (broke_off g.D.Device.honest g.D.Device.disk g.D.Device.size g.D.Device.failures w m run meant (done_file fd o bs result) old new shown (row_file fd o bs result)
+      h asked m' c.in-Err.ensures.idle (subst (λ (T : Tree). IsMixed m (received m (wanted T o.serial o.position bs) bs) m') (sym tree) mixed)));
+}
 
-pub returns-in-Ok-clause-answered : goal.returns-in-Ok-clause-answered
-returns-in-Ok-clause-answered g c = λ h w table shown.
-    let m = c.args.memory.now in
-    let old = c.args.volume.now in
-    let new = c.read_at.new.volume in
-    let o = c.args.opened.now in
-    let fd = c.args.request.now.fd in
-    let bs = list_of (take c.args.request.now.count c.args.room.now) in
-    let result = c.args.request.now.result_at in
-    let asked = c.in-Ok.ensures.asked in
-    let working : old.failed ≡ false = was_working g.D.Device.honest g.D.Device.size g.D.Device.failures old new false asked.kept refl in
-    let (count, bytes) = c.in-Ok.ensures.read h in
-    let meant = λ (v : World). wanted v.tree o.serial o.position bs in
-    let all : wanted old.tree o.serial o.position bs ≡ meant w = ap (λ (w : World). meant w) (sym shown) in
-    let so_many : c.in-Ok.len ≡ length (meant w) = count ∙ ap (λ (xs : List ℕ). length xs) all in
-    let tables : table_of c.move_to.new.descriptors ≡ with_at fd (moved_to o (o.position + length (meant w))) w.table =
-    table_moved fd (moved_to o _) (table_of c.args.descriptors.now) (table_of c.move_to.new.descriptors) w.table c.move_to.ensures.moved table
-    ∙ ap (λ (n : ℕ). with_at fd (moved_to o (o.position + n)) w.table) (c.from.ensures ∙ so_many) in
-    let same : with_volume new w ≡ w = same_volume w m old new shown asked.kept.numbers (asked.tree h) (asked.kept.failed ∙ sym working) in
-    told_bytes g.D.Device.honest g.D.Device.disk g.D.Device.size g.D.Device.failures w m (λ v. read_file_to v fd o bs result) meant (done_file fd o bs result) old new shown (row_file fd o bs result)
-    asked (with_table (table_of c.move_to.new.descriptors) (with_volume new w)) c.write_bytes.new.memory
-    (λ i. with_table (tables i) (same i))
-    (c.write_bytes.ensures.bytes
-    ∙ ((λ i. written (bytes i) result (c.le32.ensures i))
-    ∙ (λ i. written (received m (all i) bs) result (little_bytes 4 (so_many i)))))
-
-pub returns-in-Err-clause-answered : goal.returns-in-Err-clause-answered
-returns-in-Err-clause-answered g c = λ h w table shown.
-    let m = c.args.memory.now in
-    let m' = c.read_at.new.memory in
-    let old = c.args.volume.now in
-    let new = c.read_at.new.volume in
-    let o = c.args.opened.now in
-    let fd = c.args.request.now.fd in
-    let bs = list_of (take c.args.request.now.count c.args.room.now) in
-    let result = c.args.request.now.result_at in
-    let (io, mixed) = c.in-Err.ensures.broke h in
-    let asked : Asked g.D.Device.honest g.D.Device.disk g.D.Device.size g.D.Device.failures old new true =
-    subst (λ (e : Errno). Asked g.D.Device.honest g.D.Device.disk g.D.Device.size g.D.Device.failures old new (is_io {X = ℕ} (Err e))) io c.in-Err.ensures.asked in
-    let tree : w.tree ≡ old.tree = ap (λ (w : World). w.tree) shown in
-    let meant = λ (v : World). wanted v.tree o.serial o.position bs in
-    let run = λ (v : World). read_file_to v fd o bs result in
-    subst (λ (n : ℕ). Answered run w m (with_table (table_of c.args.descriptors.now) (with_volume new w)) m' n) (sym (c.refused.ensures ∙ ap number_of io))
-    (in_table run w m (with_volume new w) m' 29 _ table
-    (broke_off g.D.Device.honest g.D.Device.disk g.D.Device.size g.D.Device.failures w m run meant (done_file fd o bs result) old new shown (row_file fd o bs result)
-    h asked m' c.in-Err.ensures.idle (subst (λ (T : Tree). IsMixed m (received m (wanted T o.serial o.position bs) bs) m') (sym tree) mixed)))
-
-pub returns-in-Ok-clause-step : goal.returns-in-Ok-clause-step
-returns-in-Ok-clause-step g c = asked_step g.D.Device.honest g.D.Device.disk g.D.Device.size g.D.Device.failures c.args.volume.now c.read_at.new.volume _ c.in-Ok.ensures.asked
+pub returns-in-Ok : goal.returns-in-Ok
+returns-in-Ok g c = record {
+  step = asked_step g.D.Device.honest g.D.Device.disk g.D.Device.size g.D.Device.failures c.args.volume.now c.read_at.new.volume _ c.in-Ok.ensures.asked;
+  entries = c.move_to.ensures.entries;
+  answered = λ h w table shown.
+      let m = c.args.memory.now in
+      let old = c.args.volume.now in
+      let new = c.read_at.new.volume in
+      let o = c.args.opened.now in
+      let fd = c.args.request.now.fd in
+      let bs = list_of (take c.args.request.now.count c.args.room.now) in
+      let result = c.args.request.now.result_at in
+      let asked = c.in-Ok.ensures.asked in
+      let working : old.failed ≡ false = was_working g.D.Device.honest g.D.Device.size g.D.Device.failures old new false asked.kept refl in
+      let (count, bytes) = c.in-Ok.ensures.read h in
+      let meant = λ (v : World). wanted v.tree o.serial o.position bs in
+      let all : wanted old.tree o.serial o.position bs ≡ meant w = ap (λ (w : World). meant w) (sym shown) in
+      let so_many : c.in-Ok.len ≡ length (meant w) = count ∙ ap (λ (xs : List ℕ). length xs) all in
+      let tables : table_of c.move_to.new.descriptors ≡ with_at fd (moved_to o (o.position + length (meant w))) w.table =
+      table_moved fd (moved_to o _) (table_of c.args.descriptors.now) (table_of c.move_to.new.descriptors) w.table c.move_to.ensures.moved table
+      ∙ ap (λ (n : ℕ). with_at fd (moved_to o (o.position + n)) w.table) (c.from.ensures ∙ so_many) in
+      let same : with_volume new w ≡ w = same_volume w m old new shown asked.kept.numbers (asked.tree h) (asked.kept.failed ∙ sym working) in
+      told_bytes g.D.Device.honest g.D.Device.disk g.D.Device.size g.D.Device.failures w m (λ v. read_file_to v fd o bs result) meant (done_file fd o bs result) old new shown (row_file fd o bs result)
+      asked (with_table (table_of c.move_to.new.descriptors) (with_volume new w)) c.write_bytes.new.memory
+      (λ i. with_table (tables i) (same i))
+      (c.write_bytes.ensures.bytes
+      ∙ ((λ i. written (bytes i) result (c.le32.ensures i))
+      ∙ (λ i. written (received m (all i) bs) result (little_bytes 4 (so_many i)))));
+}

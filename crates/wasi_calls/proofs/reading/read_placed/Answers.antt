@@ -17,52 +17,52 @@ use Rattle.wasi_calls.proofs.Asking.{asked_step}
 use Rattle.wasi_calls.proofs.Telling.{told_bytes, broke_off}
 use Rattle.wasi_calls.proofs.reading.read_placed.Goals as goal
 
-pub returns-in-Err-clause-step : goal.returns-in-Err-clause-step
-returns-in-Err-clause-step g c = asked_step g.D.Device.honest g.D.Device.disk g.D.Device.size g.D.Device.failures c.args.volume.now c.read_at.new.volume _ c.in-Err.ensures.asked
+pub returns-in-Err : goal.returns-in-Err
+returns-in-Err g c = record {
+  step = asked_step g.D.Device.honest g.D.Device.disk g.D.Device.size g.D.Device.failures c.args.volume.now c.read_at.new.volume _ c.in-Err.ensures.asked;
+  answered = λ h w shown.
+      let m = c.args.memory.now in
+      let m' = c.read_at.new.memory in
+      let old = c.args.volume.now in
+      let new = c.read_at.new.volume in
+      let o = c.args.opened.now in
+      let from = c.args.from in
+      let bs = list_of (take c.args.request.now.count c.args.room.now) in
+      let result = c.args.request.now.result_at in
+      let (io, mixed) = c.in-Err.ensures.broke h in
+      let asked : Asked g.D.Device.honest g.D.Device.disk g.D.Device.size g.D.Device.failures old new true =
+      subst (λ (e : Errno). Asked g.D.Device.honest g.D.Device.disk g.D.Device.size g.D.Device.failures old new (is_io {X = ℕ} (Err e))) io c.in-Err.ensures.asked in
+      let tree : w.tree ≡ old.tree = ap (λ (w : World). w.tree) shown in
+      let meant = λ (v : World). wanted v.tree o.serial from bs in
+      subst (λ (n : ℕ). Answered (λ v. read_into v o from bs result) w m (with_volume new w) m' n) (sym (c.refused.ensures ∙ ap number_of io))
+      (broke_off g.D.Device.honest g.D.Device.disk g.D.Device.size g.D.Device.failures w m (λ v. read_into v o from bs result) meant
+      (λ v xs. record { world = v; fills = scattered xs bs; results = (result, little_bytes 4 (length xs)) ∷ [] }) old new shown (λ u. refl)
+      h asked m' c.in-Err.ensures.idle (subst (λ (T : Tree). IsMixed m (received m (wanted T o.serial from bs) bs) m') (sym tree) mixed));
+}
 
-pub returns-in-Ok-clause-answered : goal.returns-in-Ok-clause-answered
-returns-in-Ok-clause-answered g c = λ h w shown.
-    let m = c.args.memory.now in
-    let old = c.args.volume.now in
-    let new = c.read_at.new.volume in
-    let o = c.args.opened.now in
-    let from = c.args.from in
-    let bs = list_of (take c.args.request.now.count c.args.room.now) in
-    let result = c.args.request.now.result_at in
-    let asked = c.in-Ok.ensures.asked in
-    let working : old.failed ≡ false = was_working g.D.Device.honest g.D.Device.size g.D.Device.failures old new false asked.kept refl in
-    let (count, bytes) = c.in-Ok.ensures.read h in
-    let tree : w.tree ≡ old.tree = ap (λ (w : World). w.tree) shown in
-    let meant = λ (v : World). wanted v.tree o.serial from bs in
-    let all : wanted old.tree o.serial from bs ≡ meant w = ap (λ (T : Tree). wanted T o.serial from bs) (sym tree) in
-    let so_many : c.in-Ok.len ≡ length (meant w) = count ∙ ap (λ (xs : List ℕ). length xs) all in
-    told_bytes g.D.Device.honest g.D.Device.disk g.D.Device.size g.D.Device.failures w m (λ v. read_into v o from bs result) meant
-    (λ v xs. record { world = v; fills = scattered xs bs; results = (result, little_bytes 4 (length xs)) ∷ [] }) old new shown (λ u. refl)
-    asked (with_volume new w) c.write_bytes.new.memory
-    (same_volume w m old new shown asked.kept.numbers (asked.tree h) (asked.kept.failed ∙ sym working))
-    (c.write_bytes.ensures.bytes
-    ∙ ((λ i. written (bytes i) result (c.le32.ensures i))
-    ∙ (λ i. written (received m (all i) bs) result (little_bytes 4 (so_many i)))))
-
-pub returns-in-Err-clause-answered : goal.returns-in-Err-clause-answered
-returns-in-Err-clause-answered g c = λ h w shown.
-    let m = c.args.memory.now in
-    let m' = c.read_at.new.memory in
-    let old = c.args.volume.now in
-    let new = c.read_at.new.volume in
-    let o = c.args.opened.now in
-    let from = c.args.from in
-    let bs = list_of (take c.args.request.now.count c.args.room.now) in
-    let result = c.args.request.now.result_at in
-    let (io, mixed) = c.in-Err.ensures.broke h in
-    let asked : Asked g.D.Device.honest g.D.Device.disk g.D.Device.size g.D.Device.failures old new true =
-    subst (λ (e : Errno). Asked g.D.Device.honest g.D.Device.disk g.D.Device.size g.D.Device.failures old new (is_io {X = ℕ} (Err e))) io c.in-Err.ensures.asked in
-    let tree : w.tree ≡ old.tree = ap (λ (w : World). w.tree) shown in
-    let meant = λ (v : World). wanted v.tree o.serial from bs in
-    subst (λ (n : ℕ). Answered (λ v. read_into v o from bs result) w m (with_volume new w) m' n) (sym (c.refused.ensures ∙ ap number_of io))
-    (broke_off g.D.Device.honest g.D.Device.disk g.D.Device.size g.D.Device.failures w m (λ v. read_into v o from bs result) meant
-    (λ v xs. record { world = v; fills = scattered xs bs; results = (result, little_bytes 4 (length xs)) ∷ [] }) old new shown (λ u. refl)
-    h asked m' c.in-Err.ensures.idle (subst (λ (T : Tree). IsMixed m (received m (wanted T o.serial from bs) bs) m') (sym tree) mixed))
-
-pub returns-in-Ok-clause-step : goal.returns-in-Ok-clause-step
-returns-in-Ok-clause-step g c = asked_step g.D.Device.honest g.D.Device.disk g.D.Device.size g.D.Device.failures c.args.volume.now c.read_at.new.volume _ c.in-Ok.ensures.asked
+pub returns-in-Ok : goal.returns-in-Ok
+returns-in-Ok g c = record {
+  step = asked_step g.D.Device.honest g.D.Device.disk g.D.Device.size g.D.Device.failures c.args.volume.now c.read_at.new.volume _ c.in-Ok.ensures.asked;
+  answered = λ h w shown.
+      let m = c.args.memory.now in
+      let old = c.args.volume.now in
+      let new = c.read_at.new.volume in
+      let o = c.args.opened.now in
+      let from = c.args.from in
+      let bs = list_of (take c.args.request.now.count c.args.room.now) in
+      let result = c.args.request.now.result_at in
+      let asked = c.in-Ok.ensures.asked in
+      let working : old.failed ≡ false = was_working g.D.Device.honest g.D.Device.size g.D.Device.failures old new false asked.kept refl in
+      let (count, bytes) = c.in-Ok.ensures.read h in
+      let tree : w.tree ≡ old.tree = ap (λ (w : World). w.tree) shown in
+      let meant = λ (v : World). wanted v.tree o.serial from bs in
+      let all : wanted old.tree o.serial from bs ≡ meant w = ap (λ (T : Tree). wanted T o.serial from bs) (sym tree) in
+      let so_many : c.in-Ok.len ≡ length (meant w) = count ∙ ap (λ (xs : List ℕ). length xs) all in
+      told_bytes g.D.Device.honest g.D.Device.disk g.D.Device.size g.D.Device.failures w m (λ v. read_into v o from bs result) meant
+      (λ v xs. record { world = v; fills = scattered xs bs; results = (result, little_bytes 4 (length xs)) ∷ [] }) old new shown (λ u. refl)
+      asked (with_volume new w) c.write_bytes.new.memory
+      (same_volume w m old new shown asked.kept.numbers (asked.tree h) (asked.kept.failed ∙ sym working))
+      (c.write_bytes.ensures.bytes
+      ∙ ((λ i. written (bytes i) result (c.le32.ensures i))
+      ∙ (λ i. written (received m (all i) bs) result (little_bytes 4 (so_many i)))));
+}

@@ -28,55 +28,79 @@ checked_never kind w s =
     never_after (guard (is_kind kind (directory_at w.tree s)) (other_kind kind)) (λ _. and_then (guard (not (held_open w s)) 10) (λ _. Ok s)) (never_guard _ _ (other_never kind))
     (λ _ _. never_after (guard (not (held_open w s)) 10) (λ _. Ok s) (never_guard _ 10 (λ is. absurd (omega (arith, is)))) (λ _ _ is. cc))
 
-pub returns-in-Err-clause-asks : goal.returns-in-Err-clause-asks
-returns-in-Err-clause-asks g c = λ h w table shown.
-    ends_part w (λ v. found_at v c.args.memory.now c.args.fd (bits_of c.args.rights) c.args.path c.args.len) (checked c.args.kind) c.find.new.volume _
-    (λ alive s. checked_never c.args.kind w s) (c.in-Err.ensures.asks h w table shown)
+pub returns-in-Err : goal.returns-in-Err
+returns-in-Err g c = record {
+  step = c.in-Err.ensures.step;
+  works = tt;
+  entry = tt;
+  kind = λ h. tt;
+  asks = λ h w table shown.
+      ends_part w (λ v. found_at v c.args.memory.now c.args.fd (bits_of c.args.rights) c.args.path c.args.len) (checked c.args.kind) c.find.new.volume _
+      (λ alive s. checked_never c.args.kind w s) (c.in-Err.ensures.asks h w table shown);
+}
 
-pub returns-in-Err-is_directory-clause-asks : goal.returns-in-Err-is_directory-clause-asks
-returns-in-Err-is_directory-clause-asks g c = λ h w table shown.
-    let part = λ (v : World). found_at v c.args.memory.now c.args.fd (bits_of c.args.rights) c.args.path c.args.len in
-    let passes = c.in-Ok.ensures.asks h w table shown in
-    let between = c.find.new.volume in
-    let new = c.is_directory.new.volume in
-    let now = c.in-Ok.ensures.works.kept.honest.0 h in
-    let io = c.in-Err-is_directory.ensures.told now in
-    let asked : Asked g.D.Device.honest g.D.Device.disk g.D.Device.size g.D.Device.failures between new true =
-    subst (Asked g.D.Device.honest g.D.Device.disk g.D.Device.size g.D.Device.failures between new) (ap (λ (e : _). is_io {X = Bool} (Err e)) io) c.in-Err-is_directory.ensures.asked in
-    subst (λ (n : ℕ). Stops (λ v. removable c.args.kind v c.args.memory.now c.args.fd (bits_of c.args.rights) c.args.path c.args.len) w new n)
-    (sym (c.refused.ensures ∙ ap number_of io))
-    (fails_on w part (checked c.args.kind) between c.in-Ok.serial passes new
-    (asked_gone g.D.Device.honest g.D.Device.disk g.D.Device.size g.D.Device.failures w between new (sym passes.same) now asked)
-    (checked_never c.args.kind w c.in-Ok.serial))
+pub returns-in-Err-is_directory : goal.returns-in-Err-is_directory
+returns-in-Err-is_directory g c = record {
+  step = asked_after g.D.Device.honest g.D.Device.disk g.D.Device.size g.D.Device.failures c.args.volume.now c.find.new.volume c.is_directory.new.volume _ c.in-Ok.ensures.works c.in-Err-is_directory.ensures.asked;
+  works = tt;
+  entry = tt;
+  kind = λ h. tt;
+  asks = λ h w table shown.
+      let part = λ (v : World). found_at v c.args.memory.now c.args.fd (bits_of c.args.rights) c.args.path c.args.len in
+      let passes = c.in-Ok.ensures.asks h w table shown in
+      let between = c.find.new.volume in
+      let new = c.is_directory.new.volume in
+      let now = c.in-Ok.ensures.works.kept.honest.0 h in
+      let io = c.in-Err-is_directory.ensures.told now in
+      let asked : Asked g.D.Device.honest g.D.Device.disk g.D.Device.size g.D.Device.failures between new true =
+      subst (Asked g.D.Device.honest g.D.Device.disk g.D.Device.size g.D.Device.failures between new) (ap (λ (e : _). is_io {X = Bool} (Err e)) io) c.in-Err-is_directory.ensures.asked in
+      subst (λ (n : ℕ). Stops (λ v. removable c.args.kind v c.args.memory.now c.args.fd (bits_of c.args.rights) c.args.path c.args.len) w new n)
+      (sym (c.refused.ensures ∙ ap number_of io))
+      (fails_on w part (checked c.args.kind) between c.in-Ok.serial passes new
+      (asked_gone g.D.Device.honest g.D.Device.disk g.D.Device.size g.D.Device.failures w between new (sym passes.same) now asked)
+      (checked_never c.args.kind w c.in-Ok.serial));
+}
 
-pub returns-in-Err-check_kind-clause-asks : goal.returns-in-Err-check_kind-clause-asks
-returns-in-Err-check_kind-clause-asks g c = λ h w table shown.
-    let part = λ (v : World). found_at v c.args.memory.now c.args.fd (bits_of c.args.rights) c.args.path c.args.len in
-    let passes = c.in-Ok.ensures.asks h w table shown in
-    let between = c.find.new.volume in
-    let new = c.is_directory.new.volume in
-    let s = c.in-Ok.serial in
-    let now = c.in-Ok.ensures.works.kept.honest.0 h in
-    let told : directory_at w.tree s ≡ c.in-Ok-is_directory.is_directory = ap (λ (v : World). directory_at v.tree s) (sym passes.same) ∙ sym (c.in-Ok-is_directory.ensures.told now) in
-    let (other, number) = c.in-Err-check_kind.ensures in
-    subst (λ (n : ℕ). Stops (λ v. removable c.args.kind v c.args.memory.now c.args.fd (bits_of c.args.rights) c.args.path c.args.len) w new n) (sym number)
-    (refuses_on w part (checked c.args.kind) between s passes new (other_kind c.args.kind)
-    (asked_same g.D.Device.honest g.D.Device.disk g.D.Device.size g.D.Device.failures w between new (sym passes.same) passes.working now c.in-Ok-is_directory.ensures.asked)
-    (stops _ _ _ (guard_fails _ _ (ap (is_kind c.args.kind) told ∙ other))))
+pub returns-in-Err-check_kind : goal.returns-in-Err-check_kind
+returns-in-Err-check_kind g c = record {
+  step = asked_after g.D.Device.honest g.D.Device.disk g.D.Device.size g.D.Device.failures c.args.volume.now c.find.new.volume c.is_directory.new.volume _ c.in-Ok.ensures.works c.in-Ok-is_directory.ensures.asked;
+  works = tt;
+  entry = tt;
+  kind = λ h. tt;
+  asks = λ h w table shown.
+      let part = λ (v : World). found_at v c.args.memory.now c.args.fd (bits_of c.args.rights) c.args.path c.args.len in
+      let passes = c.in-Ok.ensures.asks h w table shown in
+      let between = c.find.new.volume in
+      let new = c.is_directory.new.volume in
+      let s = c.in-Ok.serial in
+      let now = c.in-Ok.ensures.works.kept.honest.0 h in
+      let told : directory_at w.tree s ≡ c.in-Ok-is_directory.is_directory = ap (λ (v : World). directory_at v.tree s) (sym passes.same) ∙ sym (c.in-Ok-is_directory.ensures.told now) in
+      let (other, number) = c.in-Err-check_kind.ensures in
+      subst (λ (n : ℕ). Stops (λ v. removable c.args.kind v c.args.memory.now c.args.fd (bits_of c.args.rights) c.args.path c.args.len) w new n) (sym number)
+      (refuses_on w part (checked c.args.kind) between s passes new (other_kind c.args.kind)
+      (asked_same g.D.Device.honest g.D.Device.disk g.D.Device.size g.D.Device.failures w between new (sym passes.same) passes.working now c.in-Ok-is_directory.ensures.asked)
+      (stops _ _ _ (guard_fails _ _ (ap (is_kind c.args.kind) told ∙ other))));
+}
 
-pub returns-then-is_held-clause-asks : goal.returns-then-is_held-clause-asks
-returns-then-is_held-clause-asks g c = λ h w table shown.
-    let part = λ (v : World). found_at v c.args.memory.now c.args.fd (bits_of c.args.rights) c.args.path c.args.len in
-    let passes = c.in-Ok.ensures.asks h w table shown in
-    let between = c.find.new.volume in
-    let new = c.is_directory.new.volume in
-    let s = c.in-Ok.serial in
-    let now = c.in-Ok.ensures.works.kept.honest.0 h in
-    let told : directory_at w.tree s ≡ c.in-Ok-is_directory.is_directory = ap (λ (v : World). directory_at v.tree s) (sym passes.same) ∙ sym (c.in-Ok-is_directory.ensures.told now) in
-    let held : held_open w s ≡ true = sym (c.is_held.ensures w table) ∙ c.if-is_held.true in
-    refuses_on w part (checked c.args.kind) between s passes new 10
-    (asked_same g.D.Device.honest g.D.Device.disk g.D.Device.size g.D.Device.failures w between new (sym passes.same) passes.working now c.in-Ok-is_directory.ensures.asked)
-    (goes_on _ _ tt (guard_passes _ _ (ap (is_kind c.args.kind) told ∙ c.in_default.ensures)) ∙ stops _ _ 10 (guard_fails _ 10 (ap not held)))
+pub returns-then-is_held : goal.returns-then-is_held
+returns-then-is_held g c = record {
+  step = asked_after g.D.Device.honest g.D.Device.disk g.D.Device.size g.D.Device.failures c.args.volume.now c.find.new.volume c.is_directory.new.volume _ c.in-Ok.ensures.works c.in-Ok-is_directory.ensures.asked;
+  works = tt;
+  entry = tt;
+  kind = λ h. tt;
+  asks = λ h w table shown.
+      let part = λ (v : World). found_at v c.args.memory.now c.args.fd (bits_of c.args.rights) c.args.path c.args.len in
+      let passes = c.in-Ok.ensures.asks h w table shown in
+      let between = c.find.new.volume in
+      let new = c.is_directory.new.volume in
+      let s = c.in-Ok.serial in
+      let now = c.in-Ok.ensures.works.kept.honest.0 h in
+      let told : directory_at w.tree s ≡ c.in-Ok-is_directory.is_directory = ap (λ (v : World). directory_at v.tree s) (sym passes.same) ∙ sym (c.in-Ok-is_directory.ensures.told now) in
+      let held : held_open w s ≡ true = sym (c.is_held.ensures w table) ∙ c.if-is_held.true in
+      refuses_on w part (checked c.args.kind) between s passes new 10
+      (asked_same g.D.Device.honest g.D.Device.disk g.D.Device.size g.D.Device.failures w between new (sym passes.same) passes.working now c.in-Ok-is_directory.ensures.asked)
+      (goes_on _ _ tt (guard_passes _ _ (ap (is_kind c.args.kind) told ∙ c.in_default.ensures)) ∙ stops _ _ 10 (guard_fails _ 10 (ap not held)));
+}
 
 pub returns-clause-asks : goal.returns-clause-asks
 returns-clause-asks g c = λ h w table shown.
@@ -92,17 +116,8 @@ returns-clause-asks g c = λ h w table shown.
     (asked_same g.D.Device.honest g.D.Device.disk g.D.Device.size g.D.Device.failures w between new (sym passes.same) passes.working now c.in-Ok-is_directory.ensures.asked)
     (goes_on _ _ tt (guard_passes _ _ (ap (is_kind c.args.kind) told ∙ c.in_default.ensures)) ∙ goes_on _ _ tt (guard_passes _ 10 (ap not free)))
 
-pub returns-in-Err-check_kind-clause-step : goal.returns-in-Err-check_kind-clause-step
-returns-in-Err-check_kind-clause-step g c = asked_after g.D.Device.honest g.D.Device.disk g.D.Device.size g.D.Device.failures c.args.volume.now c.find.new.volume c.is_directory.new.volume _ c.in-Ok.ensures.works c.in-Ok-is_directory.ensures.asked
-
-pub returns-then-is_held-clause-step : goal.returns-then-is_held-clause-step
-returns-then-is_held-clause-step g c = asked_after g.D.Device.honest g.D.Device.disk g.D.Device.size g.D.Device.failures c.args.volume.now c.find.new.volume c.is_directory.new.volume _ c.in-Ok.ensures.works c.in-Ok-is_directory.ensures.asked
-
 pub returns-clause-step : goal.returns-clause-step
 returns-clause-step g c = asked_after g.D.Device.honest g.D.Device.disk g.D.Device.size g.D.Device.failures c.args.volume.now c.find.new.volume c.is_directory.new.volume _ c.in-Ok.ensures.works c.in-Ok-is_directory.ensures.asked
-
-pub returns-in-Err-is_directory-clause-step : goal.returns-in-Err-is_directory-clause-step
-returns-in-Err-is_directory-clause-step g c = asked_after g.D.Device.honest g.D.Device.disk g.D.Device.size g.D.Device.failures c.args.volume.now c.find.new.volume c.is_directory.new.volume _ c.in-Ok.ensures.works c.in-Err-is_directory.ensures.asked
 
 pub returns-clause-works : goal.returns-clause-works
 returns-clause-works g c = works_on g.D.Device.honest g.D.Device.disk g.D.Device.size g.D.Device.failures c.args.volume.now c.find.new.volume c.is_directory.new.volume c.in-Ok.ensures.works c.in-Ok-is_directory.ensures.asked

@@ -21,22 +21,23 @@ returns-in-Ok-clause-checks g c = λ h w table alive shown.
     (asked_same g.D.Device.honest g.D.Device.disk g.D.Device.size g.D.Device.failures w old new shown alive h c.in-Ok.ensures.asked)
     c.check_replace.ensures
 
-pub returns-in-Err-clause-checks : goal.returns-in-Err-clause-checks
-returns-in-Err-clause-checks g c = λ h w table alive shown.
-    let old = c.args.volume.now in
-    let new = c.ask_facts.new.volume in
-    let io = c.in-Err.ensures.told h in
-    let asked : Asked g.D.Device.honest g.D.Device.disk g.D.Device.size g.D.Device.failures old new true =
-    subst (Asked g.D.Device.honest g.D.Device.disk g.D.Device.size g.D.Device.failures old new) (ap (λ (e : _). is_io {X = Facts} (Err e)) io) c.in-Err.ensures.asked in
-    subst (λ (n : ℕ). StopsNext (λ v. replace_row v c.args.source c.args.target) w new n) (sym (c.refused.ensures ∙ ap number_of io))
-    (inr (record {
-      answer = refl;
-      never = replace_never (facts_of w.tree c.args.source c.args.target) (held_open w c.args.target);
-      after = asked_gone g.D.Device.honest g.D.Device.disk g.D.Device.size g.D.Device.failures w old new shown h asked;
-    }))
+pub returns-in-Err : goal.returns-in-Err
+returns-in-Err g c = record {
+  step = asked_step g.D.Device.honest g.D.Device.disk g.D.Device.size g.D.Device.failures c.args.volume.now c.ask_facts.new.volume _ c.in-Err.ensures.asked;
+  asked = tt;
+  checks = λ h w table alive shown.
+      let old = c.args.volume.now in
+      let new = c.ask_facts.new.volume in
+      let io = c.in-Err.ensures.told h in
+      let asked : Asked g.D.Device.honest g.D.Device.disk g.D.Device.size g.D.Device.failures old new true =
+      subst (Asked g.D.Device.honest g.D.Device.disk g.D.Device.size g.D.Device.failures old new) (ap (λ (e : _). is_io {X = Facts} (Err e)) io) c.in-Err.ensures.asked in
+      subst (λ (n : ℕ). StopsNext (λ v. replace_row v c.args.source c.args.target) w new n) (sym (c.refused.ensures ∙ ap number_of io))
+      (inr (record {
+        answer = refl;
+        never = replace_never (facts_of w.tree c.args.source c.args.target) (held_open w c.args.target);
+        after = asked_gone g.D.Device.honest g.D.Device.disk g.D.Device.size g.D.Device.failures w old new shown h asked;
+      }));
+}
 
 pub returns-in-Ok-clause-step : goal.returns-in-Ok-clause-step
 returns-in-Ok-clause-step g c = asked_step g.D.Device.honest g.D.Device.disk g.D.Device.size g.D.Device.failures c.args.volume.now c.ask_facts.new.volume _ c.in-Ok.ensures.asked
-
-pub returns-in-Err-clause-step : goal.returns-in-Err-clause-step
-returns-in-Err-clause-step g c = asked_step g.D.Device.honest g.D.Device.disk g.D.Device.size g.D.Device.failures c.args.volume.now c.ask_facts.new.volume _ c.in-Err.ensures.asked

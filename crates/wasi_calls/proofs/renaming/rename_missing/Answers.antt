@@ -1,5 +1,5 @@
 use Rattle.std.proofs.Common.{◌≡◌, ◌||◌, not, ℕ, Bool, true, Err, refl, sym, ◌∙◌, ap, subst, inl, inr}
-use Rattle.vol_tree.specs.Tree.{Tree}
+use Rattle.vol_tree.specs.Tree.{Tree, IsDirectory}
 use Rattle.vol_tree.specs.Calls.{renamed, directory_at}
 use Rattle.vol_tree.specs.Numbers.{number_of}
 use Rattle.vol_tree.specs.Opened.{is_io}
@@ -9,35 +9,41 @@ use Rattle.wasi_calls.specs.Paths.{rename_to}
 use Rattle.path_walk.specs.Walk.{Asked}
 use Rattle.wasi_calls.specs.internal.Asking.{StopsNext}
 use Rattle.wasi_calls.proofs.Volumes.{steps_after, steps}
-use Rattle.wasi_calls.proofs.Asking.{asked_works, asked_same, asked_gone, asked_step}
+use Rattle.wasi_calls.proofs.Asking.{asked_works, asked_same, asked_gone, asked_step, entry_still}
 use Rattle.wasi_calls.proofs.Renames.{missing_refused, missing_done, missing_never, renames_ok, renames_err}
 use Rattle.wasi_calls.proofs.renaming.rename_missing.Goals as goal
 
-pub returns-in-Err-clause-renames : goal.returns-in-Err-clause-renames
-returns-in-Err-clause-renames g c = λ h w alive shown.
-    let old = c.args.volume.now in
-    let new = c.is_directory.new.volume in
-    let io = c.in-Err.ensures.told h in
-    let asked : Asked g.D.Device.honest g.D.Device.disk g.D.Device.size g.D.Device.failures old new true =
-    subst (Asked g.D.Device.honest g.D.Device.disk g.D.Device.size g.D.Device.failures old new) (ap (λ (e : _). is_io {X = Bool} (Err e)) io) c.in-Err.ensures.asked in
-    subst (λ (n : ℕ). StopsNext (λ v. rename_to v c.args.source c.args.slash (Missing c.args.parent c.args.name.now)) w new n) (sym (c.refused.ensures ∙ ap number_of io))
-    (inr (record {
-      answer = refl;
-      never = missing_never w c.args.source c.args.parent c.args.slash c.args.name.now alive;
-      after = asked_gone g.D.Device.honest g.D.Device.disk g.D.Device.size g.D.Device.failures w old new shown h asked;
-    }))
+pub returns-in-Err : goal.returns-in-Err
+returns-in-Err g c = record {
+  step = asked_step g.D.Device.honest g.D.Device.disk g.D.Device.size g.D.Device.failures c.args.volume.now c.is_directory.new.volume _ c.in-Err.ensures.asked;
+  renames = λ h w alive shown.
+      let old = c.args.volume.now in
+      let new = c.is_directory.new.volume in
+      let io = c.in-Err.ensures.told h in
+      let asked : Asked g.D.Device.honest g.D.Device.disk g.D.Device.size g.D.Device.failures old new true =
+      subst (Asked g.D.Device.honest g.D.Device.disk g.D.Device.size g.D.Device.failures old new) (ap (λ (e : _). is_io {X = Bool} (Err e)) io) c.in-Err.ensures.asked in
+      subst (λ (n : ℕ). StopsNext (λ v. rename_to v c.args.source c.args.slash (Missing c.args.parent c.args.name.now)) w new n) (sym (c.refused.ensures ∙ ap number_of io))
+      (inr (record {
+        answer = refl;
+        never = missing_never w c.args.source c.args.parent c.args.slash c.args.name.now alive;
+        after = asked_gone g.D.Device.honest g.D.Device.disk g.D.Device.size g.D.Device.failures w old new shown h asked;
+      }));
+}
 
-pub returns-in-Err-check_slash-clause-renames : goal.returns-in-Err-check_slash-clause-renames
-returns-in-Err-check_slash-clause-renames g c = λ h w alive shown.
-    let old = c.args.volume.now in
-    let new = c.is_directory.new.volume in
-    let told : directory_at w.tree c.args.source ≡ c.in-Ok.is_directory = ap (λ (v : World). directory_at v.tree c.args.source) shown ∙ sym (c.in-Ok.ensures.told h) in
-    let (refused, number) = c.in-Err-check_slash.ensures in
-    subst (λ (n : ℕ). StopsNext (λ v. rename_to v c.args.source c.args.slash (Missing c.args.parent c.args.name.now)) w new n) (sym number)
-    (inl (record {
-      is = missing_refused w c.args.source c.args.parent c.args.slash c.args.name.now (ap (λ (b : Bool). not c.args.slash || b) told ∙ refused);
-      same = asked_same g.D.Device.honest g.D.Device.disk g.D.Device.size g.D.Device.failures w old new shown alive h c.in-Ok.ensures.asked;
-    }))
+pub returns-in-Err-check_slash : goal.returns-in-Err-check_slash
+returns-in-Err-check_slash g c = record {
+  step = asked_step g.D.Device.honest g.D.Device.disk g.D.Device.size g.D.Device.failures c.args.volume.now c.is_directory.new.volume _ c.in-Ok.ensures.asked;
+  renames = λ h w alive shown.
+      let old = c.args.volume.now in
+      let new = c.is_directory.new.volume in
+      let told : directory_at w.tree c.args.source ≡ c.in-Ok.is_directory = ap (λ (v : World). directory_at v.tree c.args.source) shown ∙ sym (c.in-Ok.ensures.told h) in
+      let (refused, number) = c.in-Err-check_slash.ensures in
+      subst (λ (n : ℕ). StopsNext (λ v. rename_to v c.args.source c.args.slash (Missing c.args.parent c.args.name.now)) w new n) (sym number)
+      (inl (record {
+        is = missing_refused w c.args.source c.args.parent c.args.slash c.args.name.now (ap (λ (b : Bool). not c.args.slash || b) told ∙ refused);
+        same = asked_same g.D.Device.honest g.D.Device.disk g.D.Device.size g.D.Device.failures w old new shown alive h c.in-Ok.ensures.asked;
+      }));
+}
 
 pub returns-in-Ok-rename-clause-step : goal.returns-in-Ok-rename-clause-step
 returns-in-Ok-rename-clause-step g c =
@@ -79,8 +85,17 @@ returns-in-Err-rename-clause-renames g c = λ h w alive shown.
     (asked_same g.D.Device.honest g.D.Device.disk g.D.Device.size g.D.Device.failures w old between shown alive h c.in-Ok.ensures.asked) alive
     (missing_done w s p c.args.slash n alive passes) (missing_never w s p c.args.slash n alive) c.in-Err-rename.errno c.in-Err-rename.ensures.kept tree meant)
 
-pub returns-in-Err-check_slash-clause-step : goal.returns-in-Err-check_slash-clause-step
-returns-in-Err-check_slash-clause-step g c = asked_step g.D.Device.honest g.D.Device.disk g.D.Device.size g.D.Device.failures c.args.volume.now c.is_directory.new.volume _ c.in-Ok.ensures.asked
-
-pub returns-in-Err-clause-step : goal.returns-in-Err-clause-step
-returns-in-Err-clause-step g c = asked_step g.D.Device.honest g.D.Device.disk g.D.Device.size g.D.Device.failures c.args.volume.now c.is_directory.new.volume _ c.in-Err.ensures.asked
+pub rename-requires : goal.rename-requires
+rename-requires g c =
+    let works = asked_works g.D.Device.honest g.D.Device.disk g.D.Device.size g.D.Device.failures c.args.volume.now c.is_directory.new.volume c.in-Ok.ensures.asked in
+    let source = entry_still g.D.Device.honest g.D.Device.disk g.D.Device.size g.D.Device.failures c.args.volume.now c.is_directory.new.volume c.args.source works c.requires.source in
+    let parent = entry_still g.D.Device.honest g.D.Device.disk g.D.Device.size g.D.Device.failures c.args.volume.now c.is_directory.new.volume c.args.parent works c.requires.parent in
+    record {
+      first = source.number.first;
+      last = source.number.last;
+      used = source.used;
+      parent_first = parent.number.first;
+      parent_last = parent.number.last;
+      directory = λ h. let before = works.kept.honest.1 h in subst (λ (T : Tree). IsDirectory T c.args.parent) (sym (works.tree before)) (c.requires.directory before);
+      name = c.requires.name;
+    }

@@ -10,45 +10,45 @@ use Rattle.wasi_calls.proofs.Served.{volume_rests}
 use Rattle.wasi_calls.proofs.Refusals.{ok_no_err}
 use Rattle.wasi_calls.proofs.seeking.seek_from.Goals as goal
 
-pub returns-in-Ok-clause-told : goal.returns-in-Ok-clause-told
-returns-in-Ok-clause-told g c = λ h w shown.
-    let old = c.args.volume.now in
-    let new = c.size_of.new.volume in
-    let o = c.args.opened.now in
-    let k = c.in-Ok.ensures.kept in
-    let (told, tree) = c.in-Ok.ensures.answer h in
-    let working : old.failed ≡ false = was_working g.D.Device.honest g.D.Device.size g.D.Device.failures old new false k refl in
-    let alive : w.volume_failed ≡ false = ap (λ (w : World). w.volume_failed) shown ∙ working in
-    let size : length (bytes_at w.tree o.serial) ≡ c.from.result = ap (λ (w : World). length (bytes_at w.tree o.serial)) shown ∙ (sym told ∙ sym c.from.ensures) in
-    record {
-      told = from_end w o c.args.whence (omega arith) ∙ (tree_called_alive w (Ok (length (bytes_at w.tree o.serial))) alive ∙ ap Ok size);
-      same = same_volume w [] old new shown k.numbers tree (k.failed ∙ sym working);
-    }
+pub returns-in-Ok : goal.returns-in-Ok
+returns-in-Ok g c = record {
+  step = let told = c.in-Ok.ensures in
+      asked_step g.D.Device.honest g.D.Device.disk g.D.Device.size g.D.Device.failures c.args.volume.now c.size_of.new.volume _ (record { tree = λ h. (told.answer h).1; crash = told.crash; kept = told.kept });
+  told = λ h w shown.
+      let old = c.args.volume.now in
+      let new = c.size_of.new.volume in
+      let o = c.args.opened.now in
+      let k = c.in-Ok.ensures.kept in
+      let (told, tree) = c.in-Ok.ensures.answer h in
+      let working : old.failed ≡ false = was_working g.D.Device.honest g.D.Device.size g.D.Device.failures old new false k refl in
+      let alive : w.volume_failed ≡ false = ap (λ (w : World). w.volume_failed) shown ∙ working in
+      let size : length (bytes_at w.tree o.serial) ≡ c.from.result = ap (λ (w : World). length (bytes_at w.tree o.serial)) shown ∙ (sym told ∙ sym c.from.ensures) in
+      record {
+        told = from_end w o c.args.whence (omega arith) ∙ (tree_called_alive w (Ok (length (bytes_at w.tree o.serial))) alive ∙ ap Ok size);
+        same = same_volume w [] old new shown k.numbers tree (k.failed ∙ sym working);
+      };
+  failed = λ h w shown. tt;
+}
 
-pub returns-in-Err-clause-failed : goal.returns-in-Err-clause-failed
-returns-in-Err-clause-failed g c = λ h w shown.
-    let o = c.args.opened.now in
-    let k = c.in-Err.ensures.kept in
-    let (io, tree) = c.in-Err.ensures.answer h in
-    let size = length (bytes_at w.tree o.serial) in
-    record {
-      io = io;
-      numbers = k.numbers;
-      tree = tree;
-      failed = k.failed ∙ ap (λ (e : Errno). is_io {X = ℕ} (Err e)) io;
-      gone = from_end (volume_gone w) o c.args.whence (omega arith) ∙ tree_called_gone w (Ok size);
-      never = λ alive is. ok_no_err _ size 29 (from_end w o c.args.whence (omega arith) ∙ tree_called_alive w (Ok size) alive) is;
-    }
-
-pub returns-in-Err-clause-step : goal.returns-in-Err-clause-step
-returns-in-Err-clause-step g c =
-    let told = c.in-Err.ensures in
-    asked_step g.D.Device.honest g.D.Device.disk g.D.Device.size g.D.Device.failures c.args.volume.now c.size_of.new.volume _ (record { tree = λ h. (told.answer h).1; crash = told.crash; kept = told.kept })
-
-pub returns-in-Ok-clause-step : goal.returns-in-Ok-clause-step
-returns-in-Ok-clause-step g c =
-    let told = c.in-Ok.ensures in
-    asked_step g.D.Device.honest g.D.Device.disk g.D.Device.size g.D.Device.failures c.args.volume.now c.size_of.new.volume _ (record { tree = λ h. (told.answer h).1; crash = told.crash; kept = told.kept })
+pub returns-in-Err : goal.returns-in-Err
+returns-in-Err g c = record {
+  step = let told = c.in-Err.ensures in
+      asked_step g.D.Device.honest g.D.Device.disk g.D.Device.size g.D.Device.failures c.args.volume.now c.size_of.new.volume _ (record { tree = λ h. (told.answer h).1; crash = told.crash; kept = told.kept });
+  told = λ h w shown. tt;
+  failed = λ h w shown.
+      let o = c.args.opened.now in
+      let k = c.in-Err.ensures.kept in
+      let (io, tree) = c.in-Err.ensures.answer h in
+      let size = length (bytes_at w.tree o.serial) in
+      record {
+        io = io;
+        numbers = k.numbers;
+        tree = tree;
+        failed = k.failed ∙ ap (λ (e : Errno). is_io {X = ℕ} (Err e)) io;
+        gone = from_end (volume_gone w) o c.args.whence (omega arith) ∙ tree_called_gone w (Ok size);
+        never = λ alive is. ok_no_err _ size 29 (from_end w o c.args.whence (omega arith) ∙ tree_called_alive w (Ok size) alive) is;
+      };
+}
 
 pub returns-in-1-clause-step : goal.returns-in-1-clause-step
 returns-in-1-clause-step g c = volume_rests g.D.Device.honest g.D.Device.disk g.D.Device.size g.D.Device.failures c.args.volume.now

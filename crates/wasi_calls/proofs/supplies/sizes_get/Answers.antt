@@ -4,8 +4,8 @@ use Rattle.byteorder.specs.Endian.{little_bytes}
 use Rattle.wasm_store.specs.Bytes.{written}
 use Rattle.wasi_calls.specs.Texts.{texts_of}
 use Rattle.wasi_calls.specs.Supplies.{ended_bytes}
-use Rattle.wasi_calls.proofs.Yields.{goes_on}
-use Rattle.wasi_calls.proofs.Serving.{answers_done}
+use Rattle.wasi_calls.proofs.Yields.{goes_on, stops}
+use Rattle.wasi_calls.proofs.Serving.{answers_done, refusal_answers}
 use Rattle.wasi_calls.proofs.Texts.{same_ended, fits_ended}
 use Rattle.wasi_calls.proofs.supplies.sizes_get.Goals as goal
 
@@ -23,3 +23,17 @@ returns c = λ w.
     answers_done _ w m w _ (record { world = w; fills = []; results = (c.args.count_at, count) ∷ (c.args.size_at, size) ∷ [] })
     (goes_on _ _ tt c.in_ok-check_range.ensures.range ∙ goes_on _ _ tt c.in_ok-check_range-2.ensures.range)
     refl (c.write_bytes-2.ensures.bytes ∙ λ i. written (first i) c.args.size_at (second i))
+
+pub returns-in_err-check_range : goal.returns-in_err-check_range
+returns-in_err-check_range c = λ w.
+    let r = c.from_residual.result in
+    let x = c.in_err-check_range.field-0.0 in
+    let is_x = c.from_residual.ensures.1 in
+    refusal_answers r x _ w c.args.memory.now is_x (stops _ _ _ c.in_err-check_range.ensures.range)
+
+pub returns-in_err-check_range-2 : goal.returns-in_err-check_range-2
+returns-in_err-check_range-2 c = λ w.
+    let r = c.from_residual-in_err-check_range-2.result in
+    let x = c.in_err-check_range-2.field-0.0 in
+    let is_x = c.from_residual-in_err-check_range-2.ensures.1 in
+    refusal_answers r x _ w c.args.memory.now is_x (goes_on _ _ tt c.in_ok-check_range.ensures.range ∙ stops _ _ _ c.in_err-check_range-2.ensures.range)

@@ -216,3 +216,45 @@ returns-in-Nosys g c = record {
   ];
   synced = λ h. elim c.in-Nosys.is [ inl is ↦ no_sync c.args.call (ap is_sync is) | inr is ↦ no_sync c.args.call (ap is_sync is) ];
 }
+
+pub path_rename-requires : goal.path_rename-requires
+path_rename-requires g c = record { set_up = c.requires.set_up; known = c.requires.known }
+
+pub path_filestat_get-requires : goal.path_filestat_get-requires
+path_filestat_get-requires g c = record { set_up = c.requires.set_up; known = c.requires.known }
+
+pub fd_readdir-requires : goal.fd_readdir-requires
+fd_readdir-requires g c = record { set_up = c.requires.set_up; known = c.requires.known }
+
+pub path_create_directory-requires : goal.path_create_directory-requires
+path_create_directory-requires g c = record { set_up = c.requires.set_up; known = c.requires.known }
+
+pub path_open-requires : goal.path_open-requires
+path_open-requires g c = record { set_up = c.requires.set_up; known = c.requires.known }
+
+pub fd_read-requires : goal.fd_read-requires
+fd_read-requires g c = record { set_up = c.requires.set_up; known = c.requires.known }
+
+pub path_unlink_file-requires : goal.path_unlink_file-requires
+path_unlink_file-requires g c = record { set_up = c.requires.set_up; known = c.requires.known }
+
+pub fd_filestat_get-requires : goal.fd_filestat_get-requires
+fd_filestat_get-requires g c = record { set_up = c.requires.set_up; known = c.requires.known }
+
+pub fd_pread-requires : goal.fd_pread-requires
+fd_pread-requires g c = record { set_up = c.requires.set_up; known = c.requires.known }
+
+pub fd_seek-requires : goal.fd_seek-requires
+fd_seek-requires g c = record { set_up = c.requires.set_up; known = c.requires.known }
+
+pub fd_filestat_set_size-requires : goal.fd_filestat_set_size-requires
+fd_filestat_set_size-requires g c = record { set_up = c.requires.set_up; known = c.requires.known }
+
+pub fd_pwrite-requires : goal.fd_pwrite-requires
+fd_pwrite-requires g c = record { set_up = c.requires.set_up; known = c.requires.known }
+
+pub fd_write-requires : goal.fd_write-requires
+fd_write-requires g c = record { set_up = c.requires.set_up; known = c.requires.known }
+
+pub path_remove_directory-requires : goal.path_remove_directory-requires
+path_remove_directory-requires g c = record { set_up = c.requires.set_up; known = c.requires.known }

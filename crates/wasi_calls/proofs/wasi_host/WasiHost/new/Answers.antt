@@ -18,5 +18,37 @@ invariant_of-result g c = record {
   };
 }
 
-pub returns-clause-made : goal.returns-clause-made
-returns-clause-made g c = record { fits = sym c.fits.ensures ∙ c.if-not-fits.false; volume = refl; table = c.in-Ok.ensures; input = refl; out = refl; err = refl; settings = refl }
+pub returns : goal.returns
+returns g c = record {
+  made = record { fits = sym c.fits.ensures ∙ c.if-not-fits.false; volume = refl; table = c.in-Ok.ensures; input = refl; out = refl; err = refl; settings = refl };
+  hands_back = tt;
+  refused = tt;
+}
+
+pub returns-then-not-fits : goal.returns-then-not-fits
+returns-then-not-fits g c = record {
+  made = tt;
+  hands_back = refl;
+  refused = sym c.fits.ensures ∙ c.if-not-fits.true;
+}
+
+pub returns-in_default : goal.returns-in_default
+returns-in_default g c = record {
+  made = tt;
+  hands_back = refl;
+  refused = sym c.fits.ensures ∙ c.if-not-fits.false;
+}
+
+pub returns-in_default-vec : goal.returns-in_default-vec
+returns-in_default-vec g c = record {
+  made = tt;
+  hands_back = refl;
+  refused = sym c.fits.ensures ∙ c.if-not-fits.false;
+}
+
+pub returns-in_default-vec-2 : goal.returns-in_default-vec-2
+returns-in_default-vec-2 g c = record {
+  made = tt;
+  hands_back = refl;
+  refused = sym c.fits.ensures ∙ c.if-not-fits.false;
+}
