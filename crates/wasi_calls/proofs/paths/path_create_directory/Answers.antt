@@ -1,7 +1,7 @@
 use Rattle.std.proofs.Common.{◌≡◌, ◌≢◌, ◌^◌, ℕ, List, false, Result, Ok, Err, refl, sym, ap, ◌∙◌, subst, inl, inr}
 use Rattle.vol_tree.specs.declared.errno.Errno.{Errno}
 use Rattle.vol_tree.specs.Numbers.{number_of}
-use Rattle.vol_tree.specs.Tree.{Tree, Name, Directory}
+use Rattle.vol_tree.specs.Tree.{Tree, Name, Directory, IsDirectory}
 use Rattle.vol_tree.specs.Calls.{created}
 use Rattle.path_walk.specs.declared.walking.Reached.{Reached as ReachedValue}
 use Rattle.path_walk.specs.Walk.{reached_as, IsReached}
@@ -13,7 +13,7 @@ use Rattle.wasi_calls.specs.Checks.{Checked, Done, and_then, walk}
 use Rattle.wasi_calls.specs.Paths.{path_create_directory, path_at, missing}
 use Rattle.wasi_calls.specs.Calls.{Answered}
 use Rattle.wasi_calls.specs.internal.Serving.{with_volume}
-use Rattle.wasi_calls.specs.internal.Reaching.{entered}
+use Rattle.wasi_calls.specs.internal.Reaching.{entered, Places}
 use Rattle.wasi_calls.proofs.Yields.{goes_on, stops}
 use Rattle.wasi_calls.proofs.Entries.{entered_row, entry_of}
 use Rattle.wasi_calls.proofs.Walked.{missing_name_never}
@@ -102,41 +102,57 @@ returns-in-Err-create_dir-clause-answered g c = λ h w table shown.
     ∙ stops _ _ 29 (ap (walk (volume_gone w) o) (sym c.in-Ok.ensures.text) ∙ reaches.1))
     (created_never w.tree place.0 place.1 Directory) c.in-Err-create_dir.errno c.in-Err-create_dir.ensures.kept tree meant)
 
-pub returns-in-Ok-Found-clause-answered : goal.returns-in-Ok-Found-clause-answered
-returns-in-Ok-Found-clause-answered g c = λ h w table shown.
-    let m = c.args.memory.now in
-    let o = c.in-Ok.entered.0 in
-    let old = c.args.volume.now in
-    let new = c.reach.new.volume in
-    let walked = c.in-Ok-Found.ensures.works in
-    let working : old.failed ≡ false = was_working g.D.Device.honest g.D.Device.size g.D.Device.failures old new false walked.kept refl in
-    let alive : w.volume_failed ≡ false = ap (λ (w : World). w.volume_failed) shown ∙ working in
-    let reaches = (c.in-Ok-Found.ensures.reaches h w o refl shown).0 alive in
-    let is : missing (reached_as c.in-Ok-Found.field-0) ≡ Err 20 = ap (λ (r : ReachedValue). missing (reached_as r)) c.in-Ok-Found.field-0-is in
-    refused_by w m (λ v. path_create_directory v m c.args.fd c.args.path c.args.len) old new 20 shown walked.kept.numbers (walked.tree h) (walked.kept.failed ∙ sym working)
-    (to_rest w m c.args.fd c.args.path c.args.len o (c.in-Ok.ensures.row w table)
-    ∙ (goes_on _ _ (reached_as c.in-Ok-Found.field-0) (ap (walk w o) (sym c.in-Ok.ensures.text) ∙ reaches) ∙ stops _ _ 20 is))
+pub returns-in-Ok-Found : goal.returns-in-Ok-Found
+returns-in-Ok-Found g c = record {
+  step = c.in-Ok-Found.ensures.step;
+  answered = λ h w table shown.
+      let m = c.args.memory.now in
+      let o = c.in-Ok.entered.0 in
+      let old = c.args.volume.now in
+      let new = c.reach.new.volume in
+      let walked = c.in-Ok-Found.ensures.works in
+      let working : old.failed ≡ false = was_working g.D.Device.honest g.D.Device.size g.D.Device.failures old new false walked.kept refl in
+      let alive : w.volume_failed ≡ false = ap (λ (w : World). w.volume_failed) shown ∙ working in
+      let reaches = (c.in-Ok-Found.ensures.reaches h w o refl shown).0 alive in
+      let is : missing (reached_as c.in-Ok-Found.field-0) ≡ Err 20 = ap (λ (r : ReachedValue). missing (reached_as r)) c.in-Ok-Found.field-0-is in
+      refused_by w m (λ v. path_create_directory v m c.args.fd c.args.path c.args.len) old new 20 shown walked.kept.numbers (walked.tree h) (walked.kept.failed ∙ sym working)
+      (to_rest w m c.args.fd c.args.path c.args.len o (c.in-Ok.ensures.row w table)
+      ∙ (goes_on _ _ (reached_as c.in-Ok-Found.field-0) (ap (walk w o) (sym c.in-Ok.ensures.text) ∙ reaches) ∙ stops _ _ 20 is));
+}
 
-pub returns-in-Err-reach-clause-answered : goal.returns-in-Err-reach-clause-answered
-returns-in-Err-reach-clause-answered g c = λ h w table shown.
-    let m = c.args.memory.now in
-    let o = c.in-Ok.entered.0 in
-    let old = c.args.volume.now in
-    let new = c.reach.new.volume in
-    let e = c.in-Err-reach.errno in
-    let run : World → Checked Done = λ v. path_create_directory v m c.args.fd c.args.path c.args.len in
-    let goes = λ (v : World) (same : v.table ≡ table_of c.args.descriptors.now). to_rest v m c.args.fd c.args.path c.args.len o (c.in-Ok.ensures.row v same) in
-    let text = λ (v : World). ap (walk v o) (sym c.in-Ok.ensures.text) in
-    subst (λ (n : ℕ). Answered run w m (with_volume new w) m n) (sym c.refused-in-Err-reach.ensures)
-    (elim (c.in-Err-reach.ensures.reaches h w o refl shown) [
-      | inl t ↦ subst (λ (v : _). Answered run w m (with_volume v w) m (number_of e)) (sym t.same)
-          (refused_first w m run old (number_of e) shown (goes w table ∙ stops _ _ _ (text w ∙ t.answer)))
-      | inr r ↦ tree_refuses w m g.D.Device.honest g.D.Device.size g.D.Device.failures ReachedValue run old new e r.kept shown r.tree
-          (λ alive other. goes w table ∙ stops _ _ _ (text w ∙ r.answer alive other))
-          (goes (volume_gone w) table ∙ stops _ _ 29 (text (volume_gone w) ∙ r.gone))
-          (λ alive is. never_after (path_at w m o c.args.path c.args.len) (of_reached w) (λ no. r.never alive (sym (text w) ∙ no))
-          (λ x _. rest_never w alive x) (sym (goes w table) ∙ is))
-    ])
+pub returns-in-Err-reach : goal.returns-in-Err-reach
+returns-in-Err-reach g c = record {
+  step = c.in-Err-reach.ensures.step;
+  answered = λ h w table shown.
+      let m = c.args.memory.now in
+      let o = c.in-Ok.entered.0 in
+      let old = c.args.volume.now in
+      let new = c.reach.new.volume in
+      let e = c.in-Err-reach.errno in
+      let run : World → Checked Done = λ v. path_create_directory v m c.args.fd c.args.path c.args.len in
+      let goes = λ (v : World) (same : v.table ≡ table_of c.args.descriptors.now). to_rest v m c.args.fd c.args.path c.args.len o (c.in-Ok.ensures.row v same) in
+      let text = λ (v : World). ap (walk v o) (sym c.in-Ok.ensures.text) in
+      subst (λ (n : ℕ). Answered run w m (with_volume new w) m n) (sym c.refused-in-Err-reach.ensures)
+      (elim (c.in-Err-reach.ensures.reaches h w o refl shown) [
+        | inl t ↦ subst (λ (v : _). Answered run w m (with_volume v w) m (number_of e)) (sym t.same)
+            (refused_first w m run old (number_of e) shown (goes w table ∙ stops _ _ _ (text w ∙ t.answer)))
+        | inr r ↦ tree_refuses w m g.D.Device.honest g.D.Device.size g.D.Device.failures ReachedValue run old new e r.kept shown r.tree
+            (λ alive other. goes w table ∙ stops _ _ _ (text w ∙ r.answer alive other))
+            (goes (volume_gone w) table ∙ stops _ _ 29 (text (volume_gone w) ∙ r.gone))
+            (λ alive is. never_after (path_at w m o c.args.path c.args.len) (of_reached w) (λ no. r.never alive (sym (text w) ∙ no))
+            (λ x _. rest_never w alive x) (sym (goes w table) ∙ is))
+      ]);
+}
 
 pub create_dir-requires-clause-name : goal.create_dir-requires-clause-name
 create_dir-requires-clause-name g c = let reached = subst (IsReached g.D.Device.honest c.reach.new.volume) c.in-Ok-Missing.field-0-is c.in-Ok-Missing.ensures.reached in reached.1
+
+pub create_dir-requires-clause-serial : goal.create_dir-requires-clause-serial
+create_dir-requires-clause-serial g c = let reached = subst (IsReached g.D.Device.honest c.reach.new.volume) c.in-Ok-Missing.field-0-is c.in-Ok-Missing.ensures.reached in reached.0.number.first
+
+pub create_dir-requires-clause-directory : goal.create_dir-requires-clause-directory
+create_dir-requires-clause-directory g c = λ h.
+    let walked = c.in-Ok-Missing.ensures in
+    let before = walked.works.kept.honest.1 h in
+    let place = subst (λ (r : ReachedValue). Places c.args.volume.now.tree (Ok r)) c.in-Ok-Missing.field-0-is (walked.place before) in
+    subst (λ (T : Tree). IsDirectory T c.in-Ok-Missing.parent) (sym (walked.works.tree before)) place

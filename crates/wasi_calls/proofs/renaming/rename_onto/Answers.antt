@@ -1,10 +1,11 @@
-use Rattle.std.proofs.Common.{◌==◌, ◌∙◌, subst, refl}
+use Rattle.std.proofs.Common.{◌==◌, ◌∙◌, subst, refl, sym, inr}
 use Rattle.std.proofs.lemmas.Bool.{cond-false, ne_eqb}
 use Rattle.wasi_calls.proofs.Volumes.{steps_after, steps}
 use Rattle.wasi_calls.proofs.Renames.{onto_answers}
-use Rattle.wasi_calls.proofs.Asking.{asked_step}
-use Rattle.vol_tree.specs.Opened.{Keeps}
+use Rattle.wasi_calls.proofs.Asking.{asked_step, entry_still}
+use Rattle.vol_tree.specs.Opened.{Keeps, IsSerial}
 use Rattle.wasi_calls.specs.internal.Reaching.{StillWorks}
+use Rattle.vol_tree.specs.declared.superblock.Superblock.{Superblock}
 use Rattle.wasi_calls.proofs.renaming.rename_onto.Goals as goal
 
 pub returns-clause-answer : goal.returns-clause-answer
@@ -44,3 +45,33 @@ pub returns-in-Err-clause-crash : goal.returns-in-Err-clause-crash
 returns-in-Err-clause-crash g c =
     let told = c.in-Err.ensures in
     (asked_step g.D.Device.honest g.D.Device.disk g.D.Device.size g.D.Device.failures c.args.volume.now c.stat.new.self _ (record { tree = λ h. (told.answer h).1; crash = told.crash; kept = told.kept })).crash
+
+pub rename-requires-clause-first : goal.rename-requires-clause-first
+rename-requires-clause-first g c =
+    let told = c.in-Ok.ensures in
+    let works : StillWorks g.D.Device.honest g.D.Device.disk g.D.Device.size g.D.Device.failures c.args.volume.now c.stat.new.self = record { kept = told.kept; tree = λ h. (told.answer h).1; crash = told.crash } in
+    let source = entry_still g.D.Device.honest g.D.Device.disk g.D.Device.size g.D.Device.failures c.args.volume.now c.stat.new.self c.args.source works c.requires.source in
+    source.number.first
+
+pub rename-requires-clause-last : goal.rename-requires-clause-last
+rename-requires-clause-last g c =
+    let told = c.in-Ok.ensures in
+    let works : StillWorks g.D.Device.honest g.D.Device.disk g.D.Device.size g.D.Device.failures c.args.volume.now c.stat.new.self = record { kept = told.kept; tree = λ h. (told.answer h).1; crash = told.crash } in
+    let source = entry_still g.D.Device.honest g.D.Device.disk g.D.Device.size g.D.Device.failures c.args.volume.now c.stat.new.self c.args.source works c.requires.source in
+    source.number.last
+
+pub rename-requires-clause-used : goal.rename-requires-clause-used
+rename-requires-clause-used g c =
+    let told = c.in-Ok.ensures in
+    let works : StillWorks g.D.Device.honest g.D.Device.disk g.D.Device.size g.D.Device.failures c.args.volume.now c.stat.new.self = record { kept = told.kept; tree = λ h. (told.answer h).1; crash = told.crash } in
+    let source = entry_still g.D.Device.honest g.D.Device.disk g.D.Device.size g.D.Device.failures c.args.volume.now c.stat.new.self c.args.source works c.requires.source in
+    source.used
+
+pub rename-requires-clause-parent_first : goal.rename-requires-clause-parent_first
+rename-requires-clause-parent_first g c = let parent = subst (λ (n : Superblock). IsSerial n c.in-Ok.stat.parent) (sym c.in-Ok.ensures.kept.numbers) c.in-Ok.ensures.parent in parent.first
+
+pub rename-requires-clause-parent_last : goal.rename-requires-clause-parent_last
+rename-requires-clause-parent_last g c = let parent = subst (λ (n : Superblock). IsSerial n c.in-Ok.stat.parent) (sym c.in-Ok.ensures.kept.numbers) c.in-Ok.ensures.parent in parent.last
+
+pub returns-in-Err-clause-answer : goal.returns-in-Err-clause-answer
+returns-in-Err-clause-answer g c = λ h. let told = c.in-Err.ensures.answer h in (told.1, inr told.0)

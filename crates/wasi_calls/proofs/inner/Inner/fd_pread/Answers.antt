@@ -93,3 +93,6 @@ returns g c = λ used.
     (λ h b.
     let w = world_of (state_of s) b in
     answered_so run (λ v. read_into v o offset bs q.result_at) w (λ v table tree. same v table) m _ _ _ (c.read_placed.ensures.answered h w refl))
+
+pub read_placed-requires-clause-few : goal.read_placed-requires-clause-few
+read_placed-requires-clause-few g c = c.in_default.ensures.few

@@ -162,3 +162,6 @@ returns-in-Entry g c = λ used.
 
 pub read_stream-requires-clause-few : goal.read_stream-requires-clause-few
 read_stream-requires-clause-few g c = few_taken _ _ _ c.buffers_in-buffers.ensures c.in_default.ensures.few
+
+pub read_file-requires-clause-few : goal.read_file-requires-clause-few
+read_file-requires-clause-few g c = c.in_default.ensures.few
