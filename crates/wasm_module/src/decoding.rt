@@ -154,10 +154,16 @@ fn module<'a>(alloc: Global, bytes: &'a [u8]) -> Result<Module<'a>, LoadFault>
     preamble(&mut cursor)?;
     let (decoded, data_count) = sections(alloc, &mut cursor)?;
     if !cursor.is_empty() {
+        drop(decoded);
         return Err(misplaced(&cursor));
     }
-    check(bytes, &decoded, data_count)?;
-    Ok(decoded)
+    match check(bytes, &decoded, data_count) {
+        Ok(()) => Ok(decoded),
+        Err(fault) => {
+            drop(decoded);
+            Err(fault)
+        }
+    }
 }
 
 /// The module that the bytes spell (section 5).

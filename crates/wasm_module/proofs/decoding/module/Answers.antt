@@ -16,10 +16,10 @@ pub returns-then-not-is_empty : goal.returns-then-not-is_empty
 unfolding module_from
 returns-then-not-is_empty c = λ other. rw (le-leb _ _ c.if-bytes.false, ← c.new-cursor.ensures, c.in_ok-preamble.ensures, c.in_ok-decoded.ensures, ← c.if-not-is_empty.ensures) refl
 
-pub returns-in_err-check : goal.returns-in_err-check
+pub returns-in-Err : goal.returns-in-Err
 unfolding module_from
-returns-in_err-check c = handed_on _ _ c.from_residual-in_err-check.result _ c.from_residual-in_err-check.ensures.1 (λ other. rw (le-leb _ _ c.if-bytes.false, ← c.new-cursor.ensures, c.in_ok-preamble.ensures, c.in_ok-decoded.ensures, ← c.if-not-is_empty.ensures, c.in_err-check.ensures other) refl)
+returns-in-Err c = λ other. rw (le-leb _ _ c.if-bytes.false, ← c.new-cursor.ensures, c.in_ok-preamble.ensures, c.in_ok-decoded.ensures, ← c.if-not-is_empty.ensures, c.in-Err.ensures other) refl
 
-pub returns : goal.returns
+pub returns-in-Ok : goal.returns-in-Ok
 unfolding module_from
-returns c = rw (le-leb _ _ c.if-bytes.false, ← c.new-cursor.ensures, c.in_ok-preamble.ensures, c.in_ok-decoded.ensures, ← c.if-not-is_empty.ensures, c.in_ok-check.ensures) refl
+returns-in-Ok c = rw (le-leb _ _ c.if-bytes.false, ← c.new-cursor.ensures, c.in_ok-preamble.ensures, c.in_ok-decoded.ensures, ← c.if-not-is_empty.ensures, c.in-Ok.ensures) refl
