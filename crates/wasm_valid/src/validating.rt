@@ -27,8 +27,13 @@ pub fn validate<'a>(alloc: Global, module: Module<'a>) -> Result<Valid<'a>, Load
     ensures refused { IfErr result IsRefusal }
     ensures no { IfErr result (λ e. e ≢ LoadFault.Memory → IsValid «module».entry → ⊥) }
 {
-    check(alloc, &module)?;
-    Ok(Valid::new(module))
+    match check(alloc, &module) {
+        Ok(()) => Ok(Valid::new(module)),
+        Err(fault) => {
+            drop(module);
+            Err(fault)
+        }
+    }
 }
 
 fn check(alloc: Global, module: &Module<'_>) -> Result<(), LoadFault>
