@@ -59,7 +59,10 @@ fn assert_code(
 ) -> Result<(), AllocError> {
     let bytes = module(alloc, type_index, code)?;
     match loaded(alloc, &bytes) {
-        Ok(valid) => assert_laid(rt, alloc, &valid, rows),
+        Ok(valid) => {
+            assert_laid(rt, alloc, &valid, rows);
+            drop(valid);
+        }
         Err(fault) => panic!(rt; "{fault}"),
     }
     Ok(())

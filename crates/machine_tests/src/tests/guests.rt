@@ -82,8 +82,10 @@ fn run(alloc: Global, bytes: &[u8], units: u32, times: u32) -> Option<Ending> {
     let valid = loaded(alloc, bytes).ok()?;
     let mut host = Recorder { seen: (0, 0, 0) };
     let mut machine = Machine::new(alloc, valid, 4, &host).ok()?;
-    let pause = paused(&mut machine, &mut host, units, times)?;
-    Some((pause, machine.used(), host.seen))
+    let pause = paused(&mut machine, &mut host, units, times);
+    let used = machine.used();
+    drop(machine);
+    Some((pause?, used, host.seen))
 }
 
 /// Code, how it pauses when it is resumed for 1,000 units at most, and the units that it uses.

@@ -181,14 +181,20 @@ fn assert_instance(rt: &impl Abort, made: &Instantiated) {
 fn assert_made(rt: &impl Abort, alloc: Global, valid: &Valid<'_>) {
     let call = Some(HostCall::FdSync);
     match instantiate(alloc, valid, 7, &Links { call }) {
-        Ok(made) => assert_instance(rt, &made),
+        Ok(made) => {
+            assert_instance(rt, &made);
+            drop(made);
+        }
         Err(fault) => panic!(rt; "{fault}"),
     }
 }
 
 fn assert_loaded(rt: &impl Abort, alloc: Global, bytes: &[u8]) {
     match loaded(alloc, bytes) {
-        Ok(valid) => assert_made(rt, alloc, &valid),
+        Ok(valid) => {
+            assert_made(rt, alloc, &valid);
+            drop(valid);
+        }
         Err(fault) => panic!(rt; "{fault}"),
     }
 }

@@ -109,6 +109,7 @@ fn opened(alloc: Global, device: MemoryDevice) -> Option<(bool, Volume<Disk>)> {
 /// A session of all that a refusal for memory handed back.
 fn made_again<'a>(alloc: Global, refused: NoSession<'a>) -> Option<Small<'a>> {
     if refused.fault != SessionFault::Memory {
+        drop(refused);
         return None;
     }
     let RefusedSession { valid, parts, .. } = refused;
@@ -151,7 +152,11 @@ fn judged(report: &Ran, guest: &Guest) -> Option<bool> {
 /// Runs the session, and says the same.
 fn is_whole(session: Small<'_>, guest: &Guest) -> Option<bool> {
     match whole_run(session, FUEL) {
-        Some(report) => judged(&report, guest),
+        Some(report) => {
+            let whole = judged(&report, guest);
+            drop(report);
+            whole
+        }
         None => None,
     }
 }

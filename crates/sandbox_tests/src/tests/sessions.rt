@@ -306,12 +306,23 @@ fn runs_by_fuel(rt: HostRuntime) {
     }
 }
 
-/// Resumes for each of these units in turn, and says what it stopped by and how many units were used.
+/// Resumes for so many units, and says what it stopped by and how many units were used. None where they are 100 or more.
+fn resumed(session: &mut Small<'_>, units: u64) -> Option<(Pause, u64)> {
+    if session.used() >= 100 || units >= 100 {
+        return None;
+    }
+    let pause = session.resume(units);
+    Some((pause, session.used()))
+}
+
+/// Resumes for each of these units in turn.
 fn assert_resumes(rt: &impl Abort, session: &mut Small<'_>, rows: &[(u64, Pause, u64)]) {
     for (units, pause, used) in rows {
-        assert!(rt; session.used() < 100 && *units < 100);
-        assert_eq!(rt; session.resume(*units), *pause, "by {units}");
-        assert_eq!(rt; session.used(), *used);
+        assert_eq!(rt;
+            resumed(session, *units),
+            Some((*pause, *used)),
+            "by {units}"
+        );
     }
 }
 
@@ -325,7 +336,9 @@ fn assert_session(
     match opened(alloc, &HELLO, most) {
         Some(mut session) => {
             assert_resumes(rt, &mut session, rows);
-            assert_eq!(rt; session.finish().out.held.as_slice(), line);
+            let finished = session.finish();
+            assert_eq!(rt; finished.out.held.as_slice(), line);
+            drop(finished);
         }
         None => panic!(rt; "refused"),
     }
@@ -415,9 +428,14 @@ fn refusal(
     settings: &Settings<'static, 'static>,
 ) -> Option<SessionFault> {
     let volume = working(alloc, formatted(alloc)?)?;
-    let valid = load(alloc, module).ok()?;
+    let Ok(valid) = load(alloc, module) else {
+        drop(volume);
+        return None;
+    };
     let refused = made(alloc, valid, volume, Settings { pages, ..*settings }).err()?;
-    is_back(&refused.parts, pages).then_some(refused.fault)
+    let told = is_back(&refused.parts, pages).then_some(refused.fault);
+    drop(refused);
+    told
 }
 
 /// A module, the most pages, the other settings, and the fault.
@@ -428,9 +446,14 @@ type Refusing<'a> = (
     Option<SessionFault>,
 );
 
+fn assert_refusals(rt: &impl Abort, alloc: Global, rows: &[Refusing<'_>]) {
+    for (i, (module, pages, settings, want)) in rows.iter().enumerate() {
+        assert_eq!(rt; refusal(alloc, module, *pages, settings), *want, "row {i}");
+    }
+}
+
 #[test]
 fn refuses_in_order(rt: HostRuntime) {
-    let alloc = rt.alloc();
     let start = SessionFault::Instance(InstanceFault::NoStart);
     let import = SessionFault::Instance(InstanceFault::Import);
     let limit = SessionFault::Instance(InstanceFault::PageLimit);
@@ -456,7 +479,5 @@ fn refuses_in_order(rt: HostRuntime) {
         (&other, 0, &MISSING, Some(import)),
         (&HELLO, 1, &MISSING, Some(none)),
     ];
-    for (i, (module, pages, settings, want)) in rows.iter().enumerate() {
-        assert_eq!(rt; refusal(alloc, module, *pages, settings), *want, "row {i}");
-    }
+    assert_refusals(&rt, rt.alloc(), &rows);
 }

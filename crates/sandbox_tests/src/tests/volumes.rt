@@ -138,14 +138,17 @@ fn has(volume: &mut Volume<Disk>, name: &[u8]) -> Option<bool> {
 }
 
 /// Which of the files p, q and r a volume has, in this order, and how many sectors their bytes need.
+fn holds(volume: &mut Volume<Disk>) -> Option<([bool; 3], u32)> {
+    let there = [has(volume, b"p")?, has(volume, b"q")?, has(volume, b"r")?];
+    Some((there, volume.stats().needed))
+}
+
+/// The same of the volume on a device.
 fn found(alloc: Global, device: MemoryDevice) -> Option<([bool; 3], u32)> {
     let mut volume = working(alloc, device)?;
-    let there = [
-        has(&mut volume, b"p")?,
-        has(&mut volume, b"q")?,
-        has(&mut volume, b"r")?,
-    ];
-    Some((there, volume.stats().needed))
+    let found = holds(&mut volume);
+    drop(volume);
+    found
 }
 
 /// Whether what was found is what a first part of the calls made, with all up to the sync where that was answered.

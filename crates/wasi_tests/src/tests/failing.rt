@@ -65,10 +65,14 @@ fn count_at(alloc: Global, failing: u64) -> Result<Option<usize>, Fail> {
         return Ok(None);
     };
     match host(alloc, PLAIN, volume, Feeding::new(b"", 0), 0) {
-        Ok(mut guest) => match answered(&mut guest, &mut memory) {
-            Some(count) => Ok(Some(count)),
-            None => Err(Fail::from("another answer")),
-        },
+        Ok(mut guest) => {
+            let count = answered(&mut guest, &mut memory);
+            drop(guest);
+            match count {
+                Some(count) => Ok(Some(count)),
+                None => Err(Fail::from("another answer")),
+            }
+        }
         Err(_) => Ok(None),
     }
 }

@@ -93,7 +93,10 @@ pub fn host<'s, 't>(
     match WasiHost::new(alloc, parts) {
         Ok(mut host) => match host.preopen() {
             Ok(()) => Ok(host),
-            Err(fault) => Err(fault),
+            Err(fault) => {
+                drop(host);
+                Err(fault)
+            }
         },
         Err(refused) => Err(refused.fault),
     }
@@ -203,7 +206,9 @@ pub fn assert_fed(
     steps: &[Step<'_>],
 ) -> Result<(), Fail> {
     let mut guest = fresh(alloc, settings, input, 1_000)?;
-    assert_steps(rt, alloc, &mut guest, steps)
+    let done = assert_steps(rt, alloc, &mut guest, steps);
+    drop(guest);
+    done
 }
 
 /// The same without input.
