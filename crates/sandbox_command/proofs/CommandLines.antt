@@ -88,12 +88,23 @@ subcommand_added old sub new app leaf added (is, local) (sub_is, own) = (
   added.globals ∙ ap₂ (λ x y. x || y) local own,
 )
 
--- the same where it is known that the subcommand could be made
-pub command_added : {E : Type 0} (old : Command) (r : Result Command E) (new : Command) (app : App) (leaf : App) → IsOkAnd r (λ s. AddsSubcommand old s new)
-    → (app_of old ≡ app) × ((fields_of old).has_globals ≡ false) → IfOk r (λ s. (app_of s ≡ leaf) × ((fields_of s).has_globals ≡ false))
-    → (app_of new ≡ with_subcommand app leaf.top) × ((fields_of new).has_globals ≡ false)
-command_added old (Ok sub) new app leaf added stood made = subcommand_added old sub new app leaf added stood made
-command_added old (Err e) new app leaf added stood made = elim added [ ]
+-- a command of which clap's model says this
+abbrev pub Has : Command → App → Type 0
+Has c app = (app_of c ≡ app) × ((fields_of c).has_globals ≡ false)
+
+-- the same of commands that may not have been made
+pub with_argument_has : {E : Type 0} (old : Result Command E) (a : Arg) (new : Result Command E) (app : App) (r : Rule) → IfOk new (λ c. IsOkAnd old (λ d. AddsArg d a c))
+    → IfOk old (λ d. Has d app) → (rule_of a ≡ r) × (a.global ≡ false) → IfOk new (λ c. Has c (with_rule app r))
+with_argument_has (Ok d) a (Ok c) app r added stood own = argument_added d a c app r added stood own
+with_argument_has (Err e) a (Ok c) app r added stood own = elim added [ ]
+with_argument_has old a (Err e) app r added stood own = tt
+
+pub with_command_has : {E : Type 0} (old sub new : Result Command E) (app : App) (leaf : App) → IfOk new (λ c. IsOkAnd old (λ p. IsOkAnd sub (λ s. AddsSubcommand p s c)))
+    → IfOk old (λ p. Has p app) → IfOk sub (λ s. Has s leaf) → IfOk new (λ c. Has c (with_subcommand app leaf.top))
+with_command_has (Ok p) (Ok s) (Ok c) app leaf added stood made = subcommand_added p s c app leaf added stood made
+with_command_has (Ok p) (Err e) (Ok c) app leaf added stood made = elim added [ ]
+with_command_has (Err e) sub (Ok c) app leaf added stood made = elim added [ ]
+with_command_has old sub (Err e) app leaf added stood made = tt
 
 -- the program's command is one of which clap's model says all
 pub program_is_simple : is_simple program ≡ true

@@ -3,7 +3,7 @@
 ghost use Rattle.std.specs.Option.{MatchOption};
 ghost use Rattle.std.specs.List.{Contains};
 ghost use Rattle.std.specs.Prelude.{◌≡◌, IfOk, IsOkAnd, IsSomeAnd, Some, None, false, map, string_bytes, option_and_then};
-ghost use Rattle.clap.specs.Words.{AddsSubcommand, FailsBy, app_of, fault_of, first_of, found_of, one_of, rows_of, rule_of, subcommand_of};
+ghost use Rattle.clap.specs.Words.{AddsArg, AddsSubcommand, FailsBy, app_of, fault_of, first_of, found_of, one_of, rows_of, rule_of, subcommand_of};
 ghost use Rattle.clap.specs.declared.builder.command.Command.TheViews.{out-Command as fields_of};
 ghost use Rattle.sandbox_command.specs.Request.{texts};
 ghost use Rattle.sandbox_command.specs.CommandLine.{AsksFor, AsksRun, AsksTask, number_of, number_rule, number_word_rule};
@@ -117,62 +117,79 @@ fn further_words<'a>(alloc: Global) -> Arg<'a>
         .help("Further arguments of the guest; -- comes before one that begins with -")
 }
 
+/// A command with one argument more, where it could be made. (So that no caller leaves by `?` in between.)
+fn with_argument<'a>(
+    command: Result<Command<'a>, AllocError>,
+    argument: Arg<'a>,
+) -> Result<Command<'a>, AllocError>
+    ensures { IfOk result (λ c. IsOkAnd command.entry (λ d. AddsArg d argument.entry c)) }
+{
+    match command {
+        Ok(command) => command.arg(argument),
+        Err(error) => {
+            drop(argument);
+            Err(error)
+        }
+    }
+}
+
 /// `run`, with the options of what a guest may use.
 fn limited_command<'a>(alloc: Global) -> Result<Command<'a>, AllocError>
     ensures { IfOk result (λ c. (app_of c ≡ limited_app) × ((fields_of c).has_globals ≡ false)) }
 {
     let about = "Run the _start of a WebAssembly module, until it ends or its fuel is used up";
-    // each argument is made where it is added, so that none has to be given up where memory is refused
-    described(Command::new(alloc, "run"), about)
-        .arg(text_option(
-            alloc,
-            "volume",
-            "FILE",
-            "The file of its volume [default: an empty volume, which is given up]",
-        ))?
-        .arg(number_option(
-            alloc,
-            "fuel",
-            clap::value_parser!(u64),
-            "Units of fuel, one for each plain instruction [default: 1000000000]",
-        ))?
-        .arg(number_option(
-            alloc,
-            "pages",
-            clap::value_parser!(u32),
-            "Most pages of memory, each of 65536 bytes [default: 1024]",
-        ))
+    let volume = text_option(
+        alloc,
+        "volume",
+        "FILE",
+        "The file of its volume [default: an empty volume, which is given up]",
+    );
+    let fuel = number_option(
+        alloc,
+        "fuel",
+        clap::value_parser!(u64),
+        "Units of fuel, one for each plain instruction [default: 1000000000]",
+    );
+    let pages = number_option(
+        alloc,
+        "pages",
+        clap::value_parser!(u32),
+        "Most pages of memory, each of 65536 bytes [default: 1024]",
+    );
+    let command = with_argument(Ok(described(Command::new(alloc, "run"), about)), volume);
+    with_argument(with_argument(command, fuel), pages)
 }
 
 /// `run`, also with the options of what a guest is given.
 fn supplied_command<'a>(alloc: Global) -> Result<Command<'a>, AllocError>
     ensures { IfOk result (λ c. (app_of c ≡ supplied_app) × ((fields_of c).has_globals ≡ false)) }
 {
-    limited_command(alloc)?
-        .arg(texts_option(
-            alloc,
-            "dir",
-            "GUEST=PATH",
-            "A directory of the volume and its name for the guest, as often as wanted [default: /=/]",
-        ))?
-        .arg(texts_option(
-            alloc,
-            "env",
-            "NAME=VALUE",
-            "A text of its environment, as often as wanted",
-        ))?
-        .arg(number_option(
-            alloc,
-            "moment",
-            clap::value_parser!(u64),
-            "Its time of day, in nanoseconds since 1970-01-01 00:00:00 UTC [default: 0]",
-        ))?
-        .arg(text_option(
-            alloc,
-            "random",
-            "FILE",
-            "The file of its random bytes [default: none]",
-        ))
+    let directory = texts_option(
+        alloc,
+        "dir",
+        "GUEST=PATH",
+        "A directory of the volume and its name for the guest, as often as wanted [default: /=/]",
+    );
+    let variable = texts_option(
+        alloc,
+        "env",
+        "NAME=VALUE",
+        "A text of its environment, as often as wanted",
+    );
+    let moment = number_option(
+        alloc,
+        "moment",
+        clap::value_parser!(u64),
+        "Its time of day, in nanoseconds since 1970-01-01 00:00:00 UTC [default: 0]",
+    );
+    let random = text_option(
+        alloc,
+        "random",
+        "FILE",
+        "The file of its random bytes [default: none]",
+    );
+    let command = with_argument(with_argument(limited_command(alloc), directory), variable);
+    with_argument(with_argument(command, moment), random)
 }
 
 /// `run`, with its arguments.
@@ -180,9 +197,8 @@ fn run_command<'a>(alloc: Global) -> Result<Command<'a>, AllocError>
     ensures { IfOk result (λ c. (app_of c ≡ run_app) × ((fields_of c).has_globals ≡ false)) }
 {
     let module = "The module's file; the guest gets this word as argument 0";
-    supplied_command(alloc)?
-        .arg(word(alloc, "MODULE", module))?
-        .arg(further_words(alloc))
+    let command = with_argument(supplied_command(alloc), word(alloc, "MODULE", module));
+    with_argument(command, further_words(alloc))
 }
 
 /// A command on the volume in a file.
@@ -215,14 +231,27 @@ fn format_command<'a>(alloc: Global) -> Result<Command<'a>, AllocError>
         ))
 }
 
-/// A command with one subcommand more, where that could be made.
+/// A command with one subcommand more, where both could be made.
 fn with_command<'a>(
-    program: Command<'a>,
+    program: Result<Command<'a>, AllocError>,
     subcommand: Result<Command<'a>, AllocError>,
 ) -> Result<Command<'a>, AllocError>
-    ensures { IfOk result (λ c. IsOkAnd subcommand.entry (λ s. AddsSubcommand program.entry s c)) }
+    ensures { IfOk result (λ c. IsOkAnd program.entry (λ p. IsOkAnd subcommand.entry (λ s. AddsSubcommand p s c))) }
 {
-    program.subcommand(subcommand?)
+    let program = match program {
+        Ok(program) => program,
+        Err(error) => {
+            drop(subcommand);
+            return Err(error);
+        }
+    };
+    match subcommand {
+        Ok(subcommand) => program.subcommand(subcommand),
+        Err(error) => {
+            drop(program);
+            Err(error)
+        }
+    }
 }
 
 /// The program, of whose commands one has to be there.
@@ -234,16 +263,16 @@ fn command<'a>(alloc: Global) -> Result<Command<'a>, AllocError>
         .subcommand_required(true);
     let about =
         "Runs command-line WebAssembly programs with exact fuel, and keeps volumes of files";
-    let program = with_command(described(program, about), run_command(alloc))?;
-    let program = with_command(program, format_command(alloc))?;
+    let program = with_command(Ok(described(program, about)), run_command(alloc));
+    let program = with_command(program, format_command(alloc));
     let list = path_command(alloc, "ls", "Print the entries of a directory");
-    let program = with_command(program, list)?;
+    let program = with_command(program, list);
     let get = path_command(alloc, "get", "Print a file");
-    let program = with_command(program, get)?;
+    let program = with_command(program, get);
     let put = path_command(alloc, "put", "Put standard input into a file");
-    let program = with_command(program, put)?;
+    let program = with_command(program, put);
     let check = file_command(alloc, "check", "Print how much of a volume is used");
-    let program = with_command(program, check)?;
+    let program = with_command(program, check);
     let upgrade = file_command(alloc, "upgrade", "Make a volume one of version 2");
     with_command(program, upgrade)
 }
