@@ -1,7 +1,7 @@
 //! What a command line asks for.
 
 /// What a guest may use.
-#[derive(Clone, Copy, Debug, PartialEq, Eq)]
+#[derive(Clone, Copy, PartialEq, Eq)]
 pub struct Limits {
     /// Units of fuel.
     pub fuel: u64,
@@ -10,7 +10,7 @@ pub struct Limits {
 }
 
 /// `sandbox run`: a module, what it may use, and what it is given.
-#[derive(Debug, Drop)]
+#[derive(Drop)]
 pub struct Run<'a> {
     pub limits: Limits,
     /// The file of its volume; where there is none, it gets an empty volume, which is given up.
@@ -31,7 +31,7 @@ pub struct Run<'a> {
 }
 
 /// What is done with the volume in a file.
-#[derive(Clone, Copy, Debug)]
+#[derive(Clone, Copy)]
 pub enum Task<'a> {
     /// Print the entries of the directory of this path.
     List { path: &'a str },
@@ -46,7 +46,7 @@ pub enum Task<'a> {
 }
 
 /// What a command line asks for.
-#[derive(Debug, Drop)]
+#[derive(Drop)]
 pub enum Invocation<'a> {
     /// Run a module.
     Run(Run<'a>),

@@ -3,7 +3,7 @@
 ghost use Rattle.std.specs.Prelude.{◌≡◌};
 
 /// What an entry is.
-#[derive(Clone, Copy, Debug, PartialEq, Eq)]
+#[derive(Clone, Copy, PartialEq, Eq)]
 pub enum Kind {
     Directory = 3,
     File = 4,
@@ -24,7 +24,7 @@ impl Kind {
 }
 
 /// An entry of a volume: a directory, or a file by its size and the sectors that hold it.
-#[derive(Clone, Copy, Debug, PartialEq, Eq)]
+#[derive(Clone, Copy, PartialEq, Eq)]
 pub struct Entry {
     pub kind: Kind,
     /// The length of the name in bytes; 0 only for the root.

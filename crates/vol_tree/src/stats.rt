@@ -7,7 +7,7 @@ use crate::parts::Parts;
 use vol_sector::Device;
 
 /// What is told of a volume.
-#[derive(Clone, Copy, Debug, PartialEq, Eq)]
+#[derive(Clone, Copy, PartialEq, Eq)]
 pub struct Stats {
     /// The entries, with the root.
     pub entries: u32,

@@ -26,7 +26,7 @@ use wasi_fd::{Descriptors, Opened, Rights};
 use wasm_store::{Errno, Memory};
 
 /// What a `fd_readdir` asks for.
-#[derive(Clone, Copy, Debug)]
+#[derive(Clone, Copy)]
 pub(crate) struct ListCall {
     pub fd: u32,
     pub buffer: u32,

@@ -47,7 +47,7 @@ const APPEND: u32 = 1;
 const SYNCS: u32 = 26;
 
 /// What a `path_open` asks for.
-#[derive(Clone, Copy, Debug)]
+#[derive(Clone, Copy)]
 pub(crate) struct OpenCall {
     pub fd: u32,
     pub path: u32,

@@ -39,7 +39,7 @@ use wasm_store::{Errno, Memory};
 const ROOT: u32 = 1;
 
 /// What a `path_rename` asks for.
-#[derive(Clone, Copy, Debug)]
+#[derive(Clone, Copy)]
 pub(crate) struct RenameCall {
     pub from_fd: u32,
     pub from_path: u32,

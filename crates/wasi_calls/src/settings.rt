@@ -5,14 +5,14 @@ ghost use Rattle.wasi_calls.specs.Texts.{has_nul_byte, ended_bytes, texts_fit, n
 ghost use Rattle.std.specs.List.{list_any, list_all};
 
 /// A directory that the guest finds open: the name that it knows it by, and its path in the volume.
-#[derive(Clone, Copy, Debug)]
+#[derive(Clone, Copy)]
 pub struct Preopen<'a> {
     pub guest_name: &'a [u8],
     pub path: &'a [u8],
 }
 
 /// What a guest is given besides its streams. Texts are bytes.
-#[derive(Clone, Copy, Debug)]
+#[derive(Clone, Copy)]
 pub struct Settings<'a, 't> {
     /// The arguments, the program's name first: at most 1,024, of at most 65,536 bytes with one more for the end of each.
     pub args: &'a [&'t [u8]],

@@ -1,7 +1,7 @@
 //! The streams of a guest.
 
 /// A reader.
-#[derive(Debug, Drop)]
+#[derive(Drop)]
 pub struct Input<R> {
     pub reader: R,
     /// Whether a read has failed. No other is made then.
@@ -11,7 +11,7 @@ pub struct Input<R> {
 }
 
 /// A writer.
-#[derive(Debug, Drop)]
+#[derive(Drop)]
 pub struct Output<W> {
     pub writer: W,
     /// Whether a write has failed. No other is made then.

@@ -7,7 +7,7 @@ use crate::Rights;
 use bitflags::Flags;
 
 /// A stream that the host was given.
-#[derive(Clone, Copy, Debug, PartialEq, Eq)]
+#[derive(Clone, Copy, PartialEq, Eq)]
 pub enum Stream {
     Input,
     Output,
@@ -15,14 +15,14 @@ pub enum Stream {
 }
 
 /// What an open entry is.
-#[derive(Clone, Copy, Debug, PartialEq, Eq)]
+#[derive(Clone, Copy, PartialEq, Eq)]
 pub enum EntryKind {
     Directory,
     File,
 }
 
 /// An entry of the volume that is open.
-#[derive(Clone, Copy, Debug)]
+#[derive(Clone, Copy)]
 pub struct Opened<'g> {
     /// The entry's serial.
     pub serial: u32,
@@ -40,7 +40,7 @@ pub struct Opened<'g> {
 }
 
 /// What a number stands for.
-#[derive(Clone, Copy, Debug)]
+#[derive(Clone, Copy)]
 pub enum Descriptor<'g> {
     Stream(Stream),
     Entry(Opened<'g>),
