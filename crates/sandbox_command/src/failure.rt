@@ -9,7 +9,7 @@ use vol_sector::VolumeFault;
 use vol_tree::Errno;
 
 /// Why a task on a volume ends without success. The text is what the program says of it.
-#[derive(Clone, Copy, Debug, PartialEq, Eq, Error)]
+#[derive(Clone, Copy, Debug, Error)]
 pub enum Failure {
     /// The volume is refused, or the device failed.
     #[error("{0}")]

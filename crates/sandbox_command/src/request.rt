@@ -1,7 +1,7 @@
 //! What a command line asks for.
 
 /// What a guest may use.
-#[derive(Clone, Copy, PartialEq, Eq)]
+#[derive(Clone, Copy)]
 pub struct Limits {
     /// Units of fuel.
     pub fuel: u64,
@@ -31,7 +31,7 @@ pub struct Run<'a> {
 }
 
 /// What is done with the volume in a file.
-#[derive(Clone, Copy)]
+#[derive(Clone, Copy, Debug)]
 pub enum Task<'a> {
     /// Print the entries of the directory of this path.
     List { path: &'a str },

@@ -6,7 +6,7 @@ ghost use Rattle.std.specs.Prelude.{◌≡◌};
 pub const LARGEST_SIZE: u32 = 8_483_840;
 
 /// The version of a volume's format. In version 2 files may be greater.
-#[derive(Clone, Copy, PartialEq, Eq)]
+#[derive(Clone, Copy, Debug, PartialEq, Eq)]
 pub enum Version {
     One = 1,
     Two = 2,

@@ -7,7 +7,7 @@ use crate::parts::Parts;
 use vol_sector::Device;
 
 /// What is told of a volume.
-#[derive(Clone, Copy, PartialEq, Eq)]
+#[derive(Clone, Copy)]
 pub struct Stats {
     /// The entries, with the root.
     pub entries: u32,

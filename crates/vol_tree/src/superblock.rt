@@ -16,7 +16,7 @@ use vol_sector::VolumeFault;
 const MAGIC: [u8; 8] = *b"WASMVOLU";
 
 /// The numbers of a volume.
-#[derive(Clone, Copy, PartialEq, Eq)]
+#[derive(Clone, Copy)]
 pub(crate) struct Superblock {
     pub version: Version,
     /// How many sectors the volume has, 137 to 65,536.

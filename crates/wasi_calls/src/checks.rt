@@ -14,7 +14,7 @@ use wasi_fd::{Descriptor, Descriptors, EntryKind, Opened, Rights};
 use wasm_store::{Errno, Memory};
 
 /// The kinds of descriptors that a call takes.
-#[derive(Clone, Copy, PartialEq, Eq)]
+#[derive(Clone, Copy)]
 pub(crate) enum Takes {
     Any,
     Directories,

@@ -7,7 +7,7 @@ use crate::Rights;
 use bitflags::Flags;
 
 /// A stream that the host was given.
-#[derive(Clone, Copy, PartialEq, Eq)]
+#[derive(Clone, Copy)]
 pub enum Stream {
     Input,
     Output,
@@ -15,7 +15,7 @@ pub enum Stream {
 }
 
 /// What an open entry is.
-#[derive(Clone, Copy, PartialEq, Eq)]
+#[derive(Clone, Copy)]
 pub enum EntryKind {
     Directory,
     File,

@@ -4,7 +4,7 @@ use wasm_num::Trap;
 use wasm_store::{Errno, HostCall};
 
 /// How a run ends.
-#[derive(Clone, Copy, PartialEq, Eq)]
+#[derive(Clone, Copy, Debug, PartialEq, Eq)]
 pub enum Outcome {
     /// The guest exited with this status; 0 also where `_start` returned.
     Exited(u32),
@@ -16,7 +16,7 @@ pub enum Outcome {
 }
 
 /// Why a machine came back.
-#[derive(Clone, Copy, PartialEq, Eq)]
+#[derive(Clone, Copy, Debug, PartialEq, Eq)]
 pub enum Pause {
     /// Exactly one host call was answered, with this errno.
     Called(HostCall, Errno),

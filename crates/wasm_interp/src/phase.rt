@@ -3,7 +3,7 @@
 use crate::pause::Outcome;
 
 /// Where a machine is.
-#[derive(Clone, Copy, PartialEq, Eq)]
+#[derive(Clone, Copy)]
 pub enum Phase {
     /// Inside one of the module's own functions.
     Within,

@@ -6,14 +6,14 @@ use std::marker::Model;
 use std::mem::size_of;
 
 /// The type of a value (section 2.3.1), cut to integers.
-#[derive(Clone, Copy, PartialEq, Eq)]
+#[derive(Clone, Copy)]
 pub enum ValueType {
     I32,
     I64,
 }
 
 /// What a block leaves (section 2.3.2): nothing, or one value.
-#[derive(Clone, Copy, PartialEq, Eq)]
+#[derive(Clone, Copy)]
 pub enum BlockType {
     Empty,
     Value(ValueType),
@@ -21,14 +21,14 @@ pub enum BlockType {
 
 /// What a load or a store says of its address (section 2.4.4): the alignment as an exponent of 2,
 /// and the offset in bytes.
-#[derive(Clone, Copy, PartialEq, Eq)]
+#[derive(Clone, Copy)]
 pub struct MemArg {
     pub align: u32,
     pub offset: u32,
 }
 
 /// A comparison of two integers of one type (section 2.4.1).
-#[derive(Clone, Copy, PartialEq, Eq)]
+#[derive(Clone, Copy)]
 pub enum Comparison {
     Eq,
     Ne,
@@ -43,7 +43,7 @@ pub enum Comparison {
 }
 
 /// An operator on one integer (section 2.4.1, and the sign extensions).
-#[derive(Clone, Copy, PartialEq, Eq)]
+#[derive(Clone, Copy)]
 pub enum UnaryOperator {
     Clz,
     Ctz,
@@ -54,7 +54,7 @@ pub enum UnaryOperator {
 }
 
 /// An operator on two integers of one type (section 2.4.1).
-#[derive(Clone, Copy, PartialEq, Eq)]
+#[derive(Clone, Copy)]
 pub enum BinaryOperator {
     Add,
     Sub,

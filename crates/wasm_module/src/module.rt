@@ -19,14 +19,14 @@ pub struct Limits {
 }
 
 /// A global's type (section 2.3.7).
-#[derive(Clone, Copy, PartialEq, Eq)]
+#[derive(Clone, Copy)]
 pub struct GlobalType {
     pub value_type: ValueType,
     pub mutable: bool,
 }
 
 /// What is imported; a function by its type's index.
-#[derive(Clone, Copy, PartialEq, Eq)]
+#[derive(Clone, Copy)]
 pub enum ImportKind {
     Function(u32),
     Table(Limits),
@@ -74,7 +74,7 @@ pub struct ElementSegment {
 }
 
 /// This many locals of one type.
-#[derive(Clone, Copy, PartialEq, Eq)]
+#[derive(Clone, Copy)]
 pub struct Locals {
     pub count: u32,
     pub value_type: ValueType,

@@ -3,7 +3,7 @@
 use std::fmt;
 
 /// Why a run traps (section 4.4); its text is what `Display` prints.
-#[derive(Clone, Copy, PartialEq, Eq)]
+#[derive(Clone, Copy, Debug, PartialEq, Eq)]
 pub enum Trap {
     Unreachable,
     DivideByZero,

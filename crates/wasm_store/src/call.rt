@@ -1,7 +1,7 @@
 //! The calls of a host, and what it answers.
 
 /// What a host's call is to do, by its name in WASI snapshot preview 1.
-#[derive(Clone, Copy, PartialEq, Eq)]
+#[derive(Clone, Copy, Debug, PartialEq, Eq)]
 pub enum HostCall {
     ArgsSizesGet,
     ArgsGet,
@@ -37,7 +37,7 @@ pub enum HostCall {
 }
 
 /// The number that a host's call answers, as `errno` of WASI snapshot preview 1 has it; 0 is success.
-#[derive(Clone, Copy, PartialEq, Eq)]
+#[derive(Clone, Copy, Debug, PartialEq, Eq)]
 pub struct Errno(pub u16);
 
 impl Errno {
