@@ -41,7 +41,21 @@ fn check(alloc: Global, module: &Module<'_>) -> Result<(), LoadFault>
 {
     let tables = tables(alloc, module)?;
     let memories = memories(alloc, module)?;
-    check_limits(module, tables.as_slice(), memories.as_slice())?;
+    check_over(alloc, module, tables.as_slice(), memories.as_slice())
+}
+
+/// Checks a module that has these tables and memories.
+fn check_over(
+    alloc: Global,
+    module: &Module<'_>,
+    tables: &[Limits],
+    memories: &[Limits],
+) -> Result<(), LoadFault>
+    requires tables { tables.now ≡ tables_of «module».now }
+    requires memories { memories.now ≡ memories_of «module».now }
+    ensures { Decides result (IsValid «module».now) }
+{
+    check_limits(module, tables, memories)?;
     check_globals(alloc, module)?;
     let module_context = module_context(alloc, module, !tables.is_empty(), !memories.is_empty())?;
     let counts = Counts {
@@ -50,9 +64,26 @@ fn check(alloc: Global, module: &Module<'_>) -> Result<(), LoadFault>
         memories: memories.len(),
         globals: module_context.globals.len(),
     };
-    check_lists(alloc, module, &module_context, counts)?;
-    check_start(module, &module_context)?;
-    check_bodies(alloc, module, &module_context)
+    check_within(alloc, module, &module_context, counts)
+}
+
+/// Checks what the rules say within the module's context.
+fn check_within(
+    alloc: Global,
+    module: &Module<'_>,
+    module_context: &ModuleContext<'_>,
+    counts: Counts,
+) -> Result<(), LoadFault>
+    requires limits { LimitsHold «module».now }
+    requires globals { GlobalsHold «module».now }
+    requires types { TypesFit «module».now }
+    requires module_context { IsModuleContextOf module_context.now «module».now }
+    requires counts { counts ≡ counts_of «module».now }
+    ensures { Decides result (IsValid «module».now) }
+{
+    check_lists(alloc, module, module_context, counts)?;
+    check_start(module, module_context)?;
+    check_bodies(alloc, module, module_context)
 }
 
 /// Refuses a module one of whose rules doesn't hold. The offset is that of the list concerned.
