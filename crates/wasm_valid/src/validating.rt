@@ -5,6 +5,7 @@ ghost use Rattle.wasm_valid.specs.Typing.{Context};
 ghost use Rattle.wasm_valid.specs.Validity.{IsValid, FunctionsTyped, has_any, tables_of, memories_of};
 ghost use Rattle.wasm_valid.specs.Refusal.{IsRefusal};
 ghost use Rattle.wasm_valid.specs.internal.Answers.{Decides};
+ghost use Rattle.wasm_valid.specs.internal.Bodies.{BodyTyped};
 ghost use Rattle.wasm_valid.specs.internal.Rules.{TypesFit, LimitsHold, GlobalsHold, ListsFit, StartFits, counts_of};
 ghost use Rattle.wasm_valid.specs.internal.Contexts.{IsModuleContext, IsModuleContextOf};
 
@@ -17,7 +18,7 @@ use crate::names::names_differ;
 use crate::places::instruction_offset;
 use crate::valid::Valid;
 use std::alloc::Global;
-use wasm_module::{Limits, LoadFault, Module};
+use wasm_module::{Body, Limits, LoadFault, Module};
 
 /// Checks a module (section 3.4.10). One that isn't valid is refused with fault 12: a rule on the
 /// module's lists with the offset of the list, and a body with its index among the module's own
@@ -205,12 +206,27 @@ fn check_bodies(
     let bodies = module.bodies.as_slice();
     rule(functions.len() == bodies.len(), module.bodies.offset())?;
     for (i, body) in bodies.iter().enumerate() {
-        if let Some(index) = module_context.untyped_body(alloc, functions[i], body)? {
-            return Err(LoadFault::Invalid {
-                function: u32::try_from(i).ok(),
-                offset: instruction_offset(body, index),
-            });
-        }
+        check_body(alloc, module_context, functions[i], body, i)?;
     }
     Ok(())
+}
+
+/// Checks the body of this index among the module's own.
+fn check_body(
+    alloc: Global,
+    module_context: &ModuleContext<'_>,
+    type_index: u32,
+    body: &Body<'_>,
+    index: usize,
+) -> Result<(), LoadFault>
+    ensures { (c : Context) → IsModuleContext module_context.now c
+        → Decides result (BodyTyped c module_context.now.types.now type_index body.now) }
+{
+    match module_context.untyped_body(alloc, type_index, body)? {
+        Some(place) => Err(LoadFault::Invalid {
+            function: u32::try_from(index).ok(),
+            offset: instruction_offset(body, place),
+        }),
+        None => Ok(()),
+    }
 }
