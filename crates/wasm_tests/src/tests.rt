@@ -9,24 +9,24 @@ mod rules;
 mod sizes;
 mod typed;
 
-use std::alloc::{AllocError, Global};
+use std::alloc::Global;
 use std::process::Abort;
 use wasm_module::{LoadFault, decode};
 
 /// Bytes, and what they are refused with.
 type Row<'a> = (&'a [u8], Option<LoadFault>);
 
-/// Decodes each row after these bytes.
-fn assert_rows(
-    rt: &impl Abort,
-    alloc: Global,
-    front: &[u8],
-    rows: &[Row<'_>],
-) -> Result<(), AllocError> {
-    for (i, (tail, want)) in rows.iter().enumerate() {
-        let mut bytes = Vec::from_slice(alloc, front)?;
-        bytes.extend_from_slice(tail)?;
-        assert_eq!(rt; decode(alloc, &bytes).err(), *want, "row {i}");
+/// Why these bytes, one part after another, aren't decoded, if they aren't.
+fn fault_of(alloc: Global, parts: &[&[u8]]) -> Option<LoadFault> {
+    match parts.concat(alloc) {
+        Ok(bytes) => decode(alloc, &bytes).err(),
+        Err(_) => Some(LoadFault::Memory),
     }
-    Ok(())
+}
+
+/// Decodes each row after these bytes.
+fn assert_rows(rt: &impl Abort, alloc: Global, front: &[u8], rows: &[Row<'_>]) {
+    for (i, (tail, want)) in rows.iter().enumerate() {
+        assert!(rt; fault_of(alloc, &[front, tail]) == *want, "row {i}");
+    }
 }

@@ -3,7 +3,6 @@
 use super::loaded;
 use std::alloc::{AllocError, Global};
 use std::process::Abort;
-use std::test::Fail;
 use wasm_branch::{Target, Targets, targets};
 use wasm_valid::Valid;
 
@@ -13,11 +12,9 @@ const TYPES: &[u8] = b"\0asm\x01\0\0\0\x01\x08\x02\x60\x00\x00\x60\x00\x01\x7F";
 /// A module of one function of the type that has this index, with these instructions, under 100 bytes.
 fn module(alloc: Global, type_index: u8, code: &[u8]) -> Result<Vec<u8>, AllocError> {
     let size = code.len().min(100) as u8 + 1;
-    let mut bytes = Vec::from_slice(alloc, TYPES)?;
-    bytes.extend_from_slice(&[0x03, 0x02, 0x01, type_index])?;
-    bytes.extend_from_slice(&[0x0A, size + 2, 0x01, size, 0x00])?;
-    bytes.extend_from_slice(code)?;
-    Ok(bytes)
+    let functions = [0x03, 0x02, 0x01, type_index];
+    let front = [0x0A, size + 2, 0x01, size, 0x00];
+    [TYPES, &functions, &front, code].concat(alloc)
 }
 
 /// A position, how many values are kept, and the height.
@@ -45,77 +42,88 @@ fn assert_targets(rt: &impl Abort, targets: &Targets, rows: &[Row<'_>]) {
 fn assert_laid(rt: &impl Abort, alloc: Global, valid: &Valid<'_>, rows: &[Row<'_>]) {
     match targets(alloc, valid) {
         Ok(targets) => assert_targets(rt, &targets, rows),
-        Err(fault) => panic!(rt; "{fault}"),
+        Err(_) => panic!(rt; "no memory"),
     }
 }
 
-/// Asks where instructions of this code lead, in a function of the type that has this index.
-fn assert_code(
-    rt: &impl Abort,
-    alloc: Global,
-    type_index: u8,
-    code: &[u8],
-    rows: &[Row<'_>],
-) -> Result<(), AllocError> {
-    let bytes = module(alloc, type_index, code)?;
-    match loaded(alloc, &bytes) {
+fn assert_module(rt: &impl Abort, alloc: Global, bytes: &[u8], rows: &[Row<'_>]) {
+    match loaded(alloc, bytes) {
         Ok(valid) => {
             assert_laid(rt, alloc, &valid, rows);
             drop(valid);
         }
-        Err(fault) => panic!(rt; "{fault}"),
+        Err(_) => panic!(rt; "refused"),
     }
-    Ok(())
+}
+
+/// Asks where instructions of this code lead, in a function of the type that has this index.
+fn assert_code(rt: &impl Abort, alloc: Global, type_index: u8, code: &[u8], rows: &[Row<'_>]) {
+    match module(alloc, type_index, code) {
+        Ok(bytes) => assert_module(rt, alloc, &bytes, rows),
+        Err(_) => panic!(rt; "no memory"),
+    }
 }
 
 #[test]
-fn branches_in_functions_without_results(rt: HostRuntime) -> Result<(), Fail> {
-    let codes: [(&[u8], &[Row<'_>]); 4] = [
-        // loop, br 0, end, end: it is done again; there is no fifth instruction and no second function
-        (
-            b"\x03\x40\x0C\x00\x0B\x0B",
-            &[(0, 1, &[(0, 0, 0)]), (0, 0, &[]), (0, 4, &[]), (1, 1, &[])],
-        ),
-        // block i32, i32.const 7, br 0, end, drop, end
-        (
-            b"\x02\x7F\x41\x07\x0C\x00\x0B\x1A\x0B",
-            &[(0, 2, &[(4, 1, 0)])],
-        ),
-        // block, block, i32.const 0, br_table 0 1 2, end, end, end: the default is last
-        (
-            b"\x02\x40\x02\x40\x41\x00\x0E\x02\x00\x01\x02\x0B\x0B\x0B",
-            &[(0, 3, &[(5, 0, 0), (6, 0, 0), (7, 0, 0)])],
-        ),
-        // unreachable, drop, block, br 0, end, end
-        (b"\x00\x1A\x02\x40\x0C\x00\x0B\x0B", &[(0, 3, &[(5, 0, 0)])]),
-    ];
-    for (code, rows) in codes {
-        assert_code(&rt, rt.alloc(), 0, code, rows)?;
-    }
-    Ok(())
+fn branches_in_functions_without_results(rt: HostRuntime) {
+    // loop, br 0, end, end: it is done again; there is no fifth instruction and no second function
+    assert_code(
+        &rt,
+        rt.alloc(),
+        0,
+        b"\x03\x40\x0C\x00\x0B\x0B",
+        &[(0, 1, &[(0, 0, 0)]), (0, 0, &[]), (0, 4, &[]), (1, 1, &[])],
+    );
+    // block i32, i32.const 7, br 0, end, drop, end
+    assert_code(
+        &rt,
+        rt.alloc(),
+        0,
+        b"\x02\x7F\x41\x07\x0C\x00\x0B\x1A\x0B",
+        &[(0, 2, &[(4, 1, 0)])],
+    );
+    // block, block, i32.const 0, br_table 0 1 2, end, end, end: the default is last
+    assert_code(
+        &rt,
+        rt.alloc(),
+        0,
+        b"\x02\x40\x02\x40\x41\x00\x0E\x02\x00\x01\x02\x0B\x0B\x0B",
+        &[(0, 3, &[(5, 0, 0), (6, 0, 0), (7, 0, 0)])],
+    );
+    // unreachable, drop, block, br 0, end, end
+    assert_code(
+        &rt,
+        rt.alloc(),
+        0,
+        b"\x00\x1A\x02\x40\x0C\x00\x0B\x0B",
+        &[(0, 3, &[(5, 0, 0)])],
+    );
 }
 
 #[test]
-fn branches_in_functions_with_a_result(rt: HostRuntime) -> Result<(), Fail> {
-    let codes: [(&[u8], &[Row<'_>]); 3] = [
-        // i32.const 1, i32.const 2, block i32, i32.const 3, i32.const 4, br_if 0, end, return, end
-        (
-            b"\x41\x01\x41\x02\x02\x7F\x41\x03\x41\x04\x0D\x00\x0B\x0F\x0B",
-            &[(0, 5, &[(7, 1, 2)]), (0, 7, &[(9, 1, 0)])],
-        ),
-        // i32.const 9, i32.const 1, if i32, i32.const 5, else, i32.const 6, end, i32.add, end
-        (
-            b"\x41\x09\x41\x01\x04\x7F\x41\x05\x05\x41\x06\x0B\x6A\x0B",
-            &[(0, 2, &[(5, 0, 1)]), (0, 4, &[(7, 1, 1)])],
-        ),
-        // call 0, call 0, if, i32.const 3, br 1, end, end
-        (
-            b"\x10\x00\x10\x00\x04\x40\x41\x03\x0C\x01\x0B\x0B",
-            &[(0, 2, &[(6, 0, 1)]), (0, 4, &[(7, 1, 0)])],
-        ),
-    ];
-    for (code, rows) in codes {
-        assert_code(&rt, rt.alloc(), 1, code, rows)?;
-    }
-    Ok(())
+fn branches_in_functions_with_a_result(rt: HostRuntime) {
+    // i32.const 1, i32.const 2, block i32, i32.const 3, i32.const 4, br_if 0, end, return, end
+    assert_code(
+        &rt,
+        rt.alloc(),
+        1,
+        b"\x41\x01\x41\x02\x02\x7F\x41\x03\x41\x04\x0D\x00\x0B\x0F\x0B",
+        &[(0, 5, &[(7, 1, 2)]), (0, 7, &[(9, 1, 0)])],
+    );
+    // i32.const 9, i32.const 1, if i32, i32.const 5, else, i32.const 6, end, i32.add, end
+    assert_code(
+        &rt,
+        rt.alloc(),
+        1,
+        b"\x41\x09\x41\x01\x04\x7F\x41\x05\x05\x41\x06\x0B\x6A\x0B",
+        &[(0, 2, &[(5, 0, 1)]), (0, 4, &[(7, 1, 1)])],
+    );
+    // call 0, call 0, if, i32.const 3, br 1, end, end
+    assert_code(
+        &rt,
+        rt.alloc(),
+        1,
+        b"\x10\x00\x10\x00\x04\x40\x41\x03\x0C\x01\x0B\x0B",
+        &[(0, 2, &[(6, 0, 1)]), (0, 4, &[(7, 1, 0)])],
+    );
 }

@@ -7,106 +7,116 @@ use wasm_num::{
 };
 
 /// Operands, and what shl, shr_s, shr_u, rotl and rotr make of them.
-const SHIFTS_32: [[u32; 7]; 15] = [
-    [0, 0, 0, 0, 0, 0, 0],
-    [1, 0, 1, 1, 1, 1, 1],
-    [0, 1, 0, 0, 0, 0, 0],
-    [0x8000_0000, 0xffff_ffff, 0, 0xffff_ffff, 1, 0x4000_0000, 1],
-    [
-        0xffff_ffff,
+static SHIFTS_32: [(u32, u32, [u32; 5]); 15] = [
+    (0, 0, [0, 0, 0, 0, 0]),
+    (1, 0, [1, 1, 1, 1, 1]),
+    (0, 1, [0, 0, 0, 0, 0]),
+    (
         0x8000_0000,
         0xffff_ffff,
+        [0, 0xffff_ffff, 1, 0x4000_0000, 1],
+    ),
+    (
         0xffff_ffff,
-        0xffff_ffff,
-        0xffff_ffff,
-        0xffff_ffff,
-    ],
-    [
+        0x8000_0000,
+        [
+            0xffff_ffff,
+            0xffff_ffff,
+            0xffff_ffff,
+            0xffff_ffff,
+            0xffff_ffff,
+        ],
+    ),
+    (
         0x8000_0000,
         0,
+        [
+            0x8000_0000,
+            0x8000_0000,
+            0x8000_0000,
+            0x8000_0000,
+            0x8000_0000,
+        ],
+    ),
+    (
         0x8000_0000,
-        0x8000_0000,
-        0x8000_0000,
-        0x8000_0000,
-        0x8000_0000,
-    ],
-    [0x8000_0000, 1, 0, 0xc000_0000, 0x4000_0000, 1, 0x4000_0000],
-    [
-        0xffff_ffff,
-        0xffff_ffff,
-        0x8000_0000,
-        0xffff_ffff,
         1,
+        [0, 0xc000_0000, 0x4000_0000, 1, 0x4000_0000],
+    ),
+    (
         0xffff_ffff,
         0xffff_ffff,
-    ],
-    [
+        [0x8000_0000, 0xffff_ffff, 1, 0xffff_ffff, 0xffff_ffff],
+    ),
+    (
         0x7fff_ffff,
         1,
-        0xffff_fffe,
-        0x3fff_ffff,
-        0x3fff_ffff,
-        0xffff_fffe,
-        0xbfff_ffff,
-    ],
-    [1, 0x1f, 0x8000_0000, 0, 0, 0x8000_0000, 2],
-    [0x8000_0000, 0x1f, 0, 0xffff_ffff, 1, 0x4000_0000, 1],
-    [
+        [
+            0xffff_fffe,
+            0x3fff_ffff,
+            0x3fff_ffff,
+            0xffff_fffe,
+            0xbfff_ffff,
+        ],
+    ),
+    (1, 0x1f, [0x8000_0000, 0, 0, 0x8000_0000, 2]),
+    (0x8000_0000, 0x1f, [0, 0xffff_ffff, 1, 0x4000_0000, 1]),
+    (
         0xffff_ffff,
         0x20,
-        0xffff_ffff,
-        0xffff_ffff,
-        0xffff_ffff,
-        0xffff_ffff,
-        0xffff_ffff,
-    ],
-    [
+        [
+            0xffff_ffff,
+            0xffff_ffff,
+            0xffff_ffff,
+            0xffff_ffff,
+            0xffff_ffff,
+        ],
+    ),
+    (
         0x8000_0001,
         0x21,
-        2,
-        0xc000_0000,
-        0x4000_0000,
-        3,
-        0xc000_0000,
-    ],
-    [7, 0xffff_fffe, 0xc000_0000, 0, 0, 0xc000_0001, 0x1c],
-    [
+        [2, 0xc000_0000, 0x4000_0000, 3, 0xc000_0000],
+    ),
+    (7, 0xffff_fffe, [0xc000_0000, 0, 0, 0xc000_0001, 0x1c]),
+    (
         0xffff_fff9,
         2,
-        0xffff_ffe4,
-        0xffff_fffe,
-        0x3fff_fffe,
-        0xffff_ffe7,
-        0x7fff_fffe,
-    ],
+        [
+            0xffff_ffe4,
+            0xffff_fffe,
+            0x3fff_fffe,
+            0xffff_ffe7,
+            0x7fff_fffe,
+        ],
+    ),
 ];
 
 /// Operands, and what div_s, div_u, rem_s and rem_u make of them.
-const DIVISIONS_32: [[u32; 6]; 11] = [
-    [0, 1, 0, 0, 0, 0],
-    [0xffff_ffff, 0x8000_0000, 0, 1, 0xffff_ffff, 0x7fff_ffff],
-    [0x8000_0000, 1, 0x8000_0000, 0x8000_0000, 0, 0],
-    [0xffff_ffff, 0xffff_ffff, 1, 1, 0, 0],
-    [0x7fff_ffff, 1, 0x7fff_ffff, 0x7fff_ffff, 0, 0],
-    [1, 0x1f, 0, 0, 1, 1],
-    [0x8000_0000, 0x1f, 0xfbde_f7be, 0x421_0842, 0xffff_fffe, 2],
-    [0xffff_ffff, 0x20, 0, 0x7ff_ffff, 0xffff_ffff, 0x1f],
-    [0x8000_0001, 0x21, 0xfc1f_07c2, 0x3e0_f83e, 0xffff_ffff, 3],
-    [7, 0xffff_fffe, 0xffff_fffd, 0, 1, 7],
-    [0xffff_fff9, 2, 0xffff_fffd, 0x7fff_fffc, 0xffff_ffff, 1],
+static DIVISIONS_32: [(u32, u32, [u32; 4]); 11] = [
+    (0, 1, [0, 0, 0, 0]),
+    (0xffff_ffff, 0x8000_0000, [0, 1, 0xffff_ffff, 0x7fff_ffff]),
+    (0x8000_0000, 1, [0x8000_0000, 0x8000_0000, 0, 0]),
+    (0xffff_ffff, 0xffff_ffff, [1, 1, 0, 0]),
+    (0x7fff_ffff, 1, [0x7fff_ffff, 0x7fff_ffff, 0, 0]),
+    (1, 0x1f, [0, 0, 1, 1]),
+    (0x8000_0000, 0x1f, [0xfbde_f7be, 0x421_0842, 0xffff_fffe, 2]),
+    (0xffff_ffff, 0x20, [0, 0x7ff_ffff, 0xffff_ffff, 0x1f]),
+    (0x8000_0001, 0x21, [0xfc1f_07c2, 0x3e0_f83e, 0xffff_ffff, 3]),
+    (7, 0xffff_fffe, [0xffff_fffd, 0, 1, 7]),
+    (0xffff_fff9, 2, [0xffff_fffd, 0x7fff_fffc, 0xffff_ffff, 1]),
 ];
 
 /// Operands, and what clz, ctz, popcnt, extend8_s and extend16_s make of them.
-const UNARY_32: [[u32; 6]; 9] = [
-    [0, 0x20, 0x20, 0, 0, 0],
-    [1, 0x1f, 0, 1, 1, 1],
-    [0xffff_ffff, 0, 0, 0x20, 0xffff_ffff, 0xffff_ffff],
-    [0x8000_0000, 0, 0x1f, 1, 0, 0],
-    [0x7fff_ffff, 1, 0, 0x1f, 0xffff_ffff, 0xffff_ffff],
-    [0x7f, 0x19, 0, 7, 0x7f, 0x7f],
-    [0x80, 0x18, 7, 1, 0xffff_ff80, 0x80],
-    [0x7fff, 0x11, 0, 0xf, 0xffff_ffff, 0x7fff],
-    [0x8000, 0x10, 0xf, 1, 0, 0xffff_8000],
+static UNARY_32: [(u32, [u32; 5]); 9] = [
+    (0, [0x20, 0x20, 0, 0, 0]),
+    (1, [0x1f, 0, 1, 1, 1]),
+    (0xffff_ffff, [0, 0, 0x20, 0xffff_ffff, 0xffff_ffff]),
+    (0x8000_0000, [0, 0x1f, 1, 0, 0]),
+    (0x7fff_ffff, [1, 0, 0x1f, 0xffff_ffff, 0xffff_ffff]),
+    (0x7f, [0x19, 0, 7, 0x7f, 0x7f]),
+    (0x80, [0x18, 7, 1, 0xffff_ff80, 0x80]),
+    (0x7fff, [0x11, 0, 0xf, 0xffff_ffff, 0x7fff]),
+    (0x8000, [0x10, 0xf, 1, 0, 0xffff_8000]),
 ];
 
 fn shifted(x: u32, y: u32) -> [u32; 5] {
@@ -121,12 +131,8 @@ fn shifted(x: u32, y: u32) -> [u32; 5] {
 
 #[test]
 fn shifts_32(rt: HostRuntime) {
-    for [x, y, shl, shr_s, shr_u, rotl, rotr] in SHIFTS_32 {
-        assert_eq!(rt;
-            shifted(x, y),
-            [shl, shr_s, shr_u, rotl, rotr],
-            "{x} by {y}"
-        );
+    for (x, y, want) in &SHIFTS_32 {
+        assert!(rt; shifted(*x, *y) == *want, "{x} by {y}");
     }
 }
 
@@ -141,20 +147,20 @@ fn divided(x: u32, y: u32) -> [Result<u32, Trap>; 4] {
 
 #[test]
 fn divisions_32(rt: HostRuntime) {
-    for [x, y, div_s, div_u, rem_s, rem_u] in DIVISIONS_32 {
-        assert!(rt;
-            divided(x, y) == [Ok(div_s), Ok(div_u), Ok(rem_s), Ok(rem_u)],
-            "{x} by {y}"
-        );
+    for (x, y, [div_s, div_u, rem_s, rem_u]) in &DIVISIONS_32 {
+        let want = [Ok(*div_s), Ok(*div_u), Ok(*rem_s), Ok(*rem_u)];
+        assert!(rt; divided(*x, *y) == want, "{x} by {y}");
     }
 }
 
 #[test]
 fn divisions_without_a_quotient_32(rt: HostRuntime) {
     let least = 0x8000_0000;
-    for x in [0, 1, least, u32::MAX] {
-        assert!(rt; divided(x, 0) == [Err(Trap::DivideByZero); 4], "{x} by 0");
-    }
+    let zero = [Err(Trap::DivideByZero); 4];
+    assert!(rt; divided(0, 0) == zero);
+    assert!(rt; divided(1, 0) == zero);
+    assert!(rt; divided(least, 0) == zero);
+    assert!(rt; divided(u32::MAX, 0) == zero);
     assert!(rt; divided(least, u32::MAX) == [Err(Trap::IntegerOverflow), Ok(0), Ok(0), Ok(least)]);
 }
 
@@ -170,12 +176,7 @@ fn measured(x: u32) -> [u32; 5] {
 
 #[test]
 fn unary_32(rt: HostRuntime) {
-    for [x, clz, ctz, popcnt, extend8_s, extend16_s] in UNARY_32 {
-        assert_eq!(rt; i32_eqz(x), x == 0);
-        assert_eq!(rt;
-            measured(x),
-            [clz, ctz, popcnt, extend8_s, extend16_s],
-            "of {x}"
-        );
+    for (x, want) in &UNARY_32 {
+        assert!(rt; i32_eqz(*x) == (*x == 0) && measured(*x) == *want, "of {x}");
     }
 }

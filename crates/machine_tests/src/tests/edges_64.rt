@@ -8,221 +8,224 @@ use wasm_num::{
 };
 
 /// Operands, and what shl, shr_s, shr_u, rotl and rotr make of them.
-const SHIFTS_64: [[u64; 7]; 15] = [
-    [0, 0, 0, 0, 0, 0, 0],
-    [1, 0, 1, 1, 1, 1, 1],
-    [0, 1, 0, 0, 0, 0, 0],
-    [
+static SHIFTS_64: [(u64, u64, [u64; 5]); 15] = [
+    (0, 0, [0, 0, 0, 0, 0]),
+    (1, 0, [1, 1, 1, 1, 1]),
+    (0, 1, [0, 0, 0, 0, 0]),
+    (
         0x8000_0000_0000_0000,
         0xffff_ffff_ffff_ffff,
-        0,
-        0xffff_ffff_ffff_ffff,
-        1,
-        0x4000_0000_0000_0000,
-        1,
-    ],
-    [
+        [0, 0xffff_ffff_ffff_ffff, 1, 0x4000_0000_0000_0000, 1],
+    ),
+    (
         0xffff_ffff_ffff_ffff,
         0x8000_0000_0000_0000,
-        0xffff_ffff_ffff_ffff,
-        0xffff_ffff_ffff_ffff,
-        0xffff_ffff_ffff_ffff,
-        0xffff_ffff_ffff_ffff,
-        0xffff_ffff_ffff_ffff,
-    ],
-    [
+        [
+            0xffff_ffff_ffff_ffff,
+            0xffff_ffff_ffff_ffff,
+            0xffff_ffff_ffff_ffff,
+            0xffff_ffff_ffff_ffff,
+            0xffff_ffff_ffff_ffff,
+        ],
+    ),
+    (
         0x8000_0000_0000_0000,
         0,
-        0x8000_0000_0000_0000,
-        0x8000_0000_0000_0000,
-        0x8000_0000_0000_0000,
-        0x8000_0000_0000_0000,
-        0x8000_0000_0000_0000,
-    ],
-    [
+        [
+            0x8000_0000_0000_0000,
+            0x8000_0000_0000_0000,
+            0x8000_0000_0000_0000,
+            0x8000_0000_0000_0000,
+            0x8000_0000_0000_0000,
+        ],
+    ),
+    (
         0x8000_0000_0000_0000,
         1,
-        0,
-        0xc000_0000_0000_0000,
-        0x4000_0000_0000_0000,
-        1,
-        0x4000_0000_0000_0000,
-    ],
-    [
+        [
+            0,
+            0xc000_0000_0000_0000,
+            0x4000_0000_0000_0000,
+            1,
+            0x4000_0000_0000_0000,
+        ],
+    ),
+    (
         0xffff_ffff_ffff_ffff,
         0xffff_ffff_ffff_ffff,
-        0x8000_0000_0000_0000,
-        0xffff_ffff_ffff_ffff,
-        1,
-        0xffff_ffff_ffff_ffff,
-        0xffff_ffff_ffff_ffff,
-    ],
-    [
+        [
+            0x8000_0000_0000_0000,
+            0xffff_ffff_ffff_ffff,
+            1,
+            0xffff_ffff_ffff_ffff,
+            0xffff_ffff_ffff_ffff,
+        ],
+    ),
+    (
         0x7fff_ffff_ffff_ffff,
         1,
-        0xffff_ffff_ffff_fffe,
-        0x3fff_ffff_ffff_ffff,
-        0x3fff_ffff_ffff_ffff,
-        0xffff_ffff_ffff_fffe,
-        0xbfff_ffff_ffff_ffff,
-    ],
-    [
+        [
+            0xffff_ffff_ffff_fffe,
+            0x3fff_ffff_ffff_ffff,
+            0x3fff_ffff_ffff_ffff,
+            0xffff_ffff_ffff_fffe,
+            0xbfff_ffff_ffff_ffff,
+        ],
+    ),
+    (
         1,
         0x3f,
-        0x8000_0000_0000_0000,
-        0,
-        0,
-        0x8000_0000_0000_0000,
-        2,
-    ],
-    [
+        [0x8000_0000_0000_0000, 0, 0, 0x8000_0000_0000_0000, 2],
+    ),
+    (
         0x8000_0000_0000_0000,
         0x3f,
-        0,
-        0xffff_ffff_ffff_ffff,
-        1,
-        0x4000_0000_0000_0000,
-        1,
-    ],
-    [
+        [0, 0xffff_ffff_ffff_ffff, 1, 0x4000_0000_0000_0000, 1],
+    ),
+    (
         0xffff_ffff_ffff_ffff,
         0x40,
-        0xffff_ffff_ffff_ffff,
-        0xffff_ffff_ffff_ffff,
-        0xffff_ffff_ffff_ffff,
-        0xffff_ffff_ffff_ffff,
-        0xffff_ffff_ffff_ffff,
-    ],
-    [
+        [
+            0xffff_ffff_ffff_ffff,
+            0xffff_ffff_ffff_ffff,
+            0xffff_ffff_ffff_ffff,
+            0xffff_ffff_ffff_ffff,
+            0xffff_ffff_ffff_ffff,
+        ],
+    ),
+    (
         0x8000_0000_0000_0001,
         0x41,
-        2,
-        0xc000_0000_0000_0000,
-        0x4000_0000_0000_0000,
-        3,
-        0xc000_0000_0000_0000,
-    ],
-    [
+        [
+            2,
+            0xc000_0000_0000_0000,
+            0x4000_0000_0000_0000,
+            3,
+            0xc000_0000_0000_0000,
+        ],
+    ),
+    (
         7,
         0xffff_ffff_ffff_fffe,
-        0xc000_0000_0000_0000,
-        0,
-        0,
-        0xc000_0000_0000_0001,
-        0x1c,
-    ],
-    [
+        [0xc000_0000_0000_0000, 0, 0, 0xc000_0000_0000_0001, 0x1c],
+    ),
+    (
         0xffff_ffff_ffff_fff9,
         2,
-        0xffff_ffff_ffff_ffe4,
-        0xffff_ffff_ffff_fffe,
-        0x3fff_ffff_ffff_fffe,
-        0xffff_ffff_ffff_ffe7,
-        0x7fff_ffff_ffff_fffe,
-    ],
+        [
+            0xffff_ffff_ffff_ffe4,
+            0xffff_ffff_ffff_fffe,
+            0x3fff_ffff_ffff_fffe,
+            0xffff_ffff_ffff_ffe7,
+            0x7fff_ffff_ffff_fffe,
+        ],
+    ),
 ];
 
 /// Operands, and what div_s, div_u, rem_s and rem_u make of them.
-const DIVISIONS_64: [[u64; 6]; 11] = [
-    [0, 1, 0, 0, 0, 0],
-    [
+static DIVISIONS_64: [(u64, u64, [u64; 4]); 11] = [
+    (0, 1, [0, 0, 0, 0]),
+    (
         0xffff_ffff_ffff_ffff,
         0x8000_0000_0000_0000,
-        0,
-        1,
-        0xffff_ffff_ffff_ffff,
-        0x7fff_ffff_ffff_ffff,
-    ],
-    [
+        [0, 1, 0xffff_ffff_ffff_ffff, 0x7fff_ffff_ffff_ffff],
+    ),
+    (
         0x8000_0000_0000_0000,
         1,
-        0x8000_0000_0000_0000,
-        0x8000_0000_0000_0000,
-        0,
-        0,
-    ],
-    [0xffff_ffff_ffff_ffff, 0xffff_ffff_ffff_ffff, 1, 1, 0, 0],
-    [
+        [0x8000_0000_0000_0000, 0x8000_0000_0000_0000, 0, 0],
+    ),
+    (0xffff_ffff_ffff_ffff, 0xffff_ffff_ffff_ffff, [1, 1, 0, 0]),
+    (
         0x7fff_ffff_ffff_ffff,
         1,
-        0x7fff_ffff_ffff_ffff,
-        0x7fff_ffff_ffff_ffff,
-        0,
-        0,
-    ],
-    [1, 0x3f, 0, 0, 1, 1],
-    [
+        [0x7fff_ffff_ffff_ffff, 0x7fff_ffff_ffff_ffff, 0, 0],
+    ),
+    (1, 0x3f, [0, 0, 1, 1]),
+    (
         0x8000_0000_0000_0000,
         0x3f,
-        0xfdf7_df7d_f7df_7df8,
-        0x208_2082_0820_8208,
-        0xffff_ffff_ffff_fff8,
-        8,
-    ],
-    [
+        [
+            0xfdf7_df7d_f7df_7df8,
+            0x208_2082_0820_8208,
+            0xffff_ffff_ffff_fff8,
+            8,
+        ],
+    ),
+    (
         0xffff_ffff_ffff_ffff,
         0x40,
-        0,
-        0x3ff_ffff_ffff_ffff,
-        0xffff_ffff_ffff_ffff,
-        0x3f,
-    ],
-    [
+        [0, 0x3ff_ffff_ffff_ffff, 0xffff_ffff_ffff_ffff, 0x3f],
+    ),
+    (
         0x8000_0000_0000_0001,
         0x41,
-        0xfe07_e07e_07e0_7e08,
-        0x1f8_1f81_f81f_81f8,
-        0xffff_ffff_ffff_fff9,
-        9,
-    ],
-    [7, 0xffff_ffff_ffff_fffe, 0xffff_ffff_ffff_fffd, 0, 1, 7],
-    [
+        [
+            0xfe07_e07e_07e0_7e08,
+            0x1f8_1f81_f81f_81f8,
+            0xffff_ffff_ffff_fff9,
+            9,
+        ],
+    ),
+    (7, 0xffff_ffff_ffff_fffe, [0xffff_ffff_ffff_fffd, 0, 1, 7]),
+    (
         0xffff_ffff_ffff_fff9,
         2,
-        0xffff_ffff_ffff_fffd,
-        0x7fff_ffff_ffff_fffc,
-        0xffff_ffff_ffff_ffff,
-        1,
-    ],
+        [
+            0xffff_ffff_ffff_fffd,
+            0x7fff_ffff_ffff_fffc,
+            0xffff_ffff_ffff_ffff,
+            1,
+        ],
+    ),
 ];
 
 /// Operands, and what clz, ctz, popcnt, extend8_s, extend16_s and extend32_s make of them.
-const UNARY_64: [[u64; 7]; 11] = [
-    [0, 0x40, 0x40, 0, 0, 0, 0],
-    [1, 0x3f, 0, 1, 1, 1, 1],
-    [
+static UNARY_64: [(u64, [u64; 6]); 11] = [
+    (0, [0x40, 0x40, 0, 0, 0, 0]),
+    (1, [0x3f, 0, 1, 1, 1, 1]),
+    (
         0xffff_ffff_ffff_ffff,
-        0,
-        0,
-        0x40,
-        0xffff_ffff_ffff_ffff,
-        0xffff_ffff_ffff_ffff,
-        0xffff_ffff_ffff_ffff,
-    ],
-    [0x8000_0000_0000_0000, 0, 0x3f, 1, 0, 0, 0],
-    [
+        [
+            0,
+            0,
+            0x40,
+            0xffff_ffff_ffff_ffff,
+            0xffff_ffff_ffff_ffff,
+            0xffff_ffff_ffff_ffff,
+        ],
+    ),
+    (0x8000_0000_0000_0000, [0, 0x3f, 1, 0, 0, 0]),
+    (
         0x7fff_ffff_ffff_ffff,
-        1,
-        0,
-        0x3f,
-        0xffff_ffff_ffff_ffff,
-        0xffff_ffff_ffff_ffff,
-        0xffff_ffff_ffff_ffff,
-    ],
-    [0x7f, 0x39, 0, 7, 0x7f, 0x7f, 0x7f],
-    [0x80, 0x38, 7, 1, 0xffff_ffff_ffff_ff80, 0x80, 0x80],
-    [0x7fff, 0x31, 0, 0xf, 0xffff_ffff_ffff_ffff, 0x7fff, 0x7fff],
-    [0x8000, 0x30, 0xf, 1, 0, 0xffff_ffff_ffff_8000, 0x8000],
-    [
+        [
+            1,
+            0,
+            0x3f,
+            0xffff_ffff_ffff_ffff,
+            0xffff_ffff_ffff_ffff,
+            0xffff_ffff_ffff_ffff,
+        ],
+    ),
+    (0x7f, [0x39, 0, 7, 0x7f, 0x7f, 0x7f]),
+    (0x80, [0x38, 7, 1, 0xffff_ffff_ffff_ff80, 0x80, 0x80]),
+    (
+        0x7fff,
+        [0x31, 0, 0xf, 0xffff_ffff_ffff_ffff, 0x7fff, 0x7fff],
+    ),
+    (0x8000, [0x30, 0xf, 1, 0, 0xffff_ffff_ffff_8000, 0x8000]),
+    (
         0x7fff_ffff,
-        0x21,
-        0,
-        0x1f,
-        0xffff_ffff_ffff_ffff,
-        0xffff_ffff_ffff_ffff,
-        0x7fff_ffff,
-    ],
-    [0x8000_0000, 0x20, 0x1f, 1, 0, 0, 0xffff_ffff_8000_0000],
+        [
+            0x21,
+            0,
+            0x1f,
+            0xffff_ffff_ffff_ffff,
+            0xffff_ffff_ffff_ffff,
+            0x7fff_ffff,
+        ],
+    ),
+    (0x8000_0000, [0x20, 0x1f, 1, 0, 0, 0xffff_ffff_8000_0000]),
 ];
 
 fn shifted(x: u64, y: u64) -> [u64; 5] {
@@ -237,12 +240,8 @@ fn shifted(x: u64, y: u64) -> [u64; 5] {
 
 #[test]
 fn shifts_64(rt: HostRuntime) {
-    for [x, y, shl, shr_s, shr_u, rotl, rotr] in SHIFTS_64 {
-        assert_eq!(rt;
-            shifted(x, y),
-            [shl, shr_s, shr_u, rotl, rotr],
-            "{x} by {y}"
-        );
+    for (x, y, want) in &SHIFTS_64 {
+        assert!(rt; shifted(*x, *y) == *want, "{x} by {y}");
     }
 }
 
@@ -257,20 +256,20 @@ fn divided(x: u64, y: u64) -> [Result<u64, Trap>; 4] {
 
 #[test]
 fn divisions_64(rt: HostRuntime) {
-    for [x, y, div_s, div_u, rem_s, rem_u] in DIVISIONS_64 {
-        assert!(rt;
-            divided(x, y) == [Ok(div_s), Ok(div_u), Ok(rem_s), Ok(rem_u)],
-            "{x} by {y}"
-        );
+    for (x, y, [div_s, div_u, rem_s, rem_u]) in &DIVISIONS_64 {
+        let want = [Ok(*div_s), Ok(*div_u), Ok(*rem_s), Ok(*rem_u)];
+        assert!(rt; divided(*x, *y) == want, "{x} by {y}");
     }
 }
 
 #[test]
 fn divisions_without_a_quotient_64(rt: HostRuntime) {
     let least = 0x8000_0000_0000_0000;
-    for x in [0, 1, least, u64::MAX] {
-        assert!(rt; divided(x, 0) == [Err(Trap::DivideByZero); 4], "{x} by 0");
-    }
+    let zero = [Err(Trap::DivideByZero); 4];
+    assert!(rt; divided(0, 0) == zero);
+    assert!(rt; divided(1, 0) == zero);
+    assert!(rt; divided(least, 0) == zero);
+    assert!(rt; divided(u64::MAX, 0) == zero);
     assert!(rt; divided(least, u64::MAX) == [Err(Trap::IntegerOverflow), Ok(0), Ok(0), Ok(least)]);
 }
 
@@ -287,12 +286,7 @@ fn measured(x: u64) -> [u64; 6] {
 
 #[test]
 fn unary_64(rt: HostRuntime) {
-    for [x, clz, ctz, popcnt, extend8_s, extend16_s, extend32_s] in UNARY_64 {
-        assert_eq!(rt; i64_eqz(x), x == 0);
-        assert_eq!(rt;
-            measured(x),
-            [clz, ctz, popcnt, extend8_s, extend16_s, extend32_s],
-            "of {x}"
-        );
+    for (x, want) in &UNARY_64 {
+        assert!(rt; i64_eqz(*x) == (*x == 0) && measured(*x) == *want, "of {x}");
     }
 }

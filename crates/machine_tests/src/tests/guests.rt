@@ -6,7 +6,7 @@ ghost use Rattle.wasm_store.specs.declared.call.HostCall.TheVariants.{ProcExit};
 use super::loaded;
 use std::alloc::{AllocError, Global};
 use std::process::Abort;
-use std::test::Fail;
+use wasm_interp::Outcome::{Exited, Trapped};
 use wasm_interp::{Answer, Errno, Host, HostCall, Machine, Memory, Outcome, Pause, Trap};
 use wasm_module::FuncType;
 
@@ -53,10 +53,7 @@ const FRONT: &[u8] =
 /// The bytes of a module whose function has no locals and this code, under 100 bytes.
 fn guest(alloc: Global, code: &[u8]) -> Result<Vec<u8>, AllocError> {
     let size = code.len().min(100) as u8 + 1;
-    let mut bytes = Vec::from_slice(alloc, FRONT)?;
-    bytes.extend_from_slice(&[size + 2, 1, size, 0])?;
-    bytes.extend_from_slice(code)?;
-    Ok(bytes)
+    [FRONT, &[size + 2, 1, size, 0], code].concat(alloc)
 }
 
 fn resumed(machine: &mut Machine<'_>, host: &mut Recorder, units: u32) -> Option<Pause> {
@@ -88,66 +85,66 @@ fn run(alloc: Global, bytes: &[u8], units: u32, times: u32) -> Option<Ending> {
     Some((pause?, used, host.seen))
 }
 
-/// Code, how it pauses when it is resumed for 1,000 units at most, and the units that it uses.
-type Row<'a> = (&'a [u8], Pause, u64);
-
-fn assert_rows(rt: &impl Abort, alloc: Global, rows: &[Row<'_>]) -> Result<(), AllocError> {
-    for (i, (code, pause, used)) in rows.iter().enumerate() {
-        let bytes = guest(alloc, code)?;
-        let want = Some((*pause, *used, (0, 0, 0)));
-        assert_eq!(rt; run(alloc, &bytes, 1_000, 1), want, "row {i}");
+/// The ending of a guest with this code.
+fn ending(alloc: Global, code: &[u8], units: u32, times: u32) -> Option<Ending> {
+    match guest(alloc, code) {
+        Ok(bytes) => run(alloc, &bytes, units, times),
+        Err(_) => None,
     }
-    Ok(())
 }
 
-fn exits(status: u32) -> Pause {
-    Pause::Ended(Outcome::Exited(status))
+/// Code, how it ends when it is resumed for 1,000 units at most, and the units that it uses.
+type Row<'a> = (&'a [u8], Outcome, u64);
+
+fn assert_rows(rt: &impl Abort, alloc: Global, rows: &[Row<'_>]) {
+    for (i, (code, outcome, used)) in rows.iter().enumerate() {
+        let want = Some((Pause::Ended(*outcome), *used, (0, 0, 0)));
+        assert!(rt; ending(alloc, code, 1_000, 1) == want, "row {i}");
+    }
 }
 
-fn traps(trap: Trap) -> Pause {
-    Pause::Ended(Outcome::Trapped(trap))
-}
+const OUTSIDE: Outcome = Trapped(Trap::OutOfBoundsMemory);
+
+const ZERO: Outcome = Trapped(Trap::DivideByZero);
 
 #[test]
-fn operators(rt: HostRuntime) -> Result<(), Fail> {
+fn operators(rt: HostRuntime) {
     assert_rows(
         &rt,
         rt.alloc(),
         &[
             // 5 - 7, 1 << 33, -7 / 2 and -1 * 2
-            (b"\x41\x05\x41\x07\x6B\x10\x00\x0B", exits(0xffff_fffe), 4),
-            (b"\x41\x01\x41\x21\x74\x10\x00\x0B", exits(2), 4),
-            (b"\x41\x79\x41\x02\x6D\x10\x00\x0B", exits(0xffff_fffd), 4),
+            (b"\x41\x05\x41\x07\x6B\x10\x00\x0B", Exited(0xffff_fffe), 4),
+            (b"\x41\x01\x41\x21\x74\x10\x00\x0B", Exited(2), 4),
+            (b"\x41\x79\x41\x02\x6D\x10\x00\x0B", Exited(0xffff_fffd), 4),
             (
                 b"\x42\x7F\x42\x02\x7E\xA7\x10\x00\x0B",
-                exits(0xffff_fffe),
+                Exited(0xffff_fffe),
                 5,
             ),
             // -1 < 1 as signed and as unsigned
-            (b"\x41\x7F\x41\x01\x48\x10\x00\x0B", exits(1), 4),
-            (b"\x41\x7F\x41\x01\x49\x10\x00\x0B", exits(0), 4),
+            (b"\x41\x7F\x41\x01\x48\x10\x00\x0B", Exited(1), 4),
+            (b"\x41\x7F\x41\x01\x49\x10\x00\x0B", Exited(0), 4),
             // clz 1, extend8_s 128, whether 0 is 0
-            (b"\x41\x01\x67\x10\x00\x0B", exits(31), 3),
-            (b"\x41\x80\x01\xC0\x10\x00\x0B", exits(0xffff_ff80), 3),
-            (b"\x42\x00\x50\x10\x00\x0B", exits(1), 3),
+            (b"\x41\x01\x67\x10\x00\x0B", Exited(31), 3),
+            (b"\x41\x80\x01\xC0\x10\x00\x0B", Exited(0xffff_ff80), 3),
+            (b"\x42\x00\x50\x10\x00\x0B", Exited(1), 3),
             // the high half of -1 as i64, from signed and from unsigned
             (
                 b"\x41\x7F\xAC\x42\x20\x88\xA7\x10\x00\x0B",
-                exits(0xffff_ffff),
+                Exited(0xffff_ffff),
                 6,
             ),
-            (b"\x41\x7F\xAD\x42\x20\x88\xA7\x10\x00\x0B", exits(0), 6),
+            (b"\x41\x7F\xAD\x42\x20\x88\xA7\x10\x00\x0B", Exited(0), 6),
             // select takes the first where the condition is set
-            (b"\x41\x07\x41\x09\x41\x02\x1B\x10\x00\x0B", exits(7), 5),
-            (b"\x41\x07\x41\x09\x41\x00\x1B\x10\x00\x0B", exits(9), 5),
+            (b"\x41\x07\x41\x09\x41\x02\x1B\x10\x00\x0B", Exited(7), 5),
+            (b"\x41\x07\x41\x09\x41\x00\x1B\x10\x00\x0B", Exited(9), 5),
         ],
-    )?;
-    Ok(())
+    );
 }
 
 #[test]
-fn loads_and_stores(rt: HostRuntime) -> Result<(), Fail> {
-    let outside = traps(Trap::OutOfBoundsMemory);
+fn loads_and_stores(rt: HostRuntime) {
     assert_rows(
         &rt,
         rt.alloc(),
@@ -155,168 +152,181 @@ fn loads_and_stores(rt: HostRuntime) -> Result<(), Fail> {
             // -2 is stored at 65,532, and what stands at 65,535 and at 65,532 is loaded
             (
                 b"\x41\xFC\xFF\x03\x41\x7E\x36\x02\x00\x41\xFF\xFF\x03\x2D\x00\x00\x10\x00\x0B",
-                exits(0xff),
+                Exited(0xff),
                 6,
             ),
             (
                 b"\x41\xFC\xFF\x03\x41\x7E\x36\x02\x00\x41\xFC\xFF\x03\x2D\x00\x00\x10\x00\x0B",
-                exits(0xfe),
+                Exited(0xfe),
                 6,
             ),
             // stored at 65,533, loaded from there, and from 2 ^ 32 - 1 and 4
-            (b"\x41\xFD\xFF\x03\x41\x7E\x36\x02\x00\x0B", outside, 3),
-            (b"\x41\xFD\xFF\x03\x28\x02\x00\x1A\x0B", outside, 2),
-            (b"\x41\x7F\x28\x02\x04\x1A\x0B", outside, 2),
+            (b"\x41\xFD\xFF\x03\x41\x7E\x36\x02\x00\x0B", OUTSIDE, 3),
+            (b"\x41\xFD\xFF\x03\x28\x02\x00\x1A\x0B", OUTSIDE, 2),
+            (b"\x41\x7F\x28\x02\x04\x1A\x0B", OUTSIDE, 2),
             // two bytes of -2, as four
             (
                 b"\x41\x00\x41\x7E\x3B\x01\x00\x41\x00\x28\x02\x00\x10\x00\x0B",
-                exits(0xfffe),
+                Exited(0xfffe),
                 6,
             ),
             // the high half of four bytes of -2 read as i64, with their sign and without
             (
                 b"\x41\x00\x41\x7E\x36\x02\x00\x41\x00\x34\x02\x00\x42\x20\x88\xA7\x10\x00\x0B",
-                exits(0xffff_ffff),
+                Exited(0xffff_ffff),
                 9,
             ),
             (
                 b"\x41\x00\x41\x7E\x36\x02\x00\x41\x00\x35\x02\x00\x42\x20\x88\xA7\x10\x00\x0B",
-                exits(0),
+                Exited(0),
                 9,
             ),
             // one byte of -2 with its sign
             (
                 b"\x41\x00\x42\x7E\x3C\x00\x00\x41\x00\x2C\x00\x00\x10\x00\x0B",
-                exits(0xffff_fffe),
+                Exited(0xffff_fffe),
                 6,
             ),
         ],
-    )?;
-    Ok(())
+    );
 }
 
 #[test]
-fn whole_memory(rt: HostRuntime) -> Result<(), Fail> {
-    let outside = traps(Trap::OutOfBoundsMemory);
+fn whole_memory(rt: HostRuntime) {
     assert_rows(
         &rt,
         rt.alloc(),
         &[
             // grown by one page, and by two
-            (b"\x41\x01\x40\x00\x10\x00\x0B", exits(1), 3),
-            (b"\x41\x02\x40\x00\x10\x00\x0B", exits(0xffff_ffff), 3),
+            (b"\x41\x01\x40\x00\x10\x00\x0B", Exited(1), 3),
+            (b"\x41\x02\x40\x00\x10\x00\x0B", Exited(0xffff_ffff), 3),
             // 7 is stored in the second page
             (
                 b"\x41\x01\x40\x00\x1A\x41\x80\x80\x04\x41\x07\x36\x02\x00\x41\x80\x80\x04\x28\x02\x00\x10\x00\x0B",
-                exits(7),
+                Exited(7),
                 9,
             ),
             // 511 fills four bytes
             (
                 b"\x41\x00\x41\xFF\x03\x41\x04\xFC\x0B\x00\x41\x00\x28\x02\x00\x10\x00\x0B",
-                exits(0xffff_ffff),
+                Exited(0xffff_ffff),
                 7,
             ),
             // the bytes 1, 2 and 3 go one place up
             (
                 b"\x41\x00\x41\x81\x84\x8C\x20\x36\x02\x00\x41\x01\x41\x00\x41\x03\xFC\x0A\x00\x00\x41\x00\x28\x02\x00\x10\x00\x0B",
-                exits(0x0302_0101),
+                Exited(0x0302_0101),
                 10,
             ),
             // past the end
             (
                 b"\x41\x80\x80\x04\x41\x00\x41\x01\xFC\x0A\x00\x00\x0B",
-                outside,
+                OUTSIDE,
                 4,
             ),
             (
                 b"\x41\x80\x80\x04\x41\x00\x41\x01\xFC\x0B\x00\x0B",
-                outside,
+                OUTSIDE,
                 4,
             ),
         ],
-    )?;
-    Ok(())
+    );
 }
 
 #[test]
-fn traps_take_a_unit(rt: HostRuntime) -> Result<(), Fail> {
-    let zero = traps(Trap::DivideByZero);
+fn traps_take_a_unit(rt: HostRuntime) {
     assert_rows(
         &rt,
         rt.alloc(),
         &[
-            (b"\x41\x01\x41\x00\x6D\x1A\x0B", zero, 3),
-            (b"\x41\x01\x41\x00\x70\x1A\x0B", zero, 3),
+            (b"\x41\x01\x41\x00\x6D\x1A\x0B", ZERO, 3),
+            (b"\x41\x01\x41\x00\x70\x1A\x0B", ZERO, 3),
             // the least number by -1
             (
                 b"\x41\x80\x80\x80\x80\x78\x41\x7F\x6D\x1A\x0B",
-                traps(Trap::IntegerOverflow),
+                Trapped(Trap::IntegerOverflow),
                 3,
             ),
-            (b"\x01\x00\x0B", traps(Trap::Unreachable), 2),
+            (b"\x01\x00\x0B", Trapped(Trap::Unreachable), 2),
         ],
-    )?;
-    Ok(())
+    );
 }
 
-/// Code, the units of each resume and how often it is resumed, how it pauses in the end and the units used by then.
-type Resumes<'a> = (&'a [u8], u32, u32, Pause, u64);
+/// The units of each resume, how often a guest is resumed, and how that ends.
+type Resumes = (u32, u32, Ending);
 
-#[test]
-fn units_one_by_one(rt: HostRuntime) -> Result<(), Fail> {
-    let subtracts = b"\x41\x05\x41\x07\x6B\x01\x10\x00\x0B".as_slice();
-    let stops = b"\x01\x00\x0B".as_slice();
-    let rows: [Resumes<'_>; 6] = [
-        (subtracts, 1, 4, Pause::Spent, 4),
-        (subtracts, 1, 5, exits(0xffff_fffe), 5),
-        (subtracts, 1, 9, exits(0xffff_fffe), 5),
-        (stops, 0, 3, Pause::Spent, 0),
-        (stops, 1, 1, Pause::Spent, 1),
-        (stops, 1, 2, traps(Trap::Unreachable), 2),
-    ];
-    for (code, units, times, pause, used) in rows {
-        let bytes = guest(rt.alloc(), code)?;
-        let want = Some((pause, used, (0, 0, 0)));
-        assert_eq!(rt;
-            run(rt.alloc(), &bytes, units, times),
-            want,
-            "{times} times"
+const UNSEEN: (u64, u64, u64) = (0, 0, 0);
+
+const SEEN: (u64, u64, u64) = (2, 3, 4);
+
+const CALLED: Pause = Pause::Called(HostCall::ProcExit, Errno::BADF);
+
+fn assert_resumes(rt: &impl Abort, alloc: Global, code: &[u8], rows: &[Resumes]) {
+    for (i, (units, times, want)) in rows.iter().enumerate() {
+        assert!(rt;
+            ending(alloc, code, *units, *times) == Some(*want),
+            "row {i}"
         );
     }
-    Ok(())
 }
 
 #[test]
-fn hosts_see_their_arguments(rt: HostRuntime) -> Result<(), Fail> {
+fn units_one_by_one(rt: HostRuntime) {
+    assert_resumes(
+        &rt,
+        rt.alloc(),
+        b"\x41\x05\x41\x07\x6B\x01\x10\x00\x0B",
+        &[
+            (1, 4, (Pause::Spent, 4, UNSEEN)),
+            (1, 5, (Pause::Ended(Exited(0xffff_fffe)), 5, UNSEEN)),
+            (1, 9, (Pause::Ended(Exited(0xffff_fffe)), 5, UNSEEN)),
+        ],
+    );
+    assert_resumes(
+        &rt,
+        rt.alloc(),
+        b"\x01\x00\x0B",
+        &[
+            (0, 3, (Pause::Spent, 0, UNSEEN)),
+            (1, 1, (Pause::Spent, 1, UNSEEN)),
+            (1, 2, (Pause::Ended(Trapped(Trap::Unreachable)), 2, UNSEEN)),
+        ],
+    );
+}
+
+#[test]
+fn hosts_see_their_arguments(rt: HostRuntime) {
     // i32.const 1, i32.const 2, i64.const 3, call 1, i32.add, i32.const 0, i32.load8_u, i32.add, call 0, end: 1, 8 and
     // the byte that the host wrote
-    let bytes = guest(
+    assert_resumes(
+        &rt,
         rt.alloc(),
         b"\x41\x01\x41\x02\x42\x03\x10\x01\x6A\x41\x00\x2D\x00\x00\x6A\x10\x00\x0B",
-    )?;
-    let called = Pause::Called(HostCall::ProcExit, Errno::BADF);
-    let seen = (2, 3, 4);
-    for (times, pause, used) in [(1, called, 4), (2, exits(42), 9), (3, exits(42), 9)] {
-        assert_eq!(rt;
-            run(rt.alloc(), &bytes, 1_000, times),
-            Some((pause, used, seen))
-        );
-    }
-    Ok(())
+        &[
+            (1_000, 1, (CALLED, 4, SEEN)),
+            (1_000, 2, (Pause::Ended(Exited(42)), 9, SEEN)),
+            (1_000, 3, (Pause::Ended(Exited(42)), 9, SEEN)),
+        ],
+    );
 }
 
-/// Leaves 4,200 numbers on the stack before they are dropped, so that it grows.
-#[test]
-fn the_stack_grows(rt: HostRuntime) -> Result<(), Fail> {
-    let mut bytes = Vec::from_slice(rt.alloc(), FRONT)?;
-    bytes.extend_from_slice(b"\xC1\x62\x01\xBE\x62\x00")?;
-    for _ in 0..4_200 {
-        bytes.extend_from_slice(b"\x41\x01")?;
+/// A guest that leaves 4,200 numbers on the stack, whose code these bytes are, before they are dropped.
+fn high_guest(alloc: Global, numbers: &[u8], drops: &[u8]) -> Result<Vec<u8>, AllocError> {
+    let front = b"\xC1\x62\x01\xBE\x62\x00";
+    [FRONT, front, numbers, drops, b"\x41\x00\x10\x00\x0B"].concat(alloc)
+}
+
+fn high_ending(alloc: Global) -> Option<Ending> {
+    let numbers = b"\x41\x01".repeat(alloc, 4_200).ok()?;
+    let drops = b"\x1A".repeat(alloc, 4_200).ok()?;
+    match high_guest(alloc, &numbers, &drops) {
+        Ok(bytes) => run(alloc, &bytes, 10_000, 1),
+        Err(_) => None,
     }
-    bytes.extend_from_slice(vec![in rt.alloc(); 0x1Au8; 4_200]?.as_slice())?;
-    bytes.extend_from_slice(b"\x41\x00\x10\x00\x0B")?;
-    let want = Some((exits(0), 8_402, (0, 0, 0)));
-    assert_eq!(rt; run(rt.alloc(), &bytes, 10_000, 1), want);
-    Ok(())
+}
+
+#[test]
+fn the_stack_grows(rt: HostRuntime) {
+    let want = Some((Pause::Ended(Exited(0)), 8_402, (0, 0, 0)));
+    assert!(rt; high_ending(rt.alloc()) == want);
 }

@@ -1,7 +1,7 @@
 //! Memories, by lists of what is done to them.
 
+use std::alloc::Global;
 use std::process::Abort;
-use std::test::Fail;
 use wasm_store::Memory;
 
 /// What is done to a memory, and what it answers.
@@ -80,18 +80,26 @@ fn is_answered(memory: &mut Memory, deed: Deed<'_>) -> bool {
     }
 }
 
-fn assert_deeds(rt: &impl Abort, memory: &mut Memory, deeds: &[Deed<'_>]) {
+fn assert_answers(rt: &impl Abort, memory: &mut Memory, deeds: &[Deed<'_>]) {
     for (i, deed) in deeds.iter().enumerate() {
         assert!(rt; is_answered(memory, *deed), "deed {i}");
     }
 }
 
+/// Does the deeds in turn to a memory of this many pages.
+fn assert_deeds(rt: &impl Abort, alloc: Global, pages: u32, deeds: &[Deed<'_>]) {
+    match Memory::new(alloc, pages) {
+        Ok(mut memory) => assert_answers(rt, &mut memory, deeds),
+        Err(_) => panic!(rt; "no memory"),
+    }
+}
+
 #[test]
-fn loads_and_stores_end_with_memory(rt: HostRuntime) -> Result<(), Fail> {
-    let mut memory = Memory::new(rt.alloc(), 1)?;
+fn loads_and_stores_end_with_memory(rt: HostRuntime) {
     assert_deeds(
         &rt,
-        &mut memory,
+        rt.alloc(),
+        1,
         &[
             Deed::Length(65_536),
             Deed::Holds(65_534, &[0, 0], true),
@@ -117,15 +125,14 @@ fn loads_and_stores_end_with_memory(rt: HostRuntime) -> Result<(), Fail> {
             Deed::Load(8, 65_528, 0, Some(0)),
         ],
     );
-    Ok(())
 }
 
 #[test]
-fn numbers_have_their_lowest_byte_first(rt: HostRuntime) -> Result<(), Fail> {
-    let mut memory = Memory::new(rt.alloc(), 1)?;
+fn numbers_have_their_lowest_byte_first(rt: HostRuntime) {
     assert_deeds(
         &rt,
-        &mut memory,
+        rt.alloc(),
+        1,
         &[
             Deed::Store(8, 8, 1, 0x0807_0605_0403_0201, true),
             Deed::Holds(8, &[0, 1, 2, 3, 4, 5, 6, 7, 8, 0], true),
@@ -141,15 +148,14 @@ fn numbers_have_their_lowest_byte_first(rt: HostRuntime) -> Result<(), Fail> {
             Deed::Holds(0, &[0x11, 0x22, 0x33, 0x44, 0x55, 0x66, 0x77, 0xff], true),
         ],
     );
-    Ok(())
 }
 
 #[test]
-fn parts_end_with_memory(rt: HostRuntime) -> Result<(), Fail> {
-    let mut memory = Memory::new(rt.alloc(), 1)?;
+fn parts_end_with_memory(rt: HostRuntime) {
     assert_deeds(
         &rt,
-        &mut memory,
+        rt.alloc(),
+        1,
         &[
             Deed::HasPart(65_536, 0, true),
             Deed::HasPart(65_535, 2, false),
@@ -170,25 +176,24 @@ fn parts_end_with_memory(rt: HostRuntime) -> Result<(), Fail> {
             Deed::Holds(65_532, b"\0a\x07\x07", true),
         ],
     );
-    let mut empty = Memory::new(rt.alloc(), 0)?;
     assert_deeds(
         &rt,
-        &mut empty,
+        rt.alloc(),
+        0,
         &[
             Deed::HasPart(0, 0, true),
             Deed::HasPart(0, 1, false),
             Deed::HasPart(1, 0, false),
         ],
     );
-    Ok(())
 }
 
 #[test]
-fn copies_and_fills(rt: HostRuntime) -> Result<(), Fail> {
-    let mut memory = Memory::new(rt.alloc(), 1)?;
+fn copies_and_fills(rt: HostRuntime) {
     assert_deeds(
         &rt,
-        &mut memory,
+        rt.alloc(),
+        1,
         &[
             // as if all bytes were read first
             Deed::Write(0, &[1, 2, 3, 4], true),
@@ -210,15 +215,14 @@ fn copies_and_fills(rt: HostRuntime) -> Result<(), Fail> {
             Deed::Fill(65_537, 255, 0, false),
         ],
     );
-    Ok(())
 }
 
 #[test]
-fn memory_grows_to_its_limit(rt: HostRuntime) -> Result<(), Fail> {
-    let mut memory = Memory::new(rt.alloc(), 1)?;
+fn memory_grows_to_its_limit(rt: HostRuntime) {
     assert_deeds(
         &rt,
-        &mut memory,
+        rt.alloc(),
+        1,
         &[
             Deed::Write(65_533, b"abc", true),
             Deed::Grow(1, 2, Some(1)),
@@ -231,5 +235,4 @@ fn memory_grows_to_its_limit(rt: HostRuntime) -> Result<(), Fail> {
             Deed::Length(131_072),
         ],
     );
-    Ok(())
 }

@@ -1,11 +1,9 @@
 //! What bytes are decoded to.
 
-use super::bytes::FUNCTION;
 use crate::HELLO;
-use std::alloc::{AllocError, Global};
-use std::test::Fail;
+use std::alloc::Global;
 use wasm_module::{
-    Body, Export, ExportKind, FuncType, Instruction, Limits, Module, decode, one_module,
+    Body, Export, ExportKind, FuncType, Import, Instruction, Limits, Module, decode, one_module,
 };
 
 fn has_lengths(found: &FuncType, params: usize, results: usize) -> bool {
@@ -40,8 +38,18 @@ fn is_program(module: &Module<'_>) -> bool {
         && has_memory(module, Limits { min: 1, max: None })
         && has_types(module.types.as_slice())
         && has_exports(module.exports.as_slice())
-        && module.imports.as_slice().iter().all(|import| import.module_name.as_str()
-            == "wasi_snapshot_preview1")
+        && has_imports(module.imports.as_slice())
+}
+
+fn is_from_wasi(found: &Import<'_>) -> bool {
+    found.module_name.as_str() == "wasi_snapshot_preview1"
+}
+
+fn has_imports(imports: &[Import<'_>]) -> bool {
+    match imports {
+        [write, exit] => is_from_wasi(write) && is_from_wasi(exit),
+        _ => false,
+    }
 }
 
 fn has_memory(module: &Module<'_>, limits: Limits) -> bool {
@@ -91,24 +99,19 @@ fn has_data(module: &Module<'_>) -> bool {
     }
 }
 
-/// The first constant of the only body.
-fn constant_of(module: &Module<'_>) -> Option<u32> {
+/// The code of the only body.
+fn code_of<'m>(module: &'m Module<'_>) -> &'m [Instruction] {
     match module.bodies.as_slice() {
-        [body] => match body.code.as_slice() {
-            [Instruction::I32Const(value), ..] => Some(*value),
-            _ => None,
-        },
-        _ => None,
+        [body] => body.code.as_slice(),
+        _ => &[],
     }
 }
 
-/// A module with a function whose constant these five bytes spell.
-fn spelled(alloc: Global, constant: &[u8; 5]) -> Result<Vec<u8>, AllocError> {
-    let mut bytes = Vec::from_slice(alloc, FUNCTION)?;
-    bytes.extend_from_slice(b"\x0A\x0B\x01\x09\x00\x41")?;
-    bytes.extend_from_slice(constant)?;
-    bytes.extend_from_slice(b"\x1A\x0B")?;
-    Ok(bytes)
+fn has_constant(code: &[Instruction], value: u32) -> bool {
+    match code {
+        [Instruction::I32Const(found), ..] => *found == value,
+        _ => false,
+    }
 }
 
 fn is_branch(code: &[Instruction]) -> bool {
@@ -116,13 +119,6 @@ fn is_branch(code: &[Instruction]) -> bool {
         [Instruction::BrTable(table), Instruction::End] => {
             table.labels() == [5, 6].as_slice() && table.default_label() == 7
         }
-        _ => false,
-    }
-}
-
-fn has_branch(module: &Module<'_>) -> bool {
-    match module.bodies.as_slice() {
-        [body] => is_branch(body.code.as_slice()),
         _ => false,
     }
 }
@@ -139,18 +135,21 @@ enum Content {
 fn holds(module: &Module<'_>, content: Content) -> bool {
     match content {
         Content::Program => is_program(module) && has_code(module) && has_data(module),
-        Content::Constant(value) => constant_of(module) == Some(value),
+        Content::Constant(value) => has_constant(code_of(module), value),
         Content::Memory(limits) => has_memory(module, limits),
-        Content::Branch => has_branch(module),
+        Content::Branch => is_branch(code_of(module)),
     }
 }
 
 fn is_decoded(alloc: Global, bytes: &[u8], content: Content) -> bool {
-    decode(alloc, bytes).is_ok_and(|module| {
-        let as_wanted = holds(&module, content);
-        drop(module);
-        as_wanted
-    })
+    match decode(alloc, bytes) {
+        Ok(module) => {
+            let as_wanted = holds(&module, content);
+            drop(module);
+            as_wanted
+        }
+        Err(_) => false,
+    }
 }
 
 #[test]
@@ -159,16 +158,14 @@ fn program(rt: HostRuntime) {
 }
 
 #[test]
-fn numbers(rt: HostRuntime) -> Result<(), Fail> {
+fn numbers(rt: HostRuntime) {
     // -1, modulo 2 ^ 32, and 0 at its longest
-    for (constant, value) in [
-        (b"\xFF\xFF\xFF\xFF\x7F", 4_294_967_295),
-        (b"\x80\x80\x80\x80\x00", 0),
-    ] {
-        let bytes = spelled(rt.alloc(), constant)?;
-        assert!(rt; is_decoded(rt.alloc(), &bytes, Content::Constant(value)));
-    }
-    Ok(())
+    let least =
+        b"\0asm\x01\0\0\0\x01\x04\x01\x60\x00\x00\x03\x02\x01\x00\x0A\x0B\x01\x09\x00\x41\xFF\xFF\xFF\xFF\x7F\x1A\x0B";
+    let zero =
+        b"\0asm\x01\0\0\0\x01\x04\x01\x60\x00\x00\x03\x02\x01\x00\x0A\x0B\x01\x09\x00\x41\x80\x80\x80\x80\x00\x1A\x0B";
+    assert!(rt; is_decoded(rt.alloc(), least, Content::Constant(4_294_967_295)));
+    assert!(rt; is_decoded(rt.alloc(), zero, Content::Constant(0)));
 }
 
 #[test]
