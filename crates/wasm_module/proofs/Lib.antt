@@ -5,6 +5,7 @@ pub mod ModuleOf
 pub mod Numbers
 pub mod Combine
 pub mod Loop
+pub mod Operands
 pub mod Texts
 pub mod Steps
 pub mod TypeLaws

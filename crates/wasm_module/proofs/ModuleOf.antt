@@ -1,18 +1,123 @@
 -- The module of sections, by its parts.
-use Rattle.std.proofs.Common.{◌≡◌, ℕ, List, [], unwrap_or, refl}
-use Rattle.wasm_module.specs.declared.module.FuncType.{FuncType}
-use Rattle.wasm_module.specs.declared.module.Limits.{Limits}
-use Rattle.wasm_module.specs.declared.module.Import.{Import}
-use Rattle.wasm_module.specs.declared.module.Export.{Export}
-use Rattle.wasm_module.specs.declared.module.GlobalEntry.{GlobalEntry}
-use Rattle.wasm_module.specs.declared.module.ElementSegment.{ElementSegment}
-use Rattle.wasm_module.specs.declared.module.Body.{Body}
-use Rattle.wasm_module.specs.declared.module.DataSegment.{DataSegment}
-use Rattle.wasm_module.specs.Module.{Sections, module_of}
+use Rattle.std.proofs.Common.{◌≡◌, ◌∙◌, ℕ, List, [], Option, Some, None, unwrap_or, refl, sym, ap}
+use Rattle.wasm_module.specs.declared.module.Module.{Module}
+use Rattle.wasm_module.specs.Module.{module_of}
+use Rattle.wasm_module.specs.internal.TypesReading.{func_type_at, limits_at, table_at}
+use Rattle.wasm_module.specs.internal.ModuleReading.{import_at, global_at, export_at, elements_at, body_at, data_at, Held, sections_of, sections_at, module_and_count, list_at, code_parts_at, link_parts_at, storage_parts_at, Parts, parts_at}
+use Rattle.wasm_module.specs.internal.Reading.{◌>>=◌, Reader, then_at, map_at, u32_at, vector_at, whole, customs_at, section_at}
+use Rattle.wasm_module.proofs.Laws.{some_is}
 
--- these parts are the module of the sections, where each is empty that is absent
-pub made_of : (s : Sections) (types : List FuncType) (imports : List Import) (functions : List ℕ) (tables : List Limits) (memories : List Limits) (globals : List GlobalEntry) (exports : List Export) (element_segments : List ElementSegment) (bodies : List Body) (data_segments : List DataSegment)
-    → types ≡ unwrap_or s.types [] → imports ≡ unwrap_or s.imports [] → functions ≡ unwrap_or s.functions [] → tables ≡ unwrap_or s.tables [] → memories ≡ unwrap_or s.memories [] → globals ≡ unwrap_or s.globals [] → exports ≡ unwrap_or s.exports [] → element_segments ≡ unwrap_or s.element_segments [] → bodies ≡ unwrap_or s.bodies [] → data_segments ≡ unwrap_or s.data_segments []
-    → module_of s ≡ (record { types = types; imports = imports; functions = functions; tables = tables; memories = memories; globals = globals; exports = exports; start = s.start; element_segments = element_segments; bodies = bodies; data_segments = data_segments })
-unfolding module_of
-made_of s types imports functions tables memories globals exports element_segments bodies data_segments e0 e1 e2 e3 e4 e5 e6 e7 e8 e9 = rw (e0, e1, e2, e3, e4, e5, e6, e7, e8, e9) refl
+-- one reader reads what another does, and sees it so
+record Sees {X Y : Type 0} (f : X → Y) (a : Reader X) (b : Reader Y) : Type 0 where
+  pub at : (bytes : List ℕ) → b bytes ≡ map_at f a bytes
+
+-- what is read is itself
+same : {X : Type 0} (o : Option (X × List ℕ)) → o ≡ (o >>= λ x. Some (x.0, x.1))
+same (Some x) = refl
+same None = refl
+
+-- what is seen as it is
+kept : {X : Type 0} (a : Reader X) → Sees (λ (x : X). x) a a
+kept a = record { at = λ bytes. same (a bytes) }
+
+-- a list that may be absent
+list : {X : Type 0} (id : ℕ) (a : Reader X) → Sees (λ (o : Option (List X)). unwrap_or o []) (section_at id (whole (vector_at a))) (list_at id a)
+unfolding list_at
+list id a = record { at = λ bytes. refl }
+
+-- what was read, seen so
+abbrev seen : {X Y : Type 0} → (X → Y) → Option (X × List ℕ) → Option (Y × List ℕ)
+seen f o = o >>= λ x. Some (f x.0, x.1)
+
+-- what was read after x, and x
+abbrev paired : {X Y : Type 0} → X → Option (Y × List ℕ) → Option ((X × Y) × List ℕ)
+paired x o = o >>= λ y. Some ((x, y.0), y.1)
+
+-- what was read, and what is read after it
+abbrev followed : {X Y : Type 0} → Option (X × List ℕ) → Reader Y → Option ((X × Y) × List ℕ)
+followed o b = o >>= λ x. paired x.0 (b x.1)
+
+-- one after the other
+both : {X Y U V : Type 0} {f : X → Y} {g : U → V} {a : Reader X} {c : Reader Y} {b : Reader U} {d : Reader V} → Sees f a c → Sees g b d → Sees (λ (p : X × U). (f p.0, g p.1)) (then_at a b) (then_at c d)
+both {X} {Y} {U} {V} {f} {g} {a} {c} {b} {d} first second = record { at = λ bytes. rw (first.at bytes) (by_first (a bytes)) } where
+  by_second : (x : X) (o : Option (U × List ℕ)) → paired (f x) (seen g o) ≡ seen (λ (p : X × U). (f p.0, g p.1)) (paired x o)
+  by_second x None = refl
+  by_second x (Some u) = refl
+
+  by_first : (o : Option (X × List ℕ)) → followed (seen f o) d ≡ seen (λ (p : X × U). (f p.0, g p.1)) (followed o b)
+  by_first None = refl
+  by_first (Some x) = rw (second.at x.1) (by_second x.0 (b x.1))
+
+-- the reader of all sections
+abbrev held_at : Reader Held
+held_at =
+    then_at customs_at (
+    then_at (section_at 1 (whole (vector_at func_type_at))) (
+    then_at (section_at 2 (whole (vector_at import_at))) (
+    then_at (section_at 3 (whole (vector_at u32_at))) (
+    then_at (section_at 4 (whole (vector_at table_at))) (
+    then_at (section_at 5 (whole (vector_at limits_at))) (
+    then_at (section_at 6 (whole (vector_at global_at))) (
+    then_at (section_at 7 (whole (vector_at export_at))) (
+    then_at (section_at 8 (whole u32_at)) (
+    then_at (section_at 9 (whole (vector_at elements_at))) (
+    then_at (section_at 12 (whole u32_at)) (
+    then_at (section_at 10 (whole (vector_at body_at)))
+    (section_at 11 (whole (vector_at data_at))))))))))))))
+
+-- what the sections hold; one that is absent is empty
+abbrev parts_of : Held → Parts
+parts_of p = (p.0, (unwrap_or p.1.0 [], (unwrap_or p.1.1.0 [], (unwrap_or p.1.1.1.0 [], (unwrap_or p.1.1.1.1.0 [], (unwrap_or p.1.1.1.1.1.0 [], (unwrap_or p.1.1.1.1.1.1.0 [], (unwrap_or p.1.1.1.1.1.1.1.0 [], (p.1.1.1.1.1.1.1.1.0, (unwrap_or p.1.1.1.1.1.1.1.1.1.0 [], (p.1.1.1.1.1.1.1.1.1.1.0, (unwrap_or p.1.1.1.1.1.1.1.1.1.1.1.0 [], unwrap_or p.1.1.1.1.1.1.1.1.1.1.1.1 []))))))))))))
+
+-- the parts are what the sections hold
+parts_are : Sees parts_of held_at parts_at
+unfolding parts_at storage_parts_at link_parts_at code_parts_at
+parts_are =
+    both (kept customs_at) (
+    both (list 1 func_type_at) (
+    both (list 2 import_at) (
+    both (list 3 u32_at) (
+    both (list 4 table_at) (
+    both (list 5 limits_at) (
+    both (list 6 global_at) (
+    both (list 7 export_at) (
+    both (kept (section_at 8 (whole u32_at))) (
+    both (list 9 elements_at) (
+    both (kept (section_at 12 (whole u32_at))) (
+    both (list 10 body_at)
+    (list 11 data_at))))))))))))
+
+-- the module of these parts, and how many data segments they say that it has
+abbrev decoded_of : Parts → Module × Option ℕ
+decoded_of p = (
+  record {
+    types = p.1.0;
+    imports = p.1.1.0;
+    functions = p.1.1.1.0;
+    tables = p.1.1.1.1.0;
+    memories = p.1.1.1.1.1.0;
+    globals = p.1.1.1.1.1.1.0;
+    exports = p.1.1.1.1.1.1.1.0;
+    start = p.1.1.1.1.1.1.1.1.0;
+    element_segments = p.1.1.1.1.1.1.1.1.1.0;
+    bodies = p.1.1.1.1.1.1.1.1.1.1.1.0;
+    data_segments = p.1.1.1.1.1.1.1.1.1.1.1.1;
+  },
+  p.1.1.1.1.1.1.1.1.1.1.0,
+)
+
+-- where the parts are read, their module is
+pub parts_read : (bytes rest : List ℕ) (q : Parts) → parts_at bytes ≡ Some (q, rest) → map_at module_and_count sections_at bytes ≡ Some (decoded_of q, rest)
+unfolding sections_at module_of
+parts_read bytes rest q e = by_held (held_at bytes) (sym (parts_are.at bytes) ∙ e) where
+  by_held : (o : Option (Held × List ℕ)) → seen parts_of o ≡ Some (q, rest) → seen module_and_count (seen sections_of o) ≡ Some (decoded_of q, rest)
+  by_held None e = absurd cc
+  by_held (Some h) e = ap (λ (p : Parts × List ℕ). Some (decoded_of p.0, p.1)) (some_is (parts_of h.0, h.1) (q, rest) e)
+
+-- where the parts can't be read, no module can
+pub parts_refused : (bytes : List ℕ) → parts_at bytes ≡ None → map_at module_and_count sections_at bytes ≡ None
+unfolding sections_at
+parts_refused bytes e = by_held (held_at bytes) (sym (parts_are.at bytes) ∙ e) where
+  by_held : (o : Option (Held × List ℕ)) → seen parts_of o ≡ None → seen module_and_count (seen sections_of o) ≡ None
+  by_held None e = refl
+  by_held (Some h) e = absurd cc

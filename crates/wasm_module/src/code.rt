@@ -1,7 +1,7 @@
 //! What instructions are read from (section 5.4).
 
 ghost use Rattle.std.specs.Prelude.{◌≡◌};
-ghost use Rattle.wasm_module.specs.internal.CodeReading.{bulk_after, bulk_at, comparison_of, control_after, binary_operator_of, load_after, numeric_of, store_after, unary_of, variable_after};
+ghost use Rattle.wasm_module.specs.internal.CodeReading.{bulk_after, bulk_at, comparison_of, control_after, binary_operator_of, load_after, load_with, numeric_of, store_after, store_with, unary_of, variable_after, variable_with};
 ghost use Rattle.wasm_module.specs.internal.Reading.{Gives};
 
 use crate::cursor::{Cursor, Decode};
@@ -145,6 +145,21 @@ fn control(
     }
 }
 
+/// The instruction on a variable of this opcode, with this index.
+#[tactic(auto, unfolding(crate::specs::internal::CodeReading::variable_with))]
+fn variable_with(byte: u8, offset: u32, index: u32) -> Result<Instruction, LoadFault>
+    ensures { Gives (λ i. i) result (variable_with byte index) }
+{
+    match byte {
+        0x20 => Ok(Instruction::LocalGet(index)),
+        0x21 => Ok(Instruction::LocalSet(index)),
+        0x22 => Ok(Instruction::LocalTee(index)),
+        0x23 => Ok(Instruction::GlobalGet(index)),
+        0x24 => Ok(Instruction::GlobalSet(index)),
+        _ => Err(unknown(byte, offset)),
+    }
+}
+
 /// What follows an opcode of the parametric and variable instructions (sections 5.4.2 and
 /// 5.4.3).
 #[tactic(auto, unfolding(crate::specs::internal::CodeReading::variable_after))]
@@ -154,11 +169,29 @@ fn variable(cursor: &mut Cursor<'_>, byte: u8, offset: u32) -> Result<Instructio
     match byte {
         0x1A => Ok(Instruction::Drop),
         0x1B => Ok(Instruction::Select),
-        0x20 => Ok(Instruction::LocalGet(cursor.u32()?)),
-        0x21 => Ok(Instruction::LocalSet(cursor.u32()?)),
-        0x22 => Ok(Instruction::LocalTee(cursor.u32()?)),
-        0x23 => Ok(Instruction::GlobalGet(cursor.u32()?)),
-        0x24 => Ok(Instruction::GlobalSet(cursor.u32()?)),
+        0x20..=0x24 => variable_with(byte, offset, cursor.u32()?),
+        _ => Err(unknown(byte, offset)),
+    }
+}
+
+/// The load of this opcode, from this address.
+#[tactic(auto, unfolding(crate::specs::internal::CodeReading::load_with))]
+fn load_with(byte: u8, offset: u32, argument: MemArg) -> Result<Instruction, LoadFault>
+    ensures { Gives (λ i. i) result (load_with byte argument) }
+{
+    match byte {
+        0x28 => Ok(Instruction::I32Load(argument)),
+        0x29 => Ok(Instruction::I64Load(argument)),
+        0x2C => Ok(Instruction::I32Load8S(argument)),
+        0x2D => Ok(Instruction::I32Load8U(argument)),
+        0x2E => Ok(Instruction::I32Load16S(argument)),
+        0x2F => Ok(Instruction::I32Load16U(argument)),
+        0x30 => Ok(Instruction::I64Load8S(argument)),
+        0x31 => Ok(Instruction::I64Load8U(argument)),
+        0x32 => Ok(Instruction::I64Load16S(argument)),
+        0x33 => Ok(Instruction::I64Load16U(argument)),
+        0x34 => Ok(Instruction::I64Load32S(argument)),
+        0x35 => Ok(Instruction::I64Load32U(argument)),
         _ => Err(unknown(byte, offset)),
     }
 }
@@ -174,18 +207,25 @@ fn load(
     ensures { Gives (λ x. (x, cursor.new)) result (load_after byte cursor.old) }
 {
     match byte {
-        0x28 => Ok(Instruction::I32Load(MemArg::decode(alloc, cursor)?)),
-        0x29 => Ok(Instruction::I64Load(MemArg::decode(alloc, cursor)?)),
-        0x2C => Ok(Instruction::I32Load8S(MemArg::decode(alloc, cursor)?)),
-        0x2D => Ok(Instruction::I32Load8U(MemArg::decode(alloc, cursor)?)),
-        0x2E => Ok(Instruction::I32Load16S(MemArg::decode(alloc, cursor)?)),
-        0x2F => Ok(Instruction::I32Load16U(MemArg::decode(alloc, cursor)?)),
-        0x30 => Ok(Instruction::I64Load8S(MemArg::decode(alloc, cursor)?)),
-        0x31 => Ok(Instruction::I64Load8U(MemArg::decode(alloc, cursor)?)),
-        0x32 => Ok(Instruction::I64Load16S(MemArg::decode(alloc, cursor)?)),
-        0x33 => Ok(Instruction::I64Load16U(MemArg::decode(alloc, cursor)?)),
-        0x34 => Ok(Instruction::I64Load32S(MemArg::decode(alloc, cursor)?)),
-        0x35 => Ok(Instruction::I64Load32U(MemArg::decode(alloc, cursor)?)),
+        // Those of floating point are refused before what follows them is read.
+        0x2A | 0x2B => Err(unknown(byte, offset)),
+        _ => load_with(byte, offset, MemArg::decode(alloc, cursor)?),
+    }
+}
+
+/// The store of this opcode, to this address.
+#[tactic(auto, unfolding(crate::specs::internal::CodeReading::store_with))]
+fn store_with(byte: u8, offset: u32, argument: MemArg) -> Result<Instruction, LoadFault>
+    ensures { Gives (λ i. i) result (store_with byte argument) }
+{
+    match byte {
+        0x36 => Ok(Instruction::I32Store(argument)),
+        0x37 => Ok(Instruction::I64Store(argument)),
+        0x3A => Ok(Instruction::I32Store8(argument)),
+        0x3B => Ok(Instruction::I32Store16(argument)),
+        0x3C => Ok(Instruction::I64Store8(argument)),
+        0x3D => Ok(Instruction::I64Store16(argument)),
+        0x3E => Ok(Instruction::I64Store32(argument)),
         _ => Err(unknown(byte, offset)),
     }
 }
@@ -201,13 +241,8 @@ fn store(
     ensures { Gives (λ x. (x, cursor.new)) result (store_after byte cursor.old) }
 {
     match byte {
-        0x36 => Ok(Instruction::I32Store(MemArg::decode(alloc, cursor)?)),
-        0x37 => Ok(Instruction::I64Store(MemArg::decode(alloc, cursor)?)),
-        0x3A => Ok(Instruction::I32Store8(MemArg::decode(alloc, cursor)?)),
-        0x3B => Ok(Instruction::I32Store16(MemArg::decode(alloc, cursor)?)),
-        0x3C => Ok(Instruction::I64Store8(MemArg::decode(alloc, cursor)?)),
-        0x3D => Ok(Instruction::I64Store16(MemArg::decode(alloc, cursor)?)),
-        0x3E => Ok(Instruction::I64Store32(MemArg::decode(alloc, cursor)?)),
+        // Those of floating point are refused before what follows them is read.
+        0x38 | 0x39 => Err(unknown(byte, offset)),
         0x3F => {
             cursor.zero()?;
             Ok(Instruction::MemorySize)
@@ -216,7 +251,7 @@ fn store(
             cursor.zero()?;
             Ok(Instruction::MemoryGrow)
         }
-        _ => Err(unknown(byte, offset)),
+        _ => store_with(byte, offset, MemArg::decode(alloc, cursor)?),
     }
 }
 

@@ -1,16 +1,17 @@
 //! A module from its bytes (section 5.5.15).
 
-ghost use Rattle.std.specs.Prelude.{◌≡◌, ◌≢◌, ℕ, List, [], unwrap_or, IfOk, IfErr};
+ghost use Rattle.std.specs.Prelude.{◌≡◌, ◌≢◌, ℕ, List, IfOk, IfErr};
 ghost use Rattle.wasm_module.specs.Module.{Spells};
-ghost use Rattle.wasm_module.specs.internal.ModuleReading.{preamble_at, sections_at, is_counted, counts_agree, module_and_count, module_from};
+ghost use Rattle.wasm_module.specs.internal.ModuleReading.{preamble_at, list_at, code_parts_at, link_parts_at, storage_parts_at, sections_at, is_counted, counts_agree, module_and_count, module_from};
 ghost use Rattle.wasm_module.specs.internal.Reading.{Gives, Allows, map_at};
+ghost use Rattle.wasm_module.specs.internal.TypesReading.{table_at};
 ghost use Rattle.wasm_module.specs.declared.module.Module.{Module as ModuleValue};
 
-use crate::cursor::Cursor;
+use crate::cursor::{Cursor, Decode};
 use crate::fault::LoadFault;
 use crate::items::Items;
 use crate::limits;
-use crate::module::{Limits, Module};
+use crate::module::{Body, DataSegment, ElementSegment, Export, GlobalEntry, Limits, Module};
 use crate::parts::Tables;
 use std::alloc::Global;
 
@@ -47,26 +48,103 @@ fn preamble(cursor: &mut Cursor<'_>) -> Result<(), LoadFault>
     cursor.expect(0x00, version)
 }
 
-fn or_empty<T: Drop>(alloc: Global, items: Option<Items<T>>) -> Items<T>
-    ensures { result ≡ unwrap_or items [] }
+/// A section that is a list; one that is absent is empty.
+fn list<'a, T: Decode<'a>>(
+    alloc: Global,
+    cursor: &mut Cursor<'a>,
+    id: u8,
+) -> Result<Items<T>, LoadFault>
+    ensures { Gives (λ x. (x, cursor.new)) result (list_at id T.at cursor.old) }
 {
-    match items {
-        Some(items) => items,
-        None => Items::new(alloc),
+    match cursor.section(alloc, id)? {
+        Some(items) => Ok(items),
+        None => Ok(Items::new(alloc)),
     }
 }
 
-fn table_limits(alloc: Global, tables: Option<Tables>) -> Items<Limits>
-    ensures { result ≡ unwrap_or tables [] }
+fn tables(alloc: Global, cursor: &mut Cursor<'_>) -> Result<Items<Limits>, LoadFault>
+    ensures { Gives (λ x. (x, cursor.new)) result (list_at 4 table_at cursor.old) }
 {
-    match tables {
-        Some(tables) => tables.limits,
-        None => Items::new(alloc),
+    let section: Option<Tables> = cursor.section(alloc, 4)?;
+    match section {
+        Some(tables) => Ok(tables.limits),
+        None => Ok(Items::new(alloc)),
     }
+}
+
+/// What the last sections hold.
+#[derive(Drop)]
+struct CodeParts<'a> {
+    data_count: Option<u32>,
+    bodies: Items<Body<'a>>,
+    data_segments: Items<DataSegment<'a>>,
+}
+
+/// What the sections from the exports on hold.
+#[derive(Drop)]
+struct LinkParts<'a> {
+    exports: Items<Export<'a>>,
+    start: Option<u32>,
+    element_segments: Items<ElementSegment>,
+    code: CodeParts<'a>,
+}
+
+/// What the sections from the tables on hold.
+#[derive(Drop)]
+struct StorageParts<'a> {
+    tables: Items<Limits>,
+    memories: Items<Limits>,
+    globals: Items<GlobalEntry>,
+    link: LinkParts<'a>,
+}
+
+// Four functions read the sections: where one can't be read, what was read before it is let go,
+// and in a single function that would be eleven lists at thirteen exits.
+
+fn code_parts<'a>(alloc: Global, cursor: &mut Cursor<'a>) -> Result<CodeParts<'a>, LoadFault>
+    ensures { Gives (λ x. ((x.data_count, (x.bodies, x.data_segments)), cursor.new)) result (code_parts_at cursor.old) }
+{
+    let data_count = cursor.section(alloc, 12)?;
+    let bodies = list(alloc, cursor, 10)?;
+    let data_segments = list(alloc, cursor, 11)?;
+    Ok(CodeParts {
+        data_count,
+        bodies,
+        data_segments,
+    })
+}
+
+fn link_parts<'a>(alloc: Global, cursor: &mut Cursor<'a>) -> Result<LinkParts<'a>, LoadFault>
+    ensures { Gives (λ x. ((x.exports, (x.start, (x.element_segments, (x.code.data_count, (x.code.bodies, x.code.data_segments))))), cursor.new)) result (link_parts_at cursor.old) }
+{
+    let exports = list(alloc, cursor, 7)?;
+    let start = cursor.section(alloc, 8)?;
+    let element_segments = list(alloc, cursor, 9)?;
+    let code = code_parts(alloc, cursor)?;
+    Ok(LinkParts {
+        exports,
+        start,
+        element_segments,
+        code,
+    })
+}
+
+fn storage_parts<'a>(alloc: Global, cursor: &mut Cursor<'a>) -> Result<StorageParts<'a>, LoadFault>
+    ensures { Gives (λ x. ((x.tables, (x.memories, (x.globals, (x.link.exports, (x.link.start, (x.link.element_segments, (x.link.code.data_count, (x.link.code.bodies, x.link.code.data_segments)))))))), cursor.new)) result (storage_parts_at cursor.old) }
+{
+    let tables = tables(alloc, cursor)?;
+    let memories = list(alloc, cursor, 5)?;
+    let globals = list(alloc, cursor, 6)?;
+    let link = link_parts(alloc, cursor)?;
+    Ok(StorageParts {
+        tables,
+        memories,
+        globals,
+        link,
+    })
 }
 
 /// The sections in their order: the module, and how many data segments it says that it has.
-#[tactic(auto, unfolding(crate::specs::internal::ModuleReading::sections_at, crate::specs::Module::module_of))]
 fn sections<'a>(
     alloc: Global,
     cursor: &mut Cursor<'a>,
@@ -74,32 +152,26 @@ fn sections<'a>(
     ensures { Gives (λ x. (x, cursor.new)) result (map_at module_and_count sections_at cursor.old) }
 {
     cursor.customs()?;
-    let types = cursor.section(alloc, 1)?;
-    let imports = cursor.section(alloc, 2)?;
-    let functions = cursor.section(alloc, 3)?;
-    let tables = cursor.section(alloc, 4)?;
-    let memories = cursor.section(alloc, 5)?;
-    let globals = cursor.section(alloc, 6)?;
-    let exports = cursor.section(alloc, 7)?;
-    let start = cursor.section(alloc, 8)?;
-    let element_segments = cursor.section(alloc, 9)?;
-    let data_count = cursor.section(alloc, 12)?;
-    let bodies = cursor.section(alloc, 10)?;
-    let data_segments = cursor.section(alloc, 11)?;
+    let types = list(alloc, cursor, 1)?;
+    let imports = list(alloc, cursor, 2)?;
+    let functions = list(alloc, cursor, 3)?;
+    let storage = storage_parts(alloc, cursor)?;
+    let link = storage.link;
+    let code = link.code;
     let decoded = Module {
-        types: or_empty(alloc, types),
-        imports: or_empty(alloc, imports),
-        functions: or_empty(alloc, functions),
-        tables: table_limits(alloc, tables),
-        memories: or_empty(alloc, memories),
-        globals: or_empty(alloc, globals),
-        exports: or_empty(alloc, exports),
-        start,
-        element_segments: or_empty(alloc, element_segments),
-        bodies: or_empty(alloc, bodies),
-        data_segments: or_empty(alloc, data_segments),
+        types,
+        imports,
+        functions,
+        tables: storage.tables,
+        memories: storage.memories,
+        globals: storage.globals,
+        exports: link.exports,
+        start: link.start,
+        element_segments: link.element_segments,
+        bodies: code.bodies,
+        data_segments: code.data_segments,
     };
-    Ok((decoded, data_count))
+    Ok((decoded, code.data_count))
 }
 
 /// Why no section can begin here, where all that may follow have been looked for.

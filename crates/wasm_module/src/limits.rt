@@ -84,7 +84,10 @@ pub fn excess(input: &[u8], module: &Module<'_>) -> Result<u32, LoadFault> {
     let types = module.types.as_slice();
     let functions = module.functions.as_slice();
     let bodies = module.bodies.as_slice();
-    for (position, (index, body)) in functions.iter().zip(bodies).enumerate() {
+    for position in 0..functions.len() {
+        let (Some(index), Some(body)) = (functions.get(position), bodies.get(position)) else {
+            break;
+        };
         let params = params(types, *index);
         if params > MOST_LOCALS {
             return index_offset(input, &module.functions, position);

@@ -161,6 +161,45 @@ store_after b =
     if b == 0x40 then map_at (λ x. op.MemoryGrow) (byte_at 0x00) else (
     (λ rest. None))))))))))
 
+-- the instruction on a variable of this opcode, with its index
+unfoldable pub variable_with : ℕ → ℕ → Option Instruction
+variable_with b n =
+    if b == 0x20 then Some (op.LocalGet n) else (
+    if b == 0x21 then Some (op.LocalSet n) else (
+    if b == 0x22 then Some (op.LocalTee n) else (
+    if b == 0x23 then Some (op.GlobalGet n) else (
+    if b == 0x24 then Some (op.GlobalSet n) else (
+    None)))))
+
+-- the load of this opcode, with what follows it
+unfoldable pub load_with : ℕ → MemArg → Option Instruction
+load_with b m =
+    if b == 0x28 then Some (op.I32Load m) else (
+    if b == 0x29 then Some (op.I64Load m) else (
+    if b == 0x2C then Some (op.I32Load8S m) else (
+    if b == 0x2D then Some (op.I32Load8U m) else (
+    if b == 0x2E then Some (op.I32Load16S m) else (
+    if b == 0x2F then Some (op.I32Load16U m) else (
+    if b == 0x30 then Some (op.I64Load8S m) else (
+    if b == 0x31 then Some (op.I64Load8U m) else (
+    if b == 0x32 then Some (op.I64Load16S m) else (
+    if b == 0x33 then Some (op.I64Load16U m) else (
+    if b == 0x34 then Some (op.I64Load32S m) else (
+    if b == 0x35 then Some (op.I64Load32U m) else (
+    None))))))))))))
+
+-- the store of this opcode, with what follows it
+unfoldable pub store_with : ℕ → MemArg → Option Instruction
+store_with b m =
+    if b == 0x36 then Some (op.I32Store m) else (
+    if b == 0x37 then Some (op.I64Store m) else (
+    if b == 0x3A then Some (op.I32Store8 m) else (
+    if b == 0x3B then Some (op.I32Store16 m) else (
+    if b == 0x3C then Some (op.I64Store8 m) else (
+    if b == 0x3D then Some (op.I64Store16 m) else (
+    if b == 0x3E then Some (op.I64Store32 m) else (
+    None)))))))
+
 -- the instruction of this number after FC
 unfoldable pub bulk_after : ℕ → Reader Instruction
 bulk_after n =

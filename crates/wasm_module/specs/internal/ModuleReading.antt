@@ -1,5 +1,5 @@
 -- How the parts of a module are read.
-use Rattle.std.specs.Prelude.{ℕ, ◌+◌, List, length, Bool, true, ◌&&◌, Option, Some, None, slice_get, nat_le, ◌==◌, if◌then◌else◌}
+use Rattle.std.specs.Prelude.{ℕ, ◌+◌, List, [], length, Bool, true, ◌&&◌, Option, Some, None, unwrap_or, slice_get, nat_le, ◌==◌, if◌then◌else◌}
 use Rattle.std.specs.List.{list_all, zip}
 use Rattle.wasm_module.specs.declared.module.FuncType.{FuncType}
 use Rattle.wasm_module.specs.declared.module.Limits.{Limits}
@@ -129,6 +129,38 @@ counts_agree m data_count = fits_profile m.types m.functions m.bodies && (length
 -- the module of the sections, and how many data segments they say that it has
 abbrev pub module_and_count : Sections → Module × Option ℕ
 module_and_count s = (module_of s, s.data_count)
+
+-- a section that is a list; one that is absent is empty
+unfoldable pub list_at : {X : Type 0} → ℕ → Reader X → Reader (List X)
+list_at id a = map_at (λ o. unwrap_or o []) (section_at id (whole (vector_at a)))
+
+-- what the last sections hold
+abbrev pub CodeParts : Type 0
+CodeParts = Option ℕ × (List Body × List DataSegment)
+
+unfoldable pub code_parts_at : Reader CodeParts
+code_parts_at = then_at (section_at 12 (whole u32_at)) (then_at (list_at 10 body_at) (list_at 11 data_at))
+
+-- what the sections from the exports on hold
+abbrev pub LinkParts : Type 0
+LinkParts = List Export × (Option ℕ × (List ElementSegment × CodeParts))
+
+unfoldable pub link_parts_at : Reader LinkParts
+link_parts_at = then_at (list_at 7 export_at) (then_at (section_at 8 (whole u32_at)) (then_at (list_at 9 elements_at) code_parts_at))
+
+-- what the sections from the tables on hold
+abbrev pub StorageParts : Type 0
+StorageParts = List Limits × (List Limits × (List GlobalEntry × LinkParts))
+
+unfoldable pub storage_parts_at : Reader StorageParts
+storage_parts_at = then_at (list_at 4 table_at) (then_at (list_at 5 limits_at) (then_at (list_at 6 global_at) link_parts_at))
+
+-- what all sections hold
+abbrev pub Parts : Type 0
+Parts = Unit {0} × (List FuncType × (List Import × (List ℕ × StorageParts)))
+
+unfoldable pub parts_at : Reader Parts
+parts_at = then_at customs_at (then_at (list_at 1 func_type_at) (then_at (list_at 2 import_at) (then_at (list_at 3 u32_at) storage_parts_at)))
 
 unfoldable pub module_from : WholeReader Module
 module_from bytes =
