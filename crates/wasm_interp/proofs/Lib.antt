@@ -6,3 +6,4 @@ pub mod Flat
 pub mod Checks
 pub mod Alike
 pub mod Fast
+pub mod Reading

@@ -11,6 +11,7 @@ mod halt;
 mod hurry;
 mod least;
 mod load_arms;
+mod loads;
 mod machine;
 mod operands;
 mod operators;
