@@ -3,7 +3,6 @@
 use super::guest::{Guest, PLAIN, host, opened};
 use super::streams::Feeding;
 use std::alloc::{AllocError, Global};
-use std::test::Fail;
 use wasm_interp::Host;
 use wasm_store::HostCall::{
     FdDatasync, FdPread, FdPwrite, FdRead, FdReaddir, FdSeek, FdSync, FdWrite, PathCreateDirectory,
@@ -12,7 +11,7 @@ use wasm_store::HostCall::{
 use wasm_store::{Answer, Errno, HostCall, Memory};
 
 /// Calls that all reach the volume, in memory with `ab` at 100 and a buffer of 10,000 bytes at 200.
-const CALLS: [(HostCall, &[u64]); 15] = [
+static CALLS: [(HostCall, &[u64]); 15] = [
     (PathCreateDirectory, &[3, 100, 1]),
     (PathOpen, &[3, 0, 101, 1, 1, u64::MAX, 0, 0, 104]),
     (FdWrite, &[4, 200, 1, 208]),
@@ -57,39 +56,44 @@ fn page(alloc: Global) -> Result<Memory, AllocError> {
     Ok(memory)
 }
 
-/// How many calls answer as they would where all works, on a device whose operation of this number fails; none where no call
-/// can be made.
-fn count_at(alloc: Global, failing: u64) -> Result<Option<usize>, Fail> {
-    let mut memory = page(alloc)?;
-    let Some(volume) = opened(alloc, failing)? else {
-        return Ok(None);
-    };
+/// The same in a page of memory.
+fn answered_in_page(alloc: Global, guest: &mut Guest<'_, '_>) -> Option<usize> {
+    match page(alloc) {
+        Ok(mut memory) => answered(guest, &mut memory),
+        Err(_) => None,
+    }
+}
+
+/// Makes the calls on a device whose operation of this number fails. How many answer as they would where all works, or
+/// none where one answers otherwise; none at all where no call can be made.
+fn counted(alloc: Global, failing: u64) -> Option<Option<usize>> {
+    let volume = opened(alloc, failing)?;
     match host(alloc, PLAIN, volume, Feeding::new(b"", 0), 0) {
         Ok(mut guest) => {
-            let count = answered(&mut guest, &mut memory);
+            let count = answered_in_page(alloc, &mut guest);
             drop(guest);
-            match count {
-                Some(count) => Ok(Some(count)),
-                None => Err(Fail::from("another answer")),
-            }
+            Some(count)
         }
-        Err(_) => Ok(None),
+        Err(_) => None,
     }
 }
 
 #[test]
-fn one_failing_operation_ends_the_volume(rt: HostRuntime) -> Result<(), Fail> {
+fn one_failing_operation_ends_the_volume(rt: HostRuntime) {
     let mut last: usize = 0;
     for failing in 1..1_000 {
-        let Some(count) = count_at(rt.alloc(), failing)? else {
-            continue;
-        };
-        // a later operation fails in the same call or in a later one
-        assert!(rt; last <= count, "operation {failing}");
-        last = count;
-        if count == CALLS.len() {
-            return Ok(());
+        match counted(rt.alloc(), failing) {
+            Some(Some(count)) => {
+                // a later operation fails in the same call or in a later one
+                assert!(rt; last <= count, "operation {failing}");
+                last = count;
+            }
+            Some(None) => panic!(rt; "another answer"),
+            None => {}
+        }
+        if last == CALLS.len() {
+            return;
         }
     }
-    Err(Fail::from("always failing"))
+    panic!(rt; "always failing");
 }

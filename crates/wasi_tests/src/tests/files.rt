@@ -2,13 +2,12 @@
 
 use super::guest::Step::{Call, Has, Open, Put};
 use super::guest::assert_plain;
-use std::test::Fail;
 use wasm_store::HostCall::{
     FdFilestatGet, FdFilestatSetSize, FdPread, FdPwrite, FdRead, FdSeek, FdTell, FdWrite, PathOpen,
 };
 
 #[test]
-fn a_size_takes_space(rt: HostRuntime) -> Result<(), Fail> {
+fn a_size_takes_space(rt: HostRuntime) {
     assert_plain(
         &rt,
         rt.alloc(),
@@ -24,11 +23,11 @@ fn a_size_takes_space(rt: HostRuntime) -> Result<(), Fail> {
             Call(FdFilestatSetSize, &[1, 0], 28),
             Call(FdFilestatSetSize, &[5, 0], 8),
         ],
-    )
+    );
 }
 
 #[test]
-fn bytes_that_were_cut_are_zeros(rt: HostRuntime) -> Result<(), Fail> {
+fn bytes_that_were_cut_are_zeros(rt: HostRuntime) {
     assert_plain(
         &rt,
         rt.alloc(),
@@ -44,11 +43,11 @@ fn bytes_that_were_cut_are_zeros(rt: HostRuntime) -> Result<(), Fail> {
             Has(208, b"\x03\0\0\0"),
             Has(300, b"a\0\0"),
         ],
-    )
+    );
 }
 
 #[test]
-fn long_writes_are_short(rt: HostRuntime) -> Result<(), Fail> {
+fn long_writes_are_short(rt: HostRuntime) {
     assert_plain(
         &rt,
         rt.alloc(),
@@ -63,11 +62,11 @@ fn long_writes_are_short(rt: HostRuntime) -> Result<(), Fail> {
             Call(FdFilestatGet, &[4, 300], 0),
             Has(332, b"\x20\x4E\0\0\0\0\0\0"),
         ],
-    )
+    );
 }
 
 #[test]
-fn nothing_is_done_where_a_buffer_is_bad(rt: HostRuntime) -> Result<(), Fail> {
+fn nothing_is_done_where_a_buffer_is_bad(rt: HostRuntime) {
     assert_plain(
         &rt,
         rt.alloc(),
@@ -103,11 +102,11 @@ fn nothing_is_done_where_a_buffer_is_bad(rt: HostRuntime) -> Result<(), Fail> {
             Call(FdWrite, &[(1 << 32) + 4, 200, 1, 216], 0),
             Has(216, b"\x03\0\0\0"),
         ],
-    )
+    );
 }
 
 #[test]
-fn reads_move_the_position(rt: HostRuntime) -> Result<(), Fail> {
+fn reads_move_the_position(rt: HostRuntime) {
     assert_plain(
         &rt,
         rt.alloc(),
@@ -152,11 +151,11 @@ fn reads_move_the_position(rt: HostRuntime) -> Result<(), Fail> {
             Call(FdRead, &[3, 200, 1, 216], 31),
             Call(FdRead, &[1, 200, 1, 216], 76),
         ],
-    )
+    );
 }
 
 #[test]
-fn appended_bytes_come_last(rt: HostRuntime) -> Result<(), Fail> {
+fn appended_bytes_come_last(rt: HostRuntime) {
     assert_plain(
         &rt,
         rt.alloc(),
@@ -180,11 +179,11 @@ fn appended_bytes_come_last(rt: HostRuntime) -> Result<(), Fail> {
             Has(208, b"\x06\0\0\0"),
             Has(300, b"axcabc"),
         ],
-    )
+    );
 }
 
 #[test]
-fn rights_are_asked(rt: HostRuntime) -> Result<(), Fail> {
+fn rights_are_asked(rt: HostRuntime) {
     assert_plain(
         &rt,
         rt.alloc(),
@@ -196,5 +195,5 @@ fn rights_are_asked(rt: HostRuntime) -> Result<(), Fail> {
             Call(FdSeek, &[4, 0, 1, 216], 76),
             Call(FdRead, &[4, 200, 0, 216], 0),
         ],
-    )
+    );
 }

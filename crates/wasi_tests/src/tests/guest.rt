@@ -1,9 +1,8 @@
 //! A guest's calls, one after another, and what they answer.
 
 use super::streams::{Feeding, Taking};
-use std::alloc::{AllocError, Global};
+use std::alloc::Global;
 use std::process::Abort;
-use std::test::Fail;
 use vol_sector::{FlakyDevice, MemoryDevice};
 use vol_tree::Volume;
 use wasi_calls::{HostFault, HostParts, Preopen, Settings, WasiHost};
@@ -57,22 +56,12 @@ pub type Guest<'s, 't> = WasiHost<'s, 't, FlakyDevice<MemoryDevice>, Feeding, Ta
 /// A volume on a device, of whose operations one fails.
 pub type Flaky = Volume<FlakyDevice<MemoryDevice>>;
 
-/// A fresh volume of 202 sectors and 16 slots, on a device whose operation of this number fails; none where it can't be
-/// opened.
-pub fn opened(alloc: Global, failing: u64) -> Result<Option<Flaky>, AllocError> {
-    let device = MemoryDevice::new(alloc, 202, 2_000)?;
-    match Volume::format(device, 202, 16) {
-        Ok(device) => Ok(Volume::open(alloc, FlakyDevice::new(device, failing)).ok()),
-        Err(_) => Ok(None),
-    }
-}
-
-/// A fresh volume of 202 sectors and 16 slots.
-pub fn volume(alloc: Global) -> Result<Flaky, Fail> {
-    match opened(alloc, 0)? {
-        Some(volume) => Ok(volume),
-        None => Err(Fail::from("not opened")),
-    }
+/// A fresh volume of 202 sectors and 16 slots, on a device whose operation of this number fails, or none does where it is
+/// 0; none where it can't be opened.
+pub fn opened(alloc: Global, failing: u64) -> Option<Flaky> {
+    let device = MemoryDevice::new(alloc, 202, 2_000).ok()?;
+    let device = Volume::format(device, 202, 16).ok()?;
+    Volume::open(alloc, FlakyDevice::new(device, failing)).ok()
 }
 
 /// A host of these settings over a volume, whose outputs take this many bytes, with its directories open.
@@ -98,20 +87,24 @@ pub fn host<'s, 't>(
                 Err(fault)
             }
         },
-        Err(refused) => Err(refused.fault),
+        Err(refused) => {
+            let fault = refused.fault;
+            drop(refused);
+            Err(fault)
+        }
     }
 }
 
-/// A host over a fresh volume, which has to be there.
+/// A host over a fresh volume.
 pub fn fresh<'s, 't>(
     alloc: Global,
     settings: Settings<'s, 't>,
     input: Feeding,
     takes: usize,
-) -> Result<Guest<'s, 't>, Fail> {
-    match host(alloc, settings, volume(alloc)?, input, takes) {
-        Ok(host) => Ok(host),
-        Err(_) => Err(Fail::from("no host")),
+) -> Option<Guest<'s, 't>> {
+    match opened(alloc, 0) {
+        Some(volume) => host(alloc, settings, volume, input, takes).ok(),
+        None => None,
     }
 }
 
@@ -183,18 +176,18 @@ fn is_as_wanted(guest: &mut Guest<'_, '_>, memory: &mut Memory, step: &Step<'_>)
     }
 }
 
-/// Does the steps in turn, in a page of memory.
-pub fn assert_steps(
-    rt: &impl Abort,
-    alloc: Global,
-    guest: &mut Guest<'_, '_>,
-    steps: &[Step<'_>],
-) -> Result<(), Fail> {
-    let mut memory = Memory::new(alloc, 1)?;
+fn assert_all(rt: &impl Abort, guest: &mut Guest<'_, '_>, memory: &mut Memory, steps: &[Step<'_>]) {
     for (i, step) in steps.iter().enumerate() {
-        assert!(rt; is_as_wanted(guest, &mut memory, step), "step {i}");
+        assert!(rt; is_as_wanted(guest, memory, step), "step {i}");
     }
-    Ok(())
+}
+
+/// Does the steps in turn, in a page of memory.
+pub fn assert_steps(rt: &impl Abort, alloc: Global, guest: &mut Guest<'_, '_>, steps: &[Step<'_>]) {
+    match Memory::new(alloc, 1) {
+        Ok(mut memory) => assert_all(rt, guest, &mut memory, steps),
+        Err(_) => panic!(rt; "no memory"),
+    }
 }
 
 /// Does the steps in turn over a fresh volume with these settings, preopened directories and input.
@@ -204,24 +197,22 @@ pub fn assert_fed(
     settings: Settings<'_, '_>,
     input: Feeding,
     steps: &[Step<'_>],
-) -> Result<(), Fail> {
-    let mut guest = fresh(alloc, settings, input, 1_000)?;
-    let done = assert_steps(rt, alloc, &mut guest, steps);
-    drop(guest);
-    done
+) {
+    match fresh(alloc, settings, input, 1_000) {
+        Some(mut guest) => {
+            assert_steps(rt, alloc, &mut guest, steps);
+            drop(guest);
+        }
+        None => panic!(rt; "no host"),
+    }
 }
 
 /// The same without input.
-pub fn assert_with(
-    rt: &impl Abort,
-    alloc: Global,
-    settings: Settings<'_, '_>,
-    steps: &[Step<'_>],
-) -> Result<(), Fail> {
-    assert_fed(rt, alloc, settings, Feeding::new(b"", 0), steps)
+pub fn assert_with(rt: &impl Abort, alloc: Global, settings: Settings<'_, '_>, steps: &[Step<'_>]) {
+    assert_fed(rt, alloc, settings, Feeding::new(b"", 0), steps);
 }
 
 /// Does the steps in turn over a fresh volume, with the root as descriptor 3.
-pub fn assert_plain(rt: &impl Abort, alloc: Global, steps: &[Step<'_>]) -> Result<(), Fail> {
-    assert_with(rt, alloc, PLAIN, steps)
+pub fn assert_plain(rt: &impl Abort, alloc: Global, steps: &[Step<'_>]) {
+    assert_with(rt, alloc, PLAIN, steps);
 }

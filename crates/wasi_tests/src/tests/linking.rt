@@ -4,7 +4,6 @@ use super::guest::{Guest, PLAIN, fresh};
 use super::streams::Feeding;
 use std::alloc::{AllocError, Global};
 use std::process::Abort;
-use std::test::Fail;
 use wasm_interp::Host;
 use wasm_module::{FuncType, Items, ValueType};
 use wasm_store::{Answer, Errno, HostCall, Memory};
@@ -24,83 +23,124 @@ fn types(alloc: Global, letters: &[u8]) -> Result<Items<ValueType>, AllocError> 
 /// The names of an import, its parameters and results, and what it links to.
 type Import<'a> = (&'a str, &'a str, &'a [u8], &'a [u8], Option<HostCall>);
 
+fn func_type(alloc: Global, params: &[u8], results: &[u8]) -> Result<FuncType, AllocError> {
+    let params = types(alloc, params)?;
+    let results = types(alloc, results)?;
+    Ok(FuncType { params, results })
+}
+
 /// Whether an import links to what it should.
 fn is_linked(alloc: Global, guest: &Guest<'_, '_>, import: &Import<'_>) -> bool {
     let (module_name, name, params, results, want) = *import;
-    match (types(alloc, params), types(alloc, results)) {
-        (Ok(params), Ok(results)) => {
-            guest.link(module_name, name, &FuncType { params, results }) == want
-        }
-        _ => false,
+    match func_type(alloc, params, results) {
+        Ok(func_type) => guest.link(module_name, name, &func_type) == want,
+        Err(_) => false,
     }
 }
 
-fn assert_linked(rt: &impl Abort, alloc: Global, guest: &Guest<'_, '_>, imports: &[Import<'_>]) {
+fn assert_imports(rt: &impl Abort, alloc: Global, guest: &Guest<'_, '_>, imports: &[Import<'_>]) {
     for (i, import) in imports.iter().enumerate() {
         assert!(rt; is_linked(alloc, guest, import), "row {i}");
     }
 }
 
-#[test]
-fn calls_link_by_their_types(rt: HostRuntime) -> Result<(), Fail> {
-    let alloc = rt.alloc();
-    let guest = fresh(alloc, PLAIN, Feeding::new(b"", 0), 0)?;
-    let wasi = "wasi_snapshot_preview1";
-    let rows: [Import<'_>; 12] = [
-        (wasi, "fd_write", b"iiii", b"i", Some(HostCall::FdWrite)),
-        (wasi, "fd_pread", b"iiiIi", b"i", Some(HostCall::FdPread)),
-        (
-            wasi,
-            "fd_readdir",
-            b"iiiIi",
-            b"i",
-            Some(HostCall::FdReaddir),
-        ),
-        (
-            wasi,
-            "path_open",
-            b"iiiiiIIii",
-            b"i",
-            Some(HostCall::PathOpen),
-        ),
-        (wasi, "proc_exit", b"i", b"", Some(HostCall::ProcExit)),
-        (wasi, "proc_exit", b"I", b"", None),
-        (wasi, "fd_write", b"i", b"", None),
-        (wasi, "fd_write", b"iiiii", b"i", None),
-        ("wasi_unstable", "fd_write", b"iiii", b"i", None),
-        // any other name
-        (wasi, "sched_yield", b"", b"i", Some(HostCall::Nosys)),
-        (wasi, "fd_writf", b"iI", b"i", Some(HostCall::Nosys)),
-        (wasi, "fd_writf", b"iI", b"I", None),
-    ];
-    assert_linked(&rt, alloc, &guest, &rows);
-    Ok(())
+fn assert_linked(rt: &impl Abort, alloc: Global, imports: &[Import<'_>]) {
+    match fresh(alloc, PLAIN, Feeding::new(b"", 0), 0) {
+        Some(guest) => {
+            assert_imports(rt, alloc, &guest, imports);
+            drop(guest);
+        }
+        None => panic!(rt; "no host"),
+    }
 }
+
+/// The name of the module that has the calls.
+const WASI: &str = "wasi_snapshot_preview1";
+
+#[test]
+fn calls_link_by_their_types(rt: HostRuntime) {
+    assert_linked(
+        &rt,
+        rt.alloc(),
+        &[
+            (WASI, "fd_write", b"iiii", b"i", Some(HostCall::FdWrite)),
+            (WASI, "fd_pread", b"iiiIi", b"i", Some(HostCall::FdPread)),
+            (
+                WASI,
+                "fd_readdir",
+                b"iiiIi",
+                b"i",
+                Some(HostCall::FdReaddir),
+            ),
+            (
+                WASI,
+                "path_open",
+                b"iiiiiIIii",
+                b"i",
+                Some(HostCall::PathOpen),
+            ),
+            (WASI, "proc_exit", b"i", b"", Some(HostCall::ProcExit)),
+            (WASI, "proc_exit", b"I", b"", None),
+            (WASI, "fd_write", b"i", b"", None),
+            (WASI, "fd_write", b"iiiii", b"i", None),
+            ("wasi_unstable", "fd_write", b"iiii", b"i", None),
+            // any other name
+            (WASI, "sched_yield", b"", b"i", Some(HostCall::Nosys)),
+            (WASI, "fd_writf", b"iI", b"i", Some(HostCall::Nosys)),
+            (WASI, "fd_writf", b"iI", b"I", None),
+        ],
+    );
+}
+
+/// A call, its arguments, and its answer.
+type Row<'a> = (HostCall, &'a [u64], Answer);
 
 fn assert_answers(
     rt: &impl Abort,
     guest: &mut Guest<'_, '_>,
     memory: &mut Memory,
-    rows: &[(HostCall, &[u64], Answer)],
+    rows: &[Row<'_>],
 ) {
     for (i, (call, arguments, want)) in rows.iter().enumerate() {
         assert!(rt; guest.call(memory, 1, *call, arguments) == *want, "row {i}");
     }
 }
 
+/// Makes the calls in turn without memory.
+fn assert_without_memory(
+    rt: &impl Abort,
+    alloc: Global,
+    guest: &mut Guest<'_, '_>,
+    rows: &[Row<'_>],
+) {
+    match Memory::new(alloc, 0) {
+        Ok(mut memory) => assert_answers(rt, guest, &mut memory, rows),
+        Err(_) => panic!(rt; "no memory"),
+    }
+}
+
+fn assert_calls(rt: &impl Abort, alloc: Global, rows: &[Row<'_>]) {
+    match fresh(alloc, PLAIN, Feeding::new(b"", 0), 0) {
+        Some(mut guest) => {
+            assert_without_memory(rt, alloc, &mut guest, rows);
+            drop(guest);
+        }
+        None => panic!(rt; "no host"),
+    }
+}
+
 #[test]
-fn calls_need_no_memory_and_no_arguments(rt: HostRuntime) -> Result<(), Fail> {
-    let alloc = rt.alloc();
-    let mut memory = Memory::new(alloc, 0)?;
-    let mut guest = fresh(alloc, PLAIN, Feeding::new(b"", 0), 0)?;
-    let rows: [(HostCall, &[u64], Answer); 6] = [
-        (HostCall::FdRead, &[], Answer::Value(Errno(21))),
-        (HostCall::FdWrite, &[1], Answer::Value(Errno(21))),
-        (HostCall::FdTell, &[(1 << 32) + 1], Answer::Value(Errno(70))),
-        (HostCall::ArgsGet, &[], Answer::Value(Errno(0))),
-        (HostCall::Nosys, &[], Answer::Value(Errno(52))),
-        (HostCall::ProcExit, &[(1 << 32) + 7], Answer::Exit(7)),
-    ];
-    assert_answers(&rt, &mut guest, &mut memory, &rows);
-    Ok(())
+fn calls_need_no_memory_and_no_arguments(rt: HostRuntime) {
+    assert_calls(
+        &rt,
+        rt.alloc(),
+        &[
+            (HostCall::FdRead, &[], Answer::Value(Errno(21))),
+            (HostCall::FdWrite, &[1], Answer::Value(Errno(21))),
+            (HostCall::FdTell, &[(1 << 32) + 1], Answer::Value(Errno(70))),
+            (HostCall::ArgsGet, &[], Answer::Value(Errno(0))),
+            (HostCall::Nosys, &[], Answer::Value(Errno(52))),
+            (HostCall::ProcExit, &[(1 << 32) + 7], Answer::Exit(7)),
+        ],
+    );
 }

@@ -2,7 +2,6 @@
 
 use super::guest::Step::{Call, Has, On, Open, Put};
 use super::guest::assert_plain;
-use std::test::Fail;
 use wasm_store::HostCall::{FdClose, FdReaddir, PathUnlinkFile};
 
 const A: &[u8] = b"\x02\0\0\0\0\0\0\0\x02\0\0\0\0\0\0\0\x01\0\0\0\x04\0\0\0a";
@@ -10,7 +9,7 @@ const A: &[u8] = b"\x02\0\0\0\0\0\0\0\x02\0\0\0\0\0\0\0\x01\0\0\0\x04\0\0\0a";
 const B: &[u8] = b"\x03\0\0\0\0\0\0\0\x03\0\0\0\0\0\0\0\x01\0\0\0\x04\0\0\0b";
 
 #[test]
-fn entries_come_by_their_serials(rt: HostRuntime) -> Result<(), Fail> {
+fn entries_come_by_their_serials(rt: HostRuntime) {
     assert_plain(
         &rt,
         rt.alloc(),
@@ -38,11 +37,11 @@ fn entries_come_by_their_serials(rt: HostRuntime) -> Result<(), Fail> {
             Call(FdReaddir, &[3, 300, 30, 1 << 32, 200], 0),
             Has(200, b"\0\0\0\0"),
         ],
-    )
+    );
 }
 
 #[test]
-fn a_listing_is_refused(rt: HostRuntime) -> Result<(), Fail> {
+fn a_listing_is_refused(rt: HostRuntime) {
     assert_plain(
         &rt,
         rt.alloc(),
@@ -59,5 +58,5 @@ fn a_listing_is_refused(rt: HostRuntime) -> Result<(), Fail> {
             Call(FdReaddir, &[3, 300, 30, 0, 65_533], 21),
             Has(300, &[0; 30]),
         ],
-    )
+    );
 }

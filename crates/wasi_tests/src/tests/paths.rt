@@ -1,7 +1,7 @@
 //! Paths, and what they name.
 
 use super::guest::Step::{Call, Has, On, Open, Put, Rename};
-use super::guest::{Flaky, STAT, Step, assert_plain, assert_steps, host, volume};
+use super::guest::{Flaky, STAT, Step, assert_plain, assert_steps, host, opened};
 use super::streams::Feeding;
 use std::alloc::Global;
 use std::process::Abort;
@@ -13,7 +13,7 @@ use wasm_store::HostCall::{
 };
 
 #[test]
-fn paths_lead_to_entries(rt: HostRuntime) -> Result<(), Fail> {
+fn paths_lead_to_entries(rt: HostRuntime) {
     assert_plain(
         &rt,
         rt.alloc(),
@@ -40,11 +40,11 @@ fn paths_lead_to_entries(rt: HostRuntime) -> Result<(), Fail> {
             On(PathRemoveDirectory, b".", 10),
             On(PathRemoveDirectory, b"d", 0),
         ],
-    )
+    );
 }
 
 #[test]
-fn entries_are_opened(rt: HostRuntime) -> Result<(), Fail> {
+fn entries_are_opened(rt: HostRuntime) {
     assert_plain(
         &rt,
         rt.alloc(),
@@ -70,11 +70,11 @@ fn entries_are_opened(rt: HostRuntime) -> Result<(), Fail> {
             Call(PathOpen, &[3, 0, 100, 1, 0, 0, 0, 0, 104], 0),
             Has(104, b"\x04\0\0\0"),
         ],
-    )
+    );
 }
 
 #[test]
-fn entries_are_renamed(rt: HostRuntime) -> Result<(), Fail> {
+fn entries_are_renamed(rt: HostRuntime) {
     assert_plain(
         &rt,
         rt.alloc(),
@@ -104,11 +104,11 @@ fn entries_are_renamed(rt: HostRuntime) -> Result<(), Fail> {
             Put(100, b"y"),
             Call(PathRename, &[3, 100, 1, 3, 100, 0], 44),
         ],
-    )
+    );
 }
 
 #[test]
-fn slots_are_used_up(rt: HostRuntime) -> Result<(), Fail> {
+fn slots_are_used_up(rt: HostRuntime) {
     assert_plain(
         &rt,
         rt.alloc(),
@@ -133,11 +133,11 @@ fn slots_are_used_up(rt: HostRuntime) -> Result<(), Fail> {
             Open(b"b", 1, 0),
             Open(b"a", 1, 31),
         ],
-    )
+    );
 }
 
 #[test]
-fn descriptors_are_told(rt: HostRuntime) -> Result<(), Fail> {
+fn descriptors_are_told(rt: HostRuntime) {
     assert_plain(
         &rt,
         rt.alloc(),
@@ -160,7 +160,7 @@ fn descriptors_are_told(rt: HostRuntime) -> Result<(), Fail> {
             Call(FdPrestatDirName, &[3, 200, 0], 37),
             Call(FdPrestatGet, &[4, 200], 8),
         ],
-    )
+    );
 }
 
 #[test]
@@ -168,17 +168,16 @@ fn all_numbers_are_open(rt: HostRuntime) -> Result<(), Fail> {
     let open = Open(b".", 0, 0);
     let full = Open(b".", 0, 33);
     let mut steps = vec![in rt.alloc(); open; 252]?;
-    for step in [
+    steps.extend_from_slice(&[
         full,
         Open(b"new", 1, 33),
         On(PathFilestatGet, b"new", 44),
         Call(FdClose, &[7], 0),
         open,
         full,
-    ] {
-        steps.push(step)?;
-    }
-    assert_plain(&rt, rt.alloc(), steps.as_slice())
+    ])?;
+    assert_plain(&rt, rt.alloc(), &steps);
+    Ok(())
 }
 
 /// Settings with one preopened directory, known as the root.
@@ -194,28 +193,23 @@ fn seeing<'a, 't>(preopens: &'a [Preopen<'t>]) -> Settings<'a, 't> {
 }
 
 /// Does the steps over a volume with this directory open, and gives the volume back.
-fn within(
-    rt: &impl Abort,
-    alloc: Global,
-    path: &[u8],
-    volume: Flaky,
-    steps: &[Step<'_>],
-) -> Result<Flaky, Fail> {
+fn within(rt: &impl Abort, alloc: Global, path: &[u8], volume: Flaky, steps: &[Step<'_>]) -> Flaky {
     let preopens = [Preopen {
         guest_name: b"/",
         path,
     }];
-    let Ok(mut guest) = host(alloc, seeing(&preopens), volume, Feeding::new(b"", 0), 0) else {
-        return Err(Fail::from("no host"));
-    };
-    assert_steps(rt, alloc, &mut guest, steps)?;
-    let HostParts { volume, .. } = guest.into_parts();
-    Ok(volume)
+    match host(alloc, seeing(&preopens), volume, Feeding::new(b"", 0), 0) {
+        Ok(mut guest) => {
+            assert_steps(rt, alloc, &mut guest, steps);
+            let HostParts { volume, .. } = guest.into_parts();
+            volume
+        }
+        Err(_) => panic!(rt; "no host"),
+    }
 }
 
-#[test]
-fn a_preopened_directory_is_all_there_is(rt: HostRuntime) -> Result<(), Fail> {
-    let alloc = rt.alloc();
+/// Makes a directory and a file beside it, does steps with that directory open, and looks at what stands then.
+fn assert_within(rt: &impl Abort, alloc: Global, volume: Flaky) {
     let made = [On(PathCreateDirectory, b"d", 0), Open(b"x", 1, 0)];
     let outside = [
         Open(b"../x", 0, 76),
@@ -224,35 +218,41 @@ fn a_preopened_directory_is_all_there_is(rt: HostRuntime) -> Result<(), Fail> {
         Open(b"x", 1, 0),
     ];
     let found = [On(PathFilestatGet, b"x", 0), On(PathFilestatGet, b"d/x", 0)];
-    let volume = within(&rt, alloc, b"/", volume(alloc)?, &made)?;
-    let volume = within(&rt, alloc, b"/d", volume, &outside)?;
-    let _ = within(&rt, alloc, b"/", volume, &found)?;
-    Ok(())
+    let volume = within(rt, alloc, b"/", volume, &made);
+    let volume = within(rt, alloc, b"/d", volume, &outside);
+    drop(within(rt, alloc, b"/", volume, &found));
 }
 
-/// Why a host over a fresh volume with this directory is refused.
-fn fault_of(alloc: Global, path: &[u8]) -> Result<Option<HostFault>, Fail> {
+#[test]
+fn a_preopened_directory_is_all_there_is(rt: HostRuntime) {
+    match opened(rt.alloc(), 0) {
+        Some(volume) => assert_within(&rt, rt.alloc(), volume),
+        None => panic!(rt; "not opened"),
+    }
+}
+
+/// Whether a host over a fresh volume with this directory is refused so.
+fn is_refused(alloc: Global, path: &[u8], want: Option<HostFault>) -> bool {
     let preopens = [Preopen {
         guest_name: b"/",
         path,
     }];
-    let volume = volume(alloc)?;
-    Ok(host(alloc, seeing(&preopens), volume, Feeding::new(b"", 0), 0).err())
+    match opened(alloc, 0) {
+        Some(volume) => {
+            host(alloc, seeing(&preopens), volume, Feeding::new(b"", 0), 0).err() == want
+        }
+        None => false,
+    }
 }
 
 #[test]
-fn directories_are_preopened(rt: HostRuntime) -> Result<(), Fail> {
-    let rows: [(&[u8], Option<HostFault>); 7] = [
-        (b"/", None),
-        (b"/.", None),
-        (b"/d", Some(HostFault::Preopen)),
-        (b"d", Some(HostFault::Preopen)),
-        (b"", Some(HostFault::Preopen)),
-        (b"//", Some(HostFault::Preopen)),
-        (b"/..", Some(HostFault::Preopen)),
-    ];
-    for (path, fault) in rows {
-        assert_eq!(rt; fault_of(rt.alloc(), path)?, fault, "{path:?}");
-    }
-    Ok(())
+fn directories_are_preopened(rt: HostRuntime) {
+    let refused = Some(HostFault::Preopen);
+    assert!(rt; is_refused(rt.alloc(), b"/", None));
+    assert!(rt; is_refused(rt.alloc(), b"/.", None));
+    assert!(rt; is_refused(rt.alloc(), b"/d", refused));
+    assert!(rt; is_refused(rt.alloc(), b"d", refused));
+    assert!(rt; is_refused(rt.alloc(), b"", refused));
+    assert!(rt; is_refused(rt.alloc(), b"//", refused));
+    assert!(rt; is_refused(rt.alloc(), b"/..", refused));
 }

@@ -1,13 +1,11 @@
 //! A reader and a writer for all tests, and a guest's standard streams.
 
 use super::guest::Step::{Call, Has, Put};
-use super::guest::{PLAIN, assert_fed, assert_steps, fresh};
+use super::guest::{PLAIN, Step, assert_fed, assert_steps, fresh};
 use std::alloc::Global;
 use std::io;
 use std::io::{ErrorKind, Read, Write};
 use std::process::Abort;
-use std::test::Fail;
-use wasi_calls::HostParts;
 use wasm_store::HostCall::{FdRead, FdWrite};
 
 /// Gives its bytes two at a time, and fails once this many are given, where there are more.
@@ -70,7 +68,7 @@ impl Write for Taking {
 const BUFFERS: &[u8] = b"\x2C\x01\0\0\x03\0\0\0\x40\x01\0\0\0\0\0\0\x40\x01\0\0\x01\0\0\0";
 
 #[test]
-fn input_is_read_to_its_end(rt: HostRuntime) -> Result<(), Fail> {
+fn input_is_read_to_its_end(rt: HostRuntime) {
     assert_fed(
         &rt,
         rt.alloc(),
@@ -88,61 +86,66 @@ fn input_is_read_to_its_end(rt: HostRuntime) -> Result<(), Fail> {
             Has(228, b"\0\0\0\0"),
             Call(FdWrite, &[0, 200, 3, 228], 76),
         ],
-    )
+    );
 }
 
-#[test]
-fn readers_that_fail(rt: HostRuntime) -> Result<(), Fail> {
-    let alloc = rt.alloc();
-    for (most, stands) in [(0, b"..."), (1, b"a.."), (2, b"ab.")] {
-        assert_fed(
-            &rt,
-            alloc,
-            PLAIN,
-            Feeding::new(b"abcd", most),
-            &[
-                Put(200, BUFFERS),
-                Put(300, b"..."),
-                Call(FdRead, &[0, 200, 1, 228], 29),
-                Has(228, b"\0\0\0\0"),
-                Has(300, stands),
-                // ever after, also for no bytes; outputs go on
-                Call(FdRead, &[0, 200, 0, 228], 29),
-                Call(FdWrite, &[1, 200, 1, 228], 0),
-            ],
-        )?;
-    }
-    Ok(())
-}
-
-/// Writes four bytes to an output that takes this many, and to the other, and says what each has then.
-fn written(rt: &impl Abort, alloc: Global, takes: usize) -> Result<(Taking, Taking), Fail> {
-    let mut guest = fresh(alloc, PLAIN, Feeding::new(b"", 0), takes)?;
-    assert_steps(
+/// Reads from an input that fails once this many bytes are given, which stand in memory then.
+fn assert_read(rt: &impl Abort, alloc: Global, most: usize, stands: &[u8]) {
+    assert_fed(
         rt,
         alloc,
-        &mut guest,
+        PLAIN,
+        Feeding::new(b"abcd", most),
         &[
             Put(200, BUFFERS),
-            Put(300, b"abc"),
-            Put(320, b"d"),
-            Call(FdWrite, &[1, 200, 3, 228], 29),
+            Put(300, b"..."),
+            Call(FdRead, &[0, 200, 1, 228], 29),
             Has(228, b"\0\0\0\0"),
-            Call(FdWrite, &[1, 200, 0, 228], 29),
-            Call(FdWrite, &[2, 200, 3, 228], 0),
-            Has(228, b"\x04\0\0\0"),
+            Has(300, stands),
+            // ever after, also for no bytes; outputs go on
+            Call(FdRead, &[0, 200, 0, 228], 29),
+            Call(FdWrite, &[1, 200, 1, 228], 0),
         ],
-    )?;
-    let HostParts { out, err, .. } = guest.into_parts();
-    Ok((out, err))
+    );
 }
 
 #[test]
-fn writers_that_fail(rt: HostRuntime) -> Result<(), Fail> {
-    for (takes, stands) in [(0, b"".as_slice()), (1, b"a"), (2, b"ab"), (3, b"abc")] {
-        let (out, err) = written(&rt, rt.alloc(), takes)?;
-        let is_right = out.held.as_slice() == stands && err.held.as_slice() == b"abcd".as_slice();
-        assert!(rt; is_right, "{takes}");
+fn readers_that_fail(rt: HostRuntime) {
+    assert_read(&rt, rt.alloc(), 0, b"...");
+    assert_read(&rt, rt.alloc(), 1, b"a..");
+    assert_read(&rt, rt.alloc(), 2, b"ab.");
+}
+
+/// Writes four bytes to an output that fails, and to the other.
+const WRITES: &[Step<'static>] = &[
+    Put(200, BUFFERS),
+    Put(300, b"abc"),
+    Put(320, b"d"),
+    Call(FdWrite, &[1, 200, 3, 228], 29),
+    Has(228, b"\0\0\0\0"),
+    Call(FdWrite, &[1, 200, 0, 228], 29),
+    Call(FdWrite, &[2, 200, 3, 228], 0),
+    Has(228, b"\x04\0\0\0"),
+];
+
+/// Writes four bytes to an output that takes this many, and to the other, and asks what the two took.
+fn assert_written(rt: &impl Abort, alloc: Global, takes: usize, stands: &[u8]) {
+    match fresh(alloc, PLAIN, Feeding::new(b"", 0), takes) {
+        Some(mut guest) => {
+            assert_steps(rt, alloc, &mut guest, WRITES);
+            let parts = guest.into_parts();
+            assert!(rt; parts.out.held.as_slice() == stands);
+            assert!(rt; parts.err.held.as_slice() == b"abcd".as_slice());
+            drop(parts);
+        }
+        None => panic!(rt; "no host"),
     }
-    Ok(())
+}
+
+#[test]
+fn writers_that_fail(rt: HostRuntime) {
+    assert_written(&rt, rt.alloc(), 0, b"");
+    assert_written(&rt, rt.alloc(), 1, b"a");
+    assert_written(&rt, rt.alloc(), 2, b"ab");
+    assert_written(&rt, rt.alloc(), 3, b"abc");
 }

@@ -2,14 +2,13 @@
 
 use super::guest::Step::{Call, Has, Put};
 use super::guest::{PLAIN, assert_plain, assert_with};
-use std::test::Fail;
 use wasi_calls::Settings;
 use wasm_store::HostCall::{
     ArgsGet, ArgsSizesGet, ClockResGet, ClockTimeGet, EnvironGet, EnvironSizesGet, RandomGet,
 };
 
 #[test]
-fn texts_stand_one_after_another(rt: HostRuntime) -> Result<(), Fail> {
+fn texts_stand_one_after_another(rt: HostRuntime) {
     let settings = Settings {
         args: &[b"a", b"", b"bc"],
         env: &[b"X=1"],
@@ -36,11 +35,11 @@ fn texts_stand_one_after_another(rt: HostRuntime) -> Result<(), Fail> {
             Call(EnvironGet, &[200, 65_533], 21),
             Has(300, b"...."),
         ],
-    )
+    );
 }
 
 #[test]
-fn random_bytes_are_those_handed_in(rt: HostRuntime) -> Result<(), Fail> {
+fn random_bytes_are_those_handed_in(rt: HostRuntime) {
     let settings = Settings {
         random: b"\xAA\xBB\xCC",
         ..PLAIN
@@ -58,11 +57,11 @@ fn random_bytes_are_those_handed_in(rt: HostRuntime) -> Result<(), Fail> {
             Call(RandomGet, &[200, 1], 0),
             Has(200, b"\xCC\xBB\0"),
         ],
-    )
+    );
 }
 
 #[test]
-fn clocks_are_told(rt: HostRuntime) -> Result<(), Fail> {
+fn clocks_are_told(rt: HostRuntime) {
     let settings = Settings {
         moment: 0x0102,
         ..PLAIN
@@ -81,11 +80,11 @@ fn clocks_are_told(rt: HostRuntime) -> Result<(), Fail> {
             Has(200, b"\x01\0\0\0\0\0\0\0"),
             Call(ClockResGet, &[2, 200], 28),
         ],
-    )
+    );
 }
 
 #[test]
-fn nothing_is_given(rt: HostRuntime) -> Result<(), Fail> {
+fn nothing_is_given(rt: HostRuntime) {
     assert_plain(
         &rt,
         rt.alloc(),
@@ -97,5 +96,5 @@ fn nothing_is_given(rt: HostRuntime) -> Result<(), Fail> {
             Call(RandomGet, &[200, 0], 0),
             Call(RandomGet, &[200, 1], 6),
         ],
-    )
+    );
 }
