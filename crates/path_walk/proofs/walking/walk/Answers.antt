@@ -1,4 +1,4 @@
-use Rattle.std.proofs.Common.{◌≡◌, true, Result, Ok, sym, ◌∙◌, ap, subst}
+use Rattle.std.proofs.Common.{◌≡◌, true, Result, Ok, sym, ◌∙◌, ap, subst, rules}
 use Rattle.vol_tree.specs.declared.errno.Errno.{Errno}
 use Rattle.path_walk.specs.declared.walking.Reached.{Reached as ReachedValue}
 use Rattle.path_walk.specs.Paths.{Reached, components_of, wants_directory, stays_inside, resolved}
@@ -35,3 +35,6 @@ returns-in-Ok-Missing-clause-answer g c h =
     let inside : stays_inside 0 (components_of text) ≡ true = sym c.stays_inside.ensures ∙ c.if-not-stays_inside.false in
     let r = walk_misses c.args.volume.now.tree c.args.directory (wants_directory text) text (c.is_a_tree.ensures.tree h) c.requires.directory.number.first inside c.in-Ok-Missing.parent c.in-Ok-Missing.name.now (c.in-Ok-Missing.ensures.answer h ∙ as_read c.in-Ok-Missing.field-0-is) in
     rw (← c.path.view_is) r
+
+pub walk_down-requires-clause-working : goal.walk_down-requires-clause-working
+walk_down-requires-clause-working g c = search rules

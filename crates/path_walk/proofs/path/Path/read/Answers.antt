@@ -1,4 +1,4 @@
-use Rattle.std.proofs.Common.{sym, ◌∙◌, refl}
+use Rattle.std.proofs.Common.{sym, ◌∙◌, refl, rules}
 use Rattle.std.proofs.lemmas.Bool.{cond-true, cond-false}
 use Rattle.path_walk.proofs.Parts.{long_parts}
 use Rattle.path_walk.proofs.path.Path.read.Goals as goal
@@ -25,3 +25,6 @@ returns c = (
   cond-false _ _ _ (sym c.if-is_empty.ensures) ∙ (cond-false _ _ _ (sym c.if-is_no_text.ensures) ∙ (cond-false _ _ _ (sym c.if-has_nul.ensures)
       ∙ (cond-false _ _ _ (sym c.if-is_absolute.ensures) ∙ cond-false _ _ _ (sym (c.if-has_long_part.ensures ∙ long_parts c.args.text.now))))),
 )
+
+pub returns-then-is_no_text : goal.returns-then-is_no_text
+returns-then-is_no_text c = search rules

@@ -1,4 +1,4 @@
-use Rattle.std.proofs.Common.{◌∙◌, List, ap, Err, ⊎_elim, inl, inr}
+use Rattle.std.proofs.Common.{◌∙◌, List, ap, Err, ⊎_elim, inl, inr, rules}
 use Rattle.vol_log.specs.Batch.{over}
 use Rattle.vol_log.specs.declared.staged.Staged.{Staged}
 use Rattle.vol_log.proofs.log.Log.open.Goals as goal
@@ -12,3 +12,6 @@ returns-in-Err-replay-clause-damaged g c h is = (c.in-Err-replay.ensures.damaged
 
 pub returns-in-Err-replay-clause-faults_named : goal.returns-in-Err-replay-clause-faults_named
 returns-in-Err-replay-clause-faults_named g c = ⊎_elim (λ is. inl is) (λ is. inr (inl is)) c.in-Err-replay.ensures.named
+
+pub returns-in-Ok-replay-clause-fresh : goal.returns-in-Ok-replay-clause-fresh
+returns-in-Ok-replay-clause-fresh g c = search rules

@@ -1,4 +1,4 @@
-use Rattle.std.proofs.Common.{◌≡◌, ◌+◌, ◌≤◌, ◌∙◌, ℕ, List, Option, Some, ◌++◌, length, map, take, drop, arith, sym, ap, subst}
+use Rattle.std.proofs.Common.{◌≡◌, ◌+◌, ◌≤◌, ◌∙◌, ℕ, List, Option, Some, ◌++◌, length, map, take, drop, arith, sym, ap, subst, rules}
 use Rattle.std.proofs.lemmas.List.{length-map}
 use Rattle.wasm_store.proofs.Parts.{part_replaced}
 use Rattle.wasm_store.proofs.table.Table.set.Goals as goal
@@ -14,3 +14,6 @@ returns-clause-inside c =
           part_replaced elements.len c.args.start (length functions) elements.items (map Some functions) elements.ok.0 (sym as_many) inside
           ∙ ap (λ (n : ℕ). take c.args.start elements.items ++ (map Some functions ++ drop (c.args.start + n) elements.items)) as_many),
     )
+
+pub returns-then-len-clause-outside : goal.returns-then-len-clause-outside
+returns-then-len-clause-outside c = search rules

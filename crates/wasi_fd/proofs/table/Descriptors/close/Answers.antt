@@ -1,0 +1,6 @@
+use Rattle.std.proofs.Common.{arith}
+use Rattle.std.proofs.lemmas.Grind.{common_steps}
+use Rattle.wasi_fd.proofs.table.Descriptors.close.Goals as goal
+
+pub returns-clause-closed : goal.returns-clause-closed
+returns-clause-closed c = grind (arith, common_steps)
