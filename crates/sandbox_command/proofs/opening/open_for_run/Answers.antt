@@ -1,4 +1,4 @@
-use Rattle.std.proofs.Common.{Option, IfErr, sym, subst}
+use Rattle.std.proofs.Common.{Option, IfErr, sym, subst, rules}
 use Rattle.std.specs.Borrow.{Bor}
 use Rattle.sandbox_command.specs.Request.{Text}
 use Rattle.sandbox_command.specs.Volumes.{IsRefusedFor}
@@ -11,3 +11,9 @@ returns-in-Some-clause-refused g c =
     let told = c.open.ensures in
     subst (λ (file : Option (Bor Text)). IfErr c.open.result (IsRefusedFor g.D.Device.honest g.D.Device.disk g.D.Device.size file c.args.device)) (sym c.in-Some.is)
     (refused_open g.D.Device.honest g.D.Device.disk g.D.Device.size _ c.args.device c.open.result told.not_a_volume told.version told.damaged told.faults_named told.crash_err told.kept_err)
+
+pub returns-in-None-clause-opens : goal.returns-in-None-clause-opens
+returns-in-None-clause-opens g c = search rules
+
+pub returns-in-None-clause-refused : goal.returns-in-None-clause-refused
+returns-in-None-clause-refused g c = search rules

@@ -1,3 +1,4 @@
+use Rattle.std.proofs.lemmas.Grind.{common_steps}
 use Rattle.std.proofs.Common.{◌≡◌, ◌<◌, ◌≤◌, ◌+◌, ◌-◌, ℕ, List, length, take, get_or, true, false, refl, subst, arith}
 use Rattle.std.proofs.lemmas.Bool.{false≢true}
 use Rattle.std.proofs.lemmas.List.{length-set, take_all}
@@ -50,3 +51,6 @@ returns c =
       right = λ yes. subst (ArePlaces first (first + length c.args.taken.now)) all (subst (λ (m : ℕ). ArePlaces first (first + m) (take c.loop-n.n-index named)) c.loop-n.auto.taken so_far.right);
       wrong = λ places. refl;
     }
+
+pub returns-then-taken-place-clause-wrong : goal.returns-then-taken-place-clause-wrong
+returns-then-taken-place-clause-wrong c = grind (arith, common_steps)

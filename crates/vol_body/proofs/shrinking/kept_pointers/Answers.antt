@@ -1,4 +1,4 @@
-use Rattle.std.proofs.Common.{ℕ, inl, inr, replicate, arith}
+use Rattle.std.proofs.Common.{ℕ, inl, inr, replicate, arith, rules}
 use Rattle.std.proofs.lemmas.Bool.{cases_lt}
 use Rattle.std.proofs.lemmas.List.{get_or-replicate, length-replicate, get_or_past}
 use Rattle.vol_body.proofs.shrinking.kept_pointers.Goals as goal
@@ -12,3 +12,6 @@ loop-j-init c = record {
   ];
   kept = λ k lt. absurd (omega (arith, lt));
 }
+
+pub loop-j-preserved : goal.loop-j-preserved
+loop-j-preserved c = search rules

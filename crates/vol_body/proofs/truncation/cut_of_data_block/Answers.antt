@@ -1,4 +1,4 @@
-use Rattle.std.proofs.Common.{◌∙◌, sym, arith}
+use Rattle.std.proofs.Common.{◌∙◌, sym, arith, rules}
 use Rattle.std.proofs.lemmas.Result.{IfOk-from_err}
 use Rattle.vol_body.proofs.truncation.cut_of_data_block.Goals as goal
 
@@ -16,3 +16,6 @@ returns-in_err-old g c =
       reads = e.reads;
       failed = e.failed ∙ sym is_err_now;
     }
+
+pub returns-clause-cut : goal.returns-clause-cut
+returns-clause-cut g c = search rules

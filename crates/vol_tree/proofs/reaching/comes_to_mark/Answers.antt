@@ -1,4 +1,4 @@
-use Rattle.std.proofs.Common.{inl, inr, ◌≡◌, ◌≢◌, ◌-◌, ◌∙◌, ℕ, true, false, get_or, sym, ap, arith}
+use Rattle.std.proofs.Common.{inl, inr, ◌≡◌, ◌≢◌, ◌-◌, ◌∙◌, ℕ, true, false, get_or, sym, ap, arith, rules}
 use Rattle.std.proofs.lemmas.Bool.{cases_lt, false≢true}
 use Rattle.vol_tree.specs.internal.Climbs.{climb}
 use Rattle.vol_tree.proofs.WaysUp.{climb_next, leads_from, leads_marked}
@@ -29,3 +29,6 @@ loop-preserved c =
         | inr past ↦ let same : counter ≡ k = omega (arith, lt, past) in below (was.is ∙ ap (λ (n : ℕ). climb n parents c.args.serial) same ∙ is)
       ];
     }
+
+pub returns-clause-no : goal.returns-clause-no
+returns-clause-no c = search rules

@@ -1,4 +1,4 @@
-use Rattle.std.proofs.Common.{◌≡◌, ◌+◌, ◌∙◌, inl, inr, ℕ, Bool, false, List, Vec, Global, length, get_or, replicate, refl, sym, ap, subst, arith}
+use Rattle.std.proofs.Common.{◌≡◌, ◌+◌, ◌∙◌, inl, inr, ℕ, Bool, false, List, Vec, Global, length, get_or, replicate, refl, sym, ap, subst, arith, rules}
 use Rattle.std.proofs.lemmas.List.{length-replicate, get_or-replicate, get_or_past, with_items_is}
 use Rattle.std.proofs.lemmas.Bool.{cases_lt}
 use Rattle.std.proofs.lemmas.Result.{IfOk-from_err}
@@ -53,3 +53,6 @@ returns-in_err-marks c = record { yes = IfOk-from_err c.from_residual.result _ c
 
 pub returns : goal.returns
 returns c = record { yes = λ all s lt some. c.loop-s.invariant.leads s (omega (arith, lt, c.loop-s-test.false)) some; no = λ soon. refl }
+
+pub returns-then-not-reaches-clause-yes : goal.returns-then-not-reaches-clause-yes
+returns-then-not-reaches-clause-yes c = search rules

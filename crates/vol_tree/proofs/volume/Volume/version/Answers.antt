@@ -1,0 +1,5 @@
+use Rattle.std.proofs.Common.{rules}
+use Rattle.vol_tree.proofs.volume.Volume.version.Goals as goal
+
+pub returns : goal.returns
+returns g c = search rules
