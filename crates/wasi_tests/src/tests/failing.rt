@@ -89,7 +89,7 @@ fn one_failing_operation_ends_the_volume(rt: HostRuntime) {
                 last = count;
             }
             Some(None) => panic!(rt; "another answer"),
-            None => {}
+            None => assert!(rt; last == 0, "operation {failing}"),
         }
         if last == CALLS.len() {
             return;

@@ -18,7 +18,7 @@ fn is_fault_of(found: Option<LoadFault>, offset: u32) -> bool {
         8 | 26 | 98 | 149 => found.is_none(),
         102 | 107 | 128 => found == Some(LoadFault::CountMismatch { offset }),
         167 => found == Some(LoadFault::Truncated { offset }),
-        _ => found.is_some(),
+        _ => found.is_some() && found != Some(LoadFault::Memory),
     }
 }
 
