@@ -2,8 +2,9 @@
 
 use super::sessions::{Row, assert_none, wrong_end};
 use sandbox_core::{Outcome, Trap};
-use std::alloc::Global;
+use std::alloc::{AllocError, Global};
 use std::process::Abort;
+use std::test::Fail;
 
 /// The runs of guests that print nothing.
 fn assert_rows(rt: &impl Abort, alloc: Global, rows: &[Row<'_>]) {
@@ -398,30 +399,25 @@ const FRONT: &[u8] =
     \x09proc_exit\x00\x00\x03\x02\x01\x01\x07\x0a\x01\x06_start\x00\x01\x0a\xc1b\x01\xbeb\x00";
 
 /// A module whose `_start` puts 4,200 constants onto the stack, drops them, and exits with status 3.
-fn many_constants(rt: &impl Abort, alloc: Global) -> Vec<u8> {
-    let mut bytes = Vec::from_slice(alloc, FRONT).ok().expect(rt, "memory");
+fn many_constants(alloc: Global) -> Result<Vec<u8>, AllocError> {
+    let mut bytes = Vec::from_slice(alloc, FRONT)?;
     for _ in 0..4_200 {
-        bytes
-            .extend_from_slice(b"\x41\x07")
-            .ok()
-            .expect(rt, "memory");
+        bytes.extend_from_slice(b"\x41\x07")?;
     }
     for _ in 0..4_200 {
-        bytes.push(0x1a).ok().expect(rt, "memory");
+        bytes.push(0x1a)?;
     }
-    bytes
-        .extend_from_slice(b"\x41\x03\x10\x00\x0b")
-        .ok()
-        .expect(rt, "memory");
-    bytes
+    bytes.extend_from_slice(b"\x41\x03\x10\x00\x0b")?;
+    Ok(bytes)
 }
 
 #[test]
-fn more_values_than_are_reserved(rt: HostRuntime) {
-    let module = many_constants(&rt, rt.alloc());
+fn more_values_than_are_reserved(rt: HostRuntime) -> Result<(), Fail> {
+    let module = many_constants(rt.alloc())?;
     assert_rows(
         &rt,
         rt.alloc(),
         &[(&module, 10_000, Outcome::Exited(3), 8_402)],
     );
+    Ok(())
 }

@@ -370,12 +370,8 @@ fn runs_by_fuel(rt: HostRuntime) {
 /// Units by which a session is resumed, what it stops by, and how many units it has used then.
 type Resumed = (u64, Pause, u64);
 
-/// Whether a session that is resumed stops as the row says. Units and their sum are below 100.
-fn resumes_so<D, R, W1, W2>(
-    rt: &impl Abort,
-    session: &mut Session<'_, '_, '_, D, R, W1, W2>,
-    row: &Resumed,
-) -> bool
+/// Whether a session that is resumed stops as the row says.
+fn resumes_so<D, R, W1, W2>(session: &mut Session<'_, '_, '_, D, R, W1, W2>, row: &Resumed) -> bool
 where
     D: Device + Drop,
     R: Read + Drop,
@@ -383,18 +379,14 @@ where
     W2: Write + Drop,
 {
     let (units, pause, used) = row;
-    assert!(rt; session.used() < 100 && *units < 100);
-    session.resume(*units) == *pause && session.used() == *used
+    let left = u64::MAX - session.used();
+    session.resume(left.min(*units)) == *pause && session.used() == *used
 }
 
 /// The first row, of those by which the session is resumed in turn, that it doesn't stop as.
-fn wrong_pause<D: Device + Drop>(
-    rt: &impl Abort,
-    session: &mut Small<'_, D>,
-    rows: &[Resumed],
-) -> Option<usize> {
+fn wrong_pause<D: Device + Drop>(session: &mut Small<'_, D>, rows: &[Resumed]) -> Option<usize> {
     for (i, row) in rows.iter().enumerate() {
-        if !resumes_so(rt, session, row) {
+        if !resumes_so(session, row) {
             return Some(i);
         }
     }
@@ -424,7 +416,7 @@ fn resumed_on<D: Device + Drop>(
     line: &[u8],
 ) -> (Option<usize>, bool) {
     let mut session = over(rt, alloc, &HI, device, b"", most).expect(rt, "a session");
-    let wrong = wrong_pause(rt, &mut session, rows);
+    let wrong = wrong_pause(&mut session, rows);
     let out = output(session);
     (wrong, out.held.as_slice() == line)
 }
@@ -557,18 +549,31 @@ fn wrong_refusal(rt: &impl Abort, alloc: Global, rows: &[Refusing<'_>]) -> Optio
     None
 }
 
-#[test]
-fn refuses_in_order(rt: HostRuntime) {
+/// `HELLO` with data that begin at address 2 ^ 32 - 1.
+fn far() -> [u8; 168] {
+    let mut module = HELLO;
+    module[154] = 0x7F;
+    module
+}
+
+/// The same with an import whose module is wasi_snapshot_preview2.
+fn other() -> [u8; 168] {
+    let mut module = far();
+    module[51] = b'2';
+    module
+}
+
+/// The first row of a session that isn't refused as it says, of the module `far`, of `other` and of some more.
+fn wrong_order<'a>(
+    rt: &impl Abort,
+    alloc: Global,
+    far: &'a [u8],
+    other: &'a [u8],
+) -> Option<usize> {
     let start = SessionFault::Instance(InstanceFault::NoStart);
     let import = SessionFault::Instance(InstanceFault::Import);
     let limit = SessionFault::Instance(InstanceFault::PageLimit);
     let data = SessionFault::Instance(InstanceFault::DataOutOfBounds);
-    // The data begins at address 2 ^ 32 - 1.
-    let mut far = HI;
-    far[154] = 0x7F;
-    // The import's module is wasi_snapshot_preview2.
-    let mut other = far;
-    other[51] = b'2';
     let none = SessionFault::Preopen;
     let setting = SessionFault::Setting;
     let rows: [Refusing<'_>; 10] = [
@@ -576,13 +581,18 @@ fn refuses_in_order(rt: HostRuntime) {
         (NOTHING, 65_537, &PLAIN, Some(setting)),
         (&HI, 1, &PLAIN, None),
         (&HI, 0, &PLAIN, Some(limit)),
-        (&far, 1, &PLAIN, Some(data)),
-        (&far, 0, &PLAIN, Some(limit)),
-        (&other, 0, &PLAIN, Some(import)),
-        (&other, 65_537, &MISSING, Some(setting)),
+        (far, 1, &PLAIN, Some(data)),
+        (far, 0, &PLAIN, Some(limit)),
+        (other, 0, &PLAIN, Some(import)),
+        (other, 65_537, &MISSING, Some(setting)),
         // its directory is asked for last
-        (&other, 0, &MISSING, Some(import)),
+        (other, 0, &MISSING, Some(import)),
         (&HI, 1, &MISSING, Some(none)),
     ];
-    assert_none(&rt, wrong_refusal(&rt, rt.alloc(), &rows));
+    wrong_refusal(rt, alloc, &rows)
+}
+
+#[test]
+fn refuses_in_order(rt: HostRuntime) {
+    assert_none(&rt, wrong_order(&rt, rt.alloc(), &far(), &other()));
 }
