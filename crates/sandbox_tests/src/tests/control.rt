@@ -1,22 +1,14 @@
 //! Guests by their bytes: control, calls, traps and memory, with the units that they take.
 
-use super::sessions::ended;
+use super::sessions::{Row, assert_none, wrong_end};
 use sandbox_core::{Outcome, Trap};
 use std::alloc::{AllocError, Global};
 use std::process::Abort;
 use std::test::Fail;
 
-/// A module, the fuel, how its run ends, and the units that it has used then.
-type Row<'a> = (&'a [u8], u64, Outcome, u64);
-
+/// The runs of guests that print nothing.
 fn assert_rows(rt: &impl Abort, alloc: Global, rows: &[Row<'_>]) {
-    for (i, (module, fuel, outcome, used)) in rows.iter().enumerate() {
-        assert_eq!(rt;
-            ended(alloc, module, *fuel, b""),
-            Some((*outcome, *used, true)),
-            "row {i}"
-        );
-    }
+    assert_none(rt, wrong_end(rt, alloc, rows, b""));
 }
 
 #[test]

@@ -4,7 +4,7 @@
 /// A module, its units and its output.
 pub type Kernel = (&'static [u8], u64, &'static [u8]);
 
-pub const KERNELS: [Kernel; 10] = [
+pub static KERNELS: [Kernel; 10] = [
     // recursion
     (
         b"\x00asm\x01\x00\x00\x00\x01\x1b\x05`\x04\x7f\x7f\x7f\x7f\x01\x7f`\x00\x00`\x01\x7f\x01\x7f`\

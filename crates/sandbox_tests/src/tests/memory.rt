@@ -2,21 +2,22 @@
 //! where none is, it only shows that the guests run.
 
 use super::guests::{DEEP, FILES, WIDE};
-use super::sessions::{Disk, NoSession, PLAIN, Ran, Small, faulty, formatted, whole_run};
+use super::sessions::{NoSession, PLAIN, Ran, Small, faulty, formatted, made, mounted, whole_run};
 use super::writer::Bounded;
 use sandbox_core::{
-    HostParts, LoadFault, Outcome, RefusedSession, Session, SessionFault, Valid, Volume, load,
+    HostParts, LoadFault, Outcome, RefusedSession, SessionFault, Valid, Volume, load,
 };
 use std::alloc::Global;
+use std::process::Abort;
 use std::test::Fail;
-use vol_sector::{MemoryDevice, Refused, VolumeFault};
+use vol_sector::{Device, MemoryDevice, Refused, VolumeFault};
 use wasm_tests::HELLO;
 
 /// More than any guest here uses.
 const FUEL: u64 = 1_000_000;
 
 /// Who was refused memory.
-#[derive(Clone, Copy, Debug, PartialEq, Eq)]
+#[derive(Clone, Copy, Debug)]
 enum Asking {
     Nobody,
     /// The device or the writer of the test itself.
@@ -37,7 +38,7 @@ struct Guest {
     left: &'static [u8],
 }
 
-const GUESTS: [Guest; 4] = [
+static GUESTS: [Guest; 4] = [
     // neither these two nor their calls ask for memory
     Guest {
         module: &HELLO,
@@ -66,53 +67,65 @@ const GUESTS: [Guest; 4] = [
 ];
 
 /// A device with a volume, at the second try where memory was refused at the first, and whether it was.
-fn supplied_device(alloc: Global) -> Option<(bool, MemoryDevice)> {
-    if let Some(device) = formatted(alloc) {
-        return Some((false, device));
+fn supplied_device(rt: &impl Abort, alloc: Global) -> (bool, MemoryDevice) {
+    match formatted(alloc) {
+        Some(device) => (false, device),
+        None => (true, formatted(alloc).expect(rt, "a device")),
     }
-    Some((true, formatted(alloc)?))
 }
 
 /// A writer with room, and whether memory was refused to it once.
-fn supplied_writer(alloc: Global) -> Option<(bool, Bounded)> {
+fn supplied_writer(rt: &impl Abort, alloc: Global) -> (bool, Bounded) {
     let mut out = Bounded::new(alloc, 100, 100, None);
     let refused = out.held.reserve(100).is_err();
-    if refused && out.held.reserve(100).is_err() {
-        return None;
+    if refused {
+        out.held.reserve(100).ok().expect(rt, "room");
     }
-    Some((refused, out))
+    (refused, out)
 }
 
 /// The module, which is loaded at the second try where memory was refused at the first.
-fn loaded(alloc: Global, bytes: &[u8]) -> Option<(bool, Valid<'_>)> {
+fn loaded<'a>(rt: &impl Abort, alloc: Global, bytes: &'a [u8]) -> (bool, Valid<'a>) {
     match load(alloc, bytes) {
-        Ok(valid) => Some((false, valid)),
-        Err(LoadFault::Memory) => Some((true, load(alloc, bytes).ok()?)),
-        Err(_) => None,
+        Ok(valid) => (false, valid),
+        Err(fault) => {
+            assert!(rt; fault == LoadFault::Memory);
+            (true, load(alloc, bytes).ok().expect(rt, "a module"))
+        }
     }
 }
 
-/// The same of the volume. A refusal gives the device back.
-fn opened(alloc: Global, device: MemoryDevice) -> Option<(bool, Volume<Disk>)> {
-    match Volume::open(alloc, faulty(device, 0, u64::MAX)) {
-        Ok(volume) => Some((false, volume)),
-        Err(
-            Refused {
-                device,
-                fault: VolumeFault::Memory,
-            },
-        ) => Some((true, Volume::open(alloc, device).ok()?)),
-        Err(_) => None,
+/// The volume on the device that a refusal for memory handed back.
+fn opened_again<D: Device + Drop>(
+    rt: &impl Abort,
+    alloc: Global,
+    refused: Refused<D>,
+) -> Volume<D> {
+    let Refused { device, fault } = refused;
+    assert!(rt; fault == VolumeFault::Memory);
+    mounted(alloc, device).expect(rt, "a volume")
+}
+
+/// The same of the volume.
+fn opened<D: Device + Drop>(rt: &impl Abort, alloc: Global, device: D) -> (bool, Volume<D>) {
+    match Volume::open(alloc, device) {
+        Ok(volume) => (false, volume),
+        Err(refused) => (true, opened_again(rt, alloc, refused)),
     }
 }
 
 /// A session of all that a refusal for memory handed back.
-fn made_again<'a>(alloc: Global, refused: NoSession<'a>) -> Option<Small<'a>> {
-    if refused.fault != SessionFault::Memory {
-        drop(refused);
-        return None;
-    }
-    let RefusedSession { valid, parts, .. } = refused;
+fn made_again<'a, D: Device + Drop>(
+    rt: &impl Abort,
+    alloc: Global,
+    refused: NoSession<'a, D>,
+) -> Small<'a, D> {
+    let RefusedSession {
+        valid,
+        parts,
+        fault,
+    } = refused;
+    assert!(rt; fault == SessionFault::Memory);
     let HostParts {
         settings,
         volume,
@@ -120,45 +133,38 @@ fn made_again<'a>(alloc: Global, refused: NoSession<'a>) -> Option<Small<'a>> {
         out,
         err,
     } = parts;
-    Session::new(alloc, valid, settings, volume, input, out, err).ok()
+    made(alloc, valid, &settings, volume, input, out, err)
+        .ok()
+        .expect(rt, "a session")
 }
 
 /// The same of the session.
-fn made<'a>(
+fn begun<'a, D: Device + Drop>(
+    rt: &impl Abort,
     alloc: Global,
     valid: Valid<'a>,
-    volume: Volume<Disk>,
+    volume: Volume<D>,
     out: Bounded,
-) -> Option<(bool, Small<'a>)> {
+) -> (bool, Small<'a, D>) {
     let err = Bounded::new(alloc, 1, 1, None);
-    match Session::new(alloc, valid, PLAIN, volume, b"".as_slice(), out, err) {
-        Ok(session) => Some((false, session)),
-        Err(refused) => Some((true, made_again(alloc, refused)?)),
+    match made(alloc, valid, &PLAIN, volume, b"", out, err) {
+        Ok(session) => (false, session),
+        Err(refused) => (true, made_again(rt, alloc, refused)),
     }
 }
 
 /// Whether a guest ended so and printed this.
-fn is_ended(report: &Ran, want: Outcome, line: &[u8]) -> bool {
+fn is_ended<D: Device>(report: &Ran<D>, want: Outcome, line: &[u8]) -> bool {
     report.outcome == want && report.out.held.as_slice() == line
 }
 
-/// Whether a run ended as where there is memory. None where it ended in neither way, or not all was committed.
-fn judged(report: &Ran, guest: &Guest) -> Option<bool> {
+/// Whether a run ended as where there is memory. It may also end as where memory was refused to it, and in no other way;
+/// and all was committed.
+fn is_whole<D: Device>(rt: &impl Abort, report: &Ran<D>, guest: &Guest) -> bool {
     let whole = is_ended(report, Outcome::Exited(0), guest.line);
-    let refused = is_ended(report, guest.refused, guest.left);
-    (report.volume.is_ok() && (whole || refused)).then_some(whole)
-}
-
-/// Runs the session, and says the same.
-fn is_whole(session: Small<'_>, guest: &Guest) -> Option<bool> {
-    match whole_run(session, FUEL) {
-        Some(report) => {
-            let whole = judged(&report, guest);
-            drop(report);
-            whole
-        }
-        None => None,
-    }
+    assert!(rt; whole || is_ended(report, guest.refused, guest.left));
+    assert!(rt; report.volume.is_ok());
+    whole
 }
 
 /// Who was refused memory, by whether the test's device and its writer, `load`, `open`, `new` and the run were; none where
@@ -176,41 +182,39 @@ fn refused_one(refused: [bool; 6]) -> Option<Asking> {
     }
 }
 
-/// A session of the guest, and whether memory was refused to `load`, `open` and `new`.
-fn begun<'a>(
+/// Makes a session of the guest on the device, and runs it. Whether memory was refused to `load`, to `open`, to `new`, and
+/// to the run.
+fn asked_on<D: Device + Drop>(
+    rt: &impl Abort,
     alloc: Global,
-    module: &'a [u8],
-    device: MemoryDevice,
+    guest: &Guest,
+    device: D,
     out: Bounded,
-) -> Option<([bool; 3], Small<'a>)> {
-    let Some((load, valid)) = loaded(alloc, module) else {
-        drop((device, out));
-        return None;
-    };
-    let Some((open, volume)) = opened(alloc, device) else {
-        drop((valid, out));
-        return None;
-    };
-    let (new, session) = made(alloc, valid, volume, out)?;
-    Some(([load, open, new], session))
+) -> [bool; 4] {
+    let (load, valid) = loaded(rt, alloc, guest.module);
+    let (open, volume) = opened(rt, alloc, device);
+    let (new, session) = begun(rt, alloc, valid, volume, out);
+    let report = whole_run(rt, session, FUEL);
+    let whole = is_whole(rt, &report, guest);
+    drop(report);
+    [load, open, new, !whole]
 }
 
-/// Makes a session of the guest and runs it: who was refused memory, at most once. None where anything else came of it.
-fn asked(alloc: Global, guest: &Guest) -> Option<Asking> {
-    let (writer, out) = supplied_writer(alloc)?;
-    let (memory, device) = supplied_device(alloc)?;
-    let ([load, open, new], session) = begun(alloc, guest.module, device, out)?;
-    let whole = is_whole(session, guest)?;
-    refused_one([memory, writer, load, open, new, !whole])
+/// The same of a device and a writer for it: who was refused memory. None where more than one was.
+fn asked(rt: &impl Abort, alloc: Global, guest: &Guest) -> Option<Asking> {
+    let (writer, out) = supplied_writer(rt, alloc);
+    let (memory, device) = supplied_device(rt, alloc);
+    let [load, open, new, run] = asked_on(rt, alloc, guest, faulty(device, 0, u64::MAX), out);
+    refused_one([memory, writer, load, open, new, run])
 }
 
 #[test]
 fn want_of_memory_is_answered_and_loses_nothing(rt: HostRuntime) -> Result<(), Fail> {
     for (i, guest) in GUESTS.iter().enumerate() {
-        let answer = asked(rt.alloc(), guest);
-        assert!(rt; answer.is_some(), "guest {i}");
-        if answer != Some(Asking::Nobody) {
-            println!(&rt; "{i} {answer:?}")?;
+        match asked(&rt, rt.alloc(), guest) {
+            Some(Asking::Nobody) => {}
+            Some(answer) => println!(&rt; "{i} Some({answer:?})")?,
+            None => panic!(rt; "guest {i}"),
         }
     }
     Ok(())
