@@ -1,5 +1,6 @@
 use Rattle.std.proofs.Common.{◌≡◌, ◌≢◌, ◌+◌, ◌<◌, ◌≤◌, ℕ, length, drop, cond, [], false, refl, sym, ◌∙◌, ap, arith, drop-drop}
 use Rattle.std.proofs.lemmas.Bool.{eqb-true, eqb-false, cond-true, false≢true}
+use Rattle.std.proofs.lemmas.Grind.{common_steps}
 use Rattle.path_walk.specs.Paths.{components_of, stays_inside}
 use Rattle.path_walk.proofs.Turning.{left, left_none, left_more, inward}
 use Rattle.path_walk.proofs.components.stays_inside.Goals as goal
@@ -39,3 +40,9 @@ loop-more-preserved c =
           ∙ inward c.loop-more.depth _ rest c.split_at.result.0.now (components_of remainder) n _ _ c.loop-more-test.true c.part_len.ensures c.split_at.ensures.front
           (left_more rest n long ∙ ap components_of (sym is)) c.loop-more.invariant.goes (c.in-Some.ensures.meaning (components_of remainder));
     }
+
+pub loop-more-smaller : goal.loop-more-smaller
+loop-more-smaller c = grind (arith, common_steps)
+
+pub loop-more-smaller-then-is_empty : goal.loop-more-smaller-then-is_empty
+loop-more-smaller-then-is_empty c = grind (arith, common_steps)

@@ -1,5 +1,6 @@
-use Rattle.std.proofs.Common.{◌≢◌, length, sym, ◌∙◌, rules}
+use Rattle.std.proofs.Common.{◌≢◌, length, sym, ◌∙◌, rules, arith}
 use Rattle.std.proofs.lemmas.Bool.{eqb-false}
+use Rattle.std.proofs.lemmas.Grind.{common_steps}
 use Rattle.path_walk.proofs.FromRoot.{root_refused}
 use Rattle.path_walk.proofs.rooted.walk_from_root.Goals as goal
 
@@ -11,3 +12,18 @@ returns-in_err-found-clause-answer g c h =
 
 pub returns-then-is_empty-clause-answer : goal.returns-then-is_empty-clause-answer
 returns-then-is_empty-clause-answer g c = search rules
+
+pub returns-clause-answer : goal.returns-clause-answer
+returns-clause-answer c = grind (arith, common_steps)
+
+pub returns-clause-asked : goal.returns-clause-asked
+returns-clause-asked c = grind (arith, common_steps)
+
+pub returns-clause-reached : goal.returns-clause-reached
+returns-clause-reached c = grind (arith, common_steps)
+
+pub returns-in_err-found-clause-asked : goal.returns-in_err-found-clause-asked
+returns-in_err-found-clause-asked c = grind (arith, common_steps)
+
+pub returns-then-is_empty-clause-asked : goal.returns-then-is_empty-clause-asked
+returns-then-is_empty-clause-asked c = grind (arith, common_steps)

@@ -1,4 +1,5 @@
-use Rattle.std.proofs.Common.{◌≡◌, true, Result, Ok, sym, ◌∙◌, ap, subst, rules}
+use Rattle.std.proofs.Common.{◌≡◌, true, Result, Ok, sym, ◌∙◌, ap, subst, rules, arith}
+use Rattle.std.proofs.lemmas.Grind.{common_steps}
 use Rattle.vol_tree.specs.declared.errno.Errno.{Errno}
 use Rattle.path_walk.specs.declared.walking.Reached.{Reached as ReachedValue}
 use Rattle.path_walk.specs.Paths.{Reached, components_of, wants_directory, stays_inside, resolved}
@@ -38,3 +39,27 @@ returns-in-Ok-Missing-clause-answer g c h =
 
 pub walk_down-requires-clause-working : goal.walk_down-requires-clause-working
 walk_down-requires-clause-working g c = search rules
+
+pub returns-in-Err-clause-outside : goal.returns-in-Err-clause-outside
+returns-in-Err-clause-outside c = grind (arith, common_steps)
+
+pub returns-in-Ok-Found-clause-crash : goal.returns-in-Ok-Found-clause-crash
+returns-in-Ok-Found-clause-crash c = grind (arith, common_steps)
+
+pub returns-in-Ok-Found-clause-kept : goal.returns-in-Ok-Found-clause-kept
+returns-in-Ok-Found-clause-kept c = grind (arith, common_steps)
+
+pub returns-in-Ok-Found-clause-outside : goal.returns-in-Ok-Found-clause-outside
+returns-in-Ok-Found-clause-outside c = grind (arith, common_steps)
+
+pub returns-in-Ok-Missing-clause-outside : goal.returns-in-Ok-Missing-clause-outside
+returns-in-Ok-Missing-clause-outside c = grind (arith, common_steps)
+
+pub returns-in-Ok-Missing-clause-reached : goal.returns-in-Ok-Missing-clause-reached
+returns-in-Ok-Missing-clause-reached c = grind (arith, common_steps)
+
+pub returns-then-failed-clause-kept : goal.returns-then-failed-clause-kept
+returns-then-failed-clause-kept c = grind (arith, common_steps)
+
+pub returns-then-not-stays_inside-clause-kept : goal.returns-then-not-stays_inside-clause-kept
+returns-then-not-stays_inside-clause-kept c = grind (arith, common_steps)

@@ -1,5 +1,6 @@
 use Rattle.std.proofs.Common.{◌≡◌, ◌≢◌, ◌+◌, ◌<◌, ◌≤◌, ℕ, length, drop, cond, false, [], refl, sym, ◌∙◌, ap, subst, arith, inl, inr, ⊎_elim, drop-drop}
 use Rattle.std.proofs.lemmas.Bool.{eqb-true, eqb-false, cond-true}
+use Rattle.std.proofs.lemmas.Grind.{common_steps}
 use Rattle.vol_tree.specs.Tree.{Tree}
 use Rattle.path_walk.specs.Paths.{components_of}
 use Rattle.path_walk.specs.internal.Turns.{ends, now_of}
@@ -59,3 +60,12 @@ loop-more-preserved g c =
           ∙ onward _ _ _ _ _ rest c.split_at.result.0.now (components_of remainder) n _ _ (asked.tree h) c.loop-more-test.true c.part_len.ensures c.split_at.ensures.front
           after (c.loop-more.invariant.goes h) (c.in-Ok.ensures.answer (asked.kept.honest.0 h) (components_of remainder)));
     }
+
+pub loop-more-smaller : goal.loop-more-smaller
+loop-more-smaller c = grind (arith, common_steps)
+
+pub loop-more-smaller-then-is_empty : goal.loop-more-smaller-then-is_empty
+loop-more-smaller-then-is_empty c = grind (arith, common_steps)
+
+pub returns-in-Err-clause-asked : goal.returns-in-Err-clause-asked
+returns-in-Err-clause-asked c = grind (arith, common_steps)

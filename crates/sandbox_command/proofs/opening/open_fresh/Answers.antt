@@ -1,3 +1,5 @@
+use Rattle.std.proofs.Common.{arith}
+use Rattle.std.proofs.lemmas.Grind.{common_steps}
 use Rattle.sandbox_command.proofs.FreshVolume.{fresh_opened, fresh_refused, has_room}
 use Rattle.sandbox_command.proofs.opening.open_fresh.Goals as goal
 
@@ -14,3 +16,6 @@ returns-in-Ok-clause-refused g c =
     let opened = c.open.ensures in
     fresh_refused g.D.Device.honest g.D.Device.disk g.D.Device.size c.args.device c.in-Ok.device made.kept_ok.0 made.kept_ok.1 (has_room _ _ _ made.too_small.0) made.empty made.crash_ok
     _ c.open.result opened.not_a_volume opened.version opened.damaged opened.faults_named opened.crash_err opened.kept_err
+
+pub returns-in-Err-clause-refused : goal.returns-in-Err-clause-refused
+returns-in-Err-clause-refused c = grind (arith, common_steps)

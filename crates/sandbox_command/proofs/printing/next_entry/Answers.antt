@@ -1,4 +1,5 @@
 use Rattle.std.proofs.Common.{sym, ◌∙◌, subst, arith, ap, refl, IsSome, Option}
+use Rattle.std.proofs.lemmas.Grind.{common_steps}
 use Rattle.vol_tree.specs.Tree.{Entry, Tree, entry}
 use Rattle.vol_tree.specs.declared.superblock.Superblock.{Superblock}
 use Rattle.vol_tree.specs.Opened.{IsSerial}
@@ -24,3 +25,9 @@ returns-in_default-clause-answer g c h =
     let told = rw c.in-Some.is at c.in_ok-serial.ensures.answer h in
     let next = next_child_is c.args.volume.now.tree c.args.directory c.args.last c.in-Some.serial (sym told.0) in
     absurd (omega (arith, next.later, c.if-serial-last.false))
+
+pub returns-in-Some-clause-asked : goal.returns-in-Some-clause-asked
+returns-in-Some-clause-asked c = grind (arith, common_steps)
+
+pub returns-in_default-clause-asked : goal.returns-in_default-clause-asked
+returns-in_default-clause-asked c = grind (arith, common_steps)

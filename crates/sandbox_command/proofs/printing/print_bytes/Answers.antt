@@ -1,4 +1,5 @@
-use Rattle.std.proofs.Common.{◌≡◌, ◌*◌, ◌++◌, ℕ, List, length, take, drop, false, ap, subst, rules}
+use Rattle.std.proofs.Common.{◌≡◌, ◌*◌, ◌++◌, ℕ, List, length, take, drop, false, ap, subst, rules, arith}
+use Rattle.std.proofs.lemmas.Grind.{common_steps}
 use Rattle.vol_tree.specs.Tree.{Tree}
 use Rattle.vol_tree.specs.Calls.{bytes_at}
 use Rattle.path_walk.specs.Walk.{Asked}
@@ -26,3 +27,18 @@ loop-n-preserved g c =
           c.loop-n.piece c.read.new.buffer c.loop-n.n (c.from.result * 16384) (length c.loop-n.piece) c.in_ok-read.field-0 c.min-count.result
           (ap (λ (k : ℕ). k * 16384) c.from.ensures) (search rules) got.0 got.1 c.min-count.ensures (before.printed h) c.in_ok-write_all.ensures.bytes;
     }
+
+pub loop-n-init : goal.loop-n-init
+loop-n-init c = grind (arith, common_steps)
+
+pub read-requires-clause-last : goal.read-requires-clause-last
+read-requires-clause-last c = grind (arith, common_steps)
+
+pub returns-clause-prints : goal.returns-clause-prints
+returns-clause-prints c = grind (arith, common_steps)
+
+pub returns-in_err-read-clause-asked : goal.returns-in_err-read-clause-asked
+returns-in_err-read-clause-asked c = grind (arith, common_steps)
+
+pub slice_bounds-write_all-end : goal.slice_bounds-write_all-end
+slice_bounds-write_all-end c = grind (arith, common_steps)

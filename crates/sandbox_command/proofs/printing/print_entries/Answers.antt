@@ -1,7 +1,8 @@
-use Rattle.std.proofs.Common.{◌≡◌, ◌++◌, ℕ, List, false, ap, sym, subst, ◌∙◌, append_assoc, append-nil, refl}
+use Rattle.std.proofs.Common.{◌≡◌, ◌++◌, ℕ, List, false, ap, sym, subst, ◌∙◌, append_assoc, append-nil, refl, arith}
 use Rattle.std.specs.Io.KnownBytes.{Appends}
 use Rattle.std.proofs.KnownBytes.{Appends-trans}
 use Rattle.std.proofs.lemmas.Option.{same_Some}
+use Rattle.std.proofs.lemmas.Grind.{common_steps}
 use Rattle.vol_tree.specs.Tree.{Tree, Entry, entry}
 use Rattle.vol_tree.specs.Stat.{IsStat}
 use Rattle.vol_tree.specs.Calls.{next_child}
@@ -56,3 +57,12 @@ returns-clause-prints g c h =
       refl,
       subst (λ (text : List ℕ). Appends (g.W.Write.contents c.args.out.now) (g.W.Write.contents c.loop-serial.out) text) (sym all) so_far.1,
     )
+
+pub loop-serial-init : goal.loop-serial-init
+loop-serial-init c = grind (arith, common_steps)
+
+pub loop-serial-smaller : goal.loop-serial-smaller
+loop-serial-smaller c = grind (arith, common_steps)
+
+pub returns-clause-asked : goal.returns-clause-asked
+returns-clause-asked c = grind (arith, common_steps)

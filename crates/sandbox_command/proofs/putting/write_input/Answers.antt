@@ -1,6 +1,7 @@
 use Rattle.std.proofs.Common.{◌≡◌, ◌⊎◌, ◌+◌, ◌++◌, length, take, Ok, Err, false, subst, arith, rules, length-append}
 use Rattle.std.proofs.lemmas.List.{length-take-le}
 use Rattle.std.proofs.KnownBytes.{Consumes-trans}
+use Rattle.std.proofs.lemmas.Grind.{common_steps}
 use Rattle.vol_tree.specs.declared.superblock.Superblock.{Superblock}
 use Rattle.vol_tree.specs.declared.errno.Errno.TheVariants as errno
 use Rattle.vol_tree.specs.Calls.{with_unit, written}
@@ -89,3 +90,6 @@ loop-preserved g c =
           (so_far.0, consumed_begins (g.R.Read.remaining c.args.input.now) (g.R.Read.remaining c.loop.input) so_far.0 so_far.1, so_far.2)
           (before.crash h) (c.in_ok-write.ensures.crash (before.kept.honest.0 h));
     }
+
+pub returns-then-count-lt-PIECE-clause-kept : goal.returns-then-count-lt-PIECE-clause-kept
+returns-then-count-lt-PIECE-clause-kept c = grind (arith, common_steps)

@@ -1,6 +1,7 @@
 use Rattle.std.proofs.Common.{◌≡◌, ◌<◌, ℕ, zero, suc, List, [], ◌∷◌, length, map, get_or, Option, None, inl, refl, sym, arith}
 use Rattle.std.specs.Borrow.{Bor}
 use Rattle.std.specs.List.{Contains}
+use Rattle.std.proofs.lemmas.Grind.{common_steps}
 use Rattle.sandbox_command.specs.Request.{Text, texts}
 use Rattle.sandbox_command.specs.Supplies.{cut}
 use Rattle.sandbox_command.proofs.supplies.preopens.Goals as goal
@@ -14,3 +15,12 @@ uncut (w ∷ ws) (suc i) d lt e = let later = uncut ws i d (omega (arith, lt)) e
 -- this word has no `=`
 pub returns-in_default-clause-refused : goal.returns-in_default-clause-refused
 returns-in_default-clause-refused c = inl (refl, uncut c.args.words.now c.loop-word.word-index _ c.loop-word-test.true c.in_default.ensures)
+
+pub loop-word-preserved : goal.loop-word-preserved
+loop-word-preserved c = grind (arith, common_steps)
+
+pub returns-clause-cut : goal.returns-clause-cut
+returns-clause-cut c = grind (arith, common_steps)
+
+pub returns-then-is_err-clause-refused : goal.returns-then-is_err-clause-refused
+returns-then-is_err-clause-refused c = grind (arith, common_steps)

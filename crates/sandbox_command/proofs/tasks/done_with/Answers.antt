@@ -1,4 +1,5 @@
-use Rattle.std.proofs.Common.{sym, subst}
+use Rattle.std.proofs.Common.{sym, subst, arith}
+use Rattle.std.proofs.lemmas.Grind.{common_steps}
 use Rattle.vol_sector.specs.Disk.{Leaves}
 use Rattle.sandbox_command.specs.declared.request.Task.{Task}
 use Rattle.sandbox_command.specs.Tasks.{ReflectsAny}
@@ -10,3 +11,12 @@ returns-in-Put-clause-crash g c h =
     let v = c.args.volume.now in
     subst (λ (t : Task). Leaves (g.D.Device.disk v.device) (g.D.Device.disk c.put.new.volume.device)
     (ReflectsAny (g.D.Device.disk v.device) (IsPartOf t v.numbers v.tree (g.R.Read.remaining c.args.input.now)))) (sym c.in-Put.is) (c.put.ensures.crash h)
+
+pub returns-in-Check-clause-crash : goal.returns-in-Check-clause-crash
+returns-in-Check-clause-crash c = grind (arith, common_steps)
+
+pub returns-in-Get-clause-crash : goal.returns-in-Get-clause-crash
+returns-in-Get-clause-crash c = grind (arith, common_steps)
+
+pub returns-in-List-clause-crash : goal.returns-in-List-clause-crash
+returns-in-List-clause-crash c = grind (arith, common_steps)

@@ -54,3 +54,9 @@ returns c =
 
 pub returns-then-taken-place-clause-wrong : goal.returns-then-taken-place-clause-wrong
 returns-then-taken-place-clause-wrong c = grind (arith, common_steps)
+
+pub loop-n-init : goal.loop-n-init
+loop-n-init c = grind (arith, common_steps)
+
+pub returns-then-taken-place-clause-taken : goal.returns-then-taken-place-clause-taken
+returns-then-taken-place-clause-taken c = grind (arith, common_steps)

@@ -1,5 +1,6 @@
 use Rattle.std.proofs.Common.{◌≡◌, ◌≢◌, ◌∙◌, ◌*◌, ◌≤◌, ◌<◌, ◌⊎◌, inl, inr, ⊎_elim, ℕ, Bool, true, if◌then◌else◌, List, drop, slice_index, refl, sym, ap, arith}
 use Rattle.std.proofs.lemmas.Result.{IfOk-from_err}
+use Rattle.std.proofs.lemmas.Grind.{common_steps}
 use Rattle.byteorder.specs.Endian.{little_number}
 use Rattle.vol_sector.specs.Disk.{Image}
 use Rattle.vol_log.specs.Log.{view}
@@ -84,3 +85,6 @@ returns-else-count-le186 g c = record {
   reads = c.in_ok-free_inner_blocks.ensures.reads;
   failed = c.in_ok-free_inner_blocks.ensures.failed;
 }
+
+pub free_inner_blocks-requires-clause-there : goal.free_inner_blocks-requires-clause-there
+free_inner_blocks-requires-clause-there c = grind (arith, common_steps)

@@ -1,5 +1,6 @@
-use Rattle.std.proofs.Common.{◌∙◌, sym}
+use Rattle.std.proofs.Common.{◌∙◌, sym, arith}
 use Rattle.std.proofs.lemmas.Result.{IfOk-from_err}
+use Rattle.std.proofs.lemmas.Grind.{common_steps}
 use Rattle.vol_body.proofs.holding.hold_group.Goals as goal
 
 pub load_segment-requires : goal.load_segment-requires
@@ -16,3 +17,6 @@ returns-in_err-held g c =
       reads = e.reads;
       failed = e.failed ∙ sym is_err_now;
     }
+
+pub returns-else-group-held-clause-reads : goal.returns-else-group-held-clause-reads
+returns-else-group-held-clause-reads c = grind (arith, common_steps)

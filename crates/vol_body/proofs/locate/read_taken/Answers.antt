@@ -1,5 +1,6 @@
-use Rattle.std.proofs.Common.{◌≡◌, ◌∙◌, ℕ, replicate, is_err, sym, ap}
+use Rattle.std.proofs.Common.{◌≡◌, ◌∙◌, ℕ, replicate, is_err, sym, ap, arith}
 use Rattle.std.proofs.lemmas.Result.{IfOk-weaker}
+use Rattle.std.proofs.lemmas.Grind.{common_steps}
 use Rattle.vol_sector.specs.Disk.{Image}
 use Rattle.vol_log.specs.Log.{view}
 use Rattle.vol_log.proofs.Readings.{reads_same, reads_of}
@@ -28,3 +29,6 @@ returns g c =
       reads = reads_of c.args.log.now c.read.new.self (is_err c.read.result) e.view e.staged e.seen e.crash e.sectors e.honest e.size e.failures e.failed;
       failed = e.failed;
     }
+
+pub read-requires : goal.read-requires
+read-requires c = grind (arith, common_steps)

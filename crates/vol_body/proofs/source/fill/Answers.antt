@@ -1,5 +1,6 @@
 use Rattle.std.proofs.Common.{◌≡◌, ◌∙◌, ◌-◌, ◌+◌, ◌++◌, ◌<◌, ◌≤◌, ℕ, List, length, take, drop, sym, ap, subst, arith}
 use Rattle.std.proofs.lemmas.List.{length-drop, drop-append-le, take-append-le}
+use Rattle.std.proofs.lemmas.Grind.{common_steps}
 use Rattle.vol_body.specs.declared.source.Span.{Span}
 use Rattle.vol_body.specs.Source.{gathered, AreInside}
 use Rattle.vol_body.proofs.Sources.{tail_of, more_spans, filled_bytes, filled_rest}
@@ -76,3 +77,12 @@ loop-filled-preserved c =
       rest = filled_rest memory first next all into into' spans rest c.loop-filled.taken c.loop-filled.filled copied.result c.loop-filled-test.true enough used before.rest is count;
       inside = subst (λ (l : List Span). AreInside memory l) (sym tail) c.first_span-first.ensures.inside;
     }
+
+pub returns-clause-bytes : goal.returns-clause-bytes
+returns-clause-bytes c = grind (arith, common_steps)
+
+pub returns-clause-rest : goal.returns-clause-rest
+returns-clause-rest c = grind (arith, common_steps)
+
+pub slice_bounds-spans-count : goal.slice_bounds-spans-count
+slice_bounds-spans-count c = grind (arith, common_steps)

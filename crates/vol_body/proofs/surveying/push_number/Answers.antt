@@ -1,4 +1,5 @@
 use Rattle.std.proofs.Common.{arith, rules}
+use Rattle.std.proofs.lemmas.Grind.{common_steps}
 use Rattle.vol_body.proofs.Surveys.{overflows_outside, overflows_full, pushes_one}
 use Rattle.vol_body.proofs.surveying.push_number.Goals as goal
 use Rattle.vol_body.proofs.surveying.push_number.Goals.{then-n-first-via-then-n-first, then-n-first-via-else-n-first+then-end-n, then-n-first-via-else-n-first+else-end-n+then-end-first}
@@ -14,3 +15,6 @@ pub returns-in-Ok-clause-pushes : goal.returns-in-Ok-clause-pushes
 returns-in-Ok-clause-pushes c =
     pushes_one c.args.first c.args.end c.args.named.now.items c.push.new.self.items c.args.n c.requires c.if-n-eq0.false (omega (arith, c.if-n-first.false)) (omega (arith, c.if-end-n.false))
     (omega (arith, c.if-end-first.false, c.len.ensures)) (search (rules, c.in-Ok.ensures.items))
+
+pub returns-in-Err-clause-damaged : goal.returns-in-Err-clause-damaged
+returns-in-Err-clause-damaged c = grind (arith, common_steps)

@@ -1,5 +1,6 @@
 use Rattle.std.proofs.Common.{◌≡◌, ◌∙◌, ◌-◌, ℕ, List, [], ◌∷◌, sym, subst, arith}
 use Rattle.std.proofs.lemmas.Result.{IfOk-from_err, IfErr-weaker, on_ok_weaker}
+use Rattle.std.proofs.lemmas.Grind.{common_steps}
 use Rattle.vol_sector.specs.Disk.{Image}
 use Rattle.vol_sector.specs.declared.fault.VolumeFault.TheVariants as faults
 use Rattle.vol_inode.specs.Space.{inner_blocks_for}
@@ -100,3 +101,6 @@ returns g c =
       reads = reads_then c.args.log.now c.read_numbers.new.log c.survey_inner_blocks.new.log e.failed e.reads f.reads;
       failed = f.failed;
     }
+
+pub survey_inner_blocks-requires-clause-inside : goal.survey_inner_blocks-requires-clause-inside
+survey_inner_blocks-requires-clause-inside c = grind (arith, common_steps)

@@ -1,4 +1,5 @@
-use Rattle.std.proofs.Common.{◌+◌, length, max, ap, arith, ◌∙◌, false, true≢false, refl, sym}
+use Rattle.std.proofs.Common.{◌+◌, length, max, ap, arith, ◌∙◌, false, true≢false, refl, sym, rules}
+use Rattle.std.proofs.lemmas.Grind.{common_steps}
 use Rattle.vol_body.proofs.Stagings.{stages_none, stages_idle}
 use Rattle.vol_log.proofs.Readings.{reads_same}
 use Rattle.vol_log.specs.Log.{view}
@@ -85,3 +86,6 @@ write_some-requires-clause-small g c = c.requires.small
 
 pub write_some-requires-clause-few : goal.write_some-requires-clause-few
 write_some-requires-clause-few g c = c.requires.few
+
+pub returns-clause-nothing : goal.returns-clause-nothing
+returns-clause-nothing c = grind (arith, common_steps)

@@ -1,5 +1,6 @@
 use Rattle.std.proofs.Common.{◌≡◌, ◌≤◌, ◌+◌, ◌-◌, ◌*◌, ◌/◌, ◌⊎◌, ℕ, length, max, is_err, refl, sym, ◌∙◌, ap, subst, arith, rules}
 use Rattle.std.proofs.lemmas.Result.{IfOk-from_err}
+use Rattle.std.proofs.lemmas.Grind.{common_steps}
 use Rattle.vol_sector.specs.Disk.{Image}
 use Rattle.vol_log.specs.Log.{view, room_of, is_staged}
 use Rattle.vol_alloc.specs.Alloc.{taken_of, free_of}
@@ -161,3 +162,6 @@ returns-clause-done g c h names body space =
     (search rules) (search rules)
     (λ partly. c.in_ok-edges.ensures.first h1 there held (λ le fits. partly le (omega (arith, fits, len_is))) ∙ ap (λ (m : Image). block_bytes m (named m e (data_block first))) one)
     (subst edge len_is read)
+
+pub returns-clause-widths : goal.returns-clause-widths
+returns-clause-widths c = grind (arith, common_steps)

@@ -4,3 +4,6 @@ use Rattle.vol_body.proofs.writing_image.image_of_block.Goals as goal
 
 pub returns-clause-image : goal.returns-clause-image
 returns-clause-image c = grind (arith, common_steps)
+
+pub read-requires : goal.read-requires
+read-requires c = grind (arith, common_steps)

@@ -1,4 +1,5 @@
 use Rattle.std.proofs.Common.{◌≡◌, ◌≤◌, ◌<◌, ◌+◌, ◌∙◌, sym, ap, subst, arith, ℕ}
+use Rattle.std.proofs.lemmas.Grind.{common_steps}
 use Rattle.vol_log.specs.Log.{view}
 use Rattle.vol_inode.specs.Space.{blocks_for_size}
 use Rattle.vol_inode.specs.declared.entry.Entry.{Entry}
@@ -86,3 +87,6 @@ returns g c =
       puts = so_far.puts;
       range = so_far.range;
     }
+
+pub loop-j-init : goal.loop-j-init
+loop-j-init c = grind (arith, common_steps)

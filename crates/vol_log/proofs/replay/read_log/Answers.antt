@@ -1,5 +1,6 @@
 use Rattle.std.proofs.Common.{◌≡◌, ◌∙◌, List, ℕ, refl, sym, ap, subst, arith, true≢false}
 use Rattle.std.proofs.lemmas.List.{with_items_is}
+use Rattle.std.proofs.lemmas.Grind.{common_steps}
 use Rattle.vol_sector.specs.Disk.{Image, Only}
 use Rattle.vol_log.specs.Header.{IsHeader, Places}
 use Rattle.vol_log.specs.Batch.{logged}
@@ -126,3 +127,6 @@ returns g c =
       failures = c.in_ok-read_images.ensures.failures ∙ c.in_ok-header.ensures.failures ∙ c.in_ok-sync.ensures.failures;
       room_kept = omega (arith, c.requires.room, c.read_header.ensures.capacity);
     }
+
+pub read_images-requires-clause-few : goal.read_images-requires-clause-few
+read_images-requires-clause-few c = grind (arith, common_steps)

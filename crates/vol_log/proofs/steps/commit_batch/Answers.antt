@@ -1,4 +1,5 @@
-use Rattle.std.proofs.Common.{◌∙◌, inr, refl, is_err, ap}
+use Rattle.std.proofs.Common.{◌∙◌, inr, refl, is_err, ap, arith}
+use Rattle.std.proofs.lemmas.Grind.{common_steps}
 use Rattle.vol_log.specs.Batch.{over, SameContent, HasEither, HasContent, Settled}
 use Rattle.vol_log.specs.internal.Steps.{Logged}
 use Rattle.vol_log.proofs.Moments.{leaves_then, on_ok, both_then, counts_one, at_ok}
@@ -67,3 +68,6 @@ returns-clause-size g c = c.apply_batch.ensures.size ∙ c.log_batch.ensures.siz
 
 pub returns-clause-failures : goal.returns-clause-failures
 returns-clause-failures g c = c.apply_batch.ensures.failures ∙ ap (counted (is_err c.apply_batch.result)) c.in_ok-log_batch.ensures.failures
+
+pub apply_batch-requires-clause-places : goal.apply_batch-requires-clause-places
+apply_batch-requires-clause-places c = grind (arith, common_steps)

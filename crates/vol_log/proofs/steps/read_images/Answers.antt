@@ -1,4 +1,5 @@
 use Rattle.std.proofs.Common.{◌∙◌, ◌<◌, ◌+◌, ap, length, arith}
+use Rattle.std.proofs.lemmas.Grind.{common_steps}
 use Rattle.vol_log.proofs.Moments.{leaves_quiet, both_then, counts_one, at_ok}
 use Rattle.vol_log.proofs.Read.{numbers_set, read_more, all_read}
 use Rattle.vol_log.proofs.steps.read_images.Goals as goal
@@ -46,3 +47,6 @@ returns-in_err-staged-clause-seen g c h = c.read.ensures.seen (c.loop-i.invarian
 pub returns-in_err-staged-clause-crash : goal.returns-in_err-staged-clause-crash
 returns-in_err-staged-clause-crash g c h =
     leaves_quiet (g.D.Device.disk c.args.device.now) (g.D.Device.disk c.loop-i.device) (g.D.Device.disk c.read.new.self) (λ m. ⊥) (c.loop-i.invariant.crash h) (c.read.ensures.crash (c.loop-i.invariant.honest.0 h))
+
+pub returns-in_err-staged-clause-sectors : goal.returns-in_err-staged-clause-sectors
+returns-in_err-staged-clause-sectors c = grind (arith, common_steps)

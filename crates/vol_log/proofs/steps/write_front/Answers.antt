@@ -1,4 +1,5 @@
-use Rattle.std.proofs.Common.{◌∙◌, refl, is_err, ap}
+use Rattle.std.proofs.Common.{◌∙◌, refl, is_err, ap, arith}
+use Rattle.std.proofs.lemmas.Grind.{common_steps}
 use Rattle.vol_sector.specs.Disk.{counted}
 use Rattle.vol_log.proofs.Moments.{both_then, counts_one, at_ok}
 use Rattle.vol_log.proofs.steps.write_front.Goals as goal
@@ -26,3 +27,6 @@ returns-clause-size g c = c.sync.ensures.size ∙ c.write.ensures.size
 
 pub returns-clause-failures : goal.returns-clause-failures
 returns-clause-failures g c = c.sync.ensures.failures ∙ ap (counted (is_err c.sync.result)) c.in_ok-write.ensures.failures
+
+pub returns-clause-crash : goal.returns-clause-crash
+returns-clause-crash c = grind (arith, common_steps)

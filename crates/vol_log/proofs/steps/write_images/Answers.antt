@@ -1,4 +1,5 @@
 use Rattle.std.proofs.Common.{◌+◌, ◌≤◌, ◌<◌, ◌∙◌, ap, length, take, arith}
+use Rattle.std.proofs.lemmas.Grind.{common_steps}
 use Rattle.vol_log.specs.Batch.{logged}
 use Rattle.vol_log.specs.internal.Batch.{numbers}
 use Rattle.vol_log.specs.internal.Steps.{OnlyImagesChange}
@@ -51,3 +52,6 @@ returns-in_err-write-clause-crash g c h =
     let low : 2 ≤ 2 + i = omega arith in
     let high : 2 + i < FIRST_AFTER_LOG = omega (arith, c.requires.few, c.loop-i-test.true) in
     leaves_step _ _ _ OnlyImagesChange _ (wrote_image _ _ low high) outside_joins (c.loop-i.invariant.crash h) (c.write.ensures.crash (c.loop-i.invariant.honest.0 h))
+
+pub loop-i-init : goal.loop-i-init
+loop-i-init c = grind (arith, common_steps)

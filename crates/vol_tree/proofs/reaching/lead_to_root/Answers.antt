@@ -2,6 +2,7 @@ use Rattle.std.proofs.Common.{◌≡◌, ◌+◌, ◌∙◌, inl, inr, ℕ, Bool
 use Rattle.std.proofs.lemmas.List.{length-replicate, get_or-replicate, get_or_past, with_items_is}
 use Rattle.std.proofs.lemmas.Bool.{cases_lt}
 use Rattle.std.proofs.lemmas.Result.{IfOk-from_err}
+use Rattle.std.proofs.lemmas.Grind.{common_steps}
 use Rattle.vol_tree.specs.internal.Climbs.{AreMarked, LeadsUp}
 use Rattle.vol_tree.proofs.WaysUp.{top_marked}
 use Rattle.vol_tree.proofs.reaching.lead_to_root.Goals as goal
@@ -56,3 +57,6 @@ returns c = record { yes = λ all s lt some. c.loop-s.invariant.leads s (omega (
 
 pub returns-then-not-reaches-clause-yes : goal.returns-then-not-reaches-clause-yes
 returns-then-not-reaches-clause-yes c = search rules
+
+pub returns-then-not-reaches-clause-no : goal.returns-then-not-reaches-clause-no
+returns-then-not-reaches-clause-no c = grind (arith, common_steps)

@@ -1,4 +1,5 @@
-use Rattle.std.proofs.Common.{ℕ, Bool, true, Err, refl, sym, ◌∙◌, ap, subst, inr}
+use Rattle.std.proofs.Common.{ℕ, Bool, true, Err, refl, sym, ◌∙◌, ap, subst, inr, arith}
+use Rattle.std.proofs.lemmas.Grind.{common_steps}
 use Rattle.vol_tree.specs.Calls.{directory_at}
 use Rattle.vol_tree.specs.Numbers.{number_of}
 use Rattle.vol_tree.specs.Opened.{is_io}
@@ -34,3 +35,9 @@ returns-in-Err-check_found-clause-step g c = asked_step g.D.Device.honest g.D.De
 
 pub returns-in-Ok-check_found-clause-step : goal.returns-in-Ok-check_found-clause-step
 returns-in-Ok-check_found-clause-step g c = asked_step g.D.Device.honest g.D.Device.disk g.D.Device.size g.D.Device.failures c.args.volume.now c.is_directory.new.volume _ c.in-Ok.ensures.asked
+
+pub returns-in-Err-check_found-clause-checks : goal.returns-in-Err-check_found-clause-checks
+returns-in-Err-check_found-clause-checks c = grind (arith, common_steps)
+
+pub returns-in-Ok-check_found-clause-checks : goal.returns-in-Ok-check_found-clause-checks
+returns-in-Ok-check_found-clause-checks c = grind (arith, common_steps)

@@ -1,4 +1,5 @@
-use Rattle.std.proofs.Common.{subst, sym, Ok}
+use Rattle.std.proofs.Common.{subst, sym, Ok, arith}
+use Rattle.std.proofs.lemmas.Grind.{common_steps}
 use Rattle.path_walk.specs.declared.walking.Reached.{Reached}
 use Rattle.path_walk.specs.Paths.{wants_directory}
 use Rattle.path_walk.specs.Walk.{reached_as, IsReached}
@@ -35,3 +36,9 @@ returns-in-Ok-clause-can g c =
       is_name = reached.1;
       directory = λ h. subst (λ (r : Reached). Places c.args.volume.now.tree (Ok r)) c.in-Missing.is (c.requires.place h);
     }
+
+pub returns-in-Err-clause-checks : goal.returns-in-Err-clause-checks
+returns-in-Err-clause-checks c = grind (arith, common_steps)
+
+pub returns-in-Ok-clause-checks : goal.returns-in-Ok-clause-checks
+returns-in-Ok-clause-checks c = grind (arith, common_steps)

@@ -1,4 +1,5 @@
-use Rattle.std.proofs.Common.{subst, sym}
+use Rattle.std.proofs.Common.{subst, sym, arith}
+use Rattle.std.proofs.lemmas.Grind.{common_steps}
 use Rattle.vol_tree.specs.Opened.{Answers, geometry}
 use Rattle.wasi_calls.specs.declared.opening.Target.{Target}
 use Rattle.wasi_calls.specs.internal.Opening.{made}
@@ -16,3 +17,9 @@ returns-in-Entry-clause-kept g c = (still_works g.D.Device.honest g.D.Device.dis
 
 pub returns-in-Entry-clause-crash : goal.returns-in-Entry-clause-crash
 returns-in-Entry-clause-crash g c = (volume_rests g.D.Device.honest g.D.Device.disk g.D.Device.size g.D.Device.failures c.args.volume.now).crash
+
+pub create_file-requires-clause-name : goal.create_file-requires-clause-name
+create_file-requires-clause-name c = grind (arith, common_steps)
+
+pub returns-in-Err-clause-answer : goal.returns-in-Err-clause-answer
+returns-in-Err-clause-answer c = grind (arith, common_steps)

@@ -1,5 +1,6 @@
 use Rattle.std.proofs.Common.{◌≡◌, ◌-◌, ℕ, List, length, take, drop, sym, subst, arith}
 use Rattle.std.proofs.lemmas.List.{take_all, length-drop}
+use Rattle.std.proofs.lemmas.Grind.{common_steps}
 use Rattle.wasi_calls.proofs.Handing.{Begun, begun_write}
 use Rattle.wasi_calls.proofs.outputs.hand.Goals as goal
 
@@ -16,3 +17,9 @@ loop-rest-preserved g c =
     let more = begun_write (contents c.args.writer.now) (contents c.loop-rest.writer) (contents c.write.new.self) c.args.bytes.now rest n
     c.loop-rest.invariant c.in-Ok.ensures.bytes in
     subst (Begun (contents c.args.writer.now) (contents c.write.new.self) c.args.bytes.now) (tail_of rest n) more
+
+pub returns-clause-all : goal.returns-clause-all
+returns-clause-all c = grind (arith, common_steps)
+
+pub returns-in_default-2-clause-some : goal.returns-in_default-2-clause-some
+returns-in_default-2-clause-some c = grind (arith, common_steps)

@@ -1,4 +1,5 @@
-use Rattle.std.proofs.Common.{length, sym, subst, ◌∙◌, refl}
+use Rattle.std.proofs.Common.{length, sym, subst, ◌∙◌, refl, arith}
+use Rattle.std.proofs.lemmas.Grind.{common_steps}
 use Rattle.vol_tree.specs.Tree.{Tree, IsTree}
 use Rattle.wasi_fd.specs.Table.{table_of}
 use Rattle.wasi_calls.specs.internal.Preopening.{AreFound}
@@ -33,3 +34,6 @@ returns-then-failed g c = record {
   reads = asked_failed g.D.Device.honest g.D.Device.disk g.D.Device.size g.D.Device.failures c.args.volume.now (sym c.failed.ensures ∙ c.if-failed.true);
   known = streams_known g.D.Device.honest c.args.volume.now (table_of c.args.descriptors.now) c.requires.streams;
 }
+
+pub returns-in-Err-clause-refused : goal.returns-in-Err-clause-refused
+returns-in-Err-clause-refused c = grind (arith, common_steps)

@@ -1,4 +1,5 @@
 use Rattle.std.proofs.Common.{arith}
+use Rattle.std.proofs.lemmas.Grind.{common_steps}
 use Rattle.vol_body.specs.declared.source.Span.{Span}
 use Rattle.wasi_calls.proofs.Overlaps.{covered_by}
 use Rattle.wasi_calls.proofs.reading.stretch_from.Goals as goal
@@ -11,3 +12,6 @@ returns-then-at-past c =
       within = omega (arith, c.min.ensures);
       each = λ k le lt. covered_by k c.args.later.now c.loop-buffer.buffer-index d c.loop-buffer-test.true (omega arith) (omega (arith, c.min.ensures));
     }
+
+pub loop-buffer-preserved : goal.loop-buffer-preserved
+loop-buffer-preserved c = grind (arith, common_steps)

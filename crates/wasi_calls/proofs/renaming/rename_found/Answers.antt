@@ -1,4 +1,5 @@
-use Rattle.std.proofs.Common.{ℕ, refl, sym, subst}
+use Rattle.std.proofs.Common.{ℕ, refl, sym, subst, arith}
+use Rattle.std.proofs.lemmas.Grind.{common_steps}
 use Rattle.vol_tree.specs.Tree.{Tree}
 use Rattle.vol_tree.specs.Calls.{renamed}
 use Rattle.path_walk.specs.Paths.{Found}
@@ -58,3 +59,6 @@ returns-in-Err-rename_onto-clause-renames g c = λ h w slash table alive shown.
 
 pub returns-then-target-source-clause-step : goal.returns-then-target-source-clause-step
 returns-then-target-source-clause-step g c = volume_rests g.D.Device.honest g.D.Device.disk g.D.Device.size g.D.Device.failures c.args.volume.now
+
+pub returns-then-target-source-clause-renames : goal.returns-then-target-source-clause-renames
+returns-then-target-source-clause-renames c = grind (arith, common_steps)

@@ -1,5 +1,6 @@
-use Rattle.std.proofs.Common.{◌==◌, ◌∙◌, subst, refl, sym, inr}
+use Rattle.std.proofs.Common.{◌==◌, ◌∙◌, subst, refl, sym, inr, arith}
 use Rattle.std.proofs.lemmas.Bool.{cond-false, ne_eqb}
+use Rattle.std.proofs.lemmas.Grind.{common_steps}
 use Rattle.wasi_calls.proofs.Volumes.{steps_after, steps}
 use Rattle.wasi_calls.proofs.Renames.{onto_answers}
 use Rattle.wasi_calls.proofs.Asking.{asked_step, entry_still}
@@ -75,3 +76,6 @@ rename-requires-clause-parent_last g c = let parent = subst (λ (n : Superblock)
 
 pub returns-in-Err-clause-answer : goal.returns-in-Err-clause-answer
 returns-in-Err-clause-answer g c = λ h. let told = c.in-Err.ensures.answer h in (told.1, inr told.0)
+
+pub returns-then-not-is_name-clause-answer : goal.returns-then-not-is_name-clause-answer
+returns-then-not-is_name-clause-answer c = grind (arith, common_steps)

@@ -1,4 +1,5 @@
 use Rattle.std.proofs.Common.{◌≤◌, ℕ, List, length, take, sym, ap, ◌∙◌, inl, inr, subst, arith}
+use Rattle.std.proofs.lemmas.Grind.{common_steps}
 use Rattle.vol_body.specs.Source as source
 use Rattle.vol_tree.specs.Opened.{geometry}
 use Rattle.vol_tree.specs.Calls.{written}
@@ -45,3 +46,6 @@ returns-in-Err g c = record {
   crash = c.in-Err.ensures.crash;
   kept = c.in-Err.ensures.kept;
 }
+
+pub write_from-requires-clause-piece : goal.write_from-requires-clause-piece
+write_from-requires-clause-piece c = grind (arith, common_steps)

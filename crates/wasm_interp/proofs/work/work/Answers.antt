@@ -2,6 +2,7 @@ use Rattle.std.proofs.Common.{◌≡◌, ℕ, ◌<◌, ◌≤◌, List, [], ◌�
 use Rattle.std.specs.Global.{Vec}
 use Rattle.std.specs.Prelude.{slice_index, vec_len, vec_capacity}
 use Rattle.std.proofs.lemmas.List.{length-reverse}
+use Rattle.std.proofs.lemmas.Grind.{common_steps}
 use Rattle.wasm_module.specs.declared.instruction.Instruction.{Instruction}
 use Rattle.wasm_module.specs.declared.instruction.Instruction.TheVariants as op
 use Rattle.wasm_num.specs.declared.trap.Trap.{Trap}
@@ -305,3 +306,9 @@ returns-in-Err c = record {
   spare = spare_still c.args.values.now c.binary_top.new.values (same_few _ _ c.in-Err.ensures.traps.1) c.requires.spare c.binary_top.ensures.room;
   room = same_room _ _ c.binary_top.ensures.room;
 }
+
+pub remove-requires : goal.remove-requires
+remove-requires c = grind (arith, common_steps)
+
+pub returns-in-MemoryGrow-clause-spare : goal.returns-in-MemoryGrow-clause-spare
+returns-in-MemoryGrow-clause-spare c = grind (arith, common_steps)

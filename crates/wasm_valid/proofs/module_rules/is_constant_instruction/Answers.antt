@@ -1,5 +1,6 @@
-use Rattle.std.proofs.Common.{◌≡◌, ℕ, List, refl}
+use Rattle.std.proofs.Common.{◌≡◌, ℕ, List, refl, arith}
 use Rattle.std.proofs.lemmas.Bool.{false≢true}
+use Rattle.std.proofs.lemmas.Grind.{common_steps}
 use Rattle.wasm_module.specs.declared.instruction.ValueType.{ValueType}
 use Rattle.wasm_module.specs.declared.instruction.Instruction.{Instruction}
 use Rattle.wasm_module.specs.declared.instruction.Instruction.TheVariants as op
@@ -20,3 +21,9 @@ returns-in-GlobalGet c = rw c.in-GlobalGet.is c.is_constant_global.ensures
 pub returns-in_default : goal.returns-in_default
 returns-in_default c =
     (λ yes. absurd (false≢true yes), λ h. absurd (no_constant c.args.globals.now c.args.value_type c.args.instruction.now c.in_default.not-GlobalGet c.in_default.not-I32Const c.in_default.not-I64Const h))
+
+pub returns-in-I32Const : goal.returns-in-I32Const
+returns-in-I32Const c = grind (arith, common_steps)
+
+pub returns-in-I64Const : goal.returns-in-I64Const
+returns-in-I64Const c = grind (arith, common_steps)

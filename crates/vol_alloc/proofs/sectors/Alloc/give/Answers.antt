@@ -1,6 +1,7 @@
 use Rattle.std.proofs.Common.{◌≡◌, ◌≢◌, ◌<◌, ◌∙◌, ◌-◌, ℕ, length, get_or, set, true, false, sym, ap, subst, arith, rules}
 use Rattle.std.proofs.lemmas.Bool.{false≢true}
 use Rattle.std.proofs.lemmas.List.{get_or-set_same, get_or_default, length-set}
+use Rattle.std.proofs.lemmas.Grind.{common_steps}
 use Rattle.vol_alloc.specs.internal.Numbers.{AreFree}
 use Rattle.vol_alloc.proofs.Free.{taken_there, flag_there, free_more, free_cleared, cleared, some_taken}
 use Rattle.vol_alloc.proofs.sectors.Alloc.give.Goals as goal
@@ -40,3 +41,6 @@ returns-in-Err-clause-count c =
     let i = c.args.n - self.first in
     let is = taken_there self.first c.args.n taken c.requires in
     absurd (omega (arith, c.in-Err.ensures.full, some_taken taken i false (flag_there taken i is.1) is.1, self.counted, self.reserved, self.taken.ok.0))
+
+pub index_mut-requires : goal.index_mut-requires
+index_mut-requires c = grind (arith, common_steps)

@@ -1,6 +1,7 @@
 use Rattle.std.proofs.Common.{◌≡◌, ◌∙◌, ◌<◌, ◌+◌, ◌-◌, ◌++◌, ◌∷◌, [], ℕ, Option, length, get_or, true, false, sym, ap, subst, refl, arith, rules}
 use Rattle.std.specs.Option.{option_to_list}
 use Rattle.std.proofs.lemmas.List.{length_push, get_or_push}
+use Rattle.std.proofs.lemmas.Grind.{common_steps}
 use Rattle.vol_alloc.specs.internal.Numbers.{AreFree}
 use Rattle.vol_alloc.proofs.Free.{free_taken, flagged}
 use Rattle.vol_alloc.proofs.sectors.Alloc.take.Goals as goal
@@ -23,3 +24,6 @@ invariant_of-self c =
       counted = omega (arith, flagged self.taken.items (n - self.first) true there clear, self.counted, c.pop.ensures.len, ap length before, length_push rest n, c.pop.new.self.ok.0, self.free.ok.0);
       reserved = search rules;
     }
+
+pub returns-clause-below : goal.returns-clause-below
+returns-clause-below c = grind (arith, common_steps)

@@ -1,5 +1,6 @@
-use Rattle.std.proofs.Common.{ℕ, ◌∙◌, sym, ap, subst}
+use Rattle.std.proofs.Common.{ℕ, ◌∙◌, sym, ap, subst, arith}
 use Rattle.std.proofs.lemmas.List.{get_or_read}
+use Rattle.std.proofs.lemmas.Grind.{common_steps}
 use Rattle.vol_log.specs.internal.Index.{Index}
 use Rattle.vol_log.specs.internal.Index.{IsAt, IsGapFor}
 use Rattle.vol_log.specs.declared.staged.Staged.{Staged}
@@ -39,3 +40,9 @@ returns-in-Err-clause-staged c =
     let index = c.args.self.now.index.items in
     let gap = subst (λ (l : Index). IsGapFor l c.args.n c.in-Err.field-0) c.deref.ensures.value c.in-Err.ensures.absent in
     sym (holds_none old c.args.n (none_at_all old index c.requires c.args.n c.in-Err.field-0 gap))
+
+pub index-requires-in-Ok : goal.index-requires-in-Ok
+index-requires-in-Ok c = grind (arith, common_steps)
+
+pub search-requires : goal.search-requires
+search-requires c = grind (arith, common_steps)

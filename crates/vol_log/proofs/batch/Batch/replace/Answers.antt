@@ -1,6 +1,7 @@
 use Rattle.std.proofs.Common.{◌≡◌, ◌∙◌, ◌∷◌, ◌++◌, [], List, sym, ap, subst, length, arith, ℕ, ◌+◌, Bool, if◌then◌else◌, vec_len}
 use Rattle.std.specs.List.{insert}
 use Rattle.std.proofs.lemmas.List.{get_or_read, map_push, length-map}
+use Rattle.std.proofs.lemmas.Grind.{common_steps}
 use Rattle.vol_log.specs.Header.{Places}
 use Rattle.vol_log.specs.Batch.{over, holds}
 use Rattle.vol_log.specs.internal.Batch.{numbers}
@@ -108,3 +109,9 @@ returns-in-Ok-push-clause-indexed c =
     subst (λ (ns : List ℕ). IsIndex ns c.insert.new.self.items) (sym named)
     (subst (λ (l : Index). IsIndex (numbers old ++ c.args.new.sector ∷ []) l) (sym (entries ∙ ap (λ (k : ℕ). insert index c.in-Err.at (c.args.new.sector, k)) (sym long)))
     (index_more (numbers old) index c.requires.indexed c.args.new.sector c.in-Err.at gap))
+
+pub index_mut-requires : goal.index_mut-requires
+index_mut-requires c = grind (arith, common_steps)
+
+pub search-requires : goal.search-requires
+search-requires c = grind (arith, common_steps)

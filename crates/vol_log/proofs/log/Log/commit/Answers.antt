@@ -145,3 +145,15 @@ pub returns-in-Err-clause-keeps : goal.returns-in-Err-clause-keeps
 returns-in-Err-clause-keeps g c h =
     let log = c.args.self.now in
     subst (λ (b : List Staged). SameContent (over b (g.D.Device.disk c.commit_batch.new.device).seen) (over b (g.D.Device.disk log.device).seen)) c.deref.ensures.value (c.commit_batch.ensures.keeps h)
+
+pub invariant_of-self : goal.invariant_of-self
+invariant_of-self c = grind (arith, common_steps)
+
+pub invariant_of-self-in-Err : goal.invariant_of-self-in-Err
+invariant_of-self-in-Err c = grind (arith, common_steps)
+
+pub returns-in-Err-clause-nothing : goal.returns-in-Err-clause-nothing
+returns-in-Err-clause-nothing c = grind (arith, common_steps)
+
+pub returns-in-Ok-clause-nothing : goal.returns-in-Ok-clause-nothing
+returns-in-Ok-clause-nothing c = grind (arith, common_steps)

@@ -1,4 +1,5 @@
-use Rattle.std.proofs.Common.{◌∙◌, List, ap, Err, ⊎_elim, inl, inr, rules}
+use Rattle.std.proofs.Common.{◌∙◌, List, ap, Err, ⊎_elim, inl, inr, rules, arith}
+use Rattle.std.proofs.lemmas.Grind.{common_steps}
 use Rattle.vol_log.specs.Batch.{over}
 use Rattle.vol_log.specs.declared.staged.Staged.{Staged}
 use Rattle.vol_log.proofs.log.Log.open.Goals as goal
@@ -15,3 +16,9 @@ returns-in-Err-replay-clause-faults_named g c = ⊎_elim (λ is. inl is) (λ is.
 
 pub returns-in-Ok-replay-clause-fresh : goal.returns-in-Ok-replay-clause-fresh
 returns-in-Ok-replay-clause-fresh g c = search rules
+
+pub invariant_of-result : goal.invariant_of-result
+invariant_of-result c = grind (arith, common_steps)
+
+pub returns-in-Err-clause-crash_err : goal.returns-in-Err-clause-crash_err
+returns-in-Err-clause-crash_err c = grind (arith, common_steps)

@@ -1,4 +1,5 @@
-use Rattle.std.proofs.Common.{refl, sym, ◌∙◌, true≢false}
+use Rattle.std.proofs.Common.{refl, sym, ◌∙◌, true≢false, arith}
+use Rattle.std.proofs.lemmas.Grind.{common_steps}
 use Rattle.vol_log.proofs.Moments.{leaves_same}
 use Rattle.vol_log.proofs.log.Log.read.Goals as goal
 
@@ -37,3 +38,6 @@ returns-in-None-clause-sectors g c = refl
 
 pub returns-in-None-clause-one_operation : goal.returns-in-None-clause-one_operation
 returns-in-None-clause-one_operation g c h working other = c.read-outcome.ensures.operation_count h
+
+pub invariant_of-self : goal.invariant_of-self
+invariant_of-self c = grind (arith, common_steps)

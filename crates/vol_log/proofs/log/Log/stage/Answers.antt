@@ -1,4 +1,5 @@
 use Rattle.std.proofs.Common.{arith}
+use Rattle.std.proofs.lemmas.Grind.{common_steps}
 use Rattle.vol_log.proofs.log.Log.stage.Goals as goal
 
 pub invariant_of-self-clause-placed : goal.invariant_of-self-clause-placed
@@ -7,3 +8,6 @@ invariant_of-self-clause-placed g c =
 
 pub returns-clause-view : goal.returns-clause-view
 returns-clause-view g c = c.replace.ensures.over (g.D.Device.disk c.args.self.now.device).seen
+
+pub replace-requires-clause-index_room : goal.replace-requires-clause-index_room
+replace-requires-clause-index_room c = grind (arith, common_steps)

@@ -1,4 +1,5 @@
-use Rattle.std.proofs.Common.{rules}
+use Rattle.std.proofs.Common.{rules, arith}
+use Rattle.std.proofs.lemmas.Grind.{common_steps}
 use Rattle.vol_sector.specs.internal.Breakable.{disk_of}
 use Rattle.vol_sector.proofs.Counting.{leaves_any}
 use Rattle.vol_sector.proofs.flaky.FlakyDeviceDevice.write.Goals as goal
@@ -18,3 +19,9 @@ returns-clause-crash g c = search rules
 
 pub returns-clause-passes_on : goal.returns-clause-passes_on
 returns-clause-passes_on g c = search rules
+
+pub returns-clause-fails : goal.returns-clause-fails
+returns-clause-fails c = grind (arith, common_steps)
+
+pub returns-then-not-passes-clause-passes_on : goal.returns-then-not-passes-clause-passes_on
+returns-then-not-passes-clause-passes_on c = grind (arith, common_steps)

@@ -1,5 +1,6 @@
-use Rattle.std.proofs.Common.{◌∙◌, List, sym, subst, ap}
+use Rattle.std.proofs.Common.{◌∙◌, List, sym, subst, ap, arith}
 use Rattle.std.proofs.lemmas.List.{length_push}
+use Rattle.std.proofs.lemmas.Grind.{common_steps}
 use Rattle.vol_sector.specs.Disk.{Leaves, Keeps, Only}
 use Rattle.vol_sector.specs.Counting.{counting}
 use Rattle.vol_sector.specs.Memory.{first_of, record_of, operations_of, disk_of}
@@ -40,3 +41,9 @@ returns-in-Ok-clause-keeps c h =
     let operations = c.passed-self.result.outcomes in
     subst (λ (r : List Operation). Keeps (disk_of m) (counting operations (recorded first r))) (sym c.in-Ok.ensures.items)
     (keeps_passed (operations_of m) operations (recorded first ops) (recorded first _) c.passed-self.ensures (length_push ops Sync) (keeps_push first ops Sync))
+
+pub returns-in-Err-clause-keeps : goal.returns-in-Err-clause-keeps
+returns-in-Err-clause-keeps c = grind (arith, common_steps)
+
+pub returns-in-Ok-clause-operation_count : goal.returns-in-Ok-clause-operation_count
+returns-in-Ok-clause-operation_count c = grind (arith, common_steps)

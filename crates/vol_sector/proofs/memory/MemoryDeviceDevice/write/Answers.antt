@@ -1,5 +1,6 @@
 use Rattle.std.proofs.Common.{◌∙◌, List, sym, subst, ap, arith}
 use Rattle.std.proofs.lemmas.List.{length_push}
+use Rattle.std.proofs.lemmas.Grind.{common_steps}
 use Rattle.vol_sector.specs.Disk.{Leaves, Keeps, After, Wrote}
 use Rattle.vol_sector.specs.Counting.{counting}
 use Rattle.vol_sector.specs.Memory.{first_of, record_of, operations_of, disk_of}
@@ -38,3 +39,12 @@ returns-in-Ok-clause-keeps c h =
 
 pub returns-then-len-self-clause-crash : goal.returns-then-len-self-clause-crash
 returns-then-len-self-clause-crash c h = leaves_any (disk_of c.args.self.now) (disk_of c.fail.new.self) _ c.fail.ensures.crash
+
+pub returns-in-Err-clause-crash : goal.returns-in-Err-clause-crash
+returns-in-Err-clause-crash c = grind (arith, common_steps)
+
+pub returns-in-Err-clause-keeps : goal.returns-in-Err-clause-keeps
+returns-in-Err-clause-keeps c = grind (arith, common_steps)
+
+pub returns-in-Ok-clause-operation_count : goal.returns-in-Ok-clause-operation_count
+returns-in-Ok-clause-operation_count c = grind (arith, common_steps)

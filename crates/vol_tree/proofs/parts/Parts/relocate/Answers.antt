@@ -1,4 +1,5 @@
 use Rattle.std.proofs.Common.{◌≡◌, ◌∙◌, ◌+◌, ◌-◌, ℕ, suc, sym, ap, subst, refl, arith}
+use Rattle.std.proofs.lemmas.Grind.{common_steps}
 use Rattle.vol_sector.specs.Disk.{put}
 use Rattle.vol_log.specs.Log.{view, device_of}
 use Rattle.vol_dirs.specs.Names.{Shows, slots_of}
@@ -48,3 +49,6 @@ returns g c =
       tree = λ h. relocated_tree a z v s d to (is.content h) (slot h) is.ranges.room right is_to.pointers is_to.size is_to.kind put_is c.args.parent c.args.name.now is_to.parent is_to.name
           ∙ ap (λ (m : ℕ). moved (tree_in a v) m c.args.parent c.args.name.now) here;
     }
+
+pub relocate-requires-clause-named : goal.relocate-requires-clause-named
+relocate-requires-clause-named c = grind (arith, common_steps)

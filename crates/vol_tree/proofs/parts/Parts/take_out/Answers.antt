@@ -1,4 +1,5 @@
-use Rattle.std.proofs.Common.{◌≡◌, ◌∙◌, ◌+◌, ◌-◌, ℕ, suc, None, true, false, sym, ap, subst, refl, arith}
+use Rattle.std.proofs.Common.{◌≡◌, ◌∙◌, ◌+◌, ◌-◌, ℕ, suc, None, true, false, sym, ap, subst, refl, arith, rules}
+use Rattle.std.proofs.lemmas.Grind.{common_steps}
 use Rattle.vol_sector.specs.Disk.{put}
 use Rattle.vol_log.specs.Log.{view, device_of, room_of}
 use Rattle.vol_alloc.specs.Alloc.{first_of, end_of, taken_of}
@@ -108,3 +109,6 @@ returns g c =
       };
       fails = λ io. absurd (cc);
     }
+
+pub remove-requires-clause-held : goal.remove-requires-clause-held
+remove-requires-clause-held c = grind (arith, common_steps)

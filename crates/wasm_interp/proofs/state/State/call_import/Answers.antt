@@ -1,4 +1,5 @@
 use Rattle.std.proofs.Common.{◌≡◌, ℕ, ◌+◌, suc, refl, ap, arith}
+use Rattle.std.proofs.lemmas.Grind.{common_steps}
 use Rattle.wasm_store.specs.declared.call.Answer.TheVariants.{Value, Exit}
 use Rattle.wasm_interp.specs.declared.state.State.{State}
 use Rattle.wasm_interp.proofs.state.State.call_import.Goals as goal
@@ -32,3 +33,9 @@ returns-in-Exit g c =
       asked = c.in-Exit.ensures;
       leads = (c.exit.ensures.is, c.exit.ensures.pause);
     }
+
+pub ask-requires-clause-arguments : goal.ask-requires-clause-arguments
+ask-requires-clause-arguments c = grind (arith, common_steps)
+
+pub ask-requires-clause-room : goal.ask-requires-clause-room
+ask-requires-clause-room c = grind (arith, common_steps)

@@ -1,5 +1,6 @@
 use Rattle.std.proofs.Common.{◌≡◌, ℕ, ◌+◌, ◌≤◌, suc, refl, arith, ap, ◌∙◌, length, reverse, inl, inr, vec_len}
 use Rattle.std.specs.Prelude.{◌⊎◌}
+use Rattle.std.proofs.lemmas.Grind.{common_steps}
 use Rattle.wasm_num.specs.declared.trap.Trap.TheVariants as traps
 use Rattle.wasm_interp.specs.declared.pause.Outcome.TheVariants as ends
 use Rattle.wasm_interp.specs.declared.phase.Phase.TheVariants.{Over as over}
@@ -52,3 +53,15 @@ returns-clause-calls c =
     entered (λ e. c.if-len-eq-MOST_FRAMES.false (omega (arith, e, c.len.ensures)))
     (called_into c.args.self.now wide mid c.begin.new.self c.args.function c.args.signature c.args.above c.make_room.ensures.kept refl c.remove.ensures.removed c.push_reserved.ensures.items c.begin.ensures)
     (omega (arith, frames, c.push_reserved.ensures.len, ap length c.make_room.ensures.kept.suspended, wide.suspended.ok.0, c.args.self.now.suspended.ok.0))
+
+pub begin-requires-clause-arguments : goal.begin-requires-clause-arguments
+begin-requires-clause-arguments c = grind (arith, common_steps)
+
+pub begin-requires-clause-room : goal.begin-requires-clause-room
+begin-requires-clause-room c = grind (arith, common_steps)
+
+pub remove-requires : goal.remove-requires
+remove-requires c = grind (arith, common_steps)
+
+pub returns-clause-room : goal.returns-clause-room
+returns-clause-room c = grind (arith, common_steps)

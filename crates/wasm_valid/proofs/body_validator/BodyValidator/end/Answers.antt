@@ -1,4 +1,5 @@
 use Rattle.std.proofs.Common.{sym, ap, ◌∙◌, arith}
+use Rattle.std.proofs.lemmas.Grind.{common_steps}
 use Rattle.wasm_valid.specs.internal.Blocks.{ended_in}
 use Rattle.wasm_valid.proofs.Nested.{end_of_few, end_of_if, end_of_other, end_answers, end_nested, popped_head, no_head}
 use Rattle.wasm_valid.proofs.body_validator.BodyValidator.end.Goals as goal
@@ -35,3 +36,9 @@ returns c =
     let are = popped_head c.pop.result w.control_frames c.pop.new.self f c.pop.ensures c.in-Some.ensures in
     ap ended_in (sym c.self.view_is)
     ∙ end_answers w.operands c.can_be.new.self c.exit.new.self c.push_results.new.self w.control_frames c.pop.new.self f (omega arith) are (sym c.if-not-may_end.ensures) (sym c.if-not-can_be.ensures.stack) c.can_be.ensures.below c.exit.ensures c.push_results.ensures.below c.in_ok-push_results.ensures.stack
+
+pub invariant_of-self : goal.invariant_of-self
+invariant_of-self c = grind (arith, common_steps)
+
+pub invariant_of-self-2 : goal.invariant_of-self-2
+invariant_of-self-2 c = grind (arith, common_steps)

@@ -1,5 +1,6 @@
-use Rattle.std.proofs.Common.{◌≡◌, ◌<◌, ◌∷◌, List, length, Some, sym, ap, ◌∙◌, subst}
+use Rattle.std.proofs.Common.{◌≡◌, ◌<◌, ◌∷◌, List, length, Some, sym, ap, ◌∙◌, subst, arith}
 use Rattle.std.proofs.lemmas.Result.{IfOk-from_err}
+use Rattle.std.proofs.lemmas.Grind.{common_steps}
 use Rattle.wasm_valid.specs.declared.control_frames.ControlFrame.{ControlFrame}
 use Rattle.wasm_valid.specs.declared.control_frames.Mark.{Mark}
 use Rattle.wasm_valid.specs.internal.Blocks.{OpenBlock, opened_in}
@@ -20,3 +21,6 @@ invariant_of-self c = subst (λ (fs : List ControlFrame). (0 < length fs) × Are
 
 pub returns-in_err-push : goal.returns-in_err-push
 returns-in_err-push c = IfOk-from_err c.from_residual.result _ c.from_residual.ensures.0
+
+pub invariant_of-self-2 : goal.invariant_of-self-2
+invariant_of-self-2 c = grind (arith, common_steps)
