@@ -74,7 +74,7 @@ pub fn log_batch<D: Device>(device: &mut D, batch: &[Staged]) -> Result<(), Devi
     write_images(device, batch)?;
     device.sync()?; // the images are on the disk before the header names them
     device.write(HEADER, &header_image(batch))?;
-    device.sync()
+    device.sync() // the header is on the disk before the sectors are installed
 }
 
 /// Puts the batch that the log holds into its places, and empties the log.
@@ -97,7 +97,7 @@ pub fn apply_batch<D: Device>(device: &mut D, batch: &[Staged]) -> Result<(), De
     install(device, batch)?;
     device.sync()?; // the sectors are on the disk before the log is emptied
     device.write(HEADER, &header_image(&[]))?;
-    device.sync()
+    device.sync() // the log is empty on the disk before the next batch is logged
 }
 
 /// Puts the batch onto the disk, all of it or nothing, at every moment.
