@@ -9,5 +9,3 @@ mod Missing
 mod Opened
 mod FreshVolume
 mod Began
-mod Ram
-mod Walks

@@ -2,15 +2,14 @@
 
 ghost use Rattle.std.specs.Prelude.{◌≡◌, ◌⊎◌, ◌≤◌};
 ghost use Rattle.std.specs.Process.{exit_status};
-ghost use Rattle.sandbox_command.specs.declared.file_device.FileDevice.{FileDevice};
-ghost use Rattle.sandbox_command.specs.declared.ram_device.RamDevice.{RamDevice};
+ghost use Rattle.sandbox_device.specs.declared.file_device.FileDevice.{FileDevice};
+ghost use Rattle.sandbox_device.specs.declared.ram_device.RamDevice.{RamDevice};
 ghost use Rattle.sandbox_command.specs.Execution.{Executes};
 
-use crate::file_device::FileDevice;
 use crate::opening::FRESH_SECTORS;
-use crate::ram_device::RamDevice;
 use crate::request::{Invocation, Run};
 use crate::{program, words};
+use sandbox_device::{FileDevice, RamDevice};
 use std::fs::File;
 use std::io::{ErrorKind, Read, Write};
 use std::process::ExitCode;

@@ -1,0 +1,2 @@
+mod Ram
+mod Walks

@@ -1,0 +1,12 @@
+use Rattle.std.proofs.Common.{List, sym, subst}
+use Rattle.vol_sector.specs.Disk.{Leaves}
+use Rattle.sandbox_device.specs.Ram.{Sectors, held}
+use Rattle.sandbox_device.proofs.Ram.{leaves_held}
+use Rattle.sandbox_device.proofs.ram_device.RamDeviceDevice.read.Goals as goal
+
+-- nothing is written
+pub returns-clause-crash : goal.returns-clause-crash
+returns-clause-crash c h =
+    let d = c.args.self.now in
+    subst (λ (images : List Sectors). Leaves (held d.sectors.items d.past.images) (held d.sectors.items images) (λ m. ⊥)) (sym c.next_past-self.ensures)
+    (leaves_held d.sectors.items d.past.images)
