@@ -1,2 +1,1 @@
 mod Ram
-mod Walks

@@ -25,7 +25,7 @@ use denote.Triple.Entry.{alive}
 use denote.Triple.Spec.{Meets, triple_of}
 use denote.Triple.Table.{entered}
 use denote.Triple.Walked.{says, Stays, stay_dropped, walk_of, ends_at, walk_Meets, Goes-dropped}
-use Rattle.sandbox_device.proofs.Walks.{none, none_made}
+use Rattle.vol_sector.proofs.Walks.{none, none_made}
 use Rattle.sandbox_device.specs.contracts.past.Past as Past
 use Rattle.sandbox_device.specs.contracts.ram_device.RamDevice as RamDevice
 use Rattle.sandbox_device.specs.contracts.ram_device.RamDevice.next_past as F
