@@ -18,7 +18,7 @@ use Rattle.sandbox_core.specs.Runs.{ComesBy, Left}
 use Rattle.sandbox_core.specs.declared.fault.SessionFault.{SessionFault}
 use Rattle.sandbox_core.specs.declared.fault.SessionFault.TheVariants.{Setting, Instance as NoInstance, Device, Preopen, Memory}
 use Rattle.sandbox_core.specs.Session.{IsHandedBack, KeepsVolume}
-use Rattle.sandbox_command.specs.Request.{Text}
+use Rattle.sandbox_words.specs.Request.{Text}
 use Rattle.sandbox_command.specs.Volumes.{IsOpenFor, LeftByOpening}
 use Rattle.sandbox_command.specs.Running.{Launches, LeftByRun, device_of}
 

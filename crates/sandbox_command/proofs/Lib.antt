@@ -1,4 +1,3 @@
-mod CommandLines
 mod Asking
 mod Listing
 mod Texts

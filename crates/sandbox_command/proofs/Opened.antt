@@ -6,8 +6,8 @@ use Rattle.vol_sector.specs.declared.fault.VolumeFault.TheVariants as fault
 use Rattle.vol_tree.specs.declared.superblock.Superblock.{Superblock}
 use Rattle.vol_tree.specs.Tree.{Tree}
 use Rattle.vol_tree.specs.Opening.{NoVolumeOn, HasNoVersion, IsDamaged}
-use Rattle.sandbox_command.specs.declared.request.Task.{Task}
-use Rattle.sandbox_command.specs.declared.request.Task.TheVariants.{List as Ls, Get, Put, Check, Upgrade}
+use Rattle.sandbox_words.specs.declared.request.Task.{Task}
+use Rattle.sandbox_words.specs.declared.request.Task.TheVariants.{List as Ls, Get, Put, Check, Upgrade}
 use Rattle.sandbox_command.specs.Doing.{IsPartOf, RefusedBy}
 
 -- a task that hasn't begun leaves the tree

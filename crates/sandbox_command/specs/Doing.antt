@@ -8,8 +8,8 @@ use Rattle.vol_tree.specs.declared.superblock.Superblock.{Superblock}
 use Rattle.vol_tree.specs.Tree.{Tree}
 use Rattle.vol_tree.specs.Stands.{Stands, StandsAs}
 use Rattle.vol_tree.specs.Opening.{StandsOn, NoVolumeOn, HasNoVersion, IsDamaged}
-use Rattle.sandbox_command.specs.declared.request.Task.{Task}
-use Rattle.sandbox_command.specs.declared.request.Task.TheVariants.{List as Ls, Get, Put, Check, Upgrade}
+use Rattle.sandbox_words.specs.declared.request.Task.{Task}
+use Rattle.sandbox_words.specs.declared.request.Task.TheVariants.{List as Ls, Get, Put, Check, Upgrade}
 use Rattle.sandbox_command.specs.declared.failure.Failure.{Failure}
 use Rattle.sandbox_command.specs.declared.failure.Failure.TheVariants.{Volume}
 use Rattle.sandbox_command.specs.Tasks.{IsPartOfPut, Prints, Puts, ReflectsAny, printed_file, printed_listing, summary}

@@ -12,9 +12,10 @@ use Rattle.wasm_valid.specs.Validity.{IsValid}
 use Rattle.wasi_calls.specs.declared.settings.Settings.{Settings}
 use Rattle.sandbox_core.specs.declared.fault.SessionFault.{SessionFault}
 use Rattle.sandbox_core.specs.Session.{given}
-use Rattle.sandbox_command.specs.declared.request.Run.{Run}
-use Rattle.sandbox_command.specs.declared.request.Invocation.{Invocation}
-use Rattle.sandbox_command.specs.declared.request.Invocation.TheVariants as asked
+use Rattle.sandbox_words.specs.declared.request.Run.{Run}
+use Rattle.sandbox_words.specs.declared.request.Invocation.{Invocation}
+use Rattle.sandbox_words.specs.declared.request.Invocation.TheVariants as asked
+use Rattle.sandbox_words.specs.Request.{Text}
 use Rattle.sandbox_command.specs.declared.failure.Failure.{Failure}
 use Rattle.sandbox_command.specs.Formatting.{Formats}
 use Rattle.sandbox_command.specs.Doing.{Performs}
@@ -22,7 +23,6 @@ use Rattle.sandbox_command.specs.Status.{load_status, session_status, volume_sta
 use Rattle.sandbox_command.specs.Supplies.{AreSettings, IsUncut, directories_of}
 use Rattle.sandbox_command.specs.Volumes.{IsOpenFor, IsRefusedFor, LeftByOpening}
 use Rattle.sandbox_command.specs.Running.{Launches, LeftByRun}
-use Rattle.sandbox_command.specs.Request.{Text}
 
 -- A directory's word has no `=`, or memory was refused.
 pub record NotSupplied (run : Run) (status : ℕ) : Type 0 where

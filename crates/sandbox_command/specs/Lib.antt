@@ -1,7 +1,5 @@
 -- What public contracts cite, in reading order; `internal` serves private contracts and proofs.
 pub mod Status
-pub mod Request
-pub mod CommandLine
 pub mod Formatting
 pub mod Tasks
 pub mod Doing

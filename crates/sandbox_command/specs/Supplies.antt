@@ -5,8 +5,8 @@ use Rattle.wasi_calls.specs.declared.settings.Preopen.{Preopen}
 use Rattle.wasi_calls.specs.declared.settings.Settings.{Settings}
 use Rattle.sandbox_core.specs.declared.fault.SessionFault.{SessionFault}
 use Rattle.sandbox_core.specs.declared.fault.SessionFault.TheVariants.{Setting, Memory}
-use Rattle.sandbox_command.specs.declared.request.Run.{Run}
-use Rattle.sandbox_command.specs.Request.{Text, texts, arguments_of}
+use Rattle.sandbox_words.specs.declared.request.Run.{Run}
+use Rattle.sandbox_words.specs.Request.{Text, texts, arguments_of}
 
 -- `=`
 abbrev pub is_equals : ℕ → Bool

@@ -15,9 +15,9 @@ use Rattle.vol_tree.specs.Calls.{directory_at, bytes_at, with_bytes, created, re
 use Rattle.vol_tree.specs.Opened.{Opened, Reflects, data_sectors, geometry}
 use Rattle.path_walk.specs.Paths.{Reached, Found, Missing, slash, ◌>>=◌}
 use Rattle.path_walk.specs.Rooted.{reached_from_root}
+use Rattle.sandbox_words.specs.Request.{Text}
 use Rattle.sandbox_command.specs.declared.failure.Failure.{Failure}
 use Rattle.sandbox_command.specs.declared.failure.Failure.TheVariants as failure
-use Rattle.sandbox_command.specs.Request.{Text}
 
 -- ---- paths
 

@@ -12,7 +12,7 @@ use Rattle.vol_tree.specs.Stands.{StandsAs, empty_tree}
 use Rattle.vol_tree.specs.Fresh.{fresh, IsNoneOrEmpty}
 use Rattle.vol_tree.specs.Opened.{Opened}
 use Rattle.vol_tree.specs.Opening.{StandsOn}
-use Rattle.sandbox_command.specs.Request.{Text}
+use Rattle.sandbox_words.specs.Request.{Text}
 use Rattle.sandbox_command.specs.Doing.{RefusedBy}
 
 -- the numbers of the volume of a run that names none

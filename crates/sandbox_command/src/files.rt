@@ -7,9 +7,9 @@ ghost use Rattle.sandbox_device.specs.declared.ram_device.RamDevice.{RamDevice};
 ghost use Rattle.sandbox_command.specs.Execution.{Executes};
 
 use crate::opening::FRESH_SECTORS;
-use crate::request::{Invocation, Run};
-use crate::{program, words};
+use crate::program;
 use sandbox_device::{FileDevice, RamDevice};
+use sandbox_words::{Invocation, Run, invocation};
 use std::fs::File;
 use std::io::{ErrorKind, Read, Write};
 use std::process::ExitCode;
@@ -48,7 +48,7 @@ fn words_given(rt: &HostRuntime) -> io::Result<Vec<String>> {
 fn answer_words(rt: &HostRuntime, words: &[String]) -> u8
     ensures { result ≤ 125 }
 {
-    match words::invocation(rt.alloc(), words) {
+    match invocation(rt.alloc(), words) {
         Ok(invocation) => perform(rt, &invocation, rt.reader(), io::writer(rt), rt.stderr()),
         Err(refused) => program::refuse_command_line(&mut rt.stderr(), &refused),
     }

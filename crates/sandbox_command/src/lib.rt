@@ -8,15 +8,12 @@ mod opening;
 mod printing;
 mod program;
 mod putting;
-mod request;
 mod supplies;
 mod tasks;
 mod volume_path;
-mod words;
 
 pub use files::{exit_code, perform};
 pub use opening::FRESH_SECTORS;
 pub use program::{execute, refuse_command_line, refuse_words};
-pub use request::{Invocation, Limits, Run, Task};
 pub use sandbox_device::{FileDevice, RamDevice};
-pub use words::invocation;
+pub use sandbox_words::{Invocation, Limits, Run, Task, invocation};

@@ -12,12 +12,12 @@ ghost use Rattle.sandbox_command.specs.Execution.{NoVolume, OnVolume, Runs, Exec
 
 use crate::failure::Failure;
 use crate::opening::open_for_run;
-use crate::request::{Invocation, Run};
 use crate::supplies::{Supplies, settings, supplied};
 use crate::tasks::{format, perform};
 use sandbox_core::{
     HostParts, LoadFault, Outcome, RefusedSession, Report, Session, SessionFault, Valid,
 };
+use sandbox_words::{Invocation, Run};
 use std::alloc::Global;
 use std::io;
 use std::io::{Read, Write};

@@ -1,13 +1,13 @@
 //! What a guest is given by the words of its command line.
 
 ghost use Rattle.std.specs.Prelude.{◌≡◌, IfOk, IfErr, option_map};
-ghost use Rattle.sandbox_command.specs.Request.{texts, arguments_of};
+ghost use Rattle.sandbox_words.specs.Request.{texts, arguments_of};
 ghost use Rattle.sandbox_command.specs.Supplies.{cut, names_of, directories_of};
 ghost use Rattle.sandbox_command.specs.Supplies.{AreDirectories, AreSettings, IsUncut};
 ghost use Rattle.sandbox_command.specs.internal.Supplies.{AreSupplies};
 
-use crate::request::Run;
 use sandbox_core::{Preopen, SessionFault, Settings};
+use sandbox_words::Run;
 use std::alloc::{AllocError, Global};
 
 /// The words for the directories of a guest where the command line has none: the root as `/`.

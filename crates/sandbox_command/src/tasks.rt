@@ -10,7 +10,7 @@ ghost use Rattle.sandbox_command.specs.internal.Working.{IsWorking};
 use crate::failure::Failure;
 use crate::printing::{check, get, list};
 use crate::putting::put;
-use crate::request::Task;
+use sandbox_words::Task;
 use std::alloc::Global;
 use std::io::{Read, Write};
 use vol_sector::{Device, Refused};

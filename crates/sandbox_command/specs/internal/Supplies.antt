@@ -1,8 +1,8 @@
 -- What is kept of a run's words until its settings are made.
 use Rattle.std.specs.Prelude.{◌≡◌}
-use Rattle.sandbox_command.specs.declared.request.Run.{Run}
+use Rattle.sandbox_words.specs.declared.request.Run.{Run}
+use Rattle.sandbox_words.specs.Request.{texts, arguments_of}
 use Rattle.sandbox_command.specs.declared.supplies.Supplies.{Supplies}
-use Rattle.sandbox_command.specs.Request.{texts, arguments_of}
 use Rattle.sandbox_command.specs.Supplies.{AreDirectories, directories_of}
 
 pub record AreSupplies (run : Run) (supplies : Supplies) : Type 0 where

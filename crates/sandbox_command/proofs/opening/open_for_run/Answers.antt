@@ -1,6 +1,6 @@
 use Rattle.std.proofs.Common.{Option, IfErr, sym, subst, rules}
 use Rattle.std.specs.Borrow.{Bor}
-use Rattle.sandbox_command.specs.Request.{Text}
+use Rattle.sandbox_words.specs.Request.{Text}
 use Rattle.sandbox_command.specs.Volumes.{IsRefusedFor}
 use Rattle.sandbox_command.proofs.FreshVolume.{refused_open}
 use Rattle.sandbox_command.proofs.opening.open_for_run.Goals as goal

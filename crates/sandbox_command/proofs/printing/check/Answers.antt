@@ -1,7 +1,7 @@
 use Rattle.std.proofs.Common.{refl, subst, ap, ◌∙◌}
 use Rattle.std.specs.Io.KnownBytes.{Appends}
 use Rattle.vol_tree.specs.Superblock.{version_number}
-use Rattle.sandbox_command.specs.Request.{Text}
+use Rattle.sandbox_words.specs.Request.{Text}
 use Rattle.sandbox_command.specs.Tasks.{summary}
 use Rattle.sandbox_command.proofs.Texts.{summary_told}
 use Rattle.sandbox_command.proofs.printing.check.Goals as goal

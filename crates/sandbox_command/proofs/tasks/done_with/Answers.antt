@@ -1,7 +1,7 @@
 use Rattle.std.proofs.Common.{sym, subst, arith}
 use Rattle.std.proofs.lemmas.Grind.{common_steps}
 use Rattle.vol_sector.specs.Disk.{Leaves}
-use Rattle.sandbox_command.specs.declared.request.Task.{Task}
+use Rattle.sandbox_words.specs.declared.request.Task.{Task}
 use Rattle.sandbox_command.specs.Tasks.{ReflectsAny}
 use Rattle.sandbox_command.specs.Doing.{IsPartOf}
 use Rattle.sandbox_command.proofs.tasks.done_with.Goals as goal

@@ -1,0 +1,155 @@
+-- The command line: the command that clap is told of, and what its matches ask for. The words are those of clap's own
+-- model: an `App` is a command with its subcommands, a `Rule` an argument, and a `Row` what was found for one
+-- (`README.md`, "The program").
+use Rattle.std.specs.Prelude.{◌≡◌, ◌≢◌, ◌&&◌, ◌^◌, ℕ, Bool, true, List, [], ◌∷◌, length, pos, Option, Some, None, unwrap_or, option_and_then, option_map, if◌then◌else◌, nat_lt, codes}
+use Rattle.std.specs.Borrow.{Bor}
+use Rattle.std.specs.List.{Contains, list_all}
+use Rattle.std.specs.Char.{digit_value}
+use Rattle.std.specs.Str.Parse.{digits_value, without_leading_plus}
+use Rattle.clap.specs.declared.builder.action.ArgAction.TheVariants.{Set, Append}
+use Rattle.clap.specs.declared.builder.value_parser.ValueParser.{ValueParser}
+use Rattle.clap.specs.declared.builder.value_parser.ValueParser.TheVariants.{Signed, Unsigned}
+use Rattle.clap.specs.Lexer.{usize_max}
+use Rattle.clap.specs.Simple.{on_top}
+use Rattle.clap.specs.Words.{App, Row, Rule, all_of, first_of, new_app, new_rule, one_of, with_rule, with_subcommand}
+use Rattle.sandbox_words.specs.declared.request.Run.{Run}
+use Rattle.sandbox_words.specs.declared.request.Task.{Task}
+use Rattle.sandbox_words.specs.declared.request.Task.TheVariants.{List as Ls, Get, Put, Check, Upgrade}
+use Rattle.sandbox_words.specs.declared.request.Invocation.{Invocation}
+use Rattle.sandbox_words.specs.declared.request.Invocation.TheVariants as asked
+use Rattle.sandbox_words.specs.Request.{Text, texts}
+
+-- ---- the command
+
+-- the numbers of `u64` and of `u32`
+abbrev pub u64_numbers : ValueParser
+u64_numbers = Unsigned 0 18446744073709551615
+
+abbrev pub u32_numbers : ValueParser
+u32_numbers = Signed (pos 0) (pos 4294967295)
+
+-- `--name N`
+abbrev pub number_rule : Text → ValueParser → Rule
+number_rule name numbers = record (new_rule name) {
+  long = Some name;
+  action = Some Set;
+  value_names = 1;
+  parser = Some numbers;
+}
+
+-- `--name TEXT`
+abbrev pub text_rule : Text → Rule
+text_rule name = record (new_rule name) { long = Some name; action = Some Set; value_names = 1 }
+
+-- `--name TEXT`, as often as it comes
+abbrev pub texts_rule : Text → Rule
+texts_rule name = record (new_rule name) { long = Some name; action = Some Append; value_names = 1 }
+
+-- a word that has to be there
+abbrev pub word_rule : Text → Rule
+word_rule name = record (new_rule name) { action = Some Set; required = true }
+
+-- such a word, which is a number
+abbrev pub number_word_rule : Text → Rule
+number_word_rule name = record (word_rule name) { parser = Some u32_numbers }
+
+-- `WORD`, as often as it comes
+abbrev pub words_rule : Rule
+words_rule = record (new_rule (codes "WORD")) {
+  action = Some Append;
+  range = Some (record { start_inclusive = 0; end_inclusive = usize_max });
+}
+
+-- `run`, with what a guest may use
+unfoldable pub limited_app : App
+limited_app =
+    with_rule (with_rule (with_rule (new_app (codes "run")) (text_rule (codes "volume")))
+    (number_rule (codes "fuel") u64_numbers)) (number_rule (codes "pages") u32_numbers)
+
+-- and with what it is given
+unfoldable pub supplied_app : App
+supplied_app =
+    with_rule (with_rule (with_rule (with_rule limited_app (texts_rule (codes "dir"))) (texts_rule (codes "env")))
+    (number_rule (codes "moment") u64_numbers)) (text_rule (codes "random"))
+
+-- and with its words
+unfoldable pub run_app : App
+run_app = with_rule (with_rule supplied_app (word_rule (codes "MODULE"))) words_rule
+
+-- a command on the volume in a file
+abbrev pub file_app : Text → App
+file_app name = with_rule (new_app name) (word_rule (codes "FILE"))
+
+-- and on what a path in it names
+abbrev pub path_app : Text → App
+path_app name = with_rule (file_app name) (word_rule (codes "PATH"))
+
+abbrev pub format_app : App
+format_app = with_rule (with_rule (file_app (codes "format")) (number_word_rule (codes "SECTORS"))) (number_word_rule (codes "SLOTS"))
+
+-- the program: one of its subcommands has to be there, and it tells its version
+unfoldable pub program : App
+program =
+    with_subcommand (with_subcommand (with_subcommand (with_subcommand (with_subcommand (with_subcommand (with_subcommand
+    (on_top (λ s. record s { subcommand_required = true; has_version = true }) (new_app (codes "sandbox")))
+    run_app.top) format_app.top) (path_app (codes "ls")).top) (path_app (codes "get")).top) (path_app (codes "put")).top)
+    (file_app (codes "check")).top) (file_app (codes "upgrade")).top
+
+-- ---- what is asked for
+
+-- one digit or more, and nothing else
+abbrev pub is_numeral : Text → Bool
+is_numeral digits = nat_lt 0 (length digits) && list_all (λ d. nat_lt (digit_value d) 10) digits
+
+-- the number of this many bits at most that digits write, before which a plus may stand
+abbrev pub number_of : ℕ → Text → Option ℕ
+number_of bits text =
+    let digits = without_leading_plus text in
+    if is_numeral digits && nat_lt (digits_value 10 digits) (2 ^ bits) then Some (digits_value 10 digits) else None
+
+-- the number of an option, or this default
+abbrev pub number_or : ℕ → ℕ → Text → List Row → ℕ
+number_or default bits id rows = unwrap_or (option_and_then (number_of bits) (one_of id rows)) default
+
+-- the word of an argument, or the empty one
+abbrev pub word_of : Text → List Row → Text
+word_of id rows = unwrap_or (first_of id rows) []
+
+-- all texts of an argument, in order
+abbrev pub texts_of : Text → List Row → List Text
+texts_of id rows = unwrap_or (all_of id rows) []
+
+-- the text behind a reference, if there is one
+abbrev pub text_in : Option (Bor Text) → Option Text
+text_in o = option_map (λ t. t.now) o
+
+-- what `run` is asked for by what was found for its arguments
+pub record AsksRun (rows : List Row) (run : Run) : Type 0 where
+  pub fuel : run.limits.fuel ≡ number_or 1000000000 64 (codes "fuel") rows
+  pub pages : run.limits.pages ≡ number_or 1024 32 (codes "pages") rows
+  pub volume : text_in run.volume ≡ first_of (codes "volume") rows
+  pub dirs : texts run.dirs.items ≡ texts_of (codes "dir") rows
+  pub env : texts run.env.items ≡ texts_of (codes "env") rows
+  pub moment : run.moment ≡ number_or 0 64 (codes "moment") rows
+  pub random : text_in run.random ≡ first_of (codes "random") rows
+  pub module_word : run.module.now ≡ word_of (codes "MODULE") rows
+  pub words : texts run.words.items ≡ texts_of (codes "WORD") rows
+
+-- the command of this name is this task
+abbrev pub AsksTask : Text → List Row → Task → Type 0
+AsksTask name rows (Ls path) = (name ≡ codes "ls") × (path.now ≡ word_of (codes "PATH") rows)
+AsksTask name rows (Get path) = (name ≡ codes "get") × (path.now ≡ word_of (codes "PATH") rows)
+AsksTask name rows (Put path) = (name ≡ codes "put") × (path.now ≡ word_of (codes "PATH") rows)
+AsksTask name rows Check = name ≡ codes "check"
+AsksTask name rows Upgrade = name ≡ codes "upgrade"
+
+-- the commands that are tasks
+abbrev pub task_names : List Text
+task_names = codes "ls" ∷ codes "get" ∷ codes "put" ∷ codes "check" ∷ codes "upgrade" ∷ []
+
+-- What the command of this name is asked for by what was found for its arguments. It is `run` where it is no other.
+abbrev pub AsksFor : Text → List Row → Invocation → Type 0
+AsksFor name rows (asked.Run run) = (name ≢ codes "format") × (Contains task_names name → ⊥) × AsksRun rows run
+AsksFor name rows (asked.Format file sectors slots) = (name ≡ codes "format") × (file.now ≡ word_of (codes "FILE") rows)
+    × (sectors ≡ number_or 0 32 (codes "SECTORS") rows) × (slots ≡ number_or 0 32 (codes "SLOTS") rows)
+AsksFor name rows (asked.Volume file task) = (file.now ≡ word_of (codes "FILE") rows) × AsksTask name rows task

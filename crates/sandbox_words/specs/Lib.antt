@@ -1,0 +1,3 @@
+-- What public contracts cite, in reading order.
+pub mod Request
+pub mod CommandLine

@@ -1,0 +1,8 @@
+//! What a command line asks for.
+#![tactic(auto)]
+
+mod request;
+mod words;
+
+pub use request::{Invocation, Limits, Run, Task};
+pub use words::invocation;
