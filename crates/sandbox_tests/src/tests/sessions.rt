@@ -54,7 +54,7 @@ fn limits_the_number_of_texts(rt: HostRuntime) {
     assert_none(&rt, wrong_texts(&rows));
 }
 
-/// The first row that isn't as it says, of texts that have a byte less than the most that fit, so many, and a byte more.
+/// The first row that isn't as it says, of texts that have a byte less than the most that fit, exactly as many, and a byte more.
 fn wrong_length<'a>(less: &'a [u8], most: &'a [u8], over: &'a [u8]) -> Option<usize> {
     wrong_texts(&[
         (&[most], true),
@@ -104,7 +104,7 @@ fn limits_the_names_of_preopens(rt: HostRuntime) {
     assert_none(&rt, wrong);
 }
 
-/// Whether settings of so many pages fit as it says.
+/// Whether settings of this many pages fit as it says.
 fn are_fit(preopens: &[Preopen<'_>], pages: u32, fit: bool) -> bool {
     settings(&[], &[], preopens, pages).fits() == fit
 }

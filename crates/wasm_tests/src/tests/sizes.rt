@@ -49,7 +49,7 @@ fn data_counts(rt: HostRuntime) {
 }
 
 /// The fault of one type of 50,001 parameters, with these bytes after it.
-fn fault_behind(alloc: Global, tail: &[u8]) -> Option<LoadFault> {
+fn fault_after(alloc: Global, tail: &[u8]) -> Option<LoadFault> {
     let front = &[1, 0xD7, 0x86, 3, 1, 0x60, 0xD1, 0x86, 3];
     match vec![in alloc; 0x7Fu8; 50_001] {
         Ok(parameters) => fault_of(alloc, &[PREAMBLE, front, &parameters, tail]),
@@ -61,6 +61,6 @@ fn fault_behind(alloc: Global, tail: &[u8]) -> Option<LoadFault> {
 fn many_parameters(rt: HostRuntime) {
     let limit = LoadFault::Limit { offset: 50_022 };
     let function = b"\x00\x03\x02\x01\x00\x0A\x04\x01\x02\x00\x0B";
-    assert!(rt; fault_behind(rt.alloc(), b"\x00") == None);
-    assert!(rt; fault_behind(rt.alloc(), function) == Some(limit));
+    assert!(rt; fault_after(rt.alloc(), b"\x00") == None);
+    assert!(rt; fault_after(rt.alloc(), function) == Some(limit));
 }
