@@ -1,5 +1,5 @@
 -- From steps to calls.
-use Rattle.std.proofs.Common.{◌≡◌, ◌⊎◌, inr, true, false, Bool, Result, Ok, Err, IsErrAnd, sym, ◌∙◌, ap, subst}
+use Rattle.std.proofs.Common.{arith, ◌≡◌, ◌⊎◌, inr, true, false, Bool, Result, Ok, Err, IsErrAnd, sym, ◌∙◌, ap, subst}
 use Rattle.vol_sector.specs.Disk.{Image, Leaves}
 use Rattle.vol_sector.specs.declared.device.Device.{Ghosts}
 use Rattle.vol_log.specs.Log.{view, device_of, log_sectors, has_failed}
@@ -43,6 +43,7 @@ module _ {D : Type 0} {g : Ghosts D} (mid new : Parts D g) (is : IsOpen mid) (s 
   staged_open fits = subst (λ v. IsOpen (record new { numbers = v })) (sym s.numbers) (record {
     ranges = is.ranges;
     sectors = s.log_sectors ∙ is.sectors;
+    on_device = omega (arith, s.size, is.on_device);
     first = s.first ∙ is.first;
     end = s.end ∙ is.end;
     slots = s.slots ∙ is.slots;

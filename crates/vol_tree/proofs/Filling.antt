@@ -48,6 +48,7 @@ module _ {D : Type 0} {g : Ghosts D} where
         is_open = record {
           ranges = is.ranges;
           sectors = r.sectors ∙ is.sectors;
+          on_device = omega (arith, r.size, is.on_device);
           first = first ∙ is.first;
           end = end ∙ is.end;
           slots = is.slots;

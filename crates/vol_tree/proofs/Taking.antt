@@ -1,21 +1,20 @@
 -- How taking an entry out goes on to a call's answer.
 use Rattle.std.proofs.Common.{◌≡◌, ◌⊎◌, inl, inr, ⊎_elim, ◌+◌, ◌-◌, ◌≤◌, if◌then◌else◌, ℕ, true, false, Bool, Result, Ok, Err, IsErr, IsErrAnd, MatchResult, is_err, refl, sym, ◌∙◌, ap, subst, arith}
 use Rattle.std.proofs.lemmas.Bool.{false≢true}
-use Rattle.vol_sector.specs.Disk.{Leaves, counted}
+use Rattle.vol_sector.specs.Disk.{counted}
 use Rattle.vol_sector.specs.declared.device.Device.{Ghosts}
 use Rattle.vol_log.specs.Log.{device_of}
-use Rattle.vol_log.proofs.Moments.{leaves_then}
 use Rattle.vol_tree.specs.declared.errno.Errno.{Errno}
 use Rattle.vol_tree.specs.declared.errno.Errno.TheVariants as errno
 use Rattle.vol_tree.specs.Opened.{is_io}
 use Rattle.vol_tree.specs.declared.parts.Parts.{Parts}
 use Rattle.vol_tree.specs.Tree.{Tree}
-use Rattle.vol_tree.specs.Opened.{ReflectsOr, Answers}
+use Rattle.vol_tree.specs.Opened.{Answers}
 use Rattle.vol_tree.specs.internal.Changes.{Changes}
 use Rattle.vol_tree.specs.Parts.{opened}
 use Rattle.vol_tree.specs.internal.Commits.{Commits}
 use Rattle.vol_tree.specs.internal.Removals.{Fails}
-use Rattle.vol_tree.proofs.Committing.{reflects_then}
+use Rattle.vol_tree.proofs.Committing.{crash_on}
 use Rattle.vol_tree.proofs.Changing.{refused}
 
 pub err_is : {T E : Type 0} (r : Result T E) → IsErr r → is_err r ≡ true
@@ -27,11 +26,7 @@ pub commits_fail : {D : Type 0} {g : Ghosts D} (a b c : Parts D g) → Commits a
 commits_fail {D} {g} a b c first second = record {
   is_open = second.is_open;
   tree = λ h. second.tree (first.kept.honest.0 h) ∙ first.tree h;
-  crash = λ h.
-      let da = g.disk (device_of a.log) in
-      let db = g.disk (device_of b.log) in
-      let on = subst (λ T. Leaves db (g.disk (device_of c.log)) (ReflectsOr db T)) (first.tree h) (second.crash (first.kept.honest.0 h)) in
-      leaves_then da db (g.disk (device_of c.log)) _ _ _ (first.crash h) on (λ m p. p) (λ m p. reflects_then da db (opened a).tree m (first.crash h).now p);
+  crash = λ h. crash_on (g.disk (device_of a.log)) (g.disk (device_of b.log)) (g.disk (device_of c.log)) b.numbers a.numbers (opened b).tree (opened a).tree first.kept.numbers (first.tree h) (first.crash h) (second.crash (first.kept.honest.0 h));
   kept = record {
     numbers = second.kept.numbers ∙ first.kept.numbers;
     failed = second.kept.failed;
@@ -86,11 +81,7 @@ changes_after {D} {g} {X} meant other a b c r first second same = record {
   answer = λ h.
       let told = subst (λ (T : Tree). Answers other T (opened c).tree r) (first.tree h) (second.answer (first.kept.honest.0 h)) in
       subst (λ (m : Result (Tree × X) Errno). Answers m (opened a).tree (opened c).tree r) (same h) told;
-  crash = λ h.
-      let da = g.disk (device_of a.log) in
-      let db = g.disk (device_of b.log) in
-      let on = subst (λ T. Leaves db (g.disk (device_of c.log)) (ReflectsOr db T)) (first.tree h) (second.crash (first.kept.honest.0 h)) in
-      leaves_then da db (g.disk (device_of c.log)) _ _ _ (first.crash h) on (λ m p. p) (λ m p. reflects_then da db (opened a).tree m (first.crash h).now p);
+  crash = λ h. crash_on (g.disk (device_of a.log)) (g.disk (device_of b.log)) (g.disk (device_of c.log)) b.numbers a.numbers (opened b).tree (opened a).tree first.kept.numbers (first.tree h) (first.crash h) (second.crash (first.kept.honest.0 h));
   kept = record {
     numbers = second.kept.numbers ∙ first.kept.numbers;
     failed = second.kept.failed;

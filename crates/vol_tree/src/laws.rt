@@ -4,7 +4,8 @@
 ghost use Rattle.std.specs.Prelude.{◌≡◌};
 ghost use Rattle.vol_sector.specs.Disk.{Image};
 ghost use Rattle.vol_tree.specs.Tree.{Tree};
-ghost use Rattle.vol_tree.specs.Stands.{Stands};
+ghost use Rattle.vol_tree.specs.declared.superblock.Superblock.{Superblock};
+ghost use Rattle.vol_tree.specs.Stands.{StandsAs};
 ghost use Rattle.vol_tree.specs.Laws.{RenameMovesTheSubtree, CreatedHasTheLeastSerial};
 ghost use Rattle.vol_tree.specs.Laws.{PathsDetermineTheTree, CreatedIsTree, WithinIsBelow};
 ghost use Rattle.vol_tree.specs.PathLaws.{CreatedMap, MovedMap, RemovedMap};
@@ -35,9 +36,10 @@ pub fn within_is_below()
     ensures { WithinIsBelow }
 {}
 
-/// A law: an image stands for at most one tree.
+/// A law: an image stands for at most one tree, under one volume's numbers.
 pub fn one_tree()
-    ensures { (image : Image) (T U : Tree) → Stands image T → Stands image U → T ≡ U }
+    ensures { (image : Image) (v w : Superblock) (T U : Tree)
+        → StandsAs image v T → StandsAs image w U → (v ≡ w) × (T ≡ U) }
 {}
 
 /// A law: creating an entry adds the path of its name to the map from paths, and nothing else

@@ -8,13 +8,14 @@ ghost use Rattle.vol_tree.specs.Stat.{TellsStat};
 ghost use Rattle.vol_tree.specs.Stats.{IsStats};
 ghost use Rattle.vol_tree.specs.Calls.{created, written, resized, read_bytes, is_file_at, with_unit};
 ghost use Rattle.vol_tree.specs.Calls.{unlinked, directory_removed, renamed, next_child};
-ghost use Rattle.vol_tree.specs.Stands.{Stands, StandsAs};
+ghost use Rattle.vol_tree.specs.Stands.{StandsAs};
 ghost use Rattle.vol_tree.specs.Superblock.{HasRanges};
 ghost use Rattle.vol_tree.specs.Opening.{StandsOn, NoVolumeOn, HasNoVersion, IsDamaged};
 ghost use Rattle.vol_tree.specs.declared.superblock.Superblock.{Superblock};
 ghost use Rattle.vol_sector.specs.Fault.{is_device};
 ghost use Rattle.vol_tree.specs.Tree.{Tree};
-ghost use Rattle.vol_tree.specs.Opened.{Answers, Tells, TellsBytes, Keeps, ReflectsOr, IsSerial, geometry, is_io};
+ghost use Rattle.vol_tree.specs.Opened.{Answers, Tells, TellsBytes, Keeps, ReflectsOr, MayUpgrade, IsSerial};
+ghost use Rattle.vol_tree.specs.Opened.{geometry, is_io, raised};
 ghost use Rattle.vol_inode.specs.Name.{IsName};
 ghost use Rattle.vol_inode.specs.declared.version.Version.TheVariants.{One, Two};
 
@@ -135,11 +136,13 @@ impl<D: Device> Volume<D> {
     }
 
     /// A law: on a device that keeps its model, what an open volume shows is a tree with a place for
-    /// each slot. On any device its numbers are those that a volume may have.
+    /// each slot. On any device its numbers are those that a volume may have, and the device has all
+    /// its sectors.
     pub fn is_a_tree(&self)
         ensures tree { D.honest self.now.device → IsTree self.now.tree }
         ensures count { length self.now.tree ≡ self.now.numbers.slots }
         ensures ranges { HasRanges self.now.numbers }
+        ensures room { self.now.numbers.sectors ≤ D.size self.now.device }
     {
         let _parts = &self.parts; // says what an open volume keeps of them
     }
@@ -237,7 +240,7 @@ impl<D: Device> Volume<D> {
             self.new.tree result }
         ensures crash { D.honest self.old.device
             → Leaves (D.disk self.old.device) (D.disk self.new.device)
-            (ReflectsOr (D.disk self.old.device) self.old.tree) }
+            (ReflectsOr (D.disk self.old.device) self.old.numbers self.old.tree) }
         ensures range { IfOk result (IsSerial self.old.numbers) }
         ensures kept { Keeps D.honest D.size D.failures self.old self.new (is_io result) }
     {
@@ -254,7 +257,7 @@ impl<D: Device> Volume<D> {
             self.new.tree result }
         ensures crash { D.honest self.old.device
             → Leaves (D.disk self.old.device) (D.disk self.new.device)
-            (ReflectsOr (D.disk self.old.device) self.old.tree) }
+            (ReflectsOr (D.disk self.old.device) self.old.numbers self.old.tree) }
         ensures range { IfOk result (IsSerial self.old.numbers) }
         ensures kept { Keeps D.honest D.size D.failures self.old self.new (is_io result) }
     {
@@ -273,7 +276,7 @@ impl<D: Device> Volume<D> {
             bytes.now)) self.old.tree self.new.tree result }
         ensures crash { D.honest self.old.device
             → Leaves (D.disk self.old.device) (D.disk self.new.device)
-            (ReflectsOr (D.disk self.old.device) self.old.tree) }
+            (ReflectsOr (D.disk self.old.device) self.old.numbers self.old.tree) }
         ensures kept { Keeps D.honest D.size D.failures self.old self.new (is_io result) }
     {
         self.write_from(file, offset, &Source::of(bytes))
@@ -291,7 +294,7 @@ impl<D: Device> Volume<D> {
             bytes.now)) self.old.tree self.new.tree result }
         ensures crash { D.honest self.old.device
             → Leaves (D.disk self.old.device) (D.disk self.new.device)
-            (ReflectsOr (D.disk self.old.device) self.old.tree) }
+            (ReflectsOr (D.disk self.old.device) self.old.numbers self.old.tree) }
         ensures kept { Keeps D.honest D.size D.failures self.old self.new (is_io result) }
     {
         if self.parts.log.failed() {
@@ -313,7 +316,7 @@ impl<D: Device> Volume<D> {
             self.old.tree self.new.tree result }
         ensures crash { D.honest self.old.device
             → Leaves (D.disk self.old.device) (D.disk self.new.device)
-            (ReflectsOr (D.disk self.old.device) self.old.tree) }
+            (ReflectsOr (D.disk self.old.device) self.old.numbers self.old.tree) }
         ensures kept { Keeps D.honest D.size D.failures self.old self.new (is_io result) }
     {
         self.parts.set_size(file, size)
@@ -347,7 +350,7 @@ impl<D: Device> Volume<D> {
             self.new.tree result }
         ensures crash { D.honest self.old.device
             → Leaves (D.disk self.old.device) (D.disk self.new.device)
-            (ReflectsOr (D.disk self.old.device) self.old.tree) }
+            (ReflectsOr (D.disk self.old.device) self.old.numbers self.old.tree) }
         ensures kept { Keeps D.honest D.size D.failures self.old self.new (is_io result) }
     {
         self.parts.unlink(file)
@@ -363,7 +366,7 @@ impl<D: Device> Volume<D> {
             self.new.tree result }
         ensures crash { D.honest self.old.device
             → Leaves (D.disk self.old.device) (D.disk self.new.device)
-            (ReflectsOr (D.disk self.old.device) self.old.tree) }
+            (ReflectsOr (D.disk self.old.device) self.old.numbers self.old.tree) }
         ensures kept { Keeps D.honest D.size D.failures self.old self.new (is_io result) }
     {
         self.parts.rmdir(directory)
@@ -385,7 +388,7 @@ impl<D: Device> Volume<D> {
             self.new.tree result }
         ensures crash { D.honest self.old.device
             → Leaves (D.disk self.old.device) (D.disk self.new.device)
-            (ReflectsOr (D.disk self.old.device) self.old.tree) }
+            (ReflectsOr (D.disk self.old.device) self.old.numbers self.old.tree) }
         ensures kept { Keeps D.honest D.size D.failures self.old self.new (is_io result) }
     {
         self.parts.rename(serial, parent, name)
@@ -397,9 +400,10 @@ impl<D: Device> Volume<D> {
             → Answers (with_unit (Ok self.old.tree)) self.old.tree self.new.tree result }
         ensures crash { D.honest self.old.device
             → Leaves (D.disk self.old.device) (D.disk self.new.device)
-            (ReflectsOr (D.disk self.old.device) self.old.tree) }
+            (ReflectsOr (D.disk self.old.device) self.old.numbers self.old.tree) }
         ensures durable { D.honest self.old.device → OnOk result ((c : Image)
-            → (D.disk self.new.device).may_leave c → Stands c self.new.tree) }
+            → (D.disk self.new.device).may_leave c
+            → StandsAs c self.new.numbers self.new.tree) }
         ensures kept { Keeps D.honest D.size D.failures self.old self.new (is_io result) }
     {
         Ok(self.parts.commit()?)
@@ -414,12 +418,12 @@ impl<D: Device> Volume<D> {
             → (self.new ≡ self.old) × (result ≡ Err VolumeFault.Upgraded) }
         ensures refused { self.old.numbers.version ≡ One
             → IfErr result (λ fault. fault ≡ VolumeFault.Device) }
-        ensures numbers { OnOk result (self.new.numbers ≡ record self.old.numbers { version = Two }) }
+        ensures numbers { OnOk result (self.new.numbers ≡ raised self.old.numbers) }
         ensures unchanged { OnErr result (self.new.numbers ≡ self.old.numbers) }
         ensures tree { D.honest self.old.device → self.new.tree ≡ self.old.tree }
         ensures crash { D.honest self.old.device
             → Leaves (D.disk self.old.device) (D.disk self.new.device)
-            (ReflectsOr (D.disk self.old.device) self.old.tree) }
+            (MayUpgrade (D.disk self.old.device) self.old.numbers self.old.tree) }
         // At Ok each crash leaves the tree in a volume of version 2.
         ensures durable { D.honest self.old.device → OnOk result ((c : Image)
             → (D.disk self.new.device).may_leave c

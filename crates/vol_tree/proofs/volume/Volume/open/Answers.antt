@@ -235,6 +235,7 @@ invariant_of-result g c =
     record {
       ranges = read.ranges;
       sectors = done.reads.sectors ∙ installed.fresh.2;
+      on_device = omega (arith, done.reads.size, installed.kept_ok.1, read.size, read.room);
       first = done.first;
       end = done.end;
       slots = done.slots;
