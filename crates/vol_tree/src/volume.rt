@@ -1,6 +1,6 @@
 //! An open volume.
 
-ghost use Rattle.std.specs.Prelude.{◌≡◌, ◌≤◌, ◌<◌, ◌⊎◌, ◌↔◌, ⊤, [], Ok, Err, OnOk, OnErr, IfOk, IfErr, IfSome, IsSome, IsTrue, is_err, false, true, length};
+ghost use Rattle.std.specs.Prelude.{◌≡◌, ◌≤◌, ◌<◌, ◌⊎◌, ◌↔◌, ⊤, [], Ok, Err, OnOk, OnErr, IfOk, IfErr, MatchResult, IfSome, IsSome, IsTrue, is_err, false, true, length};
 ghost use Rattle.std.specs.Option.{MatchOption};
 ghost use Rattle.vol_sector.specs.Disk.{Image, Leaves, counted};
 ghost use Rattle.vol_tree.specs.Tree.{File, Directory, IsTree, IsDirectory, entry, lookup};
@@ -10,7 +10,7 @@ ghost use Rattle.vol_tree.specs.Calls.{created, written, resized, read_bytes, is
 ghost use Rattle.vol_tree.specs.Calls.{unlinked, directory_removed, renamed, next_child};
 ghost use Rattle.vol_tree.specs.Stands.{StandsAs};
 ghost use Rattle.vol_tree.specs.Superblock.{HasRanges};
-ghost use Rattle.vol_tree.specs.Opening.{StandsOn, NoVolumeOn, HasNoVersion, IsDamaged};
+ghost use Rattle.vol_tree.specs.Opening.{StandsOn, HoldsOn, NoVolumeOn, HasNoVersion, IsDamaged};
 ghost use Rattle.vol_tree.specs.declared.superblock.Superblock.{Superblock};
 ghost use Rattle.vol_sector.specs.Fault.{is_device};
 ghost use Rattle.vol_tree.specs.Tree.{Tree};
@@ -58,8 +58,8 @@ impl<D: Device> Volume<D> {
     /// It is refused, in this order, as `NotAVolume` where the device has fewer than 137 sectors or
     /// begins otherwise, as `Version` where the version is none that is known, and as `Damaged`
     /// where another rule of the format is broken or the device has fewer sectors than the volume.
-    /// Anywhere it is refused as `Device` where an operation failed, and as `Memory`. Before what
-    /// the log holds is installed nothing is written; where its header is wrong, nothing is.
+    /// Anywhere it is refused as `Device` where an operation failed, and as `Memory`. Where the first
+    /// sector or the log's header is wrong nothing is written, else only what the log holds.
     ///
     /// It may be stopped and begun again any number of times. It takes the memory for all later
     /// calls.
@@ -83,6 +83,12 @@ impl<D: Device> Volume<D> {
         ensures faults_named { IfErr result (λ r. (r.fault ≡ VolumeFault.NotAVolume)
             ⊎ ((r.fault ≡ VolumeFault.Version) ⊎ ((r.fault ≡ VolumeFault.Damaged)
             ⊎ ((r.fault ≡ VolumeFault.Device) ⊎ (r.fault ≡ VolumeFault.Memory))))) }
+        // So where what reads give stands for a tree, it is opened with that tree, or the device or
+        // the memory fails.
+        ensures finds { (v : Superblock) (T : Tree) → D.honest device
+            → StandsOn (D.size device) (D.disk device).seen v T → MatchResult result
+            (λ o. (o.numbers ≡ v) × (o.tree ≡ T))
+            (λ r. (r.fault ≡ VolumeFault.Device) ⊎ (r.fault ≡ VolumeFault.Memory)) }
         // At Ok each crash leaves the tree.
         ensures durable { D.honest device → IfOk result (λ v. (c : Image)
             → (D.disk v.device).may_leave c → StandsAs c v.numbers v.tree) }
@@ -99,10 +105,16 @@ impl<D: Device> Volume<D> {
         ensures kept_tree { (v : Superblock) (T : Tree) → D.honest device
             → StandsOn (D.size device) (D.disk device).seen v T
             → IfErr result (λ r. StandsOn (D.size r.device) (D.disk r.device).seen v T) }
-        // What is no volume of a known version isn't written to.
-        ensures unwritten { D.honest device → IfErr result
-            (λ r. (r.fault ≡ VolumeFault.NotAVolume) ⊎ (r.fault ≡ VolumeFault.Version)
-            → Leaves (D.disk device) (D.disk r.device) (λ c. ⊥)) }
+        // Where the first sector or the log's header is wrong, nothing is written.
+        ensures unwritten { D.honest device
+            → ((v : Superblock) (m : Image)
+            → HoldsOn (D.size device) (D.disk device).seen v m → ⊥)
+            → IfErr result (λ r. Leaves (D.disk device) (D.disk r.device) (λ c. ⊥)) }
+        // Else a refusal leaves the first sector and the content as reads gave them.
+        ensures installs { (v : Superblock) (m : Image) → D.honest device
+            → HoldsOn (D.size device) (D.disk device).seen v m
+            → IfErr result (λ r. HoldsOn (D.size device) (D.disk r.device).seen v m
+            × Leaves (D.disk device) (D.disk r.device) (λ c. HoldsOn (D.size device) c v m)) }
         ensures kept_ok { IfOk result (λ v. (D.honest device ↔ D.honest v.device)
             × (D.size v.device ≡ D.size device) × (D.failures v.device ≡ D.failures device)) }
         // It is refused as `Device` only where an operation failed.
