@@ -1,8 +1,8 @@
 -- An open volume, as its callers see it (`docs/VOLUME.md`, "The tree").
-use Rattle.std.specs.Prelude.{◌≡◌, ◌⊎◌, ◌+◌, ◌-◌, ◌*◌, ◌==◌, ◌≤◌, ◌++◌, ◌↔◌, ℕ, List, length, Bool, true, false, Option, Some, None, Result, Ok, Err, if◌then◌else◌, take, drop, map, slice_index}
+use Rattle.std.specs.Prelude.{◌≡◌, ◌≢◌, ◌⊎◌, ◌+◌, ◌-◌, ◌*◌, ◌==◌, ◌≤◌, ◌++◌, ◌↔◌, ℕ, List, length, Bool, true, false, Option, Some, None, Result, Ok, Err, if◌then◌else◌, take, drop, map, slice_index}
 use Rattle.std.specs.List.{range_with_len}
 use Rattle.byteorder.specs.Endian.{little_number}
-use Rattle.vol_sector.specs.Disk.{Image, Disk, counted}
+use Rattle.vol_sector.specs.Disk.{Image, Disk, Leaves, counted}
 use Rattle.vol_inode.specs.declared.entry.Entry.{Entry}
 use Rattle.vol_inode.specs.declared.entry.Kind.TheVariants as kinds
 use Rattle.vol_inode.specs.declared.version.Version.TheVariants.{Two}
@@ -96,6 +96,11 @@ is_io (Err errno.NotCapable) = false
 abbrev pub Answers : {X : Type 0} → Result (Tree × X) Errno → Tree → Tree → Result X Errno → Type 0
 Answers meant old new (Ok x) = meant ≡ Ok (new, x)
 Answers meant old new (Err e) = (new ≡ old) × ((meant ≡ Err e) ⊎ (e ≡ errno.Io))
+
+-- A call that is refused leaves nothing new on the disk, unless the device has failed.
+abbrev pub LeavesAlone : {X : Type 0} → Disk → Disk → Result X Errno → Type 0
+LeavesAlone old new (Ok x) = Unit {0}
+LeavesAlone old new (Err e) = e ≢ errno.Io → Leaves old new (λ c. ⊥)
 
 -- A call that only asks: the definition's answer, or 29.
 abbrev pub Tells : {X : Type 0} → X → Tree → Tree → Result X Errno → Type 0

@@ -14,7 +14,8 @@ ghost use Rattle.vol_tree.specs.Opening.{StandsOn, HoldsOn, NoVolumeOn, HasNoVer
 ghost use Rattle.vol_tree.specs.declared.superblock.Superblock.{Superblock};
 ghost use Rattle.vol_sector.specs.Fault.{is_device};
 ghost use Rattle.vol_tree.specs.Tree.{Tree};
-ghost use Rattle.vol_tree.specs.Opened.{Answers, Tells, TellsBytes, Keeps, ReflectsOr, MayUpgrade, IsSerial};
+ghost use Rattle.vol_tree.specs.Opened.{Answers, Tells, TellsBytes, Keeps, ReflectsOr, MayUpgrade};
+ghost use Rattle.vol_tree.specs.Opened.{LeavesAlone, IsSerial};
 ghost use Rattle.vol_tree.specs.Opened.{geometry, is_io, raised};
 ghost use Rattle.vol_inode.specs.Name.{IsName};
 ghost use Rattle.vol_inode.specs.declared.version.Version.TheVariants.{One, Two};
@@ -253,6 +254,8 @@ impl<D: Device> Volume<D> {
         ensures crash { D.honest self.old.device
             → Leaves (D.disk self.old.device) (D.disk self.new.device)
             (ReflectsOr (D.disk self.old.device) self.old.numbers self.old.tree) }
+        ensures refused { D.honest self.old.device
+            → LeavesAlone (D.disk self.old.device) (D.disk self.new.device) result }
         ensures range { IfOk result (IsSerial self.old.numbers) }
         ensures kept { Keeps D.honest D.size D.failures self.old self.new (is_io result) }
     {
@@ -270,6 +273,8 @@ impl<D: Device> Volume<D> {
         ensures crash { D.honest self.old.device
             → Leaves (D.disk self.old.device) (D.disk self.new.device)
             (ReflectsOr (D.disk self.old.device) self.old.numbers self.old.tree) }
+        ensures refused { D.honest self.old.device
+            → LeavesAlone (D.disk self.old.device) (D.disk self.new.device) result }
         ensures range { IfOk result (IsSerial self.old.numbers) }
         ensures kept { Keeps D.honest D.size D.failures self.old self.new (is_io result) }
     {
@@ -289,6 +294,8 @@ impl<D: Device> Volume<D> {
         ensures crash { D.honest self.old.device
             → Leaves (D.disk self.old.device) (D.disk self.new.device)
             (ReflectsOr (D.disk self.old.device) self.old.numbers self.old.tree) }
+        ensures refused { D.honest self.old.device
+            → LeavesAlone (D.disk self.old.device) (D.disk self.new.device) result }
         ensures kept { Keeps D.honest D.size D.failures self.old self.new (is_io result) }
     {
         self.write_from(file, offset, &Source::of(bytes))
@@ -307,6 +314,8 @@ impl<D: Device> Volume<D> {
         ensures crash { D.honest self.old.device
             → Leaves (D.disk self.old.device) (D.disk self.new.device)
             (ReflectsOr (D.disk self.old.device) self.old.numbers self.old.tree) }
+        ensures refused { D.honest self.old.device
+            → LeavesAlone (D.disk self.old.device) (D.disk self.new.device) result }
         ensures kept { Keeps D.honest D.size D.failures self.old self.new (is_io result) }
     {
         if self.parts.log.failed() {
@@ -329,6 +338,8 @@ impl<D: Device> Volume<D> {
         ensures crash { D.honest self.old.device
             → Leaves (D.disk self.old.device) (D.disk self.new.device)
             (ReflectsOr (D.disk self.old.device) self.old.numbers self.old.tree) }
+        ensures refused { D.honest self.old.device
+            → LeavesAlone (D.disk self.old.device) (D.disk self.new.device) result }
         ensures kept { Keeps D.honest D.size D.failures self.old self.new (is_io result) }
     {
         self.parts.set_size(file, size)
@@ -379,6 +390,8 @@ impl<D: Device> Volume<D> {
         ensures crash { D.honest self.old.device
             → Leaves (D.disk self.old.device) (D.disk self.new.device)
             (ReflectsOr (D.disk self.old.device) self.old.numbers self.old.tree) }
+        ensures refused { D.honest self.old.device
+            → LeavesAlone (D.disk self.old.device) (D.disk self.new.device) result }
         ensures kept { Keeps D.honest D.size D.failures self.old self.new (is_io result) }
     {
         self.parts.rmdir(directory)
@@ -401,6 +414,8 @@ impl<D: Device> Volume<D> {
         ensures crash { D.honest self.old.device
             → Leaves (D.disk self.old.device) (D.disk self.new.device)
             (ReflectsOr (D.disk self.old.device) self.old.numbers self.old.tree) }
+        ensures refused { D.honest self.old.device
+            → LeavesAlone (D.disk self.old.device) (D.disk self.new.device) result }
         ensures kept { Keeps D.honest D.size D.failures self.old self.new (is_io result) }
     {
         self.parts.rename(serial, parent, name)
