@@ -33,7 +33,7 @@ value_exit e status is = cc
 module _ {D R W1 W2 : Type 0} (honest : D → Type 0) (disk : D → Disk) (sectors_on failures : D → ℕ)
     (remaining : R → Option (List ℕ)) (out_contents : W1 → Option (List ℕ)) (err_contents : W2 → Option (List ℕ)) where
   pub called : (c : HostCall) (old new : Inner D R W1 W2) (m m' : List ℕ) (used : ℕ) (args : List ℕ) (e : Errno) (answer : Answer) → c ≢ call.ProcExit → answer ≡ value e
-      → Serves honest disk sectors_on failures remaining out_contents err_contents (λ w. row c w m used args) old m new m' e.0
+      → Serves honest disk sectors_on failures remaining out_contents err_contents c used args old m new m' e.0
       → (honest old.volume.device → IsSynced c e.0 (disk new.volume.device) new.volume.tree)
       → HostCalls honest disk sectors_on failures remaining out_contents err_contents (state_of old) m used c args (state_of new) m' answer
   unfolding number_in
@@ -42,6 +42,7 @@ module _ {D R W1 W2 : Type 0} (honest : D → Type 0) (disk : D → Disk) (secto
         let (before, after, tell, answered) = serves.row h in
         (before, after, tell, by_row_of c (world_of (state_of old) before) m used args (world_of (state_of new) after) m' e answer goes_on is answered);
     volume = serves.volume;
+    settings = serves.settings;
     synced = λ h other told.
         let same : e.0 ≡ other.0 = ap number_in (sym is ∙ told) in
         subst (λ (n : ℕ). IsSynced c n (disk new.volume.device) new.volume.tree) same (synced h);
@@ -56,6 +57,7 @@ module _ {D R W1 W2 : Type 0} (honest : D → Type 0) (disk : D → Disk) (secto
       record {
         row = λ h. (b, b, streams_rest honest disk sectors_on failures remaining out_contents err_contents old old.volume old.descriptors old.settings set_up, (ap exit is, refl, refl));
         volume = volume_rests honest disk sectors_on failures old.volume;
+        settings = refl;
         synced = λ h e told. absurd (value_exit e status (sym told));
         exits = λ other told. refl;
       }
@@ -63,14 +65,14 @@ module _ {D R W1 W2 : Type 0} (honest : D → Type 0) (disk : D → Disk) (secto
   -- after a call the host is ready for the next
   pub still_ready : (c : HostCall) (old new : Inner D R W1 W2) (m m' : List ℕ) (used : ℕ) (args : List ℕ) (errno : ℕ) → (honest old.volume.device → IsTree old.volume.tree)
       → KnowsEntries honest old.volume (table_of old.descriptors)
-      → Serves honest disk sectors_on failures remaining out_contents err_contents (λ w. row c w m used args) old m new m' errno → IsReady honest remaining new
+      → Serves honest disk sectors_on failures remaining out_contents err_contents c used args old m new m' errno → IsReady honest remaining new
   still_ready c old new m m' used args errno tree known serves = record {
     set_up = serves.set_up;
     known = record {
       numbers = serves.set_up.serials;
       there = λ h'.
           let h = serves.volume.kept.honest.1 h' in
-          let (before, after, tell, answered) = serves.row h in
+          let (before, after, tell, answered) = serves.row (λ _. h) in
           still_there old.volume.tree (tree h) c (world_of (state_of old) before) (world_of (state_of new) after) m m' used args errno refl (few_open old.descriptors) (known.there h) answered;
     };
   }

@@ -21,7 +21,7 @@ module _ {D R W1 W2 : Type 0} (honest : D → Type 0) (disk : D → Disk) (secto
         let second : w.table ≡ table_of h.descriptors = ap (λ (w : World). w.table) also.1 in
         first ∙ sym second;
     answers = λ h h' m m' used x args answer is_honest a.
-        let (before, after, told, meaning) = a.row is_honest in
+        let (before, after, told, meaning) = a.row (λ _. is_honest) in
         (a.volume.kept.honest.0 is_honest, (_, _, (before, refl), (after, refl), meaning));
   }
 

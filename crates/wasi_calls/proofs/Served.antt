@@ -1,8 +1,8 @@
 -- Calls that reach neither the volume nor a stream.
-use Rattle.std.proofs.Common.{◌≡◌, ℕ, Bool, true, false, List, [], ◌++◌, Option, Some, None, refl, sym, ap, ◌∙◌, subst, inl, inr, arith}
+use Rattle.std.proofs.Common.{◌≡◌, ℕ, IsTrue, Bool, true, false, List, [], ◌++◌, Option, Some, None, refl, sym, ap, ◌∙◌, subst, inl, inr, arith}
 use Rattle.std.proofs.lemmas.Bool.{cases_eq, cond-true, cond-false, eq-eqb, ne_eqb}
 use Rattle.std.proofs.lemmas.Option.{none-some}
-use Rattle.std.specs.Io.KnownBytes.{Appends, IsAtEnd}
+use Rattle.std.specs.Io.KnownBytes.{Appends}
 use Rattle.wasi_calls.specs.declared.streams.Output.{Output}
 use Rattle.vol_sector.specs.Disk.{Disk, counted}
 use Rattle.vol_tree.specs.declared.superblock.Superblock.{Superblock}
@@ -16,7 +16,7 @@ use Rattle.wasi_calls.specs.Settings.{settings_fit}
 use Rattle.wasi_calls.specs.World.{World}
 use Rattle.wasi_calls.specs.Checks.{Checked, Done}
 use Rattle.wasm_store.specs.declared.call.HostCall.{HostCall}
-use Rattle.wasi_calls.specs.Calls.{Answers, Answered, by_row, row}
+use Rattle.wasi_calls.specs.Calls.{Answers, Answered, by_row, row, reaches_volume}
 use Rattle.wasi_calls.specs.Host.{StreamBytes, Tells, StreamsTell, world_of, VolumeStep}
 use Rattle.wasi_calls.specs.internal.Serving.{NoMoreEntries, state_of, with_volume, IsSetUp, Serves}
 use Rattle.wasi_calls.specs.internal.Opening.{AreSerials, with_both}
@@ -43,10 +43,10 @@ unfolding told
 rests None = tt
 rests (Some xs) = (refl, refl)
 
-told_end : (o : Option (List ℕ)) → IsAtEnd o → told o ≡ []
-unfolding told
-told_end None h = refl
-told_end (Some xs) h = h
+-- ---- the settings
+
+pub settings_rest : (old new : Settings) → new ≡ old → new ≡ record old { random = new.random }
+settings_rest old new same = same ∙ λ i. record old { random = (sym same i).random }
 
 -- ---- the volume
 
@@ -80,7 +80,6 @@ module _ {D R W1 W2 : Type 0} (honest : D → Type 0) (disk : D → Disk) (secto
   unfolding bytes_told
   streams_rest old v d s h = record {
     input = rests (remaining old.input.reader);
-    ended = λ is. told_end (remaining old.input.reader) (h.ended is);
     output = rests (out_contents old.out.writer);
     errors = rests (err_contents old.err.writer);
   }
@@ -96,12 +95,12 @@ module _ {D R W1 W2 : Type 0} (honest : D → Type 0) (disk : D → Disk) (secto
   }
 
   -- The call's row, `r` by the values that the code has.
-  pub serves_plain : (run : World → Checked Done) (r : StreamBytes → Checked Done) (old : Inner D R W1 W2) (d : Descriptors) (s : Settings) (m m' : List ℕ) (e : ℕ)
-      → IsSetUp remaining old → settings_fit s ≡ true → NoMoreEntries (table_of old.descriptors) (table_of d)
-      → ((b : StreamBytes) → run (world_of (state_of old) b) ≡ r b)
+  pub serves_plain : (c : HostCall) (used : ℕ) (args : List ℕ) (r : StreamBytes → Checked Done) (old : Inner D R W1 W2) (d : Descriptors) (s : Settings) (m m' : List ℕ) (e : ℕ)
+      → IsSetUp remaining old → settings_fit s ≡ true → s ≡ record old.settings { random = s.random } → NoMoreEntries (table_of old.descriptors) (table_of d)
+      → ((b : StreamBytes) → row c (world_of (state_of old) b) m used args ≡ r b)
       → ((b : StreamBytes) → Answers (r b) (world_of (state_of old) b) m (world_of (state_of (record old { descriptors = d; settings = s })) b) m' e)
-      → Serves honest disk sectors_on failures remaining out_contents err_contents run old m (record old { descriptors = d; settings = s }) m' e
-  serves_plain run r old d s m m' e h fits entries same answers =
+      → Serves honest disk sectors_on failures remaining out_contents err_contents c used args old m (record old { descriptors = d; settings = s }) m' e
+  serves_plain c used args r old d s m m' e h fits kept entries same answers =
       let new : Inner D R W1 W2 = record old { descriptors = d; settings = s } in
       let b : StreamBytes = bytes_told old in
       record {
@@ -113,18 +112,19 @@ module _ {D R W1 W2 : Type 0} (honest : D → Type 0) (disk : D → Disk) (secto
           by_row (subst (λ (x : Checked Done). Answers x (world_of (state_of old) b) m (world_of (state_of new) b) m' e) (sym (same b)) (answers b)),
         );
         volume = volume_rests honest disk sectors_on failures old.volume;
+        settings = kept;
       }
 
   -- A call that changes only the volume.
-  pub serves_volume : (run r : World → Checked Done) (old : Inner D R W1 W2) (v : Opened D) (m m' : List ℕ) (e : ℕ)
-      → IsSetUp remaining old → VolumeStep honest disk sectors_on failures old.volume v
-      → ((w : World) → run w ≡ r w)
+  pub serves_volume : (c : HostCall) (used : ℕ) (args : List ℕ) (r : World → Checked Done) (old : Inner D R W1 W2) (v : Opened D) (m m' : List ℕ) (e : ℕ)
+      → IsTrue (reaches_volume c (table_of old.descriptors) args) → IsSetUp remaining old → VolumeStep honest disk sectors_on failures old.volume v
+      → ((w : World) → row c w m used args ≡ r w)
       → (honest old.volume.device → (b : StreamBytes) → Answered r (world_of (state_of old) b) m (with_volume v (world_of (state_of old) b)) m' e)
-      → Serves honest disk sectors_on failures remaining out_contents err_contents run old m (record old { volume = v }) m' e
-  serves_volume run r old v m m' e h step same answers =
+      → Serves honest disk sectors_on failures remaining out_contents err_contents c used args old m (record old { volume = v }) m' e
+  serves_volume c used args r old v m m' e reaches h step same answers =
       let new : Inner D R W1 W2 = record old { volume = v } in
       let b : StreamBytes = bytes_told old in
-      let same_run : run ≡ r = λ i w. same w i in
+      let same_run : (λ (w : World). row c w m used args) ≡ r = λ i w. same w i in
       let set_up : IsSetUp remaining new = record {
         settings = h.settings;
         buffers = h.buffers;
@@ -134,13 +134,14 @@ module _ {D R W1 W2 : Type 0} (honest : D → Type 0) (disk : D → Disk) (secto
       } in
       record {
         set_up = set_up;
-        row = λ is_honest. (
+        row = λ known. (
           b,
           b,
           streams_rest old v old.descriptors old.settings h,
-          subst (λ (x : World → Checked Done). Answered x (world_of (state_of old) b) m (world_of (state_of new) b) m' e) (sym same_run) (answers is_honest b),
+          subst (λ (x : World → Checked Done). Answered x (world_of (state_of old) b) m (world_of (state_of new) b) m' e) (sym same_run) (answers (known reaches) b),
         );
         volume = step;
+        settings = refl;
       }
 
 -- ---- a stream that took more bytes
@@ -161,7 +162,6 @@ module _ {D R W1 W2 : Type 0} (honest : D → Type 0) (disk : D → Disk) (secto
   unfolding bytes_told
   told_by_out old o taken h more = record {
     input = rests (remaining old.input.reader);
-    ended = λ is. told_end (remaining old.input.reader) (h.ended is);
     output = told_more (out_contents old.out.writer) (out_contents o.writer) taken more;
     errors = rests (err_contents old.err.writer);
   }
@@ -171,7 +171,6 @@ module _ {D R W1 W2 : Type 0} (honest : D → Type 0) (disk : D → Disk) (secto
   unfolding bytes_told
   told_by_err old o taken h more = record {
     input = rests (remaining old.input.reader);
-    ended = λ is. told_end (remaining old.input.reader) (h.ended is);
     errors = told_more (err_contents old.err.writer) (err_contents o.writer) taken more;
     output = rests (out_contents old.out.writer);
   }
@@ -180,31 +179,32 @@ module _ {D R W1 W2 : Type 0} (honest : D → Type 0) (disk : D → Disk) (secto
 
 module _ {D R W1 W2 : Type 0} (honest : D → Type 0) (disk : D → Disk) (sectors_on failures : D → ℕ)
     (remaining : R → Option (List ℕ)) (out_contents : W1 → Option (List ℕ)) (err_contents : W2 → Option (List ℕ)) where
-  pub serves_both : (run r : World → Checked Done) (old : Inner D R W1 W2) (v : Opened D) (d : Descriptors) (m m' : List ℕ) (e : ℕ)
-      → IsSetUp remaining old → VolumeStep honest disk sectors_on failures old.volume v → AreSerials v.numbers (table_of d)
-      → ((w : World) → run w ≡ r w)
+  pub serves_both : (c : HostCall) (used : ℕ) (args : List ℕ) (r : World → Checked Done) (old : Inner D R W1 W2) (v : Opened D) (d : Descriptors) (m m' : List ℕ) (e : ℕ)
+      → IsTrue (reaches_volume c (table_of old.descriptors) args) → IsSetUp remaining old → VolumeStep honest disk sectors_on failures old.volume v → AreSerials v.numbers (table_of d)
+      → ((w : World) → row c w m used args ≡ r w)
       → (honest old.volume.device → (b : StreamBytes) → Answered r (world_of (state_of old) b) m (with_both v (table_of d) (world_of (state_of old) b)) m' e)
-      → Serves honest disk sectors_on failures remaining out_contents err_contents run old m (record old { volume = v; descriptors = d }) m' e
-  serves_both run r old v d m m' e h step serials same answers =
+      → Serves honest disk sectors_on failures remaining out_contents err_contents c used args old m (record old { volume = v; descriptors = d }) m' e
+  serves_both c used args r old v d m m' e reaches h step serials same answers =
       let new : Inner D R W1 W2 = record old { volume = v; descriptors = d } in
       let b : StreamBytes = bytes_told honest disk sectors_on failures remaining out_contents err_contents old in
-      let same_run : run ≡ r = λ i w. same w i in
+      let same_run : (λ (w : World). row c w m used args) ≡ r = λ i w. same w i in
       record {
         set_up = record { settings = h.settings; buffers = h.buffers; piece = h.piece; ended = h.ended; serials = serials };
-        row = λ is_honest. (
+        row = λ known. (
           b,
           b,
           streams_rest honest disk sectors_on failures remaining out_contents err_contents old v d old.settings h,
-          subst (λ (x : World → Checked Done). Answered x (world_of (state_of old) b) m (world_of (state_of new) b) m' e) (sym same_run) (answers is_honest b),
+          subst (λ (x : World → Checked Done). Answered x (world_of (state_of old) b) m (world_of (state_of new) b) m' e) (sym same_run) (answers (known reaches) b),
         );
         volume = step;
+        settings = refl;
       }
 
 -- a call by the name that it has
 pub serves_as : {D R W1 W2 : Type 0} (honest : D → Type 0) (disk : D → Disk) (sectors_on failures : D → ℕ)
     (remaining : R → Option (List ℕ)) (out_contents : W1 → Option (List ℕ)) (err_contents : W2 → Option (List ℕ))
     (m : List ℕ) (used : ℕ) (args : List ℕ) (call named : HostCall) → call ≡ named → (old new : Inner D R W1 W2) (m' : List ℕ) (e : ℕ)
-    → Serves honest disk sectors_on failures remaining out_contents err_contents (λ w. row named w m used args) old m new m' e
-    → Serves honest disk sectors_on failures remaining out_contents err_contents (λ w. row call w m used args) old m new m' e
+    → Serves honest disk sectors_on failures remaining out_contents err_contents named used args old m new m' e
+    → Serves honest disk sectors_on failures remaining out_contents err_contents call used args old m new m' e
 serves_as honest disk sectors_on failures remaining out_contents err_contents m used args call named is old new m' e served =
-    subst (λ (x : HostCall). Serves honest disk sectors_on failures remaining out_contents err_contents (λ w. row x w m used args) old m new m' e) (sym is) served
+    subst (λ (x : HostCall). Serves honest disk sectors_on failures remaining out_contents err_contents x used args old m new m' e) (sym is) served

@@ -1,5 +1,5 @@
 -- A host over a volume and streams: what callers see of it, the worlds that it shows, and what its calls say.
-use Rattle.std.specs.Prelude.{◌≡◌, ℕ, true, List, [], Option, Some, None}
+use Rattle.std.specs.Prelude.{◌≡◌, ℕ, IsTrue, List, Option, Some, None}
 use Rattle.vol_sector.specs.Disk.{Disk, Leaves}
 use Rattle.vol_tree.specs.Opened.{Opened, Keeps, ReflectsOr, geometry}
 use Rattle.wasi_fd.specs.declared.table.Descriptors.{Descriptors}
@@ -13,7 +13,7 @@ use Rattle.wasi_calls.specs.declared.streams.Output.{Output}
 use Rattle.wasi_calls.specs.declared.settings.Settings.{Settings}
 use Rattle.wasi_calls.specs.Texts.{texts_of}
 use Rattle.wasi_calls.specs.World.{Given, World}
-use Rattle.wasi_calls.specs.Calls.{Calls}
+use Rattle.wasi_calls.specs.Calls.{Calls, reaches_volume}
 use Rattle.wasi_calls.specs.Moments.{IsSynced}
 
 -- what callers see of a host: the random bytes of its settings are those that are left
@@ -41,6 +41,7 @@ world_of h b = record {
   tree = h.volume.tree;
   table = table_of h.descriptors;
   input = b.input;
+  input_ended = h.input.ended;
   output = b.output;
   errors = b.errors;
   random = h.settings.random.now;
@@ -61,10 +62,9 @@ Tells None known before after = Unit {0}
 Tells (Some bytes) known before after = (before ≡ bytes) × (known ≡ Some after)
 
 module _ {D R W1 W2 : Type 0} (remaining : R → Option (List ℕ)) (out_contents : W1 → Option (List ℕ)) (err_contents : W2 → Option (List ℕ)) where
-  -- The streams have these bytes before a call and after it. After its end the input has none.
+  -- The streams have these bytes before a call and after it.
   pub record StreamsTell (old new : HostState D R W1 W2) (before after : StreamBytes) : Type 0 where
     pub input : Tells (remaining old.input.reader) (remaining new.input.reader) before.input after.input
-    pub ended : old.input.ended ≡ true → before.input ≡ []
     pub output : Tells (out_contents old.out.writer) (out_contents new.out.writer) before.output after.output
     pub errors : Tells (err_contents old.err.writer) (err_contents new.err.writer) before.errors after.errors
 
@@ -77,11 +77,14 @@ module _ {D : Type 0} (honest : D → Type 0) (disk : D → Disk) (sectors_on fa
 
 module _ {D R W1 W2 : Type 0} (honest : D → Type 0) (disk : D → Disk) (sectors_on failures : D → ℕ)
     (remaining : R → Option (List ℕ)) (out_contents : W1 → Option (List ℕ)) (err_contents : W2 → Option (List ℕ)) where
-  -- What a call of the host means: where the device keeps its model, that call of a world that the host shows.
+  -- What a call of the host means: that call of a world that the host shows, where the device keeps its model or the call
+  -- reaches no volume. Of the settings it takes random bytes alone.
   pub record HostCalls (old : HostState D R W1 W2) (memory : List ℕ) (used : ℕ) (call : HostCall) (args : List ℕ)
       (new : HostState D R W1 W2) (memory' : List ℕ) (answer : Answer) : Type 0 where
-    pub row : honest old.volume.device → (before after : StreamBytes) × StreamsTell remaining out_contents err_contents old new before after
+    pub row : (IsTrue (reaches_volume call (table_of old.descriptors) args) → honest old.volume.device)
+        → (before after : StreamBytes) × StreamsTell remaining out_contents err_contents old new before after
         × Calls (world_of old before) memory used call args (world_of new after) memory' answer
     pub volume : VolumeStep honest disk sectors_on failures old.volume new.volume
+    pub settings : new.settings ≡ record old.settings { random = new.settings.random }
     pub synced : honest old.volume.device → (e : Errno) → answer ≡ value e → IsSynced call e.0 (disk new.volume.device) new.volume.tree
     pub exits : (status : ℕ) → answer ≡ exit status → new ≡ old
