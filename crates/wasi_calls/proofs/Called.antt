@@ -43,6 +43,9 @@ module _ {D R W1 W2 : Type 0} (honest : D → Type 0) (disk : D → Disk) (secto
         (before, after, tell, by_row_of c (world_of (state_of old) before) m used args (world_of (state_of new) after) m' e answer goes_on is answered);
     volume = serves.volume;
     settings = serves.settings;
+    io = λ other told is29.
+        let same : e.0 ≡ other.0 = ap number_in (sym is ∙ told) in
+        serves.io (same ∙ is29);
     synced = λ h other told.
         let same : e.0 ≡ other.0 = ap number_in (sym is ∙ told) in
         subst (λ (n : ℕ). IsSynced c n (disk new.volume.device) new.volume.tree) same (synced h);
@@ -58,6 +61,7 @@ module _ {D R W1 W2 : Type 0} (honest : D → Type 0) (disk : D → Disk) (secto
         row = λ h. (b, b, streams_rest honest disk sectors_on failures remaining out_contents err_contents old old.volume old.descriptors old.settings set_up, (ap exit is, refl, refl));
         volume = volume_rests honest disk sectors_on failures old.volume;
         settings = refl;
+        io = λ e told. absurd (value_exit e status (sym told));
         synced = λ h e told. absurd (value_exit e status (sym told));
         exits = λ other told. refl;
       }

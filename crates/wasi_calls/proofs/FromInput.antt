@@ -18,13 +18,15 @@ use Rattle.wasi_calls.specs.World.{World, unread, stream_gone}
 use Rattle.wasi_calls.specs.Checks.{Checked, Done, Buffer, put, total, scattered}
 use Rattle.wasm_store.specs.declared.call.HostCall.{HostCall}
 use Rattle.wasi_calls.specs.Calls.{row, Answered, by_row, input_fails, input_left, filled}
-use Rattle.wasi_calls.specs.Host.{HostState, StreamBytes, StreamsTell, Tells, world_of, VolumeStep}
+use Rattle.wasi_calls.specs.Host.{HostState, StreamBytes, HasFailed, StreamsTell, Tells, world_of, VolumeStep}
 use Rattle.wasi_calls.specs.internal.Serving.{state_of, errno_of, IsSetUp, Serves}
 use Rattle.wasi_calls.specs.internal.Inputs.{SomeDealt, IsRead, read_to}
 use Rattle.wasi_calls.proofs.Yields.{guard_passes, guard_fails, goes_on, stops}
 use Rattle.wasi_calls.proofs.Serving.{answers_done, answers_refused}
 use Rattle.wasi_calls.proofs.Served.{volume_rests, settings_rest, bytes_told, streams_rest, told, rests}
 use Rattle.wasi_calls.proofs.Volumes.{is_no_err}
+use Rattle.wasi_calls.proofs.Causes.{no_29_at_0}
+use Rattle.wasi_calls.specs.declared.streams.Input.{Input as InputValue}
 use Rattle.wasi_calls.proofs.Incoming.{ended_or, none_long}
 
 -- ---- the bytes before a read and after it
@@ -97,7 +99,8 @@ module _ {D R W1 W2 : Type 0} (honest : D → Type 0) (disk : D → Disk) (secto
     (h : IsSetUp remaining old) (buffers : vec_len new.buffers ≡ 1024) (piece : vec_len new.piece ≡ 16384)
     (end : new.input.ended ≡ true → IsAtEnd (remaining new.input.reader))
     (state : state_of new ≡ state_of (record old { input = new.input }))
-    (same : (v : World) → v.table ≡ table_of old.descriptors → row c v m used args ≡ read_to v fd (Stream Input) bs result) where
+    (same : (v : World) → v.table ≡ table_of old.descriptors → row c v m used args ≡ read_to v fd (Stream Input) bs result)
+    (cause : new.input.failed ≡ true → HasFailed c (state_of new)) where
   abbrev in_run : World → Checked Done
   in_run w = row c w m used args
 
@@ -147,6 +150,7 @@ module _ {D R W1 W2 : Type 0} (honest : D → Type 0) (disk : D → Disk) (secto
         );
         volume = in_rests;
         settings = in_settings;
+        io = λ _. cause (ap (λ (i : InputValue R). i.failed) none ∙ failed);
       }
 
   came_in : IsRead remaining old.input new.input m bs result m' → Serves honest disk sectors_on failures remaining out_contents err_contents c used args old m new m' 0
@@ -186,6 +190,7 @@ module _ {D R W1 W2 : Type 0} (honest : D → Type 0) (disk : D → Disk) (secto
         );
         volume = in_rests;
         settings = in_settings;
+        io = no_29_at_0;
       }
 
   broke_in : old.input.failed ≡ false → new.input.failed ≡ true → old.input.ended ≡ false → new.input.ended ≡ false
@@ -230,6 +235,7 @@ module _ {D R W1 W2 : Type 0} (honest : D → Type 0) (disk : D → Disk) (secto
         );
         volume = in_rests;
         settings = in_settings;
+        io = λ _. cause after;
       }
 
   pub served_in : (r : Result (Unit {0}) Errno) → (old.input.failed ≡ true → (new.input ≡ old.input) × (m' ≡ m)) → OnOk r (IsRead remaining old.input new.input m bs result m')

@@ -10,7 +10,7 @@ use Rattle.wasi_calls.specs.World.{World}
 use Rattle.wasi_calls.specs.Checks.{Checked, Done}
 use Rattle.wasm_store.specs.declared.call.HostCall.{HostCall}
 use Rattle.wasi_calls.specs.Calls.{row, reaches_volume, Answered}
-use Rattle.wasi_calls.specs.Host.{HostState, StreamsTell, StreamBytes, world_of, VolumeStep}
+use Rattle.wasi_calls.specs.Host.{HostState, HasFailed, StreamsTell, StreamBytes, world_of, VolumeStep}
 use Rattle.wasi_calls.specs.internal.Serving.{NoMoreEntries, state_of, with_volume, with_table, IsSetUp, Serves}
 use Rattle.std.specs.Io.KnownBytes.{IsAtEnd}
 use Rattle.wasi_calls.specs.Settings.{settings_fit}
@@ -33,12 +33,13 @@ module _ {D R W1 W2 : Type 0} (honest : D → Type 0) (disk : D → Disk) (secto
 
   -- A call that changes the volume and a position.
   pub serves_moved : (c : HostCall) (used : ℕ) (args : List ℕ) (r : World → Checked Done) (old : Inner D R W1 W2) (v : Opened D) (d : Descriptors) (m m' : List ℕ) (e : ℕ)
-      → IsTrue (reaches_volume c (table_of old.descriptors) args) → IsSetUp remaining old → VolumeStep honest disk sectors_on failures old.volume v → NoMoreEntries (table_of old.descriptors) (table_of d)
+      → IsTrue (reaches_volume c (table_of old.descriptors) args) → (e ≡ 29 → HasFailed c (state_of (record old { volume = v; descriptors = d })))
+      → IsSetUp remaining old → VolumeStep honest disk sectors_on failures old.volume v → NoMoreEntries (table_of old.descriptors) (table_of d)
       → ((w : World) → row c w m used args ≡ r w)
       → (honest old.volume.device → (b : StreamBytes)
       → Answered r (world_of (state_of old) b) m (with_table (table_of d) (with_volume v (world_of (state_of old) b))) m' e)
       → Serves honest disk sectors_on failures remaining out_contents err_contents c used args old m (record old { volume = v; descriptors = d }) m' e
-  serves_moved c used args r old v d m m' e reaches h step entries same answers =
+  serves_moved c used args r old v d m m' e reaches io h step entries same answers =
       let new : Inner D R W1 W2 = record old { volume = v; descriptors = d } in
       let b : StreamBytes = bytes_told honest disk sectors_on failures remaining out_contents err_contents old in
       let same_run : (λ (w : World). row c w m used args) ≡ r = λ i w. same w i in
@@ -52,17 +53,19 @@ module _ {D R W1 W2 : Type 0} (honest : D → Type 0) (disk : D → Disk) (secto
         );
         volume = step;
         settings = refl;
+        io = io;
       }
 
   -- A call that changes the volume and positions, and leaves what it likes in the room for its bytes.
   pub serves_roomy : (c : HostCall) (used : ℕ) (args : List ℕ) (old new : Inner D R W1 W2) (m m' : List ℕ) (e : ℕ)
+      → (e ≡ 29 → HasFailed c (state_of new))
       → IsSetUp remaining old → vec_len new.buffers ≡ 1024 → vec_len new.piece ≡ 16384
       → state_of new ≡ state_of (record old { volume = new.volume; descriptors = new.descriptors })
       → VolumeStep honest disk sectors_on failures old.volume new.volume → NoMoreEntries (table_of old.descriptors) (table_of new.descriptors)
       → ((IsTrue (reaches_volume c (table_of old.descriptors) args) → honest old.volume.device) → (b : StreamBytes)
       → Answered (λ w. row c w m used args) (world_of (state_of old) b) m (with_table (table_of new.descriptors) (with_volume new.volume (world_of (state_of old) b))) m' e)
       → Serves honest disk sectors_on failures remaining out_contents err_contents c used args old m new m' e
-  serves_roomy c used args old new m m' e h buffers piece state step entries answers =
+  serves_roomy c used args old new m m' e io h buffers piece state step entries answers =
       let b : StreamBytes = bytes_told honest disk sectors_on failures remaining out_contents err_contents old in
       let moved = moved_set_up old new.volume new.descriptors h step entries in
       record {
@@ -82,4 +85,5 @@ module _ {D R W1 W2 : Type 0} (honest : D → Type 0) (disk : D → Disk) (secto
         );
         volume = step;
         settings = settings_rest old.settings new.settings (ap (λ (s : HostState D R W1 W2). s.settings) state);
+        io = io;
       }

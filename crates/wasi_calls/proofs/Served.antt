@@ -1,5 +1,5 @@
 -- Calls that reach neither the volume nor a stream.
-use Rattle.std.proofs.Common.{◌≡◌, ℕ, IsTrue, Bool, true, false, List, [], ◌++◌, Option, Some, None, refl, sym, ap, ◌∙◌, subst, inl, inr, arith}
+use Rattle.std.proofs.Common.{◌≡◌, ◌≢◌, Err, ℕ, IsTrue, Bool, true, false, List, [], ◌++◌, Option, Some, None, refl, sym, ap, ◌∙◌, subst, inl, inr, arith}
 use Rattle.std.proofs.lemmas.Bool.{cases_eq, cond-true, cond-false, eq-eqb, ne_eqb}
 use Rattle.std.proofs.lemmas.Option.{none-some}
 use Rattle.std.specs.Io.KnownBytes.{Appends}
@@ -8,6 +8,7 @@ use Rattle.vol_sector.specs.Disk.{Disk, counted}
 use Rattle.vol_tree.specs.declared.superblock.Superblock.{Superblock}
 use Rattle.vol_tree.specs.Opened.{Opened, IsSerial}
 use Rattle.wasi_fd.specs.declared.descriptor.Descriptor.TheVariants.{Entry}
+use Rattle.wasi_fd.specs.declared.descriptor.Opened.{Opened as OpenedEntry}
 use Rattle.wasi_fd.specs.declared.table.Descriptors.{Descriptors}
 use Rattle.wasi_fd.specs.Table.{Table, table_of, with_at}
 use Rattle.wasi_calls.specs.declared.settings.Settings.{Settings}
@@ -17,9 +18,10 @@ use Rattle.wasi_calls.specs.World.{World}
 use Rattle.wasi_calls.specs.Checks.{Checked, Done}
 use Rattle.wasm_store.specs.declared.call.HostCall.{HostCall}
 use Rattle.wasi_calls.specs.Calls.{Answers, Answered, by_row, row, reaches_volume}
-use Rattle.wasi_calls.specs.Host.{StreamBytes, Tells, StreamsTell, world_of, VolumeStep}
+use Rattle.wasi_calls.specs.Host.{StreamBytes, Tells, HasFailed, StreamsTell, world_of, VolumeStep}
 use Rattle.wasi_calls.specs.internal.Serving.{NoMoreEntries, state_of, with_volume, IsSetUp, Serves}
 use Rattle.wasi_calls.specs.internal.Opening.{AreSerials, with_both}
+use Rattle.wasi_calls.proofs.Elsewhere.{plain_never, answers_never}
 
 -- ---- tables
 
@@ -96,11 +98,12 @@ module _ {D R W1 W2 : Type 0} (honest : D → Type 0) (disk : D → Disk) (secto
 
   -- The call's row, `r` by the values that the code has.
   pub serves_plain : (c : HostCall) (used : ℕ) (args : List ℕ) (r : StreamBytes → Checked Done) (old : Inner D R W1 W2) (d : Descriptors) (s : Settings) (m m' : List ℕ) (e : ℕ)
+      → ((o : OpenedEntry) → reaches_volume c (λ _. Some (Entry o)) args ≡ false)
       → IsSetUp remaining old → settings_fit s ≡ true → s ≡ record old.settings { random = s.random } → NoMoreEntries (table_of old.descriptors) (table_of d)
       → ((b : StreamBytes) → row c (world_of (state_of old) b) m used args ≡ r b)
       → ((b : StreamBytes) → Answers (r b) (world_of (state_of old) b) m (world_of (state_of (record old { descriptors = d; settings = s })) b) m' e)
       → Serves honest disk sectors_on failures remaining out_contents err_contents c used args old m (record old { descriptors = d; settings = s }) m' e
-  serves_plain c used args r old d s m m' e h fits kept entries same answers =
+  serves_plain c used args r old d s m m' e plain h fits kept entries same answers =
       let new : Inner D R W1 W2 = record old { descriptors = d; settings = s } in
       let b : StreamBytes = bytes_told old in
       record {
@@ -113,15 +116,18 @@ module _ {D R W1 W2 : Type 0} (honest : D → Type 0) (disk : D → Disk) (secto
         );
         volume = volume_rests honest disk sectors_on failures old.volume;
         settings = kept;
+        io = λ is. absurd (answers_never (r b) (world_of (state_of old) b) m (world_of (state_of new) b) m' e (answers b)
+            (subst (λ (x : Checked Done). x ≢ Err 29) (same b) (plain_never c (world_of (state_of old) b) m used args plain)) is);
       }
 
   -- A call that changes only the volume.
   pub serves_volume : (c : HostCall) (used : ℕ) (args : List ℕ) (r : World → Checked Done) (old : Inner D R W1 W2) (v : Opened D) (m m' : List ℕ) (e : ℕ)
-      → IsTrue (reaches_volume c (table_of old.descriptors) args) → IsSetUp remaining old → VolumeStep honest disk sectors_on failures old.volume v
+      → IsTrue (reaches_volume c (table_of old.descriptors) args) → (e ≡ 29 → HasFailed c (state_of (record old { volume = v })))
+      → IsSetUp remaining old → VolumeStep honest disk sectors_on failures old.volume v
       → ((w : World) → row c w m used args ≡ r w)
       → (honest old.volume.device → (b : StreamBytes) → Answered r (world_of (state_of old) b) m (with_volume v (world_of (state_of old) b)) m' e)
       → Serves honest disk sectors_on failures remaining out_contents err_contents c used args old m (record old { volume = v }) m' e
-  serves_volume c used args r old v m m' e reaches h step same answers =
+  serves_volume c used args r old v m m' e reaches io h step same answers =
       let new : Inner D R W1 W2 = record old { volume = v } in
       let b : StreamBytes = bytes_told old in
       let same_run : (λ (w : World). row c w m used args) ≡ r = λ i w. same w i in
@@ -142,6 +148,7 @@ module _ {D R W1 W2 : Type 0} (honest : D → Type 0) (disk : D → Disk) (secto
         );
         volume = step;
         settings = refl;
+        io = io;
       }
 
 -- ---- a stream that took more bytes
@@ -180,11 +187,12 @@ module _ {D R W1 W2 : Type 0} (honest : D → Type 0) (disk : D → Disk) (secto
 module _ {D R W1 W2 : Type 0} (honest : D → Type 0) (disk : D → Disk) (sectors_on failures : D → ℕ)
     (remaining : R → Option (List ℕ)) (out_contents : W1 → Option (List ℕ)) (err_contents : W2 → Option (List ℕ)) where
   pub serves_both : (c : HostCall) (used : ℕ) (args : List ℕ) (r : World → Checked Done) (old : Inner D R W1 W2) (v : Opened D) (d : Descriptors) (m m' : List ℕ) (e : ℕ)
-      → IsTrue (reaches_volume c (table_of old.descriptors) args) → IsSetUp remaining old → VolumeStep honest disk sectors_on failures old.volume v → AreSerials v.numbers (table_of d)
+      → IsTrue (reaches_volume c (table_of old.descriptors) args) → (e ≡ 29 → HasFailed c (state_of (record old { volume = v; descriptors = d })))
+      → IsSetUp remaining old → VolumeStep honest disk sectors_on failures old.volume v → AreSerials v.numbers (table_of d)
       → ((w : World) → row c w m used args ≡ r w)
       → (honest old.volume.device → (b : StreamBytes) → Answered r (world_of (state_of old) b) m (with_both v (table_of d) (world_of (state_of old) b)) m' e)
       → Serves honest disk sectors_on failures remaining out_contents err_contents c used args old m (record old { volume = v; descriptors = d }) m' e
-  serves_both c used args r old v d m m' e reaches h step serials same answers =
+  serves_both c used args r old v d m m' e reaches io h step serials same answers =
       let new : Inner D R W1 W2 = record old { volume = v; descriptors = d } in
       let b : StreamBytes = bytes_told honest disk sectors_on failures remaining out_contents err_contents old in
       let same_run : (λ (w : World). row c w m used args) ≡ r = λ i w. same w i in
@@ -198,6 +206,7 @@ module _ {D R W1 W2 : Type 0} (honest : D → Type 0) (disk : D → Disk) (secto
         );
         volume = step;
         settings = refl;
+        io = io;
       }
 
 -- a call by the name that it has

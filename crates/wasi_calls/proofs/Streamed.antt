@@ -18,7 +18,7 @@ use Rattle.wasi_calls.specs.World.{World, stream_gone, with_output}
 use Rattle.wasi_calls.specs.Checks.{Checked, Done, with_result}
 use Rattle.wasm_store.specs.declared.call.HostCall.{HostCall}
 use Rattle.wasi_calls.specs.Calls.{row, Answered, by_row, output_fails, errors_fail, output_after}
-use Rattle.wasi_calls.specs.Host.{HostState, StreamBytes, StreamsTell, world_of, VolumeStep}
+use Rattle.wasi_calls.specs.Host.{HostState, StreamBytes, HasFailed, StreamsTell, world_of, VolumeStep}
 use Rattle.wasi_calls.specs.internal.Serving.{state_of, errno_of, IsSetUp, Serves}
 use Rattle.wasi_calls.specs.internal.Writing.{written_to}
 use Rattle.wasi_calls.specs.internal.Outputs.{AppendsSome}
@@ -26,6 +26,8 @@ use Rattle.wasi_calls.proofs.Yields.{guard_passes, guard_fails, goes_on, stops}
 use Rattle.wasi_calls.proofs.Serving.{answers_done, answers_refused}
 use Rattle.wasi_calls.proofs.Served.{volume_rests, settings_rest, bytes_told, streams_rest, told_by_out, told_by_err}
 use Rattle.wasi_calls.proofs.Volumes.{is_no_err}
+use Rattle.wasi_calls.proofs.Causes.{no_29_at_0}
+use Rattle.wasi_calls.specs.declared.streams.Output.{Output as OutputValue}
 
 either : (b : Bool) → (b ≡ true) ⊎ (b ≡ false)
 either true = inl refl
@@ -38,7 +40,8 @@ module _ {D R W1 W2 : Type 0} (honest : D → Type 0) (disk : D → Disk) (secto
     (c : HostCall) (used : ℕ) (args : List ℕ) (old new : Inner D R W1 W2) (m m' : List ℕ) (fd : ℕ) (all : List ℕ) (result : ℕ)
     (h : IsSetUp remaining old) (buffers : vec_len new.buffers ≡ 1024) (piece : vec_len new.piece ≡ 16384)
     (state : state_of new ≡ state_of (record old { out = new.out }))
-    (same : (v : World) → v.table ≡ table_of old.descriptors → row c v m used args ≡ written_to v fd (Stream Output) all result) where
+    (same : (v : World) → v.table ≡ table_of old.descriptors → row c v m used args ≡ written_to v fd (Stream Output) all result)
+    (cause : new.out.failed ≡ true → HasFailed c (state_of new)) where
   abbrev out_run : World → Checked Done
   out_run w = row c w m used args
 
@@ -80,6 +83,7 @@ module _ {D R W1 W2 : Type 0} (honest : D → Type 0) (disk : D → Disk) (secto
         );
         volume = out_rests;
         settings = settings_rest old.settings new.settings (ap (λ (s : HostState D R W1 W2). s.settings) state);
+        io = λ _. cause (ap (λ (o : OutputValue W1). o.failed) none ∙ failed);
       }
 
   out_alive : (w : World) → w.output_failed ≡ false → written_to w fd (Stream Output) all result ≡ Ok (with_result (with_output w Output all) result (little_bytes 4 (length all)))
@@ -103,6 +107,7 @@ module _ {D R W1 W2 : Type 0} (honest : D → Type 0) (disk : D → Disk) (secto
         );
         volume = out_rests;
         settings = settings_rest old.settings new.settings (ap (λ (s : HostState D R W1 W2). s.settings) state);
+        io = no_29_at_0;
       }
 
   pub broke_out : old.out.failed ≡ false → new.out.failed ≡ true → AppendsSome (out_contents old.out.writer) (out_contents new.out.writer) all → m' ≡ m
@@ -138,6 +143,7 @@ module _ {D R W1 W2 : Type 0} (honest : D → Type 0) (disk : D → Disk) (secto
         );
         volume = out_rests;
         settings = settings_rest old.settings new.settings (ap (λ (s : HostState D R W1 W2). s.settings) state);
+        io = λ _. cause after;
       }
 
   pub served_out : (r : Result (Unit {0}) Errno) → (old.out.failed ≡ true → new.out ≡ old.out)
@@ -159,7 +165,8 @@ module _ {D R W1 W2 : Type 0} (honest : D → Type 0) (disk : D → Disk) (secto
     (c : HostCall) (used : ℕ) (args : List ℕ) (old new : Inner D R W1 W2) (m m' : List ℕ) (fd : ℕ) (all : List ℕ) (result : ℕ)
     (h : IsSetUp remaining old) (buffers : vec_len new.buffers ≡ 1024) (piece : vec_len new.piece ≡ 16384)
     (state : state_of new ≡ state_of (record old { err = new.err }))
-    (same : (v : World) → v.table ≡ table_of old.descriptors → row c v m used args ≡ written_to v fd (Stream Error) all result) where
+    (same : (v : World) → v.table ≡ table_of old.descriptors → row c v m used args ≡ written_to v fd (Stream Error) all result)
+    (cause : new.err.failed ≡ true → HasFailed c (state_of new)) where
   abbrev err_run : World → Checked Done
   err_run w = row c w m used args
 
@@ -201,6 +208,7 @@ module _ {D R W1 W2 : Type 0} (honest : D → Type 0) (disk : D → Disk) (secto
         );
         volume = err_rests;
         settings = settings_rest old.settings new.settings (ap (λ (s : HostState D R W1 W2). s.settings) state);
+        io = λ _. cause (ap (λ (o : OutputValue W2). o.failed) none ∙ failed);
       }
 
   err_alive : (w : World) → w.errors_failed ≡ false → written_to w fd (Stream Error) all result ≡ Ok (with_result (with_output w Error all) result (little_bytes 4 (length all)))
@@ -224,6 +232,7 @@ module _ {D R W1 W2 : Type 0} (honest : D → Type 0) (disk : D → Disk) (secto
         );
         volume = err_rests;
         settings = settings_rest old.settings new.settings (ap (λ (s : HostState D R W1 W2). s.settings) state);
+        io = no_29_at_0;
       }
 
   pub broke_err : old.err.failed ≡ false → new.err.failed ≡ true → AppendsSome (err_contents old.err.writer) (err_contents new.err.writer) all → m' ≡ m
@@ -259,6 +268,7 @@ module _ {D R W1 W2 : Type 0} (honest : D → Type 0) (disk : D → Disk) (secto
         );
         volume = err_rests;
         settings = settings_rest old.settings new.settings (ap (λ (s : HostState D R W1 W2). s.settings) state);
+        io = λ _. cause after;
       }
 
   pub served_err : (r : Result (Unit {0}) Errno) → (old.err.failed ≡ true → new.err ≡ old.err)

@@ -1,10 +1,11 @@
 -- A host over a volume and streams: what callers see of it, the worlds that it shows, and what its calls say.
-use Rattle.std.specs.Prelude.{◌≡◌, ℕ, IsTrue, List, Option, Some, None}
+use Rattle.std.specs.Prelude.{◌≡◌, ◌⊎◌, ℕ, IsTrue, true, List, Option, Some, None}
 use Rattle.vol_sector.specs.Disk.{Disk, Leaves}
 use Rattle.vol_tree.specs.Opened.{Opened, Keeps, ReflectsOr, geometry}
 use Rattle.wasi_fd.specs.declared.table.Descriptors.{Descriptors}
 use Rattle.wasi_fd.specs.Table.{table_of}
 use Rattle.wasm_store.specs.declared.call.HostCall.{HostCall}
+use Rattle.wasm_store.specs.declared.call.HostCall.TheVariants as call
 use Rattle.wasm_store.specs.declared.call.Errno.{Errno}
 use Rattle.wasm_store.specs.declared.call.Answer.{Answer}
 use Rattle.wasm_store.specs.declared.call.Answer.TheVariants.{Value as value, Exit as exit}
@@ -61,6 +62,12 @@ abbrev pub Tells : Option (List ℕ) → Option (List ℕ) → List ℕ → List
 Tells None known before after = Unit {0}
 Tells (Some bytes) known before after = (before ≡ bytes) × (known ≡ Some after)
 
+-- What 29 of a call comes from has failed: the volume, or a stream that it reads or writes.
+abbrev pub HasFailed : {D R W1 W2 : Type 0} → HostCall → HostState D R W1 W2 → Type 0
+HasFailed call.FdRead h = (h.volume.failed ≡ true) ⊎ (h.input.failed ≡ true)
+HasFailed call.FdWrite h = (h.volume.failed ≡ true) ⊎ ((h.out.failed ≡ true) ⊎ (h.err.failed ≡ true))
+HasFailed other h = h.volume.failed ≡ true
+
 module _ {D R W1 W2 : Type 0} (remaining : R → Option (List ℕ)) (out_contents : W1 → Option (List ℕ)) (err_contents : W2 → Option (List ℕ)) where
   -- The streams have these bytes before a call and after it.
   pub record StreamsTell (old new : HostState D R W1 W2) (before after : StreamBytes) : Type 0 where
@@ -78,7 +85,7 @@ module _ {D : Type 0} (honest : D → Type 0) (disk : D → Disk) (sectors_on fa
 module _ {D R W1 W2 : Type 0} (honest : D → Type 0) (disk : D → Disk) (sectors_on failures : D → ℕ)
     (remaining : R → Option (List ℕ)) (out_contents : W1 → Option (List ℕ)) (err_contents : W2 → Option (List ℕ)) where
   -- What a call of the host means: that call of a world that the host shows, where the device keeps its model or the call
-  -- reaches no volume. Of the settings it takes random bytes alone.
+  -- reaches no volume. On any device it takes of the settings random bytes alone, and 29 has its cause.
   pub record HostCalls (old : HostState D R W1 W2) (memory : List ℕ) (used : ℕ) (call : HostCall) (args : List ℕ)
       (new : HostState D R W1 W2) (memory' : List ℕ) (answer : Answer) : Type 0 where
     pub row : (IsTrue (reaches_volume call (table_of old.descriptors) args) → honest old.volume.device)
@@ -86,5 +93,6 @@ module _ {D R W1 W2 : Type 0} (honest : D → Type 0) (disk : D → Disk) (secto
         × Calls (world_of old before) memory used call args (world_of new after) memory' answer
     pub volume : VolumeStep honest disk sectors_on failures old.volume new.volume
     pub settings : new.settings ≡ record old.settings { random = new.settings.random }
+    pub io : (e : Errno) → answer ≡ value e → e.0 ≡ 29 → HasFailed call new
     pub synced : honest old.volume.device → (e : Errno) → answer ≡ value e → IsSynced call e.0 (disk new.volume.device) new.volume.tree
     pub exits : (status : ℕ) → answer ≡ exit status → new ≡ old

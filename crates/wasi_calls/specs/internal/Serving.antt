@@ -21,7 +21,7 @@ use Rattle.wasi_calls.specs.declared.inner.Inner.{Inner}
 use Rattle.wasi_calls.specs.Settings.{settings_fit}
 use Rattle.wasi_calls.specs.World.{World}
 use Rattle.wasi_calls.specs.Calls.{row, reaches_volume, Answered}
-use Rattle.wasi_calls.specs.Host.{HostState, StreamBytes, world_of, StreamsTell, VolumeStep}
+use Rattle.wasi_calls.specs.Host.{HostState, StreamBytes, world_of, HasFailed, StreamsTell, VolumeStep}
 
 -- `filetype`
 abbrev pub type_of_entry : Kind → ℕ
@@ -105,6 +105,7 @@ module _ {D R W1 W2 : Type 0} (honest : D → Type 0) (disk : D → Disk) (secto
         × Answered (λ w. row c w memory used args) (world_of (state_of old) before) memory (world_of (state_of new) after) memory' errno
     pub volume : VolumeStep honest disk sectors_on failures old.volume new.volume
     pub settings : new.settings ≡ record old.settings { random = new.settings.random }
+    pub io : errno ≡ 29 → HasFailed c (state_of new)
 
 -- the world with this table
 abbrev pub with_table : Table → World → World
