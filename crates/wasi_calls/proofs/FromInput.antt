@@ -20,7 +20,7 @@ use Rattle.wasi_calls.specs.World.{World, unread, stream_gone}
 use Rattle.wasi_calls.specs.Checks.{Checked, Done, Buffer, put, total, scattered}
 use Rattle.wasm_store.specs.declared.call.HostCall.{HostCall}
 use Rattle.wasi_calls.specs.Calls.{row, Answered, by_row, input_fails, input_left, filled}
-use Rattle.wasi_calls.specs.Host.{HostState, StreamBytes, HasFailed, StreamsMove, before_moving, after_moving, world_of, VolumeStep}
+use Rattle.wasi_calls.specs.Host.{HostState, StreamBytes, HasFailed, LeavesNone, StreamsMove, before_moving, after_moving, world_of, VolumeStep}
 use Rattle.wasi_calls.specs.internal.Serving.{state_of, errno_of, IsSetUp, Serves}
 use Rattle.wasi_calls.specs.internal.Inputs.{SomeDealt, IsRead, read_to}
 use Rattle.wasi_calls.proofs.Yields.{guard_passes, guard_fails, goes_on, stops}
@@ -32,6 +32,11 @@ use Rattle.wasi_calls.specs.declared.streams.Input.{Input as InputValue}
 use Rattle.wasi_calls.proofs.Incoming.{ended_or, none_long}
 
 -- ---- the bytes before a read and after it
+
+leaves_none : (before after : Option (List ℕ)) (bytes : List ℕ) → Consumes before after bytes → IsAtEnd after → LeavesNone before after
+leaves_none None after bytes consumed end = tt
+leaves_none (Some xs) None bytes consumed end = absurd consumed
+leaves_none (Some xs) (Some ys) bytes consumed end = ap Some end
 
 -- this many are taken of them
 record IsCut (had bytes left : List ℕ) (n : ℕ) : Type 0 where
@@ -112,7 +117,7 @@ module _ {D R W1 W2 : Type 0} (honest : D → Type 0) (disk : D → Disk) (secto
       → StreamsMove remaining out_contents err_contents (state_of old) (state_of new) (from_in bytes)
   in_moves bytes consumed ended =
       subst (λ (t : HostState D R W1 W2). StreamsMove remaining out_contents err_contents (state_of old) t (from_in bytes)) (sym state)
-      (record { input = consumed; output = Appends-nil (out_contents old.out.writer); errors = Appends-nil (err_contents old.err.writer); ended = ended })
+      (record { input = consumed; output = Appends-nil (out_contents old.out.writer); errors = Appends-nil (err_contents old.err.writer); ended = ended; end = λ is. inr (leaves_none _ _ bytes consumed (end is)) })
 
   idle_in : old.input.failed ≡ true → new.input ≡ old.input → m' ≡ m → Serves honest disk sectors_on failures remaining out_contents err_contents c used args old m new m' 29
   idle_in failed none bytes =

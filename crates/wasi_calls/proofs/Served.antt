@@ -79,6 +79,7 @@ module _ {D R W1 W2 : Type 0} (honest : D → Type 0) (disk : D → Disk) (secto
     output = Appends-nil (out_contents old.out.writer);
     errors = Appends-nil (err_contents old.err.writer);
     ended = λ is. (refl, is);
+    end = λ is. inl is;
   }
 
   pub still_set_up : (old : Inner D R W1 W2) (d : Descriptors) (s : Settings) → IsSetUp remaining old → settings_fit s ≡ true
@@ -176,6 +177,7 @@ module _ {D R W1 W2 : Type 0} (honest : D → Type 0) (disk : D → Disk) (secto
     output = more;
     errors = Appends-nil (err_contents old.err.writer);
     ended = λ is. (refl, is);
+    end = λ is. inl is;
   }
 
   pub moved_by_err : (old : Inner D R W1 W2) (o : Output W2) (taken : List ℕ) → Appends (err_contents old.err.writer) (err_contents o.writer) taken
@@ -185,6 +187,7 @@ module _ {D R W1 W2 : Type 0} (honest : D → Type 0) (disk : D → Disk) (secto
     output = Appends-nil (out_contents old.out.writer);
     errors = more;
     ended = λ is. (refl, is);
+    end = λ is. inl is;
   }
 
 -- ---- calls that change the volume and the descriptors

@@ -66,6 +66,11 @@ before_moving moved others = record { input = moved.input ++ others.input; outpu
 abbrev pub after_moving : StreamBytes → StreamBytes → StreamBytes
 after_moving moved others = record { input = others.input; output = others.output ++ moved.output; errors = others.errors ++ moved.errors }
 
+-- known bytes were all given
+abbrev pub LeavesNone : Option (List ℕ) → Option (List ℕ) → Type 0
+LeavesNone None new = Unit {0}
+LeavesNone (Some xs) new = new ≡ Some []
+
 -- no bytes may follow the end of the input
 abbrev pub MayFollow : {D R W1 W2 : Type 0} → HostState D R W1 W2 → StreamBytes → Type 0
 MayFollow h others = h.input.ended ≡ true → others.input ≡ []
@@ -77,13 +82,14 @@ HasFailed call.FdWrite h = (h.volume.failed ≡ true) ⊎ ((h.out.failed ≡ tru
 HasFailed other h = h.volume.failed ≡ true
 
 module _ {D R W1 W2 : Type 0} (remaining : R → Option (List ℕ)) (out_contents : W1 → Option (List ℕ)) (err_contents : W2 → Option (List ℕ)) where
-  -- The streams moved by these bytes: the reader gave them, and each writer took its own, where they tell. A reader that has
-  -- ended gives none.
+  -- The streams moved by these bytes: the reader gave them, and each writer took its own, where they tell. The input ends only
+  -- where a reader that tells its bytes has none left, and gives none then.
   pub record StreamsMove (old new : HostState D R W1 W2) (moved : StreamBytes) : Type 0 where
     pub input : Consumes (remaining old.input.reader) (remaining new.input.reader) moved.input
     pub output : Appends (out_contents old.out.writer) (out_contents new.out.writer) moved.output
     pub errors : Appends (err_contents old.err.writer) (err_contents new.err.writer) moved.errors
     pub ended : old.input.ended ≡ true → (moved.input ≡ []) × (new.input.ended ≡ true)
+    pub end : new.input.ended ≡ true → (old.input.ended ≡ true) ⊎ LeavesNone (remaining old.input.reader) (remaining new.input.reader)
 
 module _ {D : Type 0} (honest : D → Type 0) (disk : D → Disk) (sectors_on failures : D → ℕ) where
   -- What a call leaves of the volume, on any device: it fails by one operation that failed, and after that nothing is
