@@ -5,7 +5,8 @@ use Rattle.vol_tree.specs.Opened.{Opened}
 use Rattle.wasi_fd.specs.Table.{table_of}
 use Rattle.wasi_calls.specs.World.{World}
 use Rattle.wasi_calls.specs.Confined.{IsHostOf}
-use Rattle.wasi_calls.specs.Host.{HostState, Shows, VolumeStep, HostCalls}
+use Rattle.wasi_calls.specs.Host.{HostState, Shows, before_moving, after_moving, VolumeStep, HostCalls}
+use Rattle.wasi_calls.proofs.Served.{nothing}
 use Rattle.wasi_calls.specs.Moments.{IsTurn, CallsKeepMoments}
 
 module _ {D R W1 W2 : Type 0} (honest : D → Type 0) (disk : D → Disk) (sectors_on failures : D → ℕ)
@@ -21,8 +22,8 @@ module _ {D R W1 W2 : Type 0} (honest : D → Type 0) (disk : D → Disk) (secto
         let second : w.table ≡ table_of h.descriptors = ap (λ (w : World). w.table) also.1 in
         first ∙ sym second;
     answers = λ h h' m m' used x args answer is_honest a.
-        let (before, after, told, meaning) = a.row (λ _. is_honest) in
-        (a.volume.kept.honest.0 is_honest, (_, _, (before, refl), (after, refl), meaning));
+        let (moved, moves, meaning) = a.row (λ _. is_honest) in
+        (a.volume.kept.honest.0 is_honest, (_, _, (before_moving moved nothing, refl), (after_moving moved nothing, refl), meaning nothing (λ _. refl)));
   }
 
   -- what a crash may have left since

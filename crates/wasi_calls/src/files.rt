@@ -1,6 +1,6 @@
 //! Bytes of files, and the whole volume.
 
-ghost use Rattle.std.specs.Prelude.{◌≡◌, ◌≤◌, IsSome};
+ghost use Rattle.std.specs.Prelude.{true, ◌≡◌, ◌≤◌, IsSome};
 ghost use Rattle.vol_sector.specs.Disk.{Image, Leaves};
 ghost use Rattle.vol_tree.specs.Tree.{entry};
 ghost use Rattle.vol_tree.specs.Opened.{Tells, Keeps, is_io};
@@ -38,6 +38,7 @@ pub(crate) fn sync<D: Device>(
     right: Rights,
 ) -> Result<(), Errno>
     ensures step { VolumeStep D.honest D.disk D.size D.failures volume.old volume.new }
+    ensures io { errno_of result ≡ 29 → volume.new.failed ≡ true }
     ensures answered { D.honest volume.old.device → (w : World) (m : _) → w.table ≡ table_of descriptors.now
         → w ≡ with_volume volume.old w
         → Answered (λ v. sync_row v fd (bits_of right)) w m (with_volume volume.new w) m (errno_of result) }
@@ -62,6 +63,7 @@ pub(crate) fn set_size<D: Device>(
 ) -> Result<(), Errno>
     requires { KnowsEntries D.honest volume.old (table_of descriptors.now) }
     ensures step { VolumeStep D.honest D.disk D.size D.failures volume.old volume.new }
+    ensures io { errno_of result ≡ 29 → volume.new.failed ≡ true }
     ensures answered { D.honest volume.old.device → (w : World) (m : _) → w.table ≡ table_of descriptors.now
         → w ≡ with_volume volume.old w
         → Answered (λ v. set_size_row v fd size) w m (with_volume volume.new w) m (errno_of result) }
@@ -127,6 +129,7 @@ pub(crate) fn filestat_get<D: Device>(
 ) -> Result<(), Errno>
     requires { KnowsEntries D.honest volume.old (table_of descriptors.now) }
     ensures step { VolumeStep D.honest D.disk D.size D.failures volume.old volume.new }
+    ensures io { errno_of result ≡ 29 → volume.new.failed ≡ true }
     ensures answered { D.honest volume.old.device → (w : World) → w.table ≡ table_of descriptors.now
         → w ≡ with_volume volume.old w
         → Answered (λ v. stat_row v memory.old fd result_at) w memory.old (with_volume volume.new w) memory.new (errno_of result) }

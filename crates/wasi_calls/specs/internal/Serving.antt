@@ -21,7 +21,7 @@ use Rattle.wasi_calls.specs.declared.inner.Inner.{Inner}
 use Rattle.wasi_calls.specs.Settings.{settings_fit}
 use Rattle.wasi_calls.specs.World.{World}
 use Rattle.wasi_calls.specs.Calls.{row, reaches_volume, Answered}
-use Rattle.wasi_calls.specs.Host.{HostState, StreamBytes, world_of, StreamsTell, VolumeStep}
+use Rattle.wasi_calls.specs.Host.{HostState, StreamBytes, world_of, HasFailed, StreamsMove, MayFollow, before_moving, after_moving, VolumeStep}
 
 -- `filetype`
 abbrev pub type_of_entry : Kind → ℕ
@@ -101,10 +101,12 @@ module _ {D R W1 W2 : Type 0} (honest : D → Type 0) (disk : D → Disk) (secto
   pub record Serves (c : HostCall) (used : ℕ) (args : List ℕ) (old : Inner D R W1 W2) (memory : List ℕ) (new : Inner D R W1 W2) (memory' : List ℕ) (errno : ℕ) : Type 0 where
     pub set_up : IsSetUp remaining new
     pub row : (IsTrue (reaches_volume c (table_of old.descriptors) args) → honest old.volume.device)
-        → (before after : StreamBytes) × StreamsTell remaining out_contents err_contents (state_of old) (state_of new) before after
-        × Answered (λ w. row c w memory used args) (world_of (state_of old) before) memory (world_of (state_of new) after) memory' errno
+        → (moved : StreamBytes) × StreamsMove remaining out_contents err_contents (state_of old) (state_of new) moved
+        × ((others : StreamBytes) → MayFollow (state_of new) others
+        → Answered (λ w. row c w memory used args) (world_of (state_of old) (before_moving moved others)) memory (world_of (state_of new) (after_moving moved others)) memory' errno)
     pub volume : VolumeStep honest disk sectors_on failures old.volume new.volume
     pub settings : new.settings ≡ record old.settings { random = new.settings.random }
+    pub io : errno ≡ 29 → HasFailed c (state_of new)
 
 -- the world with this table
 abbrev pub with_table : Table → World → World
