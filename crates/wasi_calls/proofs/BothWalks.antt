@@ -40,7 +40,7 @@ cut_source w m a both =
 pub entered_both : (w : World) (m : List ℕ) (a : RenameCall) (both : Opened × Opened) → rename_entered w m a ≡ Ok both → rename_part w m a ≡ and_then (path_at w m both.0 a.from_path a.from_len) (after_first w m a both)
 entered_both w m a both is = goes_on _ _ both is ∙ cut_source w m a both
 
-source_never : (directory : ℕ) (r : Reached) → source_checked directory r ≢ Err 29
+pub source_never : (directory : ℕ) (r : Reached) → source_checked directory r ≢ Err 29
 source_never directory r =
     never_after (found r) _ (found_never r) (λ s _. never_after (guard (not (s == directory)) 10) _ (never_guard _ 10 (λ is. absurd (omega (arith, is)))) (λ _ _ is. cc))
 

@@ -40,6 +40,7 @@ some_world table = record {
   given = record { args = []; env = []; moment = 0 };
   volume_failed = false;
   input_failed = false;
+  input_ended = false;
   output_failed = false;
   errors_failed = false;
 }

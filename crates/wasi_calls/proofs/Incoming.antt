@@ -1,8 +1,9 @@
 -- Bytes that come from a reader.
-use Rattle.std.proofs.Common.{◌≡◌, ◌⊎◌, inl, inr, ℕ, ◌+◌, ◌-◌, ◌<◌, ◌≤◌, List, [], ◌∷◌, ◌++◌, length, take, drop, get_or, Bool, true, false, Option, Result, Ok, Err, refl, sym, ap, ◌∙◌, subst, add-zero, add-one, append_assoc, append-nil, arith}
+use Rattle.std.proofs.Common.{◌≡◌, ◌⊎◌, inl, inr, ℕ, ◌+◌, ◌-◌, ◌<◌, ◌≤◌, List, [], ◌∷◌, ◌++◌, length, take, drop, get_or, Bool, true, false, ◌||◌, nat_lt, Option, Result, Ok, Err, refl, sym, ap, ◌∙◌, subst, add-zero, add-one, append_assoc, append-nil, arith}
 use Rattle.std.proofs.KnownBytes.{Consumes-nil, Consumes-trans}
 use Rattle.std.proofs.Math.Seq.{take-append_seam, drop-append_seam, drop-append-add, take-suc}
 use Rattle.std.proofs.lemmas.List.{length-append, length-take, length-drop, take_all, drop_all, take-append-le, drop-append-le, take-append-drop, drop-drop, map-append}
+use Rattle.std.proofs.lemmas.Bool.{lt-ltb, le-ltb}
 use Rattle.std.proofs.lemmas.List.Sums.{sum_by-cons, sum_by-append}
 use Rattle.std.specs.Io.KnownBytes.{Consumes}
 use Rattle.wasm_store.specs.Bytes.{written}
@@ -190,3 +191,9 @@ same_count n k h = cc
 
 pub no_count : {E : Type 0} (e : E) (n : ℕ) → ◌≡◌ {A = Result ℕ E} (Err e) (Ok n) → ⊥
 no_count e n h = cc
+
+-- the mark of the input's end
+pub ended_so : (old new : Bool) (n most : ℕ) → (old ≡ true → new ≡ true) → (old ≡ false → new ≡ true → n < most) → (new ≡ false → n ≡ most) → new ≡ (old || nat_lt n most)
+ended_so true new n most stays short full = stays refl
+ended_so false true n most stays short full = sym (lt-ltb n most (short refl refl))
+ended_so false false n most stays short full = sym (le-ltb n most (omega (arith, full refl)))

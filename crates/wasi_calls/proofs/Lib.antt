@@ -23,6 +23,9 @@ pub mod Holding
 pub mod Targets
 pub mod Refusals
 pub mod Still
+pub mod Checking
+pub mod Elsewhere
+pub mod Causes
 pub mod Called
 pub mod Handing
 pub mod Streamed

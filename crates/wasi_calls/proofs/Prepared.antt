@@ -28,6 +28,7 @@ module _ (run r : World → Checked Done) (w : World) (same : (v : World) → v.
   input_so : (m : List ℕ) (w' : World) (m' : List ℕ) (e : ℕ) → InputFails r w m w' m' e → InputFails run w m w' m' e
   input_so m w' m' e f = record {
     reaches = reaches_so (stream_gone Input w) refl refl f.reaches;
+    goes_on = f.goes_on;
     answer = f.answer;
     count = f.count;
     no_more = subst (λ (x : Checked Done). f.count + length (input_left x w) ≤ length w.input) (sym (same w refl refl)) f.no_more;

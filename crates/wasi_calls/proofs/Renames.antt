@@ -141,6 +141,7 @@ world_with v table = record {
   given = record { args = []; env = []; moment = 0 };
   volume_failed = v.failed;
   input_failed = false;
+  input_ended = false;
   output_failed = false;
   errors_failed = false;
 }

@@ -48,7 +48,7 @@ found_checked_never oflags d =
     never_after (guard (not (is_set oflags creat && is_set oflags excl)) 20) _ (never_guard _ 20 (λ is. absurd (omega (arith, is))))
     (λ _ _. either_never d _ _ (never_guard _ 31 (λ is. absurd (omega (arith, is)))) (never_guard _ 54 (λ is. absurd (omega (arith, is)))))
 
-missing_checked_never : (oflags : ℕ) (slash : Bool) → missing_checked oflags slash ≢ Err 29
+pub missing_checked_never : (oflags : ℕ) (slash : Bool) → missing_checked oflags slash ≢ Err 29
 missing_checked_never oflags slash =
     never_after (guard (is_set oflags creat) 44) _ (never_guard _ 44 (λ is. absurd (omega (arith, is)))) (λ _ _. never_guard _ 31 (λ is. absurd (omega (arith, is))))
 

@@ -1,7 +1,6 @@
 //! Each call by its name.
 ghost use Rattle.wasi_fd.specs.Table.{table_of};
 ghost use Rattle.wasm_store.specs.declared.call.HostCall.TheVariants as call;
-ghost use Rattle.wasi_calls.specs.Calls.{row};
 ghost use Rattle.wasi_calls.specs.Moments.{IsSynced};
 
 use crate::errno::NOSYS;
@@ -16,7 +15,7 @@ impl<'s, 't, D: Device, R: Read, W1: Write, W2: Write> Inner<'s, 't, D, R, W1, W
     /// A call that is linked, and answers that there is none such.
     fn nosys(&self) -> Result<(), Errno>
         requires { IsSetUp R.remaining self.now }
-        ensures { (m : _) (used : _) (arguments : _) → Serves D.honest D.disk D.size D.failures R.remaining W1.contents W2.contents (λ w. row call.Nosys w m used arguments) self.now m self.now m (errno_of result) }
+        ensures { (m : _) (used : _) (arguments : _) → Serves D.honest D.disk D.size D.failures R.remaining W1.contents W2.contents call.Nosys used arguments self.now m self.now m (errno_of result) }
     {
         Err(NOSYS)
     }
@@ -31,9 +30,9 @@ impl<'s, 't, D: Device, R: Read, W1: Write, W2: Write> Inner<'s, 't, D, R, W1, W
     ) -> Result<(), Errno>
         requires set_up { IsSetUp R.remaining self.old }
         requires known { KnowsEntries D.honest self.old.volume (table_of self.old.descriptors) }
-        ensures serves { Serves D.honest D.disk D.size D.failures R.remaining W1.contents W2.contents (λ w. row call w memory.old used arguments.now) self.old memory.old self.new memory.new (errno_of result) }
+        ensures serves { Serves D.honest D.disk D.size D.failures R.remaining W1.contents W2.contents call used arguments.now self.old memory.old self.new memory.new (errno_of result) }
         ensures synced { D.honest self.old.volume.device
-            → IsSynced call (errno_of result) (D.disk self.new.volume.device) self.new.volume.tree }
+            → IsSynced call (errno_of result) (D.disk self.new.volume.device) self.new.volume.numbers self.new.volume.tree }
     {
         match call {
             HostCall::ArgsSizesGet => self.args_sizes_get(memory, arguments),

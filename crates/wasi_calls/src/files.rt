@@ -1,11 +1,11 @@
 //! Bytes of files, and the whole volume.
 
-ghost use Rattle.std.specs.Prelude.{◌≡◌, ◌≤◌, IsSome};
+ghost use Rattle.std.specs.Prelude.{true, ◌≡◌, ◌≤◌, IsSome};
 ghost use Rattle.vol_sector.specs.Disk.{Image, Leaves};
 ghost use Rattle.vol_tree.specs.Tree.{entry};
 ghost use Rattle.vol_tree.specs.Opened.{Tells, Keeps, is_io};
 ghost use Rattle.wasi_calls.specs.Descriptors.{filestat, entry_stat, fd_filestat_get as stat_row};
-ghost use Rattle.vol_tree.specs.Stands.{Stands};
+ghost use Rattle.vol_tree.specs.Stands.{StandsAs};
 ghost use Rattle.vol_tree.specs.Numbers.{number_of};
 ghost use Rattle.wasi_fd.specs.Table.{table_of};
 ghost use Rattle.wasi_fd.specs.Rights.{bits_of};
@@ -38,11 +38,12 @@ pub(crate) fn sync<D: Device>(
     right: Rights,
 ) -> Result<(), Errno>
     ensures step { VolumeStep D.honest D.disk D.size D.failures volume.old volume.new }
+    ensures io { errno_of result ≡ 29 → volume.new.failed ≡ true }
     ensures answered { D.honest volume.old.device → (w : World) (m : _) → w.table ≡ table_of descriptors.now
         → w ≡ with_volume volume.old w
         → Answered (λ v. sync_row v fd (bits_of right)) w m (with_volume volume.new w) m (errno_of result) }
     ensures durable { D.honest volume.old.device → errno_of result ≡ 0 → (c : Image)
-        → (D.disk volume.new.device).may_leave c → Stands c volume.new.tree }
+        → (D.disk volume.new.device).may_leave c → StandsAs c volume.new.numbers volume.new.tree }
 {
     if let Err(errno) = entry_at(descriptors, fd, Takes::NoStreams, right) {
         return Err(errno);
@@ -62,6 +63,7 @@ pub(crate) fn set_size<D: Device>(
 ) -> Result<(), Errno>
     requires { KnowsEntries D.honest volume.old (table_of descriptors.now) }
     ensures step { VolumeStep D.honest D.disk D.size D.failures volume.old volume.new }
+    ensures io { errno_of result ≡ 29 → volume.new.failed ≡ true }
     ensures answered { D.honest volume.old.device → (w : World) (m : _) → w.table ≡ table_of descriptors.now
         → w ≡ with_volume volume.old w
         → Answered (λ v. set_size_row v fd size) w m (with_volume volume.new w) m (errno_of result) }
@@ -127,6 +129,7 @@ pub(crate) fn filestat_get<D: Device>(
 ) -> Result<(), Errno>
     requires { KnowsEntries D.honest volume.old (table_of descriptors.now) }
     ensures step { VolumeStep D.honest D.disk D.size D.failures volume.old volume.new }
+    ensures io { errno_of result ≡ 29 → volume.new.failed ≡ true }
     ensures answered { D.honest volume.old.device → (w : World) → w.table ≡ table_of descriptors.now
         → w ≡ with_volume volume.old w
         → Answered (λ v. stat_row v memory.old fd result_at) w memory.old (with_volume volume.new w) memory.new (errno_of result) }

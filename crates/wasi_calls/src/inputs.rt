@@ -87,6 +87,8 @@ fn fill<R: Read>(
     ensures long { length memory.new ≡ length memory.old }
     ensures came { IfOk result (λ n. Came (R.remaining input.old.reader) (R.remaining input.new.reader) memory.old start len memory.new n) }
     ensures full { IfOk result (λ n. input.new.ended ≡ false → n ≡ len) }
+    ensures short { IfOk result (λ n. input.new.ended ≡ true → n < len) }
+    ensures still { OnErr result (input.new.ended ≡ false) }
     ensures end { input.new.ended ≡ true → IsAtEnd (R.remaining input.new.reader) }
     ensures broke { OnErr result (SomeCame (R.remaining input.old.reader) (R.remaining input.new.reader) memory.old start len memory.new) }
     ensures mark { input.new.failed ≡ input.old.failed }
@@ -119,6 +121,8 @@ fn fill_next<R: Read>(
     ensures long { length memory.new ≡ length memory.old }
     ensures came { IfOk result (λ n. Came (R.remaining input.old.reader) (R.remaining input.new.reader) memory.old buffer.pointer buffer.len memory.new n) }
     ensures full { IfOk result (λ n. input.new.ended ≡ false → n ≡ buffer.len) }
+    ensures short { IfOk result (λ n. input.old.ended ≡ false → input.new.ended ≡ true → n < buffer.len) }
+    ensures still { OnErr result (input.new.ended ≡ false) }
     ensures small { IfOk result (λ n. n < 2 ^ 32) }
     ensures none { input.old.ended ≡ true → (result ≡ Ok 0) × (input.new.ended ≡ true) }
     ensures end { input.new.ended ≡ true → IsAtEnd (R.remaining input.new.reader) }
@@ -146,7 +150,9 @@ fn fill_buffers<R: Read>(
     ensures long { length memory.new ≡ length memory.old }
     ensures dealt { IfOk result (λ n. Dealt (R.remaining input.old.reader) (R.remaining input.new.reader) memory.old (list_of buffers.now) memory.new n) }
     ensures full { IfOk result (λ n. input.new.ended ≡ false → n ≡ total (list_of buffers.now)) }
-    ensures none { input.old.ended ≡ true → result ≡ Ok 0 }
+    ensures short { IfOk result (λ n. input.old.ended ≡ false → input.new.ended ≡ true → n < total (list_of buffers.now)) }
+    ensures still { OnErr result (input.new.ended ≡ false) }
+    ensures none { input.old.ended ≡ true → (result ≡ Ok 0) × (input.new.ended ≡ true) }
     ensures end { input.new.ended ≡ true → IsAtEnd (R.remaining input.new.reader) }
     ensures broke { OnErr result (SomeDealt (R.remaining input.old.reader) (R.remaining input.new.reader) memory.old (list_of buffers.now) memory.new) }
     ensures mark { input.new.failed ≡ input.old.failed }
@@ -175,7 +181,7 @@ pub(crate) fn read_stream<R: Read>(
     requires end { input.old.ended ≡ true → IsAtEnd (R.remaining input.old.reader) }
     ensures idle { input.old.failed ≡ true → (input.new ≡ input.old) × (memory.new ≡ memory.old) × (result ≡ Err Errno.IO) }
     ensures took { OnOk result (IsRead R.remaining input.old input.new memory.old (list_of buffers.now) result_at memory.new) }
-    ensures broke { OnErr result (input.old.failed ≡ false → (input.new.failed ≡ true) × (input.old.ended ≡ false)
+    ensures broke { OnErr result (input.old.failed ≡ false → (input.new.failed ≡ true) × (input.old.ended ≡ false) × (input.new.ended ≡ false)
         × SomeDealt (R.remaining input.old.reader) (R.remaining input.new.reader) memory.old (list_of buffers.now) memory.new) }
     ensures answer { IfErr result (λ e. e.0 ≡ 29) }
     ensures end { input.new.ended ≡ true → IsAtEnd (R.remaining input.new.reader) }

@@ -266,6 +266,7 @@ pub(crate) fn fd_readdir<D: Device>(
     asked: &ListCall,
 ) -> Result<(), Errno>
     ensures step { VolumeStep D.honest D.disk D.size D.failures volume.old volume.new }
+    ensures io { errno_of result ≡ 29 → volume.new.failed ≡ true }
     ensures answered { D.honest volume.old.device → (w : World) → w.table ≡ table_of descriptors.now → w ≡ with_volume volume.old w
         → Answered (λ v. list_row v memory.old asked.now.fd asked.now.buffer asked.now.len asked.now.cookie asked.now.used_at) w memory.old (with_volume volume.new w) memory.new (errno_of result) }
 {

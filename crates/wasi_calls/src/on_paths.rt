@@ -2,7 +2,6 @@
 
 ghost use Rattle.wasi_fd.specs.Table.{table_of};
 ghost use Rattle.wasm_store.specs.declared.call.HostCall.TheVariants as call;
-ghost use Rattle.wasi_calls.specs.Calls.{row};
 
 use crate::arguments::word;
 use crate::inner::Inner;
@@ -20,7 +19,7 @@ impl<'s, 't, D: Device, R: Read, W1: Write, W2: Write> Inner<'s, 't, D, R, W1, W
     pub fn path_unlink_file(&mut self, memory: &Memory, arguments: &[u64]) -> Result<(), Errno>
         requires set_up { IsSetUp R.remaining self.old }
         requires known { KnowsEntries D.honest self.old.volume (table_of self.old.descriptors) }
-        ensures { (used : _) → Serves D.honest D.disk D.size D.failures R.remaining W1.contents W2.contents (λ w. row call.PathUnlinkFile w memory.now used arguments.now) self.old memory.now self.new memory.now (errno_of result) }
+        ensures { (used : _) → Serves D.honest D.disk D.size D.failures R.remaining W1.contents W2.contents call.PathUnlinkFile used arguments.now self.old memory.now self.new memory.now (errno_of result) }
     {
         let (fd, path, len) = (word(arguments, 0), word(arguments, 1), word(arguments, 2));
         removing::path_unlink_file(&mut self.volume, &self.descriptors, memory, fd, path, len)
@@ -30,7 +29,7 @@ impl<'s, 't, D: Device, R: Read, W1: Write, W2: Write> Inner<'s, 't, D, R, W1, W
     pub fn path_remove_directory(&mut self, memory: &Memory, arguments: &[u64]) -> Result<(), Errno>
         requires set_up { IsSetUp R.remaining self.old }
         requires known { KnowsEntries D.honest self.old.volume (table_of self.old.descriptors) }
-        ensures { (used : _) → Serves D.honest D.disk D.size D.failures R.remaining W1.contents W2.contents (λ w. row call.PathRemoveDirectory w memory.now used arguments.now) self.old memory.now self.new memory.now (errno_of result) }
+        ensures { (used : _) → Serves D.honest D.disk D.size D.failures R.remaining W1.contents W2.contents call.PathRemoveDirectory used arguments.now self.old memory.now self.new memory.now (errno_of result) }
     {
         let (fd, path, len) = (word(arguments, 0), word(arguments, 1), word(arguments, 2));
         removing::path_remove_directory(&mut self.volume, &self.descriptors, memory, fd, path, len)
@@ -40,7 +39,7 @@ impl<'s, 't, D: Device, R: Read, W1: Write, W2: Write> Inner<'s, 't, D, R, W1, W
     pub fn path_open(&mut self, memory: &mut Memory, arguments: &[u64]) -> Result<(), Errno>
         requires set_up { IsSetUp R.remaining self.old }
         requires known { KnowsEntries D.honest self.old.volume (table_of self.old.descriptors) }
-        ensures { (used : _) → Serves D.honest D.disk D.size D.failures R.remaining W1.contents W2.contents (λ w. row call.PathOpen w memory.old used arguments.now) self.old memory.old self.new memory.new (errno_of result) }
+        ensures { (used : _) → Serves D.honest D.disk D.size D.failures R.remaining W1.contents W2.contents call.PathOpen used arguments.now self.old memory.old self.new memory.new (errno_of result) }
     {
         let asked = OpenCall::read(arguments);
         opening::path_open(&mut self.volume, &mut self.descriptors, memory, &asked)
@@ -50,7 +49,7 @@ impl<'s, 't, D: Device, R: Read, W1: Write, W2: Write> Inner<'s, 't, D, R, W1, W
     pub fn path_rename(&mut self, memory: &Memory, arguments: &[u64]) -> Result<(), Errno>
         requires set_up { IsSetUp R.remaining self.old }
         requires known { KnowsEntries D.honest self.old.volume (table_of self.old.descriptors) }
-        ensures { (used : _) → Serves D.honest D.disk D.size D.failures R.remaining W1.contents W2.contents (λ w. row call.PathRename w memory.now used arguments.now) self.old memory.now self.new memory.now (errno_of result) }
+        ensures { (used : _) → Serves D.honest D.disk D.size D.failures R.remaining W1.contents W2.contents call.PathRename used arguments.now self.old memory.now self.new memory.now (errno_of result) }
     {
         let asked = RenameCall::read(arguments);
         renaming::path_rename(&mut self.volume, &self.descriptors, memory, &asked)

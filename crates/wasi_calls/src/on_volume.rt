@@ -2,10 +2,9 @@
 
 ghost use Rattle.std.specs.Prelude.{◌≡◌};
 ghost use Rattle.vol_sector.specs.Disk.{Image};
-ghost use Rattle.vol_tree.specs.Stands.{Stands};
+ghost use Rattle.vol_tree.specs.Stands.{StandsAs};
 ghost use Rattle.wasi_fd.specs.Table.{table_of};
 ghost use Rattle.wasm_store.specs.declared.call.HostCall.TheVariants as call;
-ghost use Rattle.wasi_calls.specs.Calls.{row};
 
 use crate::arguments::{long, word};
 use crate::inner::Inner;
@@ -21,9 +20,9 @@ impl<'s, 't, D: Device, R: Read, W1: Write, W2: Write> Inner<'s, 't, D, R, W1, W
     /// `fd_sync(fd)`.
     pub fn fd_sync(&mut self, arguments: &[u64]) -> Result<(), Errno>
         requires { IsSetUp R.remaining self.old }
-        ensures serves { (m : _) (used : _) → Serves D.honest D.disk D.size D.failures R.remaining W1.contents W2.contents (λ w. row call.FdSync w m used arguments.now) self.old m self.new m (errno_of result) }
+        ensures serves { (m : _) (used : _) → Serves D.honest D.disk D.size D.failures R.remaining W1.contents W2.contents call.FdSync used arguments.now self.old m self.new m (errno_of result) }
         ensures durable { D.honest self.old.volume.device → errno_of result ≡ 0 → (c : Image)
-            → (D.disk self.new.volume.device).may_leave c → Stands c self.new.volume.tree }
+            → (D.disk self.new.volume.device).may_leave c → StandsAs c self.new.volume.numbers self.new.volume.tree }
     {
         let fd = word(arguments, 0);
         files::sync(&mut self.volume, &self.descriptors, fd, Rights::FD_SYNC)
@@ -32,9 +31,9 @@ impl<'s, 't, D: Device, R: Read, W1: Write, W2: Write> Inner<'s, 't, D, R, W1, W
     /// `fd_datasync(fd)`.
     pub fn fd_datasync(&mut self, arguments: &[u64]) -> Result<(), Errno>
         requires { IsSetUp R.remaining self.old }
-        ensures serves { (m : _) (used : _) → Serves D.honest D.disk D.size D.failures R.remaining W1.contents W2.contents (λ w. row call.FdDatasync w m used arguments.now) self.old m self.new m (errno_of result) }
+        ensures serves { (m : _) (used : _) → Serves D.honest D.disk D.size D.failures R.remaining W1.contents W2.contents call.FdDatasync used arguments.now self.old m self.new m (errno_of result) }
         ensures durable { D.honest self.old.volume.device → errno_of result ≡ 0 → (c : Image)
-            → (D.disk self.new.volume.device).may_leave c → Stands c self.new.volume.tree }
+            → (D.disk self.new.volume.device).may_leave c → StandsAs c self.new.volume.numbers self.new.volume.tree }
     {
         let fd = word(arguments, 0);
         files::sync(&mut self.volume, &self.descriptors, fd, Rights::FD_DATASYNC)
@@ -44,7 +43,7 @@ impl<'s, 't, D: Device, R: Read, W1: Write, W2: Write> Inner<'s, 't, D, R, W1, W
     pub fn fd_filestat_set_size(&mut self, arguments: &[u64]) -> Result<(), Errno>
         requires set_up { IsSetUp R.remaining self.old }
         requires known { KnowsEntries D.honest self.old.volume (table_of self.old.descriptors) }
-        ensures { (m : _) (used : _) → Serves D.honest D.disk D.size D.failures R.remaining W1.contents W2.contents (λ w. row call.FdFilestatSetSize w m used arguments.now) self.old m self.new m (errno_of result) }
+        ensures { (m : _) (used : _) → Serves D.honest D.disk D.size D.failures R.remaining W1.contents W2.contents call.FdFilestatSetSize used arguments.now self.old m self.new m (errno_of result) }
     {
         let fd = word(arguments, 0);
         let size = long(arguments, 1);
@@ -55,7 +54,7 @@ impl<'s, 't, D: Device, R: Read, W1: Write, W2: Write> Inner<'s, 't, D, R, W1, W
     pub fn fd_filestat_get(&mut self, memory: &mut Memory, arguments: &[u64]) -> Result<(), Errno>
         requires set_up { IsSetUp R.remaining self.old }
         requires known { KnowsEntries D.honest self.old.volume (table_of self.old.descriptors) }
-        ensures { (used : _) → Serves D.honest D.disk D.size D.failures R.remaining W1.contents W2.contents (λ w. row call.FdFilestatGet w memory.old used arguments.now) self.old memory.old self.new memory.new (errno_of result) }
+        ensures { (used : _) → Serves D.honest D.disk D.size D.failures R.remaining W1.contents W2.contents call.FdFilestatGet used arguments.now self.old memory.old self.new memory.new (errno_of result) }
     {
         let (fd, result_at) = (word(arguments, 0), word(arguments, 1));
         files::filestat_get(&mut self.volume, &self.descriptors, memory, fd, result_at)
@@ -65,7 +64,7 @@ impl<'s, 't, D: Device, R: Read, W1: Write, W2: Write> Inner<'s, 't, D, R, W1, W
     pub fn path_filestat_get(&mut self, memory: &mut Memory, arguments: &[u64]) -> Result<(), Errno>
         requires set_up { IsSetUp R.remaining self.old }
         requires known { KnowsEntries D.honest self.old.volume (table_of self.old.descriptors) }
-        ensures { (used : _) → Serves D.honest D.disk D.size D.failures R.remaining W1.contents W2.contents (λ w. row call.PathFilestatGet w memory.old used arguments.now) self.old memory.old self.new memory.new (errno_of result) }
+        ensures { (used : _) → Serves D.honest D.disk D.size D.failures R.remaining W1.contents W2.contents call.PathFilestatGet used arguments.now self.old memory.old self.new memory.new (errno_of result) }
     {
         let (fd, path) = (word(arguments, 0), word(arguments, 2));
         let (len, result_at) = (word(arguments, 3), word(arguments, 4));
@@ -77,7 +76,7 @@ impl<'s, 't, D: Device, R: Read, W1: Write, W2: Write> Inner<'s, 't, D, R, W1, W
     pub fn path_create_directory(&mut self, memory: &Memory, arguments: &[u64]) -> Result<(), Errno>
         requires set_up { IsSetUp R.remaining self.old }
         requires known { KnowsEntries D.honest self.old.volume (table_of self.old.descriptors) }
-        ensures { (used : _) → Serves D.honest D.disk D.size D.failures R.remaining W1.contents W2.contents (λ w. row call.PathCreateDirectory w memory.now used arguments.now) self.old memory.now self.new memory.now (errno_of result) }
+        ensures { (used : _) → Serves D.honest D.disk D.size D.failures R.remaining W1.contents W2.contents call.PathCreateDirectory used arguments.now self.old memory.now self.new memory.now (errno_of result) }
     {
         let (fd, path, len) = (word(arguments, 0), word(arguments, 1), word(arguments, 2));
         paths::path_create_directory(&mut self.volume, &self.descriptors, memory, fd, path, len)

@@ -263,6 +263,7 @@ fn found_target<'p, D: Device>(
 ) -> Result<Target<'p>, Errno>
     requires { IsEntryOf D.honest volume.old serial }
     ensures step { VolumeStep D.honest D.disk D.size D.failures volume.old volume.new }
+    ensures io { errno_of result ≡ 29 → volume.new.failed ≡ true }
     ensures asked { IfOk result (λ t. Asked D.honest D.disk D.size D.failures volume.old volume.new false) }
     ensures can { IfOk result (CanOpen D.honest volume.new) }
     ensures checks { D.honest volume.old.device → (w : World) (slash : _) → w.volume_failed ≡ false → w ≡ with_volume volume.old w
@@ -289,6 +290,7 @@ fn reached_target<'p, D: Device>(
     requires reached { IsReached D.honest volume.old reached }
     requires place { D.honest volume.old.device → Places volume.old.tree (Ok reached) }
     ensures step { VolumeStep D.honest D.disk D.size D.failures volume.old volume.new }
+    ensures io { errno_of result ≡ 29 → volume.new.failed ≡ true }
     ensures asked { IfOk result (λ t. Asked D.honest D.disk D.size D.failures volume.old volume.new false) }
     ensures can { IfOk result (CanOpen D.honest volume.new) }
     ensures checks { D.honest volume.old.device → (w : World) (names : List Name) → path_read text.now ≡ Ok names → w.volume_failed ≡ false → w ≡ with_volume volume.old w
@@ -312,6 +314,7 @@ fn find_target<'t, 'm, D: Device>(
 ) -> Result<(Opened<'t>, Target<'m>), Errno>
     requires { KnowsEntries D.honest volume.old (table_of descriptors.now) }
     ensures step { VolumeStep D.honest D.disk D.size D.failures volume.old volume.new }
+    ensures io { errno_of result ≡ 29 → volume.new.failed ≡ true }
     ensures works { IfOk result (λ p. StillWorks D.honest D.disk D.size D.failures volume.old volume.new) }
     ensures inside { OnOk result (asked.now.result_at + 4 ≤ length memory.now) }
     ensures can { IfOk result (λ p. CanOpen D.honest volume.new p.1) }
@@ -343,7 +346,7 @@ fn settle<D: Device>(volume: &mut Volume<D>, target: &Target<'_>) -> Result<u32,
     ensures answer { D.honest volume.old.device
         → TreeAnswers (made (geometry volume.old.numbers) volume.old.tree target.now) volume.old.tree volume.new.tree result }
     ensures crash { D.honest volume.old.device
-        → Leaves (D.disk volume.old.device) (D.disk volume.new.device) (ReflectsOr (D.disk volume.old.device) volume.old.tree) }
+        → Leaves (D.disk volume.old.device) (D.disk volume.new.device) (ReflectsOr (D.disk volume.old.device) volume.old.numbers volume.old.tree) }
     ensures range { IfOk result (IsSerial volume.old.numbers) }
     ensures kept { Keeps D.honest D.size D.failures volume.old volume.new (is_io result) }
 {
@@ -367,6 +370,7 @@ pub(crate) fn path_open<D: Device>(
 ) -> Result<(), Errno>
     requires { KnowsEntries D.honest volume.old (table_of descriptors.old) }
     ensures step { VolumeStep D.honest D.disk D.size D.failures volume.old volume.new }
+    ensures io { errno_of result ≡ 29 → volume.new.failed ≡ true }
     ensures serials { AreSerials volume.new.numbers (table_of descriptors.new) }
     ensures answered { D.honest volume.old.device → (w : World) → w.table ≡ table_of descriptors.old → w ≡ with_volume volume.old w
         → Answered (λ v. open_row v memory.old asked.now.fd asked.now.path asked.now.len asked.now.oflags asked.now.base asked.now.inheriting asked.now.fdflags asked.now.result_at)

@@ -1,6 +1,7 @@
 //! Calls on paths.
 
-ghost use Rattle.std.specs.Prelude.{◌≡◌, ◌+◌, ◌≤◌, length, Ok, Err, MatchResult, IfOk, OnOk};
+ghost use Rattle.std.specs.Prelude.{true, ◌≡◌, ◌+◌, ◌≤◌, length, Ok, Err, MatchResult, IfOk, OnOk};
+ghost use Rattle.vol_tree.specs.Opened.{is_io};
 ghost use Rattle.wasi_calls.specs.Calls.{Answered};
 ghost use Rattle.wasm_store.specs.Bytes.{bytes_at};
 ghost use Rattle.wasi_fd.specs.Table.{table_of};
@@ -34,6 +35,7 @@ pub(crate) fn reach<'p, D: Device>(
     ensures works { IfOk result (λ r. StillWorks D.honest D.disk D.size D.failures volume.old volume.new) }
     ensures reached { IfOk result (IsReached D.honest volume.new) }
     ensures step { VolumeStep D.honest D.disk D.size D.failures volume.old volume.new }
+    ensures io { is_io result ≡ true → volume.new.failed ≡ true }
 {
     match Path::read(text) {
         Ok(path) => walk(volume, directory, &path),
@@ -77,6 +79,7 @@ fn stat_path<D: Device>(
 ) -> Result<[u8; 64], Errno>
     requires { KnowsEntries D.honest volume.old (table_of descriptors.now) }
     ensures step { VolumeStep D.honest D.disk D.size D.failures volume.old volume.new }
+    ensures io { errno_of result ≡ 29 → volume.new.failed ≡ true }
     ensures inside { OnOk result (result_at + 64 ≤ length memory.now) }
     ensures finds { D.honest volume.old.device → (w : World) → w.table ≡ table_of descriptors.now → w ≡ with_volume volume.old w
         → Finds (λ v. stat_row v memory.now fd path len result_at) w memory.now volume.new result_at result }
@@ -117,6 +120,7 @@ pub(crate) fn path_filestat_get<D: Device>(
 ) -> Result<(), Errno>
     requires { KnowsEntries D.honest volume.old (table_of descriptors.now) }
     ensures step { VolumeStep D.honest D.disk D.size D.failures volume.old volume.new }
+    ensures io { errno_of result ≡ 29 → volume.new.failed ≡ true }
     ensures answered { D.honest volume.old.device → (w : World) → w.table ≡ table_of descriptors.now → w ≡ with_volume volume.old w
         → Answered (λ v. stat_row v memory.old fd path len result_at) w memory.old (with_volume volume.new w) memory.new (errno_of result) }
 {
@@ -140,6 +144,7 @@ pub(crate) fn path_create_directory<D: Device>(
 ) -> Result<(), Errno>
     requires { KnowsEntries D.honest volume.old (table_of descriptors.now) }
     ensures step { VolumeStep D.honest D.disk D.size D.failures volume.old volume.new }
+    ensures io { errno_of result ≡ 29 → volume.new.failed ≡ true }
     ensures answered { D.honest volume.old.device → (w : World) → w.table ≡ table_of descriptors.now → w ≡ with_volume volume.old w
         → Answered (λ v. create_row v memory.now fd path len) w memory.now (with_volume volume.new w) memory.now (errno_of result) }
 {

@@ -1,6 +1,5 @@
 //! The calls that reach neither the volume nor a stream.
 ghost use Rattle.wasm_store.specs.declared.call.HostCall.TheVariants as call;
-ghost use Rattle.wasi_calls.specs.Calls.{row};
 
 use crate::arguments::word;
 use crate::inner::Inner;
@@ -20,7 +19,7 @@ impl<'s, 't, D: Device, R: Read, W1: Write, W2: Write> Inner<'s, 't, D, R, W1, W
         arguments: &[u64],
     ) -> Result<(), Errno>
         requires { IsSetUp R.remaining self.now }
-        ensures { Serves D.honest D.disk D.size D.failures R.remaining W1.contents W2.contents (λ w. row call.ClockTimeGet w memory.old used arguments.now) self.now memory.old self.now memory.new (errno_of result) }
+        ensures { Serves D.honest D.disk D.size D.failures R.remaining W1.contents W2.contents call.ClockTimeGet used arguments.now self.now memory.old self.now memory.new (errno_of result) }
     {
         let (id, result_at) = (word(arguments, 0), word(arguments, 2));
         clocks::clock_time_get(self.settings.moment, memory, used, id, result_at)
@@ -29,7 +28,7 @@ impl<'s, 't, D: Device, R: Read, W1: Write, W2: Write> Inner<'s, 't, D, R, W1, W
     /// `random_get(buffer, length)`.
     pub fn random_get(&mut self, memory: &mut Memory, arguments: &[u64]) -> Result<(), Errno>
         requires { IsSetUp R.remaining self.old }
-        ensures { (used : _) → Serves D.honest D.disk D.size D.failures R.remaining W1.contents W2.contents (λ w. row call.RandomGet w memory.old used arguments.now) self.old memory.old self.new memory.new (errno_of result) }
+        ensures { (used : _) → Serves D.honest D.disk D.size D.failures R.remaining W1.contents W2.contents call.RandomGet used arguments.now self.old memory.old self.new memory.new (errno_of result) }
     {
         let (buffer, len) = (word(arguments, 0), word(arguments, 1));
         supplies::random_get(&mut self.settings.random, memory, buffer, len)
@@ -38,7 +37,7 @@ impl<'s, 't, D: Device, R: Read, W1: Write, W2: Write> Inner<'s, 't, D, R, W1, W
     /// `fd_close(fd)`.
     pub fn fd_close(&mut self, arguments: &[u64]) -> Result<(), Errno>
         requires { IsSetUp R.remaining self.old }
-        ensures { (m : _) (used : _) → Serves D.honest D.disk D.size D.failures R.remaining W1.contents W2.contents (λ w. row call.FdClose w m used arguments.now) self.old m self.new m (errno_of result) }
+        ensures { (m : _) (used : _) → Serves D.honest D.disk D.size D.failures R.remaining W1.contents W2.contents call.FdClose used arguments.now self.old m self.new m (errno_of result) }
     {
         descriptors::fd_close(&mut self.descriptors, word(arguments, 0))
     }
@@ -46,7 +45,7 @@ impl<'s, 't, D: Device, R: Read, W1: Write, W2: Write> Inner<'s, 't, D, R, W1, W
     /// `args_sizes_get(count, size)`.
     pub fn args_sizes_get(&self, memory: &mut Memory, arguments: &[u64]) -> Result<(), Errno>
         requires { IsSetUp R.remaining self.now }
-        ensures { (used : _) → Serves D.honest D.disk D.size D.failures R.remaining W1.contents W2.contents (λ w. row call.ArgsSizesGet w memory.old used arguments.now) self.now memory.old self.now memory.new (errno_of result) }
+        ensures { (used : _) → Serves D.honest D.disk D.size D.failures R.remaining W1.contents W2.contents call.ArgsSizesGet used arguments.now self.now memory.old self.now memory.new (errno_of result) }
     {
         let (count_at, size_at) = (word(arguments, 0), word(arguments, 1));
         supplies::sizes_get(self.settings.args, memory, count_at, size_at)
@@ -55,7 +54,7 @@ impl<'s, 't, D: Device, R: Read, W1: Write, W2: Write> Inner<'s, 't, D, R, W1, W
     /// `environ_sizes_get(count, size)`.
     pub fn environ_sizes_get(&self, memory: &mut Memory, arguments: &[u64]) -> Result<(), Errno>
         requires { IsSetUp R.remaining self.now }
-        ensures { (used : _) → Serves D.honest D.disk D.size D.failures R.remaining W1.contents W2.contents (λ w. row call.EnvironSizesGet w memory.old used arguments.now) self.now memory.old self.now memory.new (errno_of result) }
+        ensures { (used : _) → Serves D.honest D.disk D.size D.failures R.remaining W1.contents W2.contents call.EnvironSizesGet used arguments.now self.now memory.old self.now memory.new (errno_of result) }
     {
         let (count_at, size_at) = (word(arguments, 0), word(arguments, 1));
         supplies::sizes_get(self.settings.env, memory, count_at, size_at)
@@ -64,7 +63,7 @@ impl<'s, 't, D: Device, R: Read, W1: Write, W2: Write> Inner<'s, 't, D, R, W1, W
     /// `clock_res_get(id, result)`.
     pub fn clock_res_get(&self, memory: &mut Memory, arguments: &[u64]) -> Result<(), Errno>
         requires { IsSetUp R.remaining self.now }
-        ensures { (used : _) → Serves D.honest D.disk D.size D.failures R.remaining W1.contents W2.contents (λ w. row call.ClockResGet w memory.old used arguments.now) self.now memory.old self.now memory.new (errno_of result) }
+        ensures { (used : _) → Serves D.honest D.disk D.size D.failures R.remaining W1.contents W2.contents call.ClockResGet used arguments.now self.now memory.old self.now memory.new (errno_of result) }
     {
         let (id, result_at) = (word(arguments, 0), word(arguments, 1));
         clocks::clock_res_get(memory, id, result_at)
@@ -73,7 +72,7 @@ impl<'s, 't, D: Device, R: Read, W1: Write, W2: Write> Inner<'s, 't, D, R, W1, W
     /// `fd_fdstat_get(fd, result)`.
     pub fn fd_fdstat_get(&self, memory: &mut Memory, arguments: &[u64]) -> Result<(), Errno>
         requires { IsSetUp R.remaining self.now }
-        ensures { (used : _) → Serves D.honest D.disk D.size D.failures R.remaining W1.contents W2.contents (λ w. row call.FdFdstatGet w memory.old used arguments.now) self.now memory.old self.now memory.new (errno_of result) }
+        ensures { (used : _) → Serves D.honest D.disk D.size D.failures R.remaining W1.contents W2.contents call.FdFdstatGet used arguments.now self.now memory.old self.now memory.new (errno_of result) }
     {
         let (fd, result_at) = (word(arguments, 0), word(arguments, 1));
         descriptors::fd_fdstat_get(&self.descriptors, memory, fd, result_at)
@@ -82,7 +81,7 @@ impl<'s, 't, D: Device, R: Read, W1: Write, W2: Write> Inner<'s, 't, D, R, W1, W
     /// `fd_prestat_get(fd, result)`.
     pub fn fd_prestat_get(&self, memory: &mut Memory, arguments: &[u64]) -> Result<(), Errno>
         requires { IsSetUp R.remaining self.now }
-        ensures { (used : _) → Serves D.honest D.disk D.size D.failures R.remaining W1.contents W2.contents (λ w. row call.FdPrestatGet w memory.old used arguments.now) self.now memory.old self.now memory.new (errno_of result) }
+        ensures { (used : _) → Serves D.honest D.disk D.size D.failures R.remaining W1.contents W2.contents call.FdPrestatGet used arguments.now self.now memory.old self.now memory.new (errno_of result) }
     {
         let (fd, result_at) = (word(arguments, 0), word(arguments, 1));
         descriptors::fd_prestat_get(&self.descriptors, memory, fd, result_at)
@@ -91,7 +90,7 @@ impl<'s, 't, D: Device, R: Read, W1: Write, W2: Write> Inner<'s, 't, D, R, W1, W
     /// `fd_prestat_dir_name(fd, path, length)`.
     pub fn fd_prestat_dir_name(&self, memory: &mut Memory, arguments: &[u64]) -> Result<(), Errno>
         requires { IsSetUp R.remaining self.now }
-        ensures { (used : _) → Serves D.honest D.disk D.size D.failures R.remaining W1.contents W2.contents (λ w. row call.FdPrestatDirName w memory.old used arguments.now) self.now memory.old self.now memory.new (errno_of result) }
+        ensures { (used : _) → Serves D.honest D.disk D.size D.failures R.remaining W1.contents W2.contents call.FdPrestatDirName used arguments.now self.now memory.old self.now memory.new (errno_of result) }
     {
         let fd = word(arguments, 0);
         let path = word(arguments, 1);
@@ -102,7 +101,7 @@ impl<'s, 't, D: Device, R: Read, W1: Write, W2: Write> Inner<'s, 't, D, R, W1, W
     /// `fd_tell(fd, result)`.
     pub fn fd_tell(&self, memory: &mut Memory, arguments: &[u64]) -> Result<(), Errno>
         requires { IsSetUp R.remaining self.now }
-        ensures { (used : _) → Serves D.honest D.disk D.size D.failures R.remaining W1.contents W2.contents (λ w. row call.FdTell w memory.old used arguments.now) self.now memory.old self.now memory.new (errno_of result) }
+        ensures { (used : _) → Serves D.honest D.disk D.size D.failures R.remaining W1.contents W2.contents call.FdTell used arguments.now self.now memory.old self.now memory.new (errno_of result) }
     {
         let (fd, result_at) = (word(arguments, 0), word(arguments, 1));
         descriptors::fd_tell(&self.descriptors, memory, fd, result_at)
@@ -111,7 +110,7 @@ impl<'s, 't, D: Device, R: Read, W1: Write, W2: Write> Inner<'s, 't, D, R, W1, W
     /// `args_get(pointers, buffer)`.
     pub fn args_get(&self, memory: &mut Memory, arguments: &[u64]) -> Result<(), Errno>
         requires { IsSetUp R.remaining self.now }
-        ensures { (used : _) → Serves D.honest D.disk D.size D.failures R.remaining W1.contents W2.contents (λ w. row call.ArgsGet w memory.old used arguments.now) self.now memory.old self.now memory.new (errno_of result) }
+        ensures { (used : _) → Serves D.honest D.disk D.size D.failures R.remaining W1.contents W2.contents call.ArgsGet used arguments.now self.now memory.old self.now memory.new (errno_of result) }
     {
         let (at, buffer) = (word(arguments, 0), word(arguments, 1));
         supplies::texts_get(self.settings.args, memory, at, buffer)
@@ -120,7 +119,7 @@ impl<'s, 't, D: Device, R: Read, W1: Write, W2: Write> Inner<'s, 't, D, R, W1, W
     /// `environ_get(pointers, buffer)`.
     pub fn environ_get(&self, memory: &mut Memory, arguments: &[u64]) -> Result<(), Errno>
         requires { IsSetUp R.remaining self.now }
-        ensures { (used : _) → Serves D.honest D.disk D.size D.failures R.remaining W1.contents W2.contents (λ w. row call.EnvironGet w memory.old used arguments.now) self.now memory.old self.now memory.new (errno_of result) }
+        ensures { (used : _) → Serves D.honest D.disk D.size D.failures R.remaining W1.contents W2.contents call.EnvironGet used arguments.now self.now memory.old self.now memory.new (errno_of result) }
     {
         let (at, buffer) = (word(arguments, 0), word(arguments, 1));
         supplies::texts_get(self.settings.env, memory, at, buffer)

@@ -266,6 +266,7 @@ pub(crate) fn read_placed<D: Device>(
     requires few { request.now.count ≤ 1024 }
     requires usable { AreUsable memory.old (list_of (take request.now.count room.old)) request.now.result_at }
     ensures step { VolumeStep D.honest D.disk D.size D.failures volume.old volume.new }
+    ensures io { errno_of result ≡ 29 → volume.new.failed ≡ true }
     ensures answered { D.honest volume.old.device → (w : World) → w ≡ with_volume volume.old w
         → Answered (λ v. read_into v opened.now from (list_of (take request.now.count room.old)) request.now.result_at) w memory.old (with_volume volume.new w) memory.new (errno_of result) }
 {
@@ -295,6 +296,7 @@ pub(crate) fn read_file<'t, D: Device>(
     requires few { request.now.count ≤ 1024 }
     requires usable { AreUsable memory.old (list_of (take request.now.count room.old)) request.now.result_at }
     ensures step { VolumeStep D.honest D.disk D.size D.failures volume.old volume.new }
+    ensures io { errno_of result ≡ 29 → volume.new.failed ≡ true }
     ensures entries { NoMoreEntries (table_of descriptors.old) (table_of descriptors.new) }
     ensures answered { D.honest volume.old.device → (w : World) → w.table ≡ table_of descriptors.old → w ≡ with_volume volume.old w
         → Answered (λ v. read_file_to v request.now.fd opened.now (list_of (take request.now.count room.old)) request.now.result_at) w memory.old (with_table (table_of descriptors.new) (with_volume volume.new w)) memory.new (errno_of result) }

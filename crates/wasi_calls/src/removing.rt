@@ -39,6 +39,7 @@ pub(crate) fn find<D: Device>(
 ) -> Result<u32, Errno>
     requires { KnowsEntries D.honest volume.old (table_of descriptors.now) }
     ensures step { VolumeStep D.honest D.disk D.size D.failures volume.old volume.new }
+    ensures io { errno_of result ≡ 29 → volume.new.failed ≡ true }
     ensures works { IfOk result (λ s. StillWorks D.honest D.disk D.size D.failures volume.old volume.new) }
     ensures entry { IfOk result (IsEntryOf D.honest volume.new) }
     ensures asks { D.honest volume.old.device → (w : World) → w.table ≡ table_of descriptors.now → w ≡ with_volume volume.old w
@@ -100,6 +101,7 @@ fn removable<D: Device>(
 ) -> Result<u32, Errno>
     requires { KnowsEntries D.honest volume.old (table_of descriptors.now) }
     ensures step { VolumeStep D.honest D.disk D.size D.failures volume.old volume.new }
+    ensures io { errno_of result ≡ 29 → volume.new.failed ≡ true }
     ensures works { IfOk result (λ s. StillWorks D.honest D.disk D.size D.failures volume.old volume.new) }
     ensures entry { IfOk result (IsEntryOf D.honest volume.new) }
     ensures kind { D.honest volume.old.device → IfOk result (λ s. is_kind kind (directory_at volume.old.tree s) ≡ true) }
@@ -134,6 +136,7 @@ pub(crate) fn path_unlink_file<D: Device>(
 ) -> Result<(), Errno>
     requires { KnowsEntries D.honest volume.old (table_of descriptors.now) }
     ensures step { VolumeStep D.honest D.disk D.size D.failures volume.old volume.new }
+    ensures io { errno_of result ≡ 29 → volume.new.failed ≡ true }
     ensures answered { D.honest volume.old.device → (w : World) → w.table ≡ table_of descriptors.now → w ≡ with_volume volume.old w
         → Answered (λ v. unlink_row v memory.now fd path len) w memory.now (with_volume volume.new w) memory.now (errno_of result) }
 {
@@ -167,6 +170,7 @@ pub(crate) fn path_remove_directory<D: Device>(
 ) -> Result<(), Errno>
     requires { KnowsEntries D.honest volume.old (table_of descriptors.now) }
     ensures step { VolumeStep D.honest D.disk D.size D.failures volume.old volume.new }
+    ensures io { errno_of result ≡ 29 → volume.new.failed ≡ true }
     ensures answered { D.honest volume.old.device → (w : World) → w.table ≡ table_of descriptors.now → w ≡ with_volume volume.old w
         → Answered (λ v. remove_row v memory.now fd path len) w memory.now (with_volume volume.new w) memory.now (errno_of result) }
 {

@@ -200,6 +200,7 @@ fn may_replace<D: Device>(
     requires source { IsEntryOf D.honest volume.old source }
     requires target { IsEntryOf D.honest volume.old target }
     ensures step { VolumeStep D.honest D.disk D.size D.failures volume.old volume.new }
+    ensures io { errno_of result ≡ 29 → volume.new.failed ≡ true }
     ensures asked { IfOk result (λ u. Asked D.honest D.disk D.size D.failures volume.old volume.new false) }
     ensures checks { D.honest volume.old.device → (w : World) → w.table ≡ table_of descriptors.now → w.volume_failed ≡ false → w ≡ with_volume volume.old w
         → ReplacesAs source target w volume.new result }
@@ -223,7 +224,7 @@ fn rename_onto<D: Device>(
     ensures answer { D.honest volume.old.device
         → TreeAnswers (with_unit (renamed volume.old.tree source (parent_at volume.old.tree target) (name_at volume.old.tree target))) volume.old.tree volume.new.tree result }
     ensures crash { D.honest volume.old.device
-        → Leaves (D.disk volume.old.device) (D.disk volume.new.device) (ReflectsOr (D.disk volume.old.device) volume.old.tree) }
+        → Leaves (D.disk volume.old.device) (D.disk volume.new.device) (ReflectsOr (D.disk volume.old.device) volume.old.numbers volume.old.tree) }
     ensures kept { Keeps D.honest D.size D.failures volume.old volume.new (is_io result) }
 {
     volume.is_a_tree();
@@ -249,6 +250,7 @@ fn rename_found<D: Device>(
     requires source { IsEntryOf D.honest volume.old source }
     requires target { IsEntryOf D.honest volume.old target }
     ensures step { VolumeStep D.honest D.disk D.size D.failures volume.old volume.new }
+    ensures io { errno_of result ≡ 29 → volume.new.failed ≡ true }
     ensures renames { D.honest volume.old.device → (w : World) (slash : _) → w.table ≡ table_of descriptors.now → w.volume_failed ≡ false → w ≡ with_volume volume.old w
         → RenamesTo source slash (Found target) w volume.new result }
 {
@@ -291,6 +293,7 @@ fn rename_missing<D: Device>(
     requires name { IsName name.now }
     requires directory { D.honest volume.old.device → IsDirectory volume.old.tree parent }
     ensures step { VolumeStep D.honest D.disk D.size D.failures volume.old volume.new }
+    ensures io { errno_of result ≡ 29 → volume.new.failed ≡ true }
     ensures renames { D.honest volume.old.device → (w : World) → w.volume_failed ≡ false → w ≡ with_volume volume.old w
         → RenamesTo source slash (Missing parent name.now) w volume.new result }
 {
@@ -318,6 +321,7 @@ fn rename_reached<D: Device>(
     requires reached { IsReached D.honest volume.old walked.now.target }
     requires place { D.honest volume.old.device → Places volume.old.tree (Ok walked.now.target) }
     ensures step { VolumeStep D.honest D.disk D.size D.failures volume.old volume.new }
+    ensures io { errno_of result ≡ 29 → volume.new.failed ≡ true }
     ensures renames { D.honest volume.old.device → (w : World) → w.table ≡ table_of descriptors.now → w.volume_failed ≡ false → w ≡ with_volume volume.old w
         → RenamesTo walked.now.source walked.now.slash (reached_as walked.now.target) w volume.new result }
 {
@@ -413,6 +417,7 @@ fn walk_both<'m, D: Device>(
 ) -> Result<Walked<'m>, Errno>
     requires { KnowsEntries D.honest volume.old (table_of descriptors.now) }
     ensures step { VolumeStep D.honest D.disk D.size D.failures volume.old volume.new }
+    ensures io { errno_of result ≡ 29 → volume.new.failed ≡ true }
     ensures works { IfOk result (λ r. StillWorks D.honest D.disk D.size D.failures volume.old volume.new) }
     ensures source { IfOk result (λ r. IsEntryOf D.honest volume.new r.source) }
     ensures reached { IfOk result (λ r. IsReached D.honest volume.new r.target) }
@@ -453,6 +458,7 @@ pub(crate) fn path_rename<D: Device>(
 ) -> Result<(), Errno>
     requires { KnowsEntries D.honest volume.old (table_of descriptors.now) }
     ensures step { VolumeStep D.honest D.disk D.size D.failures volume.old volume.new }
+    ensures io { errno_of result ≡ 29 → volume.new.failed ≡ true }
     ensures answered { D.honest volume.old.device → (w : World) → w.table ≡ table_of descriptors.now → w ≡ with_volume volume.old w
         → Answered (λ v. rename_row v memory.now asked.now.from_fd asked.now.from_path asked.now.from_len asked.now.to_fd asked.now.to_path asked.now.to_len)
         w memory.now (with_volume volume.new w) memory.now (errno_of result) }

@@ -1,6 +1,6 @@
 //! Positions of files.
 
-ghost use Rattle.std.specs.Prelude.{◌≡◌, ◌<◌, ◌≤◌, length, ℕ, ◌^◌, ◌==◌, ◌&&◌, ◌||◌, Ok, Err, MatchResult, IfOk, IfErr, OnOk, ◌+◌};
+ghost use Rattle.std.specs.Prelude.{true, ◌≡◌, ◌<◌, ◌≤◌, length, ℕ, ◌^◌, ◌==◌, ◌&&◌, ◌||◌, Ok, Err, MatchResult, IfOk, IfErr, OnOk, ◌+◌};
 ghost use Rattle.vol_sector.specs.Disk.{Leaves};
 ghost use Rattle.vol_tree.specs.Calls.{bytes_at};
 ghost use Rattle.vol_tree.specs.Opened.{Tells, Keeps, is_io};
@@ -93,6 +93,7 @@ fn seek_from<D: Device>(
     requires file { IsFileOf D.honest volume.old opened.now.serial }
     requires known { whence ≤ 2 }
     ensures step { VolumeStep D.honest D.disk D.size D.failures volume.old volume.new }
+    ensures io { is_io result ≡ true → volume.new.failed ≡ true }
     ensures told { D.honest volume.old.device → (w : World) → w ≡ with_volume volume.old w
         → IfOk result (λ from. TellsFrom volume.new w opened.now whence from) }
     ensures failed { D.honest volume.old.device → (w : World) → w ≡ with_volume volume.old w
@@ -169,6 +170,7 @@ pub(crate) fn fd_seek<D: Device>(
 ) -> Result<(), Errno>
     requires { KnowsEntries D.honest volume.old (table_of descriptors.old) }
     ensures step { VolumeStep D.honest D.disk D.size D.failures volume.old volume.new }
+    ensures io { errno_of result ≡ 29 → volume.new.failed ≡ true }
     ensures entries { NoMoreEntries (table_of descriptors.old) (table_of descriptors.new) }
     ensures answered { D.honest volume.old.device → (w : World) → w.table ≡ table_of descriptors.old
         → w ≡ with_volume volume.old w

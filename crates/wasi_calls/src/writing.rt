@@ -47,7 +47,7 @@ fn put_bytes<D: Device>(
         × ((tree_with (geometry volume.old.numbers) volume.old.tree serial at (take 16384 (gathered memory.now (list_of buffers.now))) ≡ Err e) ⊎ (e ≡ vol_errno.Io))) }
     ensures crash { D.honest volume.old.device
         → Leaves (D.disk volume.old.device) (D.disk volume.new.device)
-        (ReflectsOr (D.disk volume.old.device) volume.old.tree) }
+        (ReflectsOr (D.disk volume.old.device) volume.old.numbers volume.old.tree) }
     ensures kept { Keeps D.honest D.size D.failures volume.old volume.new (is_io result) }
 {
     let len = total_len(buffers).min(MOST_WRITTEN) as u32;
@@ -81,6 +81,7 @@ pub(crate) fn write_at<D: Device>(
     requires few { length buffers.now ≤ 1024 }
     requires usable { AreUsable memory.old (list_of buffers.now) result_at }
     ensures step { VolumeStep D.honest D.disk D.size D.failures volume.old volume.new }
+    ensures io { errno_of result ≡ 29 → volume.new.failed ≡ true }
     ensures answered { D.honest volume.old.device → (w : World) → w ≡ with_volume volume.old w
         → Answered (λ v. placed v opened.now at (gathered memory.old (list_of buffers.now)) result_at) w memory.old (with_volume volume.new w) memory.new (errno_of result) }
 {
@@ -106,6 +107,7 @@ fn where_it_writes<'t, D: Device>(
     ensures asked { IsTrue opened.now.append → D.honest volume.old.device → Leaves (D.disk volume.old.device) (D.disk volume.new.device) (λ c. ⊥) }
     ensures moved { IfOk result (λ s. s ≡ record opened.now { position = s.position }) }
     ensures step { VolumeStep D.honest D.disk D.size D.failures volume.old volume.new }
+    ensures io { is_io result ≡ true → volume.new.failed ≡ true }
 {
     if !opened.append {
         return Ok(*opened);
@@ -134,6 +136,7 @@ fn write_on<'t, D: Device>(
     requires few { length buffers.now ≤ 1024 }
     requires usable { AreUsable memory.old (list_of buffers.now) request.now.result_at }
     ensures step { VolumeStep D.honest D.disk D.size D.failures volume.old volume.new }
+    ensures io { errno_of result ≡ 29 → volume.new.failed ≡ true }
     ensures entries { NoMoreEntries (table_of descriptors.old) (table_of descriptors.new) }
     ensures answered { D.honest volume.old.device → (w : World) → w.table ≡ table_of descriptors.old → w ≡ with_volume volume.old w
         → Answered (λ v. written_on v request.now.fd opened.now (gathered memory.old (list_of buffers.now)) request.now.result_at) w memory.old (with_table (table_of descriptors.new) (with_volume volume.new w)) memory.new (errno_of result) }
@@ -165,6 +168,7 @@ pub(crate) fn write_file<'t, D: Device>(
     requires few { length buffers.now ≤ 1024 }
     requires usable { AreUsable memory.old (list_of buffers.now) request.now.result_at }
     ensures step { VolumeStep D.honest D.disk D.size D.failures volume.old volume.new }
+    ensures io { errno_of result ≡ 29 → volume.new.failed ≡ true }
     ensures entries { NoMoreEntries (table_of descriptors.old) (table_of descriptors.new) }
     ensures answered { D.honest volume.old.device → (w : World) → w.table ≡ table_of descriptors.old → w ≡ with_volume volume.old w
         → Answered (λ v. written_to v request.now.fd (Descriptor.Entry opened.now) (gathered memory.old (list_of buffers.now)) request.now.result_at) w memory.old (with_table (table_of descriptors.new) (with_volume volume.new w)) memory.new (errno_of result) }

@@ -1,5 +1,5 @@
 -- What a reader gave.
-use Rattle.std.specs.Prelude.{◌≡◌, ◌≤◌, ℕ, List, [], ◌∷◌, length, true, false, Option, Ok}
+use Rattle.std.specs.Prelude.{◌≡◌, ◌≤◌, ℕ, List, [], ◌∷◌, ◌||◌, nat_lt, length, true, false, Option, Ok}
 use Rattle.std.specs.Io.KnownBytes.{Consumes}
 use Rattle.byteorder.specs.Endian.{little_bytes}
 use Rattle.wasm_store.specs.Bytes.{written}
@@ -43,6 +43,7 @@ pub record IsRead {R : Type 0} (remaining : R → Option (List ℕ)) (old new : 
   pub dealt : Dealt (remaining old.reader) (remaining new.reader) m bs filled count
   pub full : new.ended ≡ false → count ≡ total bs
   pub none : old.ended ≡ true → count ≡ 0
+  pub ended : new.ended ≡ (old.ended || nat_lt count (total bs))
   pub stand : memory ≡ written filled result (little_bytes 4 count)
 
 -- the bytes of what a number stands for, in the buffers

@@ -13,14 +13,15 @@ use Rattle.wasi_fd.specs.declared.descriptor.EntryKind.TheVariants as kinds
 use Rattle.wasi_fd.specs.declared.descriptor.Opened.{Opened as OpenedEntry}
 use Rattle.wasi_fd.specs.Table.{Table, table_of}
 use Rattle.wasm_store.specs.declared.call.Errno.{Errno}
+use Rattle.wasm_store.specs.declared.call.HostCall.{HostCall}
 use Rattle.wasi_calls.specs.Checks.{Checked, Done, Refusals, any_kind, only_directories, no_directories, only_files, sized, no_streams}
 use Rattle.wasi_calls.specs.declared.checks.Takes.{Takes}
 use Rattle.wasi_calls.specs.declared.checks.Takes.TheVariants as takes
 use Rattle.wasi_calls.specs.declared.inner.Inner.{Inner}
 use Rattle.wasi_calls.specs.Settings.{settings_fit}
 use Rattle.wasi_calls.specs.World.{World}
-use Rattle.wasi_calls.specs.Calls.{Answered}
-use Rattle.wasi_calls.specs.Host.{HostState, StreamBytes, world_of, StreamsTell, VolumeStep}
+use Rattle.wasi_calls.specs.Calls.{row, reaches_volume, Answered}
+use Rattle.wasi_calls.specs.Host.{HostState, StreamBytes, world_of, HasFailed, StreamsMove, MayFollow, before_moving, after_moving, VolumeStep}
 
 -- `filetype`
 abbrev pub type_of_entry : Kind → ℕ
@@ -95,13 +96,17 @@ pub record IsFileOf {D : Type 0} (honest : D → Type 0) (v : Opened D) (serial 
 
 module _ {D R W1 W2 : Type 0} (honest : D → Type 0) (disk : D → Disk) (sectors_on failures : D → ℕ)
     (remaining : R → Option (List ℕ)) (out_contents : W1 → Option (List ℕ)) (err_contents : W2 → Option (List ℕ)) where
-  -- What the body of a call says: where the device keeps its model, the call answers and leaves what its row says in a
-  -- world that the host shows, or what its failing case allows.
-  pub record Serves (run : World → Checked Done) (old : Inner D R W1 W2) (memory : List ℕ) (new : Inner D R W1 W2) (memory' : List ℕ) (errno : ℕ) : Type 0 where
+  -- What the body of a call says: where the device keeps its model or the call reaches no volume, the call answers and
+  -- leaves what its row says in a world that the host shows, or what its failing case allows.
+  pub record Serves (c : HostCall) (used : ℕ) (args : List ℕ) (old : Inner D R W1 W2) (memory : List ℕ) (new : Inner D R W1 W2) (memory' : List ℕ) (errno : ℕ) : Type 0 where
     pub set_up : IsSetUp remaining new
-    pub row : honest old.volume.device → (before after : StreamBytes) × StreamsTell remaining out_contents err_contents (state_of old) (state_of new) before after
-        × Answered run (world_of (state_of old) before) memory (world_of (state_of new) after) memory' errno
+    pub row : (IsTrue (reaches_volume c (table_of old.descriptors) args) → honest old.volume.device)
+        → (moved : StreamBytes) × StreamsMove remaining out_contents err_contents (state_of old) (state_of new) moved
+        × ((others : StreamBytes) → MayFollow (state_of new) others
+        → Answered (λ w. row c w memory used args) (world_of (state_of old) (before_moving moved others)) memory (world_of (state_of new) (after_moving moved others)) memory' errno)
     pub volume : VolumeStep honest disk sectors_on failures old.volume new.volume
+    pub settings : new.settings ≡ record old.settings { random = new.settings.random }
+    pub io : errno ≡ 29 → HasFailed c (state_of new)
 
 -- the world with this table
 abbrev pub with_table : Table → World → World

@@ -1,7 +1,7 @@
 //! A device of whose operations one fails, in the middle of a guest's calls.
 
 use super::guest::{Guest, PLAIN, host, opened};
-use super::streams::Feeding;
+use super::streams::{Feeding, Taking};
 use std::alloc::{AllocError, Global};
 use wasm_interp::Host;
 use wasm_store::HostCall::{
@@ -68,7 +68,7 @@ fn answered_in_page(alloc: Global, guest: &mut Guest<'_, '_>) -> Option<usize> {
 /// none where one answers otherwise; none at all where no call can be made.
 fn counted(alloc: Global, failing: u64) -> Option<Option<usize>> {
     let volume = opened(alloc, failing)?;
-    match host(alloc, PLAIN, volume, Feeding::new(b"", 0), 0) {
+    match host(alloc, PLAIN, volume, Feeding::new(&[]), Taking::all(alloc)) {
         Ok(mut guest) => {
             let count = answered_in_page(alloc, &mut guest);
             drop(guest);

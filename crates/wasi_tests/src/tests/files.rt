@@ -1,7 +1,8 @@
 //! Files: their bytes, sizes and positions.
 
 use super::guest::Step::{Call, Has, Open, Put};
-use super::guest::assert_plain;
+use super::guest::{PLAIN, Step, assert_plain, assert_steps, host, opened_on};
+use super::streams::{Feeding, Taking};
 use wasm_store::HostCall::{
     FdFilestatGet, FdFilestatSetSize, FdPread, FdPwrite, FdRead, FdSeek, FdTell, FdWrite, PathOpen,
 };
@@ -24,6 +25,32 @@ fn a_size_takes_space(rt: HostRuntime) {
             Call(FdFilestatSetSize, &[5, 0], 8),
         ],
     );
+}
+
+/// Makes a file as long as it can be, and then longer, where there are sectors enough.
+const LONGEST: &[Step<'static>] = &[
+    Open(b"a", 1, 0),
+    Call(FdFilestatSetSize, &[4, 95_232], 0),
+    Call(FdFilestatSetSize, &[4, 95_233], 22),
+    Call(FdFilestatGet, &[4, 200], 0),
+    Has(232, b"\x00\x74\x01\0\0\0\0\0"),
+];
+
+#[test]
+fn a_size_has_a_limit(rt: HostRuntime) {
+    let alloc = rt.alloc();
+    match opened_on(alloc, 1_000, 0) {
+        Some(volume) => {
+            match host(alloc, PLAIN, volume, Feeding::new(&[]), Taking::all(alloc)) {
+                Ok(mut guest) => {
+                    assert_steps(&rt, alloc, &mut guest, LONGEST);
+                    drop(guest);
+                }
+                Err(_) => panic!(rt; "no host"),
+            }
+        }
+        None => panic!(rt; "no volume"),
+    }
 }
 
 #[test]

@@ -56,28 +56,33 @@ pub type Guest<'s, 't> = WasiHost<'s, 't, FlakyDevice<MemoryDevice>, Feeding, Ta
 /// A volume on a device, of whose operations one fails.
 pub type Flaky = Volume<FlakyDevice<MemoryDevice>>;
 
-/// A fresh volume of 202 sectors and 16 slots, on a device whose operation of this number fails, or none does where it is
-/// 0; none where it can't be opened.
-pub fn opened(alloc: Global, failing: u64) -> Option<Flaky> {
-    let device = MemoryDevice::new(alloc, 202, 2_000).ok()?;
-    let device = Volume::format(device, 202, 16).ok()?;
+/// A fresh volume of this many sectors and 16 slots, on a device whose operation of this number fails, or none does where
+/// it is 0; none where it can't be opened.
+pub fn opened_on(alloc: Global, sectors: u32, failing: u64) -> Option<Flaky> {
+    let device = MemoryDevice::new(alloc, sectors, 2_000).ok()?;
+    let device = Volume::format(device, sectors, 16).ok()?;
     Volume::open(alloc, FlakyDevice::new(device, failing)).ok()
 }
 
-/// A host of these settings over a volume, whose outputs take this many bytes, with its directories open.
+/// One of 202 sectors.
+pub fn opened(alloc: Global, failing: u64) -> Option<Flaky> {
+    opened_on(alloc, 202, failing)
+}
+
+/// A host of these settings over a volume and this output, with its directories open.
 pub fn host<'s, 't>(
     alloc: Global,
     settings: Settings<'s, 't>,
     volume: Flaky,
     input: Feeding,
-    takes: usize,
+    out: Taking,
 ) -> Result<Guest<'s, 't>, HostFault> {
     let parts = HostParts {
         settings,
         volume,
         input,
-        out: Taking::new(alloc, takes),
-        err: Taking::new(alloc, 1_000),
+        out,
+        err: Taking::all(alloc),
     };
     match WasiHost::new(alloc, parts) {
         Ok(mut host) => match host.preopen() {
@@ -100,11 +105,14 @@ pub fn fresh<'s, 't>(
     alloc: Global,
     settings: Settings<'s, 't>,
     input: Feeding,
-    takes: usize,
+    out: Taking,
 ) -> Option<Guest<'s, 't>> {
     match opened(alloc, 0) {
-        Some(volume) => host(alloc, settings, volume, input, takes).ok(),
-        None => None,
+        Some(volume) => host(alloc, settings, volume, input, out).ok(),
+        None => {
+            drop((input, out));
+            None
+        }
     }
 }
 
@@ -198,7 +206,7 @@ pub fn assert_fed(
     input: Feeding,
     steps: &[Step<'_>],
 ) {
-    match fresh(alloc, settings, input, 1_000) {
+    match fresh(alloc, settings, input, Taking::all(alloc)) {
         Some(mut guest) => {
             assert_steps(rt, alloc, &mut guest, steps);
             drop(guest);
@@ -209,7 +217,7 @@ pub fn assert_fed(
 
 /// The same without input.
 pub fn assert_with(rt: &impl Abort, alloc: Global, settings: Settings<'_, '_>, steps: &[Step<'_>]) {
-    assert_fed(rt, alloc, settings, Feeding::new(b"", 0), steps);
+    assert_fed(rt, alloc, settings, Feeding::new(&[]), steps);
 }
 
 /// Does the steps in turn over a fresh volume, with the root as descriptor 3.

@@ -1,7 +1,7 @@
 //! Which imports link, and what a call without memory or arguments answers.
 
 use super::guest::{Guest, PLAIN, fresh};
-use super::streams::Feeding;
+use super::streams::{Feeding, Taking};
 use std::alloc::{AllocError, Global};
 use std::process::Abort;
 use wasm_interp::Host;
@@ -45,7 +45,7 @@ fn assert_imports(rt: &impl Abort, alloc: Global, guest: &Guest<'_, '_>, imports
 }
 
 fn assert_linked(rt: &impl Abort, alloc: Global, imports: &[Import<'_>]) {
-    match fresh(alloc, PLAIN, Feeding::new(b"", 0), 0) {
+    match fresh(alloc, PLAIN, Feeding::new(&[]), Taking::all(alloc)) {
         Some(guest) => {
             assert_imports(rt, alloc, &guest, imports);
             drop(guest);
@@ -120,7 +120,7 @@ fn assert_without_memory(
 }
 
 fn assert_calls(rt: &impl Abort, alloc: Global, rows: &[Row<'_>]) {
-    match fresh(alloc, PLAIN, Feeding::new(b"", 0), 0) {
+    match fresh(alloc, PLAIN, Feeding::new(&[]), Taking::all(alloc)) {
         Some(mut guest) => {
             assert_without_memory(rt, alloc, &mut guest, rows);
             drop(guest);

@@ -2,7 +2,7 @@
 
 use super::guest::Step::{Call, Has, On, Open, Put, Rename};
 use super::guest::{Flaky, STAT, Step, assert_plain, assert_steps, host, opened};
-use super::streams::Feeding;
+use super::streams::{Feeding, Taking};
 use std::alloc::Global;
 use std::process::Abort;
 use std::test::Fail;
@@ -198,7 +198,13 @@ fn within(rt: &impl Abort, alloc: Global, path: &[u8], volume: Flaky, steps: &[S
         guest_name: b"/",
         path,
     }];
-    match host(alloc, seeing(&preopens), volume, Feeding::new(b"", 0), 0) {
+    match host(
+        alloc,
+        seeing(&preopens),
+        volume,
+        Feeding::new(&[]),
+        Taking::all(alloc),
+    ) {
         Ok(mut guest) => {
             assert_steps(rt, alloc, &mut guest, steps);
             let HostParts { volume, .. } = guest.into_parts();
@@ -239,7 +245,15 @@ fn is_refused(alloc: Global, path: &[u8], want: Option<HostFault>) -> bool {
     }];
     match opened(alloc, 0) {
         Some(volume) => {
-            host(alloc, seeing(&preopens), volume, Feeding::new(b"", 0), 0).err() == want
+            host(
+                alloc,
+                seeing(&preopens),
+                volume,
+                Feeding::new(&[]),
+                Taking::all(alloc),
+            )
+            .err()
+                == want
         }
         None => false,
     }

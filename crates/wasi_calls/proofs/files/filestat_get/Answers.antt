@@ -1,11 +1,14 @@
 use Rattle.std.proofs.Common.{◌≡◌, ◌^◌, ℕ, List, false, Ok, Some, refl, sym, ap, ◌∙◌, subst}
 use Rattle.wasm_store.specs.Bytes.{written}
 use Rattle.wasi_fd.specs.Table.{table_of}
+use Rattle.wasi_calls.specs.declared.checks.Takes.TheVariants as takes
+use Rattle.wasi_calls.proofs.Causes.{asked_29, check_not_29, no_29_at_0, not_29}
+use Rattle.wasi_calls.proofs.Checking.{descriptor_never, range_never}
 use Rattle.wasi_calls.specs.World.{World, volume_gone}
-use Rattle.wasi_calls.specs.Checks.{any_kind, with_result}
+use Rattle.wasi_calls.specs.Checks.{any_kind, with_result, descriptor, range}
 use Rattle.wasi_calls.specs.Descriptors.{fd_filestat_get, filestat, entry_stat, stat_of}
 use Rattle.wasi_calls.specs.Calls.{Answered}
-use Rattle.wasi_calls.specs.internal.Serving.{with_volume}
+use Rattle.wasi_calls.specs.internal.Serving.{with_volume, refusals_of}
 use Rattle.wasi_calls.proofs.Yields.{goes_on, stops}
 use Rattle.wasi_calls.proofs.Entries.{at_descriptor, is_used}
 use Rattle.wasi_calls.proofs.Volumes.{is_no_err, was_working, same_volume, refused_first, done_by, tree_refuses, tree_called_alive, tree_called_gone}
@@ -18,6 +21,7 @@ returns-in-Err g c = record {
   step = volume_rests g.D.Device.honest g.D.Device.disk g.D.Device.size g.D.Device.failures c.args.volume.now;
   answered = λ h w table shown.
       refused_first w c.args.memory.now (λ v. fd_filestat_get v c.args.memory.now c.args.fd c.args.result_at) c.args.volume.now _ shown (stops _ _ _ (c.in-Err.ensures w table));
+  io = check_not_29 (table_of c.args.descriptors.now) (λ w. descriptor w c.args.fd (refusals_of takes.Any) (2 ^ 21)) _ (descriptor_never c.args.fd takes.Any (2 ^ 21)) c.in-Err.ensures;
 }
 
 pub returns-in-Err-check_range : goal.returns-in-Err-check_range
@@ -26,6 +30,7 @@ returns-in-Err-check_range g c = record {
   answered = λ h w table shown.
       refused_first w c.args.memory.now (λ v. fd_filestat_get v c.args.memory.now c.args.fd c.args.result_at) c.args.volume.now _ shown
       (goes_on _ _ c.in-Ok.descriptor (c.in-Ok.ensures w table) ∙ stops _ _ _ c.in-Err-check_range.ensures.range);
+  io = not_29 (range c.args.memory.now c.args.result_at 64) _ (range_never c.args.memory.now c.args.result_at 64) c.in-Err-check_range.ensures.range;
 }
 
 pub stat_entry-requires : goal.stat_entry-requires
@@ -47,6 +52,7 @@ returns-in-Stream g c = record {
       done_by w m (λ v. fd_filestat_get v m c.args.fd c.args.result_at) c.args.volume.now _ (with_result w c.args.result_at (filestat 0 2 0))
       (goes_on _ _ c.in-Ok.descriptor (c.in-Ok.ensures w table) ∙ (goes_on _ _ tt c.in_default.ensures.range ∙ goes_on _ _ (filestat 0 2 0) (ap (stat_of w) c.in-Stream.is)))
       (sym shown) (c.write_bytes.ensures.bytes ∙ ap (written m c.args.result_at) c.filestat.ensures);
+  io = no_29_at_0;
 }
 
 pub returns-in-Ok-stat_entry : goal.returns-in-Ok-stat_entry
@@ -68,6 +74,7 @@ returns-in-Ok-stat_entry g c = record {
       (goes_on _ _ c.in-Ok.descriptor (c.in-Ok.ensures w table) ∙ (goes_on _ _ tt c.in_default.ensures.range
       ∙ goes_on _ _ bytes (ap (stat_of w) c.in-Entry.is ∙ tree_called_alive w (Ok bytes) alive)))
       (same_volume w m old new shown k.numbers tree (k.failed ∙ sym working)) (c.write_bytes-in-Ok-stat_entry.ensures.bytes ∙ ap (written m c.args.result_at) same);
+  io = no_29_at_0;
 }
 
 pub returns-in-Err-stat_entry : goal.returns-in-Err-stat_entry
@@ -90,4 +97,5 @@ returns-in-Err-stat_entry g c = record {
       ∙ stops _ _ 29 (ap (stat_of (volume_gone w)) c.in-Entry.is ∙ tree_called_gone w (Ok bytes))))
       (λ alive. is_no_err _ (with_result w at bytes) 29 (goes_on _ _ c.in-Ok.descriptor (c.in-Ok.ensures w table) ∙ (goes_on _ _ tt c.in_default.ensures.range
       ∙ goes_on _ _ bytes (ap (stat_of w) c.in-Entry.is ∙ tree_called_alive w (Ok bytes) alive)))));
+  io = asked_29 (List ℕ) c.in-Err-stat_entry.errno _ (λ fails. c.in-Err-stat_entry.ensures.kept.failed ∙ fails) c.refused.ensures;
 }

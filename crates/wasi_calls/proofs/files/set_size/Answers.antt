@@ -1,11 +1,14 @@
-use Rattle.std.proofs.Common.{◌^◌, ℕ, refl, sym, subst}
+use Rattle.std.proofs.Common.{◌^◌, ℕ, refl, sym, subst, ◌∙◌}
 use Rattle.vol_tree.specs.Calls.{resized}
 use Rattle.wasi_fd.specs.Table.{table_of}
+use Rattle.wasi_calls.specs.declared.checks.Takes.TheVariants as takes
+use Rattle.wasi_calls.proofs.Causes.{asked_29, check_not_29, no_29_at_0}
+use Rattle.wasi_calls.proofs.Checking.{entry_never}
 use Rattle.wasi_calls.specs.World.{volume_gone}
 use Rattle.wasi_calls.specs.Files.{fd_filestat_set_size}
 use Rattle.wasi_calls.specs.Calls.{Answered}
-use Rattle.wasi_calls.specs.Checks.{sized}
-use Rattle.wasi_calls.specs.internal.Serving.{with_volume}
+use Rattle.wasi_calls.specs.Checks.{sized, entry_at}
+use Rattle.wasi_calls.specs.internal.Serving.{with_volume, refusals_of}
 use Rattle.wasi_calls.proofs.Yields.{goes_on, stops}
 use Rattle.wasi_calls.proofs.Entries.{file_of}
 use Rattle.wasi_calls.proofs.Volumes.{steps, refused_first, changed_ok, changed_err, resized_never}
@@ -22,6 +25,7 @@ returns-in-Err g c = record {
   step = volume_rests g.D.Device.honest g.D.Device.disk g.D.Device.size g.D.Device.failures c.args.volume.now;
   answered = λ h w m table shown.
       refused_first w m (λ v. fd_filestat_set_size v c.args.fd c.args.size) c.args.volume.now _ shown (stops _ _ _ (c.in-Err.ensures w table));
+  io = check_not_29 (table_of c.args.descriptors.now) (λ w. entry_at w c.args.fd (refusals_of takes.Sized) (2 ^ 22)) _ (entry_never c.args.fd takes.Sized (2 ^ 22)) c.in-Err.ensures;
 }
 
 pub returns-in-Ok-set_size : goal.returns-in-Ok-set_size
@@ -33,6 +37,7 @@ returns-in-Ok-set_size g c = record {
       changed_ok g.D.Device.honest g.D.Device.size g.D.Device.failures w m (λ v. fd_filestat_set_size v c.args.fd size) (λ v. resized v.volume v.tree o.serial size)
       c.args.volume.now c.set_size.new.self shown (goes_on _ _ o (c.in-Ok.ensures w table))
       c.in-Ok-set_size.ensures.kept (c.in-Ok-set_size.ensures.answer h);
+  io = no_29_at_0;
 }
 
 pub returns-in-Err-set_size : goal.returns-in-Err-set_size
@@ -47,4 +52,5 @@ returns-in-Err-set_size g c = record {
       (changed_err g.D.Device.honest g.D.Device.size g.D.Device.failures w m (λ v. fd_filestat_set_size v c.args.fd size) (λ v. resized v.volume v.tree o.serial size)
       c.args.volume.now c.set_size.new.self shown (goes_on _ _ o (c.in-Ok.ensures w table))
       (goes_on _ _ o (c.in-Ok.ensures (volume_gone w) table)) (resized_never w.volume w.tree o.serial size) e c.in-Err-set_size.ensures.kept tree meant);
+  io = asked_29 (Unit {0}) c.in-Err-set_size.errno _ (λ fails. c.in-Err-set_size.ensures.kept.failed ∙ fails) c.refused.ensures;
 }

@@ -1,12 +1,15 @@
 use Rattle.std.proofs.Common.{◌≡◌, ℕ, false, not, Ok, Err, inl, inr, refl, sym, ap, ◌∙◌, subst}
 use Rattle.vol_tree.specs.declared.errno.Errno.TheVariants as errno
 use Rattle.wasi_fd.specs.Rights.{bits_of}
+use Rattle.wasi_calls.specs.declared.checks.Takes.TheVariants as takes
+use Rattle.wasi_calls.proofs.Causes.{asked_29, check_not_29, no_29_at_0}
+use Rattle.wasi_calls.proofs.Checking.{entry_never}
 use Rattle.wasi_calls.specs.World.{World, volume_gone}
 use Rattle.wasi_calls.specs.Checks.{only_world, entry_at, no_streams}
 use Rattle.wasi_fd.specs.declared.descriptor.Opened.{Opened}
 use Rattle.wasi_calls.specs.Files.{fd_sync}
 use Rattle.wasi_calls.specs.Calls.{Answered}
-use Rattle.wasi_calls.specs.internal.Serving.{with_volume}
+use Rattle.wasi_calls.specs.internal.Serving.{with_volume, refusals_of}
 use Rattle.wasi_calls.proofs.Yields.{guard_passes, guard_fails, goes_on, stops}
 use Rattle.wasi_calls.proofs.Volumes.{steps, is_no_err, same_tree, was_working, same_volume, refused_first, done_by, tree_refuses}
 use Rattle.wasi_fd.specs.Table.{table_of}
@@ -42,6 +45,7 @@ returns-in-Ok g c = record {
       (done w c.args.fd right c.in_default.field-0 (c.in_default.ensures w table) alive)
       (same_volume w m old new shown k.numbers tree (k.failed ∙ sym working)) refl;
   durable = λ h zero. c.in-Ok.ensures.durable h;
+  io = no_29_at_0;
 }
 
 pub returns-in-Err-sync : goal.returns-in-Err-sync
@@ -62,6 +66,7 @@ returns-in-Err-sync g c = record {
       (failed w c.args.fd right o (c.in_default.ensures (volume_gone w) table))
       (λ alive. is_no_err _ (only_world w) 29 (ok alive)));
   durable = λ h zero. absurd (number_never_zero c.in-Err-sync.errno (sym c.refused.ensures ∙ zero));
+  io = asked_29 (Unit {0}) c.in-Err-sync.errno _ (λ fails. c.in-Err-sync.ensures.kept.failed ∙ fails) c.refused.ensures;
 }
 
 -- no refusal has the number of success
@@ -71,3 +76,6 @@ returns-in-Err-clause-durable g c = λ h zero. absurd (not_zero _ _ (entry_never
 
 pub returns-in-Err-clause-step : goal.returns-in-Err-clause-step
 returns-in-Err-clause-step g c = volume_rests g.D.Device.honest g.D.Device.disk g.D.Device.size g.D.Device.failures c.args.volume.now
+
+pub returns-in-Err-clause-io : goal.returns-in-Err-clause-io
+returns-in-Err-clause-io g c = check_not_29 (table_of c.args.descriptors.now) (λ w. entry_at w c.args.fd (refusals_of takes.NoStreams) (bits_of c.args.right)) _ (entry_never c.args.fd takes.NoStreams (bits_of c.args.right)) c.in-Err.ensures

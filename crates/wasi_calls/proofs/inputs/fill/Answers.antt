@@ -24,6 +24,8 @@ returns-in-Ok-eq0 g c = record {
       c.in-Ok-eq0.field-0-test c.in-Ok-eq0.ensures.came in
       came_end _ _ _ c.args.memory.now c.loop-filled.memory c.read_some.new.memory c.args.start c.args.len c.loop-filled.filled c.requires.inside was.few was.came none;
   full = λ goes_on. absurd (false≢true (sym goes_on));
+  short = λ ended. c.loop-filled-test.true;
+  still = tt;
   end = λ ended. c.in-Ok-eq0.ensures.end c.in-Ok-eq0.field-0-test;
   broke = tt;
   mark = c.loop-filled.invariant.mark;
@@ -38,6 +40,8 @@ returns-in-Err g c = record {
   long = c.in-Err.ensures.long ∙ c.loop-filled.invariant.long;
   came = tt;
   full = tt;
+  short = tt;
+  still = c.loop-filled.invariant.goes_on;
   end = λ ended. absurd (false≢true (sym c.loop-filled.invariant.goes_on ∙ ended));
   broke = came_fails _ _ _ c.args.memory.now c.loop-filled.memory c.read_some.new.memory c.args.start c.args.len c.loop-filled.filled c.loop-filled.invariant.came c.in-Err.ensures.broke c.in-Err.ensures.kept;
   mark = c.loop-filled.invariant.mark;
@@ -48,6 +52,8 @@ returns g c = record {
   long = c.loop-filled.invariant.long;
   came = c.loop-filled.invariant.came;
   full = λ goes_on. omega (arith, c.loop-filled.invariant.few, c.loop-filled-test.false);
+  short = λ ended. absurd (false≢true (sym c.loop-filled.invariant.goes_on ∙ ended));
+  still = tt;
   end = λ ended. absurd (false≢true (sym c.loop-filled.invariant.goes_on ∙ ended));
   broke = tt;
   mark = c.loop-filled.invariant.mark;

@@ -1,5 +1,5 @@
 use Rattle.std.proofs.lemmas.List.{take_all}
-use Rattle.std.proofs.Common.{◌≡◌, ◌⊎◌, take, inl, inr, sym, ◌∙◌, arith, List, Ok, ap, subst}
+use Rattle.std.proofs.Common.{◌≡◌, ◌<◌, ◌⊎◌, take, inl, inr, sym, ◌∙◌, arith, List, Ok, ap, subst}
 use Rattle.std.proofs.lemmas.Bool.{false≢true}
 use Rattle.vol_body.specs.declared.source.Span.{Span}
 use Rattle.wasi_calls.specs.Checks.{total}
@@ -25,6 +25,8 @@ returns-in-Err g c = record {
   long = c.in-Err.ensures.long ∙ c.loop-buffer.invariant.long;
   dealt = tt;
   full = tt;
+  short = tt;
+  still = c.in-Err.ensures.still;
   none = λ ended. absurd (no_count c.in-Err.failed 0 (c.in-Err.ensures.none (c.loop-buffer.invariant.none ended).1).0);
   end = c.in-Err.ensures.end;
   broke = let before = c.loop-buffer.invariant in
@@ -55,6 +57,10 @@ loop-buffer-preserved g c =
         | inl is ↦ absurd (false≢true (sym goes_on ∙ (told.none is).1))
         | inr not_yet ↦ omega (arith, sum, before.full not_yet, told.full goes_on)
       ];
+      short = λ began ended. elim (ended_or c.loop-buffer.input.ended) [
+        | inl is ↦ omega (arith, sum, before.short began is, same_count c.in-Ok.more 0 (told.none is).0)
+        | inr not_yet ↦ omega (arith, sum, before.full not_yet, told.short not_yet ended)
+      ];
       none = λ ended. let was = before.none ended in let now = told.none was.1 in (omega (arith, was.0, same_count c.in-Ok.more 0 now.0), now.1);
       end = told.end;
       mark = told.mark ∙ before.mark;
@@ -65,7 +71,10 @@ returns g c = record {
   long = c.loop-buffer.invariant.long;
   dealt = subst (λ (l : List Span). Dealt (g.R.Read.remaining c.args.input.now.reader) (g.R.Read.remaining c.loop-buffer.input.reader) c.args.memory.now (list_of l) c.loop-buffer.memory c.loop-buffer.count) (take_all c.loop-buffer.buffer-index c.args.buffers.now c.loop-buffer-test.false) c.loop-buffer.invariant.dealt;
   full = λ goes_on. c.loop-buffer.invariant.full goes_on ∙ ap (λ (l : List Span). total (list_of l)) (take_all c.loop-buffer.buffer-index c.args.buffers.now c.loop-buffer-test.false);
-  none = λ ended. ap Ok (c.loop-buffer.invariant.none ended).0;
+  short = λ began ended.
+      subst (λ (l : List Span). c.loop-buffer.count < total (list_of l)) (take_all c.loop-buffer.buffer-index c.args.buffers.now c.loop-buffer-test.false) (c.loop-buffer.invariant.short began ended);
+  still = tt;
+  none = λ ended. (ap Ok (c.loop-buffer.invariant.none ended).0, (c.loop-buffer.invariant.none ended).1);
   end = c.loop-buffer.invariant.end;
   broke = tt;
   mark = c.loop-buffer.invariant.mark;

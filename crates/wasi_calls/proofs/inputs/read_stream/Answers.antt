@@ -1,6 +1,6 @@
 use Rattle.std.proofs.Common.{◌≡◌, false, inl, inr, refl, ap, sym, ◌∙◌}
 use Rattle.std.proofs.lemmas.Bool.{false≢true}
-use Rattle.wasi_calls.proofs.Incoming.{ended_or, no_count, same_count}
+use Rattle.wasi_calls.proofs.Incoming.{ended_or, ended_so, no_count, same_count}
 use Rattle.wasm_store.specs.Bytes.{written}
 use Rattle.wasi_calls.proofs.inputs.read_stream.Goals as goal
 
@@ -10,10 +10,10 @@ returns-in-Err g c = record {
   took = tt;
   broke = λ worked.
       let goes_on : c.args.input.now.ended ≡ false = elim (ended_or c.args.input.now.ended) [
-        | inl is ↦ absurd (no_count c.in-Err.field-0 0 (c.in-Err.ensures.none is))
+        | inl is ↦ absurd (no_count c.in-Err.field-0 0 (c.in-Err.ensures.none is).0)
         | inr not_yet ↦ not_yet
       ] in
-      (refl, goes_on, c.in-Err.ensures.broke);
+      (refl, goes_on, c.in-Err.ensures.still, c.in-Err.ensures.broke);
   answer = refl;
   end = c.in-Err.ensures.end;
 }
@@ -38,7 +38,8 @@ returns-in-Ok g c = record {
         filled = c.fill_buffers.new.memory;
         dealt = c.in-Ok.ensures.dealt;
         full = c.in-Ok.ensures.full;
-        none = λ ended. same_count c.in-Ok.count 0 (c.in-Ok.ensures.none ended);
+        none = λ ended. same_count c.in-Ok.count 0 (c.in-Ok.ensures.none ended).0;
+        ended = ended_so _ _ _ _ (λ is. (c.in-Ok.ensures.none is).1) c.in-Ok.ensures.short c.in-Ok.ensures.full;
         stand = c.write_bytes.ensures.bytes ∙ ap (written c.fill_buffers.new.memory c.args.result_at) c.le32.ensures;
       };
   broke = tt;

@@ -4,6 +4,10 @@ use Rattle.wasm_store.specs.Bytes.{written}
 use Rattle.vol_tree.specs.declared.errno.Errno.{Errno}
 use Rattle.vol_tree.specs.Numbers.{number_of}
 use Rattle.vol_tree.specs.Opened.{is_io}
+use Rattle.wasi_fd.specs.Table.{table_of}
+use Rattle.wasi_calls.specs.internal.Listing.{listable}
+use Rattle.wasi_calls.proofs.Causes.{asked_29, check_not_29, no_29_at_0}
+use Rattle.wasi_calls.proofs.Checking.{listable_never}
 use Rattle.wasi_calls.specs.World.{World, volume_gone}
 use Rattle.wasi_calls.specs.Files.{dirents}
 use Rattle.wasi_calls.specs.Calls.{Answered}
@@ -24,6 +28,7 @@ returns-in-Err g c = record {
       let m = c.args.memory.now in
       let a = c.args.asked.now in
       refused_first w m (λ v. list_row v m a) c.args.volume.now _ shown (row_of_list w m a ∙ stops _ _ _ (c.in-Err.ensures.checked w table));
+  io = check_not_29 (table_of c.args.descriptors.now) (λ w. listable w c.args.memory.now c.args.asked.now) _ (listable_never c.args.memory.now c.args.asked.now) c.in-Err.ensures.checked;
 }
 
 pub returns-in-Ok-list_from : goal.returns-in-Ok-list_from
@@ -40,6 +45,7 @@ returns-in-Ok-list_from g c = record {
       list_done g.D.Device.honest g.D.Device.disk g.D.Device.size g.D.Device.failures c.args.volume.now c.list_from.new.volume w m a o h shown (c.in-Ok.ensures.checked w table)
       done.asked c.write_bytes.new.memory
       (c.write_bytes.ensures.bytes ∙ λ i. written (bytes i) a.used_at ((c.le32.ensures ∙ ap (little_bytes 4) count) i));
+  io = no_29_at_0;
 }
 
 pub returns-in-Err-list_from : goal.returns-in-Err-list_from
@@ -59,4 +65,5 @@ returns-in-Err-list_from g c = record {
       (list_fails g.D.Device.honest g.D.Device.disk g.D.Device.size g.D.Device.failures old new w m a o h shown (c.in-Ok.ensures.checked w table)
       asked (c.in-Ok.ensures.checked (volume_gone w) table) after c.in-Ok.ensures.buffer fails.idle
       (subst (λ (v : World). IsBegun m a.buffer (take a.len (dirents v.tree o.serial a.cookie)) after) (sym shown) begun));
+  io = asked_29 ℕ c.in-Err-list_from.errno _ (λ fails. c.in-Err-list_from.ensures.asked.kept.failed ∙ fails) c.refused.ensures;
 }

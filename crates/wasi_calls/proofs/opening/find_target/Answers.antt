@@ -1,14 +1,17 @@
-use Rattle.std.proofs.Common.{◌≡◌, ℕ, List, Ok, Err, refl, sym, ap, ◌∙◌, subst, inl}
+use Rattle.std.proofs.Common.{◌≡◌, ℕ, List, Ok, Err, refl, sym, ap, ◌∙◌, subst, inl, arith}
 use Rattle.std.proofs.lemmas.Bool.{false≢true}
 use Rattle.wasm_store.specs.Bytes.{bytes_at}
 use Rattle.path_walk.specs.Paths.{wants_directory, path_read}
 use Rattle.path_walk.specs.Walk.{reached_as}
 use Rattle.wasi_fd.specs.Table.{table_of}
+use Rattle.path_walk.specs.declared.walking.Reached.{Reached as ReachedValue}
+use Rattle.wasi_calls.proofs.Causes.{asked_29, check_not_29, no_29_at_0}
+use Rattle.wasi_calls.proofs.Checking.{open_entered_never}
 use Rattle.wasi_calls.specs.World.{World, volume_gone}
 use Rattle.wasi_calls.specs.Checks.{and_then}
 use Rattle.wasi_calls.specs.Paths.{path_at}
 use Rattle.wasi_calls.specs.internal.Asking.{Stops}
-use Rattle.wasi_calls.specs.internal.Opening.{open_part, ChecksAs}
+use Rattle.wasi_calls.specs.internal.Opening.{open_part, ChecksAs, open_entered}
 use Rattle.wasi_calls.proofs.Yields.{goes_on, stops}
 use Rattle.wasi_calls.proofs.Entries.{opened_at}
 use Rattle.wasi_calls.proofs.Parts.{walked_to}
@@ -25,6 +28,7 @@ returns-in-Err g c = record {
   inside = tt;
   can = tt;
   targets = λ h w table shown. inl (record { is = stops _ _ _ (c.in-Err.ensures.row w table); same = sym shown });
+  io = check_not_29 (table_of c.args.descriptors.now) (λ w. open_entered w c.args.memory.now c.args.asked.now) _ (open_entered_never c.args.memory.now c.args.asked.now) c.in-Err.ensures.row;
 }
 
 pub reach-requires : goal.reach-requires
@@ -48,6 +52,7 @@ returns-in-Err-reach g c = record {
       (ends_part w (λ v. path_at v m o a.path a.len) (λ v. after_walk v a m o) new _ (λ alive r. after_walk_never w a m o r)
       (walk_stops g.D.Device.honest g.D.Device.disk g.D.Device.size g.D.Device.failures c.args.volume.now new w o m a.path a.len c.in-Ok.entered.1.now c.in-Ok.ensures.text h shown
       c.in-Err-reach.errno (c.in-Err-reach.ensures.reaches h w o refl shown))));
+  io = asked_29 ReachedValue c.in-Err-reach.errno _ c.in-Err-reach.ensures.io c.refused.ensures;
 }
 
 pub returns-in-Err-reached_target : goal.returns-in-Err-reached_target
@@ -76,6 +81,7 @@ returns-in-Err-reached_target g c = record {
       stops_as w (λ v. open_part v m a) (λ v. and_then (path_at v m o a.path a.len) (after_walk v a m o)) new _ (goes w table) (goes (volume_gone w) table)
       (checks_stop w a m o between new r _ walked
       (subst (λ (l : List ℕ). ChecksAs a.oflags (wants_directory l) r w new (Err c.in-Err-reached_target.errno)) same checks));
+  io = c.in-Err-reached_target.ensures.io;
 }
 
 pub returns-then-is_full : goal.returns-then-is_full
@@ -105,6 +111,7 @@ returns-then-is_full g c = record {
       stops_as w (λ v. open_part v m a) (λ v. and_then (path_at v m o a.path a.len) (after_walk v a m o)) new 33 (goes w table) (goes (volume_gone w) table)
       (refuses_on w (λ v. path_at v m o a.path a.len) (λ v. after_walk v a m o) between r walked new 33 checks.2
       (goes_on _ _ tt checks.0 ∙ stops _ _ 33 (no_number w (table_of c.args.descriptors.now) table (c.is_full.ensures.0 c.if-is_full.true))));
+  io = λ is. absurd (omega (arith, is));
 }
 
 pub returns : goal.returns
@@ -141,4 +148,5 @@ returns g c = record {
             (goes_on _ _ tt checks.0 ∙ goes_on _ _ number.0 number.1));
         target = checks.1;
       };
+  io = no_29_at_0;
 }

@@ -4,6 +4,8 @@ use Rattle.vol_tree.specs.Calls.{directory_at}
 use Rattle.vol_tree.specs.Numbers.{number_of}
 use Rattle.vol_tree.specs.Opened.{is_io}
 use Rattle.path_walk.specs.Paths.{Found}
+use Rattle.wasi_calls.specs.internal.Opening.{found_checked}
+use Rattle.wasi_calls.proofs.Causes.{asked_29, not_29}
 use Rattle.wasi_calls.specs.Paths.{open_checks}
 use Rattle.path_walk.specs.Walk.{Asked}
 use Rattle.wasi_calls.specs.internal.Asking.{StopsNext}
@@ -28,6 +30,7 @@ returns-in-Err g c = record {
         never = found_checked_never c.args.oflags (directory_at w.tree c.args.serial);
         after = asked_gone g.D.Device.honest g.D.Device.disk g.D.Device.size g.D.Device.failures w old new shown h asked;
       }));
+  io = asked_29 Bool c.in-Err.errno _ (λ fails. c.in-Err.ensures.asked.kept.failed ∙ fails) c.refused.ensures;
 }
 
 pub returns-in-Err-check_found-clause-step : goal.returns-in-Err-check_found-clause-step
@@ -41,3 +44,6 @@ returns-in-Err-check_found-clause-checks c = grind (arith, common_steps)
 
 pub returns-in-Ok-check_found-clause-checks : goal.returns-in-Ok-check_found-clause-checks
 returns-in-Ok-check_found-clause-checks c = grind (arith, common_steps)
+
+pub returns-in-Err-check_found-clause-io : goal.returns-in-Err-check_found-clause-io
+returns-in-Err-check_found-clause-io g c = not_29 (found_checked c.args.oflags c.in-Ok.is_directory) _ (found_checked_never c.args.oflags c.in-Ok.is_directory) c.in-Err-check_found.ensures

@@ -1,4 +1,4 @@
-use Rattle.std.proofs.Common.{◌≡◌, ℕ, Result, Ok, sym, ap, ◌∙◌, subst, inl, inr}
+use Rattle.std.proofs.Common.{◌≡◌, ℕ, Result, Ok, sym, ap, ◌∙◌, subst, inl, inr, arith}
 use Rattle.byteorder.specs.Endian.{little_bytes}
 use Rattle.wasm_store.specs.Bytes.{written}
 use Rattle.vol_tree.specs.declared.errno.Errno.{Errno}
@@ -9,6 +9,7 @@ use Rattle.vol_tree.specs.Opened.{IsSerial}
 use Rattle.wasi_fd.specs.Table.{table_of}
 use Rattle.wasi_fd.specs.declared.descriptor.Opened.{Opened}
 use Rattle.path_walk.specs.Paths.{Reached}
+use Rattle.wasi_calls.proofs.Causes.{asked_29, no_29_at_0}
 use Rattle.wasi_calls.specs.World.{World, volume_gone}
 use Rattle.wasi_calls.specs.Checks.{Checked, Done, numbered}
 use Rattle.wasi_calls.specs.Calls.{Answered, by_row}
@@ -33,6 +34,7 @@ returns-in-Err g c = record {
       let run : World → Checked Done = λ v. open_by v m a in
       subst (λ (u : World). Answered run w m u m c.in-Err.errno.0) (sym (both_same new (table_of c.args.descriptors.now) w table))
       (ends_call w m run (λ v. open_part v m a) (λ v. after_part v a) new _ (λ v. to_opening v m a) (λ alive p. after_part_never w a p alive) (c.in-Err.ensures.targets h w table shown));
+  io = c.in-Err.ensures.io;
 }
 
 pub returns-in-Err-settle : goal.returns-in-Err-settle
@@ -63,6 +65,7 @@ returns-in-Err-settle g c = record {
       ])))
       (to_opening (volume_gone w) m a ∙ stops _ _ 29 passes.gone)
       (λ alive is. after_part_never w a p alive (sym (to_opening w m a ∙ goes_on _ _ p passes.is) ∙ is))));
+  io = asked_29 ℕ c.in-Err-settle.errno _ (λ fails. c.in-Err-settle.ensures.kept.failed ∙ fails) c.refused.ensures;
 }
 
 pub returns-in-Ok-open : goal.returns-in-Ok-open
@@ -98,6 +101,7 @@ returns-in-Ok-open g c = record {
       (opened_world w between new (table_of c.args.descriptors.now) (table_of c.open.new.self) r.number number c.new_descriptor-descriptor.result _ passes.same c.in-Ok-settle.ensures.kept.numbers
       c.in-Ok-settle.ensures.kept.failed passes.working table same (c.new_descriptor-descriptor.ensures.rights new.tree kind) c.in-Ok-open.ensures.opened)
       (c.write_bytes.ensures.bytes ∙ ap (written m a.result_at) (c.le32.ensures ∙ ap (little_bytes 4) same)));
+  io = no_29_at_0;
 }
 
 pub returns-in-Err-open : goal.returns-in-Err-open
@@ -108,4 +112,5 @@ returns-in-Err-open g c = record {
   answered = λ h w table shown.
       let r = c.in-Ok.ensures.targets h w table shown in
       absurd (not_full w (table_of c.args.descriptors.now) r.number table r.free c.in-Err-open.ensures.full.1);
+  io = λ is. absurd (omega (arith, is));
 }

@@ -3,7 +3,9 @@ use Rattle.std.proofs.lemmas.Grind.{common_steps}
 use Rattle.path_walk.specs.declared.walking.Reached.{Reached}
 use Rattle.path_walk.specs.Paths.{wants_directory}
 use Rattle.path_walk.specs.Walk.{reached_as, IsReached}
-use Rattle.wasi_calls.specs.internal.Opening.{ChecksAs}
+use Rattle.wasi_calls.proofs.Targets.{missing_checked_never}
+use Rattle.wasi_calls.proofs.Causes.{not_29}
+use Rattle.wasi_calls.specs.internal.Opening.{ChecksAs, missing_checked}
 use Rattle.wasi_calls.proofs.Served.{volume_rests}
 use Rattle.wasi_calls.proofs.Asking.{works_as, still_works}
 use Rattle.wasi_calls.specs.internal.Reaching.{Places}
@@ -17,6 +19,7 @@ returns-in-Found g c = record {
   checks = λ h w names read alive shown.
       subst (λ (r : Reached). ChecksAs c.args.oflags (wants_directory c.args.text.now) (reached_as r) w c.found_target.new.volume c.found_target.result)
       (sym c.in-Found.is) (c.found_target.ensures.checks h w (wants_directory c.args.text.now) alive shown);
+  io = c.found_target.ensures.io;
 }
 
 pub returns-in-Err-clause-step : goal.returns-in-Err-clause-step
@@ -42,3 +45,6 @@ returns-in-Err-clause-checks c = grind (arith, common_steps)
 
 pub returns-in-Ok-clause-checks : goal.returns-in-Ok-clause-checks
 returns-in-Ok-clause-checks c = grind (arith, common_steps)
+
+pub returns-in-Err-clause-io : goal.returns-in-Err-clause-io
+returns-in-Err-clause-io g c = not_29 (missing_checked c.args.oflags c.ends_open.result) _ (missing_checked_never c.args.oflags c.ends_open.result) c.in-Err.ensures

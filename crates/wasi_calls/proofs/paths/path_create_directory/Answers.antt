@@ -1,4 +1,4 @@
-use Rattle.std.proofs.Common.{◌≡◌, ◌≢◌, ◌^◌, ℕ, List, false, Result, Ok, Err, refl, sym, ap, ◌∙◌, subst, inl, inr}
+use Rattle.std.proofs.Common.{◌≡◌, ◌≢◌, ◌^◌, ℕ, List, false, Result, Ok, Err, refl, sym, ap, ◌∙◌, subst, inl, inr, arith}
 use Rattle.vol_tree.specs.declared.errno.Errno.{Errno}
 use Rattle.vol_tree.specs.Numbers.{number_of}
 use Rattle.vol_tree.specs.Tree.{Tree, Name, Directory, IsDirectory}
@@ -8,6 +8,8 @@ use Rattle.path_walk.specs.Walk.{reached_as, IsReached}
 use Rattle.path_walk.specs.Paths.{Reached}
 use Rattle.wasi_fd.specs.Table.{table_of}
 use Rattle.wasi_fd.specs.declared.descriptor.Opened.{Opened}
+use Rattle.wasi_calls.proofs.Causes.{asked_29, check_not_29}
+use Rattle.wasi_calls.proofs.Checking.{entered_never}
 use Rattle.wasi_calls.specs.World.{World, volume_gone}
 use Rattle.wasi_calls.specs.Checks.{Checked, Done, and_then, walk}
 use Rattle.wasi_calls.specs.Paths.{path_create_directory, path_at, missing}
@@ -42,6 +44,7 @@ returns-in-Err g c = record {
       let m = c.args.memory.now in
       refused_first w m (λ v. path_create_directory v m c.args.fd c.args.path c.args.len) c.args.volume.now _ shown
       (entered_row _ _ _ ∙ stops _ _ _ (c.in-Err.ensures.row w table));
+  io = check_not_29 (table_of c.args.descriptors.now) (λ w. entered w c.args.memory.now c.args.fd (2 ^ 9) c.args.path c.args.len) _ (entered_never c.args.memory.now c.args.fd (2 ^ 9) c.args.path c.args.len) c.in-Err.ensures.row;
 }
 
 pub reach-requires : goal.reach-requires
@@ -118,6 +121,7 @@ returns-in-Ok-Found g c = record {
       refused_by w m (λ v. path_create_directory v m c.args.fd c.args.path c.args.len) old new 20 shown walked.kept.numbers (walked.tree h) (walked.kept.failed ∙ sym working)
       (to_rest w m c.args.fd c.args.path c.args.len o (c.in-Ok.ensures.row w table)
       ∙ (goes_on _ _ (reached_as c.in-Ok-Found.field-0) (ap (walk w o) (sym c.in-Ok.ensures.text) ∙ reaches) ∙ stops _ _ 20 is));
+  io = λ is. absurd (omega (arith, is));
 }
 
 pub returns-in-Err-reach : goal.returns-in-Err-reach
@@ -142,6 +146,7 @@ returns-in-Err-reach g c = record {
             (λ alive is. never_after (path_at w m o c.args.path c.args.len) (of_reached w) (λ no. r.never alive (sym (text w) ∙ no))
             (λ x _. rest_never w alive x) (sym (goes w table) ∙ is))
       ]);
+  io = asked_29 ReachedValue c.in-Err-reach.errno _ c.in-Err-reach.ensures.io c.refused-in-Err-reach.ensures;
 }
 
 pub create_dir-requires-clause-name : goal.create_dir-requires-clause-name
@@ -156,3 +161,6 @@ create_dir-requires-clause-directory g c = λ h.
     let before = walked.works.kept.honest.1 h in
     let place = subst (λ (r : ReachedValue). Places c.args.volume.now.tree (Ok r)) c.in-Ok-Missing.field-0-is (walked.place before) in
     subst (λ (T : Tree). IsDirectory T c.in-Ok-Missing.parent) (sym (walked.works.tree before)) place
+
+pub returns-in-Err-create_dir-clause-io : goal.returns-in-Err-create_dir-clause-io
+returns-in-Err-create_dir-clause-io g c = asked_29 ℕ c.in-Err-create_dir.errno _ (λ fails. c.in-Err-create_dir.ensures.kept.failed ∙ fails) c.refused.ensures

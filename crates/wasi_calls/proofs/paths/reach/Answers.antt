@@ -1,6 +1,8 @@
 use Rattle.std.proofs.Common.{◌≡◌, ℕ, List, refl, sym, ap, ◌∙◌, subst, inl}
 use Rattle.path_walk.specs.Paths.{components_of, wants_directory, resolved, stays_inside}
 use Rattle.path_walk.specs.Walk.{Gives}
+use Rattle.path_walk.specs.declared.walking.Reached.{Reached as ReachedValue}
+use Rattle.wasi_calls.proofs.Causes.{no_text_io, walk_io}
 use Rattle.wasi_calls.proofs.Walked.{by_text, reaches_by, step_by, places}
 use Rattle.wasi_calls.proofs.Served.{volume_rests}
 use Rattle.wasi_calls.proofs.paths.reach.Goals as goal
@@ -32,3 +34,9 @@ returns-in-Ok-clause-place g c = λ h.
 
 pub returns-in-Err-clause-step : goal.returns-in-Err-clause-step
 returns-in-Err-clause-step g c = volume_rests g.D.Device.honest g.D.Device.disk g.D.Device.size g.D.Device.failures c.args.volume.now
+
+pub returns-in-Err-clause-io : goal.returns-in-Err-clause-io
+returns-in-Err-clause-io g c = λ is. absurd (no_text_io ReachedValue c.args.text.now c.in-Err.errno c.in-Err.ensures is)
+
+pub returns-in-Ok-clause-io : goal.returns-in-Ok-clause-io
+returns-in-Ok-clause-io g c = walk_io {honest = g.D.Device.honest} {sectors_on = g.D.Device.size} {failures = g.D.Device.failures} (stays_inside 0 (components_of c.in-Ok.path)) c.args.volume.now c.walk.new.volume c.walk.result c.walk.ensures.kept c.walk.ensures.outside

@@ -1,4 +1,4 @@
-use Rattle.std.proofs.Common.{◌≡◌, ◌≢◌, ◌^◌, ℕ, List, true, false, Ok, Err, refl, sym, ap, ◌∙◌, subst, inl, inr}
+use Rattle.std.proofs.Common.{◌≡◌, ◌≢◌, ◌^◌, ℕ, List, true, false, Ok, Err, refl, sym, ap, ◌∙◌, subst, inl, inr, arith}
 use Rattle.vol_tree.specs.Numbers.{number_of}
 use Rattle.vol_tree.specs.Opened.{is_io}
 use Rattle.path_walk.specs.declared.walking.Reached.{Reached as ReachedValue}
@@ -6,6 +6,8 @@ use Rattle.path_walk.specs.Walk.{reached_as, IsReached}
 use Rattle.path_walk.specs.Paths.{Reached}
 use Rattle.wasi_fd.specs.Table.{table_of}
 use Rattle.wasi_fd.specs.declared.descriptor.Opened.{Opened}
+use Rattle.wasi_calls.proofs.Causes.{asked_29, check_not_29, no_29_at_0, not_29}
+use Rattle.wasi_calls.proofs.Checking.{entered_never, range_never}
 use Rattle.wasi_calls.specs.World.{World, volume_gone}
 use Rattle.wasi_calls.specs.Checks.{Checked, Done, and_then, range, walk, found, tree_call, with_result}
 use Rattle.wasi_calls.specs.Descriptors.{entry_stat}
@@ -45,6 +47,7 @@ returns-in-Err g c = record {
       let m = c.args.memory.now in
       refused_first w m (λ v. path_filestat_get v m c.args.fd c.args.path c.args.len c.args.result_at) c.args.volume.now _ shown
       (entered_row _ _ _ ∙ stops _ _ _ (c.in-Err.ensures.row w table));
+  io = check_not_29 (table_of c.args.descriptors.now) (λ w. entered w c.args.memory.now c.args.fd (2 ^ 18) c.args.path c.args.len) _ (entered_never c.args.memory.now c.args.fd (2 ^ 18) c.args.path c.args.len) c.in-Err.ensures.row;
 }
 
 pub returns-in-Err-check_range : goal.returns-in-Err-check_range
@@ -55,6 +58,7 @@ returns-in-Err-check_range g c = record {
       let m = c.args.memory.now in
       refused_first w m (λ v. path_filestat_get v m c.args.fd c.args.path c.args.len c.args.result_at) c.args.volume.now _ shown
       (entered_row _ _ _ ∙ (goes_on _ _ c.in-Ok.entered.0 (c.in-Ok.ensures.row w table) ∙ stops _ _ _ c.in-Err-check_range.ensures.range));
+  io = not_29 (range c.args.memory.now c.args.result_at 64) _ (range_never c.args.memory.now c.args.result_at 64) c.in-Err-check_range.ensures.range;
 }
 
 pub reach-requires : goal.reach-requires
@@ -87,6 +91,7 @@ returns-in-Ok-stat_entry g c = record {
             ∙ (goes_on _ _ s is ∙ (goes_on _ _ bytes (tree_called_alive w (Ok bytes) alive) ∙ ap (λ (l : List ℕ). Ok (with_result w at l)) (sym same)))),
         same_volume w m old new shown (k.numbers ∙ walked.kept.numbers) (tree ∙ walked.tree h) (k.failed ∙ sym working),
       );
+  io = no_29_at_0;
 }
 
 pub returns-in-Err-stat_entry : goal.returns-in-Err-stat_entry
@@ -114,6 +119,7 @@ returns-in-Err-stat_entry g c = record {
       (λ no. ok_no_err _ (reached_as c.in-Ok-Found.field-0) 29 (ap (walk w o) (sym c.in-Ok.ensures.text) ∙ reaches.0 alive) no)
       (λ r _. rest_never w at alive r)
       (sym (to_rest w m c.args.fd c.args.path c.args.len at o (c.in-Ok.ensures.row w table) c.in_default.ensures.range) ∙ is)));
+  io = asked_29 (List ℕ) c.in-Err-stat_entry.errno _ (λ fails. c.in-Err-stat_entry.ensures.kept.failed ∙ fails) c.refused.ensures;
 }
 
 pub returns-in-Ok-Missing : goal.returns-in-Ok-Missing
@@ -134,6 +140,7 @@ returns-in-Ok-Missing g c = record {
       refused_by w m (λ v. path_filestat_get v m c.args.fd c.args.path c.args.len at) old new 44 shown walked.kept.numbers (walked.tree h) (walked.kept.failed ∙ sym working)
       (to_rest w m c.args.fd c.args.path c.args.len at o (c.in-Ok.ensures.row w table) c.in_default.ensures.range
       ∙ (goes_on _ _ (reached_as c.in-Ok-Missing.field-0) (ap (walk w o) (sym c.in-Ok.ensures.text) ∙ reaches) ∙ stops _ _ 44 is));
+  io = λ is. absurd (omega (arith, is));
 }
 
 pub returns-in-Err-reach : goal.returns-in-Err-reach
@@ -160,6 +167,7 @@ returns-in-Err-reach g c = record {
             (λ alive is. never_after (path_at w m o c.args.path c.args.len) (of_reached w at) (λ no. r.never alive (sym (text w) ∙ no))
             (λ x _. rest_never w at alive x) (sym (goes w table) ∙ is))
       ]);
+  io = asked_29 ReachedValue c.in-Err-reach.errno _ c.in-Err-reach.ensures.io c.refused-in-Err-reach.ensures;
 }
 
 pub stat_entry-requires-clause-last : goal.stat_entry-requires-clause-last

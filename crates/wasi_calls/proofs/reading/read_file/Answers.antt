@@ -6,6 +6,7 @@ use Rattle.vol_tree.specs.Numbers.{number_of}
 use Rattle.vol_tree.specs.Tree.{Tree}
 use Rattle.vol_tree.specs.Opened.{is_io}
 use Rattle.wasi_fd.specs.Table.{table_of, with_at}
+use Rattle.wasi_calls.proofs.Causes.{asked_29, no_29_at_0}
 use Rattle.wasi_calls.specs.World.{World, moved_to}
 use Rattle.wasi_calls.specs.Calls.{Answered, IsMixed}
 use Rattle.wasi_calls.specs.internal.Serving.{with_volume, with_table}
@@ -42,6 +43,7 @@ returns-in-Err g c = record {
       (in_table run w m (with_volume new w) m' 29 _ table
       (broke_off g.D.Device.honest g.D.Device.disk g.D.Device.size g.D.Device.failures w m run meant (done_file fd o bs result) old new shown (row_file fd o bs result)
       h asked m' c.in-Err.ensures.idle (subst (λ (T : Tree). IsMixed m (received m (wanted T o.serial o.position bs) bs) m') (sym tree) mixed)));
+  io = asked_29 ℕ c.in-Err.errno _ (λ fails. c.in-Err.ensures.asked.kept.failed ∙ fails) c.refused.ensures;
 }
 
 pub returns-in-Ok : goal.returns-in-Ok
@@ -72,4 +74,5 @@ returns-in-Ok g c = record {
       (c.write_bytes.ensures.bytes
       ∙ ((λ i. written (bytes i) result (c.le32.ensures i))
       ∙ (λ i. written (received m (all i) bs) result (little_bytes 4 (so_many i)))));
+  io = no_29_at_0;
 }

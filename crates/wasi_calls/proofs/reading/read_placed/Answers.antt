@@ -5,6 +5,7 @@ use Rattle.vol_tree.specs.declared.errno.Errno.{Errno}
 use Rattle.vol_tree.specs.Numbers.{number_of}
 use Rattle.vol_tree.specs.Tree.{Tree}
 use Rattle.vol_tree.specs.Opened.{is_io}
+use Rattle.wasi_calls.proofs.Causes.{asked_29, no_29_at_0}
 use Rattle.wasi_calls.specs.World.{World}
 use Rattle.wasi_calls.specs.Checks.{scattered}
 use Rattle.wasi_calls.specs.Calls.{Answered, IsMixed}
@@ -38,6 +39,7 @@ returns-in-Err g c = record {
       (broke_off g.D.Device.honest g.D.Device.disk g.D.Device.size g.D.Device.failures w m (λ v. read_into v o from bs result) meant
       (λ v xs. record { world = v; fills = scattered xs bs; results = (result, little_bytes 4 (length xs)) ∷ [] }) old new shown (λ u. refl)
       h asked m' c.in-Err.ensures.idle (subst (λ (T : Tree). IsMixed m (received m (wanted T o.serial from bs) bs) m') (sym tree) mixed));
+  io = asked_29 ℕ c.in-Err.errno _ (λ fails. c.in-Err.ensures.asked.kept.failed ∙ fails) c.refused.ensures;
 }
 
 pub returns-in-Ok : goal.returns-in-Ok
@@ -65,4 +67,5 @@ returns-in-Ok g c = record {
       (c.write_bytes.ensures.bytes
       ∙ ((λ i. written (bytes i) result (c.le32.ensures i))
       ∙ (λ i. written (received m (all i) bs) result (little_bytes 4 (so_many i)))));
+  io = no_29_at_0;
 }

@@ -1,9 +1,11 @@
-use Rattle.std.proofs.Common.{◌≡◌, ℕ, List, Ok, refl, sym, ap, ◌∙◌, subst, inl}
+use Rattle.std.proofs.Common.{◌≡◌, ℕ, List, Ok, refl, sym, ap, ◌∙◌, subst, inl, arith}
 use Rattle.path_walk.specs.declared.walking.Reached.{Reached as ReachedValue}
 use Rattle.path_walk.specs.Walk.{reached_as}
 use Rattle.wasi_fd.specs.Rights.{bits_of}
 use Rattle.wasi_fd.specs.Table.{table_of}
 use Rattle.wasi_fd.specs.declared.descriptor.Opened.{Opened}
+use Rattle.wasi_calls.proofs.Causes.{asked_29, check_not_29}
+use Rattle.wasi_calls.proofs.Checking.{entered_never}
 use Rattle.wasi_calls.specs.World.{World, volume_gone}
 use Rattle.wasi_calls.specs.Checks.{and_then, found}
 use Rattle.wasi_calls.specs.Paths.{path_at}
@@ -30,6 +32,7 @@ returns-in-Err g c = record {
   works = tt;
   entry = tt;
   asks = λ h w table shown. inl (record { is = entered_row _ _ _ ∙ stops _ _ _ (c.in-Err.ensures.row w table); same = sym shown });
+  io = check_not_29 (table_of c.args.descriptors.now) (λ w. entered w c.args.memory.now c.args.fd (bits_of c.args.rights) c.args.path c.args.len) _ (entered_never c.args.memory.now c.args.fd (bits_of c.args.rights) c.args.path c.args.len) c.in-Err.ensures.row;
 }
 
 pub returns-in-Ok-Found-clause-asks : goal.returns-in-Ok-Found-clause-asks
@@ -61,6 +64,7 @@ returns-in-Ok-Missing g c = record {
       (goes w table) (goes (volume_gone w) table)
       (refuses_on w part (λ v. found) c.reach.new.volume (reached_as c.in-Ok-Missing.field-0) walked c.reach.new.volume 44 walked.same
       (ap (λ (r : ReachedValue). found (reached_as r)) c.in-Ok-Missing.field-0-is));
+  io = λ is. absurd (omega (arith, is));
 }
 
 pub returns-in-Err-reach : goal.returns-in-Err-reach
@@ -79,4 +83,5 @@ returns-in-Err-reach g c = record {
       (ends_part w part (λ v. found) c.reach.new.volume _ (λ alive r. found_never r)
       (walk_stops g.D.Device.honest g.D.Device.disk g.D.Device.size g.D.Device.failures c.args.volume.now c.reach.new.volume w o m c.args.path c.args.len c.in-Ok.entered.1.now
       c.in-Ok.ensures.text h shown c.in-Err-reach.errno (c.in-Err-reach.ensures.reaches h w o refl shown))));
+  io = asked_29 ReachedValue c.in-Err-reach.errno _ c.in-Err-reach.ensures.io c.refused.ensures;
 }

@@ -3,6 +3,7 @@ use Rattle.vol_inode.specs.declared.entry.Kind.TheVariants as nodes
 use Rattle.vol_tree.specs.declared.errno.Errno.{Errno}
 use Rattle.vol_tree.specs.Tree.{Tree}
 use Rattle.vol_tree.specs.Calls.{directory_removed}
+use Rattle.wasi_calls.proofs.Causes.{asked_29}
 use Rattle.wasi_calls.specs.World.{World, volume_gone}
 use Rattle.wasi_calls.specs.Checks.{Checked, Done, and_then}
 use Rattle.wasi_calls.specs.Paths.{path_remove_directory}
@@ -57,3 +58,6 @@ returns-in-Err-rmdir-clause-answered g c = λ h w table shown.
     (changing_err g.D.Device.honest g.D.Device.size g.D.Device.failures w m run (gives s) c.removable.new.volume c.rmdir.new.self (sym passes.same)
     (to_change w m c.args.fd c.args.path c.args.len ∙ goes_on _ _ s passes.is) (to_change (volume_gone w) m c.args.fd c.args.path c.args.len ∙ stops _ _ 29 passes.gone)
     (removed_never w.tree s) c.in-Err-rmdir.errno c.in-Err-rmdir.ensures.kept tree meant)
+
+pub returns-in-Err-rmdir-clause-io : goal.returns-in-Err-rmdir-clause-io
+returns-in-Err-rmdir-clause-io g c = asked_29 (Unit {0}) c.in-Err-rmdir.errno _ (λ fails. c.in-Err-rmdir.ensures.kept.failed ∙ fails) c.refused.ensures

@@ -3,6 +3,7 @@ use Rattle.vol_inode.specs.declared.entry.Kind.TheVariants as nodes
 use Rattle.vol_tree.specs.declared.errno.Errno.{Errno}
 use Rattle.vol_tree.specs.Tree.{Tree}
 use Rattle.vol_tree.specs.Calls.{unlinked}
+use Rattle.wasi_calls.proofs.Causes.{asked_29}
 use Rattle.wasi_calls.specs.World.{World, volume_gone}
 use Rattle.wasi_calls.specs.Checks.{Checked, Done, and_then}
 use Rattle.wasi_calls.specs.Paths.{path_unlink_file}
@@ -57,3 +58,6 @@ returns-in-Err-unlink-clause-answered g c = λ h w table shown.
     (changing_err g.D.Device.honest g.D.Device.size g.D.Device.failures w m run (gives s) c.removable.new.volume c.unlink.new.self (sym passes.same)
     (to_change w m c.args.fd c.args.path c.args.len ∙ goes_on _ _ s passes.is) (to_change (volume_gone w) m c.args.fd c.args.path c.args.len ∙ stops _ _ 29 passes.gone)
     (ok_no_io _) c.in-Err-unlink.errno c.in-Err-unlink.ensures.kept tree meant)
+
+pub returns-in-Err-unlink-clause-io : goal.returns-in-Err-unlink-clause-io
+returns-in-Err-unlink-clause-io g c = asked_29 (Unit {0}) c.in-Err-unlink.errno _ (λ fails. c.in-Err-unlink.ensures.kept.failed ∙ fails) c.refused.ensures

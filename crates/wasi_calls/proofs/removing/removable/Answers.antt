@@ -5,6 +5,7 @@ use Rattle.vol_tree.specs.Calls.{directory_at}
 use Rattle.vol_tree.specs.Numbers.{number_of}
 use Rattle.vol_tree.specs.Opened.{is_io}
 use Rattle.wasi_fd.specs.Rights.{bits_of}
+use Rattle.wasi_calls.proofs.Causes.{asked_29}
 use Rattle.wasi_calls.specs.World.{World, held_open}
 use Rattle.wasi_calls.specs.Checks.{Checked, and_then, guard}
 use Rattle.path_walk.specs.Walk.{Asked}
@@ -37,6 +38,7 @@ returns-in-Err g c = record {
   asks = λ h w table shown.
       ends_part w (λ v. found_at v c.args.memory.now c.args.fd (bits_of c.args.rights) c.args.path c.args.len) (checked c.args.kind) c.find.new.volume _
       (λ alive s. checked_never c.args.kind w s) (c.in-Err.ensures.asks h w table shown);
+  io = c.in-Err.ensures.io;
 }
 
 pub returns-in-Err-is_directory : goal.returns-in-Err-is_directory
@@ -59,6 +61,7 @@ returns-in-Err-is_directory g c = record {
       (fails_on w part (checked c.args.kind) between c.in-Ok.serial passes new
       (asked_gone g.D.Device.honest g.D.Device.disk g.D.Device.size g.D.Device.failures w between new (sym passes.same) now asked)
       (checked_never c.args.kind w c.in-Ok.serial));
+  io = asked_29 Bool c.in-Err-is_directory.errno _ (λ fails. c.in-Err-is_directory.ensures.asked.kept.failed ∙ fails) c.refused.ensures;
 }
 
 pub returns-in-Err-check_kind : goal.returns-in-Err-check_kind
@@ -80,6 +83,7 @@ returns-in-Err-check_kind g c = record {
       (refuses_on w part (checked c.args.kind) between s passes new (other_kind c.args.kind)
       (asked_same g.D.Device.honest g.D.Device.disk g.D.Device.size g.D.Device.failures w between new (sym passes.same) passes.working now c.in-Ok-is_directory.ensures.asked)
       (stops _ _ _ (guard_fails _ _ (ap (is_kind c.args.kind) told ∙ other))));
+  io = λ is. absurd (other_never c.args.kind (sym c.in-Err-check_kind.ensures.1 ∙ is));
 }
 
 pub returns-then-is_held : goal.returns-then-is_held
@@ -100,6 +104,7 @@ returns-then-is_held g c = record {
       refuses_on w part (checked c.args.kind) between s passes new 10
       (asked_same g.D.Device.honest g.D.Device.disk g.D.Device.size g.D.Device.failures w between new (sym passes.same) passes.working now c.in-Ok-is_directory.ensures.asked)
       (goes_on _ _ tt (guard_passes _ _ (ap (is_kind c.args.kind) told ∙ c.in_default.ensures)) ∙ stops _ _ 10 (guard_fails _ 10 (ap not held)));
+  io = λ is. absurd (omega (arith, is));
 }
 
 pub returns-clause-asks : goal.returns-clause-asks

@@ -1,6 +1,7 @@
 use Rattle.std.proofs.Common.{◌≡◌, ℕ, true, Err, refl, sym, ◌∙◌, ap, subst, inr}
 use Rattle.vol_tree.specs.Numbers.{number_of}
 use Rattle.vol_tree.specs.Opened.{is_io}
+use Rattle.wasi_calls.proofs.Causes.{asked_29, result_not_29}
 use Rattle.wasi_calls.specs.World.{World, held_open}
 use Rattle.wasi_calls.specs.declared.renaming.Facts.{Facts}
 use Rattle.path_walk.specs.Walk.{Asked}
@@ -37,7 +38,11 @@ returns-in-Err g c = record {
         never = replace_never (facts_of w.tree c.args.source c.args.target) (held_open w c.args.target);
         after = asked_gone g.D.Device.honest g.D.Device.disk g.D.Device.size g.D.Device.failures w old new shown h asked;
       }));
+  io = asked_29 Facts c.in-Err.errno _ (λ fails. c.in-Err.ensures.asked.kept.failed ∙ fails) c.refused.ensures;
 }
 
 pub returns-in-Ok-clause-step : goal.returns-in-Ok-clause-step
 returns-in-Ok-clause-step g c = asked_step g.D.Device.honest g.D.Device.disk g.D.Device.size g.D.Device.failures c.args.volume.now c.ask_facts.new.volume _ c.in-Ok.ensures.asked
+
+pub returns-in-Ok-clause-io : goal.returns-in-Ok-clause-io
+returns-in-Ok-clause-io g c = result_not_29 c.check_replace.result (replace_checked c.in-Ok.facts c.is_held.result) (replace_never c.in-Ok.facts c.is_held.result) c.check_replace.ensures

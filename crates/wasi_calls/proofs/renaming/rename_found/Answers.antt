@@ -1,9 +1,10 @@
-use Rattle.std.proofs.Common.{ℕ, refl, sym, subst, arith}
+use Rattle.std.proofs.Common.{ℕ, refl, sym, subst, arith, ◌∙◌}
 use Rattle.std.proofs.lemmas.Grind.{common_steps}
 use Rattle.vol_tree.specs.Tree.{Tree}
 use Rattle.vol_tree.specs.Calls.{renamed}
 use Rattle.path_walk.specs.Paths.{Found}
 use Rattle.wasi_fd.specs.Table.{table_of}
+use Rattle.wasi_calls.proofs.Causes.{asked_29}
 use Rattle.wasi_calls.specs.World.{World, held_open}
 use Rattle.wasi_calls.specs.Paths.{rename_to, parent_at, name_at}
 use Rattle.wasi_calls.specs.internal.Asking.{StopsNext}
@@ -62,3 +63,6 @@ returns-then-target-source-clause-step g c = volume_rests g.D.Device.honest g.D.
 
 pub returns-then-target-source-clause-renames : goal.returns-then-target-source-clause-renames
 returns-then-target-source-clause-renames c = grind (arith, common_steps)
+
+pub returns-in-Err-rename_onto-clause-io : goal.returns-in-Err-rename_onto-clause-io
+returns-in-Err-rename_onto-clause-io g c = asked_29 (Unit {0}) c.in-Err-rename_onto.errno _ (λ fails. c.in-Err-rename_onto.ensures.kept.failed ∙ fails) c.refused.ensures

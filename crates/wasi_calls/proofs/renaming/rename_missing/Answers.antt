@@ -1,9 +1,10 @@
-use Rattle.std.proofs.Common.{◌≡◌, ◌||◌, not, ℕ, Bool, true, Err, refl, sym, ◌∙◌, ap, subst, inl, inr}
+use Rattle.std.proofs.Common.{◌≡◌, ◌||◌, not, ℕ, Bool, true, Err, refl, sym, ◌∙◌, ap, subst, inl, inr, arith}
 use Rattle.vol_tree.specs.Tree.{Tree, IsDirectory}
 use Rattle.vol_tree.specs.Calls.{renamed, directory_at}
 use Rattle.vol_tree.specs.Numbers.{number_of}
 use Rattle.vol_tree.specs.Opened.{is_io}
 use Rattle.path_walk.specs.Paths.{Missing}
+use Rattle.wasi_calls.proofs.Causes.{asked_29}
 use Rattle.wasi_calls.specs.World.{World}
 use Rattle.wasi_calls.specs.Paths.{rename_to}
 use Rattle.path_walk.specs.Walk.{Asked}
@@ -28,6 +29,7 @@ returns-in-Err g c = record {
         never = missing_never w c.args.source c.args.parent c.args.slash c.args.name.now alive;
         after = asked_gone g.D.Device.honest g.D.Device.disk g.D.Device.size g.D.Device.failures w old new shown h asked;
       }));
+  io = asked_29 Bool c.in-Err.errno _ (λ fails. c.in-Err.ensures.asked.kept.failed ∙ fails) c.refused.ensures;
 }
 
 pub returns-in-Err-check_slash : goal.returns-in-Err-check_slash
@@ -43,6 +45,7 @@ returns-in-Err-check_slash g c = record {
         is = missing_refused w c.args.source c.args.parent c.args.slash c.args.name.now (ap (λ (b : Bool). not c.args.slash || b) told ∙ refused);
         same = asked_same g.D.Device.honest g.D.Device.disk g.D.Device.size g.D.Device.failures w old new shown alive h c.in-Ok.ensures.asked;
       }));
+  io = λ is. absurd (omega (arith, c.in-Err-check_slash.ensures.1, is));
 }
 
 pub returns-in-Ok-rename-clause-step : goal.returns-in-Ok-rename-clause-step
@@ -99,3 +102,6 @@ rename-requires g c =
       directory = λ h. let before = works.kept.honest.1 h in subst (λ (T : Tree). IsDirectory T c.args.parent) (sym (works.tree before)) (c.requires.directory before);
       name = c.requires.name;
     }
+
+pub returns-in-Err-rename-clause-io : goal.returns-in-Err-rename-clause-io
+returns-in-Err-rename-clause-io g c = asked_29 (Unit {0}) c.in-Err-rename.errno _ (λ fails. c.in-Err-rename.ensures.kept.failed ∙ fails) c.refused-in-Err-rename.ensures

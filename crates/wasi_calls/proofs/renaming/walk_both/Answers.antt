@@ -4,17 +4,20 @@ use Rattle.path_walk.specs.Paths.{Reached, wants_directory, path_read}
 use Rattle.path_walk.specs.Walk.{reached_as, IsReached}
 use Rattle.wasi_fd.specs.Table.{table_of}
 use Rattle.wasi_fd.specs.declared.descriptor.Opened.{Opened}
+use Rattle.path_walk.specs.declared.walking.Reached.{Reached as ReachedValue}
+use Rattle.wasi_calls.proofs.Causes.{asked_29, check_not_29, no_29_at_0, not_29}
+use Rattle.wasi_calls.proofs.Checking.{rename_entered_never}
 use Rattle.wasi_calls.specs.World.{World, volume_gone}
 use Rattle.wasi_calls.specs.Checks.{and_then}
 use Rattle.wasi_calls.specs.Paths.{path_at}
 use Rattle.wasi_calls.specs.internal.Asking.{Stops}
-use Rattle.wasi_calls.specs.internal.Renaming.{rename_part}
+use Rattle.wasi_calls.specs.internal.Renaming.{rename_part, rename_entered}
 use Rattle.wasi_calls.proofs.Yields.{goes_on, stops}
 use Rattle.wasi_calls.proofs.Entries.{renames_at}
 use Rattle.wasi_calls.proofs.Parts.{walked_to}
 use Rattle.wasi_calls.proofs.Volumes.{steps_after}
 use Rattle.wasi_calls.proofs.Asking.{entry_still, ends_part, stops_as, stops_on, passes_as, passes_on, refuses_on, walk_passes, walk_stops, asked_after, works_as, works_on}
-use Rattle.wasi_calls.proofs.BothWalks.{entered_both, after_first, after_second, first_never, second_never}
+use Rattle.wasi_calls.proofs.BothWalks.{entered_both, after_first, after_second, first_never, second_never, source_never}
 use Rattle.wasi_calls.proofs.Served.{volume_rests}
 use Rattle.vol_tree.specs.Tree.{Tree}
 use Rattle.wasi_calls.specs.internal.Reaching.{Places}
@@ -28,6 +31,7 @@ returns-in-Err g c = record {
   reached = tt;
   place = tt;
   walks = λ h w table shown. inl (record { is = stops _ _ _ (c.in-Err.ensures.row w table); same = sym shown });
+  io = check_not_29 (table_of c.args.descriptors.now) (λ w. rename_entered w c.args.memory.now c.args.asked.now) _ (rename_entered_never c.args.memory.now c.args.asked.now) c.in-Err.ensures.row;
 }
 
 pub reach-requires : goal.reach-requires
@@ -60,6 +64,7 @@ returns-in-Err-reach g c = record {
       (ends_part w (λ v. path_at v m from a.from_path a.from_len) (λ v. after_first v m a both) mid _ (λ alive r. first_never w m a both r alive)
       (walk_stops g.D.Device.honest g.D.Device.disk g.D.Device.size g.D.Device.failures old mid w from m a.from_path a.from_len c.in-Ok.ends.from_text.now c.in-Ok.ensures.from h shown
       c.in-Err-reach.errno (c.in-Err-reach.ensures.reaches h w from refl shown))));
+  io = asked_29 ReachedValue c.in-Err-reach.errno _ c.in-Err-reach.ensures.io c.refused.ensures;
 }
 
 pub returns-in-Err-reach-2 : goal.returns-in-Err-reach-2
@@ -89,6 +94,7 @@ returns-in-Err-reach-2 g c = record {
       (ends_part w (λ v. path_at v m to a.to_path a.to_len) (λ v. after_second both moved) new _ (λ alive r. second_never both moved r)
       (walk_stops g.D.Device.honest g.D.Device.disk g.D.Device.size g.D.Device.failures mid new w to m a.to_path a.to_len c.in-Ok.ends.to_text.now c.in-Ok.ensures.to now (sym one.same)
       c.in-Err-reach-2.errno (c.in-Err-reach-2.ensures.reaches now w to refl (sym one.same))))));
+  io = asked_29 ReachedValue c.in-Err-reach-2.errno _ c.in-Err-reach-2.ensures.io c.refused-in-Err-reach-2.ensures;
 }
 
 pub returns-in-Err-source_of : goal.returns-in-Err-source_of
@@ -119,6 +125,7 @@ returns-in-Err-source_of g c = record {
       stops_as w (λ v. rename_part v m a) (λ v. and_then (path_at v m from a.from_path a.from_len) (after_first v m a both)) new _ (goes w table) (goes (volume_gone w) table)
       (stops_on w (λ v. path_at v m from a.from_path a.from_len) (λ v. after_first v m a both) mid new moved _ one
       (refuses_on w (λ v. path_at v m to a.to_path a.to_len) (λ v. after_second both moved) new target two new _ two.same (stops _ _ _ c.in-Err-source_of.ensures.row)));
+  io = not_29 _ _ (source_never _ _) c.in-Err-source_of.ensures.row;
 }
 
 pub returns : goal.returns
@@ -159,4 +166,5 @@ returns g c = record {
             (passes_on w (λ v. path_at v m from a.from_path a.from_len) (λ v. after_first v m a both) mid moved one new ends two.same inner.is),
         c.ends_open-slash.ensures read.0 (ap path_read same ∙ read.1) ∙ ap wants_directory same,
       );
+  io = no_29_at_0;
 }

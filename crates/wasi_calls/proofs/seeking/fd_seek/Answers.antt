@@ -3,6 +3,9 @@ use Rattle.byteorder.specs.Endian.{little_bytes}
 use Rattle.wasm_store.specs.Bytes.{written}
 use Rattle.vol_tree.specs.Numbers.{number_of}
 use Rattle.wasi_fd.specs.Table.{table_of}
+use Rattle.wasi_calls.specs.internal.Seeking.{seekable, position_at}
+use Rattle.wasi_calls.proofs.Causes.{asked_29, check_not_29, no_29_at_0, not_29}
+use Rattle.wasi_calls.proofs.Checking.{seekable_never}
 use Rattle.wasi_calls.specs.World.{World, volume_gone, with_descriptor, moved_to}
 use Rattle.wasi_calls.specs.Checks.{only_files, with_result}
 use Rattle.wasi_calls.specs.Descriptors.{fd_seek}
@@ -12,7 +15,7 @@ use Rattle.wasi_calls.proofs.Yields.{goes_on, stops}
 use Rattle.wasi_calls.proofs.Entries.{seek_open, file_at}
 use Rattle.wasi_calls.proofs.Serving.{answers_done, answers_refused}
 use Rattle.wasi_calls.proofs.Volumes.{refused_first, failed_by}
-use Rattle.wasi_calls.proofs.Positions.{row_of_seek, sought_never, in_table, table_moved}
+use Rattle.wasi_calls.proofs.Positions.{row_of_seek, sought_never, in_table, table_moved, never_position}
 use Rattle.wasi_calls.proofs.Served.{volume_rests, no_more}
 use Rattle.wasi_calls.proofs.seeking.fd_seek.Goals as goal
 
@@ -26,6 +29,7 @@ returns-in-Err g c = record {
       in_table run w m _ m _ _ table
       (refused_first w m run c.args.volume.now _ shown
       (row_of_seek w m c.args.fd c.args.delta c.args.whence c.args.result_at ∙ stops _ _ _ (c.in-Err.ensures.checked w table)));
+  io = check_not_29 (table_of c.args.descriptors.now) (λ w. seekable w c.args.memory.now c.args.fd c.args.delta c.args.whence c.args.result_at) _ (seekable_never c.args.memory.now c.args.fd c.args.delta c.args.whence c.args.result_at) c.in-Err.ensures.checked;
 }
 
 pub seek_from-requires-clause-file : goal.seek_from-requires-clause-file
@@ -58,6 +62,7 @@ returns-in-Err-seek_from g c = record {
       (row (volume_gone w) ∙ (goes_on _ _ o (c.in-Ok.ensures.checked (volume_gone w) table) ∙ stops _ _ 29 f.gone))
       (λ alive is. sought_never w c.args.fd c.args.delta c.args.whence c.args.result_at o (f.never alive)
       (sym (row w ∙ goes_on _ _ o (c.in-Ok.ensures.checked w table)) ∙ is))));
+  io = asked_29 ℕ c.in-Err-seek_from.errno _ c.in-Err-seek_from.ensures.io c.refused.ensures;
 }
 
 pub returns-in-Ok-position_at : goal.returns-in-Ok-position_at
@@ -76,6 +81,7 @@ returns-in-Ok-position_at g c = record {
       ∙ (goes_on _ _ c.in-Ok-seek_from.from t.told ∙ goes_on _ _ at c.in-Ok-position_at.ensures)))
       (λ i. with_table (tables i) (t.same i))
       (c.write_bytes.ensures.bytes ∙ ap (written m c.args.result_at) c.le64.ensures));
+  io = no_29_at_0;
 }
 
 pub returns-in-Err-position_at : goal.returns-in-Err-position_at
@@ -92,4 +98,5 @@ returns-in-Err-position_at g c = record {
       (row_of_seek w m c.args.fd c.args.delta c.args.whence c.args.result_at ∙ (goes_on _ _ o (c.in-Ok.ensures.checked w table)
       ∙ (goes_on _ _ c.in-Ok-seek_from.from t.told ∙ stops _ _ _ c.in-Err-position_at.ensures)))
       t.same refl));
+  io = not_29 (position_at c.in-Ok-seek_from.from c.args.delta) _ (never_position c.in-Ok-seek_from.from c.args.delta) c.in-Err-position_at.ensures;
 }

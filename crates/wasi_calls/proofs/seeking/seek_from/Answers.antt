@@ -2,6 +2,7 @@ use Rattle.std.proofs.Common.{◌≡◌, ℕ, false, Ok, Err, refl, sym, ap, ◌
 use Rattle.vol_tree.specs.declared.errno.Errno.{Errno}
 use Rattle.vol_tree.specs.Opened.{is_io}
 use Rattle.vol_tree.specs.Calls.{bytes_at}
+use Rattle.std.proofs.lemmas.Bool.{false≢true}
 use Rattle.wasi_calls.specs.World.{World, volume_gone}
 use Rattle.wasi_calls.proofs.Volumes.{was_working, same_volume, tree_called_alive, tree_called_gone}
 use Rattle.wasi_calls.proofs.Positions.{from_end}
@@ -28,6 +29,7 @@ returns-in-Ok g c = record {
         same = same_volume w [] old new shown k.numbers tree (k.failed ∙ sym working);
       };
   failed = λ h w shown. tt;
+  io = λ is. absurd (false≢true is);
 }
 
 pub returns-in-Err : goal.returns-in-Err
@@ -48,6 +50,7 @@ returns-in-Err g c = record {
         gone = from_end (volume_gone w) o c.args.whence (omega arith) ∙ tree_called_gone w (Ok size);
         never = λ alive is. ok_no_err _ size 29 (from_end w o c.args.whence (omega arith) ∙ tree_called_alive w (Ok size) alive) is;
       };
+  io = λ is. c.in-Err.ensures.kept.failed ∙ is;
 }
 
 pub returns-in-1-clause-step : goal.returns-in-1-clause-step

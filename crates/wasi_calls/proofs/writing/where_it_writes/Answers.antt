@@ -13,6 +13,7 @@ returns-in-Ok g c = record {
   moved = refl;
   step = let told = c.in-Ok.ensures in
       asked_step g.D.Device.honest g.D.Device.disk g.D.Device.size g.D.Device.failures c.args.volume.now c.size_of.new.volume _ (record { tree = λ h. (told.answer h).1; crash = told.crash; kept = told.kept });
+  io = λ is. absurd (false≢true is);
 }
 
 pub returns-in-Err : goal.returns-in-Err
@@ -24,6 +25,7 @@ returns-in-Err g c = record {
   moved = tt;
   step = let told = c.in-Err.ensures in
       asked_step g.D.Device.honest g.D.Device.disk g.D.Device.size g.D.Device.failures c.args.volume.now c.size_of.new.volume _ (record { tree = λ h. (told.answer h).1; crash = told.crash; kept = told.kept });
+  io = λ is. c.in-Err.ensures.kept.failed ∙ is;
 }
 
 pub returns-then-not-opened : goal.returns-then-not-opened
@@ -34,4 +36,5 @@ returns-then-not-opened g c = record {
   asked = λ append. absurd (false≢true (sym c.if-not-opened.true ∙ append));
   moved = refl;
   step = volume_rests g.D.Device.honest g.D.Device.disk g.D.Device.size g.D.Device.failures c.args.volume.now;
+  io = λ is. absurd (false≢true is);
 }

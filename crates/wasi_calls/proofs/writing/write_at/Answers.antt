@@ -3,6 +3,7 @@ use Rattle.byteorder.specs.Endian.{little_bytes}
 use Rattle.wasm_store.specs.Bytes.{written}
 use Rattle.vol_tree.specs.Opened.{geometry}
 use Rattle.vol_tree.specs.Calls.{written as tree_with}
+use Rattle.wasi_calls.proofs.Causes.{asked_29, no_29_at_0}
 use Rattle.wasi_calls.specs.Checks.{tree_call, gathered, with_result}
 use Rattle.wasi_calls.specs.Calls.{Answered}
 use Rattle.wasi_calls.specs.internal.Serving.{with_volume}
@@ -34,6 +35,7 @@ returns-in-Ok g c = record {
       ((λ i. record w { volume = geometry (kept.numbers i); tree = new.tree; volume_failed = (kept.failed ∙ sym working) i })
       ∙ λ i. record w { volume = (sym shown i).volume; tree = new.tree; volume_failed = (sym shown i).volume_failed })
       (c.write_bytes.ensures.bytes ∙ ap (written m result) (c.le32.ensures ∙ ap (little_bytes 4) count));
+  io = no_29_at_0;
 }
 
 pub returns-in-Err : goal.returns-in-Err
@@ -54,4 +56,5 @@ returns-in-Err g c = record {
       (λ v T. with_result (record v { tree = T }) result (little_bytes 4 (length part))) old new shown
       (λ u. one_after (tree_call u (tree_with u.volume u.tree o.serial at part)) (λ T. (record u { tree = T }, length part)) (λ r. with_result r.0 result (little_bytes 4 r.1)))
       (written_never w.volume w.tree o.serial at part) c.in-Err.errno c.in-Err.ensures.kept tree meant);
+  io = asked_29 ℕ c.in-Err.errno _ (λ fails. c.in-Err.ensures.kept.failed ∙ fails) c.refused.ensures;
 }

@@ -9,6 +9,7 @@ use Rattle.vol_tree.specs.Calls.{bytes_at, is_file_at}
 use Rattle.wasi_fd.specs.declared.descriptor.Opened.{Opened as OpenedEntry}
 use Rattle.wasi_fd.specs.declared.descriptor.Descriptor.TheVariants.{Entry}
 use Rattle.wasi_fd.specs.Table.{table_of}
+use Rattle.wasi_calls.proofs.Causes.{asked_29}
 use Rattle.wasi_calls.specs.World.{World}
 use Rattle.wasi_calls.specs.Checks.{gathered}
 use Rattle.wasi_calls.specs.Calls.{Answered}
@@ -120,3 +121,6 @@ returns-in-Err-clause-answered g c = λ h w table shown.
     (stops _ _ 29 (stops _ _ 29 (stops _ _ 29 (tree_called_gone w _))))
     (λ alive is. leaving_never (tree_on on all) (done_on fd on all result) w alive (written_never w.volume w.tree o.serial p (part_of all))
     (sym (row_to fd o all result w p refl ∙ row_on fd on all result w) ∙ is))))
+
+pub returns-in-Err-clause-io : goal.returns-in-Err-clause-io
+returns-in-Err-clause-io g c = asked_29 OpenedEntry c.in-Err.errno _ c.in-Err.ensures.io c.refused.ensures

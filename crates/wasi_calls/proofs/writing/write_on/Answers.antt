@@ -5,6 +5,7 @@ use Rattle.wasm_store.specs.Bytes.{written}
 use Rattle.vol_tree.specs.Opened.{geometry}
 use Rattle.wasi_fd.specs.declared.table.Descriptors.{Descriptors}
 use Rattle.wasi_fd.specs.Table.{table_of, with_at}
+use Rattle.wasi_calls.proofs.Causes.{asked_29, no_29_at_0}
 use Rattle.wasi_calls.specs.World.{World, with_descriptor, moved_to}
 use Rattle.wasi_calls.specs.Checks.{gathered}
 use Rattle.wasi_calls.specs.Calls.{Answered}
@@ -59,6 +60,7 @@ returns-after-len-gt0 g c = record {
       left_ok g.D.Device.honest g.D.Device.size g.D.Device.failures w m (λ v. written_on v fd o all result) (tree_on o all) (done_on fd o all result) old new shown
       (row_on fd o all result) kept gives (with_table (table_of c.if-len-gt0.descriptors) (with_volume new w)) c.write_bytes.new.memory
       stands (c.write_bytes.ensures.bytes ∙ ap (written m result) (c.le32.ensures ∙ ap (little_bytes 4) count));
+  io = no_29_at_0;
 }
 
 pub returns-in-Err : goal.returns-in-Err
@@ -78,4 +80,5 @@ returns-in-Err g c = record {
       (in_table (λ v. written_on v fd o all result) w m (with_volume new w) m _ _ table
       (left_err g.D.Device.honest g.D.Device.size g.D.Device.failures w m (λ v. written_on v fd o all result) (tree_on o all) (done_on fd o all result) old new shown
       (row_on fd o all result) (written_never w.volume w.tree o.serial o.position (part_of all)) c.in-Err.errno c.in-Err.ensures.kept tree meant));
+  io = asked_29 ℕ c.in-Err.errno _ (λ fails. c.in-Err.ensures.kept.failed ∙ fails) c.refused.ensures;
 }

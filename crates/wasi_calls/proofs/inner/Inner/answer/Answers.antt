@@ -212,7 +212,9 @@ returns-in-Nosys g c = record {
     | inl is ↦ serves_as g.D.Device.honest g.D.Device.disk g.D.Device.size g.D.Device.failures g.R.Read.remaining g.W1.Write.contents g.W2.Write.contents
         c.args.memory.now c.args.used c.args.arguments.now c.args.call call.Nosys is _ _ _ _ (c.nosys.ensures c.args.memory.now c.args.used c.args.arguments.now)
     | inr is ↦ serves_as g.D.Device.honest g.D.Device.disk g.D.Device.size g.D.Device.failures g.R.Read.remaining g.W1.Write.contents g.W2.Write.contents
-        c.args.memory.now c.args.used c.args.arguments.now c.args.call call.ProcExit is _ _ _ _ (c.nosys.ensures c.args.memory.now c.args.used c.args.arguments.now)
+        c.args.memory.now c.args.used c.args.arguments.now c.args.call call.ProcExit is _ _ _ _
+        (let s = c.nosys.ensures c.args.memory.now c.args.used c.args.arguments.now in
+        record { set_up = s.set_up; row = s.row; volume = s.volume; settings = s.settings; io = s.io })
   ];
   synced = λ h. elim c.in-Nosys.is [ inl is ↦ no_sync c.args.call (ap is_sync is) | inr is ↦ no_sync c.args.call (ap is_sync is) ];
 }

@@ -1,4 +1,5 @@
 use Rattle.std.proofs.Common.{refl, sym}
+use Rattle.wasm_store.specs.declared.call.HostCall.TheVariants as call
 use Rattle.wasi_calls.specs.Host.{world_of}
 use Rattle.wasi_calls.specs.internal.Serving.{state_of}
 use Rattle.wasi_calls.proofs.Served.{serves_plain}
@@ -9,6 +10,6 @@ pub returns : goal.returns
 returns g c = λ m used.
     let s = c.args.self.now in
     serves_plain g.D.Device.honest g.D.Device.disk g.D.Device.size g.D.Device.failures g.R.Read.remaining g.W1.Write.contents g.W2.Write.contents
-    _ _ s c.fd_close.new.descriptors s.settings m _ _ c.requires c.requires.settings c.fd_close.ensures.entries
+    call.FdClose used c.args.arguments.now _ s c.fd_close.new.descriptors s.settings m _ _ (λ o. refl) c.requires c.requires.settings refl c.fd_close.ensures.entries
     (λ b i. fd_close (world_of (state_of s) b) (sym c.word.ensures i))
     (λ b. c.fd_close.ensures.answers (world_of (state_of s) b) m refl)

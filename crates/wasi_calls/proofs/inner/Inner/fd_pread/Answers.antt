@@ -2,8 +2,14 @@ use Rattle.std.proofs.Common.{◌≡◌, ◌+◌, ◌^◌, List, Ok, take, refl,
 use Rattle.std.specs.Vec.{with_items}
 use Rattle.wasi_fd.specs.Table.{table_of}
 use Rattle.vol_body.specs.declared.source.Span.{Span}
+use Rattle.wasm_store.specs.declared.call.HostCall.TheVariants as call
 use Rattle.wasi_calls.specs.World.{World}
-use Rattle.wasi_calls.specs.Checks.{Checked, Done, only_files}
+use Rattle.wasi_calls.specs.declared.checks.Takes.TheVariants as takes
+use Rattle.wasi_calls.specs.internal.Buffers.{usable}
+use Rattle.wasi_calls.specs.internal.Serving.{refusals_of}
+use Rattle.wasi_calls.proofs.Causes.{check_not_29, not_29}
+use Rattle.wasi_calls.proofs.Checking.{entry_never, usable_never}
+use Rattle.wasi_calls.specs.Checks.{Checked, Done, entry_at, only_files}
 use Rattle.wasi_calls.specs.Files.{fd_pread}
 use Rattle.wasi_calls.specs.Calls.{word, long}
 use Rattle.wasi_calls.specs.Host.{world_of}
@@ -27,7 +33,9 @@ returns-in-Err g c = λ used.
     let asked = c.new-request.ensures in
     let run : World → Checked Done = λ w. fd_pread w m (word a 0) (word a 1) (word a 2) (long a 3) (word a 4) in
     serves_roomy g.D.Device.honest g.D.Device.disk g.D.Device.size g.D.Device.failures g.R.Read.remaining g.W1.Write.contents g.W2.Write.contents
-    run s s m m _ c.requires.set_up c.requires.set_up.buffers c.requires.set_up.piece refl
+    call.FdPread used a s s m m _
+    (check_not_29 (table_of s.descriptors) (λ w. entry_at w q.fd (refusals_of takes.Files) (2 ^ 1 + 2 ^ 2)) _ (entry_never q.fd takes.Files (2 ^ 1 + 2 ^ 2)) c.in-Err.ensures)
+    c.requires.set_up c.requires.set_up.buffers c.requires.set_up.piece refl
     (volume_rests g.D.Device.honest g.D.Device.disk g.D.Device.size g.D.Device.failures s.volume) (no_more (table_of s.descriptors))
     (λ h b.
     let w = world_of (state_of s) b in
@@ -45,7 +53,9 @@ returns-in-Err-find_buffers g c = λ used.
     let o = c.in-Ok.opened in
     let run : World → Checked Done = λ w. fd_pread w m (word a 0) (word a 1) (word a 2) (long a 3) (word a 4) in
     serves_roomy g.D.Device.honest g.D.Device.disk g.D.Device.size g.D.Device.failures g.R.Read.remaining g.W1.Write.contents g.W2.Write.contents
-    run s (record s { buffers = with_items s.buffers c.find_buffers.new.room }) m m _ c.requires.set_up c.requires.set_up.buffers c.requires.set_up.piece refl
+    call.FdPread used a s (record s { buffers = with_items s.buffers c.find_buffers.new.room }) m m _
+    (not_29 (usable m q.iovs q.count q.result_at) _ (usable_never m q.iovs q.count q.result_at) c.in-Err-find_buffers.ensures.found)
+    c.requires.set_up c.requires.set_up.buffers c.requires.set_up.piece refl
     (volume_rests g.D.Device.honest g.D.Device.disk g.D.Device.size g.D.Device.failures s.volume) (no_more (table_of s.descriptors))
     (λ h b.
     let w = world_of (state_of s) b in
@@ -88,11 +98,11 @@ returns g c = λ used.
     ∙ (usable_row m q.iovs q.count q.result_at (λ bs. read_into w o offset bs q.result_at)
     ∙ goes_on _ _ bs (c.in_default.ensures.found ∙ ap Ok found))) in
     serves_roomy g.D.Device.honest g.D.Device.disk g.D.Device.size g.D.Device.failures g.R.Read.remaining g.W1.Write.contents g.W2.Write.contents
-    run s new m c.read_placed.new.memory (errno_of c.read_placed.result) c.requires.set_up c.requires.set_up.buffers c.requires.set_up.piece refl
+    call.FdPread used a s new m c.read_placed.new.memory (errno_of c.read_placed.result) c.read_placed.ensures.io c.requires.set_up c.requires.set_up.buffers c.requires.set_up.piece refl
     c.read_placed.ensures.step (no_more (table_of s.descriptors))
     (λ h b.
     let w = world_of (state_of s) b in
-    answered_so run (λ v. read_into v o offset bs q.result_at) w (λ v table tree. same v table) m _ _ _ (c.read_placed.ensures.answered h w refl))
+    answered_so run (λ v. read_into v o offset bs q.result_at) w (λ v table tree. same v table) m _ _ _ (c.read_placed.ensures.answered (h refl) w refl))
 
 pub read_placed-requires-clause-few : goal.read_placed-requires-clause-few
 read_placed-requires-clause-few g c = c.in_default.ensures.few

@@ -1,5 +1,6 @@
 use Rattle.std.proofs.Common.{refl, sym}
 use Rattle.wasi_fd.specs.Table.{table_of}
+use Rattle.wasm_store.specs.declared.call.HostCall.TheVariants as call
 use Rattle.wasi_calls.specs.Host.{world_of}
 use Rattle.wasi_calls.specs.internal.Serving.{state_of}
 use Rattle.wasi_calls.specs.Descriptors.{fd_prestat_dir_name}
@@ -11,6 +12,6 @@ returns g c = λ used.
     let s = c.args.self.now in
     let m = c.args.memory.now in
     serves_plain g.D.Device.honest g.D.Device.disk g.D.Device.size g.D.Device.failures g.R.Read.remaining g.W1.Write.contents g.W2.Write.contents
-    _ _ s s.descriptors s.settings m _ _ c.requires c.requires.settings (no_more (table_of s.descriptors))
+    call.FdPrestatDirName used c.args.arguments.now _ s s.descriptors s.settings m _ _ (λ o. refl) c.requires c.requires.settings refl (no_more (table_of s.descriptors))
     (λ b i. fd_prestat_dir_name (world_of (state_of s) b) m (sym c.word-fd.ensures i) (sym c.word-path.ensures i) (sym c.word-len.ensures i))
     (λ b. c.fd_prestat_dir_name.ensures (world_of (state_of s) b) refl)

@@ -1,4 +1,5 @@
 use Rattle.std.proofs.Common.{refl, sym}
+use Rattle.wasm_store.specs.declared.call.HostCall.TheVariants as call
 use Rattle.wasi_calls.specs.Descriptors.{fd_seek}
 use Rattle.wasi_calls.specs.Host.{world_of}
 use Rattle.wasi_calls.specs.internal.Serving.{state_of}
@@ -10,6 +11,6 @@ returns g c = λ used.
     let s = c.args.self.now in
     let m = c.args.memory.now in
     serves_moved g.D.Device.honest g.D.Device.disk g.D.Device.size g.D.Device.failures g.R.Read.remaining g.W1.Write.contents g.W2.Write.contents
-    _ _ s c.fd_seek.new.volume c.fd_seek.new.descriptors m _ _ c.requires.set_up c.fd_seek.ensures.step c.fd_seek.ensures.entries
+    call.FdSeek used c.args.arguments.now _ s c.fd_seek.new.volume c.fd_seek.new.descriptors m _ _ refl c.fd_seek.ensures.io c.requires.set_up c.fd_seek.ensures.step c.fd_seek.ensures.entries
     (λ w i. fd_seek w m (sym c.word-fd.ensures i) (sym c.long-delta.ensures i) (sym c.word-whence.ensures i) (sym c.word-result_at.ensures i))
     (λ h b. c.fd_seek.ensures.answered h (world_of (state_of s) b) refl refl)

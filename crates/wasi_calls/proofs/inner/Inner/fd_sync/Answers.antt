@@ -1,4 +1,5 @@
 use Rattle.std.proofs.Common.{◌^◌, refl, sym}
+use Rattle.wasm_store.specs.declared.call.HostCall.TheVariants as call
 use Rattle.wasi_calls.specs.Files.{fd_sync}
 use Rattle.wasi_calls.specs.Host.{world_of}
 use Rattle.wasi_calls.specs.internal.Serving.{state_of}
@@ -9,6 +10,6 @@ pub returns-clause-serves : goal.returns-clause-serves
 returns-clause-serves g c = λ m used.
     let s = c.args.self.now in
     serves_volume g.D.Device.honest g.D.Device.disk g.D.Device.size g.D.Device.failures g.R.Read.remaining g.W1.Write.contents g.W2.Write.contents
-    _ _ s c.sync.new.volume m m _ c.requires c.sync.ensures.step
+    call.FdSync used c.args.arguments.now _ s c.sync.new.volume m m _ refl c.sync.ensures.io c.requires c.sync.ensures.step
     (λ w i. fd_sync w (sym c.word-fd.ensures i) (2 ^ 4))
     (λ h b. c.sync.ensures.answered h (world_of (state_of s) b) m refl refl)

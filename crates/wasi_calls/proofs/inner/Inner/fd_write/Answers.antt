@@ -1,4 +1,4 @@
-use Rattle.std.proofs.Common.{◌≡◌, ◌^◌, List, [], Some, Ok, take, true, refl, sym, ap, ◌∙◌, subst}
+use Rattle.std.proofs.Common.{◌≡◌, inl, inr, ◌^◌, IsTrue, List, [], Option, Some, Ok, take, true, refl, sym, ap, ◌∙◌, subst}
 use Rattle.std.proofs.lemmas.Bool.{false≢true}
 use Rattle.std.specs.Vec.{with_items}
 use Rattle.wasi_fd.specs.declared.descriptor.Stream.TheVariants.{Input, Output, Error}
@@ -6,10 +6,16 @@ use Rattle.wasi_fd.specs.declared.descriptor.Descriptor.{Descriptor}
 use Rattle.wasi_fd.specs.declared.descriptor.Descriptor.TheVariants.{Stream, Entry}
 use Rattle.wasi_fd.specs.Table.{table_of}
 use Rattle.vol_body.specs.declared.source.Span.{Span}
+use Rattle.wasm_store.specs.declared.call.HostCall.TheVariants as call
 use Rattle.wasi_calls.specs.World.{World}
-use Rattle.wasi_calls.specs.Checks.{Checked, Done, no_directories, of_kind, has, gathered}
+use Rattle.wasi_calls.specs.declared.checks.Takes.TheVariants as takes
+use Rattle.wasi_calls.specs.internal.Buffers.{usable}
+use Rattle.wasi_calls.specs.internal.Serving.{refusals_of}
+use Rattle.wasi_calls.proofs.Causes.{check_not_29, not_29}
+use Rattle.wasi_calls.proofs.Checking.{descriptor_never, usable_never}
+use Rattle.wasi_calls.specs.Checks.{Checked, Done, descriptor, no_directories, of_kind, has, gathered}
 use Rattle.wasi_calls.specs.Files.{fd_write}
-use Rattle.wasi_calls.specs.Calls.{word}
+use Rattle.wasi_calls.specs.Calls.{word, is_entry}
 use Rattle.wasi_calls.specs.Host.{world_of}
 use Rattle.wasi_calls.specs.internal.Serving.{state_of, errno_of}
 use Rattle.wasi_calls.specs.internal.Buffers.{list_of, AreUsable}
@@ -34,7 +40,9 @@ returns-in-Err g c = λ used.
     let run : World → Checked Done = λ w. fd_write w m (word a 0) (word a 1) (word a 2) (word a 3) in
     let same_call : (w : World) → run w ≡ fd_write w m q.fd q.iovs q.count q.result_at = λ w i. fd_write w m (sym asked.fd i) (sym asked.iovs i) (sym asked.count i) (sym asked.result_at i) in
     serves_roomy g.D.Device.honest g.D.Device.disk g.D.Device.size g.D.Device.failures g.R.Read.remaining g.W1.Write.contents g.W2.Write.contents
-    run s s m m _ c.requires.set_up c.requires.set_up.buffers c.requires.set_up.piece refl
+    call.FdWrite used a s s m m _
+    (check_not_29 (table_of s.descriptors) (λ w. descriptor w q.fd (refusals_of takes.NoDirectories) (2 ^ 6)) _ (descriptor_never q.fd takes.NoDirectories (2 ^ 6)) c.in-Err.ensures)
+    c.requires.set_up c.requires.set_up.buffers c.requires.set_up.piece refl
     (volume_rests g.D.Device.honest g.D.Device.disk g.D.Device.size g.D.Device.failures s.volume) (no_more (table_of s.descriptors))
     (λ h b.
     let w = world_of (state_of s) b in
@@ -50,7 +58,9 @@ returns-in-Err-find_buffers g c = λ used.
     let run : World → Checked Done = λ w. fd_write w m (word a 0) (word a 1) (word a 2) (word a 3) in
     let same_call : (w : World) → run w ≡ fd_write w m q.fd q.iovs q.count q.result_at = λ w i. fd_write w m (sym asked.fd i) (sym asked.iovs i) (sym asked.count i) (sym asked.result_at i) in
     serves_roomy g.D.Device.honest g.D.Device.disk g.D.Device.size g.D.Device.failures g.R.Read.remaining g.W1.Write.contents g.W2.Write.contents
-    run s (record s { buffers = with_items s.buffers c.find_buffers.new.room }) m m _ c.requires.set_up c.requires.set_up.buffers c.requires.set_up.piece refl
+    call.FdWrite used a s (record s { buffers = with_items s.buffers c.find_buffers.new.room }) m m _
+    (not_29 (usable m q.iovs q.count q.result_at) _ (usable_never m q.iovs q.count q.result_at) c.in-Err-find_buffers.ensures.found)
+    c.requires.set_up c.requires.set_up.buffers c.requires.set_up.piece refl
     (volume_rests g.D.Device.honest g.D.Device.disk g.D.Device.size g.D.Device.failures s.volume) (no_more (table_of s.descriptors))
     (λ h b.
     let w = world_of (state_of s) b in
@@ -116,7 +126,7 @@ returns-in-Stream-Output g c = λ used.
     ∙ (goes_on _ _ bs (c.in_default.ensures.found ∙ ap Ok found) ∙ ap (λ (d : Descriptor). written_to w q.fd d (gathered m bs) q.result_at) is))) in
     let new = record s { out = c.write_stream.new.output; buffers = with_items s.buffers c.find_buffers.new.room } in
     served_out g.D.Device.honest g.D.Device.disk g.D.Device.size g.D.Device.failures g.R.Read.remaining g.W1.Write.contents g.W2.Write.contents
-    run s new m c.write_stream.new.memory q.fd (gathered m bs) q.result_at c.requires.set_up c.requires.set_up.buffers c.requires.set_up.piece refl same
+    call.FdWrite used a s new m c.write_stream.new.memory q.fd (gathered m bs) q.result_at c.requires.set_up c.requires.set_up.buffers c.requires.set_up.piece refl same (λ is. inr (inl is))
     c.write_stream.result (λ failed. (c.write_stream.ensures.idle failed).0) c.write_stream.ensures.took c.write_stream.ensures.broke c.write_stream.ensures.answer
 
 pub returns-in-Stream-Error : goal.returns-in-Stream-Error
@@ -139,7 +149,7 @@ returns-in-Stream-Error g c = λ used.
     ∙ (goes_on _ _ bs (c.in_default.ensures.found ∙ ap Ok found) ∙ ap (λ (d : Descriptor). written_to w q.fd d (gathered m bs) q.result_at) is))) in
     let new = record s { err = c.write_stream-in-Stream-Error.new.output; buffers = with_items s.buffers c.find_buffers.new.room } in
     served_err g.D.Device.honest g.D.Device.disk g.D.Device.size g.D.Device.failures g.R.Read.remaining g.W1.Write.contents g.W2.Write.contents
-    run s new m c.write_stream-in-Stream-Error.new.memory q.fd (gathered m bs) q.result_at c.requires.set_up c.requires.set_up.buffers c.requires.set_up.piece refl same
+    call.FdWrite used a s new m c.write_stream-in-Stream-Error.new.memory q.fd (gathered m bs) q.result_at c.requires.set_up c.requires.set_up.buffers c.requires.set_up.piece refl same (λ is. inr (inr is))
     c.write_stream-in-Stream-Error.result (λ failed. (c.write_stream-in-Stream-Error.ensures.idle failed).0) c.write_stream-in-Stream-Error.ensures.took c.write_stream-in-Stream-Error.ensures.broke c.write_stream-in-Stream-Error.ensures.answer
 
 pub returns-in-Entry : goal.returns-in-Entry
@@ -153,6 +163,9 @@ returns-in-Entry g c = λ used.
     let same_call : (w : World) → run w ≡ fd_write w m q.fd q.iovs q.count q.result_at = λ w i. fd_write w m (sym asked.fd i) (sym asked.iovs i) (sym asked.count i) (sym asked.result_at i) in
     let o = c.in-Entry.opened in
     let is : c.in-Ok.target ≡ Entry o = c.in-Entry.is in
+    let open_there : table_of s.descriptors (word a 0) ≡ Some (Entry o) =
+    ap (table_of s.descriptors) (sym asked.fd) ∙ (at_descriptor (table_of s.descriptors) q.fd no_directories (2 ^ 6) c.in-Ok.target c.in-Ok.ensures ∙ ap Some is) in
+    let reaches : IsTrue (is_entry (table_of s.descriptors (word a 0))) = subst (λ (d : Option Descriptor). IsTrue (is_entry d)) (sym open_there) refl in
     let bs = list_of c.buffers_in-buffers.result.now in
     let found : list_of (take q.count c.find_buffers.new.room) ≡ bs =
     ap list_of (sym (c.buffers_in-buffers.ensures ∙ ap (λ (bs : List Span). take q.count bs) (c.as_slice.ensures.value ∙ refilled _ c.find_buffers.new.room _ (c.find_buffers.auto.room ∙ c.as_mut_slice.ensures.len)))) in
@@ -166,11 +179,11 @@ returns-in-Entry g c = λ used.
       buffers = with_items s.buffers c.find_buffers.new.room;
     } in
     serves_roomy g.D.Device.honest g.D.Device.disk g.D.Device.size g.D.Device.failures g.R.Read.remaining g.W1.Write.contents g.W2.Write.contents
-    run s new m c.write_file.new.memory (errno_of c.write_file.result) c.requires.set_up c.requires.set_up.buffers c.requires.set_up.piece refl
+    call.FdWrite used a s new m c.write_file.new.memory (errno_of c.write_file.result) (λ is. inl (c.write_file.ensures.io is)) c.requires.set_up c.requires.set_up.buffers c.requires.set_up.piece refl
     c.write_file.ensures.step c.write_file.ensures.entries
     (λ h b.
     let w = world_of (state_of s) b in
-    answered_so run (λ v. written_to v q.fd (Entry o) (gathered m bs) q.result_at) w (λ v table tree. same v table) m _ _ _ (c.write_file.ensures.answered h w refl refl))
+    answered_so run (λ v. written_to v q.fd (Entry o) (gathered m bs) q.result_at) w (λ v table tree. same v table) m _ _ _ (c.write_file.ensures.answered (h reaches) w refl refl))
 
 pub write_file-requires-clause-few : goal.write_file-requires-clause-few
 write_file-requires-clause-few g c = few_taken _ _ _ c.buffers_in-buffers.ensures c.in_default.ensures.few

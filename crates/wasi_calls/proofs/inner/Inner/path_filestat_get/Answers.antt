@@ -1,4 +1,5 @@
 use Rattle.std.proofs.Common.{refl, sym}
+use Rattle.wasm_store.specs.declared.call.HostCall.TheVariants as call
 use Rattle.wasi_calls.specs.Paths.{path_filestat_get}
 use Rattle.wasi_calls.specs.Host.{world_of}
 use Rattle.wasi_calls.specs.internal.Serving.{state_of}
@@ -10,6 +11,6 @@ returns g c = λ used.
     let s = c.args.self.now in
     let m = c.args.memory.now in
     serves_volume g.D.Device.honest g.D.Device.disk g.D.Device.size g.D.Device.failures g.R.Read.remaining g.W1.Write.contents g.W2.Write.contents
-    _ _ s c.path_filestat_get.new.volume m _ _ c.requires.set_up c.path_filestat_get.ensures.step
+    call.PathFilestatGet used c.args.arguments.now _ s c.path_filestat_get.new.volume m _ _ refl c.path_filestat_get.ensures.io c.requires.set_up c.path_filestat_get.ensures.step
     (λ w i. path_filestat_get w m (sym c.word-fd.ensures i) (sym c.word-path.ensures i) (sym c.word-len.ensures i) (sym c.word-result_at.ensures i))
     (λ h b. c.path_filestat_get.ensures.answered h (world_of (state_of s) b) refl refl)
