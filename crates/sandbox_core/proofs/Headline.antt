@@ -1,7 +1,7 @@
 -- The headline, from what each resume says.
-use Rattle.std.proofs.Common.{◌≡◌, ◌==◌, cond, zero, suc, Result, Ok, Err, ℕ, ◌+◌, ◌-◌, ◌≤◌, Bool, true, false, IsTrue, nat_lt, List, [], ◌∷◌, length, Option, Some, None, refl, sym, ◌∙◌, ap, subst, inl, inr, arith, slice_get}
+use Rattle.std.proofs.Common.{◌≡◌, ◌==◌, cond, zero, suc, Result, Ok, Err, ℕ, ◌+◌, ◌-◌, ◌≤◌, Bool, true, false, IsTrue, nat_lt, List, [], ◌∷◌, ◌++◌, append_assoc, append-nil, length, Option, Some, None, refl, sym, ◌∙◌, ap, subst, inl, inr, arith, slice_get}
 use Rattle.vol_sector.specs.Disk.{Image, Disk}
-use Rattle.std.proofs.lemmas.Bool.{and_parts, leb-true, ltb-false, eqb-true}
+use Rattle.std.proofs.lemmas.Bool.{false≢true, and_parts, leb-true, ltb-false, eqb-true}
 use Rattle.std.proofs.lemmas.Option.{slice_get_within}
 use Rattle.std.specs.Option.{option_map, option_map_or}
 use Rattle.vol_tree.specs.declared.errno.Errno.{Errno as TreeErrno}
@@ -37,13 +37,54 @@ use Rattle.wasm_interp.specs.Configuration.{Instance, Configuration, first_confi
 use Rattle.wasm_interp.specs.Steps.{CallsOf, Event, Step, plain_step, free_step, host_answers, host_exits, in_label, in_frame, Reach, stays, goes}
 use Rattle.wasi_calls.specs.World.{World, places}
 use Rattle.wasi_calls.specs.Calls as world
-use Rattle.wasi_calls.specs.Host.{HostState, HostCalls, StreamBytes, Shows, Tells, world_of}
-use Rattle.sandbox_core.specs.Session.{SessionState, Opens, Shares}
+use Rattle.wasi_calls.specs.Host.{HostState, HostCalls, StreamBytes, LeavesNone, StreamsMove, MayFollow, before_moving, after_moving, Shows, world_of}
+use Rattle.wasi_calls.proofs.Served.{nothing}
+use Rattle.std.specs.Io.KnownBytes.{Consumes, Appends}
+use Rattle.std.proofs.KnownBytes.{Consumes-nil, Consumes-trans, Appends-nil, Appends-trans}
+use Rattle.sandbox_core.specs.Session.{SessionState, Opens, Shares, History, Follow, is_synced, pauses_of}
 use Rattle.sandbox_core.proofs.Reaching.{resumes_compose}
 use Rattle.sandbox_core.specs.Runs.{ResumesFollow, answered}
-use Rattle.sandbox_core.specs.Headline.{TellAll, Upholds, Headline, History, Follow, is_synced, pauses_of, turns_of}
+use Rattle.sandbox_core.specs.Headline.{TellAll, Upholds, Headline, turns_of}
 
--- ---- a run over a host whose streams tell their bytes is one over a world
+-- ---- a run over a host is one over a tree of paths
+
+same_output : (others : StreamBytes) → after_moving nothing others ≡ others
+same_output others = λ i. record { input = others.input; output = append-nil others.output i; errors = append-nil others.errors i }
+
+-- one after the other
+abbrev both : StreamBytes → StreamBytes → StreamBytes
+both a b = record { input = a.input ++ b.input; output = a.output ++ b.output; errors = a.errors ++ b.errors }
+
+-- the bytes that the first has beside those that it moves by
+abbrev beside_first : StreamBytes → StreamBytes → StreamBytes
+beside_first b others = before_moving b others
+
+abbrev beside_second : StreamBytes → StreamBytes → StreamBytes
+beside_second a others = record { input = others.input; output = others.output ++ a.output; errors = others.errors ++ a.errors }
+
+before_both : (a b others : StreamBytes) → before_moving a (beside_first b others) ≡ before_moving (both a b) others
+before_both a b others = λ i. record { input = sym (append_assoc a.input b.input others.input) i; output = others.output; errors = others.errors }
+
+after_both : (a b others : StreamBytes) → after_moving b (beside_second a others) ≡ after_moving (both a b) others
+after_both a b others = λ i. record { input = others.input; output = append_assoc others.output a.output b.output i; errors = append_assoc others.errors a.errors b.errors i }
+
+-- a reader that gave all that it told has none later on
+no_more : (xs ys : List ℕ) → [] ≡ xs ++ ys → ys ≡ []
+no_more [] ys is = sym is
+no_more (x ∷ xs) ys is = cc
+
+none_later : (a b c : Option (List ℕ)) (bytes : List ℕ) → LeavesNone a b → Consumes b c bytes → LeavesNone a c
+none_later None b c bytes none consumed = tt
+none_later (Some xs) None c bytes none consumed = cc
+none_later (Some xs) (Some ys) None bytes none consumed = absurd consumed
+none_later (Some xs) (Some ys) (Some zs) bytes none consumed =
+    let empty : ys ≡ [] = cc in
+    ap Some (no_more bytes zs (sym empty ∙ consumed))
+
+none_before : (a b c : Option (List ℕ)) (bytes : List ℕ) → Consumes a b bytes → LeavesNone b c → LeavesNone a c
+none_before None b c bytes consumed none = tt
+none_before (Some xs) None c bytes consumed none = absurd consumed
+none_before (Some xs) (Some ys) c bytes consumed none = none
 
 module _ {D R W1 W2 : Type 0} (honest : D → Type 0) (disk : D → Disk) (sectors_on failures : D → ℕ)
     (remaining : R → Option (List ℕ)) (out_contents : W1 → Option (List ℕ)) (err_contents : W2 → Option (List ℕ)) where
@@ -53,56 +94,111 @@ module _ {D R W1 W2 : Type 0} (honest : D → Type 0) (disk : D → Disk) (secto
   abbrev CallsH : CallsOf H
   CallsH = HostCalls honest disk sectors_on failures remaining out_contents err_contents
 
+  abbrev Moves : H → H → StreamBytes → Type 0
+  Moves = StreamsMove remaining out_contents err_contents
+
   abbrev Told : H → StreamBytes → Type 0
   Told = TellAll honest disk sectors_on failures remaining out_contents err_contents
 
-  -- a stream that told its bytes goes on to
-  goes_on : (known known' : Option (List ℕ)) (bytes before after : List ℕ) → known ≡ Some bytes → Tells known known' before after → (before ≡ bytes) × (known' ≡ Some after)
-  goes_on None known' bytes before after is tells = cc
-  goes_on (Some xs) known' bytes before after is (same, now) = (same ∙ cc, now)
+  rest : (h : H) → Moves h h nothing
+  rest h = record { input = Consumes-nil (remaining h.input.reader); output = Appends-nil (out_contents h.out.writer); errors = Appends-nil (err_contents h.err.writer); ended = λ is. (refl, is); end = λ is. inl is }
 
-  same_bytes : (a b : StreamBytes) → a.input ≡ b.input → a.output ≡ b.output → a.errors ≡ b.errors → a ≡ b
-  same_bytes a b i o e =
-      ap (λ (xs : List ℕ). record { input = xs; output = a.output; errors = a.errors }) i
-      ∙ (ap (λ (xs : List ℕ). record { input = b.input; output = xs; errors = a.errors }) o
-      ∙ ap (λ (xs : List ℕ). record { input = b.input; output = b.output; errors = xs }) e)
+  moves_on : (h g h' : H) (a b : StreamBytes) → Moves h g a → Moves g h' b → Moves h h' (both a b)
+  moves_on h g h' a b first second = record {
+    input = Consumes-trans _ _ _ a.input b.input first.input second.input;
+    output = Appends-trans _ _ _ a.output b.output first.output second.output;
+    errors = Appends-trans _ _ _ a.errors b.errors first.errors second.errors;
+    ended = λ is.
+        let one = first.ended is in
+        let two = second.ended one.1 in
+        ((λ i. one.0 i ++ two.0 i), two.1);
+    end = λ is. elim (second.end is) [
+      | inl was ↦ elim (first.end was) [
+        | inl before ↦ inl before
+        | inr none ↦ inr (none_later _ _ _ b.input none second.input)
+      ]
+      | inr none ↦ inr (none_before _ _ _ a.input first.input none)
+    ];
+  }
 
-  call_told : (h h' : H) (m m' : List ℕ) (used : ℕ) (x : HostCall) (args : List ℕ) (answer : Answer) (b : StreamBytes) → CallsH h m used x args h' m' answer → honest h.volume.device → Told h b
-      → (b' : StreamBytes) × Told h' b' × world.Calls (world_of h b) m used x args (world_of h' b') m' answer × honest h'.volume.device
-  call_told h h' m m' used x args answer b a is_honest told =
-      let (before, after, tell, meaning) = a.row is_honest in
-      let input = goes_on (remaining h.input.reader) (remaining h'.input.reader) b.input before.input after.input told.input tell.input in
-      let output = goes_on (out_contents h.out.writer) (out_contents h'.out.writer) b.output before.output after.output told.output tell.output in
-      let errors = goes_on (err_contents h.err.writer) (err_contents h'.err.writer) b.errors before.errors after.errors told.errors tell.errors in
-      let same : before ≡ b = same_bytes before b input.0 output.0 errors.0 in (
-        after,
-        record { input = input.1; output = output.1; errors = errors.1 },
-        subst (λ (c : StreamBytes). world.Calls (world_of h c) m used x args (world_of h' after) m' answer) same meaning,
-        a.volume.kept.honest.0 is_honest,
+  -- what may follow the second is what may follow the first, with the bytes of the second
+  follows_first : (g h' : H) (b others : StreamBytes) → Moves g h' b → MayFollow h' others → MayFollow g (beside_first b others)
+  follows_first g h' b others second end is = let two = second.ended is in λ i. two.0 i ++ end two.1 i
+
+  abbrev StepMoves : Instance → ℕ → H → Configuration → Event → H → Configuration → Type 0
+  StepMoves i n h c ev h' c' = (moved : StreamBytes) × Moves h h' moved × honest h'.volume.device
+      × ((others : StreamBytes) → MayFollow h' others → Step World world.Calls i n (world_of h (before_moving moved others)) c ev (world_of h' (after_moving moved others)) c')
+
+  step_moves : (i : Instance) (n : ℕ) (h h' : H) (c c' : Configuration) (ev : Event) → Step H CallsH i n h c ev h' c' → honest h.volume.device → StepMoves i n h c ev h' c'
+  step_moves i n h h' c c' ev (plain_step r) is_honest =
+      (nothing, rest h, is_honest, λ others end. subst (λ (b : StreamBytes). Step World world.Calls i n (world_of h others) c ev (world_of h b) c') (sym (same_output others)) (plain_step r))
+  step_moves i n h h' c c' ev (free_step r) is_honest =
+      (nothing, rest h, is_honest, λ others end. subst (λ (b : StreamBytes). Step World world.Calls i n (world_of h others) c ev (world_of h b) c') (sym (same_output others)) (free_step r))
+  step_moves i n h h' c c' ev (host_answers {s = s} {memory = memory} args vs callee all count a) is_honest =
+      let (moved, moves, meaning) = a.row (λ _. is_honest) in
+      (moved, moves, a.volume.kept.honest.0 is_honest, λ others end. host_answers args vs callee all count (meaning others end))
+  step_moves i n h h' c c' ev (host_exits {s = s} {memory = memory} args vs callee all count a) is_honest =
+      let (moved, moves, meaning) = a.row (λ _. is_honest) in
+      (moved, moves, a.volume.kept.honest.0 is_honest, λ others end. host_exits args vs callee all count (meaning others end))
+  step_moves i n h h' c c' ev (in_label s) is_honest =
+      let (moved, moves, still, step) = step_moves i n h h' _ _ ev s is_honest in (moved, moves, still, λ others end. in_label (step others end))
+  step_moves i n h h' c c' ev (in_frame s) is_honest =
+      let (moved, moves, still, step) = step_moves i _ h h' _ _ ev s is_honest in (moved, moves, still, λ others end. in_frame (step others end))
+
+  abbrev pub ReachMoves : Instance → H → Configuration → List (HostCall × Errno) → H → Configuration → Type 0
+  ReachMoves i h c es h' c' = (moved : StreamBytes) × Moves h h' moved
+      × ((others : StreamBytes) → MayFollow h' others → Reach World world.Calls i (world_of h (before_moving moved others)) c es (world_of h' (after_moving moved others)) c')
+
+  pub reach_moves : (i : Instance) (h h' : H) (c c' : Configuration) (es : List (HostCall × Errno)) → Reach H CallsH i h c es h' c' → honest h.volume.device → ReachMoves i h c es h' c'
+  reach_moves i h h' c c' es stays is_honest =
+      (nothing, rest h, λ others end. subst (λ (b : StreamBytes). Reach World world.Calls i (world_of h others) c [] (world_of h b) c) (sym (same_output others)) stays)
+  reach_moves i h h' c c' es (goes {h' = g} {c' = d} ev fs s r) is_honest =
+      let (a, first, still, step) = step_moves i 0 h g c d ev s is_honest in
+      let (b, second, run) = reach_moves i g h' d c' fs r still in (
+        both a b,
+        moves_on h g h' a b first second,
+        λ others end.
+            let before : Reach World world.Calls i (world_of h (before_moving a (beside_first b others))) c es (world_of h' (after_moving b (beside_second a others))) c' =
+            goes ev fs (step (beside_first b others) (follows_first g h' b others second end)) (run (beside_second a others) end) in
+            subst (λ (x : StreamBytes). Reach World world.Calls i (world_of h x) c es (world_of h' (after_moving (both a b) others)) c') (before_both a b others)
+            (subst (λ (x : StreamBytes). Reach World world.Calls i (world_of h (before_moving a (beside_first b others))) c es (world_of h' x) c') (after_both a b others) before),
       )
 
-  step_told : (i : Instance) (n : ℕ) (h h' : H) (c c' : Configuration) (ev : Event) (b : StreamBytes) → Step H CallsH i n h c ev h' c' → honest h.volume.device → Told h b
-      → (b' : StreamBytes) × Told h' b' × Step World world.Calls i n (world_of h b) c ev (world_of h' b') c' × honest h'.volume.device
-  step_told i n h h' c c' ev b (plain_step r) is_honest told = (b, told, plain_step r, is_honest)
-  step_told i n h h' c c' ev b (free_step r) is_honest told = (b, told, free_step r, is_honest)
-  step_told i n h h' c c' ev b (host_answers {s = s} {memory = memory} args vs callee all count a) is_honest told =
-      let (b', told', meaning, still) = call_told h h' s.memory memory s.used _ _ _ b a is_honest told in
-      (b', told', host_answers args vs callee all count meaning, still)
-  step_told i n h h' c c' ev b (host_exits {s = s} {memory = memory} args vs callee all count a) is_honest told =
-      let (b', told', meaning, still) = call_told h h' s.memory memory s.used _ _ _ b a is_honest told in
-      (b', told', host_exits args vs callee all count meaning, still)
-  step_told i n h h' c c' ev b (in_label s) is_honest told =
-      let (b', told', step, still) = step_told i n h h' _ _ ev b s is_honest told in (b', told', in_label step, still)
-  step_told i n h h' c c' ev b (in_frame s) is_honest told =
-      let (b', told', step, still) = step_told i _ h h' _ _ ev b s is_honest told in (b', told', in_frame step, still)
+  -- a reader that told its bytes and has not ended before tells those that are left
+  input_told : (a b : Option (List ℕ)) (bytes xs : List ℕ) → a ≡ Some xs → Consumes a b bytes → (ys : List ℕ) × (b ≡ Some ys) × (xs ≡ bytes ++ ys)
+  input_told None b bytes xs is consumed = cc
+  input_told (Some zs) None bytes xs is consumed = absurd consumed
+  input_told (Some zs) (Some ys) bytes xs is consumed = let same : zs ≡ xs = cc in (ys, refl, sym same ∙ consumed)
 
-  pub reach_told : (i : Instance) (h h' : H) (c c' : Configuration) (es : List (HostCall × Errno)) (b : StreamBytes) → Reach H CallsH i h c es h' c' → honest h.volume.device → Told h b
+  output_told : (a b : Option (List ℕ)) (bytes xs : List ℕ) → a ≡ Some xs → Appends a b bytes → b ≡ Some (xs ++ bytes)
+  output_told None b bytes xs is appended = cc
+  output_told (Some zs) None bytes xs is appended = absurd appended
+  output_told (Some zs) (Some ys) bytes xs is appended = let same : zs ≡ xs = cc in ap Some (appended ∙ ap (λ (l : List ℕ). l ++ bytes) same)
+
+  left_none : (a b : Option (List ℕ)) (xs ys : List ℕ) → a ≡ Some xs → b ≡ Some ys → LeavesNone a b → ys ≡ []
+  left_none None b xs ys is also none = cc
+  left_none (Some zs) b xs ys is also none = cc
+
+  -- where all streams tell their bytes, from an input that has not ended
+  pub reach_told : (i : Instance) (h h' : H) (c c' : Configuration) (es : List (HostCall × Errno)) (b : StreamBytes) → h.input.ended ≡ false → Reach H CallsH i h c es h' c' → honest h.volume.device → Told h b
       → (b' : StreamBytes) × Told h' b' × Reach World world.Calls i (world_of h b) c es (world_of h' b') c'
-  reach_told i h h' c c' es b stays is_honest told = (b, told, stays)
-  reach_told i h h' c c' es b (goes {h' = g} {c' = d} ev fs s r) is_honest told =
-      let (b', told', step, still) = step_told i 0 h g c d ev b s is_honest told in
-      let (b'', told'', more) = reach_told i g h' d c' fs b' r still told' in
-      (b'', told'', goes ev fs step more)
+  reach_told i h h' c c' es b goes_on r is_honest told =
+      let (moved, moves, run) = reach_moves i h h' c c' es r is_honest in
+      let rest = input_told _ _ moved.input b.input told.input moves.input in
+      let others : StreamBytes = record { input = rest.0; output = b.output; errors = b.errors } in
+      let all : before_moving moved others ≡ b = λ k. record { input = sym rest.2 k; output = b.output; errors = b.errors } in
+      let end : MayFollow h' others = λ is. elim (moves.end is) [
+        | inl before ↦ absurd (false≢true (sym goes_on ∙ before))
+        | inr none ↦ left_none _ _ b.input rest.0 told.input rest.1 none
+      ] in (
+        after_moving moved others,
+        record {
+          input = rest.1;
+          output = output_told _ _ moved.output b.output told.output moves.output;
+          errors = output_told _ _ moved.errors b.errors told.errors moves.errors;
+        },
+        subst (λ (x : StreamBytes). Reach World world.Calls i (world_of h x) c es (world_of h' (after_moving moved others)) c') all (run others end),
+      )
 
 -- ---- preopened directories
 
@@ -196,7 +292,7 @@ module _ {D R W1 W2 : Type 0} (honest : D → Type 0) (disk : D → Disk) (secto
   follows [] s s' same = (ap (λ (s : S). s.host) same, ap (λ (s : S). s.machine) same)
   follows (r ∷ rs) s s' ((units, resumes), rest) = (r.1.host, r.1.machine, units, resumes.run, follows rs r.1 s' rest)
 
-  synced_by : (p : Pause) (h : Host) → PauseSynced disk_of tree_of honest_of p h → IsTrue (is_synced p) → (image : Image) → (disk_of h).may_leave image → Stands image (tree_of h)
+  pub synced_by : (p : Pause) (h : Host) → PauseSynced disk_of tree_of honest_of p h → IsTrue (is_synced p) → (image : Image) → (disk_of h).may_leave image → Stands image (tree_of h)
   synced_by (Called c e) h told is image may =
       let both = and_parts (is_sync c) (e.0 == 0) is in told both.0 (eqb-true e.0 0 both.1) image may
   synced_by Spent h told is image may = cc
@@ -252,16 +348,21 @@ module _ {D R W1 W2 : Type 0} (honest : D → Type 0) (disk : D → Disk) (secto
           let first = opens.starts in
           let run = resumes_compose Host Calls first.instance (pauses_of rs) s.host s'.host s.machine s'.machine (first_configuration first.entered first.store) first.stands (follows rs s s' follow)
           (first.instantiates.used ∙ sym first.used) in
+          let over = reach_moves honest disk sectors_on failures remaining out_contents err_contents first.instance s.host s'.host
+          (first_configuration first.entered first.store) run.0 (answered (pauses_of rs)) run.2 still in
           record {
             instance = first.instance;
             store = first.store;
             entered = first.entered;
             instantiates = first.instantiates;
             last = run.0;
+            stands = run.1;
             run = run.2;
             units = run.3;
-            over_paths = λ bytes told. reach_told honest disk sectors_on failures remaining out_contents err_contents first.instance s.host s'.host
-                (first_configuration first.entered first.store) run.0 (answered (pauses_of rs)) bytes run.2 still told;
+            ends = run.4;
+            moved = over.0;
+            moves = over.1;
+            over_paths = over.2;
             kept = keeps_all disk_of tree_of (turns_of s rs) s.host trees from (safe trees from before) (turns rs s s' follow still);
             confined = λ w w' shown shown_after. confines_host Calls Shows honest_of first.instance s.host s'.host w w' (first_configuration first.entered first.store) run.0 (answered (pauses_of rs))
                 (are_rows honest disk sectors_on failures remaining out_contents err_contents) still shown

@@ -1,2 +1,4 @@
 pub mod Reaching
 pub mod Headline
+pub mod Safety
+pub mod Following

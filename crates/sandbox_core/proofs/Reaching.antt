@@ -16,7 +16,7 @@ use Rattle.wasm_interp.specs.declared.pause.Outcome.{Outcome}
 use Rattle.wasm_interp.specs.declared.pause.Outcome.TheVariants.{Exited, Trapped, OutOfFuel, OutOfMemory}
 use Rattle.wasm_interp.specs.Promise.{EndsAs, Paused, Resumed}
 use Rattle.wasi_calls.specs.Moments.{IsTurn}
-use Rattle.sandbox_core.specs.Runs.{answered, PausesFollow, ResumesFollow, StopsAs, RunsWithin, Left, Passed}
+use Rattle.sandbox_core.specs.Runs.{answered, PausesFollow, ResumesFollow, StopsAt, LastStopsAt, StopsAs, RunsWithin, Left, Passed}
 
 module _ (H : Type 0) (Calls : CallsOf H) (i : Instance) where
   -- two runs of which one begins where the other ended are one run
@@ -47,18 +47,33 @@ module _ (H : Type 0) (Calls : CallsOf H) (i : Instance) where
       subst (λ (es : List (HostCall × Errno)). Reach H Calls i h c es h' c') (sym (answered-first p ps))
       (reach_on (answered (p ∷ [])) (answered ps) h g h' c d c' (paused_reach p h g c d first) (pauses_compose ps g h' d c' rest))
 
+  -- what a pause says of where it stops
+  paused_stops : (p : Pause) (h h' : H) (c c' : Configuration) → Paused H Calls i p h c h' c' → StopsAt H Calls i p h' c'
+  paused_stops (Called call e) h h' c c' p = tt
+  paused_stops Spent h h' c c' p = p.2
+  paused_stops (Ended o) h h' c c' p = p.1
+
   pub resumes_compose : (ps : List Pause) (h h' : H) (s s' : Snapshot) (c : Configuration) → Represents s i c → ResumesFollow H Calls ps h s h' s'
-      → used_by c ≡ s.used → (c' : Configuration) × Represents s' i c' × Reach H Calls i h c (answered ps) h' c' × (used_by c' ≡ s'.used)
+      → used_by c ≡ s.used → (c' : Configuration) × Represents s' i c' × Reach H Calls i h c (answered ps) h' c' × (used_by c' ≡ s'.used) × LastStopsAt H Calls i ps h' c'
   resumes_compose [] h h' s s' c stands (same_host, same) used =
-      (c, subst (λ (t : Snapshot). Represents t i c) (sym same) stands, subst (λ (g : H). Reach H Calls i h c [] g c) (sym same_host) stays, used ∙ ap (λ (t : Snapshot). t.used) (sym same))
-  resumes_compose (p ∷ ps) h h' s s' c stands (g, t, units, first, rest) used =
+      (c, subst (λ (t : Snapshot). Represents t i c) (sym same) stands, subst (λ (g : H). Reach H Calls i h c [] g c) (sym same_host) stays, used ∙ ap (λ (t : Snapshot). t.used) (sym same), tt)
+  resumes_compose (p ∷ []) h h' s s' c stands (g, t, units, first, (same_host, same)) used =
+      let next = first.run i c stands in (
+        next.0,
+        subst (λ (t : Snapshot). Represents t i next.0) (sym same) next.1,
+        subst (λ (g : H). Reach H Calls i h c (answered (p ∷ [])) g next.0) (sym same_host) (paused_reach p h g c next.0 next.2),
+        next.4 ∙ ap (λ (t : Snapshot). t.used) (sym same),
+        subst (λ (g : H). StopsAt H Calls i p g next.0) (sym same_host) (paused_stops p h g c next.0 next.2),
+      )
+  resumes_compose (p ∷ (q ∷ ps)) h h' s s' c stands (g, t, units, first, rest) used =
       let next = first.run i c stands in
-      let later = resumes_compose ps g h' t s' next.0 next.1 rest next.4 in (
+      let later = resumes_compose (q ∷ ps) g h' t s' next.0 next.1 rest next.4 in (
         later.0,
         later.1,
-        subst (λ (es : List (HostCall × Errno)). Reach H Calls i h c es h' later.0) (sym (answered-first p ps))
-            (reach_on (answered (p ∷ [])) (answered ps) h g h' c next.0 later.0 (paused_reach p h g c next.0 next.2) later.2),
+        subst (λ (es : List (HostCall × Errno)). Reach H Calls i h c es h' later.0) (sym (answered-first p (q ∷ ps)))
+            (reach_on (answered (p ∷ [])) (answered (q ∷ ps)) h g h' c next.0 later.0 (paused_reach p h g c next.0 next.2) later.2),
         later.3,
+        later.4,
       )
 
 -- a run so far, from whatever configuration the machine stood for at first

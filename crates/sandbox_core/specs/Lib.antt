@@ -1,7 +1,8 @@
--- Read in this order: sessions with what each call of them promises, runs of a machine over a host, whole runs, and the
--- headline over any list of resumes.
+-- Read in this order: sessions with what each call of them promises, runs of a machine over a host, whole runs, what a crash
+-- may leave turn by turn, and the headline over any list of resumes.
 pub mod Session
 pub mod Runs
 pub mod Report
+pub mod Safety
 pub mod Headline
 pub mod internal

@@ -8,7 +8,7 @@ use Rattle.wasm_interp.specs.Steps.{CallsOf}
 use Rattle.wasm_interp.specs.declared.pause.Outcome.{Outcome}
 use Rattle.wasi_calls.specs.Host.{HostState, HostCalls}
 use Rattle.sandbox_core.specs.declared.report.Report.{Report}
-use Rattle.sandbox_core.specs.Session.{SessionState, Commits, used_by}
+use Rattle.sandbox_core.specs.Session.{SessionState, Commits, History, Follow, used_by}
 use Rattle.sandbox_core.specs.Runs.{RunsWithin, Passed}
 
 module _ {D R W1 W2 : Type 0} (honest : D → Type 0) (disk : D → Disk) (sectors_on failures : D → ℕ)
@@ -29,6 +29,9 @@ module _ {D R W1 W2 : Type 0} (honest : D → Type 0) (disk : D → Disk) (secto
     pub last : SessionState D R W1 W2
     pub used : report.used ≡ used_by last
     pub within : report.used ≤ fuel
+    -- the resumes that it was made of, one after another
+    pub resumes : History (SessionState D R W1 W2)
+    pub follow : Follow honest disk sectors_on failures remaining out_contents err_contents session resumes last
     pub run : (i : Instance) (c : Configuration) → Represents session.machine i c
         → RunsWithin (HostState D R W1 W2) Calls i session.host c fuel last.host report.outcome (used_by last)
     pub volume : Commits honest disk sectors_on failures last.host.volume report.volume

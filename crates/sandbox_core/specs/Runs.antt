@@ -41,12 +41,25 @@ module _ (H : Type 0) (Calls : CallsOf H) where
   ResumesFollow (p ∷ ps) h s h' s' =
       (g : H) × (t : Snapshot) × (units : ℕ) × Resumed H Calls h g s t units p × ResumesFollow ps g t h' s'
 
+  -- what a pause says of the configuration that it leaves: it has ended so, or its next step takes a unit
+  abbrev pub StopsAt : Instance → Pause → H → Configuration → Type 0
+  StopsAt i (Called call e) h c = Unit {0}
+  StopsAt i Spent h c = NextIsPlain (code_of c)
+  StopsAt i (Ended o) h c = EndsAs H Calls i o h c
+
+  -- and what the last of some pauses says
+  abbrev pub LastStopsAt : Instance → List Pause → H → Configuration → Type 0
+  LastStopsAt i [] h c = Unit {0}
+  LastStopsAt i (p ∷ []) h c = StopsAt i p h c
+  LastStopsAt i (p ∷ (q ∷ ps)) h c = LastStopsAt i (q ∷ ps) h c
+
   -- resumes that follow one another are one run, from whatever configuration the machine stood for, with exactly the
-  -- units that the machine tells of
+  -- units that the machine tells of, to where the last of them stops
   abbrev pub ResumesCompose : Type 0
   ResumesCompose = (i : Instance) (ps : List Pause) (h h' : H) (s s' : Snapshot) (c : Configuration)
       → Represents s i c → ResumesFollow ps h s h' s' → used_by c ≡ s.used
       → (c' : Configuration) × Represents s' i c' × Reach H Calls i h c (answered ps) h' c' × (used_by c' ≡ s'.used)
+      × LastStopsAt i ps h' c'
 
   -- how a run with fuel stops: out of it exactly where all was used and the next step takes a unit
   abbrev pub StopsAs : Instance → Outcome → ℕ → ℕ → H → Configuration → Type 0

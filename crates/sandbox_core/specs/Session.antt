@@ -1,5 +1,5 @@
 -- Sessions: a machine, and the host that answers its calls (`docs/ARCHITECTURE.md`, "The way of the bytes").
-use Rattle.std.specs.Prelude.{◌≡◌, ◌≢◌, ℕ, true, false, Bool, List, Option, None, Result, Ok, Err}
+use Rattle.std.specs.Prelude.{◌≡◌, ◌≢◌, ◌==◌, ◌&&◌, ℕ, true, false, Bool, List, [], ◌∷◌, map, Option, None, Result, Ok, Err}
 use Rattle.vol_sector.specs.Disk.{Image, Disk, Leaves}
 use Rattle.vol_sector.specs.declared.fault.Refused.{Refused}
 use Rattle.vol_sector.specs.declared.fault.VolumeFault.TheVariants as fault
@@ -10,6 +10,7 @@ use Rattle.wasm_module.specs.declared.module.Module.{Module}
 use Rattle.wasm_store.specs.declared.fault.InstanceFault.TheVariants.{Memory as NoMemory}
 use Rattle.wasm_store.specs.Instantiation.{RefusedFor}
 use Rattle.wasm_interp.specs.declared.pause.Pause.{Pause}
+use Rattle.wasm_interp.specs.declared.pause.Pause.TheVariants.{Called, Spent, Ended}
 use Rattle.wasm_interp.specs.Machine.{Snapshot}
 use Rattle.wasm_interp.specs.Promise.{Starts, Resumed}
 use Rattle.wasi_fd.specs.Table.{table_of}
@@ -20,7 +21,7 @@ use Rattle.wasi_calls.specs.Links.{link}
 use Rattle.wasi_calls.specs.Host.{HostState, HostCalls}
 use Rattle.path_walk.specs.Walk.{Asked}
 use Rattle.wasi_calls.specs.Making.{HasPreopens, preopens_of}
-use Rattle.wasi_calls.specs.Moments.{IsTurn, PauseSynced}
+use Rattle.wasi_calls.specs.Moments.{IsTurn, PauseSynced, is_sync}
 use Rattle.sandbox_core.specs.declared.fault.SessionFault.{SessionFault}
 use Rattle.sandbox_core.specs.declared.fault.SessionFault.TheVariants.{Setting, Instance as NoInstance, Device, Preopen, Memory}
 use Rattle.sandbox_core.specs.declared.session.RefusedSession.{RefusedSession}
@@ -100,6 +101,26 @@ module _ {D R W1 W2 : Type 0} (honest : D → Type 0) (disk : D → Disk) (secto
         → IsTurn (disk old.host.volume.device) (disk new.host.volume.device) old.host.volume.tree new.host.volume.tree
     pub synced : honest old.host.volume.device
         → PauseSynced (λ (h : HostState D R W1 W2). disk h.volume.device) (λ h. h.volume.tree) (λ h. honest h.volume.device) p new.host
+
+-- what each of some resumes answered, and the session after it
+abbrev pub History : Type 0 → Type 0
+History S = List (Pause × S)
+
+abbrev pub pauses_of : {S : Type 0} → History S → List Pause
+pauses_of rs = map (λ r. r.0) rs
+
+-- a sync that was answered with success
+abbrev pub is_synced : Pause → Bool
+is_synced (Called c e) = is_sync c && (e.0 == 0)
+is_synced Spent = false
+is_synced (Ended o) = false
+
+module _ {D R W1 W2 : Type 0} (honest : D → Type 0) (disk : D → Disk) (sectors_on failures : D → ℕ)
+    (remaining : R → Option (List ℕ)) (out_contents : W1 → Option (List ℕ)) (err_contents : W2 → Option (List ℕ)) where
+  -- one resume after another, from a session to another
+  abbrev pub Follow : SessionState D R W1 W2 → History (SessionState D R W1 W2) → SessionState D R W1 W2 → Type 0
+  Follow s [] s' = s' ≡ s
+  Follow s (r ∷ rs) s' = ((units : ℕ) × Resumes honest disk sectors_on failures remaining out_contents err_contents s r.1 units r.0) × Follow r.1 rs s'
 
 module _ {D : Type 0} (honest : D → Type 0) (disk : D → Disk) (sectors_on failures : D → ℕ) where
   -- what is handed back of a volume: itself, or its device

@@ -2,16 +2,23 @@
 
 ghost use Rattle.sandbox_core.specs.Headline.{Headline};
 ghost use Rattle.sandbox_core.specs.Runs.{PausesCompose, ResumesCompose};
+ghost use Rattle.sandbox_core.specs.Safety.{TurnsAreSafe};
 
 use std::io::{Read, Write};
 use vol_sector::Device;
-pub use wasi_calls::{confined, confined_host, kept};
+pub use wasi_calls::{confined, confined_host, host_calls_are_rows, kept};
 use wasm_interp::Host;
 
 /// Any list of resumes is one run, over any host: the pauses say which calls the host answered in it.
 pub fn compose<H: Host>()
     ensures pauses { PausesCompose H H.calls }
     ensures resumes { ResumesCompose H H.calls }
+{}
+
+/// What a crash may leave of a session's volume, one turn after another: as the session is made, in each resume and as it
+/// is finished. What may be left after a turn is what the next begins with, also that of the next session on the volume.
+pub fn turns_are_safe<D: Device, R: Read, W1: Write, W2: Write>()
+    ensures { TurnsAreSafe D.honest D.disk D.size D.failures R.remaining W1.contents W2.contents }
 {}
 
 /// The headline, over what `Session::new` and `Session::resume` say: whatever resumes follow, the guest's steps are a run

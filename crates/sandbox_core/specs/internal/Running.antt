@@ -5,7 +5,7 @@ use Rattle.wasm_interp.specs.declared.pause.Outcome.{Outcome}
 use Rattle.wasm_interp.specs.Configuration.{Instance, Configuration}
 use Rattle.wasm_interp.specs.Machine.{Snapshot, Represents}
 use Rattle.wasi_calls.specs.Host.{HostState}
-use Rattle.sandbox_core.specs.Session.{SessionState, used_by}
+use Rattle.sandbox_core.specs.Session.{SessionState, History, Follow, used_by}
 use Rattle.sandbox_core.specs.Runs.{RunsWithin, Passed}
 use Rattle.sandbox_core.specs.Report.{Calls, disk_of, tree_of}
 
@@ -17,10 +17,15 @@ pub record HasConfiguration (machine : Snapshot) : Type 0 where
 
 module _ {D R W1 W2 : Type 0} (honest : D → Type 0) (disk : D → Disk) (sectors_on failures : D → ℕ)
     (remaining : R → Option (List ℕ)) (out_contents : W1 → Option (List ℕ)) (err_contents : W2 → Option (List ℕ)) where
+  -- some resumes, one after another
+  abbrev pub Followed : SessionState D R W1 W2 → SessionState D R W1 W2 → Type 0
+  Followed old new = (resumes : History (SessionState D R W1 W2)) × Follow honest disk sectors_on failures remaining out_contents err_contents old resumes new
+
   -- A run from a configuration with these units of fuel, which ends so. Each image that a crash may leave since it began
   -- could be left before, or stands for a tree that one could leave then, or for that of a host that the run comes by.
   pub record RunsTo (old : SessionState D R W1 W2) (fuel : ℕ) (new : SessionState D R W1 W2) (outcome : Outcome) : Type 0 where
     pub honest_after : honest old.host.volume.device → honest new.host.volume.device
+    pub followed : Followed old new
     pub run : (i : Instance) (c : Configuration) → Represents old.machine i c
         → RunsWithin (HostState D R W1 W2) (Calls honest disk sectors_on failures remaining out_contents err_contents) i old.host c fuel new.host outcome (used_by new)
     pub crash : honest old.host.volume.device → (i : Instance) (c : Configuration) (stands : Represents old.machine i c)

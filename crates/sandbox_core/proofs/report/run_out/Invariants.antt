@@ -1,12 +1,14 @@
 use Rattle.std.proofs.Common.{◌+◌, ◌-◌, ◌≤◌}
 use Rattle.wasm_interp.specs.Machine.{entries_left}
 use Rattle.sandbox_core.specs.Report.{Calls, disk_of, tree_of}
+use Rattle.sandbox_core.specs.internal.Running.{Followed}
 use Rattle.sandbox_core.proofs.Reaching.{SafeSoFar}
 use Rattle.sandbox_core.proofs.report.run_out.Given as goal
 
 abbrev pub invariant-running : goal.invariant-running
 invariant-running g l = record {
   within : l.session.machine.used ≤ l.fuel;
+  followed : Followed g.D.Device.honest g.D.Device.disk g.D.Device.size g.D.Device.failures g.R.Read.remaining g.W1.Write.contents g.W2.Write.contents l.initial.session l.session;
   so_far : SafeSoFar _ (Calls g.D.Device.honest g.D.Device.disk g.D.Device.size g.D.Device.failures g.R.Read.remaining g.W1.Write.contents g.W2.Write.contents)
       (disk_of g.D.Device.honest g.D.Device.disk g.D.Device.size g.D.Device.failures g.R.Read.remaining g.W1.Write.contents g.W2.Write.contents)
       (tree_of g.D.Device.honest g.D.Device.disk g.D.Device.size g.D.Device.failures g.R.Read.remaining g.W1.Write.contents g.W2.Write.contents)
