@@ -1,6 +1,6 @@
 //! A device in a file of the system.
 
-ghost use Rattle.std.specs.Prelude.{◌≡◌, ◌≤◌, true, is_err};
+ghost use Rattle.std.specs.Prelude.{◌≡◌, ◌≤◌, OnOk, min, true, is_err};
 ghost use Rattle.vol_sector.specs.Disk.{counted};
 ghost use Rattle.sandbox_device.specs.File.{unknown};
 
@@ -45,7 +45,8 @@ impl FileDevice {
         files: &R,
         path: &str,
     ) -> io::Result<FileDevice>
-        ensures { IfOk result (λ d. d.failures ≡ 0) }
+        ensures few { IfOk result (λ d. d.sectors ≤ 65536) }
+        ensures unused { IfOk result (λ d. d.failures ≡ 0) }
     {
         let file = OpenOptions::new().read(true).write(true).open(files, path)?;
         FileDevice::locked(alloc, file)
@@ -59,7 +60,9 @@ impl FileDevice {
         path: &str,
         sectors: u32,
     ) -> io::Result<FileDevice>
-        ensures { IfOk result (λ d. d.failures ≡ 0) }
+        ensures few { IfOk result (λ d. d.sectors ≤ 65536) }
+        ensures enough { IfOk result (λ d. min sectors 65536 ≤ d.sectors) }
+        ensures unused { IfOk result (λ d. d.failures ≡ 0) }
     {
         let file = OpenOptions::new()
             .read(true)
@@ -89,7 +92,8 @@ impl FileDevice {
     }
 
     fn lengthen(&mut self, sectors: u32) -> io::Result<()>
-        ensures { self.new.failures ≡ self.old.failures }
+        ensures failures { self.new.failures ≡ self.old.failures }
+        ensures sectors { OnOk result (self.new.sectors ≡ sectors) }
     {
         self.file.set_len(u64::from(sectors) * SECTOR)?;
         self.sectors = sectors;
