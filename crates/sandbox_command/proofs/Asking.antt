@@ -1,5 +1,5 @@
 -- Steps that only ask a volume.
-use Rattle.std.proofs.Common.{ℕ, Bool, false, OnOk, Result, Ok, Err, sym, ap, ◌∙◌, subst}
+use Rattle.std.proofs.Common.{ℕ, Bool, false, OnErr, OnOk, Result, Ok, Err, sym, ap, ◌∙◌, subst}
 use Rattle.vol_sector.specs.Disk.{Disk, counted}
 use Rattle.vol_tree.specs.declared.superblock.Superblock.{Superblock}
 use Rattle.vol_tree.specs.Superblock.{HasRanges}
@@ -35,3 +35,7 @@ module _ {D : Type 0} (honest : D → Type 0) (size failures : D → ℕ) where
     working = kept.failed;
     ranges = subst (λ (v : Superblock). HasRanges v) (sym kept.numbers) working.ranges;
   }
+
+pub on_err : {X E : Type 0} (r : Result X E) (P : Type 0) → P → OnErr r P
+on_err (Ok x) P p = tt
+on_err (Err e) P p = p

@@ -20,6 +20,7 @@ use Rattle.sandbox_core.specs.declared.fault.SessionFault.TheVariants.{Setting, 
 use Rattle.sandbox_core.specs.Session.{IsHandedBack, KeepsVolume}
 use Rattle.sandbox_words.specs.Request.{Text}
 use Rattle.sandbox_command.specs.Volumes.{IsOpenFor, LeftByOpening}
+use Rattle.sandbox_command.specs.declared.program.Executed.{Executed}
 use Rattle.sandbox_command.specs.Running.{Launches, LeftByRun, device_of}
 
 module _ (H : Type 0) (Calls : CallsOf H) (disk : H → Disk) (tree : H → Tree) where
@@ -49,15 +50,15 @@ device_back is_honest disk sectors_on failures v (Err r) same = same.0
 -- ---- from the opening of the volume on
 
 module _ {D : Type 0} (is_honest : D → Type 0) (disk : D → Disk) (sectors_on failures : D → ℕ) where
-  pub opening_crash : (file : Option (Bor Text)) (device : D) (v : Opened D) → IsOpenFor is_honest disk sectors_on file device v → is_honest device → Leaves (disk device) (disk v.device) (LeftByOpening is_honest disk sectors_on file v)
+  pub opening_crash : (file : Option (Bor Text)) (device : D) (v : Opened D) → IsOpenFor is_honest disk sectors_on failures file device v → is_honest device → Leaves (disk device) (disk v.device) (LeftByOpening is_honest disk sectors_on failures file v)
   opening_crash (Some file) device v opened h = opened.crash h
   opening_crash None device v opened h = opened.crash h
 
-  pub opened_lasts : (file : Option (Bor Text)) (device : D) (v : Opened D) → IsOpenFor is_honest disk sectors_on file device v → is_honest device → (c : Image) → (disk v.device).may_leave c → Stands c v.tree
+  pub opened_lasts : (file : Option (Bor Text)) (device : D) (v : Opened D) → IsOpenFor is_honest disk sectors_on failures file device v → is_honest device → (c : Image) → (disk v.device).may_leave c → Stands c v.tree
   opened_lasts (Some file) device v opened h c may = (v.numbers, opened.working.lasts h c may)
   opened_lasts None device v opened h c may = (v.numbers, opened.working.lasts h c may)
 
-  pub opened_honest : (file : Option (Bor Text)) (device : D) (v : Opened D) → IsOpenFor is_honest disk sectors_on file device v → is_honest device → is_honest v.device
+  pub opened_honest : (file : Option (Bor Text)) (device : D) (v : Opened D) → IsOpenFor is_honest disk sectors_on failures file device v → is_honest device → is_honest v.device
   opened_honest (Some file) device v opened h = opened.working.honest.0 h
   opened_honest None device v opened h = opened.working.honest.0 h
 
@@ -76,24 +77,24 @@ module _ {D : Type 0} (is_honest : D → Type 0) (disk : D → Disk) (sectors_on
   kept_honest Preopen old new reads h = reads.kept.honest.0 h
   kept_honest Memory old new same h = subst (λ (v : Opened D). is_honest v.device) (sym same) h
 
-  module _ {R W1 W2 : Type 0} (remaining : R → Option (List ℕ)) (outs : W1 → Option (List ℕ)) (errs : W2 → Option (List ℕ)) (m : Module) (fuel : ℕ) (parts : HostParts D R W1 W2) (status : ℕ) (after : D) where
-    pub launch_crash : (launched : Launches is_honest disk sectors_on failures remaining outs errs m fuel parts status after) → is_honest parts.volume.device → ((c : Image) → (disk parts.volume.device).may_leave c → Stands c parts.volume.tree)
-        → Leaves (disk parts.volume.device) (disk after) (LeftByRun is_honest disk sectors_on failures remaining outs errs m fuel parts status after launched)
+  module _ {R W1 W2 : Type 0} (remaining : R → Option (List ℕ)) (outs : W1 → Option (List ℕ)) (errs : W2 → Option (List ℕ)) (m : Module) (fuel : ℕ) (parts : HostParts D R W1 W2) (left : Executed D R W1 W2) where
+    pub launch_crash : (launched : Launches is_honest disk sectors_on failures remaining outs errs m fuel parts left) → is_honest parts.volume.device → ((c : Image) → (disk parts.volume.device).may_leave c → Stands c parts.volume.tree)
+        → Leaves (disk parts.volume.device) (disk left.device) (LeftByRun is_honest disk sectors_on failures remaining outs errs m fuel parts left launched)
     launch_crash (inl refused) h lasts =
         subst (λ (d : D). Leaves (disk parts.volume.device) (disk d) (λ c. ⊥)) (sym refused.device) (kept_crash refused.fault parts.volume refused.volume refused.kept h)
     launch_crash (inr ran) h lasts = ran.crash h lasts
 
-    pub launch_honest : Launches is_honest disk sectors_on failures remaining outs errs m fuel parts status after → is_honest parts.volume.device → is_honest after
+    pub launch_honest : Launches is_honest disk sectors_on failures remaining outs errs m fuel parts left → is_honest parts.volume.device → is_honest left.device
     launch_honest (inl refused) h = subst is_honest (sym refused.device) (kept_honest refused.fault parts.volume refused.volume refused.kept h)
     launch_honest (inr ran) h =
         let back = ran.device ∙ device_back is_honest disk sectors_on failures ran.reports.volume.new ran.report.volume ran.reports.volume.handed_back in
         subst is_honest (sym back) (ran.reports.volume.kept.honest.0 (ran.reports.honest_after (ran.shares.reads.kept.honest.0 h)))
 
-    pub whole_crash : (file : Option (Bor Text)) (device : D) → IsOpenFor is_honest disk sectors_on file device parts.volume → (launched : Launches is_honest disk sectors_on failures remaining outs errs m fuel parts status after) → is_honest device
-        → Leaves (disk device) (disk after) (λ c. LeftByOpening is_honest disk sectors_on file parts.volume c ⊎ LeftByRun is_honest disk sectors_on failures remaining outs errs m fuel parts status after launched c)
+    pub whole_crash : (file : Option (Bor Text)) (device : D) → IsOpenFor is_honest disk sectors_on failures file device parts.volume → (launched : Launches is_honest disk sectors_on failures remaining outs errs m fuel parts left) → is_honest device
+        → Leaves (disk device) (disk left.device) (λ c. LeftByOpening is_honest disk sectors_on failures file parts.volume c ⊎ LeftByRun is_honest disk sectors_on failures remaining outs errs m fuel parts left launched c)
     whole_crash file device opened launched h =
         let now = opened_honest file device parts.volume opened h in
-        leaves_then (disk device) (disk parts.volume.device) (disk after) (LeftByOpening is_honest disk sectors_on file parts.volume)
-        (LeftByRun is_honest disk sectors_on failures remaining outs errs m fuel parts status after launched)
-        (λ c. LeftByOpening is_honest disk sectors_on file parts.volume c ⊎ LeftByRun is_honest disk sectors_on failures remaining outs errs m fuel parts status after launched c)
+        leaves_then (disk device) (disk parts.volume.device) (disk left.device) (LeftByOpening is_honest disk sectors_on failures file parts.volume)
+        (LeftByRun is_honest disk sectors_on failures remaining outs errs m fuel parts left launched)
+        (λ c. LeftByOpening is_honest disk sectors_on failures file parts.volume c ⊎ LeftByRun is_honest disk sectors_on failures remaining outs errs m fuel parts left launched c)
         (opening_crash file device parts.volume opened h) (launch_crash launched now (opened_lasts file device parts.volume opened h)) (λ c p. inl p) (λ c p. inr p)

@@ -1,3 +1,6 @@
+mod Handed
+mod Printed
+mod Flushed
 mod Asking
 mod Listing
 mod Texts

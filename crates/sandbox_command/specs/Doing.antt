@@ -1,8 +1,10 @@
 -- What a task does with the volume on a device (`README.md`, "The program").
 use Rattle.std.specs.Prelude.{◌≡◌, ◌⊎◌, ◌↔◌, ℕ, List, Option, Result, Ok, Err, OnOk, IfErr}
-use Rattle.vol_sector.specs.Disk.{Image, Disk, Leaves}
+use Rattle.std.specs.Io.KnownBytes.{Keeps}
+use Rattle.vol_sector.specs.Disk.{Image, Disk, Leaves, counted}
 use Rattle.vol_sector.specs.declared.fault.VolumeFault.{VolumeFault}
 use Rattle.vol_sector.specs.declared.fault.VolumeFault.TheVariants as fault
+use Rattle.vol_sector.specs.declared.fault.VolumeFault.TheVariants.{NotAVolume, Version}
 use Rattle.vol_inode.specs.declared.version.Version.TheVariants.{One, Two}
 use Rattle.vol_tree.specs.declared.superblock.Superblock.{Superblock}
 use Rattle.vol_tree.specs.Tree.{Tree}
@@ -12,6 +14,7 @@ use Rattle.sandbox_words.specs.declared.request.Task.{Task}
 use Rattle.sandbox_words.specs.declared.request.Task.TheVariants.{List as Ls, Get, Put, Check, Upgrade}
 use Rattle.sandbox_command.specs.declared.failure.Failure.{Failure}
 use Rattle.sandbox_command.specs.declared.failure.Failure.TheVariants.{Volume}
+use Rattle.sandbox_command.specs.Blame.{blames_device}
 use Rattle.sandbox_command.specs.Tasks.{IsPartOfPut, Prints, Puts, ReflectsAny, printed_file, printed_listing, summary}
 
 -- An upgrade is refused with 35 for version 2, and else only with 33.
@@ -44,6 +47,22 @@ Lasts (Put path) v U may_leave = (c : Image) → may_leave c → Stands c U
 Lasts Check v U may_leave = Unit {0}
 Lasts Upgrade v U may_leave = (c : Image) → may_leave c → StandsAs c (record v { version = Two }) U
 
+-- the tasks that print nothing
+abbrev pub PrintsNothing : Task → Type 0
+PrintsNothing (Ls path) = ⊥
+PrintsNothing (Get path) = ⊥
+PrintsNothing (Put path) = Unit {0}
+PrintsNothing Check = ⊥
+PrintsNothing Upgrade = Unit {0}
+
+-- the tasks that read nothing of the input
+abbrev pub ReadsNothing : Task → Type 0
+ReadsNothing (Ls path) = Unit {0}
+ReadsNothing (Get path) = Unit {0}
+ReadsNothing (Put path) = ⊥
+ReadsNothing Check = Unit {0}
+ReadsNothing Upgrade = Unit {0}
+
 -- why a volume may be refused
 abbrev pub RefusedBy : VolumeFault → ℕ → Image → Type 0
 RefusedBy fault.NotAVolume size seen = NoVolumeOn size seen
@@ -55,7 +74,7 @@ RefusedBy fault.Upgraded size seen = ⊥
 RefusedBy fault.Geometry size seen = ⊥
 RefusedBy fault.Memory size seen = Unit {0}
 
-module _ {D : Type 0} (is_honest : D → Type 0) (disk : D → Disk) (sectors_on : D → ℕ) (task : Task) (device : D) (given unread before after : Option (List ℕ)) (left : D) (done : Result (Unit {0}) Failure) where
+module _ {D : Type 0} (is_honest : D → Type 0) (disk : D → Disk) (sectors_on failures : D → ℕ) (task : Task) (device : D) (given unread before after : Option (List ℕ)) (left : D) (done : Result (Unit {0}) Failure) where
   -- What reads give of the device stands for a tree, and the task was done with it.
   pub record WasDone : Type 0 where
     pub numbers : Superblock
@@ -66,14 +85,23 @@ module _ {D : Type 0} (is_honest : D → Type 0) (disk : D → Disk) (sectors_on
     pub crash : Leaves (disk device) (disk left) (ReflectsAny (disk device) (IsPartOf task numbers tree given))
     pub lasts : OnOk done (Lasts task numbers new_tree (disk left).may_leave)
 
-  -- The volume is refused; what stands for a tree stands for it still.
+  -- The volume is refused, and nothing read or printed. What stands for a tree stands for it still, and what is no volume
+  -- of a known version isn't written to.
   pub record WasRefused : Type 0 where
     pub fault : VolumeFault
     pub is : done ≡ Err (Volume fault)
     pub why : RefusedBy fault (sectors_on device) (disk device).seen
     pub crash : (v : Superblock) (T : Tree) → StandsOn (sectors_on device) (disk device).seen v T → Leaves (disk device) (disk left) (λ c. StandsAs c v T)
+    pub unwritten : (fault ≡ NotAVolume) ⊎ (fault ≡ Version) → Leaves (disk device) (disk left) (λ c. ⊥)
+    pub reads_nothing : unread ≡ given
+    pub prints_nothing : Keeps before after
 
+  -- The task was done, or the volume is refused. Whatever the device does: 33 and 29 come only where one of its
+  -- operations failed, and a task that is to read or print nothing does so.
   pub record Performs : Type 0 where
     pub ends : is_honest device → WasDone ⊎ WasRefused
     pub honest : is_honest device ↔ is_honest left
     pub size : sectors_on left ≡ sectors_on device
+    pub failed : failures left ≡ counted (blames_device done) (failures device)
+    pub reads_nothing : ReadsNothing task → unread ≡ given
+    pub prints_nothing : PrintsNothing task → Keeps before after

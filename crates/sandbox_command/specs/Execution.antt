@@ -19,7 +19,9 @@ use Rattle.sandbox_words.specs.Request.{Text}
 use Rattle.sandbox_command.specs.declared.failure.Failure.{Failure}
 use Rattle.sandbox_command.specs.Formatting.{Formats}
 use Rattle.sandbox_command.specs.Doing.{Performs}
-use Rattle.sandbox_command.specs.Status.{load_status, session_status, volume_status, TaskEndsWith}
+use Rattle.sandbox_command.specs.declared.program.Executed.{Executed}
+use Rattle.sandbox_command.specs.Status.{load_status, session_status, volume_status, task_status}
+use Rattle.sandbox_command.specs.Streams.{AppendsLines, IsSilent}
 use Rattle.sandbox_command.specs.Supplies.{AreSettings, IsUncut, directories_of}
 use Rattle.sandbox_command.specs.Volumes.{IsOpenFor, IsRefusedFor, LeftByOpening}
 use Rattle.sandbox_command.specs.Running.{Launches, LeftByRun}
@@ -39,40 +41,47 @@ pub record NotLoaded (bytes : List ℕ) (status : ℕ) : Type 0 where
 module _ {D R W1 W2 : Type 0} (is_honest : D → Type 0) (disk : D → Disk) (sectors_on failures : D → ℕ)
     (remaining : R → Option (List ℕ)) (out_contents : W1 → Option (List ℕ)) (err_contents : W2 → Option (List ℕ)) where
   -- The volume is refused.
-  pub record NoVolume (run : Run) (device : D) (status : ℕ) (after : D) : Type 0 where
+  pub record NoVolume (run : Run) (device : D) (input : R) (out : W1) (err : W2) (left : Executed D R W1 W2) : Type 0 where
     pub refused : Refused D
-    pub why : IsRefusedFor is_honest disk sectors_on run.volume device refused
-    pub device_is : after ≡ refused.device
-    pub ends : status ≡ volume_status refused.fault
+    pub why : IsRefusedFor is_honest disk sectors_on failures run.volume device refused
+    pub device_is : left.device ≡ refused.device
+    pub ends : left.status ≡ volume_status refused.fault
+    pub streams : IsSilent out_contents err_contents input out err left
 
   -- The volume was opened, and the module launched with it and with the settings that were asked for.
-  pub record OnVolume (run : Run) (m : Module) (random : Text) (device : D) (input : R) (out : W1) (err : W2) (status : ℕ) (after : D) : Type 0 where
+  pub record OnVolume (run : Run) (m : Module) (random : Text) (device : D) (input : R) (out : W1) (err : W2) (left : Executed D R W1 W2) : Type 0 where
     pub volume : Opened D
-    pub opened : IsOpenFor is_honest disk sectors_on run.volume device volume
+    pub opened : IsOpenFor is_honest disk sectors_on failures run.volume device volume
     pub settings : Settings
     pub are_settings : AreSettings run random settings
-    pub launched : Launches is_honest disk sectors_on failures remaining out_contents err_contents m run.limits.fuel (given settings volume input out err) status after
+    pub launched : Launches is_honest disk sectors_on failures remaining out_contents err_contents m run.limits.fuel (given settings volume input out err) left
     -- At any moment a crash leaves what it could leave before, what opening leaves, or the tree of a host that the run comes by.
-    pub crash : is_honest device → Leaves (disk device) (disk after)
-        (λ c. LeftByOpening is_honest disk sectors_on run.volume volume c ⊎ LeftByRun is_honest disk sectors_on failures remaining out_contents err_contents m run.limits.fuel (given settings volume input out err) status after launched c)
-    pub honest : is_honest device → is_honest after
+    pub crash : is_honest device → Leaves (disk device) (disk left.device)
+        (λ c. LeftByOpening is_honest disk sectors_on failures run.volume volume c ⊎ LeftByRun is_honest disk sectors_on failures remaining out_contents err_contents m run.limits.fuel (given settings volume input out err) left launched c)
+    pub honest : is_honest device → is_honest left.device
+
+  -- Before a volume was opened: the device is as it was, and so are the streams but for the program's own lines.
+  pub record IsUntouched (device : D) (input : R) (out : W1) (err : W2) (left : Executed D R W1 W2) : Type 0 where
+    pub device_is : left.device ≡ device
+    pub streams : IsSilent out_contents err_contents input out err left
 
   -- The words are refused, or the bytes; or they spell a valid module, and then the volume is refused, or the module is
-  -- launched. Where it isn't opened, the device is as it was.
-  abbrev pub Runs : Run → List ℕ → Text → D → R → W1 → W2 → ℕ → D → Type 0
-  Runs run bytes random device input out err status after =
-      (NotSupplied run status × (after ≡ device))
-      ⊎ ((NotLoaded bytes status × (after ≡ device))
+  -- launched.
+  abbrev pub Runs : Run → List ℕ → Text → D → R → W1 → W2 → Executed D R W1 W2 → Type 0
+  Runs run bytes random device input out err left =
+      (NotSupplied run left.status × IsUntouched device input out err left)
+      ⊎ ((NotLoaded bytes left.status × IsUntouched device input out err left)
       ⊎ ((m : Module) × Spells bytes m × IsValid m
-      × (NoVolume run device status after ⊎ OnVolume run m random device input out err status after)))
+      × (NoVolume run device input out err left ⊎ OnVolume run m random device input out err left)))
 
-  -- A module runs on the volume of a device; a device is formatted; a task is done with the volume on a device, and then
-  -- the output is flushed.
-  abbrev pub Executes : Invocation → List ℕ → Text → D → R → W1 → W2 → ℕ → D → Type 0
-  Executes (asked.Run run) bytes random device input out err status after = Runs run bytes random device input out err status after
-  Executes (asked.Format file sectors slots) bytes random device input out err status after =
-      (done : Result (Unit {0}) Failure) × Formats is_honest disk sectors_on device sectors slots after done × TaskEndsWith done status
-  Executes (asked.Volume file task) bytes random device input out err status after =
-      (done : Result (Unit {0}) Failure) × (unread : R) × (printed : W1)
-      × Performs is_honest disk sectors_on task device (remaining input) (remaining unread) (out_contents out) (out_contents printed) after done
-      × TaskEndsWith done status
+  -- A module runs on the volume of a device; a device is formatted; a task is done with the volume on a device. Then the
+  -- output is flushed, which keeps what it has.
+  abbrev pub Executes : Invocation → List ℕ → Text → D → R → W1 → W2 → Executed D R W1 W2 → Type 0
+  Executes (asked.Run run) bytes random device input out err left = Runs run bytes random device input out err left
+  Executes (asked.Format file sectors slots) bytes random device input out err left =
+      (done : Result (Unit {0}) Failure) × Formats is_honest disk sectors_on failures device sectors slots left.device done
+      × (left.status ≡ task_status done left.flushed) × IsSilent out_contents err_contents input out err left
+  Executes (asked.Volume file task) bytes random device input out err left =
+      (done : Result (Unit {0}) Failure)
+      × Performs is_honest disk sectors_on failures task device (remaining input) (remaining left.input) (out_contents out) (out_contents left.out) left.device done
+      × (left.status ≡ task_status done left.flushed) × AppendsLines (err_contents err) (err_contents left.err)

@@ -1,17 +1,18 @@
 -- What formatting a device leaves, and how it ends (`docs/VOLUME.md`, "Formatting").
 use Rattle.std.specs.Prelude.{◌≡◌, ◌≤◌, ◌<◌, ◌↔◌, ℕ, Result, Err, OnOk, IfErr}
-use Rattle.vol_sector.specs.Disk.{Image, Disk, Leaves}
+use Rattle.vol_sector.specs.Disk.{Image, Disk, Leaves, counted}
 use Rattle.vol_sector.specs.declared.fault.VolumeFault.TheVariants as fault
 use Rattle.vol_tree.specs.Superblock.{HasRanges}
 use Rattle.vol_tree.specs.Stands.{StandsAs, empty_tree}
 use Rattle.vol_tree.specs.Fresh.{fresh, IsNoneOrEmpty}
 use Rattle.sandbox_command.specs.declared.failure.Failure.{Failure}
 use Rattle.sandbox_command.specs.declared.failure.Failure.TheVariants.{Volume}
+use Rattle.sandbox_command.specs.Blame.{blames_device}
 
 -- A device is made an empty volume with these numbers. It is refused with 36 where they are out of their ranges, then
--- with 34 where it has fewer sectors, and else only with 33. Where it isn't refused, each crash leaves the empty volume;
--- at any moment a crash leaves what it could leave before, or no volume, or the empty one.
-pub record Formats {D : Type 0} (is_honest : D → Type 0) (disk : D → Disk) (sectors_on : D → ℕ) (device : D) (sectors slots : ℕ) (after : D) (done : Result (Unit {0}) Failure) : Type 0 where
+-- with 34 where it has fewer sectors, and else only with 33, where an operation failed. Where it isn't refused, each crash
+-- leaves the empty volume; at any moment a crash leaves what it could leave before, or no volume, or the empty one.
+pub record Formats {D : Type 0} (is_honest : D → Type 0) (disk : D → Disk) (sectors_on failures : D → ℕ) (device : D) (sectors slots : ℕ) (after : D) (done : Result (Unit {0}) Failure) : Type 0 where
   pub geometry : (HasRanges (fresh sectors slots) → ⊥) → (done ≡ Err (Volume fault.Geometry)) × (after ≡ device)
   pub too_small : HasRanges (fresh sectors slots) → sectors_on device < sectors → (done ≡ Err (Volume fault.TooSmall)) × (after ≡ device)
   pub otherwise : HasRanges (fresh sectors slots) → sectors ≤ sectors_on device → IfErr done (λ f. f ≡ Volume fault.Device)
@@ -19,3 +20,4 @@ pub record Formats {D : Type 0} (is_honest : D → Type 0) (disk : D → Disk) (
   pub crash : is_honest device → Leaves (disk device) (disk after) (IsNoneOrEmpty (fresh sectors slots))
   pub honest : is_honest device ↔ is_honest after
   pub size : sectors_on after ≡ sectors_on device
+  pub failed : failures after ≡ counted (blames_device done) (failures device)

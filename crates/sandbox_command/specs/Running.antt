@@ -1,6 +1,7 @@
 -- What a run of a module on an open volume says (`README.md`, "The program").
 use Rattle.std.specs.Prelude.{◌≡◌, ◌⊎◌, ℕ, List, Option, Result, Ok, Err}
 use Rattle.std.proofs.Common.{inl, inr}
+use Rattle.std.specs.Io.KnownBytes.{Keeps}
 use Rattle.vol_sector.specs.Disk.{Image, Disk, Leaves}
 use Rattle.vol_sector.specs.declared.fault.Refused.{Refused}
 use Rattle.vol_tree.specs.Opened.{Opened}
@@ -18,7 +19,9 @@ use Rattle.sandbox_core.specs.Session.{SessionState, Opens, Shares, IsRefused, K
 use Rattle.sandbox_core.specs.Runs.{ComesBy, RunsWithin}
 use Rattle.sandbox_core.specs.Report.{Calls, Reports}
 use Rattle.sandbox_core.specs.Headline.{TellAll}
+use Rattle.sandbox_command.specs.declared.program.Executed.{Executed}
 use Rattle.sandbox_command.specs.Status.{EndsWith, session_status}
+use Rattle.sandbox_command.specs.Streams.{AppendsLines, IsSilent}
 
 -- the device of a volume that is handed back, or the device itself
 abbrev pub device_of : {D : Type 0} → Result (Opened D) (Refused D) → D
@@ -34,27 +37,33 @@ module _ {D R W1 W2 : Type 0} (is_honest : D → Type 0) (disk : D → Disk) (se
   HostCalls = Calls is_honest disk sectors_on failures remaining out_contents err_contents
 
   -- The module gets no session, and nothing but reads was done with the volume.
-  pub record NotOpened (m : Module) (parts : HostParts D R W1 W2) (status : ℕ) (after : D) : Type 0 where
+  pub record NotOpened (m : Module) (parts : HostParts D R W1 W2) (left : Executed D R W1 W2) : Type 0 where
     pub fault : SessionFault
     pub refused : IsRefused is_honest fault m parts
     pub volume : Opened D
     pub kept : KeepsVolume is_honest disk sectors_on failures fault parts.volume volume
-    pub device : after ≡ volume.device
-    pub ends : status ≡ session_status fault
+    pub device : left.device ≡ volume.device
+    pub ends : left.status ≡ session_status fault
+    pub streams : IsSilent out_contents err_contents parts.input parts.out parts.err left
 
   -- the hosts that a run from a session comes by, whose trees a crash may leave
   abbrev pub StandsInRun : (i : Instance) (h : Host) (c : Configuration) (fuel : ℕ) (report : Report D R W1 W2) (last : Host) (used : ℕ) → RunsWithin Host HostCalls i h c fuel last report.outcome used → Image → Type 0
   StandsInRun i h c fuel report last used run image = (host : Host) × ComesBy Host HostCalls i h c run.answers last run.last host × Stands image host.volume.tree
 
   -- A session ran from the module's first configuration, with this fuel.
-  pub record Ran (m : Module) (fuel : ℕ) (parts : HostParts D R W1 W2) (status : ℕ) (after : D) : Type 0 where
+  pub record Ran (m : Module) (fuel : ℕ) (parts : HostParts D R W1 W2) (left : Executed D R W1 W2) : Type 0 where
     pub session : SessionState D R W1 W2
     pub opens : Opens m parts session
     pub shares : Shares is_honest disk sectors_on failures parts session
     pub report : Report D R W1 W2
     pub reports : Reports is_honest disk sectors_on failures remaining out_contents err_contents session fuel report
-    pub ends : EndsWith report.outcome report.volume status
-    pub device : after ≡ device_of report.volume
+    pub ends : EndsWith report.outcome report.volume left.flushed left.status
+    pub device : left.device ≡ device_of report.volume
+    -- The streams are those of the run's last host. The output has what the guest wrote there and nothing else; after
+    -- the guest's errors come only the program's own lines.
+    pub input : left.input ≡ reports.last.host.input.reader
+    pub out : Keeps (out_contents reports.last.host.out.writer) (out_contents left.out)
+    pub err : AppendsLines (err_contents reports.last.host.err.writer) (err_contents left.err)
     -- Where the streams tell their bytes, it is a run over a tree of paths and these bytes.
     pub over_paths : is_honest parts.volume.device → (before : StreamBytes) → TellAll is_honest disk sectors_on failures remaining out_contents err_contents session.host before
         → let first = first_configuration opens.starts.entered opens.starts.store in
@@ -64,17 +73,17 @@ module _ {D R W1 W2 : Type 0} (is_honest : D → Type 0) (disk : D → Disk) (se
     -- Where a crash at its beginning leaves the volume's tree, one at any moment leaves that of a host that the run comes by.
     pub crash : is_honest parts.volume.device → ((c : Image) → (disk parts.volume.device).may_leave c → Stands c parts.volume.tree)
         → let first = first_configuration opens.starts.entered opens.starts.store in
-        Leaves (disk parts.volume.device) (disk after) (StandsInRun opens.starts.instance session.host first fuel report reports.last.host _
+        Leaves (disk parts.volume.device) (disk left.device) (StandsInRun opens.starts.instance session.host first fuel report reports.last.host _
         (reports.run opens.starts.instance first opens.starts.stands))
 
   -- a valid module gets no session, or runs
-  abbrev pub Launches : Module → ℕ → HostParts D R W1 W2 → ℕ → D → Type 0
-  Launches m fuel parts status after = NotOpened m parts status after ⊎ Ran m fuel parts status after
+  abbrev pub Launches : Module → ℕ → HostParts D R W1 W2 → Executed D R W1 W2 → Type 0
+  Launches m fuel parts left = NotOpened m parts left ⊎ Ran m fuel parts left
 
   -- what a stop after the volume was opened may leave: the tree of a host that the run comes by
-  abbrev pub LeftByRun : (m : Module) (fuel : ℕ) (parts : HostParts D R W1 W2) (status : ℕ) (after : D) → Launches m fuel parts status after → Image → Type 0
-  LeftByRun m fuel parts status after (inl refused) image = ⊥
-  LeftByRun m fuel parts status after (inr ran) image =
+  abbrev pub LeftByRun : (m : Module) (fuel : ℕ) (parts : HostParts D R W1 W2) (left : Executed D R W1 W2) → Launches m fuel parts left → Image → Type 0
+  LeftByRun m fuel parts left (inl refused) image = ⊥
+  LeftByRun m fuel parts left (inr ran) image =
       let first = first_configuration ran.opens.starts.entered ran.opens.starts.store in
       StandsInRun ran.opens.starts.instance ran.session.host first fuel ran.report ran.reports.last.host _
       (ran.reports.run ran.opens.starts.instance first ran.opens.starts.stands) image

@@ -1,5 +1,5 @@
 -- The exit statuses of the program (`README.md`, "The program").
-use Rattle.std.specs.Prelude.{◌≡◌, ◌⊎◌, ℕ, Result, Ok, Err, if◌then◌else◌, nat_le}
+use Rattle.std.specs.Prelude.{◌≡◌, ℕ, Bool, Result, Ok, Err, if◌then◌else◌, nat_le}
 use Rattle.std.specs.declared.io.ErrorKind.{ErrorKind as InputKind}
 use Rattle.std.specs.declared.io.ErrorKind.TheVariants as input
 use Rattle.clap.specs.declared.error.kind.ErrorKind.{ErrorKind as LineKind}
@@ -24,9 +24,9 @@ status_of OutOfMemory = 122
 
 -- The status after a run that left this: 123 where its calls couldn't be committed; else that of its outcome, or 124
 -- where an output couldn't be flushed. When a flush fails, no writer says.
-abbrev pub EndsWith : {V R : Type 0} → Outcome → Result V R → ℕ → Type 0
-EndsWith outcome (Ok volume) status = (status ≡ status_of outcome) ⊎ (status ≡ 124)
-EndsWith outcome (Err refused) status = status ≡ 123
+abbrev pub EndsWith : {V R : Type 0} → Outcome → Result V R → (flushed : Bool) → ℕ → Type 0
+EndsWith outcome (Ok volume) flushed status = status ≡ (if flushed then status_of outcome else 124)
+EndsWith outcome (Err refused) flushed status = status ≡ 123
 
 abbrev pub load_status : LoadFault → ℕ
 load_status loading.Memory = 122
@@ -56,10 +56,7 @@ abbrev pub failure_status : Failure → ℕ
 failure_status (Volume volume.Memory) = 122
 failure_status f = 124
 
-abbrev pub task_status : Result (Unit {0}) Failure → ℕ
-task_status (Ok x) = 0
-task_status (Err f) = failure_status f
-
--- The status after a task: that of how it ended, or 124 where an output couldn't be flushed.
-abbrev pub TaskEndsWith : Result (Unit {0}) Failure → ℕ → Type 0
-TaskEndsWith done status = (status ≡ task_status done) ⊎ (status ≡ 124)
+-- The status after a task: 0 where it was done, or 124 where then the output couldn't be flushed; else its failure's.
+abbrev pub task_status : Result (Unit {0}) Failure → (flushed : Bool) → ℕ
+task_status (Ok x) flushed = if flushed then 0 else 124
+task_status (Err f) flushed = failure_status f

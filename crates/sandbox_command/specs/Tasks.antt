@@ -1,7 +1,7 @@
 -- What a task on a volume prints, and which tree it leaves (`README.md`, "The program").
 use Rattle.std.specs.Prelude.{◌≡◌, ◌⊎◌, ◌==◌, ℕ, Bool, List, [], ◌∷◌, ◌++◌, Option, None, Some, Result, Ok, Err, if◌then◌else◌, codes, decimal, false, true}
 use Rattle.std.specs.List.{concat, flat_map}
-use Rattle.std.specs.Io.KnownBytes.{Appends, Consumes, IsAtEnd}
+use Rattle.std.specs.Io.KnownBytes.{Appends, Consumes, IsAtEnd, Keeps}
 use Rattle.vol_sector.specs.Disk.{Image, Disk}
 use Rattle.vol_tree.specs.declared.superblock.Superblock.{Superblock}
 use Rattle.vol_tree.specs.declared.errno.Errno.{Errno}
@@ -18,6 +18,7 @@ use Rattle.path_walk.specs.Rooted.{reached_from_root}
 use Rattle.sandbox_words.specs.Request.{Text}
 use Rattle.sandbox_command.specs.declared.failure.Failure.{Failure}
 use Rattle.sandbox_command.specs.declared.failure.Failure.TheVariants as failure
+use Rattle.sandbox_command.specs.Streams.{AppendsPart}
 
 -- ---- paths
 
@@ -78,13 +79,18 @@ printed_listing T path = directory_named T path >>= λ serial. Ok (listing T ser
 abbrev pub printed_file : Tree → Text → Result Text Errno
 printed_file T path = file_named T path >>= λ serial. Ok (bytes_at T serial)
 
--- A task that only asks: it printed what is meant; or it is refused with the meant errno, or with 29 where the device
--- failed, or the output failed.
+-- a beginning of what is meant was printed, and nothing where an errno is meant
+abbrev pub PrintsPart : Result Text Errno → Option (List ℕ) → Option (List ℕ) → Type 0
+PrintsPart (Ok text) before after = AppendsPart before after text
+PrintsPart (Err e) before after = Keeps before after
+
+-- A task that only asks: it printed what is meant; or it is refused with the meant errno, and printed nothing. Or, with a
+-- beginning printed, it is refused with 29, since the device failed, or the output failed.
 abbrev pub Prints : Result Text Errno → Option (List ℕ) → Option (List ℕ) → Result (Unit {0}) Failure → Type 0
 Prints meant before after (Ok x) = (text : Text) × (meant ≡ Ok text) × Appends before after text
 Prints meant before after (Err (failure.Volume fault)) = ⊥
-Prints meant before after (Err (failure.Tree e)) = (meant ≡ Err e) ⊎ (e ≡ errno.Io)
-Prints meant before after (Err failure.Stream) = Unit {0}
+Prints meant before after (Err (failure.Tree e)) = ((meant ≡ Err e) × Keeps before after) ⊎ ((e ≡ errno.Io) × PrintsPart meant before after)
+Prints meant before after (Err failure.Stream) = (text : Text) × (meant ≡ Ok text) × AppendsPart before after text
 
 -- ---- putting
 

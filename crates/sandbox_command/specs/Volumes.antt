@@ -1,8 +1,9 @@
 -- The volume of a run: that of its file, or, where it names none, an empty one of 202 sectors and 16 slots
 -- (`README.md`, "The program").
-use Rattle.std.specs.Prelude.{◌≡◌, ◌↔◌, ◌<◌, ℕ, false, Option, Some, None}
+use Rattle.std.specs.Prelude.{◌≡◌, ◌⊎◌, ◌↔◌, ◌<◌, ℕ, false, Option, Some, None}
 use Rattle.std.specs.Borrow.{Bor}
-use Rattle.vol_sector.specs.Disk.{Image, Disk, Leaves}
+use Rattle.vol_sector.specs.Disk.{Image, Disk, Leaves, counted}
+use Rattle.vol_sector.specs.Fault.{is_device}
 use Rattle.vol_sector.specs.declared.fault.Refused.{Refused}
 use Rattle.vol_sector.specs.declared.fault.VolumeFault.{VolumeFault}
 use Rattle.vol_sector.specs.declared.fault.VolumeFault.TheVariants as fault
@@ -30,13 +31,14 @@ FreshRefusedBy fault.Upgraded size = ⊥
 FreshRefusedBy fault.Geometry size = ⊥
 FreshRefusedBy fault.Memory size = Unit {0}
 
-module _ {D : Type 0} (is_honest : D → Type 0) (disk : D → Disk) (sectors_on : D → ℕ) where
-  -- A volume that works, on a device that was made so, and each crash leaves its tree.
+module _ {D : Type 0} (is_honest : D → Type 0) (disk : D → Disk) (sectors_on failures : D → ℕ) where
+  -- A volume that works, on a device that was made so by operations of which none failed, and each crash leaves its tree.
   pub record Works (device : D) (v : Opened D) : Type 0 where
     pub works : v.failed ≡ false
     pub lasts : is_honest device → (c : Image) → (disk v.device).may_leave c → StandsAs c v.numbers v.tree
     pub honest : is_honest device ↔ is_honest v.device
     pub size : sectors_on v.device ≡ sectors_on device
+    pub none_failed : failures v.device ≡ failures device
 
   -- What reads give of the device stands for the tree. At any moment a crash leaves what it could leave before, or this tree.
   pub record IsOpen (device : D) (v : Opened D) : Type 0 where
@@ -60,19 +62,25 @@ module _ {D : Type 0} (is_honest : D → Type 0) (disk : D → Disk) (sectors_on
   LeftByOpening (Some file) v c = StandsAs c v.numbers v.tree
   LeftByOpening None v c = IsNoneOrEmpty fresh_numbers c
 
-  -- The volume is refused; what stands for a tree stands for it still.
+  -- The volume is refused, with 33 where an operation failed. What stands for a tree stands for it still, and what is no
+  -- volume of a known version isn't written to.
   pub record IsRefused (device : D) (refused : Refused D) : Type 0 where
     pub why : is_honest device → RefusedBy refused.fault (sectors_on device) (disk device).seen
     pub crash : (v : Superblock) (T : Tree) → is_honest device → StandsOn (sectors_on device) (disk device).seen v T → Leaves (disk device) (disk refused.device) (λ c. StandsAs c v T)
+    pub unwritten : is_honest device → (refused.fault ≡ fault.NotAVolume) ⊎ (refused.fault ≡ fault.Version) → Leaves (disk device) (disk refused.device) (λ c. ⊥)
     pub honest : is_honest device ↔ is_honest refused.device
     pub size : sectors_on refused.device ≡ sectors_on device
+    pub failed : failures refused.device ≡ counted (is_device refused.fault) (failures device)
 
-  -- No empty volume was made, or it wasn't opened.
+  -- No empty volume was made, or it wasn't opened: with 33 where an operation failed. A device with too few sectors is as
+  -- it was.
   pub record IsFreshRefused (device : D) (refused : Refused D) : Type 0 where
     pub why : is_honest device → FreshRefusedBy refused.fault (sectors_on device)
     pub crash : is_honest device → Leaves (disk device) (disk refused.device) (IsNoneOrEmpty fresh_numbers)
+    pub untouched : refused.fault ≡ fault.TooSmall → refused.device ≡ device
     pub honest : is_honest device ↔ is_honest refused.device
     pub size : sectors_on refused.device ≡ sectors_on device
+    pub failed : failures refused.device ≡ counted (is_device refused.fault) (failures device)
 
   abbrev pub IsRefusedFor : Option (Bor Text) → D → Refused D → Type 0
   IsRefusedFor (Some file) device refused = IsRefused device refused

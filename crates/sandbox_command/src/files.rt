@@ -2,14 +2,16 @@
 
 ghost use Rattle.std.specs.Prelude.{◌≡◌, ◌⊎◌, ◌≤◌};
 ghost use Rattle.std.specs.Process.{exit_status};
-ghost use Rattle.sandbox_device.specs.declared.file_device.FileDevice.{FileDevice};
-ghost use Rattle.sandbox_device.specs.declared.ram_device.RamDevice.{RamDevice};
+ghost use Rattle.sandbox_words.specs.declared.request.Invocation.TheVariants as asked;
+ghost use Rattle.sandbox_command.specs.declared.program.Executed.{Executed};
 ghost use Rattle.sandbox_command.specs.Execution.{Executes};
+ghost use Rattle.sandbox_command.specs.Files.{NamesNoVolume, IsNewInMemory, IsNewInFile, IsExecuted};
 
 use crate::opening::FRESH_SECTORS;
 use crate::program;
 use sandbox_device::{FileDevice, RamDevice};
 use sandbox_words::{Invocation, Run, invocation};
+use std::alloc::Global;
 use std::fs::File;
 use std::io::{ErrorKind, Read, Write};
 use std::process::ExitCode;
@@ -64,7 +66,18 @@ pub fn perform<R: Read + Drop, W1: Write + Drop, W2: Write + Drop>(
     out: W1,
     err: W2,
 ) -> u8
-    ensures { result ≤ 124 }
+    // A refusal before anything is executed, of a file or of memory; or what was executed, on
+    // sectors in memory or on those of a file.
+    ensures tells { (result ≡ 122) ⊎ ((result ≡ 124)
+        ⊎ ((NamesNoVolume invocation.now × IsExecuted
+        ⟦<RamDevice as Device>⟧.honest ⟦<RamDevice as Device>⟧.disk ⟦<RamDevice as Device>⟧.size
+        ⟦<RamDevice as Device>⟧.failures R.remaining W1.contents W2.contents
+        IsNewInMemory invocation.now input out err result)
+        ⊎ ((NamesNoVolume invocation.now → ⊥) × IsExecuted
+        ⟦<FileDevice as Device>⟧.honest ⟦<FileDevice as Device>⟧.disk ⟦<FileDevice as Device>⟧.size
+        ⟦<FileDevice as Device>⟧.failures R.remaining W1.contents W2.contents
+        (IsNewInFile invocation.now) invocation.now input out err result))) }
+    ensures within { result ≤ 124 }
 {
     let opened = match invocation {
         Invocation::Run(run) => return perform_run(rt, invocation, run, input, out, err),
@@ -77,7 +90,7 @@ pub fn perform<R: Read + Drop, W1: Write + Drop, W2: Write + Drop>(
         Invocation::Volume { file, .. } => FileDevice::open(rt.alloc(), rt, file),
     };
     match opened {
-        Ok(device) => on_file(rt, invocation, b"", b"", device, input, out, err),
+        Ok(device) => status_on(rt.alloc(), invocation, b"", b"", device, input, out, err),
         Err(error) => refuse(&error, err),
     }
 }
@@ -91,7 +104,17 @@ fn perform_run<R: Read + Drop, W1: Write + Drop, W2: Write + Drop>(
     out: W1,
     mut err: W2,
 ) -> u8
-    ensures { result ≤ 124 }
+    requires { invocation.now ≡ asked.Run run.now }
+    ensures tells { (result ≡ 122) ⊎ ((result ≡ 124)
+        ⊎ ((NamesNoVolume invocation.now × IsExecuted
+        ⟦<RamDevice as Device>⟧.honest ⟦<RamDevice as Device>⟧.disk ⟦<RamDevice as Device>⟧.size
+        ⟦<RamDevice as Device>⟧.failures R.remaining W1.contents W2.contents
+        IsNewInMemory invocation.now input out err result)
+        ⊎ ((NamesNoVolume invocation.now → ⊥) × IsExecuted
+        ⟦<FileDevice as Device>⟧.honest ⟦<FileDevice as Device>⟧.disk ⟦<FileDevice as Device>⟧.size
+        ⟦<FileDevice as Device>⟧.failures R.remaining W1.contents W2.contents
+        (IsNewInFile invocation.now) invocation.now input out err result))) }
+    ensures within { result ≤ 124 }
 {
     let (module, random) = match read_files(rt, run) {
         Ok(bytes) => bytes,
@@ -100,12 +123,30 @@ fn perform_run<R: Read + Drop, W1: Write + Drop, W2: Write + Drop>(
     let (module, random) = (module.as_slice(), random.as_slice());
     let Some(file) = run.volume else {
         return match RamDevice::new(rt.alloc(), FRESH_SECTORS) {
-            Ok(device) => in_memory(rt, invocation, module, random, device, input, out, err),
+            Ok(device) => status_on(
+                rt.alloc(),
+                invocation,
+                module,
+                random,
+                device,
+                input,
+                out,
+                err,
+            ),
             Err(_) => program::out_of_memory(&mut err),
         };
     };
     match FileDevice::open(rt.alloc(), rt, file) {
-        Ok(device) => on_file(rt, invocation, module, random, device, input, out, err),
+        Ok(device) => status_on(
+            rt.alloc(),
+            invocation,
+            module,
+            random,
+            device,
+            input,
+            out,
+            err,
+        ),
         Err(error) => refuse(&error, err),
     }
 }
@@ -120,64 +161,23 @@ fn refuse<W: Write + Drop>(error: &io::Error, mut err: W) -> u8
     program::refuse_file(&mut err)
 }
 
-/// Executes a run on a volume in memory.
-fn in_memory<R: Read + Drop, W1: Write + Drop, W2: Write + Drop>(
-    rt: &HostRuntime,
+/// Executes an invocation on a device, and gives its status alone.
+fn status_on<D: Device + Drop, R: Read + Drop, W1: Write + Drop, W2: Write + Drop>(
+    alloc: Global,
     invocation: &Invocation<'_>,
     module: &[u8],
     random: &[u8],
-    device: RamDevice,
+    device: D,
     input: R,
     out: W1,
     err: W2,
 ) -> u8
-    ensures tells { (after : RamDevice) × Executes
-        ⟦<RamDevice as Device>⟧.honest ⟦<RamDevice as Device>⟧.disk ⟦<RamDevice as Device>⟧.size
-        ⟦<RamDevice as Device>⟧.failures R.remaining W1.contents W2.contents
-        invocation.now «module».now random.now device input out err result after }
+    ensures tells { (left : Executed D R W1 W2) × Executes D.honest D.disk D.size D.failures
+        R.remaining W1.contents W2.contents invocation.now «module».now random.now device input
+        out err left × (result ≡ left.status) }
     ensures within { result ≤ 124 }
 {
-    program::execute(
-        rt.alloc(),
-        invocation,
-        module,
-        random,
-        device,
-        input,
-        out,
-        err,
-    )
-    .0
-}
-
-/// Executes a command on a volume in a file.
-fn on_file<R: Read + Drop, W1: Write + Drop, W2: Write + Drop>(
-    rt: &HostRuntime,
-    invocation: &Invocation<'_>,
-    module: &[u8],
-    random: &[u8],
-    device: FileDevice,
-    input: R,
-    out: W1,
-    err: W2,
-) -> u8
-    ensures tells { (after : FileDevice) × Executes
-        ⟦<FileDevice as Device>⟧.honest ⟦<FileDevice as Device>⟧.disk ⟦<FileDevice as Device>⟧.size
-        ⟦<FileDevice as Device>⟧.failures R.remaining W1.contents W2.contents
-        invocation.now «module».now random.now device input out err result after }
-    ensures within { result ≤ 124 }
-{
-    program::execute(
-        rt.alloc(),
-        invocation,
-        module,
-        random,
-        device,
-        input,
-        out,
-        err,
-    )
-    .0
+    program::execute(alloc, invocation, module, random, device, input, out, err).status
 }
 
 /// The bytes of the module's file, and of the random bytes' where the run names one.

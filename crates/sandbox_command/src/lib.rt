@@ -5,6 +5,7 @@
 mod failure;
 mod files;
 mod opening;
+mod output;
 mod printing;
 mod program;
 mod putting;
@@ -14,6 +15,6 @@ mod volume_path;
 
 pub use files::{exit_code, perform};
 pub use opening::FRESH_SECTORS;
-pub use program::{execute, refuse_command_line, refuse_words};
+pub use program::{Executed, execute, refuse_command_line, refuse_words};
 pub use sandbox_device::{FileDevice, RamDevice};
 pub use sandbox_words::{Invocation, Limits, Run, Task, invocation};

@@ -16,8 +16,8 @@ const FRESH_SLOTS: u32 = 16;
 /// Makes a device an empty volume of 202 sectors and 16 slots, and opens it. A refusal hands the
 /// device back.
 fn open_fresh<D: Device>(alloc: Global, device: D) -> Result<Volume<D>, Refused<D>>
-    ensures opens { IfOk result (IsFresh D.honest D.disk D.size device) }
-    ensures refused { IfErr result (IsFreshRefused D.honest D.disk D.size device) }
+    ensures opens { IfOk result (IsFresh D.honest D.disk D.size D.failures device) }
+    ensures refused { IfErr result (IsFreshRefused D.honest D.disk D.size D.failures device) }
 {
     match Volume::format(device, FRESH_SECTORS, FRESH_SLOTS) {
         Ok(device) => Volume::open(alloc, device),
@@ -32,8 +32,8 @@ pub(crate) fn open_for_run<D: Device>(
     file: Option<&str>,
     device: D,
 ) -> Result<Volume<D>, Refused<D>>
-    ensures opens { IfOk result (IsOpenFor D.honest D.disk D.size file.entry device) }
-    ensures refused { IfErr result (IsRefusedFor D.honest D.disk D.size file.entry device) }
+    ensures opens { IfOk result (IsOpenFor D.honest D.disk D.size D.failures file.entry device) }
+    ensures refused { IfErr result (IsRefusedFor D.honest D.disk D.size D.failures file.entry device) }
 {
     match file {
         Some(_) => Volume::open(alloc, device),

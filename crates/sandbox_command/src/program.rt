@@ -1,17 +1,20 @@
 //! What the program does once the command line is read, and with which status it ends.
 
 ghost use Rattle.std.specs.Prelude.{◌≡◌, ◌⊎◌, ◌≤◌};
+ghost use Rattle.std.specs.Io.KnownBytes.{Keeps};
 ghost use Rattle.std.specs.IoError.{error_kind};
 ghost use Rattle.clap.specs.Values.{kind_of};
 ghost use Rattle.sandbox_command.specs.Status.{status_of, EndsWith, load_status, session_status};
 ghost use Rattle.sandbox_command.specs.Status.{volume_status, words_status, command_line_status};
-ghost use Rattle.sandbox_command.specs.Status.{TaskEndsWith};
+ghost use Rattle.sandbox_command.specs.Status.{task_status};
+ghost use Rattle.sandbox_command.specs.Streams.{AppendsLines, IsSilent};
 ghost use Rattle.sandbox_command.specs.Running.{Launches, device_of};
 ghost use Rattle.sandbox_command.specs.internal.Supplies.{AreSupplies};
 ghost use Rattle.sandbox_command.specs.Execution.{NoVolume, OnVolume, Runs, Executes};
 
 use crate::failure::Failure;
 use crate::opening::open_for_run;
+use crate::output::tell;
 use crate::supplies::{Supplies, settings, supplied};
 use crate::tasks::{format, perform};
 use sandbox_core::{
@@ -41,11 +44,24 @@ const FAULT: u8 = 124;
 /// The status where the command line is refused, or help or the version is asked for.
 const REFUSED: u8 = 125;
 
+/// What an execution leaves: the exit status, the device of the volume, and the streams.
+#[derive(Drop)]
+pub struct Executed<D, R, W1, W2> {
+    pub status: u8,
+    /// Whether no output that was flushed refused it. What isn't flushed refuses nothing.
+    pub flushed: bool,
+    pub device: D,
+    pub input: R,
+    pub out: W1,
+    pub err: W2,
+}
+
 /// Prints a fault's line, and gives its status.
 fn load_refused<W: Write>(err: &mut W, fault: LoadFault) -> u8
-    ensures { result ≡ load_status fault }
+    ensures status { result ≡ load_status fault }
+    ensures line { AppendsLines (W.contents err.old) (W.contents err.new) }
 {
-    let _ = writeln!(err, "sandbox: {fault}");
+    tell(err, fault);
     match fault {
         LoadFault::Memory => OUT_OF_MEMORY,
         _ => FAULT,
@@ -54,9 +70,10 @@ fn load_refused<W: Write>(err: &mut W, fault: LoadFault) -> u8
 
 /// Prints a fault's line, and gives its status.
 fn session_refused<W: Write>(err: &mut W, fault: SessionFault) -> u8
-    ensures { result ≡ session_status fault }
+    ensures status { result ≡ session_status fault }
+    ensures line { AppendsLines (W.contents err.old) (W.contents err.new) }
 {
-    let _ = writeln!(err, "sandbox: {fault}");
+    tell(err, fault);
     match fault {
         SessionFault::Memory => OUT_OF_MEMORY,
         _ => FAULT,
@@ -65,9 +82,10 @@ fn session_refused<W: Write>(err: &mut W, fault: SessionFault) -> u8
 
 /// Prints the line of a volume that is refused, and gives its status.
 fn volume_refused<W: Write>(err: &mut W, fault: VolumeFault) -> u8
-    ensures { result ≡ volume_status fault }
+    ensures status { result ≡ volume_status fault }
+    ensures line { AppendsLines (W.contents err.old) (W.contents err.new) }
 {
-    let _ = writeln!(err, "sandbox: {fault}");
+    tell(err, fault);
     match fault {
         VolumeFault::Memory => OUT_OF_MEMORY,
         _ => FAULT,
@@ -76,9 +94,10 @@ fn volume_refused<W: Write>(err: &mut W, fault: VolumeFault) -> u8
 
 /// Prints the line of a volume whose device failed before all was committed, and gives its status.
 fn not_committed<W: Write>(err: &mut W) -> u8
-    ensures { result ≡ 123 }
+    ensures status { result ≡ 123 }
+    ensures line { AppendsLines (W.contents err.old) (W.contents err.new) }
 {
-    let _ = writeln!(err, "sandbox: fault 33");
+    tell(err, "fault 33");
     NOT_COMMITTED
 }
 
@@ -107,37 +126,40 @@ pub fn refuse_command_line<W: Write>(err: &mut W, refused: &clap::Error) -> u8
 
 /// Prints the line of want of memory, and gives its status.
 pub fn out_of_memory<W: Write>(err: &mut W) -> u8
-    ensures { result ≡ 122 }
+    ensures status { result ≡ 122 }
+    ensures line { AppendsLines (W.contents err.old) (W.contents err.new) }
 {
-    let _ = writeln!(err, "sandbox: out of memory");
+    tell(err, "out of memory");
     OUT_OF_MEMORY
 }
 
 /// Prints the line of a file that can't be read, or of a stream that can't be flushed, and gives
 /// its status.
 pub fn refuse_file<W: Write>(err: &mut W) -> u8
-    ensures { result ≡ 124 }
+    ensures status { result ≡ 124 }
+    ensures line { AppendsLines (W.contents err.old) (W.contents err.new) }
 {
-    let _ = writeln!(err, "sandbox: fault 41");
+    tell(err, "fault 41");
     FAULT
 }
 
 /// Prints the line of an outcome, where it has one, and gives its status.
 fn ended<W: Write>(err: &mut W, outcome: Outcome) -> u8
-    ensures { result ≡ status_of outcome }
+    ensures status { result ≡ status_of outcome }
+    ensures line { AppendsLines (W.contents err.old) (W.contents err.new) }
 {
     match outcome {
         Outcome::Exited(status) if status <= GREATEST => (status & 0xff) as u8,
         Outcome::Exited(status) => {
-            let _ = writeln!(err, "sandbox: exit {status}");
+            tell(err, format_args!("exit {status}"));
             OTHER_EXIT
         }
         Outcome::Trapped(trap) => {
-            let _ = writeln!(err, "sandbox: trap: {trap}");
+            tell(err, format_args!("trap: {trap}"));
             TRAPPED
         }
         Outcome::OutOfFuel => {
-            let _ = writeln!(err, "sandbox: out of fuel");
+            tell(err, "out of fuel");
             OUT_OF_FUEL
         }
         Outcome::OutOfMemory => out_of_memory(err),
@@ -145,35 +167,51 @@ fn ended<W: Write>(err: &mut W, outcome: Outcome) -> u8
 }
 
 /// Ends a run: its outcome's line and status, but where its calls couldn't be committed or the guest's
-/// output can't be flushed. Gives the device of the volume back.
+/// output can't be flushed. Gives the device of the volume and the streams back.
 fn report<D: Device + Drop, R: Drop, W1: Write + Drop, W2: Write + Drop>(
     report: Report<D, R, W1, W2>,
-) -> (u8, D)
-    ensures ends { EndsWith report.outcome report.volume result.0 }
-    ensures device { result.1 ≡ device_of report.volume }
+) -> Executed<D, R, W1, W2>
+    ensures ends { EndsWith report.outcome report.volume result.flushed result.status }
+    ensures device { result.device ≡ device_of report.volume }
+    ensures input { result.input ≡ report.input }
+    ensures out { Keeps (W1.contents report.out) (W1.contents result.out) }
+    ensures err { AppendsLines (W2.contents report.err) (W2.contents result.err) }
 {
     let Report {
         outcome,
         volume,
+        input,
         mut out,
         mut err,
         ..
     } = report;
     let status = ended(&mut err, outcome);
     let flushed = out.flush().is_ok() && err.flush().is_ok();
-    match volume {
+    let (status, device) = match volume {
         Ok(volume) if flushed => (status, volume.into_device()),
         Ok(volume) => (refuse_file(&mut err), volume.into_device()),
         Err(Refused { device, .. }) => (not_committed(&mut err), device),
+    };
+    Executed {
+        status,
+        flushed,
+        device,
+        input,
+        out,
+        err,
     }
 }
 
-/// Ends a run that could not begin: its fault's line and status. Gives the device of the volume back.
+/// Ends a run that could not begin: its fault's line and status. Gives the device of the volume and
+/// the streams back.
 fn not_begun<D: Device + Drop, R: Drop, W1: Drop, W2: Write + Drop>(
     refused: RefusedSession<'_, '_, '_, D, R, W1, W2>,
-) -> (u8, D)
-    ensures ends { result.0 ≡ session_status refused.entry.fault }
-    ensures device { result.1 ≡ refused.entry.parts.volume.device }
+) -> Executed<D, R, W1, W2>
+    ensures ends { result.status ≡ session_status refused.entry.fault }
+    ensures device { result.device ≡ refused.entry.parts.volume.device }
+    ensures input { result.input ≡ refused.entry.parts.input }
+    ensures out { result.out ≡ refused.entry.parts.out }
+    ensures err { AppendsLines (W2.contents refused.entry.parts.err) (W2.contents result.err) }
 {
     let RefusedSession {
         valid,
@@ -183,10 +221,19 @@ fn not_begun<D: Device + Drop, R: Drop, W1: Drop, W2: Write + Drop>(
     drop(valid);
     let HostParts {
         volume,
+        input,
+        out,
         mut err,
         ..
     } = parts;
-    (session_refused(&mut err, fault), volume.into_device())
+    Executed {
+        status: session_refused(&mut err, fault),
+        flushed: true,
+        device: volume.into_device(),
+        input,
+        out,
+        err,
+    }
 }
 
 /// Runs a valid module with these settings on an open volume, whose device it gives back.
@@ -195,9 +242,9 @@ fn launch<D: Device + Drop, R: Read + Drop, W1: Write + Drop, W2: Write + Drop>(
     valid: Valid<'_>,
     fuel: u64,
     parts: HostParts<'_, '_, D, R, W1, W2>,
-) -> (u8, D)
+) -> Executed<D, R, W1, W2>
     ensures { Launches D.honest D.disk D.size D.failures R.remaining W1.contents W2.contents
-        valid.entry fuel parts.entry result.0 result.1 }
+        valid.entry fuel parts.entry result }
 {
     let HostParts {
         settings,
@@ -223,17 +270,25 @@ fn run_valid<D: Device + Drop, R: Read + Drop, W1: Write + Drop, W2: Write + Dro
     input: R,
     out: W1,
     mut err: W2,
-) -> (u8, D)
+) -> Executed<D, R, W1, W2>
     requires { AreSupplies run.now supplies.now }
-    ensures { NoVolume D.honest D.disk D.size D.failures R.remaining W1.contents W2.contents run.now device result.0 result.1
+    ensures { NoVolume D.honest D.disk D.size D.failures R.remaining W1.contents W2.contents
+        run.now device input out err result
         ⊎ OnVolume D.honest D.disk D.size D.failures R.remaining W1.contents W2.contents
-        run.now valid.entry random.now device input out err result.0 result.1 }
+        run.now valid.entry random.now device input out err result }
 {
     let volume = match open_for_run(alloc, run.volume, device) {
         Ok(volume) => volume,
         Err(Refused { device, fault }) => {
             drop(valid);
-            return (volume_refused(&mut err, fault), device);
+            return Executed {
+                status: volume_refused(&mut err, fault),
+                flushed: true,
+                device,
+                input,
+                out,
+                err,
+            };
         }
     };
     let parts = HostParts {
@@ -256,46 +311,70 @@ fn run<D: Device + Drop, R: Read + Drop, W1: Write + Drop, W2: Write + Drop>(
     input: R,
     out: W1,
     mut err: W2,
-) -> (u8, D)
+) -> Executed<D, R, W1, W2>
     ensures { Runs D.honest D.disk D.size D.failures R.remaining W1.contents W2.contents
-        run.now «module».now random.now device input out err result.0 result.1 }
+        run.now «module».now random.now device input out err result }
 {
-    let supplies = match supplied(alloc, run) {
-        Ok(supplies) => supplies,
-        Err(fault) => return (session_refused(&mut err, fault), device),
+    let status = match supplied(alloc, run) {
+        Ok(supplies) => match sandbox_core::load(alloc, module) {
+            Ok(valid) => {
+                return run_valid(
+                    alloc, run, valid, &supplies, random, device, input, out, err,
+                );
+            }
+            Err(fault) => load_refused(&mut err, fault),
+        },
+        Err(fault) => session_refused(&mut err, fault),
     };
-    match sandbox_core::load(alloc, module) {
-        Ok(valid) => run_valid(
-            alloc, run, valid, &supplies, random, device, input, out, err,
-        ),
-        Err(fault) => (load_refused(&mut err, fault), device),
+    Executed {
+        status,
+        flushed: true,
+        device,
+        input,
+        out,
+        err,
     }
 }
 
-/// Ends a task on a volume: a failure's line, and the status.
-fn task_ended<W1: Write + Drop, W2: Write + Drop>(
+/// Ends a task on a volume, or formatting: flushes the output, prints a failure's line, and gives the status with the
+/// device and the streams.
+fn task_ended<D: Drop, R: Drop, W1: Write + Drop, W2: Write + Drop>(
     done: Result<(), Failure>,
+    device: D,
+    input: R,
     mut out: W1,
     mut err: W2,
-) -> u8
-    ensures { TaskEndsWith done result }
+) -> Executed<D, R, W1, W2>
+    ensures status { result.status ≡ task_status done result.flushed }
+    ensures device { result.device ≡ device }
+    ensures input { result.input ≡ input }
+    ensures out { Keeps (W1.contents out) (W1.contents result.out) }
+    ensures err { AppendsLines (W2.contents err) (W2.contents result.err) }
 {
-    let flushed = out.flush();
-    match done {
-        Ok(()) if flushed.is_err() => refuse_file(&mut err),
-        Ok(()) => 0,
+    let flushed = out.flush().is_ok();
+    let status = match done {
+        Ok(()) if flushed => 0,
+        Ok(()) => refuse_file(&mut err),
         Err(Failure::Volume(VolumeFault::Memory)) => out_of_memory(&mut err),
         Err(failure) => {
-            let _ = writeln!(err, "sandbox: {failure}");
+            tell(&mut err, failure);
             FAULT
         }
+    };
+    Executed {
+        status,
+        flushed,
+        device,
+        input,
+        out,
+        err,
     }
 }
 
 /// Does what the command line asks, on the bytes of the module's file and of the random bytes' and on
-/// the device, and gives the exit status and the device. Without a volume's file a run makes the
-/// device an empty volume; the other commands have no use of the bytes. The guest reads `input` and
-/// writes `out` and `err`; the program's own line goes to `err`.
+/// the device, and gives the exit status, the device and the streams. Without a volume's file a run
+/// makes the device an empty volume; the other commands have no use of the bytes. The guest reads
+/// `input` and writes `out` and `err`; the program's own line goes to `err`.
 pub fn execute<D: Device + Drop, R: Read + Drop, W1: Write + Drop, W2: Write + Drop>(
     alloc: Global,
     invocation: &Invocation<'_>,
@@ -305,20 +384,20 @@ pub fn execute<D: Device + Drop, R: Read + Drop, W1: Write + Drop, W2: Write + D
     mut input: R,
     mut out: W1,
     err: W2,
-) -> (u8, D)
+) -> Executed<D, R, W1, W2>
     ensures tells { Executes D.honest D.disk D.size D.failures R.remaining W1.contents W2.contents
-        invocation.now «module».now random.now device input out err result.0 result.1 }
-    ensures within { result.0 ≤ 124 }
+        invocation.now «module».now random.now device input out err result }
+    ensures within { result.status ≤ 124 }
 {
     match invocation {
         Invocation::Run(it) => run(alloc, it, module, random, device, input, out, err),
         Invocation::Format { sectors, slots, .. } => {
             let (done, device) = format(device, *sectors, *slots);
-            (task_ended(done, out, err), device)
+            task_ended(done, device, input, out, err)
         }
         Invocation::Volume { task, .. } => {
             let (done, device) = perform(alloc, device, *task, &mut input, &mut out);
-            (task_ended(done, out, err), device)
+            task_ended(done, device, input, out, err)
         }
     }
 }

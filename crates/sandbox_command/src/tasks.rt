@@ -1,10 +1,13 @@
 //! What is done with the volume on a device.
 
 ghost use Rattle.std.specs.Prelude.{◌≡◌, ◌↔◌, OnOk};
-ghost use Rattle.vol_sector.specs.Disk.{Leaves};
+ghost use Rattle.std.specs.Io.KnownBytes.{Keeps};
+ghost use Rattle.vol_sector.specs.Disk.{Leaves, counted};
+ghost use Rattle.sandbox_command.specs.Blame.{blames_device};
 ghost use Rattle.sandbox_command.specs.Tasks.{ReflectsAny};
 ghost use Rattle.sandbox_command.specs.Formatting.{Formats};
 ghost use Rattle.sandbox_command.specs.Doing.{Does, IsPartOf, Lasts, Performs};
+ghost use Rattle.sandbox_command.specs.Doing.{PrintsNothing, ReadsNothing};
 ghost use Rattle.sandbox_command.specs.internal.Working.{IsWorking};
 
 use crate::failure::Failure;
@@ -19,7 +22,7 @@ use vol_tree::Volume;
 /// Makes the first sectors of a device an empty volume with these numbers of sectors and of slots
 /// for entries, and gives the device back.
 pub(crate) fn format<D: Device>(device: D, sectors: u32, slots: u32) -> (Result<(), Failure>, D)
-    ensures { Formats D.honest D.disk D.size device sectors slots result.1 result.0 }
+    ensures { Formats D.honest D.disk D.size D.failures device sectors slots result.1 result.0 }
 {
     match Volume::format(device, sectors, slots) {
         Ok(device) => (Ok(()), device),
@@ -46,6 +49,12 @@ fn done_with<D: Device, R: Read, W: Write>(
         (Lasts task.entry volume.old.numbers volume.new.tree (D.disk volume.new.device).may_leave) }
     ensures honest { D.honest volume.old.device ↔ D.honest volume.new.device }
     ensures size { D.size volume.new.device ≡ D.size volume.old.device }
+    ensures failures { D.failures volume.new.device
+        ≡ counted (blames_device result) (D.failures volume.old.device) }
+    ensures reads_nothing { ReadsNothing task.entry
+        → R.remaining input.new ≡ R.remaining input.old }
+    ensures prints_nothing { PrintsNothing task.entry
+        → Keeps (W.contents out.old) (W.contents out.new) }
 {
     match task {
         Task::List { path } => list(volume, path, out),
@@ -65,7 +74,7 @@ pub(crate) fn perform<D: Device, R: Read, W: Write>(
     input: &mut R,
     out: &mut W,
 ) -> (Result<(), Failure>, D)
-    ensures { Performs D.honest D.disk D.size task.entry device (R.remaining input.old)
+    ensures { Performs D.honest D.disk D.size D.failures task.entry device (R.remaining input.old)
         (R.remaining input.new) (W.contents out.old) (W.contents out.new) result.1 result.0 }
 {
     match Volume::open(alloc, device) {

@@ -1,1 +1,2 @@
 mod Ram
+mod File

@@ -1,7 +1,30 @@
--- A file as a device (`docs/VOLUME.md`, "The device").
-use Rattle.std.specs.Prelude.{[]}
-use Rattle.vol_sector.specs.Disk.{Disk}
+-- A file as a device: a crash leaves each sector, apart from the others, as some moment since the last sync had it
+-- (`docs/VOLUME.md`, "The device").
+use Rattle.std.specs.Prelude.{◌≡◌, ◌⊎◌, ◌-◌, ℕ, List, [], ◌∷◌, length, take}
+use Rattle.vol_sector.specs.Disk.{Image, Disk}
+use Rattle.vol_sector.specs.Record.{image_of}
+use Rattle.sandbox_device.specs.Ram.{Sectors}
 
--- What is known of the disk behind a file: nothing. No contract of the system says what a file gives or keeps.
-abbrev pub unknown : Disk
-unknown = record { seen = λ n. []; may_leave = λ c. ⊥; operation_count = 0; left_since = λ t c. ⊥ }
+-- the bytes that one of these has in this sector
+abbrev pub IsIn : List Sectors → ℕ → List ℕ → Type 0
+IsIn [] n bytes = ⊥
+IsIn (sectors ∷ others) n bytes = (bytes ≡ image_of sectors n) ⊎ IsIn others n bytes
+
+-- each sector has what one of these has in it
+abbrev pub IsMixed : List Sectors → Image → Type 0
+IsMixed moments c = (n : ℕ) → IsIn moments n (c n)
+
+-- what was so at one of these times
+abbrev pub IsMixedAt : List (List Sectors) → Image → Type 0
+IsMixedAt [] c = ⊥
+IsMixedAt (moments ∷ others) c = IsMixed moments c ⊎ IsMixedAt others c
+
+-- Its sectors now, before each write that was tried since the last sync, and at all times before an operation, each the
+-- newest first.
+abbrev pub kept : Sectors → List Sectors → List (List Sectors) → Disk
+kept now unsynced times = record {
+  seen = image_of now;
+  may_leave = IsMixed (now ∷ unsynced);
+  operation_count = length times;
+  left_since = λ t. IsMixedAt ((now ∷ unsynced) ∷ take (length times - t) times);
+}

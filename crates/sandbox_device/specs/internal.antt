@@ -1,1 +1,2 @@
 pub mod RamLaws
+pub mod FileLaws

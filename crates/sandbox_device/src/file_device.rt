@@ -1,10 +1,11 @@
 //! A device in a file of the system.
 
-ghost use Rattle.std.specs.Prelude.{◌≡◌, ◌≤◌, true, is_err};
+ghost use Rattle.std.specs.Prelude.{◌≡◌, ◌≤◌, IfOk, IfErr, min, true, vec_len};
 ghost use Rattle.vol_sector.specs.Disk.{counted};
-ghost use Rattle.sandbox_device.specs.File.{unknown};
+ghost use Rattle.sandbox_device.specs.File.{kept};
+ghost use Rattle.sandbox_device.specs.internal.FileLaws.{mixed_since, mixed_now, now_may_stay};
 
-use crate::cache::Cache;
+use crate::moments::Moments;
 use std::alloc::Global;
 use std::fs::{File, OpenOptions};
 use std::io;
@@ -20,35 +21,35 @@ const MOST_SECTORS: u32 = 65_536;
 
 /// An open file as a device: sector n is the 512 bytes from `512 * n` on.
 ///
-/// It is read and written at offsets, so it has no position. Sectors are read in runs, and those of
-/// the last runs are kept; a write forgets what was kept of its sector. A sync makes its bytes and
-/// its size last, but not its time stamps. No contract says what a file gives or keeps, so a file is
-/// honest nowhere: what is said of the contents of an honest device holds of a file by that premise
-/// alone.
+/// Its sectors are read when it is opened, and are kept in memory: a read gives what stands there,
+/// and a write goes there and to the file. So what reads give is known, whatever the file does. A
+/// sync makes the file's bytes and its size last, but not its time stamps.
 #[derive(Drop)]
 pub struct FileDevice {
     file: File,
-    sectors: u32,
+    sectors: Vec<[u8; 512]>,
     failures: u64,
-    cache: Cache,
+    moments: Moments,
+    ghost few: { vec_len sectors ≤ 65536 },
 }
 
 impl FileDevice {
-    ghost use Rattle.std.specs.Prelude.{IfOk, List, ℕ, Some, None, Ok, ◌<◌, ◌^◌, ◌==◌, if◌then◌else◌};
-    ghost use Rattle.sandbox_device.specs.Cache.{kept};
-    ghost use Rattle.sandbox_device.specs.Places.{place};
+    ghost use Rattle.std.specs.Prelude.{◌∷◌, []};
 
-    /// Opens a file to read and write, and locks it. It fails where there is no such file, where it
-    /// may not be written, where it is a directory, and where another process has locked it.
+    /// Opens a file to read and write, locks it, and reads its sectors. It fails where there is no
+    /// such file, where it may not be written or can't be read, where it is a directory, where
+    /// another process has locked it, and where memory is refused.
     pub fn open<R: Files<File = File>>(
         alloc: Global,
         files: &R,
         path: &str,
     ) -> io::Result<FileDevice>
-        ensures { IfOk result (λ d. d.failures ≡ 0) }
+        ensures few { IfOk result (λ d. vec_len d.sectors ≤ 65536) }
+        ensures unused { IfOk result (λ d. d.failures ≡ 0) }
     {
         let file = OpenOptions::new().read(true).write(true).open(files, path)?;
-        FileDevice::locked(alloc, file)
+        file.try_lock()?;
+        FileDevice::read_from(alloc, file)
     }
 
     /// Opens a file as `open` does, but makes it where it isn't there, and lengthens it to this many
@@ -59,92 +60,71 @@ impl FileDevice {
         path: &str,
         sectors: u32,
     ) -> io::Result<FileDevice>
-        ensures { IfOk result (λ d. d.failures ≡ 0) }
+        ensures few { IfOk result (λ d. vec_len d.sectors ≤ 65536) }
+        ensures enough { IfOk result (λ d. min sectors 65536 ≤ vec_len d.sectors) }
+        ensures unused { IfOk result (λ d. d.failures ≡ 0) }
     {
         let file = OpenOptions::new()
             .read(true)
             .write(true)
             .create(true)
             .open(files, path)?;
-        let mut device = FileDevice::locked(alloc, file)?;
-        if device.sectors < sectors.min(MOST_SECTORS) {
-            device.lengthen(sectors.min(MOST_SECTORS))?;
+        file.try_lock()?;
+        let wanted = sectors.min(MOST_SECTORS);
+        if file.metadata()?.len() / SECTOR < u64::from(wanted) {
+            file.set_len(u64::from(wanted) * SECTOR)?;
+        }
+        let device = FileDevice::read_from(alloc, file)?;
+        if device.sectors.len() < wanted as usize {
+            return Err(io::Error::from(io::ErrorKind::UnexpectedEof)); // it was cut meanwhile
         }
         Ok(device)
     }
 
-    /// The whole sectors of a file, which is locked until it is closed.
-    fn locked(alloc: Global, file: File) -> io::Result<FileDevice>
-        ensures few { IfOk result (λ d. d.sectors ≤ 65536) }
+    /// The whole sectors of a file.
+    fn read_from(alloc: Global, file: File) -> io::Result<FileDevice>
         ensures unused { IfOk result (λ d. d.failures ≡ 0) }
     {
-        file.try_lock()?;
-        let sectors = file.metadata()?.len() / SECTOR;
+        let count = (file.metadata()?.len() / SECTOR).min(u64::from(MOST_SECTORS));
+        let mut sectors = vec![in alloc; [0; 512]; count as usize]?;
+        file.read_exact_at(sectors.as_mut_slice().as_flattened_mut(), 0)?;
         Ok(FileDevice {
             file,
-            sectors: sectors.min(u64::from(MOST_SECTORS)) as u32,
+            sectors,
             failures: 0,
-            cache: Cache::new(alloc),
+            moments: Moments::new(),
         })
     }
 
-    fn lengthen(&mut self, sectors: u32) -> io::Result<()>
-        ensures { self.new.failures ≡ self.old.failures }
+    /// What its sectors were, after an operation that writes nothing.
+    fn after_reading(&self) -> Moments
+        ensures { (result.unsynced ≡ self.now.moments.unsynced) × (result.times
+            ≡ (self.now.sectors.items ∷ self.now.moments.unsynced) ∷ self.now.moments.times) }
     {
-        self.file.set_len(u64::from(sectors) * SECTOR)?;
-        self.sectors = sectors;
-        Ok(())
+        Moments {}
     }
 
-    /// Reads the sector: as it is kept, or else with its run, or alone where the run can't be read.
-    fn read_kept(&mut self, n: u32) -> Result<[u8; 512], DeviceFault>
-        requires { n < self.old.sectors }
-        ensures known { (bytes : List ℕ) → kept self.old.cache n ≡ Some bytes
-            → (result ≡ Ok bytes) × (self.new ≡ self.old) }
-        ensures failures { self.new.failures ≡ counted (is_err result) self.old.failures }
-        ensures sectors { self.new.sectors ≡ self.old.sectors }
+    /// What its sectors were, after a write.
+    fn after_writing(&self) -> Moments
+        ensures { (result.unsynced ≡ self.now.sectors.items ∷ self.now.moments.unsynced) × (result.times
+            ≡ (self.now.sectors.items ∷ self.now.moments.unsynced) ∷ self.now.moments.times) }
     {
-        if let Some(image) = self.cache.image(n) {
-            return Ok(*image);
-        }
-        self.cache.load(&self.file, n, self.sectors);
-        match self.cache.image(n) {
-            Some(image) => Ok(*image),
-            None => self.read_alone(n),
-        }
+        Moments {}
     }
 
-    /// Reads the sector alone.
-    fn read_alone(&mut self, n: u32) -> Result<[u8; 512], DeviceFault>
-        ensures failures { self.new.failures ≡ counted (is_err result) self.old.failures }
-        ensures sectors { self.new.sectors ≡ self.old.sectors }
+    /// What its sectors were, after a sync.
+    fn after_syncing(&self) -> Moments
+        ensures { (result.unsynced ≡ []) × (result.times
+            ≡ (self.now.sectors.items ∷ self.now.moments.unsynced) ∷ self.now.moments.times) }
     {
-        let mut image = [0; 512];
-        match self.file.read_exact_at(&mut image, u64::from(n) * SECTOR) {
-            Ok(()) => Ok(image),
-            Err(_) => Err(self.fail()),
-        }
-    }
-
-    /// Writes the sector, and keeps it no longer: a write that failed may have been done.
-    fn write_through(&mut self, n: u32, image: &[u8; 512]) -> Result<(), DeviceFault>
-        ensures kept { (k : ℕ) → k < 2 ^ 32 → kept self.new.cache k
-            ≡ (if place k == place n then None else kept self.old.cache k) }
-        ensures failures { self.new.failures ≡ counted (is_err result) self.old.failures }
-        ensures sectors { self.new.sectors ≡ self.old.sectors }
-    {
-        self.cache.forget(n);
-        match self.file.write_all_at(image, u64::from(n) * SECTOR) {
-            Ok(()) => Ok(()),
-            Err(_) => Err(self.fail()),
-        }
+        Moments {}
     }
 
     /// Counts an operation that failed, as far as the count goes.
     fn fail(&mut self) -> DeviceFault
         ensures failures { self.new.failures ≡ counted true self.old.failures }
         ensures sectors { self.new.sectors ≡ self.old.sectors }
-        ensures cache { self.new.cache ≡ self.old.cache }
+        ensures moments { self.new.moments ≡ self.old.moments }
     {
         self.failures = self.failures.saturating_add(1);
         DeviceFault
@@ -152,22 +132,24 @@ impl FileDevice {
 }
 
 impl Device for FileDevice {
-    ghost disk = { λ d. unknown };
+    ghost disk = { λ d. kept d.sectors.items d.moments.unsynced d.moments.times };
 
-    ghost honest = { λ d. ⊥ };
+    ghost honest = { λ d. Unit {0} };
 
-    ghost size = { λ d. d.sectors };
+    ghost size = { λ d. vec_len d.sectors };
 
     ghost failures = { λ d. d.failures };
 
-    ghost counts_now = { λ d t c h. absurd h };
+    ghost counts_now = { λ d t c h le may.
+        mixed_since d.sectors.items d.moments.unsynced d.moments.times t c may };
 
-    ghost only_now = { λ d c h. absurd h };
+    ghost only_now = { λ d c h left.
+        mixed_now d.sectors.items d.moments.unsynced d.moments.times c left };
 
-    ghost may_stay = { λ d h. absurd h };
+    ghost may_stay = { λ d h. now_may_stay d.sectors.items d.moments.unsynced };
 
     fn sectors(&self) -> u32 {
-        self.sectors
+        self.sectors.len() as u32
     }
 
     fn failures(&self) -> u64 {
@@ -175,17 +157,29 @@ impl Device for FileDevice {
     }
 
     fn read(&mut self, n: u32) -> Result<[u8; 512], DeviceFault> {
-        self.read_kept(n)
+        self.moments = self.after_reading();
+        Ok(self.sectors[n as usize])
     }
 
     fn write(&mut self, n: u32, image: &[u8; 512]) -> Result<(), DeviceFault> {
-        self.write_through(n, image)
+        self.moments = self.after_writing();
+        self.sectors[n as usize] = *image;
+        match self.file.write_all_at(image, u64::from(n) * SECTOR) {
+            Ok(()) => Ok(()),
+            Err(_) => Err(self.fail()),
+        }
     }
 
     fn sync(&mut self) -> Result<(), DeviceFault> {
         match self.file.sync_data() {
-            Ok(()) => Ok(()),
-            Err(_) => Err(self.fail()),
+            Ok(()) => {
+                self.moments = self.after_syncing();
+                Ok(())
+            }
+            Err(_) => {
+                self.moments = self.after_reading();
+                Err(self.fail())
+            }
         }
     }
 }

@@ -1,8 +1,8 @@
 //! Files and memory as devices of the program.
 #![tactic(auto)]
 
-mod cache;
 mod file_device;
+mod moments;
 mod past;
 mod ram_device;
 

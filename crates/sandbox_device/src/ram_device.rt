@@ -1,6 +1,6 @@
 //! A device in memory.
 
-ghost use Rattle.std.specs.Prelude.{◌≡◌, ◌<◌, ◌^◌, IfOk, refl, vec_len};
+ghost use Rattle.std.specs.Prelude.{◌≡◌, ◌<◌, ◌^◌, IfOk, refl, replicate, vec_len};
 ghost use Rattle.sandbox_device.specs.Ram.{held};
 ghost use Rattle.sandbox_device.specs.internal.RamLaws.{now_is_since, now_is_all};
 
@@ -21,7 +21,9 @@ impl RamDevice {
 
     /// A device of this many sectors of zeros. It fails only where memory is refused.
     pub fn new(alloc: Global, sectors: u32) -> Result<RamDevice, AllocError>
-        ensures { IfOk result (λ d. vec_len d.sectors ≡ sectors) }
+        ensures sectors { IfOk result (λ d. vec_len d.sectors ≡ sectors) }
+        ensures zeros { IfOk result (λ d.
+            d.sectors.items ≡ replicate sectors (replicate 512 0)) }
     {
         Ok(RamDevice {
             sectors: vec![in alloc; [0; 512]; sectors as usize]?,

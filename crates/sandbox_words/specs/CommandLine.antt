@@ -87,13 +87,17 @@ path_app name = with_rule (file_app name) (word_rule (codes "PATH"))
 abbrev pub format_app : App
 format_app = with_rule (with_rule (file_app (codes "format")) (number_word_rule (codes "SECTORS"))) (number_word_rule (codes "SLOTS"))
 
+-- `faults`, which has no word, and without one prints its help
+abbrev pub faults_app : App
+faults_app = on_top (λ s. record s { arg_required_else_help = true }) (new_app (codes "faults"))
+
 -- the program: one of its subcommands has to be there, and it tells its version
 unfoldable pub program : App
 program =
-    with_subcommand (with_subcommand (with_subcommand (with_subcommand (with_subcommand (with_subcommand (with_subcommand
+    with_subcommand (with_subcommand (with_subcommand (with_subcommand (with_subcommand (with_subcommand (with_subcommand (with_subcommand
     (on_top (λ s. record s { subcommand_required = true; has_version = true }) (new_app (codes "sandbox")))
     run_app.top) format_app.top) (path_app (codes "ls")).top) (path_app (codes "get")).top) (path_app (codes "put")).top)
-    (file_app (codes "check")).top) (file_app (codes "upgrade")).top
+    (file_app (codes "check")).top) (file_app (codes "upgrade")).top) faults_app.top
 
 -- ---- what is asked for
 

@@ -1,6 +1,7 @@
 //! What a command line asks for.
 #![tactic(auto)]
 
+mod faults;
 mod request;
 mod words;
 

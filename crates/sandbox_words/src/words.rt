@@ -9,16 +9,17 @@ ghost use Rattle.sandbox_words.specs.Request.{texts};
 ghost use Rattle.sandbox_words.specs.CommandLine.{AsksFor, AsksRun, AsksTask, number_of, number_rule, number_word_rule};
 ghost use Rattle.sandbox_words.specs.CommandLine.{task_names, text_rule, texts_rule, word_rule, words_rule};
 ghost use Rattle.sandbox_words.specs.CommandLine.{text_in, texts_of, word_of};
-ghost use Rattle.sandbox_words.specs.CommandLine.{file_app, path_app, format_app, program};
+ghost use Rattle.sandbox_words.specs.CommandLine.{file_app, path_app, format_app, faults_app, program};
 ghost use Rattle.sandbox_words.specs.CommandLine.{limited_app, run_app, supplied_app};
 
+use crate::faults::MEANINGS;
 use crate::request::{Invocation, Limits, Run, Task};
 use clap::builder::ValueParser;
 use clap::{Arg, ArgAction, ArgMatches, Command, Error};
 use std::alloc::{AllocError, Global};
 
 /// What `--version` prints after the program's name.
-const VERSION: &str = "0.1.0";
+const VERSION: &str = "0.2.0";
 
 /// What help ends with.
 const STATUSES: &str = "\
@@ -231,6 +232,16 @@ fn format_command<'a>(alloc: Global) -> Result<Command<'a>, AllocError>
         ))
 }
 
+/// `faults`, which prints its help and does nothing else.
+fn faults_command<'a>(alloc: Global) -> Command<'a>
+    ensures { (app_of result ≡ faults_app) × ((fields_of result).has_globals ≡ false) }
+{
+    Command::new(alloc, "faults")
+        .about("Print what the numbers of faults and errnos mean")
+        .override_help(MEANINGS)
+        .arg_required_else_help(true)
+}
+
 /// A command with one subcommand more, where both could be made.
 fn with_command<'a>(
     program: Result<Command<'a>, AllocError>,
@@ -274,7 +285,8 @@ fn command<'a>(alloc: Global) -> Result<Command<'a>, AllocError>
     let check = file_command(alloc, "check", "Print how much of a volume is used");
     let program = with_command(program, check);
     let upgrade = file_command(alloc, "upgrade", "Make a volume one of version 2");
-    with_command(program, upgrade)
+    let program = with_command(program, upgrade);
+    with_command(program, Ok(faults_command(alloc)))
 }
 
 /// The text of an argument, or the empty one.

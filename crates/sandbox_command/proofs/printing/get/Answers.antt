@@ -1,5 +1,8 @@
 use Rattle.std.proofs.Common.{arith}
 use Rattle.std.proofs.lemmas.Grind.{common_steps}
+use Rattle.vol_tree.specs.Calls.{bytes_at}
+use Rattle.sandbox_command.specs.Tasks.{file_named}
+use Rattle.sandbox_command.proofs.Printed.{walk_refused}
 use Rattle.sandbox_command.proofs.printing.get.Goals as goal
 
 pub returns-clause-asked : goal.returns-clause-asked
@@ -7,3 +10,9 @@ returns-clause-asked c = grind (arith, common_steps)
 
 pub returns-clause-prints : goal.returns-clause-prints
 returns-clause-prints c = grind (arith, common_steps)
+
+-- the path names no file
+pub returns-in_err-file-clause-prints : goal.returns-in_err-file-clause-prints
+returns-in_err-file-clause-prints g c h =
+    walk_refused (file_named c.args.volume.now.tree c.args.path.now) (bytes_at c.args.volume.now.tree) (g.W.Write.contents c.args.out.now) c.in_err-file.field-0.0 c.from_residual.result
+    (c.in_err-file.ensures.answer h) c.from_residual.ensures.1

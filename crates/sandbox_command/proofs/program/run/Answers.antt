@@ -1,6 +1,8 @@
-use Rattle.std.proofs.Common.{inr, arith}
-use Rattle.std.proofs.lemmas.Grind.{common_steps}
+use Rattle.std.proofs.Common.{inl, inr, refl, sym, ◌∙◌, subst}
+use Rattle.std.proofs.KnownBytes.{Keeps-refl}
+use Rattle.sandbox_command.specs.Streams.{AppendsLines}
 use Rattle.sandbox_command.proofs.program.run.Goals as goal
+use Rattle.sandbox_command.proofs.program.run.Goals.{in-Ok+in-Err-load, in-Err}
 
 -- the module is valid
 pub returns-in-Ok-load : goal.returns-in-Ok-load
@@ -8,5 +10,24 @@ returns-in-Ok-load g c =
     let found = c.in-Ok-load.ensures.found in
     inr (inr (c.in-Ok-load.valid, found.0, found.1, c.run_valid.ensures))
 
-pub returns-in-Err-load : goal.returns-in-Err-load
-returns-in-Err-load c = grind (arith, common_steps)
+-- the words are refused, or the bytes
+pub returns : goal.returns
+returns g c =
+    let errs = g.W2.Write.contents in
+    let at = λ (err : g.row.W2.Denot). AppendsLines (errs c.args.err) (errs err) in
+    elim c.match-supplied.branch [
+      | in-Ok+in-Err-load w ↦ inr (inl (
+        record { fault = w.in-Err-load.fault; refused = w.in-Err-load.ensures.no; ends = w.status-is ∙ w.load_refused.ensures.status },
+        record {
+          device_is = refl;
+          streams = record { input_is = refl; out_keeps = Keeps-refl (g.W1.Write.contents c.args.out); err_appends = subst at (sym w.err-is) w.load_refused.ensures.line };
+        },
+      ))
+      | in-Err w ↦ inl (
+        record { fault = w.in-Err.fault; uncut = w.in-Err.ensures.refused; ends = w.status-is ∙ w.session_refused-status.ensures.status },
+        record {
+          device_is = refl;
+          streams = record { input_is = refl; out_keeps = Keeps-refl (g.W1.Write.contents c.args.out); err_appends = subst at (sym w.err-is) w.session_refused-status.ensures.line };
+        },
+      )
+    ]

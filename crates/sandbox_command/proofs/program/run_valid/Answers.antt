@@ -1,4 +1,5 @@
 use Rattle.std.proofs.Common.{inl, inr, refl}
+use Rattle.std.proofs.KnownBytes.{Keeps-refl}
 use Rattle.sandbox_core.specs.Session.{given}
 use Rattle.sandbox_command.proofs.Began.{launch_honest, opened_honest, whole_crash}
 use Rattle.sandbox_command.proofs.program.run_valid.Goals as goal
@@ -10,7 +11,8 @@ returns-in-Err g c =
       refused = c.in-Err.field-0;
       why = c.in-Err.ensures.refused;
       device_is = refl;
-      ends = c.volume_refused.ensures;
+      ends = c.volume_refused.ensures.status;
+      streams = record { input_is = refl; out_keeps = Keeps-refl (g.W1.Write.contents c.args.out); err_appends = c.volume_refused.ensures.line };
     })
 
 -- the module was launched
@@ -25,7 +27,7 @@ returns g c =
     let opened = c.in-Ok.ensures.opens in
     let parts = given c.settings.result v c.args.input c.args.out c.args.err in
     let fuel = c.args.run.now.limits.fuel in
-    let whole = whole_crash honest disk size failures g.R.Read.remaining g.W1.Write.contents g.W2.Write.contents c.args.valid fuel parts c.launch.result.0 c.launch.result.1 file c.args.device opened c.launch.ensures in
+    let whole = whole_crash honest disk size failures g.R.Read.remaining g.W1.Write.contents g.W2.Write.contents c.args.valid fuel parts c.launch.result file c.args.device opened c.launch.ensures in
     inr (record {
       volume = v;
       opened = opened;
@@ -33,6 +35,6 @@ returns g c =
       are_settings = c.settings.ensures;
       launched = c.launch.ensures;
       crash = whole;
-      honest = λ h. launch_honest honest disk size failures g.R.Read.remaining g.W1.Write.contents g.W2.Write.contents c.args.valid fuel parts c.launch.result.0 c.launch.result.1
+      honest = λ h. launch_honest honest disk size failures g.R.Read.remaining g.W1.Write.contents g.W2.Write.contents c.args.valid fuel parts c.launch.result
           c.launch.ensures (opened_honest honest disk size failures file c.args.device v opened h);
     })

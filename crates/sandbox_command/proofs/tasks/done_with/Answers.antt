@@ -1,6 +1,6 @@
-use Rattle.std.proofs.Common.{sym, subst, arith}
+use Rattle.std.proofs.Common.{Bool, ap, sym, subst, arith}
 use Rattle.std.proofs.lemmas.Grind.{common_steps}
-use Rattle.vol_sector.specs.Disk.{Leaves}
+use Rattle.vol_sector.specs.Disk.{Leaves, counted}
 use Rattle.sandbox_words.specs.declared.request.Task.{Task}
 use Rattle.sandbox_command.specs.Tasks.{ReflectsAny}
 use Rattle.sandbox_command.specs.Doing.{IsPartOf}
@@ -20,3 +20,6 @@ returns-in-Get-clause-crash c = grind (arith, common_steps)
 
 pub returns-in-List-clause-crash : goal.returns-in-List-clause-crash
 returns-in-List-clause-crash c = grind (arith, common_steps)
+
+pub returns-in-Check-clause-failures : goal.returns-in-Check-clause-failures
+returns-in-Check-clause-failures g c = ap (λ (b : Bool). counted b (g.D.Device.failures c.args.volume.now.device)) (sym c.check.ensures.asks_nothing)

@@ -1,4 +1,7 @@
-use Rattle.std.proofs.Common.{inl, inr, refl, sym, ◌∙◌, subst}
+use Rattle.std.proofs.Common.{inl, inr, refl, sym, ◌∙◌, ap, subst}
+use Rattle.std.proofs.KnownBytes.{Keeps-refl}
+use Rattle.vol_sector.specs.Disk.{counted}
+use Rattle.sandbox_command.specs.Blame.{blames_device}
 use Rattle.sandbox_command.specs.Doing.{IsPartOf, Performs}
 use Rattle.sandbox_command.proofs.Beginning.{any_after, leaves_standing}
 use Rattle.sandbox_command.proofs.Opened.{refused_by, whole_is_part}
@@ -15,7 +18,7 @@ returns-in-Ok g c =
     let unread = g.R.Read.remaining c.done_with-done.new.input in
     let out = g.W.Write.contents in
     let disk = g.D.Device.disk in
-    let whole : Performs g.D.Device.honest disk g.D.Device.size c.args.task c.args.device given unread (out c.args.out.now) (out c.done_with-done.new.out) after c.done_with-done.result =
+    let whole : Performs g.D.Device.honest disk g.D.Device.size g.D.Device.failures c.args.task c.args.device given unread (out c.args.out.now) (out c.done_with-done.new.out) after c.done_with-done.result =
     record {
       ends = λ h.
           let now = opened.kept_ok.0.0 h in
@@ -33,8 +36,11 @@ returns-in-Ok g c =
           });
       honest = (λ h. done.honest.0 (opened.kept_ok.0.0 h), λ h. opened.kept_ok.0.1 (done.honest.1 h));
       size = done.size ∙ opened.kept_ok.1;
+      failed = done.failures ∙ ap (counted (blames_device c.done_with-done.result)) opened.kept_ok.2;
+      reads_nothing = done.reads_nothing;
+      prints_nothing = done.prints_nothing;
     } in
-    subst (λ (d : g.row.D.Denot). Performs g.D.Device.honest disk g.D.Device.size c.args.task c.args.device given unread (out c.args.out.now) (out c.done_with-done.new.out) d c.done_with-done.result)
+    subst (λ (d : g.row.D.Denot). Performs g.D.Device.honest disk g.D.Device.size g.D.Device.failures c.args.task c.args.device given unread (out c.args.out.now) (out c.done_with-done.new.out) d c.done_with-done.result)
     (sym c.into_device.ensures) whole
 
 -- it was refused
@@ -47,7 +53,13 @@ returns-in-Err g c =
         is = refl;
         why = refused_by c.in-Err.field-0.fault (g.D.Device.size c.args.device) (g.D.Device.disk c.args.device).seen (refused.not_a_volume h) (refused.version h) (refused.damaged h) refused.faults_named;
         crash = λ v T stands. refused.crash_err v T h stands;
+        unwritten = refused.unwritten h;
+        reads_nothing = refl;
+        prints_nothing = Keeps-refl (g.W.Write.contents c.args.out.now);
       });
       honest = refused.kept_err.0;
       size = refused.kept_err.1;
+      failed = refused.kept_err.2;
+      reads_nothing = λ quiet. refl;
+      prints_nothing = λ quiet. Keeps-refl (g.W.Write.contents c.args.out.now);
     }

@@ -1,7 +1,7 @@
 use Rattle.std.proofs.Common.{◌∙◌, Ok, ap, codes, true}
 use Rattle.clap.specs.Simple.{app_of_fields, on_top}
 use Rattle.clap.specs.Words.{new_app}
-use Rattle.sandbox_words.specs.CommandLine.{program, run_app}
+use Rattle.sandbox_words.specs.CommandLine.{faults_app, program, run_app}
 use Rattle.sandbox_words.proofs.CommandLines.{Has, with_command_has}
 use Rattle.sandbox_words.proofs.words.command.Goals as goal
 
@@ -21,4 +21,5 @@ returns c =
     let four = with_command_has _ _ _ _ _ c.with_command-program-4.ensures three c.path_command-get.ensures in
     let five = with_command_has _ _ _ _ _ c.with_command-program-5.ensures four c.path_command-put.ensures in
     let six = with_command_has _ _ _ _ _ c.with_command-program-6.ensures five c.file_command-check.ensures in
-    with_command_has _ _ _ _ _ c.with_command.ensures six c.file_command-upgrade.ensures
+    let seven = with_command_has _ _ _ _ _ c.with_command-program-7.ensures six c.file_command-upgrade.ensures in
+    with_command_has c.with_command-program-7.result (Ok c.faults_command.result) c.with_command.result _ faults_app c.with_command.ensures seven c.faults_command.ensures

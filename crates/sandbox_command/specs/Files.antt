@@ -1,0 +1,39 @@
+-- What is done on the files that a command line names (`README.md`, "The program"). No contract says what a file holds.
+use Rattle.std.specs.Prelude.{◌≡◌, ◌≤◌, ℕ, List, Option, None, min, replicate, vec_len}
+use Rattle.vol_sector.specs.Disk.{Disk}
+use Rattle.sandbox_device.specs.declared.file_device.FileDevice.{FileDevice}
+use Rattle.sandbox_device.specs.declared.ram_device.RamDevice.{RamDevice}
+use Rattle.sandbox_words.specs.declared.request.Invocation.{Invocation}
+use Rattle.sandbox_words.specs.declared.request.Invocation.TheVariants as asked
+use Rattle.sandbox_words.specs.Request.{Text}
+use Rattle.sandbox_command.specs.declared.program.Executed.{Executed}
+use Rattle.sandbox_command.specs.Execution.{Executes}
+
+-- a run that names no file for its volume
+abbrev pub NamesNoVolume : Invocation → Type 0
+NamesNoVolume (asked.Run run) = run.volume ≡ None
+NamesNoVolume (asked.Format file sectors slots) = ⊥
+NamesNoVolume (asked.Volume file task) = ⊥
+
+-- a device of 202 sectors of zeros
+abbrev pub IsNewInMemory : RamDevice → Type 0
+IsNewInMemory device = device.sectors.items ≡ replicate 202 (replicate 512 0)
+
+-- A device on which no operation failed yet. What is to be formatted is lengthened to its sectors first, or to 65,536.
+abbrev pub IsNewInFile : Invocation → FileDevice → Type 0
+IsNewInFile (asked.Run run) device = device.failures ≡ 0
+IsNewInFile (asked.Format file sectors slots) device = (device.failures ≡ 0) × (min sectors 65536 ≤ vec_len device.sectors)
+IsNewInFile (asked.Volume file task) device = device.failures ≡ 0
+
+module _ {D R W1 W2 : Type 0} (is_honest : D → Type 0) (disk : D → Disk) (sectors_on failures : D → ℕ)
+    (remaining : R → Option (List ℕ)) (out_contents : W1 → Option (List ℕ)) (err_contents : W2 → Option (List ℕ)) where
+  -- The invocation was executed on a device that is new, with some bytes of the module's file and of that of the random
+  -- bytes, and this is its status.
+  pub record IsExecuted (is_new : D → Type 0) (invocation : Invocation) (input : R) (out : W1) (err : W2) (status : ℕ) : Type 0 where
+    pub bytes : List ℕ
+    pub random : Text
+    pub device : D
+    pub new : is_new device
+    pub left : Executed D R W1 W2
+    pub executes : Executes is_honest disk sectors_on failures remaining out_contents err_contents invocation bytes random device input out err left
+    pub ends : status ≡ left.status

@@ -1,0 +1,22 @@
+-- What an execution does with its streams (`README.md`, "The program").
+use Rattle.std.specs.Prelude.{◌≡◌, ℕ, List, ◌++◌, Option}
+use Rattle.std.specs.Io.KnownBytes.{Appends, Keeps}
+use Rattle.sandbox_command.specs.declared.program.Executed.{Executed}
+
+-- known bytes grow by a beginning of the text
+pub record AppendsPart (before after : Option (List ℕ)) (text : List ℕ) : Type 0 where
+  pub part : List ℕ
+  pub rest : List ℕ
+  pub parts : text ≡ part ++ rest
+  pub appended : Appends before after part
+
+-- Known bytes stay, and grow by lines of the program's own, or a beginning of them.
+abbrev pub AppendsLines : Option (List ℕ) → Option (List ℕ) → Type 0
+AppendsLines before after = (lines : List ℕ) × Appends before after lines
+
+module _ {D R W1 W2 : Type 0} (out_contents : W1 → Option (List ℕ)) (err_contents : W2 → Option (List ℕ)) where
+  -- Nothing was read, and nothing printed but the program's own lines.
+  pub record IsSilent (input : R) (out : W1) (err : W2) (left : Executed D R W1 W2) : Type 0 where
+    pub input_is : left.input ≡ input
+    pub out_keeps : Keeps (out_contents out) (out_contents left.out)
+    pub err_appends : AppendsLines (err_contents err) (err_contents left.err)

@@ -1,0 +1,13 @@
+use Rattle.std.proofs.Common.{List, sym, subst}
+use Rattle.vol_sector.specs.Disk.{Keeps}
+use Rattle.sandbox_device.specs.Ram.{Sectors}
+use Rattle.sandbox_device.specs.File.{kept}
+use Rattle.sandbox_device.proofs.File.{keeps_more}
+use Rattle.sandbox_device.proofs.file_device.FileDeviceDevice.read.Goals as goal
+
+pub returns-clause-keeps : goal.returns-clause-keeps
+returns-clause-keeps c h =
+    let d = c.args.self.now in
+    let after = c.after_reading-self.result in
+    subst (λ (times : List (List Sectors)). Keeps (kept d.sectors.items d.moments.unsynced d.moments.times) (kept d.sectors.items after.unsynced times))
+    (sym c.after_reading-self.ensures.1) (keeps_more d.sectors.items d.sectors.items after.unsynced d.moments.unsynced d.moments.times)

@@ -1,0 +1,36 @@
+use Rattle.std.proofs.Common.{◌≡◌, ◌<◌, ◌∙◌, ap, length, List, ℕ, sym, subst, ◌∷◌, arith}
+use Rattle.std.specs.Prelude.{slice_set}
+use Rattle.vol_sector.specs.Disk.{After, Keeps, Leaves, Wrote}
+use Rattle.sandbox_device.specs.declared.file_device.FileDevice.{FileDevice}
+use Rattle.sandbox_device.specs.declared.moments.Moments.{Moments}
+use Rattle.sandbox_device.specs.Ram.{Sectors}
+use Rattle.sandbox_device.specs.File.{IsMixed, kept}
+use Rattle.sandbox_device.proofs.File.{keeps_more, leaves_written}
+use Rattle.sandbox_device.proofs.Ram.{put_in}
+use Rattle.sandbox_device.proofs.file_device.FileDeviceDevice.write.Goals as goal
+
+-- a write is one more time, and its sectors before it
+module _ (d : FileDevice) (n : ℕ) (bytes : List ℕ) (within : n < length d.sectors.items) (after : Moments)
+    (is : (after.unsynced ≡ d.sectors.items ∷ d.moments.unsynced) × (after.times ≡ (d.sectors.items ∷ d.moments.unsynced) ∷ d.moments.times)) where
+  abbrev now : Sectors
+  now = d.sectors.items
+
+  crash : Leaves (kept now d.moments.unsynced d.moments.times) (kept (slice_set now n bytes) after.unsynced after.times) (After (Wrote n bytes) (IsMixed (now ∷ d.moments.unsynced)))
+  crash = rw (is.0, is.1) (leaves_written now (slice_set now n bytes) d.moments.unsynced n bytes (put_in now n bytes within) d.moments.times)
+
+  keeps : Keeps (kept now d.moments.unsynced d.moments.times) (kept (slice_set now n bytes) after.unsynced after.times)
+  keeps = rw (is.0, is.1) (keeps_more (slice_set now n bytes) now (now ∷ d.moments.unsynced) d.moments.unsynced d.moments.times)
+
+pub returns-in-Ok-clause-crash : goal.returns-in-Ok-clause-crash
+returns-in-Ok-clause-crash c h = crash c.args.self.now c.args.n c.args.image.now (omega (arith, c.requires)) c.after_writing-self.result c.after_writing-self.ensures
+
+pub returns-in-Ok-clause-keeps : goal.returns-in-Ok-clause-keeps
+returns-in-Ok-clause-keeps c h = keeps c.args.self.now c.args.n c.args.image.now (omega (arith, c.requires)) c.after_writing-self.result c.after_writing-self.ensures
+
+pub returns-in-Err-clause-crash : goal.returns-in-Err-clause-crash
+returns-in-Err-clause-crash c h =
+    rw (c.fail.ensures.sectors, c.fail.ensures.moments) (crash c.args.self.now c.args.n c.args.image.now (omega (arith, c.requires)) c.after_writing-self.result c.after_writing-self.ensures)
+
+pub returns-in-Err-clause-keeps : goal.returns-in-Err-clause-keeps
+returns-in-Err-clause-keeps c h =
+    rw (c.fail.ensures.sectors, c.fail.ensures.moments) (keeps c.args.self.now c.args.n c.args.image.now (omega (arith, c.requires)) c.after_writing-self.result c.after_writing-self.ensures)
