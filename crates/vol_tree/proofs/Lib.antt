@@ -46,3 +46,4 @@ pub mod Passes
 pub mod Passed
 pub mod Openings
 mod Fronts
+pub mod OtherSectors

@@ -132,12 +132,15 @@ same_option : (a b : Image) (o : Option Entry) → ((e : Entry) → o ≡ Some e
 same_option a b None same = refl
 same_option a b (Some e) same = ap Some (sym (same e refl))
 
+-- the trees are the same where each entry is
+pub same_options : (a b : Image) (slots : Slots) → ((s : ℕ) (e : Entry) → get_or slots s None ≡ Some e → entry_of b e ≡ entry_of a e) → tree_of a slots ≡ tree_of b slots
+same_options a b slots same = map_same (option_map (entry_of a)) (option_map (entry_of b)) None slots (λ s lt. same_option a b (get_or slots s None) (same s))
+
 pub same_tree : (a b : Image) (v : Superblock) (slots : Slots) → SameContent a b → Holds a v.version slots → KeepApart a v slots → tree_of a slots ≡ tree_of b slots
-same_tree a b v slots same holds apart = map_same (option_map (entry_of a)) (option_map (entry_of b)) None slots (λ s lt.
-    same_option a b (get_or slots s None) (λ e is.
+same_tree a b v slots same holds apart = same_options a b slots (λ s e is.
     same_tree_entry a b v.version e (holds.entries s e is) (λ p place some.
     let after_log : FIRST_AFTER_LOG ≤ named a e p = omega (arith, apart.after_slots s e p is place some) in
-    sym (same (named a e p) (inr after_log)))))
+    sym (same (named a e p) (inr after_log))))
 
 pub one_tree : (image : Image) (v : Superblock) (T U : Tree) → StandsAs image v T → StandsAs image v U → T ≡ U
 one_tree image v T U one other =

@@ -1,7 +1,7 @@
 //! Laws over the definitions of a tree: what its calls do to the finite map from paths to entries,
 //! and that an image stands for one tree.
 
-ghost use Rattle.std.specs.Prelude.{◌≡◌};
+ghost use Rattle.std.specs.Prelude.{◌≡◌, ◌<◌, ℕ};
 ghost use Rattle.vol_sector.specs.Disk.{Image};
 ghost use Rattle.vol_tree.specs.Tree.{Tree};
 ghost use Rattle.vol_tree.specs.declared.superblock.Superblock.{Superblock};
@@ -75,4 +75,11 @@ pub fn unlinked_takes_one_path()
 /// A law: taking out an empty directory takes away its path, and nothing else changes.
 pub fn removed_directory_takes_one_path()
     ensures { DirectoryRemovedMap }
+{}
+
+/// A law: an image stands for its tree by the volume's own sectors alone; those of the device past
+/// them hold anything.
+pub fn the_volumes_sectors_decide()
+    ensures { (one other : Image) (v : Superblock) (T : Tree) → StandsAs one v T
+        → ((k : ℕ) → k < v.sectors → other k ≡ one k) → StandsAs other v T }
 {}

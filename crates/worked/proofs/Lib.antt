@@ -1,0 +1,3 @@
+mod Stopping
+mod Files
+mod Crashing

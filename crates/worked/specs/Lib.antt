@@ -1,0 +1,2 @@
+-- What the worked theorems say, in reading order.
+pub mod Stored
