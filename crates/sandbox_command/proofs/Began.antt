@@ -12,8 +12,8 @@ use Rattle.wasm_store.specs.declared.call.HostCall.{HostCall}
 use Rattle.wasm_store.specs.declared.call.Errno.{Errno}
 use Rattle.wasi_calls.specs.declared.wasi_host.HostParts.{HostParts}
 use Rattle.wasm_module.specs.declared.module.Module.{Module}
-use Rattle.wasm_interp.specs.Configuration.{Instance, Configuration}
-use Rattle.wasm_interp.specs.Steps.{CallsOf, Reach, stays}
+use Rattle.wasm_steps.specs.Configuration.{Instance, Configuration}
+use Rattle.wasm_steps.specs.Steps.{CallsOf, Reach, stays}
 use Rattle.sandbox_core.specs.Runs.{ComesBy, Left}
 use Rattle.sandbox_core.specs.declared.fault.SessionFault.{SessionFault}
 use Rattle.sandbox_core.specs.declared.fault.SessionFault.TheVariants.{Setting, Instance as NoInstance, Device, Preopen, Memory}

@@ -7,8 +7,8 @@ use Rattle.vol_sector.specs.declared.fault.Refused.{Refused}
 use Rattle.vol_tree.specs.Opened.{Opened}
 use Rattle.vol_tree.specs.Stands.{Stands}
 use Rattle.wasm_module.specs.declared.module.Module.{Module}
-use Rattle.wasm_interp.specs.Configuration.{Instance, Configuration, first_configuration}
-use Rattle.wasm_interp.specs.Steps.{CallsOf, Reach}
+use Rattle.wasm_steps.specs.Configuration.{Instance, Configuration, first_configuration}
+use Rattle.wasm_steps.specs.Steps.{CallsOf, Reach}
 use Rattle.wasi_calls.specs.declared.wasi_host.HostParts.{HostParts}
 use Rattle.wasi_calls.specs.World.{World}
 use Rattle.wasi_calls.specs.Calls as world

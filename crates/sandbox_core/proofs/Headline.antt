@@ -31,10 +31,10 @@ use Rattle.wasm_module.specs.declared.module.Module.{Module}
 use Rattle.wasm_store.specs.declared.call.HostCall.{HostCall}
 use Rattle.wasm_store.specs.declared.call.Errno.{Errno}
 use Rattle.wasm_store.specs.declared.call.Answer.{Answer}
-use Rattle.wasm_interp.specs.declared.pause.Pause.{Pause}
-use Rattle.wasm_interp.specs.declared.pause.Pause.TheVariants.{Called, Spent, Ended}
-use Rattle.wasm_interp.specs.Configuration.{Instance, Configuration, first_configuration}
-use Rattle.wasm_interp.specs.Steps.{CallsOf, Event, Step, plain_step, free_step, host_answers, host_exits, in_label, in_frame, Reach, stays, goes}
+use Rattle.wasm_steps.specs.declared.pause.Pause.{Pause}
+use Rattle.wasm_steps.specs.declared.pause.Pause.TheVariants.{Called, Spent, Ended}
+use Rattle.wasm_steps.specs.Configuration.{Instance, Configuration, first_configuration}
+use Rattle.wasm_steps.specs.Steps.{CallsOf, Event, Step, plain_step, free_step, host_answers, host_exits, in_label, in_frame, Reach, stays, goes}
 use Rattle.wasi_calls.specs.World.{World, places}
 use Rattle.wasi_calls.specs.Calls as world
 use Rattle.wasi_calls.specs.Host.{HostState, HostCalls, StreamBytes, LeavesNone, StreamsMove, MayFollow, before_moving, after_moving, Shows, world_of}

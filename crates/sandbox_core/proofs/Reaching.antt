@@ -7,13 +7,13 @@ use Rattle.vol_tree.specs.Stands.{Stands}
 use Rattle.vol_tree.proofs.OneTree.{one_tree}
 use Rattle.wasm_store.specs.declared.call.HostCall.{HostCall}
 use Rattle.wasm_store.specs.declared.call.Errno.{Errno}
-use Rattle.wasm_interp.specs.declared.pause.Pause.{Pause}
-use Rattle.wasm_interp.specs.declared.pause.Pause.TheVariants.{Called, Spent, Ended}
-use Rattle.wasm_interp.specs.Configuration.{Instance, Configuration, at, used_by}
-use Rattle.wasm_interp.specs.Steps.{CallsOf, silent, answers, Reach, stays, goes}
+use Rattle.wasm_steps.specs.declared.pause.Pause.{Pause}
+use Rattle.wasm_steps.specs.declared.pause.Pause.TheVariants.{Called, Spent, Ended}
+use Rattle.wasm_steps.specs.Configuration.{Instance, Configuration, at, used_by}
+use Rattle.wasm_steps.specs.Steps.{CallsOf, silent, answers, Reach, stays, goes}
 use Rattle.wasm_interp.specs.Machine.{Snapshot, Represents}
-use Rattle.wasm_interp.specs.declared.pause.Outcome.{Outcome}
-use Rattle.wasm_interp.specs.declared.pause.Outcome.TheVariants.{Exited, Trapped, OutOfFuel, OutOfMemory}
+use Rattle.wasm_steps.specs.declared.pause.Outcome.{Outcome}
+use Rattle.wasm_steps.specs.declared.pause.Outcome.TheVariants.{Exited, Trapped, OutOfFuel, OutOfMemory}
 use Rattle.wasm_interp.specs.Promise.{EndsAs, Paused, Resumed}
 use Rattle.wasi_calls.specs.Moments.{IsTurn}
 use Rattle.sandbox_core.specs.Runs.{answered, PausesFollow, ResumesFollow, StopsAt, LastStopsAt, StopsAs, RunsWithin, Left, Passed}

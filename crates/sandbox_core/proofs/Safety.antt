@@ -6,7 +6,7 @@ use Rattle.vol_tree.specs.Tree.{Tree}
 use Rattle.vol_tree.specs.Stands.{Stands}
 use Rattle.vol_tree.specs.Opened.{Opened, ReflectsOr}
 use Rattle.vol_tree.proofs.OneTree.{one_tree}
-use Rattle.wasm_interp.specs.declared.pause.Pause.{Pause}
+use Rattle.wasm_steps.specs.declared.pause.Pause.{Pause}
 use Rattle.wasi_calls.specs.declared.wasi_host.HostParts.{HostParts}
 use Rattle.wasi_calls.specs.Moments.{CountsMoments, IsTurn, Kept, Turn, IsSafe}
 use Rattle.wasi_calls.proofs.Moments.{keeps_all}

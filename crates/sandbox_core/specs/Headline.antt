@@ -6,10 +6,10 @@ use Rattle.vol_tree.specs.Tree.{Tree}
 use Rattle.vol_tree.specs.Opened.{Opened}
 use Rattle.wasm_module.specs.declared.module.Module.{Module}
 use Rattle.wasm_store.specs.Instantiation.{Instantiates}
-use Rattle.wasm_interp.specs.Configuration.{Instance, Store, Configuration, first_configuration}
-use Rattle.wasm_interp.specs.Configuration as configuration
+use Rattle.wasm_steps.specs.Configuration.{Instance, Store, Configuration, first_configuration}
+use Rattle.wasm_steps.specs.Configuration as configuration
 use Rattle.wasm_interp.specs.Machine.{Represents}
-use Rattle.wasm_interp.specs.Steps.{Reach}
+use Rattle.wasm_steps.specs.Steps.{Reach}
 use Rattle.wasi_calls.specs.declared.wasi_host.HostParts.{HostParts}
 use Rattle.wasi_calls.specs.Links.{link}
 use Rattle.wasi_calls.specs.World.{World}

@@ -2,10 +2,10 @@
 use Rattle.std.specs.Prelude.{◌≡◌, ℕ, ◌≤◌, List, Option}
 use Rattle.vol_sector.specs.Disk.{Disk, Leaves}
 use Rattle.vol_tree.specs.Tree.{Tree}
-use Rattle.wasm_interp.specs.Configuration.{Instance, Configuration}
+use Rattle.wasm_steps.specs.Configuration.{Instance, Configuration}
 use Rattle.wasm_interp.specs.Machine.{Represents}
-use Rattle.wasm_interp.specs.Steps.{CallsOf}
-use Rattle.wasm_interp.specs.declared.pause.Outcome.{Outcome}
+use Rattle.wasm_steps.specs.Steps.{CallsOf}
+use Rattle.wasm_steps.specs.declared.pause.Outcome.{Outcome}
 use Rattle.wasi_calls.specs.Host.{HostState, HostCalls}
 use Rattle.sandbox_core.specs.declared.report.Report.{Report}
 use Rattle.sandbox_core.specs.Session.{SessionState, Commits, History, Follow, used_by}

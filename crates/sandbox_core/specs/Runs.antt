@@ -7,12 +7,12 @@ use Rattle.vol_tree.specs.Opened.{Reflects}
 use Rattle.vol_tree.specs.Stands.{Stands}
 use Rattle.wasm_store.specs.declared.call.HostCall.{HostCall}
 use Rattle.wasm_store.specs.declared.call.Errno.{Errno}
-use Rattle.wasm_interp.specs.declared.pause.Pause.{Pause}
-use Rattle.wasm_interp.specs.declared.pause.Pause.TheVariants.{Called, Spent, Ended}
-use Rattle.wasm_interp.specs.declared.pause.Outcome.{Outcome}
-use Rattle.wasm_interp.specs.declared.pause.Outcome.TheVariants.{Exited, Trapped, OutOfFuel, OutOfMemory}
-use Rattle.wasm_interp.specs.Configuration.{Instance, Configuration, code_of, used_by, NextIsPlain}
-use Rattle.wasm_interp.specs.Steps.{CallsOf, Reach}
+use Rattle.wasm_steps.specs.declared.pause.Pause.{Pause}
+use Rattle.wasm_steps.specs.declared.pause.Pause.TheVariants.{Called, Spent, Ended}
+use Rattle.wasm_steps.specs.declared.pause.Outcome.{Outcome}
+use Rattle.wasm_steps.specs.declared.pause.Outcome.TheVariants.{Exited, Trapped, OutOfFuel, OutOfMemory}
+use Rattle.wasm_steps.specs.Configuration.{Instance, Configuration, code_of, used_by, NextIsPlain}
+use Rattle.wasm_steps.specs.Steps.{CallsOf, Reach}
 use Rattle.wasm_interp.specs.Machine.{Snapshot, Represents}
 use Rattle.wasm_interp.specs.Promise.{EndsAs, Paused, Resumed}
 

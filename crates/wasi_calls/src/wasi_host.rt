@@ -16,7 +16,7 @@ use std::marker::Model;
 use vol_sector::Device;
 use vol_tree::{Span, Volume};
 use wasi_fd::Descriptors;
-use wasm_interp::Host;
+use wasm_store::Host;
 use wasm_module::FuncType;
 use wasm_store::{Answer, Errno, HostCall, Memory};
 

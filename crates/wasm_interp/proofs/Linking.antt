@@ -3,7 +3,7 @@ use Rattle.std.proofs.Common.{◌≡◌, List, [], ◌∷◌, length, suc, refl,
 use Rattle.wasm_module.specs.declared.module.FuncType.{FuncType}
 use Rattle.wasm_module.specs.declared.module.Import.{Import}
 use Rattle.wasm_store.specs.declared.call.HostCall.{HostCall}
-use Rattle.wasm_interp.specs.Configuration.{Callee}
+use Rattle.wasm_steps.specs.Configuration.{Callee}
 use Rattle.wasm_interp.specs.Stands.{AreCallees}
 
 -- there are as many calls and function instances as imports

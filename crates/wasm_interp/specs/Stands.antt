@@ -2,7 +2,7 @@
 use Rattle.std.specs.Prelude.{◌≡◌, List, ◌++◌}
 use Rattle.wasm_module.specs.declared.module.Module.{Module}
 use Rattle.wasm_store.specs.declared.call.HostCall.{HostCall}
-use Rattle.wasm_interp.specs.Configuration.{Callee, Instance}
+use Rattle.wasm_steps.specs.Configuration.{Callee, Instance}
 use Rattle.wasm_store.specs.Instantiation.{AreOwn}
 pub use Rattle.wasm_store.specs.Instantiating.{IsCallee, AreCallees}
 

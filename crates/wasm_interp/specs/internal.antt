@@ -9,6 +9,5 @@ pub mod Running
 pub mod Signatures
 pub mod Begun
 pub mod Keys
-pub mod Fast
 pub mod Loop
 pub mod Hurrying

@@ -5,11 +5,11 @@ ghost use Rattle.wasm_store.specs.Instantiation.{RefusedFor};
 ghost use Rattle.wasm_interp.specs.Promise.{Starts, Resumed};
 
 use crate::begin::begin;
-use crate::pause::Pause;
 use crate::state::State;
 use crate::tables::Prepared;
 use std::alloc::Global;
 use std::marker::Model;
+use wasm_steps::Pause;
 use wasm_store::{Host, InstanceFault};
 use wasm_valid::Valid;
 

@@ -2,7 +2,7 @@
 
 ghost use Rattle.std.specs.Prelude.{◌≡◌, ◌<◌, ◌^◌, IfOk};
 ghost use Rattle.wasm_valid.specs.Typing.{IsOperator};
-ghost use Rattle.wasm_interp.specs.Operators.{width, compare_test, unary_number, binary_number};
+ghost use Rattle.wasm_steps.specs.Operators.{width, compare_test, unary_number, binary_number};
 
 use wasm_module::{BinaryOperator, Comparison, UnaryOperator, ValueType};
 use wasm_num::{

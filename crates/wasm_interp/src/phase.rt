@@ -1,6 +1,6 @@
 //! Where a machine is.
 
-use crate::pause::Outcome;
+use wasm_steps::Outcome;
 
 /// Where a machine is.
 #[derive(Clone, Copy)]

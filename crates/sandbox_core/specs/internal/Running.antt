@@ -1,8 +1,8 @@
 -- A session on its way: that it stands for a configuration, and a run of it before the commit at its end.
 use Rattle.std.specs.Prelude.{ℕ, List, Option}
 use Rattle.vol_sector.specs.Disk.{Disk, Leaves}
-use Rattle.wasm_interp.specs.declared.pause.Outcome.{Outcome}
-use Rattle.wasm_interp.specs.Configuration.{Instance, Configuration}
+use Rattle.wasm_steps.specs.declared.pause.Outcome.{Outcome}
+use Rattle.wasm_steps.specs.Configuration.{Instance, Configuration}
 use Rattle.wasm_interp.specs.Machine.{Snapshot, Represents}
 use Rattle.wasi_calls.specs.Host.{HostState}
 use Rattle.sandbox_core.specs.Session.{SessionState, History, Follow, used_by}

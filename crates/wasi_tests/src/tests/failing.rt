@@ -3,7 +3,7 @@
 use super::guest::{Guest, PLAIN, host, opened};
 use super::streams::{Feeding, Taking};
 use std::alloc::{AllocError, Global};
-use wasm_interp::Host;
+use wasm_store::Host;
 use wasm_store::HostCall::{
     FdDatasync, FdPread, FdPwrite, FdRead, FdReaddir, FdSeek, FdSync, FdWrite, PathCreateDirectory,
     PathFilestatGet, PathOpen, PathRename, PathUnlinkFile,

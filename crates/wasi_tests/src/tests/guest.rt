@@ -6,7 +6,7 @@ use std::process::Abort;
 use vol_sector::{FlakyDevice, MemoryDevice};
 use vol_tree::Volume;
 use wasi_calls::{HostFault, HostParts, Preopen, Settings, WasiHost};
-use wasm_interp::Host;
+use wasm_store::Host;
 use wasm_store::{Answer, Errno, HostCall, Memory};
 
 /// What a guest does, and what is wanted of it.

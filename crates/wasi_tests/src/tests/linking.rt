@@ -4,7 +4,7 @@ use super::guest::{Guest, PLAIN, fresh};
 use super::streams::{Feeding, Taking};
 use std::alloc::{AllocError, Global};
 use std::process::Abort;
-use wasm_interp::Host;
+use wasm_store::Host;
 use wasm_module::{FuncType, Items, ValueType};
 use wasm_store::{Answer, Errno, HostCall, Memory};
 

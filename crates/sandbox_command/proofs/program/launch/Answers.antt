@@ -2,7 +2,7 @@ use Rattle.std.proofs.Common.{inl, inr, sym, ◌∙◌, subst}
 use Rattle.std.specs.Io.KnownBytes.{Keeps}
 use Rattle.std.proofs.KnownBytes.{Keeps-refl}
 use Rattle.vol_sector.specs.Disk.{Leaves}
-use Rattle.wasm_interp.specs.Configuration.{first_configuration}
+use Rattle.wasm_steps.specs.Configuration.{first_configuration}
 use Rattle.sandbox_core.proofs.Headline.{reach_told}
 use Rattle.sandbox_command.specs.Running.{Host, HostCalls, StandsInRun}
 use Rattle.sandbox_command.specs.Streams.{AppendsLines}

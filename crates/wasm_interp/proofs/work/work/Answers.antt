@@ -7,7 +7,7 @@ use Rattle.wasm_module.specs.declared.instruction.Instruction.{Instruction}
 use Rattle.wasm_module.specs.declared.instruction.Instruction.TheVariants as op
 use Rattle.wasm_num.specs.declared.trap.Trap.{Trap}
 use Rattle.wasm_num.specs.declared.trap.Trap.TheVariants as traps
-use Rattle.wasm_interp.specs.Steps.{LoadOp, StoreOp, load_of, store_of}
+use Rattle.wasm_steps.specs.Steps.{LoadOp, StoreOp, load_of, store_of}
 use Rattle.wasm_interp.specs.internal.Performing.{IsReady, Performs, PerformsBy, Loads, Stores, Misses, Overruns, Traps, TrapsBy}
 use Rattle.wasm_interp.proofs.work.work.Goals as goal
 

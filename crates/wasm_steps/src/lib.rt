@@ -1,0 +1,8 @@
+//! What a run of a module means: configurations, the steps of the standard, units of fuel, and how a run ends.
+#![tactic(auto)]
+
+mod pause;
+
+pub use pause::{Outcome, Pause};
+pub use wasm_num::Trap;
+pub use wasm_store::{Answer, Errno, HostCall};
