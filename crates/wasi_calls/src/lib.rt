@@ -40,7 +40,7 @@ mod writing;
 pub use fault::HostFault;
 pub use host::VolumeHost;
 pub use laws::{
-    confined, confined_host, host_calls_are_rows, host_calls_keep_moments, kept, resumes,
+    confined, confined_host, host_calls_are_rows, host_calls_keep_moments, kept, pauses,
 };
 pub use settings::{Preopen, Settings};
 pub use streams::{Input, Output};

@@ -16,9 +16,8 @@ use std::marker::Model;
 use vol_sector::Device;
 use vol_tree::{Span, Volume};
 use wasi_fd::Descriptors;
-use wasm_store::Host;
 use wasm_module::FuncType;
-use wasm_store::{Answer, Errno, HostCall, Memory};
+use wasm_store::{Answer, Errno, Host, HostCall, Memory};
 
 /// How many buffers a call can name.
 const MOST_BUFFERS: usize = 1_024;

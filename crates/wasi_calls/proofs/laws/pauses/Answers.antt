@@ -1,0 +1,5 @@
+use Rattle.wasi_calls.proofs.Moments.{pauses_keep}
+use Rattle.wasi_calls.proofs.laws.pauses.Goals as goal
+
+pub returns : goal.returns
+returns g c = pauses_keep g.H.VolumeHost.disk g.H.VolumeHost.numbers g.H.VolumeHost.tree g.H.VolumeHost.honest g.H.Host.calls
