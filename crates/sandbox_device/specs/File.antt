@@ -28,3 +28,8 @@ kept now unsynced times = record {
   operation_count = length times;
   left_since = λ t. IsMixedAt ((now ∷ unsynced) ∷ take (length times - t) times);
 }
+
+-- The file keeps this model: what a crash leaves of it is what `kept` says. It is a premise, of which nothing is known:
+-- what stands here can't be unfolded anywhere else, so nobody shows of a file that it is so, nor that it isn't.
+pub KeepsItsModel : {F : Type 0} → F → Type 0
+KeepsItsModel file = Unit {0}

@@ -2,7 +2,7 @@
 
 ghost use Rattle.std.specs.Prelude.{◌≡◌, ◌≤◌, IfOk, IfErr, min, true, vec_len};
 ghost use Rattle.vol_sector.specs.Disk.{counted};
-ghost use Rattle.sandbox_device.specs.File.{kept};
+ghost use Rattle.sandbox_device.specs.File.{kept, KeepsItsModel};
 ghost use Rattle.sandbox_device.specs.internal.FileLaws.{mixed_since, mixed_now, now_may_stay};
 
 use crate::moments::Moments;
@@ -22,8 +22,9 @@ const MOST_SECTORS: u32 = 65_536;
 /// An open file as a device: sector n is the 512 bytes from `512 * n` on.
 ///
 /// Its sectors are read when it is opened, and are kept in memory: a read gives what stands there,
-/// and a write goes there and to the file. So what reads give is known, whatever the file does. A
-/// sync makes the file's bytes and its size last, but not its time stamps.
+/// and a write goes there and to the file. So what reads give is known, whatever the file does. What
+/// a crash leaves of the file is known by the premise that it keeps its model, of which nothing is
+/// shown. A sync makes the file's bytes and its size last, but not its time stamps.
 #[derive(Drop)]
 pub struct FileDevice {
     file: File,
@@ -125,6 +126,7 @@ impl FileDevice {
         ensures failures { self.new.failures ≡ counted true self.old.failures }
         ensures sectors { self.new.sectors ≡ self.old.sectors }
         ensures moments { self.new.moments ≡ self.old.moments }
+        ensures file { self.new.file ≡ self.old.file }
     {
         self.failures = self.failures.saturating_add(1);
         DeviceFault
@@ -134,7 +136,7 @@ impl FileDevice {
 impl Device for FileDevice {
     ghost disk = { λ d. kept d.sectors.items d.moments.unsynced d.moments.times };
 
-    ghost honest = { λ d. Unit {0} };
+    ghost honest = { λ d. KeepsItsModel d.file };
 
     ghost size = { λ d. vec_len d.sectors };
 
