@@ -48,9 +48,9 @@ impl<D: Device> Log<D> {
     /// Opens the log of a device's first sectors, and installs what it holds. It begins with a
     /// sync, so that nothing is pending.
     ///
-    /// It is refused as `Damaged`, and then nothing was written, where sector 1 is no right log
-    /// header; as `Device` where an operation failed; and as `Memory`. It reserves the memory for
-    /// all later calls.
+    /// It is refused as `Damaged` where sector 1 is no right log header; as `Device` where an
+    /// operation failed; and as `Memory`. Where that header is wrong nothing is written. It reserves
+    /// the memory for all later calls.
     pub fn open(alloc: Global, mut device: D, sectors: u32) -> Result<Log<D>, Refused<D>>
         requires geometry { FIRST_AFTER_LOG < sectors }
         requires on_device { sectors ≤ D.size device }
@@ -66,6 +66,10 @@ impl<D: Device> Log<D> {
         ensures damaged { D.honest device → IfErr result (λ r. r.fault ≡ VolumeFault.Damaged
             → ((m : Image) → HasContent sectors (D.disk device).seen m → ⊥)
             × Leaves (D.disk device) (D.disk r.device) (λ c. ⊥)) }
+        // Where sector 1 is no right header, nothing is written.
+        ensures unwritten { D.honest device
+            → ((m : Image) → HasContent sectors (D.disk device).seen m → ⊥)
+            → IfErr result (λ r. Leaves (D.disk device) (D.disk r.device) (λ c. ⊥)) }
         // At any moment a crash leaves what it could leave before, or the same content.
         ensures crash_ok { (m : Image) → D.honest device
             → HasContent sectors (D.disk device).seen m

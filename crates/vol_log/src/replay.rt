@@ -35,7 +35,8 @@ pub fn replay<D: Device>(
         → OnOk result ((m : Image) × HasContent sectors (D.disk device.old).seen m) }
     ensures damaged { D.honest device.old → IsErrOf result VolumeFault.Damaged
         → (m : Image) → HasContent sectors (D.disk device.old).seen m → ⊥ }
-    ensures quiet { D.honest device.old → IsErrOf result VolumeFault.Damaged
+    ensures quiet { D.honest device.old
+        → ((m : Image) → HasContent sectors (D.disk device.old).seen m → ⊥)
         → Leaves (D.disk device.old) (D.disk device.new) (λ c. ⊥) }
 
     // At any moment a crash leaves what it could leave before, or the same content.

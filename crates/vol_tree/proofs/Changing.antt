@@ -1,5 +1,5 @@
 -- From steps to calls.
-use Rattle.std.proofs.Common.{◌≡◌, ◌⊎◌, inr, true, false, Bool, Result, Ok, Err, IsErrAnd, sym, ◌∙◌, ap, subst}
+use Rattle.std.proofs.Common.{arith, ◌≡◌, ◌⊎◌, inr, true, false, Bool, Result, Ok, Err, IsErrAnd, sym, ◌∙◌, ap, subst}
 use Rattle.vol_sector.specs.Disk.{Image, Leaves}
 use Rattle.vol_sector.specs.declared.device.Device.{Ghosts}
 use Rattle.vol_log.specs.Log.{view, device_of, log_sectors, has_failed}
@@ -14,19 +14,30 @@ use Rattle.vol_tree.specs.declared.superblock.Superblock.{Superblock}
 use Rattle.vol_tree.specs.Superblock.{superblock}
 use Rattle.vol_tree.specs.Space.{space}
 use Rattle.vol_tree.specs.Tree.{Tree}
-use Rattle.vol_tree.specs.Opened.{is_io, tree_in, slots_in}
+use Rattle.vol_tree.specs.Opened.{Keeps, is_io, tree_in, slots_in}
 use Rattle.vol_tree.specs.Parts.{opened}
 use Rattle.vol_tree.specs.internal.Parts.{IsOpen, IsContent, AreTaken}
 use Rattle.vol_tree.specs.internal.Commits.{Commits}
 use Rattle.vol_tree.specs.internal.Changes.{Changes, Stages}
 
--- a call that is refused, after a commit or none
-pub refused : {D : Type 0} {g : Ghosts D} {X : Type 0} (meant : Result (Tree × X) Errno) (old new : Parts D g) (e : Errno) → Commits old new (is_io {X = X} (Err e))
+-- a crash leaves nothing new
+abbrev pub IsQuiet : {D : Type 0} {g : Ghosts D} → Parts D g → Parts D g → Type 0
+IsQuiet {g = g} old new = g.honest (device_of old.log) → Leaves (g.disk (device_of old.log)) (g.disk (device_of new.log)) (λ c. ⊥)
+
+pub nothing_done : {D : Type 0} {g : Ghosts D} (old : Parts D g) → IsQuiet old old
+nothing_done {D} {g} old h = leaves_same (g.disk (device_of old.log)) (λ c. ⊥)
+
+pub quiet_then : {D : Type 0} {g : Ghosts D} (a b c : Parts D g) → (g.honest (device_of a.log) → g.honest (device_of b.log)) → IsQuiet a b → IsQuiet b c → IsQuiet a c
+quiet_then {D} {g} a b c on first second h = leaves_quiet (g.disk (device_of a.log)) (g.disk (device_of b.log)) (g.disk (device_of c.log)) (λ m. ⊥) (first h) (second (on h))
+
+-- a call that is refused, after reads or none
+pub refused : {D : Type 0} {g : Ghosts D} {X : Type 0} (meant : Result (Tree × X) Errno) (old new : Parts D g) (e : Errno) → Commits old new (is_io {X = X} (Err e)) → IsQuiet old new
     → (g.honest (device_of old.log) → (meant ≡ Err e) ⊎ (e ≡ errno.Io)) → Changes meant old new (Err e)
-refused meant old new e c why = record {
+refused meant old new e c quiet why = record {
   is_open = c.is_open;
   answer = λ h. (c.tree h, why h);
   crash = c.crash;
+  refused = λ h other. quiet h;
   kept = c.kept;
 }
 
@@ -43,6 +54,7 @@ module _ {D : Type 0} {g : Ghosts D} (mid new : Parts D g) (is : IsOpen mid) (s 
   staged_open fits = subst (λ v. IsOpen (record new { numbers = v })) (sym s.numbers) (record {
     ranges = is.ranges;
     sectors = s.log_sectors ∙ is.sectors;
+    on_device = omega (arith, s.size, is.on_device);
     first = s.first ∙ is.first;
     end = s.end ∙ is.end;
     slots = s.slots ∙ is.slots;
@@ -69,6 +81,7 @@ done_open {D} {g} meant old mid new x c is_open s is = record {
   is_open = is_open;
   answer = is;
   crash = λ h. leaves_quiet (g.disk (device_of old.log)) (g.disk (device_of mid.log)) (g.disk (device_of new.log)) _ (c.crash h) (s.crash (c.kept.honest.0 h));
+  refused = λ h. tt;
   kept = record {
     numbers = s.numbers ∙ c.kept.numbers;
     failed = s.failed;
@@ -124,4 +137,10 @@ fault_is_io {X} (Err e) p = ap (λ (x : Errno). is_io {X = X} (Err x)) p
 -- a call that ends where the device failed
 pub refused_io : {D : Type 0} {g : Ghosts D} {X : Type 0} (meant : Result (Tree × X) Errno) (old new : Parts D g) (r : Result X Errno) → IsErrAnd r (λ e. e ≡ errno.Io) → Commits old new true → Changes meant old new r
 refused_io meant old new (Ok x) p c = absurd p
-refused_io {D} {g} {X} meant old new (Err e) p c = refused meant old new e (subst (λ (io : Bool). Commits old new io) (sym (fault_is_io {X = X} (Err e) p)) c) (λ h. inr p)
+refused_io {D} {g} {X} meant old new (Err e) p c = record {
+  is_open = c.is_open;
+  answer = λ h. (c.tree h, inr p);
+  crash = c.crash;
+  refused = λ h other. absurd (other p);
+  kept = subst (λ (io : Bool). Keeps g.honest g.size g.failures (opened old) (opened new) io) (sym (fault_is_io {X = X} (Err e) p)) c.kept;
+}

@@ -16,7 +16,8 @@ use Rattle.vol_log.proofs.Commit.{has_own}
 use Rattle.vol_tree.specs.declared.parts.Parts.{Parts}
 use Rattle.vol_tree.specs.Superblock.{superblock}
 use Rattle.vol_tree.specs.Space.{space}
-use Rattle.vol_tree.specs.Stands.{Stands}
+use Rattle.vol_tree.specs.Stands.{StandsAs}
+use Rattle.vol_tree.specs.declared.superblock.Superblock.{Superblock}
 use Rattle.vol_tree.specs.Opened.{ReflectsOr, tree_in, slots_in}
 use Rattle.vol_tree.specs.Parts.{opened}
 use Rattle.vol_tree.specs.internal.Parts.{IsOpen, IsContent, AreTaken}
@@ -61,6 +62,7 @@ module _ {D : Type 0} {g : Ghosts D} (may_stay : (d : D) → g.honest d → (g.d
   committed_open = record {
     ranges = is.ranges;
     sectors = c.sectors ∙ is.sectors;
+    on_device = omega (arith, c.size, is.on_device);
     first = is.first;
     end = is.end;
     slots = is.slots;
@@ -82,13 +84,13 @@ module _ {D : Type 0} {g : Ghosts D} (may_stay : (d : D) → g.honest d → (g.d
         };
   }
 
-  committed_crash : g.honest (device_of old.log) → Leaves (g.disk (device_of old.log)) (g.disk (device_of log)) (ReflectsOr (g.disk (device_of old.log)) (opened old).tree)
+  committed_crash : g.honest (device_of old.log) → Leaves (g.disk (device_of old.log)) (g.disk (device_of log)) (ReflectsOr (g.disk (device_of old.log)) old.numbers (opened old).tree)
   committed_crash h = elim (cases_Bool (has_failed old.log)) [
-    | inl yes_failed ↦ subst (λ (d : D). Leaves (g.disk (device_of old.log)) (g.disk d) (ReflectsOr (g.disk (device_of old.log)) (opened old).tree)) (sym (c.idle yes_failed).0) (leaves_same (g.disk (device_of old.log)) _)
+    | inl yes_failed ↦ subst (λ (d : D). Leaves (g.disk (device_of old.log)) (g.disk d) (ReflectsOr (g.disk (device_of old.log)) old.numbers (opened old).tree)) (sym (c.idle yes_failed).0) (leaves_same (g.disk (device_of old.log)) _)
     | inr fine ↦
         let disk = g.disk (device_of old.log) in
         let was = is.working h fine in
-        leaves_then disk disk (g.disk (device_of log)) (ReflectsOr disk (opened old).tree) (HasEither (log_sectors old.log) disk.seen (view old.log)) (ReflectsOr disk (opened old).tree) (leaves_same disk _) (c.crash h) (λ m p. p)
+        leaves_then disk disk (g.disk (device_of log)) (ReflectsOr disk old.numbers (opened old).tree) (HasEither (log_sectors old.log) disk.seen (view old.log)) (ReflectsOr disk old.numbers (opened old).tree) (leaves_same disk _) (c.crash h) (λ m p. p)
         (λ m either. reflects_or disk (view old.log) m old.numbers is.ranges (may_stay (device_of old.log) h) was.settled was.committed_front was.committed was.front (is.content h)
         (subst (λ s. HasEither s disk.seen (view old.log) m) is.sectors either))
   ]
@@ -106,7 +108,7 @@ module _ {D : Type 0} {g : Ghosts D} (may_stay : (d : D) → g.honest d → (g.d
   }
 
   -- after its success each crash leaves the tree
-  pub commit_lasts : io ≡ false → g.honest (device_of old.log) → (m : Image) → (g.disk (device_of log)).may_leave m → Stands m (opened old).tree
+  pub commit_lasts : io ≡ false → g.honest (device_of old.log) → (m : Image) → (g.disk (device_of log)).may_leave m → StandsAs m old.numbers (opened old).tree
   commit_lasts io_is h m may =
       let done = c.done io_is h in
       let disk = g.disk (device_of log) in
@@ -115,9 +117,9 @@ module _ {D : Type 0} {g : Ghosts D} (may_stay : (d : D) → g.honest d → (g.d
       let content : IsContent disk.seen old.numbers = same_is_content (view old.log) disk.seen old.numbers (λ k le. same_seen k (inr le)) (is.content h) in
       let was_ok : has_failed old.log ≡ false = elim (cases_Bool (has_failed old.log)) [ inl yes_failed ↦ absurd (let i = (c.idle yes_failed).1 in cc) | inr fine ↦ fine ] in
       let front : disk.seen 0 ≡ superblock old.numbers = done.1 0 (inl (omega arith)) ∙ (is.working h was_ok).front in
-      let stands : Stands disk.seen (tree_in disk.seen old.numbers) = (old.numbers, stands_with disk.seen disk.seen old.numbers is.ranges front content (has_own old.numbers.sectors disk.seen disk.seen settled.empty (λ k at. refl))) in
+      let stands : StandsAs disk.seen old.numbers (tree_in disk.seen old.numbers) = stands_with disk.seen disk.seen old.numbers is.ranges front content (has_own old.numbers.sectors disk.seen disk.seen settled.empty (λ k at. refl)) in
       let tree = same_tree_in (view old.log) disk.seen old.numbers (λ k le. same_seen k (inr le)) (is.content h) in
-      subst (λ T. Stands m T) tree (subst (λ x. Stands x (tree_in disk.seen old.numbers)) (sym (settled.durable m may)) stands)
+      subst (λ (T : Tree). StandsAs m old.numbers T) tree (subst (λ (x : Image). StandsAs x old.numbers (tree_in disk.seen old.numbers)) (sym (settled.durable m may)) stands)
 
 -- nothing is done
 pub no_commit : {D : Type 0} {g : Ghosts D} (p : Parts D g) (io : Bool) → IsOpen p → has_failed p.log ≡ io → Commits p p io
@@ -163,6 +165,7 @@ reads_commit {D} {g} old log io is r = record {
   is_open = record {
     ranges = is.ranges;
     sectors = r.sectors ∙ is.sectors;
+    on_device = omega (arith, r.size, is.on_device);
     first = is.first;
     end = is.end;
     slots = is.slots;
@@ -192,16 +195,25 @@ reads_commit {D} {g} old log io is r = record {
 }
 
 -- what an image of the middle reflects was reflected before
-reflected : (a : Disk) (tree : Tree) (e c : Image) (T : Tree) → a.may_leave e ⊎ ReflectsOr a tree e → Stands e T → Stands c T → ReflectsOr a tree c
-reflected a tree e c T (inl could) stood stands = inl (record { earlier = e; could = could; tree = T; stood = stood; stands = stands })
-reflected a tree e c T (inr (inl r)) stood stands =
-    let same : T ≡ r.tree = one_tree e T r.tree stood r.stands in
-    inl (record { earlier = r.earlier; could = r.could; tree = r.tree; stood = r.stood; stands = subst (λ U. Stands c U) same stands })
-reflected a tree e c T (inr (inr now)) stood stands = inr (subst (λ U. Stands c U) (one_tree e T tree stood now) stands)
+reflected : (a : Disk) (v : Superblock) (tree : Tree) (e c : Image) (T : Tree) → a.may_leave e ⊎ ReflectsOr a v tree e → StandsAs e v T → StandsAs c v T → ReflectsOr a v tree c
+reflected a v tree e c T (inl could) stood stands = inl (record { earlier = e; could = could; tree = T; stood = stood; stands = stands })
+reflected a v tree e c T (inr (inl r)) stood stands =
+    let same : T ≡ r.tree = one_tree e v T r.tree stood r.stands in
+    inl (record { earlier = r.earlier; could = r.could; tree = r.tree; stood = r.stood; stands = subst (λ (U : Tree). StandsAs c v U) same stands })
+reflected a v tree e c T (inr (inr now)) stood stands = inr (subst (λ (U : Tree). StandsAs c v U) (one_tree e v T tree stood now) stands)
 
-pub reflects_then : (a b : Disk) (tree : Tree) (c : Image) → ((m : Image) → b.may_leave m → a.may_leave m ⊎ ReflectsOr a tree m) → ReflectsOr b tree c → ReflectsOr a tree c
-reflects_then a b tree c first (inl r) = reflected a tree r.earlier c r.tree (first r.earlier r.could) r.stood r.stands
-reflects_then a b tree c first (inr now) = inr now
+pub reflects_then : (a b : Disk) (v : Superblock) (tree : Tree) (c : Image) → ((m : Image) → b.may_leave m → a.may_leave m ⊎ ReflectsOr a v tree m) → ReflectsOr b v tree c → ReflectsOr a v tree c
+reflects_then a b v tree c first (inl r) = reflected a v tree r.earlier c r.tree (first r.earlier r.could) r.stood r.stands
+reflects_then a b v tree c first (inr now) = inr now
+
+-- what a crash leaves of a volume with the same numbers and tree
+pub same_volume : (a b : Disk) (v w : Superblock) (T U : Tree) → v ≡ w → T ≡ U → Leaves a b (ReflectsOr a v T) → Leaves a b (ReflectsOr a w U)
+same_volume a b v w T U numbers tree leaves = subst (λ (u : Superblock). Leaves a b (ReflectsOr a u U)) numbers (subst (λ (V : Tree). Leaves a b (ReflectsOr a v V)) tree leaves)
+
+-- over one step after another
+pub crash_on : (a b c : Disk) (v w : Superblock) (T U : Tree) → v ≡ w → T ≡ U → Leaves a b (ReflectsOr a w U) → Leaves b c (ReflectsOr b v T) → Leaves a c (ReflectsOr a w U)
+crash_on a b c v w T U numbers tree first second =
+    leaves_then a b c (ReflectsOr a w U) (ReflectsOr b w U) (ReflectsOr a w U) first (same_volume b c v w T U numbers tree second) (λ m p. p) (λ m p. reflects_then a b w U m first.now p)
 
 -- one after another
 pub commits_then : {D : Type 0} {g : Ghosts D} (a b c : Parts D g) (io : Bool) → Commits a b false → Commits b c io → Commits a c io
@@ -209,11 +221,7 @@ commits_then {D} {g} a b c io first second = record {
   is_open = second.is_open;
   tree = λ h. second.tree (first.kept.honest.0 h) ∙ first.tree h;
   slots = λ h. second.slots (first.kept.honest.0 h) ∙ first.slots h;
-  crash = λ h.
-      let da = g.disk (device_of a.log) in
-      let db = g.disk (device_of b.log) in
-      let then = subst (λ T. Leaves db (g.disk (device_of c.log)) (ReflectsOr db T)) (first.tree h) (second.crash (first.kept.honest.0 h)) in
-      leaves_then da db (g.disk (device_of c.log)) _ _ _ (first.crash h) then (λ m p. p) (λ m p. reflects_then da db (opened a).tree m (first.crash h).now p);
+  crash = λ h. crash_on (g.disk (device_of a.log)) (g.disk (device_of b.log)) (g.disk (device_of c.log)) b.numbers a.numbers (opened b).tree (opened a).tree first.kept.numbers (first.tree h) (first.crash h) (second.crash (first.kept.honest.0 h));
   kept = record {
     numbers = second.kept.numbers ∙ first.kept.numbers;
     failed = second.kept.failed;
@@ -228,9 +236,9 @@ commits_then {D} {g} a b c io first second = record {
 }
 
 -- what a crash leaves over a call after a call
-pub crash_then : (a b c : Disk) (T U : Tree) (P : Image → Type 0) → Leaves a b (ReflectsOr a T) → Leaves b c (ReflectsOr b U) → ((m : Image) → Stands m U → P m) → Leaves a c (λ m. ReflectsOr a T m ⊎ P m)
-crash_then a b c T U P first second known = leaves_then a b c (ReflectsOr a T) (ReflectsOr b U) (λ m. ReflectsOr a T m ⊎ P m) first second (λ m p. inl p) (λ m p. go m p)
+pub crash_then : (a b c : Disk) (v : Superblock) (T U : Tree) (P : Image → Type 0) → Leaves a b (ReflectsOr a v T) → Leaves b c (ReflectsOr b v U) → ((m : Image) → StandsAs m v U → P m) → Leaves a c (λ m. ReflectsOr a v T m ⊎ P m)
+crash_then a b c v T U P first second known = leaves_then a b c (ReflectsOr a v T) (ReflectsOr b v U) (λ m. ReflectsOr a v T m ⊎ P m) first second (λ m p. inl p) (λ m p. go m p)
   where
-    go : (m : Image) → ReflectsOr b U m → ReflectsOr a T m ⊎ P m
-    go m (inl r) = inl (reflected a T r.earlier m r.tree (first.now r.earlier r.could) r.stood r.stands)
+    go : (m : Image) → ReflectsOr b v U m → ReflectsOr a v T m ⊎ P m
+    go m (inl r) = inl (reflected a v T r.earlier m r.tree (first.now r.earlier r.could) r.stood r.stands)
     go m (inr s) = inr (known m s)

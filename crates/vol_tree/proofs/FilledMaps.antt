@@ -15,7 +15,7 @@ use Rattle.vol_tree.proofs.Entries.{entry-changed_same, entry-changed_other}
 use Rattle.vol_tree.proofs.Writes.{with_is}
 
 -- a file is an entry with its bytes
-file_there : (T : Tree) (file : ℕ) → is_file_at T file ≡ true → (e : Entry) × (entry T file ≡ Some e) × (e.node ≡ File (bytes_at T file))
+pub file_there : (T : Tree) (file : ℕ) → is_file_at T file ≡ true → (e : Entry) × (entry T file ≡ Some e) × (e.node ≡ File (bytes_at T file))
 file_there T file h = go (entry T file) refl h
   where
     node_is : (n : Node) → not (is_directory n) ≡ true → n ≡ File (bytes_of n)

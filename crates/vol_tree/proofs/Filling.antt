@@ -48,6 +48,7 @@ module _ {D : Type 0} {g : Ghosts D} where
         is_open = record {
           ranges = is.ranges;
           sectors = r.sectors ∙ is.sectors;
+          on_device = omega (arith, r.size, is.on_device);
           first = first ∙ is.first;
           end = end ∙ is.end;
           slots = is.slots;
@@ -74,6 +75,7 @@ module _ {D : Type 0} {g : Ghosts D} where
     is_open = f.is_open;
     answer = λ h. (f.tree h, inr p);
     crash = f.crash;
+    refused = λ h other. absurd (other p);
     kept = subst (λ (io : Bool). Keeps g.honest g.size g.failures (opened old) (opened new) io) (sym (fault_is_io {X = X} (Err e) p)) f.kept;
   }
 

@@ -9,7 +9,8 @@ use Rattle.vol_sector.specs.declared.fault.VolumeFault.{VolumeFault}
 use Rattle.vol_sector.specs.declared.fault.VolumeFault.TheVariants as faults
 use Rattle.vol_tree.specs.declared.superblock.Superblock.{Superblock}
 use Rattle.vol_tree.specs.Superblock.{superblock, version_number, IsNoVersion}
-use Rattle.vol_tree.specs.Opening.{BeginsRight}
+use Rattle.vol_tree.specs.Tree.{Tree}
+use Rattle.vol_tree.specs.Opening.{StandsOn, NoVolumeOn, HasNoVersion, BeginsRight, IsDamaged}
 
 -- how many sectors the device has
 pub not_few : {X : Type 0} (n size : ℕ) → n ≡ size → 137 ≤ n → size < 137 → X
@@ -56,6 +57,14 @@ pub not_the_front : {X : Type 0} (x : VolumeFault) → (x ≡ faults.Damaged) �
 not_the_front x named front =
     absurd (⊎_elim (λ damaged. ⊎_elim (λ none. cc) (λ version. cc) front)
     (λ other. ⊎_elim (λ device. ⊎_elim (λ none. cc) (λ version. cc) front) (λ memory. ⊎_elim (λ none. cc) (λ version. cc) front) other) named)
+
+-- what stands for a tree is refused only as the device's or the memory's
+pub stands_unrefused : (size : ℕ) (image : Image) (v : Superblock) (T : Tree) (x : VolumeFault) → StandsOn size image v T → (x ≡ faults.NotAVolume → NoVolumeOn size image) → (x ≡ faults.Version → HasNoVersion size image)
+    → (x ≡ faults.Damaged → IsDamaged size image) → (x ≡ faults.NotAVolume) ⊎ ((x ≡ faults.Version) ⊎ ((x ≡ faults.Damaged) ⊎ ((x ≡ faults.Device) ⊎ (x ≡ faults.Memory)))) → (x ≡ faults.Device) ⊎ (x ≡ faults.Memory)
+stands_unrefused size image v T x on none version damaged named =
+    let right = begins_right size image v (omega (arith, on.stands.ranges.least, on.room)) on.stands.front in
+    ⊎_elim (λ is. absurd (right.volume (none is)))
+    (λ other. ⊎_elim (λ is. absurd (right.version (version is).version)) (λ rest. ⊎_elim (λ is. absurd ((damaged is).none v T on)) (λ last. last) rest) other) named
 
 pub device_not_front : {X : Type 0} → (faults.Device ≡ faults.NotAVolume) ⊎ ((faults.Device ≡ faults.Version) ⊎ (faults.Device ≡ faults.Damaged)) → X
 device_not_front is = absurd (⊎_elim (λ none. cc) (λ other. ⊎_elim (λ version. cc) (λ damaged. cc) other) is)

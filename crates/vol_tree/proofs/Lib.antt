@@ -36,6 +36,7 @@ pub mod Raising
 pub mod Used
 pub mod FilledMaps
 pub mod RenamedMaps
+pub mod Mapped
 pub mod Ranges
 pub mod WaysUp
 pub mod Checked

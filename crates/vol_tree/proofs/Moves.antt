@@ -3,8 +3,20 @@ use Rattle.std.proofs.Common.{◌≡◌, ◌≢◌, ℕ, [], ◌∷◌, Option, 
 use Rattle.std.specs.Option.{option_map, option_map_or}
 use Rattle.std.proofs.lemmas.Bool.{cases_eq}
 use Rattle.vol_tree.specs.Tree.{Tree, Path, Name, Entry, entry, changed, Leads, IsAt, IsTree}
-use Rattle.vol_tree.specs.Laws.{MovesSubtree, RenameMovesTheSubtree}
+use Rattle.vol_tree.specs.Calls.{moved}
 use Rattle.vol_tree.proofs.Entries.{entry-changed_same, entry-changed_other, no_cycle}
+
+-- After the move of an entry to a name in a directory: what was below it is below it still, by the same names; it
+-- stands at the new name; every other entry stands where it stood; and each node is as it was.
+pub record MovesSubtree (T U : Tree) (serial parent : ℕ) (name : Name) : Type 0 where
+  pub subtree : (path : Path) (t : ℕ) → Leads T serial path t → Leads U serial path t
+  pub top : (path : Path) → IsAt T path parent → IsAt U (name ∷ path) serial
+  pub others : (path : Path) (t : ℕ) → IsAt T path t → ((below : Path) → Leads T serial below t → ⊥) → IsAt U path t
+  pub nodes : (t : ℕ) → option_map (λ (e : Entry). e.node) (entry U t) ≡ option_map (λ (e : Entry). e.node) (entry T t)
+
+abbrev pub RenameMovesTheSubtree : Type 0
+RenameMovesTheSubtree = (T : Tree) (serial parent : ℕ) (name : Name) (e : Entry) → IsTree T → entry T serial ≡ Some e
+    → ((below : Path) → Leads T serial below parent → ⊥) → MovesSubtree T (moved T serial parent name) serial parent name
 
 module _ (T : Tree) (t : IsTree T) (s parent : ℕ) (name : Name) (e : Entry) (h : entry T s ≡ Some e) (outside : (below : Path) → Leads T s below parent → ⊥) where
   abbrev there : Entry

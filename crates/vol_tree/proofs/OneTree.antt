@@ -1,4 +1,4 @@
--- An image stands for at most one tree.
+-- An image stands for at most one tree, under one volume's numbers.
 use Rattle.std.proofs.Common.{◌≡◌, ◌≢◌, inr, ℕ, suc, ◌+◌, ◌^◌, ◌≤◌, ◌<◌, List, [], ◌∷◌, length, map, get_or, drop, Option, Some, None, refl, sym, ◌∙◌, ap, subst, arith}
 use Rattle.std.specs.Option.{option_map}
 use Rattle.std.proofs.lemmas.List.{ext_get_or}
@@ -23,7 +23,7 @@ use Rattle.vol_tree.specs.declared.superblock.Superblock.{Superblock}
 use Rattle.vol_tree.specs.Superblock.{superblock, HasRanges, version_number}
 use Rattle.vol_tree.specs.Tree as tree
 use Rattle.vol_tree.specs.Tree.{Tree}
-use Rattle.vol_tree.specs.Stands.{Slots, slot, Holds, entry_of, tree_of, node_by, KeepApart, StandsAs, Stands}
+use Rattle.vol_tree.specs.Stands.{Slots, slot, Holds, entry_of, tree_of, node_by, KeepApart, StandsAs}
 use Rattle.vol_log.specs.declared.layout.TheConstants.{FIRST_AFTER_LOG}
 use Rattle.vol_inode.specs.declared.version.TheConstants.{LARGEST_SIZE}
 
@@ -139,15 +139,15 @@ same_tree a b v slots same holds apart = map_same (option_map (entry_of a)) (opt
     let after_log : FIRST_AFTER_LOG ≤ named a e p = omega (arith, apart.after_slots s e p is place some) in
     sym (same (named a e p) (inr after_log)))))
 
-stands_once : (image : Image) (v : Superblock) (T U : Tree) → StandsAs image v T → StandsAs image v U → T ≡ U
-stands_once image v T U one other =
+pub one_tree : (image : Image) (v : Superblock) (T U : Tree) → StandsAs image v T → StandsAs image v U → T ≡ U
+one_tree image v T U one other =
     let fits : v.sectors < 256 ^ 4 = omega (arith, one.ranges.most) in
     let same : SameContent one.content other.content = same_content v.sectors image one.content other.content fits one.log other.log in
     let long : length one.slots ≡ length other.slots = one.volume.count ∙ sym other.volume.count in
     let slots : one.slots ≡ other.slots = same_slots v.version one.content other.content one.slots other.slots long same one.volume.holds other.volume.holds in
     one.is ∙ same_tree one.content other.content v one.slots same one.volume.holds one.volume.sectors ∙ ap (tree_of other.content) slots ∙ sym other.is
 
-pub one_tree : (image : Image) (T U : Tree) → Stands image T → Stands image U → T ≡ U
-one_tree image T U one other =
-    let v : other.0 ≡ one.0 = same_superblock (image 0) other.0 one.0 other.1.ranges one.1.ranges other.1.front one.1.front in
-    stands_once image one.0 T U one.1 (subst (λ (w : Superblock). StandsAs image w U) v other.1)
+pub one_volume : (image : Image) (v w : Superblock) (T U : Tree) → StandsAs image v T → StandsAs image w U → (v ≡ w) × (T ≡ U)
+one_volume image v w T U one other =
+    let same : v ≡ w = same_superblock (image 0) v w one.ranges other.ranges one.front other.front in
+    (same, one_tree image v T U one (subst (λ (u : Superblock). StandsAs image u U) (sym same) other))

@@ -16,7 +16,7 @@ use Rattle.vol_tree.specs.Superblock.{superblock, HasRanges}
 use Rattle.vol_tree.specs.Tree.{Tree}
 use Rattle.vol_tree.specs.Stands.{IsVolume, StandsAs}
 use Rattle.vol_tree.specs.Opened.{slots_in, tree_in}
-use Rattle.vol_tree.specs.Opening.{StandsOn}
+use Rattle.vol_tree.specs.Opening.{StandsOn, HoldsOn}
 use Rattle.vol_alloc.specs.declared.sectors.Alloc.{Alloc}
 use Rattle.vol_dirs.specs.declared.dirs.Dirs.{Dirs}
 use Rattle.vol_tree.specs.internal.Parts.{IsContent, AreTaken, IsWorking}
@@ -87,6 +87,28 @@ module _ (d0 d1 : Disk) (size : ℕ) (v w : Superblock) (T : Tree) (ranges : Has
   volume_over content told =
       let own : SameContent content on.stands.content = subst (λ (u : Superblock). (m : Image) → HasContent u.sectors d1.seen m → SameContent content m) (sym is_v) told on.stands.content log_has in
       subst (IsContent content) is_v (stands_volume d0.seen w T on.stands content own)
+
+-- what the steps of opening leave of an image with a right first sector and a right log
+module _ (d0 d1 : Disk) (size : ℕ) (v w : Superblock) (m : Image) (ranges : HasRanges v) (front : d0.seen 0 ≡ superblock v) (same : d1.seen ≡ d0.seen) (holds : HoldsOn size d0.seen w m) where
+  held_is : w ≡ v
+  held_is = same_superblock (d0.seen 0) w v holds.ranges ranges holds.front front
+
+  pub held_log : HasContent v.sectors d1.seen m
+  held_log = subst (λ (u : Superblock). HasContent u.sectors d1.seen m) held_is (subst (λ (a : Image). HasContent w.sectors a m) (sym same) holds.log)
+
+  pub held_again : (c : Image) → HasContent v.sectors c m → HoldsOn size c w m
+  held_again c has =
+      let own : HasContent w.sectors c m = subst (λ (u : Superblock). HasContent u.sectors c m) (sym held_is) has in
+      record { front = front_of w.sectors c m own ∙ sym (front_of w.sectors d0.seen m holds.log) ∙ holds.front; ranges = holds.ranges; room = holds.room; log = own }
+
+  pub held_over : (d2 : Disk) → Leaves d0 d1 (λ c. ⊥) → Leaves d1 d2 (λ c. HasContent v.sectors c m) → Leaves d0 d2 (λ c. HoldsOn size c w m)
+  held_over d2 first second = leaves_then d0 d1 d2 (λ c. ⊥) (λ c. HasContent v.sectors c m) (λ c. HoldsOn size c w m) first second (λ c none. absurd none) (λ c has. held_again c has)
+
+-- an image that holds no volume's log
+pub none_held : (d0 d1 : Disk) (size : ℕ) (v : Superblock) → HasRanges v → v.sectors ≤ size → d0.seen 0 ≡ superblock v → d1.seen ≡ d0.seen → ((w : Superblock) (m : Image) → HoldsOn size d0.seen w m → ⊥)
+    → (m : Image) → HasContent v.sectors d1.seen m → ⊥
+none_held d0 d1 size v ranges room front same none m has =
+    none v m (record { front = front; ranges = ranges; room = room; log = subst (λ (a : Image). HasContent v.sectors a m) same has })
 
 -- an installed log stands for what it stood for
 pub settled_has : (sectors : ℕ) (d : Disk) (a content m : Image) → Settled sectors d → a ≡ d.seen → content ≡ d.seen → SameContent content m → HasContent sectors a m

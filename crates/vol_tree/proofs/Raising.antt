@@ -1,7 +1,7 @@
 -- A volume of version 1 is one of version 2, with another first sector.
-use Rattle.std.proofs.Common.{◌≡◌, ◌↔◌, ◌⊎◌, inl, inr, ℕ, ◌+◌, ◌-◌, ◌≤◌, ◌<◌, true, false, Bool, List, [], get_or, Some, None, Result, Err, OnOk, is_err, refl, sym, ◌∙◌, ap, subst, arith}
+use Rattle.std.proofs.Common.{◌≡◌, ◌↔◌, ◌⊎◌, inl, inr, ⊎_elim, ℕ, ◌+◌, ◌-◌, ◌≤◌, ◌<◌, true, false, Bool, List, [], get_or, Some, None, Result, Err, OnOk, is_err, refl, sym, ◌∙◌, ap, subst, arith}
 use Rattle.std.proofs.lemmas.Option.{same_Some}
-use Rattle.vol_sector.specs.Disk.{Image, Leaves, put, counted}
+use Rattle.vol_sector.specs.Disk.{Image, Disk, Leaves, put, counted}
 use Rattle.vol_sector.specs.declared.device.Device.{Ghosts}
 use Rattle.vol_log.specs.Log.{view, device_of, log_sectors, has_failed, staged_of}
 use Rattle.vol_log.specs.Batch.{over, Settled}
@@ -24,7 +24,7 @@ use Rattle.vol_tree.specs.Superblock.{superblock, HasRanges}
 use Rattle.vol_tree.specs.Tree.{Tree}
 use Rattle.vol_tree.specs.Space.{space}
 use Rattle.vol_tree.specs.Stands.{StandsAs}
-use Rattle.vol_tree.specs.Opened.{slot_in, slots_in, tree_in, ReflectsOr}
+use Rattle.vol_tree.specs.Opened.{slot_in, slots_in, tree_in, raised, ReflectsOr, MayUpgrade}
 use Rattle.vol_tree.specs.Parts.{opened}
 use Rattle.vol_tree.specs.internal.Parts.{IsContent, AreTaken, IsOpen}
 use Rattle.vol_tree.specs.internal.Upgrades.{Upgrades}
@@ -35,9 +35,6 @@ use Rattle.vol_sector.specs.declared.fault.VolumeFault.TheVariants as faults
 use Rattle.vol_tree.proofs.SlotsRead.{slot_read}
 use Rattle.vol_tree.proofs.SameContents.{same_is_content, same_tree_in, same_shows, same_taken, stands_with}
 use Rattle.vol_log.specs.declared.layout.TheConstants.{FIRST_AFTER_LOG}
-
-abbrev pub raised : Superblock → Superblock
-raised v = record v { version = Two }
 
 -- what version 1 allows, version 2 does
 entry_raised : (e : Entry) → IsEntry One e → IsEntry Two e
@@ -159,17 +156,18 @@ module _ {D : Type 0} {g : Ghosts D} (may_stay : (d : D) → g.honest d → (g.d
         beyond : (k : ℕ) (m : Image) → 0 < k → put 0 (superblock (raised v)) m k ≡ m k
         beyond k m lt = put_other 0 k (superblock (raised v)) m (λ same. omega arith)
 
-    crash_new : g.honest (device_of old.log) → Leaves (g.disk (device_of old.log)) (g.disk (device_of log)) (ReflectsOr (g.disk (device_of old.log)) (opened old).tree)
+    crash_new : g.honest (device_of old.log) → Leaves (g.disk (device_of old.log)) (g.disk (device_of log)) (MayUpgrade (g.disk (device_of old.log)) v (opened old).tree)
     crash_new h =
         let disk = g.disk (device_of old.log) in
-        leaves_then disk disk (g.disk (device_of log)) (λ c. ⊥) (λ c. c ≡ put 0 (superblock (raised v)) disk.seen) (ReflectsOr disk (opened old).tree) (leaves_same disk (λ c. ⊥)) (f.crash h)
-        (λ m none. absurd none) (λ m same. inr (raised v, subst (λ (x : Image). StandsAs x (raised v) (opened old).tree) (sym same) (stands_new h)))
+        leaves_then disk disk (g.disk (device_of log)) (λ c. ⊥) (λ c. c ≡ put 0 (superblock (raised v)) disk.seen) (MayUpgrade disk v (opened old).tree) (leaves_same disk (λ c. ⊥)) (f.crash h)
+        (λ m none. absurd none) (λ m same. inr (subst (λ (x : Image). StandsAs x (raised v) (opened old).tree) (sym same) (stands_new h)))
 
     pub not_upgraded : io ≡ true → Upgrades old (record old { log = log }) io
     not_upgraded bad = record {
       is_open = record {
         ranges = is.ranges;
         sectors = f.sectors ∙ is.sectors;
+        on_device = omega (arith, f.size, is.on_device);
         first = is.first;
         end = is.end;
         slots = is.slots;
@@ -195,6 +193,7 @@ module _ {D : Type 0} {g : Ghosts D} (may_stay : (d : D) → g.honest d → (g.d
       is_open = record {
         ranges = ranges_raised v is.ranges;
         sectors = f.sectors ∙ is.sectors;
+        on_device = omega (arith, f.size, is.on_device);
         first = is.first;
         end = is.end;
         slots = is.slots;
@@ -228,6 +227,31 @@ module _ {D : Type 0} {g : Ghosts D} (may_stay : (d : D) → g.honest d → (g.d
       size = f.size;
     }
 
+-- a commit that failed
+pub upgrade_fails : {D : Type 0} {g : Ghosts D} (a b : Parts D g) → Commits a b true → Upgrades a b true
+upgrade_fails {D} {g} a b c = record {
+  is_open = c.is_open;
+  tree = c.tree;
+  done = λ good. absurd (cc);
+  undone = λ bad. c.kept.numbers;
+  crash = λ h.
+      let disk = g.disk (device_of a.log) in
+      let reflects = ReflectsOr disk a.numbers (opened a).tree in
+      leaves_then disk disk (g.disk (device_of b.log)) reflects reflects (MayUpgrade disk a.numbers (opened a).tree) (leaves_same disk reflects) (c.crash h) (λ m p. inl p) (λ m p. inl p);
+  durable = λ good. absurd (cc);
+  failed = c.kept.failed;
+  failures = c.kept.failures;
+  idle = c.kept.idle;
+  honest = c.kept.honest;
+  size = c.kept.size;
+}
+
+-- what a crash leaves of an upgrade after a commit
+upgrade_on : (a b c : Disk) (v w : Superblock) (T U : Tree) → v ≡ w → T ≡ U → Leaves a b (ReflectsOr a w U) → Leaves b c (MayUpgrade b v T) → Leaves a c (MayUpgrade a w U)
+upgrade_on a b c v w T U numbers tree first second =
+    let on : Leaves b c (MayUpgrade b w U) = subst (λ (u : Superblock). Leaves b c (MayUpgrade b u U)) numbers (subst (λ (V : Tree). Leaves b c (MayUpgrade b v V)) tree second) in
+    leaves_then a b c (ReflectsOr a w U) (MayUpgrade b w U) (MayUpgrade a w U) first on (λ m p. inl p) (λ m p. ⊎_elim (λ was. inl (reflects_then a b w U m first.now was)) (λ new. inr new) p)
+
 -- after a commit
 pub upgrades_after : {D : Type 0} {g : Ghosts D} (a b c : Parts D g) (io : Bool) → Commits a b false → Upgrades b c io → Upgrades a c io
 upgrades_after {D} {g} a b c io first second = record {
@@ -235,11 +259,7 @@ upgrades_after {D} {g} a b c io first second = record {
   tree = λ h. second.tree (first.kept.honest.0 h) ∙ first.tree h;
   done = λ good. second.done good ∙ ap raised first.kept.numbers;
   undone = λ bad. second.undone bad ∙ first.kept.numbers;
-  crash = λ h.
-      let da = g.disk (device_of a.log) in
-      let db = g.disk (device_of b.log) in
-      let on = subst (λ (T : Tree). Leaves db (g.disk (device_of c.log)) (ReflectsOr db T)) (first.tree h) (second.crash (first.kept.honest.0 h)) in
-      leaves_then da db (g.disk (device_of c.log)) _ _ _ (first.crash h) on (λ m p. p) (λ m p. reflects_then da db (opened a).tree m (first.crash h).now p);
+  crash = λ h. upgrade_on (g.disk (device_of a.log)) (g.disk (device_of b.log)) (g.disk (device_of c.log)) b.numbers a.numbers (opened b).tree (opened a).tree first.kept.numbers (first.tree h) (first.crash h) (second.crash (first.kept.honest.0 h));
   durable = λ good h. second.durable good (first.kept.honest.0 h);
   failed = second.failed;
   failures = λ ok. second.failures first.kept.failed ∙ ap (counted io) (first.kept.failures ok);
@@ -256,10 +276,10 @@ version_is Two = inr refl
 
 module _ {D : Type 0} {g : Ghosts D} (old new : Parts D g) (r : Result (Unit {0}) VolumeFault) (newest : old.numbers.version ≡ Two → (new ≡ old) × (r ≡ Err faults.Upgraded))
     (upgrades : old.numbers.version ≡ One → Upgrades old new (is_err r)) where
-  pub upgrade_crash : g.honest (device_of old.log) → Leaves (g.disk (device_of old.log)) (g.disk (device_of new.log)) (ReflectsOr (g.disk (device_of old.log)) (opened old).tree)
+  pub upgrade_crash : g.honest (device_of old.log) → Leaves (g.disk (device_of old.log)) (g.disk (device_of new.log)) (MayUpgrade (g.disk (device_of old.log)) old.numbers (opened old).tree)
   upgrade_crash h = elim (version_is old.numbers.version) [
     | inl one ↦ (upgrades one).crash h
-    | inr two ↦ subst (λ (p : Parts D g). Leaves (g.disk (device_of old.log)) (g.disk (device_of p.log)) (ReflectsOr (g.disk (device_of old.log)) (opened old).tree)) (sym (newest two).0) (leaves_same (g.disk (device_of old.log)) _)
+    | inr two ↦ subst (λ (p : Parts D g). Leaves (g.disk (device_of old.log)) (g.disk (device_of p.log)) (MayUpgrade (g.disk (device_of old.log)) old.numbers (opened old).tree)) (sym (newest two).0) (leaves_same (g.disk (device_of old.log)) _)
   ]
 
   pub upgrade_lasts : g.honest (device_of old.log) → OnOk r ((c : Image) → (g.disk (device_of new.log)).may_leave c → StandsAs c new.numbers (opened new).tree)

@@ -31,11 +31,11 @@ from_renamed : (T : Tree) (serial parent : ℕ) (name : Name) (path : Path) (s :
 from_renamed T serial parent name path s m (inl (old, apart, none)) = inl (old, apart)
 from_renamed T serial parent name path s m (inr on) = inr on
 
-passes : {X : Type 0} (c : Bool) (e : Errno) (checks : List (Bool × Errno)) (x : Result X Errno) (y : X) → unless ((c, e) ∷ checks) x ≡ Ok y → (c ≡ false) × (unless checks x ≡ Ok y)
+pub passes : {X : Type 0} (c : Bool) (e : Errno) (checks : List (Bool × Errno)) (x : Result X Errno) (y : X) → unless ((c, e) ∷ checks) x ≡ Ok y → (c ≡ false) × (unless checks x ≡ Ok y)
 passes true e checks x y h = absurd (cc)
 passes false e checks x y h = (refl, h)
 
-ok_same : {X : Type 0} (x y : X) → ◌≡◌ {A = Result X Errno} (Ok x) (Ok y) → x ≡ y
+pub ok_same : {X : Type 0} (x y : X) → ◌≡◌ {A = Result X Errno} (Ok x) (Ok y) → x ≡ y
 ok_same x y h = cc
 
 set_same : (T : Tree) (s : ℕ) (o : Option Entry) → get_or T s None ≡ o → set T s o ≡ T
@@ -55,7 +55,7 @@ both_false : (a b : Bool) → (a && b) ≡ false → a ≡ true → b ≡ false
 both_false true b h is = h
 both_false false b h is = absurd (false≢true is)
 
-not_false : (b : Bool) → not b ≡ false → b ≡ true
+pub not_false : (b : Bool) → not b ≡ false → b ≡ true
 not_false true h = refl
 not_false false h = absurd (false≢true (sym h))
 

@@ -118,12 +118,12 @@ stands_with c content v ranges front is has = record {
 
 -- a crash around a commit leaves the tree that was committed last, or that of the content
 pub reflects_or : (disk : Disk) (content c : Image) (v : Superblock) → HasRanges v → disk.may_leave disk.seen → Settled v.sectors disk → disk.seen 0 ≡ superblock v → IsContent disk.seen v
-    → content 0 ≡ superblock v → IsContent content v → HasEither v.sectors disk.seen content c → ReflectsOr disk (tree_in content v) c
+    → content 0 ≡ superblock v → IsContent content v → HasEither v.sectors disk.seen content c → ReflectsOr disk v (tree_in content v) c
 reflects_or disk content c v ranges may settled committed_front committed front is (inl has) = inl (record {
   earlier = disk.seen;
   could = may;
   tree = tree_in disk.seen v;
-  stood = (v, stands_with disk.seen disk.seen v ranges committed_front committed (has_own v.sectors disk.seen disk.seen settled.empty (λ k at. refl)));
-  stands = (v, stands_with c disk.seen v ranges committed_front committed has);
+  stood = stands_with disk.seen disk.seen v ranges committed_front committed (has_own v.sectors disk.seen disk.seen settled.empty (λ k at. refl));
+  stands = stands_with c disk.seen v ranges committed_front committed has;
 })
-reflects_or disk content c v ranges may settled committed_front committed front is (inr has) = inr (v, stands_with c content v ranges front is has)
+reflects_or disk content c v ranges may settled committed_front committed front is (inr has) = inr (stands_with c content v ranges front is has)

@@ -1,22 +1,21 @@
 -- How taking an entry out goes on to a call's answer.
 use Rattle.std.proofs.Common.{◌≡◌, ◌⊎◌, inl, inr, ⊎_elim, ◌+◌, ◌-◌, ◌≤◌, if◌then◌else◌, ℕ, true, false, Bool, Result, Ok, Err, IsErr, IsErrAnd, MatchResult, is_err, refl, sym, ◌∙◌, ap, subst, arith}
 use Rattle.std.proofs.lemmas.Bool.{false≢true}
-use Rattle.vol_sector.specs.Disk.{Leaves, counted}
+use Rattle.vol_sector.specs.Disk.{counted}
 use Rattle.vol_sector.specs.declared.device.Device.{Ghosts}
 use Rattle.vol_log.specs.Log.{device_of}
-use Rattle.vol_log.proofs.Moments.{leaves_then}
 use Rattle.vol_tree.specs.declared.errno.Errno.{Errno}
 use Rattle.vol_tree.specs.declared.errno.Errno.TheVariants as errno
 use Rattle.vol_tree.specs.Opened.{is_io}
 use Rattle.vol_tree.specs.declared.parts.Parts.{Parts}
 use Rattle.vol_tree.specs.Tree.{Tree}
-use Rattle.vol_tree.specs.Opened.{ReflectsOr, Answers}
+use Rattle.vol_tree.specs.Opened.{Answers, LeavesAlone}
 use Rattle.vol_tree.specs.internal.Changes.{Changes}
 use Rattle.vol_tree.specs.Parts.{opened}
 use Rattle.vol_tree.specs.internal.Commits.{Commits}
 use Rattle.vol_tree.specs.internal.Removals.{Fails}
-use Rattle.vol_tree.proofs.Committing.{reflects_then}
-use Rattle.vol_tree.proofs.Changing.{refused}
+use Rattle.vol_tree.proofs.Committing.{crash_on}
+use Rattle.vol_tree.proofs.Changing.{IsQuiet, quiet_then, refused}
 
 pub err_is : {T E : Type 0} (r : Result T E) → IsErr r → is_err r ≡ true
 err_is (Ok x) h = absurd (false≢true h)
@@ -27,11 +26,7 @@ pub commits_fail : {D : Type 0} {g : Ghosts D} (a b c : Parts D g) → Commits a
 commits_fail {D} {g} a b c first second = record {
   is_open = second.is_open;
   tree = λ h. second.tree (first.kept.honest.0 h) ∙ first.tree h;
-  crash = λ h.
-      let da = g.disk (device_of a.log) in
-      let db = g.disk (device_of b.log) in
-      let on = subst (λ T. Leaves db (g.disk (device_of c.log)) (ReflectsOr db T)) (first.tree h) (second.crash (first.kept.honest.0 h)) in
-      leaves_then da db (g.disk (device_of c.log)) _ _ _ (first.crash h) on (λ m p. p) (λ m p. reflects_then da db (opened a).tree m (first.crash h).now p);
+  crash = λ h. crash_on (g.disk (device_of a.log)) (g.disk (device_of b.log)) (g.disk (device_of c.log)) b.numbers a.numbers (opened b).tree (opened a).tree first.kept.numbers (first.tree h) (first.crash h) (second.crash (first.kept.honest.0 h));
   kept = record {
     numbers = second.kept.numbers ∙ first.kept.numbers;
     failed = second.kept.failed;
@@ -71,26 +66,28 @@ passed_err (Ok x) why P p io = absurd p
 passed_err (Err e) why P p io = p ∙ io
 
 -- a call that passes on why another one was refused
-pub refused_by : {D : Type 0} {g : Ghosts D} {X : Type 0} (Y : Type 0) (meant : Result (Tree × X) Errno) (old new : Parts D g) (r : Result X Errno) (why : Errno) → IsErrAnd r (λ e. e ≡ why) → Commits old new (is_io {X = Y} (Err why))
+pub refused_by : {D : Type 0} {g : Ghosts D} {X : Type 0} (Y : Type 0) (meant : Result (Tree × X) Errno) (old new : Parts D g) (r : Result X Errno) (why : Errno) → IsErrAnd r (λ e. e ≡ why) → Commits old new (is_io {X = Y} (Err why)) → IsQuiet old new
     → (g.honest (device_of old.log) → (meant ≡ Err why) ⊎ (why ≡ errno.Io)) → Changes meant old new r
-refused_by Y meant old new (Ok x) why p c because = absurd p
-refused_by {X = X} Y meant old new (Err e) why p c because =
-    refused meant old new e (subst (λ (io : Bool). Commits old new io) (same_io Y X why ∙ ap (λ (x : Errno). is_io {X = X} (Err x)) (sym p)) c)
+refused_by Y meant old new (Ok x) why p c quiet because = absurd p
+refused_by {X = X} Y meant old new (Err e) why p c quiet because =
+    refused meant old new e (subst (λ (io : Bool). Commits old new io) (same_io Y X why ∙ ap (λ (x : Errno). is_io {X = X} (Err x)) (sym p)) c) quiet
     (λ h. ⊎_elim (λ is. inl (is ∙ ap (λ (x : Errno). Err x) (sym p))) (λ io. inr (p ∙ io)) (because h))
 
--- a call that changes what a commit, or none, left
-pub changes_after : {D : Type 0} {g : Ghosts D} {X : Type 0} (meant other : Result (Tree × X) Errno) (a b c : Parts D g) (r : Result X Errno) → Commits a b false → Changes other b c r
+left_alone : {D : Type 0} {g : Ghosts D} {X : Type 0} (a b c : Parts D g) (r : Result X Errno) → (g.honest (device_of a.log) → g.honest (device_of b.log)) → IsQuiet a b
+    → (g.honest (device_of b.log) → LeavesAlone (g.disk (device_of b.log)) (g.disk (device_of c.log)) r) → g.honest (device_of a.log) → LeavesAlone (g.disk (device_of a.log)) (g.disk (device_of c.log)) r
+left_alone a b c (Ok x) on first second h = tt
+left_alone a b c (Err e) on first second h = λ other. quiet_then a b c on first (λ h1. second h1 other) h
+
+-- a call that changes what reads left
+pub changes_after : {D : Type 0} {g : Ghosts D} {X : Type 0} (meant other : Result (Tree × X) Errno) (a b c : Parts D g) (r : Result X Errno) → Commits a b false → IsQuiet a b → Changes other b c r
     → (g.honest (device_of a.log) → other ≡ meant) → Changes meant a c r
-changes_after {D} {g} {X} meant other a b c r first second same = record {
+changes_after {D} {g} {X} meant other a b c r first quiet second same = record {
   is_open = second.is_open;
   answer = λ h.
       let told = subst (λ (T : Tree). Answers other T (opened c).tree r) (first.tree h) (second.answer (first.kept.honest.0 h)) in
       subst (λ (m : Result (Tree × X) Errno). Answers m (opened a).tree (opened c).tree r) (same h) told;
-  crash = λ h.
-      let da = g.disk (device_of a.log) in
-      let db = g.disk (device_of b.log) in
-      let on = subst (λ T. Leaves db (g.disk (device_of c.log)) (ReflectsOr db T)) (first.tree h) (second.crash (first.kept.honest.0 h)) in
-      leaves_then da db (g.disk (device_of c.log)) _ _ _ (first.crash h) on (λ m p. p) (λ m p. reflects_then da db (opened a).tree m (first.crash h).now p);
+  crash = λ h. crash_on (g.disk (device_of a.log)) (g.disk (device_of b.log)) (g.disk (device_of c.log)) b.numbers a.numbers (opened b).tree (opened a).tree first.kept.numbers (first.tree h) (first.crash h) (second.crash (first.kept.honest.0 h));
+  refused = left_alone a b c r first.kept.honest.0 quiet second.refused;
   kept = record {
     numbers = second.kept.numbers ∙ first.kept.numbers;
     failed = second.kept.failed;
@@ -107,5 +104,6 @@ done_nothing meant a b x c why = record {
   is_open = c.is_open;
   answer = λ h. why h ∙ ap (λ (U : Tree). Ok (U, x)) (sym (c.tree h));
   crash = c.crash;
+  refused = λ h. tt;
   kept = c.kept;
 }

@@ -1,21 +1,9 @@
 -- Laws over the definitions of a tree only (`docs/VOLUME.md`, "The tree").
-use Rattle.std.specs.Prelude.{◌≡◌, ◌≢◌, ◌<◌, ℕ, suc, ◌∷◌, length, Some, None, Ok, IsSome, IsTrue}
+use Rattle.std.specs.Prelude.{◌≡◌, ◌≢◌, ◌<◌, ℕ, suc, length, Some, None, Ok, IsSome, IsTrue}
 use Rattle.std.specs.Option.{option_map}
 use Rattle.vol_tree.specs.Tree.{Tree, Path, Name, Node, Entry, entry, Leads, IsAt, IsTree, IsDirectory}
 use Rattle.vol_inode.specs.Name.{IsName}
-use Rattle.vol_tree.specs.Calls.{created, moved, is_within}
-
--- After the move of an entry to a name in a directory: what was below it is below it still, by the same names; it
--- stands at the new name; every other entry stands where it stood; and each node is as it was.
-pub record MovesSubtree (T U : Tree) (serial parent : ℕ) (name : Name) : Type 0 where
-  pub subtree : (path : Path) (t : ℕ) → Leads T serial path t → Leads U serial path t
-  pub top : (path : Path) → IsAt T path parent → IsAt U (name ∷ path) serial
-  pub others : (path : Path) (t : ℕ) → IsAt T path t → ((below : Path) → Leads T serial below t → ⊥) → IsAt U path t
-  pub nodes : (t : ℕ) → option_map (λ (e : Entry). e.node) (entry U t) ≡ option_map (λ (e : Entry). e.node) (entry T t)
-
-abbrev pub RenameMovesTheSubtree : Type 0
-RenameMovesTheSubtree = (T : Tree) (serial parent : ℕ) (name : Name) (e : Entry) → IsTree T → entry T serial ≡ Some e
-    → ((below : Path) → Leads T serial below parent → ⊥) → MovesSubtree T (moved T serial parent name) serial parent name
+use Rattle.vol_tree.specs.Calls.{created, is_within}
 
 -- A created entry has the least serial that was not in use, and no other entry is changed.
 pub record CreatesLeast (T U : Tree) (serial : ℕ) (e : Entry) : Type 0 where

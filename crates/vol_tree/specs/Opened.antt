@@ -1,16 +1,17 @@
--- An open volume, as its callers see it and as it keeps itself (`docs/VOLUME.md`, "The tree").
-use Rattle.std.specs.Prelude.{◌≡◌, ◌⊎◌, ◌+◌, ◌-◌, ◌*◌, ◌==◌, ◌≤◌, ◌++◌, ◌↔◌, ℕ, List, length, Bool, true, false, Option, Some, None, Result, Ok, Err, if◌then◌else◌, take, drop, map, slice_index}
+-- An open volume, as its callers see it (`docs/VOLUME.md`, "The tree").
+use Rattle.std.specs.Prelude.{◌≡◌, ◌≢◌, ◌⊎◌, ◌+◌, ◌-◌, ◌*◌, ◌==◌, ◌≤◌, ◌++◌, ◌↔◌, ℕ, List, length, Bool, true, false, Option, Some, None, Result, Ok, Err, if◌then◌else◌, take, drop, map, slice_index}
 use Rattle.std.specs.List.{range_with_len}
 use Rattle.byteorder.specs.Endian.{little_number}
-use Rattle.vol_sector.specs.Disk.{Image, Disk, counted}
+use Rattle.vol_sector.specs.Disk.{Image, Disk, Leaves, counted}
 use Rattle.vol_inode.specs.declared.entry.Entry.{Entry}
 use Rattle.vol_inode.specs.declared.entry.Kind.TheVariants as kinds
+use Rattle.vol_inode.specs.declared.version.Version.TheVariants.{Two}
 use Rattle.vol_tree.specs.declared.superblock.Superblock.{Superblock}
 use Rattle.vol_tree.specs.declared.errno.Errno.{Errno}
 use Rattle.vol_tree.specs.declared.errno.Errno.TheVariants as errno
 use Rattle.vol_tree.specs.Space.{Geometry}
 use Rattle.vol_tree.specs.Tree.{Tree}
-use Rattle.vol_tree.specs.Stands.{Slots, tree_of, Stands}
+use Rattle.vol_tree.specs.Stands.{Slots, tree_of, StandsAs}
 use Rattle.vol_log.specs.declared.layout.TheConstants.{FIRST_AFTER_LOG}
 
 -- ---- the slots that sectors spell (`docs/VOLUME.md`, "Entry")
@@ -56,17 +57,25 @@ pub record IsSerial (numbers : Superblock) (serial : ℕ) : Type 0 where
   pub first : 1 ≤ serial
   pub last : serial ≤ numbers.slots
 
--- some image that a crash could leave stands for the same tree
-pub record Reflects (disk : Disk) (image : Image) : Type 0 where
+-- some image that a crash could leave stands for the same tree, both under the volume's numbers
+pub record Reflects (disk : Disk) (v : Superblock) (image : Image) : Type 0 where
   pub earlier : Image
   pub could : disk.may_leave earlier
   pub tree : Tree
-  pub stood : Stands earlier tree
-  pub stands : Stands image tree
+  pub stood : StandsAs earlier v tree
+  pub stands : StandsAs image v tree
 
--- the image stands for a tree that a crash could leave, or for this one
-abbrev pub ReflectsOr : Disk → Tree → Image → Type 0
-ReflectsOr disk tree image = Reflects disk image ⊎ Stands image tree
+-- the image stands for a tree that a crash could leave, or for this one, under the volume's numbers
+abbrev pub ReflectsOr : Disk → Superblock → Tree → Image → Type 0
+ReflectsOr disk v tree image = Reflects disk v image ⊎ StandsAs image v tree
+
+-- the same numbers, with version 2
+abbrev pub raised : Superblock → Superblock
+raised v = record v { version = Two }
+
+-- in an upgrade the image may also stand for this tree with version 2
+abbrev pub MayUpgrade : Disk → Superblock → Tree → Image → Type 0
+MayUpgrade disk v tree image = ReflectsOr disk v tree image ⊎ StandsAs image (raised v) tree
 
 abbrev pub is_io : {X : Type 0} → Result X Errno → Bool
 is_io (Ok x) = false
@@ -87,6 +96,11 @@ is_io (Err errno.NotCapable) = false
 abbrev pub Answers : {X : Type 0} → Result (Tree × X) Errno → Tree → Tree → Result X Errno → Type 0
 Answers meant old new (Ok x) = meant ≡ Ok (new, x)
 Answers meant old new (Err e) = (new ≡ old) × ((meant ≡ Err e) ⊎ (e ≡ errno.Io))
+
+-- A call that is refused leaves nothing new on the disk, unless the device has failed.
+abbrev pub LeavesAlone : {X : Type 0} → Disk → Disk → Result X Errno → Type 0
+LeavesAlone old new (Ok x) = Unit {0}
+LeavesAlone old new (Err e) = e ≢ errno.Io → Leaves old new (λ c. ⊥)
 
 -- A call that only asks: the definition's answer, or 29.
 abbrev pub Tells : {X : Type 0} → X → Tree → Tree → Result X Errno → Type 0

@@ -1,9 +1,10 @@
 -- What opening says of an image, on a device with this many sectors (`docs/VOLUME.md`, "What opening refuses").
-use Rattle.std.specs.Prelude.{◌⊎◌, ◌≤◌, ◌<◌, ℕ, drop}
+use Rattle.std.specs.Prelude.{◌≡◌, ◌⊎◌, ◌≤◌, ◌<◌, ℕ, drop}
 use Rattle.byteorder.specs.Endian.{little_number}
 use Rattle.vol_sector.specs.Disk.{Image}
 use Rattle.vol_tree.specs.declared.superblock.Superblock.{Superblock}
-use Rattle.vol_tree.specs.Superblock.{IsNoVersion}
+use Rattle.vol_log.specs.Batch.{HasContent}
+use Rattle.vol_tree.specs.Superblock.{superblock, HasRanges, IsNoVersion}
 use Rattle.vol_tree.specs.Tree.{Tree}
 use Rattle.vol_tree.specs.Stands.{StandsAs, IsNoVolume}
 
@@ -11,6 +12,14 @@ use Rattle.vol_tree.specs.Stands.{StandsAs, IsNoVolume}
 pub record StandsOn (size : ℕ) (image : Image) (v : Superblock) (T : Tree) : Type 0 where
   pub stands : StandsAs image v T
   pub room : v.sectors ≤ size
+
+-- The first sector is that of a volume with these numbers, all of whose sectors the device has, and with the log's images
+-- in their places the image has this content.
+pub record HoldsOn (size : ℕ) (image : Image) (v : Superblock) (content : Image) : Type 0 where
+  pub front : image 0 ≡ superblock v
+  pub ranges : HasRanges v
+  pub room : v.sectors ≤ size
+  pub log : HasContent v.sectors image content
 
 -- the number of the version, as the first sector has it
 abbrev pub version_in : Image → ℕ

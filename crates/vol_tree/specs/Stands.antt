@@ -74,10 +74,6 @@ pub record StandsAs (image : Image) (v : Superblock) (T : Tree) : Type 0 where
   pub volume : IsVolume content v slots
   pub is : T ≡ tree_of content slots
 
--- the image stands for this tree
-abbrev pub Stands : Image → Tree → Type 0
-Stands image T = (v : Superblock) × StandsAs image v T
-
 -- the image is no volume: it begins otherwise
 abbrev pub IsNoVolume : Image → Type 0
 IsNoVolume image = take 8 (image 0) ≢ magic

@@ -4,20 +4,23 @@
 ghost use Rattle.std.specs.Prelude.{◌≡◌};
 ghost use Rattle.vol_sector.specs.Disk.{Image};
 ghost use Rattle.vol_tree.specs.Tree.{Tree};
-ghost use Rattle.vol_tree.specs.Stands.{Stands};
-ghost use Rattle.vol_tree.specs.Laws.{RenameMovesTheSubtree, CreatedHasTheLeastSerial};
+ghost use Rattle.vol_tree.specs.declared.superblock.Superblock.{Superblock};
+ghost use Rattle.vol_tree.specs.Stands.{StandsAs};
+ghost use Rattle.vol_tree.specs.Laws.{CreatedHasTheLeastSerial};
 ghost use Rattle.vol_tree.specs.Laws.{PathsDetermineTheTree, CreatedIsTree, WithinIsBelow};
-ghost use Rattle.vol_tree.specs.PathLaws.{CreatedMap, MovedMap, RemovedMap};
+ghost use Rattle.vol_tree.specs.PathLaws.{PathsAreAMap, CreatedMap};
 ghost use Rattle.vol_tree.specs.PathLaws.{WrittenMap, ResizedMap, RenamedMap};
-
-/// A law: renaming an entry moves all that is below it, and nothing else.
-pub fn rename_moves_the_subtree()
-    ensures { RenameMovesTheSubtree }
-{}
+ghost use Rattle.vol_tree.specs.PathLaws.{UnlinkedMap, DirectoryRemovedMap};
 
 /// A law: a created entry has the least serial that was not in use, and nothing else changes.
 pub fn created_has_the_least_serial()
     ensures { CreatedHasTheLeastSerial }
+{}
+
+/// A law: in a tree a path has one serial and one node, a serial has one path, and each proper first
+/// part of a path is a directory's.
+pub fn paths_are_a_map()
+    ensures { PathsAreAMap }
 {}
 
 /// A law: the map from paths to serials and nodes says all of a tree.
@@ -35,26 +38,16 @@ pub fn within_is_below()
     ensures { WithinIsBelow }
 {}
 
-/// A law: an image stands for at most one tree.
+/// A law: an image stands for at most one tree, under one volume's numbers.
 pub fn one_tree()
-    ensures { (image : Image) (T U : Tree) → Stands image T → Stands image U → T ≡ U }
+    ensures { (image : Image) (v w : Superblock) (T U : Tree)
+        → StandsAs image v T → StandsAs image w U → (v ≡ w) × (T ≡ U) }
 {}
 
 /// A law: creating an entry adds the path of its name to the map from paths, and nothing else
 /// changes.
 pub fn created_adds_one_path()
     ensures { CreatedMap }
-{}
-
-/// A law: moving an entry moves the paths that lead to it and below it, and nothing else changes.
-pub fn moved_moves_paths()
-    ensures { MovedMap }
-{}
-
-/// A law: taking away an entry that nothing stands in takes away its path, and nothing else
-/// changes.
-pub fn removed_takes_one_path()
-    ensures { RemovedMap }
 {}
 
 /// A law: writing changes the bytes of one file in the map from paths, and nothing else changes.
@@ -72,4 +65,14 @@ pub fn resized_changes_one_file()
 /// had its new name, and nothing else changes.
 pub fn renamed_moves_paths()
     ensures { RenamedMap }
+{}
+
+/// A law: taking out a file takes away its path, and nothing else changes.
+pub fn unlinked_takes_one_path()
+    ensures { UnlinkedMap }
+{}
+
+/// A law: taking out an empty directory takes away its path, and nothing else changes.
+pub fn removed_directory_takes_one_path()
+    ensures { DirectoryRemovedMap }
 {}

@@ -21,9 +21,10 @@ mod volume;
 
 pub use errno::Errno;
 pub use laws::{
-    created_adds_one_path, created_has_the_least_serial, created_is_a_tree, moved_moves_paths,
-    one_tree, paths_determine_the_tree, removed_takes_one_path, rename_moves_the_subtree,
-    renamed_moves_paths, resized_changes_one_file, within_is_below, written_changes_one_file,
+    created_adds_one_path, created_has_the_least_serial, created_is_a_tree, one_tree,
+    paths_are_a_map, paths_determine_the_tree, removed_directory_takes_one_path,
+    renamed_moves_paths, resized_changes_one_file, unlinked_takes_one_path, within_is_below,
+    written_changes_one_file,
 };
 pub use stat::Stat;
 pub use stats::Stats;

@@ -1,6 +1,7 @@
 //! What renaming does to the parts of an open volume.
 
 ghost use Rattle.std.specs.Prelude.{◌≡◌, ◌≢◌, ◌≤◌, IsSome, IfOk, MatchResult, Some, Ok, false, length};
+ghost use Rattle.vol_sector.specs.Disk.{Leaves};
 ghost use Rattle.vol_inode.specs.Entry.{IsEntry, name_of};
 ghost use Rattle.vol_inode.specs.Name.{IsName};
 ghost use Rattle.vol_inode.specs.declared.version.Version.{Version};
@@ -110,6 +111,8 @@ impl<D: Device> Parts<D> {
         requires used { D.honest (device_of self.old.log)
             → IsDirectory (opened self.old).tree directory }
         ensures commits { Commits self.old self.new (is_io result) }
+        ensures quiet { D.honest (device_of self.old.log)
+            → Leaves (D.disk (device_of self.old.log)) (D.disk (device_of self.new.log)) (λ c. ⊥) }
         ensures answer { D.honest (device_of self.old.log) → MatchResult result
             (λ within. within ≡ is_within (length (opened self.old).tree) (opened self.old).tree
             serial directory) (λ e. e ≡ Errno.Io) }
@@ -135,6 +138,8 @@ impl<D: Device> Parts<D> {
         requires first { 1 ≤ serial }
         requires last { serial ≤ self.old.numbers.slots }
         ensures commits { Commits self.old self.new (is_io result) }
+        ensures quiet { D.honest (device_of self.old.log)
+            → Leaves (D.disk (device_of self.old.log)) (D.disk (device_of self.new.log)) (λ c. ⊥) }
         ensures range { IfOk result (λ p. (1 ≤ p) × (p ≤ self.old.numbers.slots)) }
         ensures answer { D.honest (device_of self.old.log) → serial ≢ 1
             → IsSome (entry (opened self.old).tree serial)

@@ -1,6 +1,6 @@
 //! An open volume.
 
-ghost use Rattle.std.specs.Prelude.{◌≡◌, ◌≤◌, ◌<◌, ◌⊎◌, ◌↔◌, ⊤, [], Ok, Err, OnOk, OnErr, IfOk, IfErr, IfSome, IsSome, IsTrue, is_err, false, true, length};
+ghost use Rattle.std.specs.Prelude.{◌≡◌, ◌≤◌, ◌<◌, ◌⊎◌, ◌↔◌, ⊤, [], Ok, Err, OnOk, OnErr, IfOk, IfErr, MatchResult, IfSome, IsSome, IsTrue, is_err, false, true, length};
 ghost use Rattle.std.specs.Option.{MatchOption};
 ghost use Rattle.vol_sector.specs.Disk.{Image, Leaves, counted};
 ghost use Rattle.vol_tree.specs.Tree.{File, Directory, IsTree, IsDirectory, entry, lookup};
@@ -8,13 +8,15 @@ ghost use Rattle.vol_tree.specs.Stat.{TellsStat};
 ghost use Rattle.vol_tree.specs.Stats.{IsStats};
 ghost use Rattle.vol_tree.specs.Calls.{created, written, resized, read_bytes, is_file_at, with_unit};
 ghost use Rattle.vol_tree.specs.Calls.{unlinked, directory_removed, renamed, next_child};
-ghost use Rattle.vol_tree.specs.Stands.{Stands, StandsAs};
+ghost use Rattle.vol_tree.specs.Stands.{StandsAs};
 ghost use Rattle.vol_tree.specs.Superblock.{HasRanges};
-ghost use Rattle.vol_tree.specs.Opening.{StandsOn, NoVolumeOn, HasNoVersion, IsDamaged};
+ghost use Rattle.vol_tree.specs.Opening.{StandsOn, HoldsOn, NoVolumeOn, HasNoVersion, IsDamaged};
 ghost use Rattle.vol_tree.specs.declared.superblock.Superblock.{Superblock};
 ghost use Rattle.vol_sector.specs.Fault.{is_device};
 ghost use Rattle.vol_tree.specs.Tree.{Tree};
-ghost use Rattle.vol_tree.specs.Opened.{Answers, Tells, TellsBytes, Keeps, ReflectsOr, IsSerial, geometry, is_io};
+ghost use Rattle.vol_tree.specs.Opened.{Answers, Tells, TellsBytes, Keeps, ReflectsOr, MayUpgrade};
+ghost use Rattle.vol_tree.specs.Opened.{LeavesAlone, IsSerial};
+ghost use Rattle.vol_tree.specs.Opened.{geometry, is_io, raised};
 ghost use Rattle.vol_inode.specs.Name.{IsName};
 ghost use Rattle.vol_inode.specs.declared.version.Version.TheVariants.{One, Two};
 
@@ -57,8 +59,8 @@ impl<D: Device> Volume<D> {
     /// It is refused, in this order, as `NotAVolume` where the device has fewer than 137 sectors or
     /// begins otherwise, as `Version` where the version is none that is known, and as `Damaged`
     /// where another rule of the format is broken or the device has fewer sectors than the volume.
-    /// Anywhere it is refused as `Device` where an operation failed, and as `Memory`. Before what
-    /// the log holds is installed nothing is written; where its header is wrong, nothing is.
+    /// Anywhere it is refused as `Device` where an operation failed, and as `Memory`. Where the first
+    /// sector or the log's header is wrong nothing is written, else only what the log holds.
     ///
     /// It may be stopped and begun again any number of times. It takes the memory for all later
     /// calls.
@@ -82,6 +84,12 @@ impl<D: Device> Volume<D> {
         ensures faults_named { IfErr result (λ r. (r.fault ≡ VolumeFault.NotAVolume)
             ⊎ ((r.fault ≡ VolumeFault.Version) ⊎ ((r.fault ≡ VolumeFault.Damaged)
             ⊎ ((r.fault ≡ VolumeFault.Device) ⊎ (r.fault ≡ VolumeFault.Memory))))) }
+        // So where what reads give stands for a tree, it is opened with that tree, or the device or
+        // the memory fails.
+        ensures finds { (v : Superblock) (T : Tree) → D.honest device
+            → StandsOn (D.size device) (D.disk device).seen v T → MatchResult result
+            (λ o. (o.numbers ≡ v) × (o.tree ≡ T))
+            (λ r. (r.fault ≡ VolumeFault.Device) ⊎ (r.fault ≡ VolumeFault.Memory)) }
         // At Ok each crash leaves the tree.
         ensures durable { D.honest device → IfOk result (λ v. (c : Image)
             → (D.disk v.device).may_leave c → StandsAs c v.numbers v.tree) }
@@ -98,10 +106,16 @@ impl<D: Device> Volume<D> {
         ensures kept_tree { (v : Superblock) (T : Tree) → D.honest device
             → StandsOn (D.size device) (D.disk device).seen v T
             → IfErr result (λ r. StandsOn (D.size r.device) (D.disk r.device).seen v T) }
-        // What is no volume of a known version isn't written to.
-        ensures unwritten { D.honest device → IfErr result
-            (λ r. (r.fault ≡ VolumeFault.NotAVolume) ⊎ (r.fault ≡ VolumeFault.Version)
-            → Leaves (D.disk device) (D.disk r.device) (λ c. ⊥)) }
+        // Where the first sector or the log's header is wrong, nothing is written.
+        ensures unwritten { D.honest device
+            → ((v : Superblock) (m : Image)
+            → HoldsOn (D.size device) (D.disk device).seen v m → ⊥)
+            → IfErr result (λ r. Leaves (D.disk device) (D.disk r.device) (λ c. ⊥)) }
+        // Else a refusal leaves the first sector and the content as reads gave them.
+        ensures installs { (v : Superblock) (m : Image) → D.honest device
+            → HoldsOn (D.size device) (D.disk device).seen v m
+            → IfErr result (λ r. HoldsOn (D.size device) (D.disk r.device).seen v m
+            × Leaves (D.disk device) (D.disk r.device) (λ c. HoldsOn (D.size device) c v m)) }
         ensures kept_ok { IfOk result (λ v. (D.honest device ↔ D.honest v.device)
             × (D.size v.device ≡ D.size device) × (D.failures v.device ≡ D.failures device)) }
         // It is refused as `Device` only where an operation failed.
@@ -135,11 +149,13 @@ impl<D: Device> Volume<D> {
     }
 
     /// A law: on a device that keeps its model, what an open volume shows is a tree with a place for
-    /// each slot. On any device its numbers are those that a volume may have.
+    /// each slot. On any device its numbers are those that a volume may have, and the device has all
+    /// its sectors.
     pub fn is_a_tree(&self)
         ensures tree { D.honest self.now.device → IsTree self.now.tree }
         ensures count { length self.now.tree ≡ self.now.numbers.slots }
         ensures ranges { HasRanges self.now.numbers }
+        ensures room { self.now.numbers.sectors ≤ D.size self.now.device }
     {
         let _parts = &self.parts; // says what an open volume keeps of them
     }
@@ -237,7 +253,9 @@ impl<D: Device> Volume<D> {
             self.new.tree result }
         ensures crash { D.honest self.old.device
             → Leaves (D.disk self.old.device) (D.disk self.new.device)
-            (ReflectsOr (D.disk self.old.device) self.old.tree) }
+            (ReflectsOr (D.disk self.old.device) self.old.numbers self.old.tree) }
+        ensures refused { D.honest self.old.device
+            → LeavesAlone (D.disk self.old.device) (D.disk self.new.device) result }
         ensures range { IfOk result (IsSerial self.old.numbers) }
         ensures kept { Keeps D.honest D.size D.failures self.old self.new (is_io result) }
     {
@@ -254,7 +272,9 @@ impl<D: Device> Volume<D> {
             self.new.tree result }
         ensures crash { D.honest self.old.device
             → Leaves (D.disk self.old.device) (D.disk self.new.device)
-            (ReflectsOr (D.disk self.old.device) self.old.tree) }
+            (ReflectsOr (D.disk self.old.device) self.old.numbers self.old.tree) }
+        ensures refused { D.honest self.old.device
+            → LeavesAlone (D.disk self.old.device) (D.disk self.new.device) result }
         ensures range { IfOk result (IsSerial self.old.numbers) }
         ensures kept { Keeps D.honest D.size D.failures self.old self.new (is_io result) }
     {
@@ -273,7 +293,9 @@ impl<D: Device> Volume<D> {
             bytes.now)) self.old.tree self.new.tree result }
         ensures crash { D.honest self.old.device
             → Leaves (D.disk self.old.device) (D.disk self.new.device)
-            (ReflectsOr (D.disk self.old.device) self.old.tree) }
+            (ReflectsOr (D.disk self.old.device) self.old.numbers self.old.tree) }
+        ensures refused { D.honest self.old.device
+            → LeavesAlone (D.disk self.old.device) (D.disk self.new.device) result }
         ensures kept { Keeps D.honest D.size D.failures self.old self.new (is_io result) }
     {
         self.write_from(file, offset, &Source::of(bytes))
@@ -291,7 +313,9 @@ impl<D: Device> Volume<D> {
             bytes.now)) self.old.tree self.new.tree result }
         ensures crash { D.honest self.old.device
             → Leaves (D.disk self.old.device) (D.disk self.new.device)
-            (ReflectsOr (D.disk self.old.device) self.old.tree) }
+            (ReflectsOr (D.disk self.old.device) self.old.numbers self.old.tree) }
+        ensures refused { D.honest self.old.device
+            → LeavesAlone (D.disk self.old.device) (D.disk self.new.device) result }
         ensures kept { Keeps D.honest D.size D.failures self.old self.new (is_io result) }
     {
         if self.parts.log.failed() {
@@ -313,7 +337,9 @@ impl<D: Device> Volume<D> {
             self.old.tree self.new.tree result }
         ensures crash { D.honest self.old.device
             → Leaves (D.disk self.old.device) (D.disk self.new.device)
-            (ReflectsOr (D.disk self.old.device) self.old.tree) }
+            (ReflectsOr (D.disk self.old.device) self.old.numbers self.old.tree) }
+        ensures refused { D.honest self.old.device
+            → LeavesAlone (D.disk self.old.device) (D.disk self.new.device) result }
         ensures kept { Keeps D.honest D.size D.failures self.old self.new (is_io result) }
     {
         self.parts.set_size(file, size)
@@ -347,7 +373,7 @@ impl<D: Device> Volume<D> {
             self.new.tree result }
         ensures crash { D.honest self.old.device
             → Leaves (D.disk self.old.device) (D.disk self.new.device)
-            (ReflectsOr (D.disk self.old.device) self.old.tree) }
+            (ReflectsOr (D.disk self.old.device) self.old.numbers self.old.tree) }
         ensures kept { Keeps D.honest D.size D.failures self.old self.new (is_io result) }
     {
         self.parts.unlink(file)
@@ -363,7 +389,9 @@ impl<D: Device> Volume<D> {
             self.new.tree result }
         ensures crash { D.honest self.old.device
             → Leaves (D.disk self.old.device) (D.disk self.new.device)
-            (ReflectsOr (D.disk self.old.device) self.old.tree) }
+            (ReflectsOr (D.disk self.old.device) self.old.numbers self.old.tree) }
+        ensures refused { D.honest self.old.device
+            → LeavesAlone (D.disk self.old.device) (D.disk self.new.device) result }
         ensures kept { Keeps D.honest D.size D.failures self.old self.new (is_io result) }
     {
         self.parts.rmdir(directory)
@@ -385,7 +413,9 @@ impl<D: Device> Volume<D> {
             self.new.tree result }
         ensures crash { D.honest self.old.device
             → Leaves (D.disk self.old.device) (D.disk self.new.device)
-            (ReflectsOr (D.disk self.old.device) self.old.tree) }
+            (ReflectsOr (D.disk self.old.device) self.old.numbers self.old.tree) }
+        ensures refused { D.honest self.old.device
+            → LeavesAlone (D.disk self.old.device) (D.disk self.new.device) result }
         ensures kept { Keeps D.honest D.size D.failures self.old self.new (is_io result) }
     {
         self.parts.rename(serial, parent, name)
@@ -397,9 +427,10 @@ impl<D: Device> Volume<D> {
             → Answers (with_unit (Ok self.old.tree)) self.old.tree self.new.tree result }
         ensures crash { D.honest self.old.device
             → Leaves (D.disk self.old.device) (D.disk self.new.device)
-            (ReflectsOr (D.disk self.old.device) self.old.tree) }
+            (ReflectsOr (D.disk self.old.device) self.old.numbers self.old.tree) }
         ensures durable { D.honest self.old.device → OnOk result ((c : Image)
-            → (D.disk self.new.device).may_leave c → Stands c self.new.tree) }
+            → (D.disk self.new.device).may_leave c
+            → StandsAs c self.new.numbers self.new.tree) }
         ensures kept { Keeps D.honest D.size D.failures self.old self.new (is_io result) }
     {
         Ok(self.parts.commit()?)
@@ -414,12 +445,12 @@ impl<D: Device> Volume<D> {
             → (self.new ≡ self.old) × (result ≡ Err VolumeFault.Upgraded) }
         ensures refused { self.old.numbers.version ≡ One
             → IfErr result (λ fault. fault ≡ VolumeFault.Device) }
-        ensures numbers { OnOk result (self.new.numbers ≡ record self.old.numbers { version = Two }) }
+        ensures numbers { OnOk result (self.new.numbers ≡ raised self.old.numbers) }
         ensures unchanged { OnErr result (self.new.numbers ≡ self.old.numbers) }
         ensures tree { D.honest self.old.device → self.new.tree ≡ self.old.tree }
         ensures crash { D.honest self.old.device
             → Leaves (D.disk self.old.device) (D.disk self.new.device)
-            (ReflectsOr (D.disk self.old.device) self.old.tree) }
+            (MayUpgrade (D.disk self.old.device) self.old.numbers self.old.tree) }
         // At Ok each crash leaves the tree in a volume of version 2.
         ensures durable { D.honest self.old.device → OnOk result ((c : Image)
             → (D.disk self.new.device).may_leave c

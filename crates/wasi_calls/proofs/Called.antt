@@ -34,7 +34,7 @@ module _ {D R W1 W2 : Type 0} (honest : D → Type 0) (disk : D → Disk) (secto
     (remaining : R → Option (List ℕ)) (out_contents : W1 → Option (List ℕ)) (err_contents : W2 → Option (List ℕ)) where
   pub called : (c : HostCall) (old new : Inner D R W1 W2) (m m' : List ℕ) (used : ℕ) (args : List ℕ) (e : Errno) (answer : Answer) → c ≢ call.ProcExit → answer ≡ value e
       → Serves honest disk sectors_on failures remaining out_contents err_contents c used args old m new m' e.0
-      → (honest old.volume.device → IsSynced c e.0 (disk new.volume.device) new.volume.tree)
+      → (honest old.volume.device → IsSynced c e.0 (disk new.volume.device) new.volume.numbers new.volume.tree)
       → HostCalls honest disk sectors_on failures remaining out_contents err_contents (state_of old) m used c args (state_of new) m' answer
   unfolding number_in
   called c old new m m' used args e answer goes_on is serves synced = record {
@@ -48,7 +48,7 @@ module _ {D R W1 W2 : Type 0} (honest : D → Type 0) (disk : D → Disk) (secto
         serves.io (same ∙ is29);
     synced = λ h other told.
         let same : e.0 ≡ other.0 = ap number_in (sym is ∙ told) in
-        subst (λ (n : ℕ). IsSynced c n (disk new.volume.device) new.volume.tree) same (synced h);
+        subst (λ (n : ℕ). IsSynced c n (disk new.volume.device) new.volume.numbers new.volume.tree) same (synced h);
     exits = λ status told. absurd (value_exit e status (sym is ∙ told));
   }
 

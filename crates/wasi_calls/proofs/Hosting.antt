@@ -28,7 +28,7 @@ module _ {D R W1 W2 : Type 0} (honest : D → Type 0) (disk : D → Disk) (secto
 
   -- what a crash may have left since
   pub since : (old new : Opened D) → VolumeStep honest disk sectors_on failures old new → honest old.device
-      → IsTurn (disk old.device) (disk new.device) old.tree new.tree
+      → IsTurn (disk old.device) (disk new.device) old.numbers old.tree new.tree
   since old new step is_honest = let crash = step.crash is_honest in record {
     later = crash.later;
     since = λ t image before left. elim (crash.since t image before left) [
@@ -45,11 +45,12 @@ module _ {D R W1 W2 : Type 0} (honest : D → Type 0) (disk : D → Disk) (secto
 
   pub keep_moments : ((d : D) (t : ℕ) (image : Image) → honest d → t ≤ (disk d).operation_count → (disk d).may_leave image → (disk d).left_since t image)
       → ((d : D) (image : Image) → honest d → (disk d).left_since (disk d).operation_count image → (disk d).may_leave image)
-      → CallsKeepMoments {H = HostState D R W1 W2} (λ h. disk h.volume.device) (λ h. h.volume.tree) (λ h. honest h.volume.device)
+      → CallsKeepMoments {H = HostState D R W1 W2} (λ h. disk h.volume.device) (λ h. h.volume.numbers) (λ h. h.volume.tree) (λ h. honest h.volume.device)
       (HostCalls honest disk sectors_on failures remaining out_contents err_contents)
   keep_moments now only = record {
     turn = λ h h' m m' used x args e a is_honest. since h.volume h'.volume a.volume is_honest;
     synced = λ h h' m m' used x args e a is_honest. a.synced is_honest e refl;
+    same_numbers = λ h h' m m' used x args e a. a.volume.kept.numbers;
     exits = λ h h' m m' used x args status a. a.exits status refl;
     stays_honest = λ h h' m m' used x args e a is_honest. a.volume.kept.honest.0 is_honest;
     counts = λ h is_honest. record { counts_now = λ t image low may. now h.volume.device t image is_honest low may; only_now = λ image left. only h.volume.device image is_honest left };

@@ -1,11 +1,12 @@
 -- Calls that reach the volume: their checks refuse, the volume fails, or the row is done.
 use Rattle.std.proofs.Common.{◌≡◌, ◌≢◌, ◌⊎◌, ℕ, Bool, true, false, cond, not, List, Option, Some, None, Result, Ok, Err, refl, sym, ◌∙◌, ap, subst, inl, inr, arith}
 use Rattle.std.proofs.lemmas.Bool.{false≢true}
-use Rattle.vol_sector.specs.Disk.{Disk, Leaves, counted}
+use Rattle.vol_sector.specs.Disk.{Image, Disk, Leaves, counted}
 use Rattle.vol_tree.specs.declared.errno.Errno.{Errno}
 use Rattle.vol_tree.specs.declared.errno.Errno.TheVariants as errno
 use Rattle.vol_tree.specs.Tree.{Tree, Name, Node, lookup, least_from, is_unused}
-use Rattle.vol_tree.specs.Stands.{Stands}
+use Rattle.vol_tree.specs.Stands.{StandsAs}
+use Rattle.vol_tree.specs.declared.superblock.Superblock.{Superblock}
 use Rattle.std.specs.Option.{option_map_or}
 use Rattle.wasi_calls.specs.internal.Reaching.{StillWorks}
 use Rattle.vol_tree.specs.Numbers.{number_of}
@@ -263,24 +264,26 @@ steps_after honest disk sectors_on failures a b c first second =
       crash = λ h.
           let before = first.crash h in
           let after = second.crash (k.honest.0 h) in
+          let first_numbers = λ (image : Image) (T : Tree) (stands : StandsAs image b.numbers T). subst (λ (v : Superblock). StandsAs image v T) k.numbers stands in
+          let as_at_first = λ (image : Image) (stands : StandsAs image b.numbers b.tree). subst (λ (T : Tree). StandsAs image a.numbers T) (first.tree h) (first_numbers image b.tree stands) in
           record {
             later = omega (arith, before.later, after.later);
             since = λ t image low left. elim (after.since t image (omega (arith, before.later)) left) [
               | inl still ↦ elim (before.since t image low still) [ inl then ↦ inl then | inr never ↦ absurd never ]
-              | inr (inl r) ↦ inr (inl (record { earlier = r.earlier; could = elim (before.now r.earlier r.could) [ inl then ↦ then | inr never ↦ absurd never ]; tree = r.tree; stood = r.stood; stands = r.stands }))
-              | inr (inr stands) ↦ inr (inr (subst (λ (T : Tree). Stands image T) (first.tree h) stands))
+              | inr (inl r) ↦ inr (inl (record { earlier = r.earlier; could = elim (before.now r.earlier r.could) [ inl then ↦ then | inr never ↦ absurd never ]; tree = r.tree; stood = first_numbers r.earlier r.tree r.stood; stands = first_numbers image r.tree r.stands }))
+              | inr (inr stands) ↦ inr (inr (as_at_first image stands))
             ];
             now = λ image left. elim (after.now image left) [
               | inl still ↦ elim (before.now image still) [ inl then ↦ inl then | inr never ↦ absurd never ]
-              | inr (inl r) ↦ inr (inl (record { earlier = r.earlier; could = elim (before.now r.earlier r.could) [ inl then ↦ then | inr never ↦ absurd never ]; tree = r.tree; stood = r.stood; stands = r.stands }))
-              | inr (inr stands) ↦ inr (inr (subst (λ (T : Tree). Stands image T) (first.tree h) stands))
+              | inr (inl r) ↦ inr (inl (record { earlier = r.earlier; could = elim (before.now r.earlier r.could) [ inl then ↦ then | inr never ↦ absurd never ]; tree = r.tree; stood = first_numbers r.earlier r.tree r.stood; stands = first_numbers image r.tree r.stands }))
+              | inr (inr stands) ↦ inr (inr (as_at_first image stands))
             ];
           };
     }
 
 -- one operation of the volume is a step
 pub steps : {D : Type 0} (honest : D → Type 0) (disk : D → Disk) (sectors_on failures : D → ℕ) (a b : Opened D) (io : Bool) → Keeps honest sectors_on failures a b io
-    → (honest a.device → Leaves (disk a.device) (disk b.device) (ReflectsOr (disk a.device) a.tree)) → VolumeStep honest disk sectors_on failures a b
+    → (honest a.device → Leaves (disk a.device) (disk b.device) (ReflectsOr (disk a.device) a.numbers a.tree)) → VolumeStep honest disk sectors_on failures a b
 steps honest disk sectors_on failures a b io k crash = record { kept = subst (Keeps honest sectors_on failures a b) (sym k.failed) k; crash = crash }
 
 -- ---- more calls of a tree never say that the device failed

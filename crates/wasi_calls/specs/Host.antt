@@ -93,10 +93,11 @@ module _ {D R W1 W2 : Type 0} (remaining : R → Option (List ℕ)) (out_content
 
 module _ {D : Type 0} (honest : D → Type 0) (disk : D → Disk) (sectors_on failures : D → ℕ) where
   -- What a call leaves of the volume, on any device: it fails by one operation that failed, and after that nothing is
-  -- done. Each image that a crash may leave since stands for a tree that one could leave before, or for the tree then.
+  -- done. Each image that a crash may leave since stands for a tree that one could leave before, or for the tree then,
+  -- under the volume's numbers.
   pub record VolumeStep (old new : Opened D) : Type 0 where
     pub kept : Keeps honest sectors_on failures old new new.failed
-    pub crash : honest old.device → Leaves (disk old.device) (disk new.device) (ReflectsOr (disk old.device) old.tree)
+    pub crash : honest old.device → Leaves (disk old.device) (disk new.device) (ReflectsOr (disk old.device) old.numbers old.tree)
 
 module _ {D R W1 W2 : Type 0} (honest : D → Type 0) (disk : D → Disk) (sectors_on failures : D → ℕ)
     (remaining : R → Option (List ℕ)) (out_contents : W1 → Option (List ℕ)) (err_contents : W2 → Option (List ℕ)) where
@@ -110,5 +111,5 @@ module _ {D R W1 W2 : Type 0} (honest : D → Type 0) (disk : D → Disk) (secto
     pub volume : VolumeStep honest disk sectors_on failures old.volume new.volume
     pub settings : new.settings ≡ record old.settings { random = new.settings.random }
     pub io : (e : Errno) → answer ≡ value e → e.0 ≡ 29 → HasFailed call new
-    pub synced : honest old.volume.device → (e : Errno) → answer ≡ value e → IsSynced call e.0 (disk new.volume.device) new.volume.tree
+    pub synced : honest old.volume.device → (e : Errno) → answer ≡ value e → IsSynced call e.0 (disk new.volume.device) new.volume.numbers new.volume.tree
     pub exits : (status : ℕ) → answer ≡ exit status → new ≡ old

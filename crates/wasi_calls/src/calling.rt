@@ -32,7 +32,7 @@ impl<'s, 't, D: Device, R: Read, W1: Write, W2: Write> Inner<'s, 't, D, R, W1, W
         requires known { KnowsEntries D.honest self.old.volume (table_of self.old.descriptors) }
         ensures serves { Serves D.honest D.disk D.size D.failures R.remaining W1.contents W2.contents call used arguments.now self.old memory.old self.new memory.new (errno_of result) }
         ensures synced { D.honest self.old.volume.device
-            → IsSynced call (errno_of result) (D.disk self.new.volume.device) self.new.volume.tree }
+            → IsSynced call (errno_of result) (D.disk self.new.volume.device) self.new.volume.numbers self.new.volume.tree }
     {
         match call {
             HostCall::ArgsSizesGet => self.args_sizes_get(memory, arguments),

@@ -5,7 +5,7 @@ ghost use Rattle.vol_sector.specs.Disk.{Image, Leaves};
 ghost use Rattle.vol_tree.specs.Tree.{entry};
 ghost use Rattle.vol_tree.specs.Opened.{Tells, Keeps, is_io};
 ghost use Rattle.wasi_calls.specs.Descriptors.{filestat, entry_stat, fd_filestat_get as stat_row};
-ghost use Rattle.vol_tree.specs.Stands.{Stands};
+ghost use Rattle.vol_tree.specs.Stands.{StandsAs};
 ghost use Rattle.vol_tree.specs.Numbers.{number_of};
 ghost use Rattle.wasi_fd.specs.Table.{table_of};
 ghost use Rattle.wasi_fd.specs.Rights.{bits_of};
@@ -43,7 +43,7 @@ pub(crate) fn sync<D: Device>(
         → w ≡ with_volume volume.old w
         → Answered (λ v. sync_row v fd (bits_of right)) w m (with_volume volume.new w) m (errno_of result) }
     ensures durable { D.honest volume.old.device → errno_of result ≡ 0 → (c : Image)
-        → (D.disk volume.new.device).may_leave c → Stands c volume.new.tree }
+        → (D.disk volume.new.device).may_leave c → StandsAs c volume.new.numbers volume.new.tree }
 {
     if let Err(errno) = entry_at(descriptors, fd, Takes::NoStreams, right) {
         return Err(errno);

@@ -2,7 +2,7 @@
 
 ghost use Rattle.std.specs.Prelude.{◌≡◌};
 ghost use Rattle.vol_sector.specs.Disk.{Image};
-ghost use Rattle.vol_tree.specs.Stands.{Stands};
+ghost use Rattle.vol_tree.specs.Stands.{StandsAs};
 ghost use Rattle.wasi_fd.specs.Table.{table_of};
 ghost use Rattle.wasm_store.specs.declared.call.HostCall.TheVariants as call;
 
@@ -22,7 +22,7 @@ impl<'s, 't, D: Device, R: Read, W1: Write, W2: Write> Inner<'s, 't, D, R, W1, W
         requires { IsSetUp R.remaining self.old }
         ensures serves { (m : _) (used : _) → Serves D.honest D.disk D.size D.failures R.remaining W1.contents W2.contents call.FdSync used arguments.now self.old m self.new m (errno_of result) }
         ensures durable { D.honest self.old.volume.device → errno_of result ≡ 0 → (c : Image)
-            → (D.disk self.new.volume.device).may_leave c → Stands c self.new.volume.tree }
+            → (D.disk self.new.volume.device).may_leave c → StandsAs c self.new.volume.numbers self.new.volume.tree }
     {
         let fd = word(arguments, 0);
         files::sync(&mut self.volume, &self.descriptors, fd, Rights::FD_SYNC)
@@ -33,7 +33,7 @@ impl<'s, 't, D: Device, R: Read, W1: Write, W2: Write> Inner<'s, 't, D, R, W1, W
         requires { IsSetUp R.remaining self.old }
         ensures serves { (m : _) (used : _) → Serves D.honest D.disk D.size D.failures R.remaining W1.contents W2.contents call.FdDatasync used arguments.now self.old m self.new m (errno_of result) }
         ensures durable { D.honest self.old.volume.device → errno_of result ≡ 0 → (c : Image)
-            → (D.disk self.new.volume.device).may_leave c → Stands c self.new.volume.tree }
+            → (D.disk self.new.volume.device).may_leave c → StandsAs c self.new.volume.numbers self.new.volume.tree }
     {
         let fd = word(arguments, 0);
         files::sync(&mut self.volume, &self.descriptors, fd, Rights::FD_DATASYNC)

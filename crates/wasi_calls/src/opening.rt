@@ -346,7 +346,7 @@ fn settle<D: Device>(volume: &mut Volume<D>, target: &Target<'_>) -> Result<u32,
     ensures answer { D.honest volume.old.device
         → TreeAnswers (made (geometry volume.old.numbers) volume.old.tree target.now) volume.old.tree volume.new.tree result }
     ensures crash { D.honest volume.old.device
-        → Leaves (D.disk volume.old.device) (D.disk volume.new.device) (ReflectsOr (D.disk volume.old.device) volume.old.tree) }
+        → Leaves (D.disk volume.old.device) (D.disk volume.new.device) (ReflectsOr (D.disk volume.old.device) volume.old.numbers volume.old.tree) }
     ensures range { IfOk result (IsSerial volume.old.numbers) }
     ensures kept { Keeps D.honest D.size D.failures volume.old volume.new (is_io result) }
 {

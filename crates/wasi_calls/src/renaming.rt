@@ -224,7 +224,7 @@ fn rename_onto<D: Device>(
     ensures answer { D.honest volume.old.device
         → TreeAnswers (with_unit (renamed volume.old.tree source (parent_at volume.old.tree target) (name_at volume.old.tree target))) volume.old.tree volume.new.tree result }
     ensures crash { D.honest volume.old.device
-        → Leaves (D.disk volume.old.device) (D.disk volume.new.device) (ReflectsOr (D.disk volume.old.device) volume.old.tree) }
+        → Leaves (D.disk volume.old.device) (D.disk volume.new.device) (ReflectsOr (D.disk volume.old.device) volume.old.numbers volume.old.tree) }
     ensures kept { Keeps D.honest D.size D.failures volume.old volume.new (is_io result) }
 {
     volume.is_a_tree();

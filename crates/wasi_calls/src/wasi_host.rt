@@ -216,6 +216,8 @@ impl<'s, 't, D: Device, R: Read, W1: Write, W2: Write> VolumeHost
 
     ghost disk = { λ h. D.disk h.volume.device };
 
+    ghost numbers = { λ h. h.volume.numbers };
+
     ghost tree = { λ h. h.volume.tree };
 
     ghost honest = { λ h. D.honest h.volume.device };

@@ -47,7 +47,7 @@ fn put_bytes<D: Device>(
         × ((tree_with (geometry volume.old.numbers) volume.old.tree serial at (take 16384 (gathered memory.now (list_of buffers.now))) ≡ Err e) ⊎ (e ≡ vol_errno.Io))) }
     ensures crash { D.honest volume.old.device
         → Leaves (D.disk volume.old.device) (D.disk volume.new.device)
-        (ReflectsOr (D.disk volume.old.device) volume.old.tree) }
+        (ReflectsOr (D.disk volume.old.device) volume.old.numbers volume.old.tree) }
     ensures kept { Keeps D.honest D.size D.failures volume.old volume.new (is_io result) }
 {
     let len = total_len(buffers).min(MOST_WRITTEN) as u32;

@@ -1,5 +1,5 @@
 -- What an open volume keeps of its parts.
-use Rattle.std.specs.Prelude.{◌≡◌, ◌+◌, ℕ, true, false, Some, None, get_or}
+use Rattle.std.specs.Prelude.{◌≡◌, ◌+◌, ◌≤◌, ℕ, true, false, Some, None, get_or}
 use Rattle.vol_sector.specs.Disk.{Image, Disk}
 use Rattle.vol_sector.specs.declared.device.Device.{Ghosts}
 use Rattle.vol_log.specs.Log.{view, device_of, log_sectors, has_failed}
@@ -38,6 +38,7 @@ pub record IsWorking (disk : Disk) (content : Image) (v : Superblock) (sectors :
 pub record IsOpen {D : Type 0} {g : Ghosts D} (p : Parts D g) : Type 0 where
   pub ranges : HasRanges p.numbers
   pub sectors : log_sectors p.log ≡ p.numbers.sectors
+  pub on_device : p.numbers.sectors ≤ g.size (device_of p.log)
   pub first : first_of p.sectors ≡ FIRST_AFTER_LOG + p.numbers.slots
   pub end : end_of p.sectors ≡ p.numbers.sectors
   pub slots : slots_of p.dirs ≡ p.numbers.slots

@@ -25,7 +25,7 @@ pub record Removes (content : Image) (v : Superblock) (serial : ℕ) (e : Entry)
 pub record Fails {D : Type 0} {g : Ghosts D} (old new : Parts D g) : Type 0 where
   pub is_open : IsOpen new
   pub tree : g.honest (device_of old.log) → (opened new).tree ≡ (opened old).tree
-  pub crash : g.honest (device_of old.log) → Leaves (g.disk (device_of old.log)) (g.disk (device_of new.log)) (ReflectsOr (g.disk (device_of old.log)) (opened old).tree)
+  pub crash : g.honest (device_of old.log) → Leaves (g.disk (device_of old.log)) (g.disk (device_of new.log)) (ReflectsOr (g.disk (device_of old.log)) old.numbers (opened old).tree)
   pub kept : Keeps g.honest g.size g.failures (opened old) (opened new) true
 
 -- The entry is gone, and all others are as they were.

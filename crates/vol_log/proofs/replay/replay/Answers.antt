@@ -24,7 +24,7 @@ returns-in_err-is_right g c =
       content = λ m h has. at_ok r _ failed;
       right = λ h. at_ok r _ failed;
       damaged = λ h is m has. not_damaged r device is;
-      quiet = λ h is. e.crash h;
+      quiet = λ h none. e.crash h;
       crash = λ m h has. leaves_any a b (λ x. HasContent s x m) (e.crash h);
       kept_content = λ m h has. at_err r _ (subst (λ (x : Image). HasContent s x m) (sym (e.seen h)) has);
       honest = e.honest;
@@ -46,7 +46,7 @@ returns-then-not-is_right g c =
       content = λ m h has. tt;
       right = λ h. tt;
       damaged = λ h is m has. true≢false (sym (c.in_ok-is_right.ensures.only has.log h has.header).0 ∙ c.if-not-is_right.true);
-      quiet = λ h is. e.crash h;
+      quiet = λ h none. e.crash h;
       crash = λ m h has. leaves_any a b (λ x. HasContent s x m) (e.crash h);
       kept_content = λ m h has. subst (λ (x : Image). HasContent s x m) (sym (e.seen h)) has;
       honest = e.honest;
@@ -72,7 +72,7 @@ returns-then-is_empty g c =
           ap (λ (l : List Staged). over l b.seen k) (sym none) ∙ content_of s a.seen m b batch (e.seen h) has (e.only has.log h has.header).1 (e.full h yes) k is;
       right = λ h. let logs : Logged s batch b = e.full h yes in has_of s a.seen b.seen batch (e.seen h) logs.header;
       damaged = λ h is m has. ok_not_damaged tt _ refl is;
-      quiet = λ h is. e.crash h;
+      quiet = λ h none. e.crash h;
       crash = λ m h has. leaves_any a b (λ x. HasContent s x m) (e.crash h);
       kept_content = λ m h has. tt;
       honest = e.honest;
@@ -102,7 +102,7 @@ returns-in_err-apply_batch g c =
       content = λ m h has. at_ok r _ failed;
       right = λ h. at_ok r _ failed;
       damaged = λ h is m has. not_damaged r device is;
-      quiet = λ h is. not_damaged r device is;
+      quiet = λ h none. let some = has_of s a.seen b.seen now (e.seen h) (let logs1 : Logged s now b = logs h in logs1.header) in absurd (none some.0 some.1);
       crash = λ m h has.
           leaves_then a b d (λ x. ⊥) (λ x. HasContent s x (over now b.seen)) (λ x. HasContent s x m) (e.crash h) (f.crash s (e.honest.0 h) (logs h))
           (λ x none. absurd none) (λ x p. has_same s x (over now b.seen) m (content m h has) p);
@@ -136,7 +136,7 @@ returns g c =
       content = λ m h has k is. (c.in_ok-apply_batch.ensures.settled s (e.honest.0 h) (logs h)).1 k is ∙ content m h has k is;
       right = λ h. let logs1 : Logged s now b = logs h in has_of s a.seen b.seen now (e.seen h) logs1.header;
       damaged = λ h is m has. ok_not_damaged tt _ refl is;
-      quiet = λ h is. ok_not_damaged tt _ refl is;
+      quiet = λ h none. let some = has_of s a.seen b.seen now (e.seen h) (let logs1 : Logged s now b = logs h in logs1.header) in absurd (none some.0 some.1);
       crash = λ m h has.
           leaves_then a b d (λ x. ⊥) (λ x. HasContent s x (over now b.seen)) (λ x. HasContent s x m) (e.crash h) (f.crash s (e.honest.0 h) (logs h))
           (λ x none. absurd none) (λ x p. has_same s x (over now b.seen) m (content m h has) p);

@@ -9,7 +9,9 @@ returns-in-Ok-replay-clause-content g c m h has k is =
     ap (λ (b : List Staged). over b (g.D.Device.disk c.replay.new.device).seen k) c.in-Ok-replay.ensures.emptied ∙ c.in-Ok-replay.ensures.content m h has k is
 
 pub returns-in-Err-replay-clause-damaged : goal.returns-in-Err-replay-clause-damaged
-returns-in-Err-replay-clause-damaged g c h is = (c.in-Err-replay.ensures.damaged h (ap Err is), c.in-Err-replay.ensures.quiet h (ap Err is))
+returns-in-Err-replay-clause-damaged g c h is =
+    let none = c.in-Err-replay.ensures.damaged h (ap Err is) in
+    (none, c.in-Err-replay.ensures.quiet h none)
 
 pub returns-in-Err-replay-clause-faults_named : goal.returns-in-Err-replay-clause-faults_named
 returns-in-Err-replay-clause-faults_named g c = ⊎_elim (λ is. inl is) (λ is. inr (inl is)) c.in-Err-replay.ensures.named

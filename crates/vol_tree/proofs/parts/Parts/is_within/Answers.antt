@@ -7,6 +7,7 @@ use Rattle.vol_tree.specs.Opened.{tree_in}
 use Rattle.vol_tree.specs.internal.Moves.{IsAbove}
 use Rattle.vol_tree.proofs.Climbing.{within_here, within_root, within_step, above_used}
 use Rattle.vol_tree.proofs.Committing.{no_commit, commits_then}
+use Rattle.vol_tree.proofs.Changing.{nothing_done, quiet_then}
 use Rattle.vol_tree.proofs.Taking.{passed_io, passed_err}
 use Rattle.vol_tree.specs.internal.Commits.{Commits}
 use Rattle.vol_tree.proofs.Entries.{directory_used}
@@ -16,6 +17,7 @@ use Rattle.vol_tree.proofs.parts.Parts.is_within.Goals as goal
 pub loop-step-init : goal.loop-step-init
 loop-step-init g c = record {
   commits = no_commit c.args.self.now false c.requires.is_open c.requires.working;
+  quiet = nothing_done c.args.self.now;
   first = c.requires.first;
   last = c.requires.last;
   used = λ h. directory_used (tree_in (view c.args.self.now.log) c.args.self.now.numbers) c.args.directory (c.requires.used h);
@@ -24,6 +26,9 @@ loop-step-init g c = record {
 
 pub returns-then-at-serial-clause-commits : goal.returns-then-at-serial-clause-commits
 returns-then-at-serial-clause-commits g c = c.loop-step.invariant.commits
+
+pub returns-then-at-serial-clause-quiet : goal.returns-then-at-serial-clause-quiet
+returns-then-at-serial-clause-quiet g c = c.loop-step.invariant.quiet
 
 pub returns-then-at-serial-clause-answer : goal.returns-then-at-serial-clause-answer
 returns-then-at-serial-clause-answer g c h =
@@ -34,6 +39,9 @@ returns-then-at-serial-clause-answer g c h =
 
 pub returns-then-at-eq-ROOT-clause-commits : goal.returns-then-at-eq-ROOT-clause-commits
 returns-then-at-eq-ROOT-clause-commits g c = c.loop-step.invariant.commits
+
+pub returns-then-at-eq-ROOT-clause-quiet : goal.returns-then-at-eq-ROOT-clause-quiet
+returns-then-at-eq-ROOT-clause-quiet g c = c.loop-step.invariant.quiet
 
 pub returns-then-at-eq-ROOT-clause-answer : goal.returns-then-at-eq-ROOT-clause-answer
 returns-then-at-eq-ROOT-clause-answer g c h =
@@ -57,6 +65,9 @@ returns-in_err-at-clause-commits g c =
     let io = passed_io ℕ c.from_residual.result e c.from_residual.ensures.1 in
     subst (λ (b : Bool). Commits c.args.self.now c.above.new.self b) io (commits_then c.args.self.now c.loop-step.self c.above.new.self _ c.loop-step.invariant.commits c.in_err-at.ensures.commits)
 
+pub returns-in_err-at-clause-quiet : goal.returns-in_err-at-clause-quiet
+returns-in_err-at-clause-quiet g c = quiet_then c.args.self.now c.loop-step.self c.above.new.self c.loop-step.invariant.commits.kept.honest.0 c.loop-step.invariant.quiet c.in_err-at.ensures.quiet
+
 pub returns-in_err-at-clause-answer : goal.returns-in_err-at-clause-answer
 returns-in_err-at-clause-answer g c h =
     let start = c.args.self.now in
@@ -79,6 +90,7 @@ loop-step-preserved g c =
     up in
     record {
       commits = commits_then start c.loop-step.self c.above.new.self false was.commits done.commits;
+      quiet = quiet_then start c.loop-step.self c.above.new.self was.commits.kept.honest.0 was.quiet done.quiet;
       first = done.range.0;
       last = omega (arith, done.range.1, same_slots);
       used = λ h. above_used T (c.requires.is_open.content h).volume.tree c.loop-step.at c.in_ok-at.at c.if-at-eq-ROOT.false (above h);
@@ -91,6 +103,9 @@ loop-step-preserved g c =
 
 pub returns-clause-commits : goal.returns-clause-commits
 returns-clause-commits g c = c.loop-step.invariant.commits
+
+pub returns-clause-quiet : goal.returns-clause-quiet
+returns-clause-quiet g c = c.loop-step.invariant.quiet
 
 pub returns-clause-answer : goal.returns-clause-answer
 returns-clause-answer g c h =

@@ -15,7 +15,7 @@ use Rattle.vol_tree.specs.internal.Commits.{Commits}
 use Rattle.vol_tree.specs.internal.Moves.{Moves}
 use Rattle.vol_tree.specs.internal.Replacing.{replacing}
 use Rattle.vol_tree.proofs.Committing.{commits_then, no_commit}
-use Rattle.vol_tree.proofs.Changing.{refused_io, done_open, stages_then}
+use Rattle.vol_tree.proofs.Changing.{quiet_then, refused_io, done_open, stages_then}
 use Rattle.vol_tree.proofs.Climbing.{kind_at, onto_refused, onto_done, target_not_top, moves_after}
 use Rattle.vol_tree.proofs.Filling.{fails_io}
 use Rattle.vol_tree.proofs.Lookups.{looked_up}
@@ -51,7 +51,7 @@ pub returns-in_err-entry : goal.returns-in_err-entry
 returns-in_err-entry g c =
     let old = c.args.self.now in
     let one = c.held_entry.new.self in
-    refused_by Entry _ old one c.from_residual-in_err-entry.result c.in_err-entry.field-0.0 c.from_residual-in_err-entry.ensures.1 c.in_err-entry.ensures.commits (λ h.
+    refused_by Entry _ old one c.from_residual-in_err-entry.result c.in_err-entry.field-0.0 c.from_residual-in_err-entry.ensures.1 c.in_err-entry.ensures.commits c.in_err-entry.ensures.quiet (λ h.
     let m = c.requires.moves h in
     inr (c.in_err-entry.ensures.found h m.not_top m.used))
 
@@ -63,7 +63,7 @@ returns-in_err-gone g c =
     let T = tree_in (view old.log) old.numbers in
     let first = c.in_ok-entry.ensures.commits in
     let e = c.in_err-gone.field-0.0 in
-    refused_by Entry _ old two c.from_residual-in_err-gone.result e c.from_residual-in_err-gone.ensures.1 (commits_then old one two _ first c.in_err-gone.ensures.commits) (λ h.
+    refused_by Entry _ old two c.from_residual-in_err-gone.result e c.from_residual-in_err-gone.ensures.1 (commits_then old one two _ first c.in_err-gone.ensures.commits) (quiet_then old one two first.kept.honest.0 c.in_ok-entry.ensures.quiet c.in_err-gone.ensures.quiet) (λ h.
     let some = c.requires.there h in
     let is_child = looked_up T c.args.parent c.args.target c.args.name.now some in
     let target_other = target_not_top T (c.requires.is_open.content h).volume.tree c.args.parent c.args.target c.args.name.now c.requires.name some in
@@ -84,7 +84,7 @@ returns-in_err-may_replace g c =
     let e = c.in_err-may_replace.field-0.0 in
     let why : replacing k t f ≡ Err e = ap (replacing k t) (sym c.is_some.ensures) ∙ sym c.in_err-may_replace.ensures in
     let io : is_io {X = Unit {0}} (Err e) ≡ false = ap is_io (sym why) ∙ never_io k t f in
-    refused_by (Unit {0}) _ old two c.from_residual-in_err-may_replace.result e c.from_residual-in_err-may_replace.ensures.1 (subst (λ (b : Bool). Commits old two b) (sym io) commits) (λ h.
+    refused_by (Unit {0}) _ old two c.from_residual-in_err-may_replace.result e c.from_residual-in_err-may_replace.ensures.1 (subst (λ (b : Bool). Commits old two b) (sym io) commits) (quiet_then old one two first.kept.honest.0 c.in_ok-entry.ensures.quiet c.in_ok-gone.ensures.quiet) (λ h.
     let content = c.requires.is_open.content h in
     let m = c.requires.moves h in
     let some = c.requires.there h in

@@ -19,7 +19,7 @@ held_entry-requires g c = record { is_open = c.requires.is_open; first = c.requi
 pub returns-in_err-entry : goal.returns-in_err-entry
 returns-in_err-entry g c =
     let old = c.args.self.now in
-    refused_by Entry _ old c.held_entry.new.self c.from_residual.result c.in_err-entry.field-0.0 c.from_residual.ensures.1 c.in_err-entry.ensures.commits (λ h.
+    refused_by Entry _ old c.held_entry.new.self c.from_residual.result c.in_err-entry.field-0.0 c.from_residual.ensures.1 c.in_err-entry.ensures.commits c.in_err-entry.ensures.quiet (λ h.
     let m = c.requires.moves h in
     inr (c.in_err-entry.ensures.found h m.into.not_top m.into.used))
 

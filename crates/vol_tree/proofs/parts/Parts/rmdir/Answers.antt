@@ -12,7 +12,7 @@ use Rattle.vol_tree.specs.Stands.{Slots}
 use Rattle.vol_tree.specs.Opened.{tree_in}
 use Rattle.vol_tree.specs.internal.Slots.{slot_of}
 use Rattle.vol_tree.proofs.Committing.{commits_then, no_commit}
-use Rattle.vol_tree.proofs.Changing.{refused, refused_io, done_open}
+use Rattle.vol_tree.proofs.Changing.{nothing_done, refused, refused_io, done_open}
 use Rattle.vol_tree.proofs.Children.{none_in, some_in, childless_empty, removed_root, removed_full, removed_is}
 use Rattle.vol_tree.proofs.Filling.{fails_io}
 use Rattle.vol_tree.proofs.Taking.{commits_fail, refused_by}
@@ -28,14 +28,14 @@ returns-in_err-child g c =
 pub returns-then-directory-eq-ROOT : goal.returns-then-directory-eq-ROOT
 returns-then-directory-eq-ROOT g c =
     let old = c.args.self.now in
-    refused _ old old errno.Invalid (no_commit old false c.requires.is_open (sym c.in_ok-child.ensures.failed)) (λ h.
+    refused _ old old errno.Invalid (no_commit old false c.requires.is_open (sym c.in_ok-child.ensures.failed)) (nothing_done old) (λ h.
     inl (ap with_unit (removed_root (tree_in (view old.log) old.numbers) c.args.directory c.if-directory-eq-ROOT.true)))
 
 pub returns-then-is_some : goal.returns-then-is_some
 returns-then-is_some g c =
     let old = c.args.self.now in
     let ok : has_failed old.log ≡ false = sym c.in_ok-child.ensures.failed in
-    refused _ old old errno.NotEmpty (no_commit old false c.requires.is_open ok) (λ h.
+    refused _ old old errno.NotEmpty (no_commit old false c.requires.is_open ok) (nothing_done old) (λ h.
     let full = some_in (view old.log) old.numbers old.dirs (c.requires.is_open.content h) (c.requires.is_open.shows h) c.in_ok-child.child c.args.directory c.in_ok-child.ensures.found (sym c.is_some.ensures ∙ c.if-is_some.true) in
     inl (ap with_unit (removed_full (tree_in (view old.log) old.numbers) c.args.directory c.if-directory-eq-ROOT.false full)))
 
@@ -46,7 +46,7 @@ pub returns-in_err-entry : goal.returns-in_err-entry
 returns-in_err-entry g c =
     let old = c.args.self.now in
     let T = tree_in (view old.log) old.numbers in
-    refused_by Entry _ old c.held_entry.new.self c.from_residual-in_err-entry.result c.in_err-entry.field-0.0 c.from_residual-in_err-entry.ensures.1 c.in_err-entry.ensures.commits (λ h.
+    refused_by Entry _ old c.held_entry.new.self c.from_residual-in_err-entry.result c.in_err-entry.field-0.0 c.from_residual-in_err-entry.ensures.1 c.in_err-entry.ensures.commits c.in_err-entry.ensures.quiet (λ h.
     inr (c.in_err-entry.ensures.found h c.if-directory-eq-ROOT.false (directory_used T c.args.directory (c.requires.used h))))
 
 pub make_room-requires : goal.make_room-requires

@@ -27,7 +27,7 @@ pub returns-in_err-entry : goal.returns-in_err-entry
 returns-in_err-entry g c =
     let old = c.args.self.now in
     let T = tree_in (view old.log) old.numbers in
-    refused_by Entry _ old c.held_entry.new.self c.from_residual.result c.in_err-entry.field-0.0 c.from_residual.ensures.1 c.in_err-entry.ensures.commits (λ h.
+    refused_by Entry _ old c.held_entry.new.self c.from_residual.result c.in_err-entry.field-0.0 c.from_residual.ensures.1 c.in_err-entry.ensures.commits c.in_err-entry.ensures.quiet (λ h.
     let used = c.requires.used h in
     inr (c.in_err-entry.ensures.found h (file_not_top T (c.requires.is_open.content h).volume.tree c.args.file used) (file_used T c.args.file used)))
 

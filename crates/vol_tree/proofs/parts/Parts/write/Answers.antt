@@ -31,7 +31,7 @@ entry-requires g c = record { is_open = c.requires.is_open; first = c.requires.f
 pub returns-in_err-entry : goal.returns-in_err-entry
 returns-in_err-entry g c =
     let old = c.args.self.now in
-    refused_by Entry _ old c.entry.new.self c.from_residual.result c.in_err-entry.field-0.0 c.from_residual.ensures.1 c.in_err-entry.ensures.commits (λ h.
+    refused_by Entry _ old c.entry.new.self c.from_residual.result c.in_err-entry.field-0.0 c.from_residual.ensures.1 c.in_err-entry.ensures.commits c.in_err-entry.ensures.quiet (λ h.
     inr (c.in_err-entry.ensures.found h (file_used (tree_in (view old.log) old.numbers) c.args.file (c.requires.used h))))
 
 pub reserved_with-requires : goal.reserved_with-requires
@@ -47,7 +47,7 @@ pub returns-in_default : goal.returns-in_default
 returns-in_default g c =
     let old = c.args.self.now in
     let commits = c.in_ok-entry.ensures.commits in
-    refused _ old c.entry.new.self errno.TooBig commits (λ h.
+    refused _ old c.entry.new.self errno.TooBig commits c.in_ok-entry.ensures.quiet (λ h.
     let file = c.requires.used h in
     let T = tree_in (view old.log) old.numbers in
     let found = c.in_ok-entry.ensures.found h (file_used T c.args.file file) in
@@ -59,7 +59,7 @@ pub returns-in_default-reserved_with : goal.returns-in_default-reserved_with
 returns-in_default-reserved_with g c =
     let old = c.args.self.now in
     let commits = c.in_ok-entry.ensures.commits in
-    refused _ old c.entry.new.self errno.NoSpace commits (λ h.
+    refused _ old c.entry.new.self errno.NoSpace commits c.in_ok-entry.ensures.quiet (λ h.
     let file = c.requires.used h in
     let T = tree_in (view old.log) old.numbers in
     let found = c.in_ok-entry.ensures.found h (file_used T c.args.file file) in

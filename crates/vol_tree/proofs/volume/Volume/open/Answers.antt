@@ -2,14 +2,17 @@ use Rattle.std.proofs.Common.{◌≡◌, ◌↔◌, ◌≤◌, ◌∙◌, ℕ, L
 use Rattle.vol_sector.specs.Disk.{Image, Leaves, counted}
 use Rattle.vol_sector.specs.Fault.{is_device}
 use Rattle.vol_log.specs.Log.{view, device_of}
-use Rattle.vol_log.specs.Batch.{over}
+use Rattle.vol_log.specs.Batch.{over, HasContent}
 use Rattle.vol_log.specs.declared.staged.Staged.{Staged}
 use Rattle.vol_log.proofs.Moments.{leaves_quiet, both_then}
 use Rattle.vol_tree.specs.Stands.{StandsAs}
-use Rattle.vol_tree.specs.Opening.{StandsOn}
+use Rattle.vol_tree.specs.Opening.{StandsOn, HoldsOn, IsDamaged}
 use Rattle.vol_tree.specs.internal.Reads.{HasParts}
-use Rattle.vol_tree.proofs.Openings.{leaves_nothing, crash_over, kept_over, none_over, volume_over, settled_has, log_finds, finds_stands, finds_lasting, finds_working}
-use Rattle.vol_tree.proofs.Fronts.{or_memory_last, not_the_front}
+use Rattle.vol_tree.proofs.Openings.{leaves_nothing, crash_over, kept_over, none_over, volume_over, held_log, held_again, held_over, none_held, settled_has, log_finds, finds_stands, finds_lasting, finds_working}
+use Rattle.vol_tree.proofs.Fronts.{or_memory_last, not_the_front, stands_unrefused}
+use Rattle.vol_tree.proofs.OneTree.{one_volume}
+use Rattle.vol_tree.specs.Opened.{tree_in}
+use Rattle.vol_sector.specs.declared.fault.VolumeFault.TheVariants as faults
 use Rattle.vol_tree.proofs.volume.Volume.open.Goals as goal
 
 -- ---- no volume begins here
@@ -34,7 +37,9 @@ returns-in-Err g c =
       crash_err = λ w T h on. leaves_nothing d0 d1 (λ m. StandsAs m w T) (e.crash h);
       kept_tree = λ w T h on.
           subst (λ (m : Image). StandsOn (g.D.Device.size c.read_front.new.device) m w T) (sym (e.seen h)) (subst (λ (n : ℕ). StandsOn n d0.seen w T) (sym e.size) on);
-      unwritten = λ h front. e.crash h;
+      finds = λ w T h on. stands_unrefused (g.D.Device.size c.args.device) d0.seen w T x on (e.not_a_volume h) (e.version h) (e.damaged h) (or_memory_last x e.refused);
+      unwritten = λ h none. e.crash h;
+      installs = λ w m h holds. (subst (λ (i : Image). HoldsOn (g.D.Device.size c.args.device) i w m) (sym (e.seen h)) holds, leaves_nothing d0 d1 (λ i. HoldsOn (g.D.Device.size c.args.device) i w m) (e.crash h));
       kept_ok = tt;
       kept_err = (e.honest, e.size, e.failures);
     }
@@ -59,20 +64,22 @@ returns-in-Err-open g c =
     let e = c.in-Err-open.ensures in
     let x = c.in-Err-open.refused.fault in
     let named = e.faults_named in
+    let d0 = g.D.Device.disk c.args.device in
+    let d1 = g.D.Device.disk c.read_front.new.device in
+    let size = g.D.Device.size c.args.device in
+    let damaged = λ (h : g.D.Device.honest c.args.device) (is : x ≡ faults.Damaged). (
+    let r : IsDamaged size d0.seen = record {
+      begins = read.begins h;
+      none = λ w T on. none_over d0 d1 size c.in-Ok.numbers w T read.ranges (read.front h) (read.seen h) on (e.damaged (read.honest.0 h) is).0;
+    } in
+    r) in
     record {
       stands = λ h. tt;
       working = tt;
       ranges = tt;
       not_a_volume = λ h is. not_the_front x named (inl is);
       version = λ h is. not_the_front x named (inr is);
-      damaged = λ h is.
-          let d0 = g.D.Device.disk c.args.device in
-          let d1 = g.D.Device.disk c.read_front.new.device in
-          let read = c.in-Ok.ensures in
-          record {
-            begins = read.begins h;
-            none = λ w T on. none_over d0 d1 (g.D.Device.size c.args.device) c.in-Ok.numbers w T read.ranges (read.front h) (read.seen h) on (c.in-Err-open.ensures.damaged (read.honest.0 h) is).0;
-          };
+      damaged = damaged;
       few_sectors = λ few. absurd (omega (arith, few, read.ranges.least, read.room));
       faults_named = inr (inr named);
       durable = λ h. tt;
@@ -91,7 +98,18 @@ returns-in-Err-open g c =
           kept_over d0 d1 (g.D.Device.size c.args.device) c.in-Ok.numbers w T read.ranges (read.front h) (read.seen h) on (g.D.Device.disk after).seen (g.D.Device.size after)
           (c.in-Err-open.ensures.kept_err.1 ∙ read.size)
           (λ m has. c.in-Err-open.ensures.kept_content m (read.honest.0 h) has);
-      unwritten = λ h front. not_the_front x named front;
+      finds = λ w T h on. stands_unrefused size d0.seen w T x on (λ is. not_the_front x named (inl is)) (λ is. not_the_front x named (inr is)) (damaged h) (inr (inr named));
+      unwritten = λ h none.
+          let quiet = e.unwritten (read.honest.0 h) (none_held d0 d1 size c.in-Ok.numbers read.ranges read.room (read.front h) (read.seen h) none) in
+          leaves_quiet d0 d1 (g.D.Device.disk c.in-Err-open.refused.device) (λ m. ⊥) (read.crash h) quiet;
+      installs = λ w m h holds.
+          let v = c.in-Ok.numbers in
+          let h1 = read.honest.0 h in
+          let has : HasContent v.sectors d1.seen m = held_log d0 d1 size v w m read.ranges (read.front h) (read.seen h) holds in
+          let after = g.D.Device.disk c.in-Err-open.refused.device in (
+            held_again d0 d1 size v w m read.ranges (read.front h) (read.seen h) holds after.seen (e.kept_content m h1 has),
+            held_over d0 d1 size v w m read.ranges (read.front h) (read.seen h) holds after (read.crash h) (e.crash_err m h1 has),
+          );
       kept_ok = tt;
       kept_err = (both_then read.honest e.kept_err.0, e.kept_err.1 ∙ read.size, e.kept_err.2 ∙ ap (counted (is_device x)) read.failures);
     }
@@ -106,24 +124,23 @@ returns-in-Err-read_parts g c =
     let x = c.in-Err-read_parts.fault in
     let named = e.refused in
     let before = g.D.Device.failures (device_of c.in-Ok-open.log) in
+    let d0 = g.D.Device.disk c.args.device in
+    let d1 = g.D.Device.disk c.read_front.new.device in
+    let size = g.D.Device.size c.args.device in
+    let damaged = λ (h : g.D.Device.honest c.args.device) (is : x ≡ faults.Damaged). (
+    let h1 = read.honest.0 h in
+    let r : IsDamaged size d0.seen = record {
+      begins = read.begins h;
+      none = λ w T on. e.damaged (installed.kept_ok.0.0 h1) is (volume_over d0 d1 size c.in-Ok.numbers w T read.ranges (read.front h) (read.seen h) on (view c.in-Ok-open.log) (λ m has. installed.content m h1 has));
+    } in
+    r) in
     record {
       stands = λ h. tt;
       working = tt;
       ranges = tt;
       not_a_volume = λ h is. not_the_front x named (inl is);
       version = λ h is. not_the_front x named (inr is);
-      damaged = λ h is.
-          let d0 = g.D.Device.disk c.args.device in
-          let d1 = g.D.Device.disk c.read_front.new.device in
-          let read = c.in-Ok.ensures in
-          let h1 = read.honest.0 h in
-          let installed = c.in-Ok-open.ensures in
-          let h2 = installed.kept_ok.0.0 h1 in
-          record {
-            begins = read.begins h;
-            none = λ w T on. c.in-Err-read_parts.ensures.damaged h2 is
-                (volume_over d0 d1 (g.D.Device.size c.args.device) c.in-Ok.numbers w T read.ranges (read.front h) (read.seen h) on (view c.in-Ok-open.log) (λ m has. installed.content m h1 has));
-          };
+      damaged = damaged;
       few_sectors = λ few. absurd (omega (arith, few, read.ranges.least, read.room));
       faults_named = inr (inr named);
       durable = λ h. tt;
@@ -156,7 +173,26 @@ returns-in-Err-read_parts g c =
           (kept_over d0 d1 (g.D.Device.size c.args.device) v w T read.ranges (read.front h) (read.seen h) on (g.D.Device.disk after).seen (g.D.Device.size after)
           (reads.size ∙ installed.kept_ok.1 ∙ read.size)
           (λ m has. settled_has v.sectors d2 (g.D.Device.disk after).seen content m (installed.settled h1) (reads.seen h2) plain (installed.content m h1 has)));
-      unwritten = λ h front. not_the_front x named front;
+      finds = λ w T h on. stands_unrefused size d0.seen w T x on (λ is. not_the_front x named (inl is)) (λ is. not_the_front x named (inr is)) (damaged h) (inr (inr named));
+      unwritten = λ h none.
+          let some = installed.right (read.honest.0 h) in
+          absurd (none_held d0 d1 size c.in-Ok.numbers read.ranges read.room (read.front h) (read.seen h) none some.0 some.1);
+      installs = λ w m h holds.
+          let v = c.in-Ok.numbers in
+          let h1 = read.honest.0 h in
+          let h2 = installed.kept_ok.0.0 h1 in
+          let d2 = g.D.Device.disk (device_of c.in-Ok-open.log) in
+          let reads = e.reads in
+          let content = view c.in-Ok-open.log in
+          let plain : content ≡ d2.seen = ap (λ (batch : List Staged). over batch d2.seen) installed.fresh.1 in
+          let after = g.D.Device.disk (device_of c.read_parts.new.log) in
+          let has : HasContent v.sectors d1.seen m = held_log d0 d1 size v w m read.ranges (read.front h) (read.seen h) holds in
+          let kept = settled_has v.sectors d2 after.seen content m (installed.settled h1) (reads.seen h2) plain (installed.content m h1 has) in
+          let first = held_over d0 d1 size v w m read.ranges (read.front h) (read.seen h) holds d2 (read.crash h) (installed.crash_ok m h1 has) in
+          subst (λ d. HoldsOn size (g.D.Device.disk d).seen w m × Leaves d0 (g.D.Device.disk d) (λ i. HoldsOn size i w m)) (sym c.into_device.ensures) (
+            held_again d0 d1 size v w m read.ranges (read.front h) (read.seen h) holds after.seen kept,
+            leaves_quiet d0 d2 after (λ i. HoldsOn size i w m) first (reads.crash h2),
+          );
       kept_ok = tt;
       kept_err =
           subst (λ d. (g.D.Device.honest c.args.device ↔ g.D.Device.honest d) × (g.D.Device.size d ≡ g.D.Device.size c.args.device) × (g.D.Device.failures d ≡ counted (is_device x) (g.D.Device.failures c.args.device)))
@@ -175,16 +211,17 @@ returns-in-Ok-read_parts g c =
     let installed = c.in-Ok-open.ensures in
     let done = c.in-Ok-read_parts.ensures in
     let before = g.D.Device.failures (device_of c.in-Ok-open.log) in
+    let size = g.D.Device.size c.args.device in
+    let log = c.read_parts.new.log in
+    let d0 = g.D.Device.disk c.args.device in
+    let stands = λ (h : g.D.Device.honest c.args.device). (
+    let on : StandsOn size d0.seen c.in-Ok.numbers (tree_in (view log) c.in-Ok.numbers) = finds_stands (g.D.Device.size c.args.device) d0 (g.D.Device.disk (device_of log)) (view log) c.in-Ok.numbers
+    (log_finds c.args.device c.read_front.new.device c.in-Ok-open.log log c.in-Ok.numbers c.in-Ok-read_parts.dirs c.in-Ok-read_parts.sectors c.in-Ok-read_parts.reserved h (read.honest.0 h) (installed.kept_ok.0.0 (read.honest.0 h))
+    read.ranges read.room (read.front h) (read.seen h) installed.fresh.1 (λ m has. installed.content m (read.honest.0 h) has) (installed.right (read.honest.0 h)) (installed.settled (read.honest.0 h))
+    c.in-Ok-read_parts.ensures.reads (c.in-Ok-read_parts.ensures.parts (installed.kept_ok.0.0 (read.honest.0 h)))) in
+    on) in
     record {
-      stands = λ h.
-          let d0 = g.D.Device.disk c.args.device in
-          let log = c.read_parts.new.log in
-          let read = c.in-Ok.ensures in
-          let installed = c.in-Ok-open.ensures in
-          finds_stands (g.D.Device.size c.args.device) d0 (g.D.Device.disk (device_of log)) (view log) c.in-Ok.numbers
-          (log_finds c.args.device c.read_front.new.device c.in-Ok-open.log log c.in-Ok.numbers c.in-Ok-read_parts.dirs c.in-Ok-read_parts.sectors c.in-Ok-read_parts.reserved h (read.honest.0 h) (installed.kept_ok.0.0 (read.honest.0 h))
-          read.ranges read.room (read.front h) (read.seen h) installed.fresh.1 (λ m has. installed.content m (read.honest.0 h) has) (installed.right (read.honest.0 h)) (installed.settled (read.honest.0 h))
-          c.in-Ok-read_parts.ensures.reads (c.in-Ok-read_parts.ensures.parts (installed.kept_ok.0.0 (read.honest.0 h))));
+      stands = stands;
       working = done.failed;
       ranges = (read.ranges, read.room);
       not_a_volume = λ h. tt;
@@ -213,7 +250,9 @@ returns-in-Ok-read_parts g c =
           leaves_quiet d0 d2 (g.D.Device.disk (device_of c.read_parts.new.log)) (λ m. StandsAs m w T) first (c.in-Ok-read_parts.ensures.reads.crash h2);
       crash_err = λ w T h on. tt;
       kept_tree = λ w T h on. tt;
-      unwritten = λ h. tt;
+      finds = λ w T h on. one_volume d0.seen c.in-Ok.numbers w (tree_in (view log) c.in-Ok.numbers) T (stands h).stands on.stands;
+      unwritten = λ h none. tt;
+      installs = λ w m h holds. tt;
       kept_ok = (
         both_then (both_then read.honest installed.kept_ok.0) done.reads.honest,
         done.reads.size ∙ installed.kept_ok.1 ∙ read.size,
@@ -235,6 +274,7 @@ invariant_of-result g c =
     record {
       ranges = read.ranges;
       sectors = done.reads.sectors ∙ installed.fresh.2;
+      on_device = omega (arith, done.reads.size, installed.kept_ok.1, read.size, read.room);
       first = done.first;
       end = done.end;
       slots = done.slots;

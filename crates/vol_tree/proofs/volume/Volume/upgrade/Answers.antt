@@ -1,6 +1,6 @@
 use Rattle.std.proofs.Common.{OnOk, subst}
 use Rattle.vol_sector.specs.Disk.{Image, Leaves}
-use Rattle.vol_tree.specs.Opened.{Opened, ReflectsOr}
+use Rattle.vol_tree.specs.Opened.{Opened, MayUpgrade}
 use Rattle.vol_tree.specs.Stands.{StandsAs}
 use Rattle.vol_tree.specs.Parts.{opened}
 use Rattle.vol_tree.proofs.Raising.{upgrade_crash, upgrade_lasts}
@@ -9,7 +9,7 @@ use Rattle.vol_tree.proofs.volume.Volume.upgrade.Goals as goal
 pub returns-clause-crash : goal.returns-clause-crash
 returns-clause-crash g c h =
     let new = c.upgrade.new.self in
-    subst (λ (o : Opened _). g.D.Device.honest o.device → Leaves (g.D.Device.disk o.device) (g.D.Device.disk (opened new).device) (ReflectsOr (g.D.Device.disk o.device) o.tree)) c.self.view_is
+    subst (λ (o : Opened _). g.D.Device.honest o.device → Leaves (g.D.Device.disk o.device) (g.D.Device.disk (opened new).device) (MayUpgrade (g.D.Device.disk o.device) o.numbers o.tree)) c.self.view_is
     (upgrade_crash c.self.inside.parts new c.upgrade.result c.upgrade.ensures.newest c.upgrade.ensures.upgrades) h
 
 pub returns-clause-durable : goal.returns-clause-durable
