@@ -1,6 +1,6 @@
 -- What a crash may leave of a session's volume, one turn at a time: a host's loop goes on from each of them
 -- (`docs/VOLUME.md`, "The device").
-use Rattle.std.specs.Prelude.{ℕ, ◌-◌, Bool, not, false, List, [], ◌∷◌, ◌++◌, length, Option, if◌then◌else◌}
+use Rattle.std.specs.Prelude.{◌≡◌, ℕ, ◌-◌, Bool, not, false, List, [], ◌∷◌, ◌++◌, length, Option, if◌then◌else◌}
 use Rattle.vol_sector.specs.Disk.{Image, Disk}
 use Rattle.vol_tree.specs.Tree.{Tree}
 use Rattle.vol_tree.specs.Opened.{Opened}
@@ -14,22 +14,26 @@ module _ {D R W1 W2 : Type 0} (honest : D → Type 0) (disk : D → Disk) (secto
     (remaining : R → Option (List ℕ)) (out_contents : W1 → Option (List ℕ)) (err_contents : W2 → Option (List ℕ)) where
   -- These are the trees so far, the last of which is the volume's. A crash may leave those from the place `from` on.
   abbrev pub IsSafeVolume : Opened D → List Tree → ℕ → Type 0
-  IsSafeVolume v trees from = IsSafe (λ (v : Opened D). disk v.device) (λ v. v.tree) v trees from
+  IsSafeVolume v trees from = IsSafe (λ (v : Opened D). disk v.device) (λ v. v.numbers) (λ v. v.tree) v trees from
 
-  -- each image that a crash may leave in a turn stands for one of these trees
+  -- each image that a crash may leave in a turn stands for one of these trees, under the volume's numbers
   abbrev pub KeptSince : Opened D → Opened D → List Tree → ℕ → ℕ → Type 0
-  KeptSince old new trees from to = (image : Image) → (disk new.device).left_since (disk old.device).operation_count image → Kept image trees from to
+  KeptSince old new trees from to = (image : Image) → (disk new.device).left_since (disk old.device).operation_count image → Kept image old.numbers trees from to
 
-  -- A turn with one tree more: what a crash in it may leave, and what one may leave then. A sync that was answered leaves
-  -- no tree before it.
+  -- A turn with one tree more: what a crash in it may leave, and what one may leave then, on a device of the same size. A
+  -- sync that was answered leaves no tree before it.
   pub record StaysSafe (old new : Opened D) (synced : Bool) (trees : List Tree) (from : ℕ) : Type 0 where
     pub still_honest : honest new.device
+    pub numbers : new.numbers ≡ old.numbers
+    pub size : sectors_on new.device ≡ sectors_on old.device
     pub during : KeptSince old new (trees ++ new.tree ∷ []) from (length trees)
     pub after : IsSafeVolume new (trees ++ new.tree ∷ []) (if synced then length trees else from)
 
   -- A turn with no tree more.
   pub record RestsSafe (old new : Opened D) (synced : Bool) (trees : List Tree) (from : ℕ) : Type 0 where
     pub still_honest : honest new.device
+    pub numbers : new.numbers ≡ old.numbers
+    pub size : sectors_on new.device ≡ sectors_on old.device
     pub during : KeptSince old new trees from (length trees - 1)
     pub after : IsSafeVolume new trees (if synced then length trees - 1 else from)
 
