@@ -122,6 +122,12 @@ module _ {D R W1 W2 : Type 0} (honest : D → Type 0) (disk : D → Disk) (secto
 
   pub turns_are_safe : TurnsAreSafe honest disk sectors_on failures remaining out_contents err_contents
   turns_are_safe = record {
+    opened = λ v is durable. record {
+      some = omega arith;
+      now = refl;
+      counts = counting v.device is;
+      each = λ image may. record { count = 0; after = omega arith; before = omega arith; there = omega arith; stands = durable image may };
+    };
     begins = λ parts s trees from is shares safe.
         let still = shares.reads.kept.honest.0 is in
         let crash = shares.reads.crash is in

@@ -4,6 +4,7 @@ use Rattle.std.specs.Prelude.{◌≡◌, ℕ, ◌-◌, Bool, not, false, List, [
 use Rattle.vol_sector.specs.Disk.{Image, Disk}
 use Rattle.vol_tree.specs.Tree.{Tree}
 use Rattle.vol_tree.specs.Opened.{Opened}
+use Rattle.vol_tree.specs.Stands.{StandsAs}
 use Rattle.wasm_interp.specs.declared.pause.Pause.{Pause}
 use Rattle.wasi_calls.specs.declared.wasi_host.HostParts.{HostParts}
 use Rattle.wasi_calls.specs.Moments.{Kept, IsSafe}
@@ -37,9 +38,10 @@ module _ {D R W1 W2 : Type 0} (honest : D → Type 0) (disk : D → Disk) (secto
     pub during : KeptSince old new trees from (length trees - 1)
     pub after : IsSafeVolume new trees (if synced then length trees - 1 else from)
 
-  -- Making a session leaves no other tree; a resume may leave the one at its end, and after an answered sync no other; and
+  -- After `Volume::open` a crash leaves its tree alone. Making a session leaves no other tree; a resume may leave the one at its end, and after an answered sync no other; and
   -- finishing leaves no other, and where the volume is handed back that tree alone.
   pub record TurnsAreSafe : Type 0 where
+    pub opened : (v : Opened D) → honest v.device → ((image : Image) → (disk v.device).may_leave image → StandsAs image v.numbers v.tree) → IsSafeVolume v (v.tree ∷ []) 0
     pub begins : (parts : HostParts D R W1 W2) (s : SessionState D R W1 W2) (trees : List Tree) (from : ℕ) → honest parts.volume.device
         → Shares honest disk sectors_on failures parts s → IsSafeVolume parts.volume trees from → RestsSafe parts.volume s.host.volume false trees from
     pub resumes : (s s' : SessionState D R W1 W2) (units : ℕ) (p : Pause) (trees : List Tree) (from : ℕ) → honest s.host.volume.device
