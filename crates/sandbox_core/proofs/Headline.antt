@@ -18,7 +18,7 @@ use Rattle.wasi_calls.specs.declared.settings.Preopen.{Preopen}
 use Rattle.wasi_calls.specs.declared.settings.Settings.{Settings}
 use Rattle.wasi_calls.specs.declared.wasi_host.HostParts.{HostParts}
 use Rattle.wasi_calls.specs.Settings.{settings_fit}
-use Rattle.wasi_calls.specs.Moments.{CountsMoments, Turns, IsSafe, PauseSynced, is_sync}
+use Rattle.wasi_calls.specs.Moments.{CountsMoments, Kept, Turns, IsSafe, PauseSynced, is_sync}
 use Rattle.wasi_calls.specs.Confined.{Begins}
 use Rattle.wasi_calls.proofs.Entries.{no_entries}
 use Rattle.wasi_calls.proofs.Hosting.{are_rows}
@@ -26,7 +26,8 @@ use Rattle.wasi_calls.proofs.Moments.{keeps_all}
 use Rattle.wasi_calls.proofs.Confinement.{confines_host}
 use Rattle.wasi_calls.specs.Making.{found_directory, from_root, directory_named, preopened, preopens_of, table_with}
 use Rattle.vol_tree.specs.Opened.{Opened}
-use Rattle.vol_tree.specs.Stands.{Stands}
+use Rattle.vol_tree.specs.Stands.{StandsAs}
+use Rattle.vol_tree.specs.declared.superblock.Superblock.{Superblock}
 use Rattle.wasm_module.specs.declared.module.Module.{Module}
 use Rattle.wasm_store.specs.declared.call.HostCall.{HostCall}
 use Rattle.wasm_store.specs.declared.call.Errno.{Errno}
@@ -282,6 +283,9 @@ module _ {D R W1 W2 : Type 0} (honest : D → Type 0) (disk : D → Disk) (secto
   abbrev tree_of : Host → Tree
   tree_of h = h.volume.tree
 
+  abbrev numbers_of : Host → Superblock
+  numbers_of h = h.volume.numbers
+
   abbrev honest_of : Host → Type 0
   honest_of h = honest h.volume.device
 
@@ -292,20 +296,24 @@ module _ {D R W1 W2 : Type 0} (honest : D → Type 0) (disk : D → Disk) (secto
   follows [] s s' same = (ap (λ (s : S). s.host) same, ap (λ (s : S). s.machine) same)
   follows (r ∷ rs) s s' ((units, resumes), rest) = (r.1.host, r.1.machine, units, resumes.run, follows rs r.1 s' rest)
 
-  pub synced_by : (p : Pause) (h : Host) → PauseSynced disk_of tree_of honest_of p h → IsTrue (is_synced p) → (image : Image) → (disk_of h).may_leave image → Stands image (tree_of h)
+  pub synced_by : (p : Pause) (h : Host) → PauseSynced disk_of numbers_of tree_of honest_of p h → IsTrue (is_synced p) → (image : Image) → (disk_of h).may_leave image → StandsAs image (numbers_of h) (tree_of h)
   synced_by (Called c e) h told is image may =
       let both = and_parts (is_sync c) (e.0 == 0) is in told both.0 (eqb-true e.0 0 both.1) image may
   synced_by Spent h told is image may = cc
   synced_by (Ended o) h told is image may = cc
+
+  sizes : (rs : History S) (s s' : S) → Follows s rs s' → sectors_on s'.host.volume.device ≡ sectors_on s.host.volume.device
+  sizes [] s s' same = ap (λ (s : S). sectors_on s.host.volume.device) same
+  sizes (r ∷ rs) s s' ((units, resumes), rest) = sizes rs r.1 s' rest ∙ resumes.size
 
   module _ (now : (d : D) (t : ℕ) (image : Image) → honest d → t ≤ (disk d).operation_count → (disk d).may_leave image → (disk d).left_since t image)
       (only : (d : D) (image : Image) → honest d → (disk d).left_since (disk d).operation_count image → (disk d).may_leave image) where
     counts : (d : D) → honest d → CountsMoments (disk d)
     counts d is = record { counts_now = λ t image low may. now d t image is low may; only_now = λ image left. only d image is left }
 
-    turns : (rs : History S) (s s' : S) → Follows s rs s' → honest_of s.host → Turns disk_of tree_of s.host (turns_of s rs)
+    turns : (rs : History S) (s s' : S) → Follows s rs s' → honest_of s.host → Turns disk_of numbers_of tree_of s.host (turns_of s rs)
     turns [] s s' same is = tt
-    turns (r ∷ rs) s s' ((units, resumes), rest) is = (refl, resumes.crash is, synced_by r.0 r.1.host (resumes.synced is), counts r.1.host.volume.device (resumes.honest_after is), turns rs r.1 s' rest (resumes.honest_after is))
+    turns (r ∷ rs) s s' ((units, resumes), rest) is = (refl, resumes.numbers, resumes.crash is, synced_by r.0 r.1.host (resumes.synced is), counts r.1.host.volume.device (resumes.honest_after is), turns rs r.1 s' rest (resumes.honest_after is))
 
     module _ (parts : HostParts D R W1 W2) (s : S) (shares : Shares honest disk sectors_on failures parts s) (is : honest parts.volume.device) where
       still : honest_of s.host
@@ -314,13 +322,13 @@ module _ {D R W1 W2 : Type 0} (honest : D → Type 0) (disk : D → Disk) (secto
       same_tree : s.host.volume.tree ≡ parts.volume.tree
       same_tree = shares.reads.tree is
 
-      safe : (trees : List Tree) (from : ℕ) → IsSafe (λ (v : Opened D). disk v.device) (λ v. v.tree) parts.volume trees from → IsSafe disk_of tree_of s.host trees from
+      safe : (trees : List Tree) (from : ℕ) → IsSafe (λ (v : Opened D). disk v.device) (λ v. v.numbers) (λ v. v.tree) parts.volume trees from → IsSafe disk_of numbers_of tree_of s.host trees from
       safe trees from before = record {
         some = before.some;
         now = before.now ∙ sym same_tree;
         counts = counts s.host.volume.device still;
         each = λ image may. elim ((shares.reads.crash is).now image may) [
-          | inl could ↦ before.each image could
+          | inl could ↦ subst (λ (v : Superblock). Kept image v trees from (length trees - 1)) (sym shares.reads.kept.numbers) (before.each image could)
           | inr never ↦ absurd never
         ];
       }
@@ -342,7 +350,7 @@ module _ {D R W1 W2 : Type 0} (honest : D → Type 0) (disk : D → Disk) (secto
                 omega (arith, place.1, slice_get_within there.directories place.0 (Entry o) place.2, dirs.0, few_preopens parts.settings fits);
           }
 
-      upholds : (m : Module) (trees : List Tree) (from : ℕ) (s' : S) (rs : History S) → Opens m parts s → IsSafe (λ (v : Opened D). disk v.device) (λ v. v.tree) parts.volume trees from
+      upholds : (m : Module) (trees : List Tree) (from : ℕ) (s' : S) (rs : History S) → Opens m parts s → IsSafe (λ (v : Opened D). disk v.device) (λ v. v.numbers) (λ v. v.tree) parts.volume trees from
           → Follows s rs s' → Upholds honest disk sectors_on failures remaining out_contents err_contents m parts.settings.pages trees from s rs s'
       upholds m trees from s' rs opens before follow =
           let first = opens.starts in
@@ -363,7 +371,8 @@ module _ {D R W1 W2 : Type 0} (honest : D → Type 0) (disk : D → Disk) (secto
             moved = over.0;
             moves = over.1;
             over_paths = over.2;
-            kept = keeps_all disk_of tree_of (turns_of s rs) s.host trees from (safe trees from before) (turns rs s s' follow still);
+            kept = keeps_all disk_of numbers_of tree_of (turns_of s rs) s.host trees from (safe trees from before) (turns rs s s' follow still);
+            size = sizes rs s s' follow;
             confined = λ w w' shown shown_after. confines_host Calls Shows honest_of first.instance s.host s'.host w w' (first_configuration first.entered first.store) run.0 (answered (pauses_of rs))
                 (are_rows honest disk sectors_on failures remaining out_contents err_contents) still shown
                 (subst Begins (sym shown.1) (world_begins opens.fits shown.0)) run.2 shown_after;

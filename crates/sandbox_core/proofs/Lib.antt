@@ -2,3 +2,4 @@ pub mod Reaching
 pub mod Headline
 pub mod Safety
 pub mod Following
+pub mod Places

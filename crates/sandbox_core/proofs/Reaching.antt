@@ -3,7 +3,8 @@ use Rattle.std.proofs.Common.{◌≡◌, ◌⊎◌, ℕ, List, [], ◌∷◌, �
 use Rattle.vol_sector.specs.Disk.{Image, Disk, Leaves}
 use Rattle.vol_tree.specs.Tree.{Tree}
 use Rattle.vol_tree.specs.Opened.{Reflects, ReflectsOr}
-use Rattle.vol_tree.specs.Stands.{Stands}
+use Rattle.vol_tree.specs.Stands.{StandsAs}
+use Rattle.vol_tree.specs.declared.superblock.Superblock.{Superblock}
 use Rattle.vol_tree.proofs.OneTree.{one_tree}
 use Rattle.wasm_store.specs.declared.call.HostCall.{HostCall}
 use Rattle.wasm_store.specs.declared.call.Errno.{Errno}
@@ -137,19 +138,19 @@ module _ (H : Type 0) (Calls : CallsOf H) where
 
 -- ---- what a crash may leave
 
-module _ (H : Type 0) (Calls : CallsOf H) (disk : H → Disk) (tree : H → Tree) (honest : H → Type 0) where
+module _ (H : Type 0) (Calls : CallsOf H) (disk : H → Disk) (numbers : H → Superblock) (tree : H → Tree) (honest : H → Type 0) where
   abbrev LeftBy : Instance → H → Configuration → List (HostCall × Errno) → H → Configuration → Image → Type 0
-  LeftBy = Left H Calls disk tree
+  LeftBy = Left H Calls disk numbers tree
 
   -- an image that stands for the tree of another is left like that one
   pub like : (i : Instance) (h h' : H) (c c' : Configuration) (es : List (HostCall × Errno)) (earlier image : Image) (T : Tree)
-      → LeftBy i h c es h' c' earlier → Stands earlier T → Stands image T → LeftBy i h c es h' c' image
+      → LeftBy i h c es h' c' earlier → StandsAs earlier (numbers h) T → StandsAs image (numbers h) T → LeftBy i h c es h' c' image
   like i h h' c c' es earlier image T (inl r) stood stands =
-      let same : T ≡ r.tree = one_tree earlier T r.tree stood r.stands in
-      inl (record { earlier = r.earlier; could = r.could; tree = r.tree; stood = r.stood; stands = subst (λ (U : Tree). Stands image U) same stands })
+      let same : T ≡ r.tree = one_tree earlier (numbers h) T r.tree stood r.stands in
+      inl (record { earlier = r.earlier; could = r.could; tree = r.tree; stood = r.stood; stands = subst (λ (U : Tree). StandsAs image (numbers h) U) same stands })
   like i h h' c c' es earlier image T (inr (host, comes, there)) stood stands =
-      let same : T ≡ tree host = one_tree earlier T (tree host) stood there in
-      inr (host, comes, subst (λ (U : Tree). Stands image U) same stands)
+      let same : T ≡ tree host = one_tree earlier (numbers h) T (tree host) stood there in
+      inr (host, comes, subst (λ (U : Tree). StandsAs image (numbers h) U) same stands)
 
   -- what a run leaves is left by a longer one
   longer : (i : Instance) (h g h' : H) (c d c' : Configuration) (es fs : List (HostCall × Errno)) (image : Image)
@@ -170,18 +171,18 @@ module _ (H : Type 0) (Calls : CallsOf H) (disk : H → Disk) (tree : H → Tree
 
   -- what a turn after a run may leave, or what is left then
   module _ (i : Instance) (h g h' : H) (c d c' : Configuration) (es fs : List (HostCall × Errno)) (new : Disk)
-      (first : Reach H Calls i h c es g d) (rest : Reach H Calls i g d fs h' c') (crash : Leaves (disk h) (disk g) (LeftBy i h c es g d)) where
-    at_end : (image : Image) → Stands image (tree g) → LeftBy i h c (es ++ fs) h' c' image
+      (first : Reach H Calls i h c es g d) (rest : Reach H Calls i g d fs h' c') (crash : Leaves (disk h) (disk g) (LeftBy i h c es g d)) (numbered : numbers g ≡ numbers h) where
+    at_end : (image : Image) → StandsAs image (numbers h) (tree g) → LeftBy i h c (es ++ fs) h' c' image
     at_end image stands = inr (g, record { at = d; before = es; after = fs; parts = refl; comes = first; goes_on = rest }, stands)
 
-    reflected : (image : Image) → Reflects (disk g) image → LeftBy i h c (es ++ fs) h' c' image
+    reflected : (image : Image) → Reflects (disk g) (numbers h) image → LeftBy i h c (es ++ fs) h' c' image
     reflected image r = elim (crash.now r.earlier r.could) [
       | inl may ↦ inl (record { earlier = r.earlier; could = may; tree = r.tree; stood = r.stood; stands = r.stands })
       | inr left ↦ like i h h' c c' (es ++ fs) r.earlier image r.tree (longer i h g h' c d c' es fs r.earlier rest left) r.stood r.stands
     ]
 
     pub leaves_on : (P : Image → Type 0) → ((image : Image) → P image → LeftBy i h c (es ++ fs) h' c' image)
-        → Leaves (disk g) new (λ image. Reflects (disk g) image ⊎ P image) → Leaves (disk h) new (LeftBy i h c (es ++ fs) h' c')
+        → Leaves (disk g) new (λ image. Reflects (disk g) (numbers h) image ⊎ P image) → Leaves (disk h) new (LeftBy i h c (es ++ fs) h' c')
     leaves_on P given turn = record {
       later = omega (arith, crash.later, turn.later);
       since = λ t image before left. elim (turn.since t image (omega (arith, crash.later, before)) left) [
@@ -202,60 +203,66 @@ module _ (H : Type 0) (Calls : CallsOf H) (disk : H → Disk) (tree : H → Tree
       ];
     }
 
-    pub whole : (image : Image) → Stands image (tree h') → LeftBy i h c (es ++ fs) h' c' image
+    pub whole : (image : Image) → StandsAs image (numbers h) (tree h') → LeftBy i h c (es ++ fs) h' c' image
     whole image stands = inr (h', record { at = c'; before = es ++ fs; after = []; parts = sym (append-nil (es ++ fs)); comes = reach_on H Calls i es fs h g h' c d c' first rest; goes_on = stays }, stands)
 
-    pub turn_on : IsTurn (disk g) new (tree g) (tree h') → Leaves (disk h) new (LeftBy i h c (es ++ fs) h' c')
-    turn_on turn = leaves_on (λ image. Stands image (tree g) ⊎ Stands image (tree h')) (λ image p. elim p [ inl before ↦ at_end image before | inr after ↦ whole image after ]) turn
+    pub turn_on : IsTurn (disk g) new (numbers g) (tree g) (tree h') → Leaves (disk h) new (LeftBy i h c (es ++ fs) h' c')
+    turn_on turn =
+        leaves_on (λ image. StandsAs image (numbers h) (tree g) ⊎ StandsAs image (numbers h) (tree h')) (λ image p. elim p [ inl before ↦ at_end image before | inr after ↦ whole image after ])
+        (subst (λ (v : Superblock). IsTurn (disk g) new v (tree g) (tree h')) numbered turn)
 
   -- a run so far with what a crash may leave
   pub record SafeSoFar (h : H) (s : Snapshot) (h' : H) (s' : Snapshot) : Type 0 where
     pub run : SoFar H Calls h s h' s'
+    pub numbered : numbers h' ≡ numbers h
     pub honest_after : honest h → honest h'
     pub crash : honest h → (i : Instance) (c : Configuration) (a : Represents s i c) → Leaves (disk h) (disk h') (LeftBy i h c (run.answers i c a) h' (run.last i c a))
 
   pub safe_so_far : (h : H) (s : Snapshot) → SafeSoFar h s h s
   safe_so_far h s = record {
     run = so_far H Calls h s;
+    numbered = refl;
     honest_after = λ is. is;
     crash = λ is i c a. record { later = omega arith; since = λ t image before left. inl left; now = λ image may. inl may };
   }
 
   pub safe_on : (h g h' : H) (s t s' : Snapshot) (units : ℕ) (p : Pause) → SafeSoFar h s g t → Resumed H Calls g h' t s' units p
-      → (honest g → honest h') → (honest g → IsTurn (disk g) (disk h') (tree g) (tree h')) → SafeSoFar h s h' s'
+      → numbers h' ≡ numbers g → (honest g → honest h') → (honest g → IsTurn (disk g) (disk h') (numbers g) (tree g) (tree h')) → SafeSoFar h s h' s'
   unfolding so_far_on
-  safe_on h g h' s t s' units p safe more stays_honest turn = record {
+  safe_on h g h' s t s' units p safe more numbered stays_honest turn = record {
     run = so_far_on H Calls h g h' s t s' units p safe.run more;
+    numbered = numbered ∙ safe.numbered;
     honest_after = λ is. stays_honest (safe.honest_after is);
     crash = λ is i c a.
         let next = more.run i (safe.run.last i c a) (safe.run.stands i c a) in
         turn_on i h g h' c (safe.run.last i c a) next.0 (safe.run.answers i c a) (answered (p ∷ [])) (disk h')
-        (safe.run.reach i c a) (paused_reach H Calls i p g h' (safe.run.last i c a) next.0 next.2) (safe.crash is i c a) (turn (safe.honest_after is));
+        (safe.run.reach i c a) (paused_reach H Calls i p g h' (safe.run.last i c a) next.0 next.2) (safe.crash is i c a) safe.numbered (turn (safe.honest_after is));
   }
 
   abbrev Ran : H → Snapshot → ℕ → H → Snapshot → Outcome → Type 0
   Ran h s fuel h' s' o = (honest h → honest h') × ((run : (i : Instance) (c : Configuration) → Represents s i c → RunsWithin H Calls i h c fuel h' o s'.used)
-      × (honest h → (i : Instance) (c : Configuration) (a : Represents s i c) → Leaves (disk h) (disk h') (Passed H Calls disk tree i h c fuel h' o s'.used (run i c a))))
+      × (honest h → (i : Instance) (c : Configuration) (a : Represents s i c) → Leaves (disk h) (disk h') (Passed H Calls disk numbers tree i h c fuel h' o s'.used (run i c a))))
 
   -- the last resume found the fuel used
   pub ran_out : (h g h' : H) (s t s' : Snapshot) (units fuel : ℕ) → SafeSoFar h s g t → Resumed H Calls g h' t s' units Spent → s'.used ≡ fuel
-      → (honest g → honest h') → (honest g → IsTurn (disk g) (disk h') (tree g) (tree h')) → Ran h s fuel h' s' OutOfFuel
+      → numbers h' ≡ numbers g → (honest g → honest h') → (honest g → IsTurn (disk g) (disk h') (numbers g) (tree g) (tree h')) → Ran h s fuel h' s' OutOfFuel
   unfolding so_far_on runs_out safe_on
-  ran_out h g h' s t s' units fuel safe more used stays_honest turn =
-      let all = safe_on h g h' s t s' units Spent safe more stays_honest turn in
+  ran_out h g h' s t s' units fuel safe more used numbered stays_honest turn =
+      let all = safe_on h g h' s t s' units Spent safe more numbered stays_honest turn in
       (all.honest_after, (runs_out H Calls h g h' s t s' units fuel safe.run more used, all.crash))
 
   -- the last resume found the end
   pub ran_to_end : (h g h' : H) (s t s' : Snapshot) (units fuel : ℕ) (o : Outcome) → SafeSoFar h s g t → Resumed H Calls g h' t s' units (Ended o)
-      → (honest g → honest h') → (honest g → IsTurn (disk g) (disk h') (tree g) (tree h')) → Ran h s fuel h' s' o
+      → numbers h' ≡ numbers g → (honest g → honest h') → (honest g → IsTurn (disk g) (disk h') (numbers g) (tree g) (tree h')) → Ran h s fuel h' s' o
   unfolding so_far_on runs_to_end safe_on
-  ran_to_end h g h' s t s' units fuel o safe more stays_honest turn =
-      let all = safe_on h g h' s t s' units (Ended o) safe more stays_honest turn in
+  ran_to_end h g h' s t s' units fuel o safe more numbered stays_honest turn =
+      let all = safe_on h g h' s t s' units (Ended o) safe more numbered stays_honest turn in
       (all.honest_after, (runs_to_end H Calls h g h' s t s' units fuel o safe.run more, all.crash))
 
   -- a commit after a run leaves no other tree
-  pub commit_after : (i : Instance) (h h' : H) (c c' : Configuration) (es : List (HostCall × Errno)) (new : Disk) → Reach H Calls i h c es h' c'
-      → Leaves (disk h) (disk h') (LeftBy i h c es h' c') → Leaves (disk h') new (ReflectsOr (disk h') (tree h')) → Leaves (disk h) new (LeftBy i h c es h' c')
-  commit_after i h h' c c' es new run crash commit =
+  pub commit_after : (i : Instance) (h h' : H) (c c' : Configuration) (es : List (HostCall × Errno)) (new : Disk) → Reach H Calls i h c es h' c' → numbers h' ≡ numbers h
+      → Leaves (disk h) (disk h') (LeftBy i h c es h' c') → Leaves (disk h') new (ReflectsOr (disk h') (numbers h') (tree h')) → Leaves (disk h) new (LeftBy i h c es h' c')
+  commit_after i h h' c c' es new run numbered crash commit =
       subst (λ (fs : List (HostCall × Errno)). Leaves (disk h) new (LeftBy i h c fs h' c')) (append-nil es)
-      (leaves_on i h h' h' c c' c' es [] new run stays crash (λ image. Stands image (tree h')) (λ image stands. at_end i h h' h' c c' c' es [] new run stays crash image stands) commit)
+      (leaves_on i h h' h' c c' c' es [] new run stays crash numbered (λ image. StandsAs image (numbers h) (tree h')) (λ image stands. at_end i h h' h' c c' c' es [] new run stays crash numbered image stands)
+      (subst (λ (v : Superblock). Leaves (disk h') new (ReflectsOr (disk h') v (tree h'))) numbered commit))

@@ -56,8 +56,10 @@ module _ {D R W1 W2 : Type 0} (honest : D → Type 0) (disk : D → Disk) (secto
     pub moves : StreamsMove remaining out_contents err_contents s.host s'.host moved
     pub over_paths : (others : StreamBytes) → MayFollow s'.host others
         → Reach World world.Calls instance (world_of s.host (before_moving moved others)) (first_configuration entered store) (answered (pauses_of rs)) (world_of s'.host (after_moving moved others)) last
-    -- each image during a resume stands for a tree of the run, from that of the last sync on
-    pub kept : AllKept (λ (h : HostState D R W1 W2). disk h.volume.device) (λ h. h.volume.tree) trees from (turns_of s rs)
+    -- each image during a resume stands for a tree of the run, from that of the last sync on, under the volume's numbers
+    pub kept : AllKept (λ (h : HostState D R W1 W2). disk h.volume.device) (λ h. h.volume.numbers) (λ h. h.volume.tree) s.host.volume.numbers trees from (turns_of s rs)
+    -- on a device of the same size
+    pub size : sectors_on s'.host.volume.device ≡ sectors_on s.host.volume.device
     -- entries outside the directories that were open at first stay as they are, and aren't reached
     pub confined : (w w' : World) → Shows s.host w → Shows s'.host w' → IsConfined w.tree (named_by w.table) w'.tree w'.table
 
@@ -66,5 +68,5 @@ module _ {D R W1 W2 : Type 0} (honest : D → Type 0) (disk : D → Disk) (secto
   abbrev pub Headline : Type 0
   Headline = (m : Module) (parts : HostParts D R W1 W2) (trees : List Tree) (from : ℕ) (s s' : SessionState D R W1 W2) (rs : History (SessionState D R W1 W2))
       → Opens m parts s → Shares honest disk sectors_on failures parts s → honest parts.volume.device
-      → IsSafe (λ (v : Opened D). disk v.device) (λ v. v.tree) parts.volume trees from
+      → IsSafe (λ (v : Opened D). disk v.device) (λ v. v.numbers) (λ v. v.tree) parts.volume trees from
       → Follow honest disk sectors_on failures remaining out_contents err_contents s rs s' → Upholds m parts.settings.pages trees from s rs s'

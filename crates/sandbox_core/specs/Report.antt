@@ -2,7 +2,8 @@
 use Rattle.std.specs.Prelude.{◌≡◌, ℕ, ◌≤◌, List, Option}
 use Rattle.vol_sector.specs.Disk.{Disk, Leaves}
 use Rattle.vol_tree.specs.Tree.{Tree}
-use Rattle.wasm_steps.specs.Configuration.{Instance, Configuration}
+use Rattle.vol_tree.specs.declared.superblock.Superblock.{Superblock}
+use Rattle.wasm_interp.specs.Configuration.{Instance, Configuration}
 use Rattle.wasm_interp.specs.Machine.{Represents}
 use Rattle.wasm_steps.specs.Steps.{CallsOf}
 use Rattle.wasm_steps.specs.declared.pause.Outcome.{Outcome}
@@ -18,6 +19,9 @@ module _ {D R W1 W2 : Type 0} (honest : D → Type 0) (disk : D → Disk) (secto
 
   abbrev pub disk_of : HostState D R W1 W2 → Disk
   disk_of h = disk h.volume.device
+
+  abbrev pub numbers_of : HostState D R W1 W2 → Superblock
+  numbers_of h = h.volume.numbers
 
   abbrev pub tree_of : HostState D R W1 W2 → Tree
   tree_of h = h.volume.tree
@@ -36,7 +40,10 @@ module _ {D R W1 W2 : Type 0} (honest : D → Type 0) (disk : D → Disk) (secto
         → RunsWithin (HostState D R W1 W2) Calls i session.host c fuel last.host report.outcome (used_by last)
     pub volume : Commits honest disk sectors_on failures last.host.volume report.volume
     pub crash : honest session.host.volume.device → (i : Instance) (c : Configuration) (stands : Represents session.machine i c)
-        → Leaves (disk_of session.host) (disk volume.new.device) (Passed (HostState D R W1 W2) Calls disk_of tree_of i session.host c fuel last.host report.outcome (used_by last) (run i c stands))
+        → Leaves (disk_of session.host) (disk volume.new.device) (Passed (HostState D R W1 W2) Calls disk_of numbers_of tree_of i session.host c fuel last.host report.outcome (used_by last) (run i c stands))
+    -- on any device the volume's numbers stayed so far, and the device's size
+    pub numbers : last.host.volume.numbers ≡ session.host.volume.numbers
+    pub size : sectors_on last.host.volume.device ≡ sectors_on session.host.volume.device
     pub honest_after : honest session.host.volume.device → honest last.host.volume.device
     pub input : report.input ≡ last.host.input.reader
     pub out : report.out ≡ last.host.out.writer

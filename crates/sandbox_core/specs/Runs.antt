@@ -4,7 +4,8 @@ use Rattle.std.specs.Prelude.{◌≡◌, ◌⊎◌, ℕ, List, [], ◌∷◌, �
 use Rattle.vol_sector.specs.Disk.{Image, Disk}
 use Rattle.vol_tree.specs.Tree.{Tree}
 use Rattle.vol_tree.specs.Opened.{Reflects}
-use Rattle.vol_tree.specs.Stands.{Stands}
+use Rattle.vol_tree.specs.Stands.{StandsAs}
+use Rattle.vol_tree.specs.declared.superblock.Superblock.{Superblock}
 use Rattle.wasm_store.specs.declared.call.HostCall.{HostCall}
 use Rattle.wasm_store.specs.declared.call.Errno.{Errno}
 use Rattle.wasm_steps.specs.declared.pause.Pause.{Pause}
@@ -85,10 +86,11 @@ module _ (H : Type 0) (Calls : CallsOf H) where
     pub comes : Reach H Calls i h c before host at
     pub goes_on : Reach H Calls i host at after h' c'
 
-  -- The image stands for a tree that a crash could leave at the beginning, or for that of a host that the run comes by.
-  module _ (disk : H → Disk) (tree : H → Tree) where
+  -- Under the numbers at the beginning the image stands for a tree that a crash could leave then, or for that of a host that
+  -- the run comes by.
+  module _ (disk : H → Disk) (numbers : H → Superblock) (tree : H → Tree) where
     abbrev pub Left : Instance → H → Configuration → List (HostCall × Errno) → H → Configuration → Image → Type 0
-    Left i h c answers h' c' image = Reflects (disk h) image ⊎ ((host : H) × ComesBy i h c answers h' c' host × Stands image (tree host))
+    Left i h c answers h' c' image = Reflects (disk h) (numbers h) image ⊎ ((host : H) × ComesBy i h c answers h' c' host × StandsAs image (numbers h) (tree host))
 
     abbrev pub Passed : (i : Instance) (h : H) (c : Configuration) (fuel : ℕ) (h' : H) (outcome : Outcome) (used : ℕ) → RunsWithin i h c fuel h' outcome used → Image → Type 0
     Passed i h c fuel h' outcome used run = Left i h c run.answers h' run.last

@@ -5,7 +5,7 @@ use Rattle.vol_sector.specs.declared.fault.Refused.{Refused}
 use Rattle.vol_sector.specs.declared.fault.VolumeFault.TheVariants as fault
 use Rattle.vol_tree.specs.Tree.{IsTree}
 use Rattle.vol_tree.specs.Opened.{Opened, Keeps, ReflectsOr}
-use Rattle.vol_tree.specs.Stands.{Stands}
+use Rattle.vol_tree.specs.Stands.{StandsAs}
 use Rattle.wasm_module.specs.declared.module.Module.{Module}
 use Rattle.wasm_store.specs.declared.fault.InstanceFault.TheVariants.{Memory as NoMemory}
 use Rattle.wasm_store.specs.Instantiation.{RefusedFor}
@@ -90,17 +90,19 @@ IsRefused honest Memory m parts = settings_fit parts.settings ≡ true
 
 module _ {D R W1 W2 : Type 0} (honest : D → Type 0) (disk : D → Disk) (sectors_on failures : D → ℕ)
     (remaining : R → Option (List ℕ)) (out_contents : W1 → Option (List ℕ)) (err_contents : W2 → Option (List ℕ)) where
-  -- A resume is one of the machine over the host. Each image that a crash may leave since it began could be left before,
-  -- or stands for a tree that one could leave then, or for the tree before or after; and for the tree after where the
-  -- resume answered a sync.
+  -- A resume is one of the machine over the host. On any device the volume's numbers stay, and the device's size. Each image
+  -- that a crash may leave since it began could be left before, or stands under these numbers for a tree that one could
+  -- leave then, or for the tree before or after; and for the tree after where the resume answered a sync.
   pub record Resumes (old new : SessionState D R W1 W2) (units : ℕ) (p : Pause) : Type 0 where
     pub run : Resumed (HostState D R W1 W2) (HostCalls honest disk sectors_on failures remaining out_contents err_contents)
         old.host new.host old.machine new.machine units p
+    pub numbers : new.host.volume.numbers ≡ old.host.volume.numbers
+    pub size : sectors_on new.host.volume.device ≡ sectors_on old.host.volume.device
     pub honest_after : honest old.host.volume.device → honest new.host.volume.device
     pub crash : honest old.host.volume.device
-        → IsTurn (disk old.host.volume.device) (disk new.host.volume.device) old.host.volume.tree new.host.volume.tree
+        → IsTurn (disk old.host.volume.device) (disk new.host.volume.device) old.host.volume.numbers old.host.volume.tree new.host.volume.tree
     pub synced : honest old.host.volume.device
-        → PauseSynced (λ (h : HostState D R W1 W2). disk h.volume.device) (λ h. h.volume.tree) (λ h. honest h.volume.device) p new.host
+        → PauseSynced (λ (h : HostState D R W1 W2). disk h.volume.device) (λ h. h.volume.numbers) (λ h. h.volume.tree) (λ h. honest h.volume.device) p new.host
 
 -- what each of some resumes answered, and the session after it
 abbrev pub History : Type 0 → Type 0
@@ -132,15 +134,16 @@ module _ {D : Type 0} (honest : D → Type 0) (disk : D → Disk) (sectors_on fa
   is_refused (Ok w) = false
   is_refused (Err r) = true
 
-  -- All calls so far are committed. Each image that a crash may leave since could be left before, or stands for a tree that
-  -- one could leave then, or for the tree; and at success for the tree.
+  -- All calls so far are committed. The volume's numbers stay, and the device's size (`kept`). Each image that a crash may
+  -- leave since could be left before, or stands under these numbers for a tree that one could leave then, or for the tree;
+  -- and at success for the tree.
   pub record Commits (old : Opened D) (result : Result (Opened D) (Refused D)) : Type 0 where
     pub new : Opened D
     pub handed_back : IsHandedBack new result
     pub kept : Keeps honest sectors_on failures old new (is_refused result)
     pub tree : honest old.device → new.tree ≡ old.tree
-    pub crash : honest old.device → Leaves (disk old.device) (disk new.device) (ReflectsOr (disk old.device) old.tree)
-    pub durable : honest old.device → is_refused result ≡ false → (image : Image) → (disk new.device).may_leave image → Stands image old.tree
+    pub crash : honest old.device → Leaves (disk old.device) (disk new.device) (ReflectsOr (disk old.device) old.numbers old.tree)
+    pub durable : honest old.device → is_refused result ≡ false → (image : Image) → (disk new.device).may_leave image → StandsAs image old.numbers old.tree
 
   -- the volume is committed, and the streams are as they are then
   pub record Finishes {R W1 W2 : Type 0} (old : SessionState D R W1 W2) (finished : Finished D R W1 W2) : Type 0 where

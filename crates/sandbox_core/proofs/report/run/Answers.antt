@@ -1,5 +1,5 @@
 use Rattle.std.proofs.Common.{arith}
-use Rattle.sandbox_core.specs.Report.{Calls, disk_of, tree_of}
+use Rattle.sandbox_core.specs.Report.{Calls, disk_of, numbers_of, tree_of}
 use Rattle.sandbox_core.proofs.Reaching.{commit_after}
 use Rattle.sandbox_core.proofs.report.run.Goals as goal
 
@@ -18,9 +18,11 @@ returns g c =
       run = ran.run;
       volume = finishes.volume;
       crash = λ is i d stands. commit_after _ (Calls g.D.Device.honest g.D.Device.disk g.D.Device.size g.D.Device.failures g.R.Read.remaining g.W1.Write.contents g.W2.Write.contents)
-          (disk_of g.D.Device.honest g.D.Device.disk g.D.Device.size g.D.Device.failures g.R.Read.remaining g.W1.Write.contents g.W2.Write.contents) (tree_of g.D.Device.honest g.D.Device.disk g.D.Device.size g.D.Device.failures g.R.Read.remaining g.W1.Write.contents g.W2.Write.contents)
-          (λ h. g.D.Device.honest h.volume.device) i c.args.session.host last.host d (ran.run i d stands).last (ran.run i d stands).answers _ (ran.run i d stands).reach
+          (disk_of g.D.Device.honest g.D.Device.disk g.D.Device.size g.D.Device.failures g.R.Read.remaining g.W1.Write.contents g.W2.Write.contents) (numbers_of g.D.Device.honest g.D.Device.disk g.D.Device.size g.D.Device.failures g.R.Read.remaining g.W1.Write.contents g.W2.Write.contents) (tree_of g.D.Device.honest g.D.Device.disk g.D.Device.size g.D.Device.failures g.R.Read.remaining g.W1.Write.contents g.W2.Write.contents)
+          (λ h. g.D.Device.honest h.volume.device) i c.args.session.host last.host d (ran.run i d stands).last (ran.run i d stands).answers _ (ran.run i d stands).reach ran.numbers
           (ran.crash is i d stands) (finishes.volume.crash (ran.honest_after is));
+      numbers = ran.numbers;
+      size = ran.size;
       honest_after = ran.honest_after;
       input = finishes.input;
       out = finishes.out;

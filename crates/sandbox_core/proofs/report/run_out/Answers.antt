@@ -1,5 +1,5 @@
-use Rattle.std.proofs.Common.{[], refl, arith}
-use Rattle.sandbox_core.specs.Report.{Calls, disk_of, tree_of}
+use Rattle.std.proofs.Common.{[], refl, ◌∙◌, arith}
+use Rattle.sandbox_core.specs.Report.{Calls, disk_of, numbers_of, tree_of}
 use Rattle.sandbox_core.proofs.Following.{followed_on}
 use Rattle.sandbox_core.proofs.Reaching.{safe_so_far, safe_on, ran_out, ran_to_end}
 use Rattle.sandbox_core.proofs.report.run_out.Goals as goal
@@ -8,9 +8,10 @@ use Rattle.sandbox_core.proofs.report.run_out.Goals as goal
 pub running-init : goal.running-init
 running-init g c = record {
   within = c.requires;
+  size = refl;
   followed = ([], refl);
   so_far = safe_so_far _ (Calls g.D.Device.honest g.D.Device.disk g.D.Device.size g.D.Device.failures g.R.Read.remaining g.W1.Write.contents g.W2.Write.contents)
-      (disk_of g.D.Device.honest g.D.Device.disk g.D.Device.size g.D.Device.failures g.R.Read.remaining g.W1.Write.contents g.W2.Write.contents) (tree_of g.D.Device.honest g.D.Device.disk g.D.Device.size g.D.Device.failures g.R.Read.remaining g.W1.Write.contents g.W2.Write.contents)
+      (disk_of g.D.Device.honest g.D.Device.disk g.D.Device.size g.D.Device.failures g.R.Read.remaining g.W1.Write.contents g.W2.Write.contents) (numbers_of g.D.Device.honest g.D.Device.disk g.D.Device.size g.D.Device.failures g.R.Read.remaining g.W1.Write.contents g.W2.Write.contents) (tree_of g.D.Device.honest g.D.Device.disk g.D.Device.size g.D.Device.failures g.R.Read.remaining g.W1.Write.contents g.W2.Write.contents)
       (λ h. g.D.Device.honest h.volume.device) c.args.session.now.host c.args.session.now.machine;
 }
 
@@ -22,11 +23,12 @@ running-preserved g c =
     let new = c.resume.new.self in
     record {
       within = let rise = c.in-Called.ensures.run.units_rise in omega (arith, rise, c.used.ensures, c.running.invariant.within);
+      size = c.in-Called.ensures.size ∙ c.running.invariant.size;
       followed = followed_on g.D.Device.honest g.D.Device.disk g.D.Device.size g.D.Device.failures g.R.Read.remaining g.W1.Write.contents g.W2.Write.contents first old new _ _ c.running.invariant.followed c.in-Called.ensures;
       so_far = safe_on _ (Calls g.D.Device.honest g.D.Device.disk g.D.Device.size g.D.Device.failures g.R.Read.remaining g.W1.Write.contents g.W2.Write.contents)
-          (disk_of g.D.Device.honest g.D.Device.disk g.D.Device.size g.D.Device.failures g.R.Read.remaining g.W1.Write.contents g.W2.Write.contents) (tree_of g.D.Device.honest g.D.Device.disk g.D.Device.size g.D.Device.failures g.R.Read.remaining g.W1.Write.contents g.W2.Write.contents)
+          (disk_of g.D.Device.honest g.D.Device.disk g.D.Device.size g.D.Device.failures g.R.Read.remaining g.W1.Write.contents g.W2.Write.contents) (numbers_of g.D.Device.honest g.D.Device.disk g.D.Device.size g.D.Device.failures g.R.Read.remaining g.W1.Write.contents g.W2.Write.contents) (tree_of g.D.Device.honest g.D.Device.disk g.D.Device.size g.D.Device.failures g.R.Read.remaining g.W1.Write.contents g.W2.Write.contents)
           (λ h. g.D.Device.honest h.volume.device) first.host old.host new.host
-          first.machine old.machine new.machine _ _ c.running.invariant.so_far c.in-Called.ensures.run c.in-Called.ensures.honest_after c.in-Called.ensures.crash;
+          first.machine old.machine new.machine _ _ c.running.invariant.so_far c.in-Called.ensures.run c.in-Called.ensures.numbers c.in-Called.ensures.honest_after c.in-Called.ensures.crash;
     }
 
 -- the fuel was used
@@ -36,11 +38,11 @@ returns-in-Spent-clause-run g c =
     let old = c.running.session in
     let new = c.resume.new.self in
     let ran = ran_out _ (Calls g.D.Device.honest g.D.Device.disk g.D.Device.size g.D.Device.failures g.R.Read.remaining g.W1.Write.contents g.W2.Write.contents)
-    (disk_of g.D.Device.honest g.D.Device.disk g.D.Device.size g.D.Device.failures g.R.Read.remaining g.W1.Write.contents g.W2.Write.contents) (tree_of g.D.Device.honest g.D.Device.disk g.D.Device.size g.D.Device.failures g.R.Read.remaining g.W1.Write.contents g.W2.Write.contents)
+    (disk_of g.D.Device.honest g.D.Device.disk g.D.Device.size g.D.Device.failures g.R.Read.remaining g.W1.Write.contents g.W2.Write.contents) (numbers_of g.D.Device.honest g.D.Device.disk g.D.Device.size g.D.Device.failures g.R.Read.remaining g.W1.Write.contents g.W2.Write.contents) (tree_of g.D.Device.honest g.D.Device.disk g.D.Device.size g.D.Device.failures g.R.Read.remaining g.W1.Write.contents g.W2.Write.contents)
     (λ h. g.D.Device.honest h.volume.device) first.host old.host new.host
     first.machine old.machine new.machine _ c.args.fuel c.running.invariant.so_far c.in-Spent.ensures.run
-    (omega (arith, c.in-Spent.ensures.run.units_rise, c.used.ensures, c.running.invariant.within)) c.in-Spent.ensures.honest_after c.in-Spent.ensures.crash in
-    record { honest_after = ran.0; followed = followed_on g.D.Device.honest g.D.Device.disk g.D.Device.size g.D.Device.failures g.R.Read.remaining g.W1.Write.contents g.W2.Write.contents first old new _ _ c.running.invariant.followed c.in-Spent.ensures; run = ran.1.0; crash = ran.1.1 }
+    (omega (arith, c.in-Spent.ensures.run.units_rise, c.used.ensures, c.running.invariant.within)) c.in-Spent.ensures.numbers c.in-Spent.ensures.honest_after c.in-Spent.ensures.crash in
+    record { honest_after = ran.0; followed = followed_on g.D.Device.honest g.D.Device.disk g.D.Device.size g.D.Device.failures g.R.Read.remaining g.W1.Write.contents g.W2.Write.contents first old new _ _ c.running.invariant.followed c.in-Spent.ensures; numbers = c.in-Spent.ensures.numbers ∙ c.running.invariant.so_far.numbered; size = c.in-Spent.ensures.size ∙ c.running.invariant.size; run = ran.1.0; crash = ran.1.1 }
 
 -- the run ended
 pub returns-in-Ended-clause-run : goal.returns-in-Ended-clause-run
@@ -49,7 +51,7 @@ returns-in-Ended-clause-run g c =
     let old = c.running.session in
     let new = c.resume.new.self in
     let ran = ran_to_end _ (Calls g.D.Device.honest g.D.Device.disk g.D.Device.size g.D.Device.failures g.R.Read.remaining g.W1.Write.contents g.W2.Write.contents)
-    (disk_of g.D.Device.honest g.D.Device.disk g.D.Device.size g.D.Device.failures g.R.Read.remaining g.W1.Write.contents g.W2.Write.contents) (tree_of g.D.Device.honest g.D.Device.disk g.D.Device.size g.D.Device.failures g.R.Read.remaining g.W1.Write.contents g.W2.Write.contents)
+    (disk_of g.D.Device.honest g.D.Device.disk g.D.Device.size g.D.Device.failures g.R.Read.remaining g.W1.Write.contents g.W2.Write.contents) (numbers_of g.D.Device.honest g.D.Device.disk g.D.Device.size g.D.Device.failures g.R.Read.remaining g.W1.Write.contents g.W2.Write.contents) (tree_of g.D.Device.honest g.D.Device.disk g.D.Device.size g.D.Device.failures g.R.Read.remaining g.W1.Write.contents g.W2.Write.contents)
     (λ h. g.D.Device.honest h.volume.device) first.host old.host new.host
-    first.machine old.machine new.machine _ c.args.fuel c.in-Ended.outcome c.running.invariant.so_far c.in-Ended.ensures.run c.in-Ended.ensures.honest_after c.in-Ended.ensures.crash in
-    record { honest_after = ran.0; followed = followed_on g.D.Device.honest g.D.Device.disk g.D.Device.size g.D.Device.failures g.R.Read.remaining g.W1.Write.contents g.W2.Write.contents first old new _ _ c.running.invariant.followed c.in-Ended.ensures; run = ran.1.0; crash = ran.1.1 }
+    first.machine old.machine new.machine _ c.args.fuel c.in-Ended.outcome c.running.invariant.so_far c.in-Ended.ensures.run c.in-Ended.ensures.numbers c.in-Ended.ensures.honest_after c.in-Ended.ensures.crash in
+    record { honest_after = ran.0; followed = followed_on g.D.Device.honest g.D.Device.disk g.D.Device.size g.D.Device.failures g.R.Read.remaining g.W1.Write.contents g.W2.Write.contents first old new _ _ c.running.invariant.followed c.in-Ended.ensures; numbers = c.in-Ended.ensures.numbers ∙ c.running.invariant.so_far.numbered; size = c.in-Ended.ensures.size ∙ c.running.invariant.size; run = ran.1.0; crash = ran.1.1 }

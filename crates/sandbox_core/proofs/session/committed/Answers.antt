@@ -4,7 +4,8 @@ use Rattle.vol_tree.specs.declared.errno.Errno.{Errno}
 use Rattle.vol_tree.specs.Tree.{Tree}
 use Rattle.vol_tree.specs.Calls.{with_unit}
 use Rattle.vol_tree.specs.Opened.{Answers, Keeps, is_io}
-use Rattle.vol_tree.specs.Stands.{Stands}
+use Rattle.vol_tree.specs.Stands.{StandsAs}
+use Rattle.vol_tree.specs.declared.superblock.Superblock.{Superblock}
 use Rattle.sandbox_core.proofs.session.committed.Goals as goal
 
 ok_err : {T : Tree} {e : Errno} → ◌≡◌ {A = Result (Tree × Unit {0}) Errno} (Ok (T, tt)) (Err e) → ⊥
@@ -52,5 +53,6 @@ returns g c =
       crash = told.crash;
       durable = λ is fine image may.
           let there = as_at_success c.args.volume.tree c.sync-answer.new.self.tree c.sync-answer.result _ (told.answer is) works (told.durable is) image may in
-          subst (λ (T : Tree). Stands image T) (same_tree c.args.volume.tree c.sync-answer.new.self.tree c.sync-answer.result (told.answer is)) there;
+          let numbered = subst (λ (v : Superblock). StandsAs image v c.sync-answer.new.self.tree) told.kept.numbers there in
+          subst (λ (T : Tree). StandsAs image c.args.volume.numbers T) (same_tree c.args.volume.tree c.sync-answer.new.self.tree c.sync-answer.result (told.answer is)) numbered;
     }

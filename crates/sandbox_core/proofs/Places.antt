@@ -1,0 +1,51 @@
+-- The volume's numbers stay over a resume, and its device's size.
+use Rattle.std.proofs.Common.{◌≡◌, ℕ, List, [], ◌∷◌, Option, refl, ◌∙◌, ap, inl, inr}
+use Rattle.vol_sector.specs.Disk.{Disk}
+use Rattle.wasm_store.specs.declared.call.HostCall.{HostCall}
+use Rattle.wasm_store.specs.declared.call.Errno.{Errno}
+use Rattle.wasm_interp.specs.declared.pause.Pause.{Pause}
+use Rattle.wasm_interp.specs.declared.pause.Pause.TheVariants.{Called, Spent, Ended}
+use Rattle.wasm_interp.specs.Configuration.{Instance, Configuration}
+use Rattle.wasm_interp.specs.Machine.{Snapshot, Represents}
+use Rattle.wasm_interp.specs.Promise.{Paused, Resumed}
+use Rattle.wasm_interp.specs.Steps.{CallsOf, silent, answers, Reach, stays, goes}
+use Rattle.wasi_calls.specs.Host.{HostState, HostCalls}
+use Rattle.wasi_calls.proofs.Moments.{step_changes}
+
+module _ {D R W1 W2 : Type 0} (honest : D → Type 0) (disk : D → Disk) (sectors_on failures : D → ℕ)
+    (remaining : R → Option (List ℕ)) (out_contents : W1 → Option (List ℕ)) (err_contents : W2 → Option (List ℕ)) where
+  abbrev H : Type 0
+  H = HostState D R W1 W2
+
+  abbrev Calls : CallsOf H
+  Calls = HostCalls honest disk sectors_on failures remaining out_contents err_contents
+
+  abbrev SamePlace : H → H → Type 0
+  SamePlace h h' = (h'.volume.numbers ≡ h.volume.numbers) × (sectors_on h'.volume.device ≡ sectors_on h.volume.device)
+
+  same_place : (h h' : H) → h' ≡ h → SamePlace h h'
+  same_place h h' same = (ap (λ (h : H). h.volume.numbers) same, ap (λ (h : H). sectors_on h.volume.device) same)
+
+  -- steps of the machine, and calls that it answers
+  reach_stays : (i : Instance) (h : H) (c : Configuration) (es : List (HostCall × Errno)) (h' : H) (c' : Configuration) → Reach H Calls i h c es h' c' → SamePlace h h'
+  reach_stays i h c es h' c' stays = (refl, refl)
+  reach_stays i h c es h' c' (goes {h' = g} {c' = d} silent later s r) =
+      let rest = reach_stays i g d later h' c' r in
+      elim (step_changes Calls i 0 h c silent g d s) [
+        | inl same ↦ let first = same_place h g same in (rest.0 ∙ first.0, rest.1 ∙ first.1)
+        | inr (m, m', used, x, args, status, a) ↦ let first = same_place h g (a.exits status refl) in (rest.0 ∙ first.0, rest.1 ∙ first.1)
+      ]
+  reach_stays i h c es h' c' (goes {h' = g} {c' = d} (answers x e) later s r) =
+      let rest = reach_stays i g d later h' c' r in
+      let (m, m', used, args, a) = step_changes Calls i 0 h c (answers x e) g d s in
+      (rest.0 ∙ a.volume.kept.numbers, rest.1 ∙ a.volume.kept.size)
+
+  paused_stays : (p : Pause) (i : Instance) (h h' : H) (c d : Configuration) → Paused H Calls i p h c h' d → SamePlace h h'
+  paused_stays (Called x e) i h h' c d (before, run, step) =
+      let (m, m', used, args, a) = step_changes Calls i 0 h before (answers x e) h' d step in
+      (a.volume.kept.numbers, a.volume.kept.size)
+  paused_stays Spent i h h' c d (run, same, plain) = same_place h h' same
+  paused_stays (Ended o) i h h' c d (run, ends) = reach_stays i h c [] h' d run
+
+  pub stays_there : (h h' : H) (old new : Snapshot) (units : ℕ) (p : Pause) (i : Instance) (c : Configuration) → Represents old i c → Resumed H Calls h h' old new units p → SamePlace h h'
+  stays_there h h' old new units p i c stands resumed = let run = resumed.run i c stands in paused_stays p i h h' c run.0 run.2
