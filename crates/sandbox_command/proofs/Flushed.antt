@@ -1,5 +1,5 @@
 -- A task whose output was flushed afterwards.
-use Rattle.std.proofs.Common.{◌≡◌, ◌⊎◌, ⊎_elim, inl, inr, ℕ, List, Option, Result, Ok}
+use Rattle.std.proofs.Common.{⊎_elim, inl, inr, ℕ, List, Option, Result, Ok}
 use Rattle.std.specs.Io.KnownBytes.{Keeps}
 use Rattle.std.proofs.KnownBytes.{Keeps-trans}
 use Rattle.vol_sector.specs.Disk.{Disk}

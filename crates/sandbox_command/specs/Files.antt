@@ -1,13 +1,27 @@
 -- What is done on the files that a command line names (`README.md`, "The program"). No contract says what a file holds.
-use Rattle.std.specs.Prelude.{◌≡◌, ◌≤◌, ℕ, List, Option, None, min, replicate, vec_len}
+use Rattle.std.specs.Prelude.{◌≡◌, ◌⊎◌, ◌≤◌, ℕ, List, Option, None, IsSomeAnd, min, replicate, vec_len}
+use Rattle.std.specs.declared.io.ErrorKind.{ErrorKind as InputKind}
+use Rattle.clap.specs.declared.error.kind.ErrorKind.{ErrorKind as LineKind}
+use Rattle.clap.specs.Words.{subcommand_of}
 use Rattle.vol_sector.specs.Disk.{Disk}
 use Rattle.sandbox_device.specs.declared.file_device.FileDevice.{FileDevice}
 use Rattle.sandbox_device.specs.declared.ram_device.RamDevice.{RamDevice}
+use Rattle.sandbox_device.specs.File.{kept}
+use Rattle.sandbox_device.specs.Ram.{held}
 use Rattle.sandbox_words.specs.declared.request.Invocation.{Invocation}
 use Rattle.sandbox_words.specs.declared.request.Invocation.TheVariants as asked
 use Rattle.sandbox_words.specs.Request.{Text}
+use Rattle.sandbox_words.specs.CommandLine.{AsksFor, program}
 use Rattle.sandbox_command.specs.declared.program.Executed.{Executed}
 use Rattle.sandbox_command.specs.Execution.{Executes}
+use Rattle.sandbox_command.specs.Status.{command_line_status, words_status}
+
+-- what is known of the disk of a device in memory, and of one in a file
+abbrev pub memory_disk : RamDevice → Disk
+memory_disk d = held d.sectors.items d.past.images
+
+abbrev pub file_disk : FileDevice → Disk
+file_disk d = kept d.sectors.items d.moments.unsynced d.moments.times
 
 -- a run that names no file for its volume
 abbrev pub NamesNoVolume : Invocation → Type 0
@@ -37,3 +51,22 @@ module _ {D R W1 W2 : Type 0} (is_honest : D → Type 0) (disk : D → Disk) (se
     pub left : Executed D R W1 W2
     pub executes : Executes is_honest disk sectors_on failures remaining out_contents err_contents invocation bytes random device input out err left
     pub ends : status ≡ left.status
+
+module _ {R W1 W2 : Type 0} (remaining : R → Option (List ℕ)) (out_contents : W1 → Option (List ℕ)) (err_contents : W2 → Option (List ℕ)) where
+  -- A file or memory is refused before anything is executed. Or the invocation was executed: where it names no volume, on
+  -- sectors in memory, and else on those of a file.
+  abbrev pub IsPerformed : Invocation → R → W1 → W2 → ℕ → Type 0
+  IsPerformed invocation input out err status =
+      (status ≡ 122) ⊎ ((status ≡ 124)
+      ⊎ ((NamesNoVolume invocation × IsExecuted (λ d. Unit {0}) memory_disk (λ d. vec_len d.sectors) (λ d. 0) remaining out_contents err_contents
+      IsNewInMemory invocation input out err status)
+      ⊎ ((NamesNoVolume invocation → ⊥) × IsExecuted (λ d. Unit {0}) file_disk (λ d. vec_len d.sectors) (λ d. d.failures) remaining out_contents err_contents
+      (IsNewInFile invocation) invocation input out err status)))
+
+  -- The words can't be read, or the command line is refused. Or what some words ask for is performed.
+  abbrev pub IsAnswered : R → W1 → W2 → ℕ → Type 0
+  IsAnswered input out err status =
+      ((kind : InputKind) × (status ≡ words_status kind))
+      ⊎ (((kind : LineKind) × (status ≡ command_line_status kind))
+      ⊎ ((words : List Text) × (invocation : Invocation) × IsSomeAnd (subcommand_of program words) (λ entered. AsksFor entered.0 entered.1 invocation)
+      × IsPerformed invocation input out err status))

@@ -12,7 +12,7 @@ use Rattle.vol_tree.specs.Space.{Geometry, space, size_of}
 use Rattle.vol_tree.specs.Stats.{entries_of}
 use Rattle.vol_tree.specs.Stands.{Stands}
 use Rattle.vol_tree.specs.Calls.{directory_at, bytes_at, with_bytes, created, resized, if_it_fits}
-use Rattle.vol_tree.specs.Opened.{Opened, Reflects, data_sectors, geometry}
+use Rattle.vol_tree.specs.Opened.{Reflects, data_sectors, geometry}
 use Rattle.path_walk.specs.Paths.{Reached, Found, Missing, slash, ◌>>=◌}
 use Rattle.path_walk.specs.Rooted.{reached_from_root}
 use Rattle.sandbox_words.specs.Request.{Text}

@@ -1,11 +1,11 @@
-//! Commands on the files that they name, with the streams of the system.
+//! Commands on the files that they name.
 
 ghost use Rattle.std.specs.Prelude.{◌≡◌, ◌⊎◌, ◌≤◌};
 ghost use Rattle.std.specs.Process.{exit_status};
 ghost use Rattle.sandbox_words.specs.declared.request.Invocation.TheVariants as asked;
 ghost use Rattle.sandbox_command.specs.declared.program.Executed.{Executed};
 ghost use Rattle.sandbox_command.specs.Execution.{Executes};
-ghost use Rattle.sandbox_command.specs.Files.{NamesNoVolume, IsNewInMemory, IsNewInFile, IsExecuted};
+ghost use Rattle.sandbox_command.specs.Files.{IsAnswered, IsPerformed};
 
 use crate::opening::FRESH_SECTORS;
 use crate::program;
@@ -24,20 +24,34 @@ const MODULE_READ: u64 = 67_108_865;
 /// How many random bytes are read at most, so that a file with no end gives some, too.
 const RANDOM_READ: u64 = 67_108_864;
 
-/// Does what the words of the command line ask for, and gives the exit status. The statuses from 126 on are those
-/// of shells and of the script that builds the program, so that none of them comes from here.
-pub fn exit_code(rt: &HostRuntime) -> ExitCode
-    ensures { exit_status result ≤ 125 }
+/// Does what the words of the command line ask for, with these streams, and gives the exit status.
+/// The statuses from 126 on are those of shells and of the script that builds the program, so that
+/// none of them comes from here.
+pub fn exit_code<R: Read + Drop, W1: Write + Drop, W2: Write + Drop>(
+    rt: &HostRuntime,
+    input: R,
+    out: W1,
+    err: W2,
+) -> ExitCode
+    ensures tells { IsAnswered R.remaining W1.contents W2.contents input out err
+        (exit_status result) }
+    ensures within { exit_status result ≤ 125 }
 {
-    ExitCode::from(answer(rt))
+    ExitCode::from(answer(rt, input, out, err))
 }
 
-fn answer(rt: &HostRuntime) -> u8
-    ensures { result ≤ 125 }
+fn answer<R: Read + Drop, W1: Write + Drop, W2: Write + Drop>(
+    rt: &HostRuntime,
+    input: R,
+    out: W1,
+    mut err: W2,
+) -> u8
+    ensures tells { IsAnswered R.remaining W1.contents W2.contents input out err result }
+    ensures within { result ≤ 125 }
 {
     match words_given(rt) {
-        Ok(words) => answer_words(rt, words.as_slice()),
-        Err(error) => program::refuse_words(&mut rt.stderr(), &error),
+        Ok(words) => answer_words(rt, words.as_slice(), input, out, err),
+        Err(error) => program::refuse_words(&mut err, &error),
     }
 }
 
@@ -47,12 +61,19 @@ fn words_given(rt: &HostRuntime) -> io::Result<Vec<String>> {
 }
 
 /// Does what these words ask for, and gives the exit status.
-fn answer_words(rt: &HostRuntime, words: &[String]) -> u8
-    ensures { result ≤ 125 }
+fn answer_words<R: Read + Drop, W1: Write + Drop, W2: Write + Drop>(
+    rt: &HostRuntime,
+    words: &[String],
+    input: R,
+    out: W1,
+    mut err: W2,
+) -> u8
+    ensures tells { IsAnswered R.remaining W1.contents W2.contents input out err result }
+    ensures within { result ≤ 125 }
 {
     match invocation(rt.alloc(), words) {
-        Ok(invocation) => perform(rt, &invocation, rt.reader(), io::writer(rt), rt.stderr()),
-        Err(refused) => program::refuse_command_line(&mut rt.stderr(), &refused),
+        Ok(invocation) => perform(rt, &invocation, input, out, err),
+        Err(refused) => program::refuse_command_line(&mut err, &refused),
     }
 }
 
@@ -66,17 +87,8 @@ pub fn perform<R: Read + Drop, W1: Write + Drop, W2: Write + Drop>(
     out: W1,
     err: W2,
 ) -> u8
-    // A refusal before anything is executed, of a file or of memory; or what was executed, on
-    // sectors in memory or on those of a file.
-    ensures tells { (result ≡ 122) ⊎ ((result ≡ 124)
-        ⊎ ((NamesNoVolume invocation.now × IsExecuted
-        ⟦<RamDevice as Device>⟧.honest ⟦<RamDevice as Device>⟧.disk ⟦<RamDevice as Device>⟧.size
-        ⟦<RamDevice as Device>⟧.failures R.remaining W1.contents W2.contents
-        IsNewInMemory invocation.now input out err result)
-        ⊎ ((NamesNoVolume invocation.now → ⊥) × IsExecuted
-        ⟦<FileDevice as Device>⟧.honest ⟦<FileDevice as Device>⟧.disk ⟦<FileDevice as Device>⟧.size
-        ⟦<FileDevice as Device>⟧.failures R.remaining W1.contents W2.contents
-        (IsNewInFile invocation.now) invocation.now input out err result))) }
+    ensures tells { IsPerformed R.remaining W1.contents W2.contents
+        invocation.now input out err result }
     ensures within { result ≤ 124 }
 {
     let opened = match invocation {
@@ -105,15 +117,8 @@ fn perform_run<R: Read + Drop, W1: Write + Drop, W2: Write + Drop>(
     mut err: W2,
 ) -> u8
     requires { invocation.now ≡ asked.Run run.now }
-    ensures tells { (result ≡ 122) ⊎ ((result ≡ 124)
-        ⊎ ((NamesNoVolume invocation.now × IsExecuted
-        ⟦<RamDevice as Device>⟧.honest ⟦<RamDevice as Device>⟧.disk ⟦<RamDevice as Device>⟧.size
-        ⟦<RamDevice as Device>⟧.failures R.remaining W1.contents W2.contents
-        IsNewInMemory invocation.now input out err result)
-        ⊎ ((NamesNoVolume invocation.now → ⊥) × IsExecuted
-        ⟦<FileDevice as Device>⟧.honest ⟦<FileDevice as Device>⟧.disk ⟦<FileDevice as Device>⟧.size
-        ⟦<FileDevice as Device>⟧.failures R.remaining W1.contents W2.contents
-        (IsNewInFile invocation.now) invocation.now input out err result))) }
+    ensures tells { IsPerformed R.remaining W1.contents W2.contents
+        invocation.now input out err result }
     ensures within { result ≤ 124 }
 {
     let (module, random) = match read_files(rt, run) {

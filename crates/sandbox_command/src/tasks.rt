@@ -26,7 +26,7 @@ pub(crate) fn format<D: Device>(device: D, sectors: u32, slots: u32) -> (Result<
 {
     match Volume::format(device, sectors, slots) {
         Ok(device) => (Ok(()), device),
-        Err(Refused { device, fault }) => (Err(Failure::Volume(fault)), device),
+        Err(Refused { fault, device }) => (Err(Failure::Volume(fault)), device),
     }
 }
 

@@ -1,5 +1,10 @@
-use Rattle.std.proofs.Common.{rules}
+use Rattle.std.proofs.Common.{ℕ, rules, sym, subst}
+use Rattle.sandbox_command.specs.Files.{IsAnswered}
 use Rattle.sandbox_command.proofs.files.exit_code.Goals as goal
 
-pub returns : goal.returns
-returns c = search rules
+pub returns-clause-within : goal.returns-clause-within
+returns-clause-within g c = search rules
+
+pub returns-clause-tells : goal.returns-clause-tells
+returns-clause-tells g c =
+    subst (λ (status : ℕ). IsAnswered g.R.Read.remaining g.W1.Write.contents g.W2.Write.contents c.args.input c.args.out c.args.err status) (sym c.from.ensures) c.answer.ensures.tells

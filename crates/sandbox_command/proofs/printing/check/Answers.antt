@@ -1,4 +1,4 @@
-use Rattle.std.proofs.Common.{◌≡◌, ℕ, Some, refl, subst, ap, ◌∙◌}
+use Rattle.std.proofs.Common.{◌≡◌, Some, refl, subst, ap, ◌∙◌}
 use Rattle.std.specs.Io.KnownBytes.{Appends}
 use Rattle.vol_tree.specs.Superblock.{version_number}
 use Rattle.sandbox_words.specs.Request.{Text}

@@ -1,4 +1,4 @@
-use Rattle.std.proofs.Common.{◌≡◌, List, ℕ, Option, Some, ◌++◌, ◌∙◌, codes, subst, take, OnErr, OnOk}
+use Rattle.std.proofs.Common.{◌≡◌, List, ℕ, Some, ◌++◌, ◌∙◌, codes, subst, take, OnErr, OnOk}
 use Rattle.std.specs.Prelude.{decimal}
 use Rattle.std.specs.Io.KnownBytes.{Appends}
 use Rattle.std.proofs.KnownBytes.{Keeps-refl}

@@ -1,4 +1,4 @@
-use Rattle.std.proofs.Common.{◌≡◌, ◌<◌, ◌∙◌, ap, length, List, ℕ, sym, subst, ◌∷◌, arith}
+use Rattle.std.proofs.Common.{◌≡◌, ◌<◌, length, List, ℕ, ◌∷◌, arith}
 use Rattle.std.specs.Prelude.{slice_set}
 use Rattle.vol_sector.specs.Disk.{After, Keeps, Leaves, Wrote}
 use Rattle.sandbox_device.specs.declared.file_device.FileDevice.{FileDevice}
