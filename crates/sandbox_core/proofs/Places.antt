@@ -3,12 +3,12 @@ use Rattle.std.proofs.Common.{◌≡◌, ℕ, List, [], ◌∷◌, Option, refl,
 use Rattle.vol_sector.specs.Disk.{Disk}
 use Rattle.wasm_store.specs.declared.call.HostCall.{HostCall}
 use Rattle.wasm_store.specs.declared.call.Errno.{Errno}
-use Rattle.wasm_interp.specs.declared.pause.Pause.{Pause}
-use Rattle.wasm_interp.specs.declared.pause.Pause.TheVariants.{Called, Spent, Ended}
-use Rattle.wasm_interp.specs.Configuration.{Instance, Configuration}
+use Rattle.wasm_steps.specs.declared.pause.Pause.{Pause}
+use Rattle.wasm_steps.specs.declared.pause.Pause.TheVariants.{Called, Spent, Ended}
+use Rattle.wasm_steps.specs.Configuration.{Instance, Configuration}
 use Rattle.wasm_interp.specs.Machine.{Snapshot, Represents}
 use Rattle.wasm_interp.specs.Promise.{Paused, Resumed}
-use Rattle.wasm_interp.specs.Steps.{CallsOf, silent, answers, Reach, stays, goes}
+use Rattle.wasm_steps.specs.Steps.{CallsOf, silent, answers, Reach, stays, goes}
 use Rattle.wasi_calls.specs.Host.{HostState, HostCalls}
 use Rattle.wasi_calls.proofs.Moments.{step_changes}
 

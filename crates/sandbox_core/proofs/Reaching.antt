@@ -1,5 +1,5 @@
 -- Runs that begin where others ended.
-use Rattle.std.proofs.Common.{◌≡◌, ◌⊎◌, ℕ, List, [], ◌∷◌, ◌++◌, refl, sym, ap, ◌∙◌, subst, inl, inr, arith, append_assoc, append-nil}
+use Rattle.std.proofs.Common.{◌≡◌, ◌⊎◌, ℕ, List, [], ◌∷◌, ◌++◌, refl, sym, ap, ◌∙◌, subst, inl, inr, arith, append_assoc, append-nil, ◌+◌, None}
 use Rattle.vol_sector.specs.Disk.{Image, Disk, Leaves}
 use Rattle.vol_tree.specs.Tree.{Tree}
 use Rattle.vol_tree.specs.Opened.{Reflects, ReflectsOr}
@@ -12,10 +12,10 @@ use Rattle.wasm_steps.specs.declared.pause.Pause.{Pause}
 use Rattle.wasm_steps.specs.declared.pause.Pause.TheVariants.{Called, Spent, Ended}
 use Rattle.wasm_steps.specs.Configuration.{Instance, Configuration, at, used_by}
 use Rattle.wasm_steps.specs.Steps.{CallsOf, silent, answers, Reach, stays, goes}
-use Rattle.wasm_interp.specs.Machine.{Snapshot, Represents}
+use Rattle.wasm_interp.specs.Machine.{Snapshot, Represents, outcome_of}
 use Rattle.wasm_steps.specs.declared.pause.Outcome.{Outcome}
 use Rattle.wasm_steps.specs.declared.pause.Outcome.TheVariants.{Exited, Trapped, OutOfFuel, OutOfMemory}
-use Rattle.wasm_interp.specs.Promise.{EndsAs, Paused, Resumed}
+use Rattle.wasm_interp.specs.Promise.{EndsAs, Paused, Resumed, HasItsUnit}
 use Rattle.wasi_calls.specs.Moments.{IsTurn}
 use Rattle.sandbox_core.specs.Runs.{answered, PausesFollow, ResumesFollow, StopsAt, LastStopsAt, StopsAs, RunsWithin, Left, Passed}
 
@@ -239,25 +239,29 @@ module _ (H : Type 0) (Calls : CallsOf H) (disk : H → Disk) (numbers : H → S
         (safe.run.reach i c a) (paused_reach H Calls i p g h' (safe.run.last i c a) next.0 next.2) (safe.crash is i c a) safe.numbered (turn (safe.honest_after is));
   }
 
-  abbrev Ran : H → Snapshot → ℕ → H → Snapshot → Outcome → Type 0
-  Ran h s fuel h' s' o = (honest h → honest h') × ((run : (i : Instance) (c : Configuration) → Represents s i c → RunsWithin H Calls i h c fuel h' o s'.used)
-      × (honest h → (i : Instance) (c : Configuration) (a : Represents s i c) → Leaves (disk h) (disk h') (Passed H Calls disk numbers tree i h c fuel h' o s'.used (run i c a))))
+  abbrev Ran : H → Snapshot → Snapshot → ℕ → H → Snapshot → Outcome → Type 0
+  Ran h s t fuel h' s' o = (honest h → honest h') × ((run : (i : Instance) (c : Configuration) → Represents s i c → RunsWithin H Calls i h c fuel h' o s'.used)
+      × (honest h → (i : Instance) (c : Configuration) (a : Represents s i c) → Leaves (disk h) (disk h') (Passed H Calls disk numbers tree i h c fuel h' o s'.used (run i c a)))
+      × (outcome_of t ≡ None → (i : Instance) (c : Configuration) (a : Represents s i c) → HasItsUnit (Ended o) fuel (run i c a).last))
 
   -- the last resume found the fuel used
   pub ran_out : (h g h' : H) (s t s' : Snapshot) (units fuel : ℕ) → SafeSoFar h s g t → Resumed H Calls g h' t s' units Spent → s'.used ≡ fuel
-      → numbers h' ≡ numbers g → (honest g → honest h') → (honest g → IsTurn (disk g) (disk h') (numbers g) (tree g) (tree h')) → Ran h s fuel h' s' OutOfFuel
+      → numbers h' ≡ numbers g → (honest g → honest h') → (honest g → IsTurn (disk g) (disk h') (numbers g) (tree g) (tree h')) → Ran h s t fuel h' s' OutOfFuel
   unfolding so_far_on runs_out safe_on
   ran_out h g h' s t s' units fuel safe more used numbered stays_honest turn =
       let all = safe_on h g h' s t s' units Spent safe more numbered stays_honest turn in
-      (all.honest_after, (runs_out H Calls h g h' s t s' units fuel safe.run more used, all.crash))
+      (all.honest_after, (runs_out H Calls h g h' s t s' units fuel safe.run more used, all.crash, λ running i c a. tt))
 
   -- the last resume found the end
-  pub ran_to_end : (h g h' : H) (s t s' : Snapshot) (units fuel : ℕ) (o : Outcome) → SafeSoFar h s g t → Resumed H Calls g h' t s' units (Ended o)
-      → numbers h' ≡ numbers g → (honest g → honest h') → (honest g → IsTurn (disk g) (disk h') (numbers g) (tree g) (tree h')) → Ran h s fuel h' s' o
+  pub ran_to_end : (h g h' : H) (s t s' : Snapshot) (units fuel : ℕ) (o : Outcome) → SafeSoFar h s g t → Resumed H Calls g h' t s' units (Ended o) → t.used + units ≡ fuel
+      → numbers h' ≡ numbers g → (honest g → honest h') → (honest g → IsTurn (disk g) (disk h') (numbers g) (tree g) (tree h')) → Ran h s t fuel h' s' o
   unfolding so_far_on runs_to_end safe_on
-  ran_to_end h g h' s t s' units fuel o safe more numbered stays_honest turn =
+  ran_to_end h g h' s t s' units fuel o safe more all_units numbered stays_honest turn =
       let all = safe_on h g h' s t s' units (Ended o) safe more numbered stays_honest turn in
-      (all.honest_after, (runs_to_end H Calls h g h' s t s' units fuel o safe.run more, all.crash))
+      let unit : (outcome_of t ≡ None → (i : Instance) (c : Configuration) (a : Represents s i c) → HasItsUnit (Ended o) fuel (runs_to_end H Calls h g h' s t s' units fuel o safe.run more i c a).last) = λ running i c a.
+      let next = more.run i (safe.run.last i c a) (safe.run.stands i c a) in
+      subst (λ (n : ℕ). HasItsUnit (Ended o) n next.0) all_units (next.5 running) in
+      (all.honest_after, (runs_to_end H Calls h g h' s t s' units fuel o safe.run more, all.crash, unit))
 
   -- a commit after a run leaves no other tree
   pub commit_after : (i : Instance) (h h' : H) (c c' : Configuration) (es : List (HostCall × Errno)) (new : Disk) → Reach H Calls i h c es h' c' → numbers h' ≡ numbers h

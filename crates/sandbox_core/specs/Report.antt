@@ -1,12 +1,14 @@
 -- What the report of a run says (`README.md`, "The program").
-use Rattle.std.specs.Prelude.{◌≡◌, ℕ, ◌≤◌, List, Option}
+use Rattle.std.specs.Prelude.{◌≡◌, ℕ, ◌≤◌, List, Option, None}
 use Rattle.vol_sector.specs.Disk.{Disk, Leaves}
 use Rattle.vol_tree.specs.Tree.{Tree}
 use Rattle.vol_tree.specs.declared.superblock.Superblock.{Superblock}
-use Rattle.wasm_interp.specs.Configuration.{Instance, Configuration}
-use Rattle.wasm_interp.specs.Machine.{Represents}
+use Rattle.wasm_steps.specs.Configuration.{Instance, Configuration}
+use Rattle.wasm_interp.specs.Machine.{Represents, outcome_of}
+use Rattle.wasm_interp.specs.Promise.{HasItsUnit}
 use Rattle.wasm_steps.specs.Steps.{CallsOf}
 use Rattle.wasm_steps.specs.declared.pause.Outcome.{Outcome}
+use Rattle.wasm_steps.specs.declared.pause.Pause.TheVariants.{Ended}
 use Rattle.wasi_calls.specs.Host.{HostState, HostCalls}
 use Rattle.sandbox_core.specs.declared.report.Report.{Report}
 use Rattle.sandbox_core.specs.Session.{SessionState, Commits, History, Follow, used_by}
@@ -38,6 +40,8 @@ module _ {D R W1 W2 : Type 0} (honest : D → Type 0) (disk : D → Disk) (secto
     pub follow : Follow honest disk sectors_on failures remaining out_contents err_contents session resumes last
     pub run : (i : Instance) (c : Configuration) → Represents session.machine i c
         → RunsWithin (HostState D R W1 W2) Calls i session.host c fuel last.host report.outcome (used_by last)
+    -- memory was refused only to a step that has its unit
+    pub unit : outcome_of session.machine ≡ None → (i : Instance) (c : Configuration) (stands : Represents session.machine i c) → HasItsUnit (Ended report.outcome) fuel (run i c stands).last
     pub volume : Commits honest disk sectors_on failures last.host.volume report.volume
     pub crash : honest session.host.volume.device → (i : Instance) (c : Configuration) (stands : Represents session.machine i c)
         → Leaves (disk_of session.host) (disk volume.new.device) (Passed (HostState D R W1 W2) Calls disk_of numbers_of tree_of i session.host c fuel last.host report.outcome (used_by last) (run i c stands))

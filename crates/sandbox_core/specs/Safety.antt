@@ -5,7 +5,7 @@ use Rattle.vol_sector.specs.Disk.{Image, Disk}
 use Rattle.vol_tree.specs.Tree.{Tree}
 use Rattle.vol_tree.specs.Opened.{Opened}
 use Rattle.vol_tree.specs.Stands.{StandsAs}
-use Rattle.wasm_interp.specs.declared.pause.Pause.{Pause}
+use Rattle.wasm_steps.specs.declared.pause.Pause.{Pause}
 use Rattle.wasi_calls.specs.declared.wasi_host.HostParts.{HostParts}
 use Rattle.wasi_calls.specs.Moments.{Kept, IsSafe}
 use Rattle.sandbox_core.specs.declared.session.Finished.{Finished}

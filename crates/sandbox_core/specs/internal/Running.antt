@@ -1,9 +1,11 @@
 -- A session on its way: that it stands for a configuration, and a run of it before the commit at its end.
-use Rattle.std.specs.Prelude.{◌≡◌, ℕ, List, Option}
+use Rattle.std.specs.Prelude.{◌≡◌, ℕ, List, Option, None}
 use Rattle.vol_sector.specs.Disk.{Disk, Leaves}
 use Rattle.wasm_steps.specs.declared.pause.Outcome.{Outcome}
+use Rattle.wasm_steps.specs.declared.pause.Pause.TheVariants.{Ended}
 use Rattle.wasm_steps.specs.Configuration.{Instance, Configuration}
-use Rattle.wasm_interp.specs.Machine.{Snapshot, Represents}
+use Rattle.wasm_interp.specs.Machine.{Snapshot, Represents, outcome_of}
+use Rattle.wasm_interp.specs.Promise.{HasItsUnit}
 use Rattle.wasi_calls.specs.Host.{HostState}
 use Rattle.sandbox_core.specs.Session.{SessionState, History, Follow, used_by}
 use Rattle.sandbox_core.specs.Runs.{RunsWithin, Passed}
@@ -30,6 +32,7 @@ module _ {D R W1 W2 : Type 0} (honest : D → Type 0) (disk : D → Disk) (secto
     pub followed : Followed old new
     pub run : (i : Instance) (c : Configuration) → Represents old.machine i c
         → RunsWithin (HostState D R W1 W2) (Calls honest disk sectors_on failures remaining out_contents err_contents) i old.host c fuel new.host outcome (used_by new)
+    pub unit : outcome_of old.machine ≡ None → (i : Instance) (c : Configuration) (stands : Represents old.machine i c) → HasItsUnit (Ended outcome) fuel (run i c stands).last
     pub crash : honest old.host.volume.device → (i : Instance) (c : Configuration) (stands : Represents old.machine i c)
         → Leaves (disk old.host.volume.device) (disk new.host.volume.device)
         (Passed (HostState D R W1 W2) (Calls honest disk sectors_on failures remaining out_contents err_contents)

@@ -8,6 +8,7 @@ use Rattle.sandbox_core.proofs.report.run_out.Goals as goal
 pub running-init : goal.running-init
 running-init g c = record {
   within = c.requires;
+  going = λ running. running;
   size = refl;
   followed = ([], refl);
   so_far = safe_so_far _ (Calls g.D.Device.honest g.D.Device.disk g.D.Device.size g.D.Device.failures g.R.Read.remaining g.W1.Write.contents g.W2.Write.contents)
@@ -23,6 +24,7 @@ running-preserved g c =
     let new = c.resume.new.self in
     record {
       within = let rise = c.in-Called.ensures.run.units_rise in omega (arith, rise, c.used.ensures, c.running.invariant.within);
+      going = λ running. c.in-Called.ensures.run.end_is;
       size = c.in-Called.ensures.size ∙ c.running.invariant.size;
       followed = followed_on g.D.Device.honest g.D.Device.disk g.D.Device.size g.D.Device.failures g.R.Read.remaining g.W1.Write.contents g.W2.Write.contents first old new _ _ c.running.invariant.followed c.in-Called.ensures;
       so_far = safe_on _ (Calls g.D.Device.honest g.D.Device.disk g.D.Device.size g.D.Device.failures g.R.Read.remaining g.W1.Write.contents g.W2.Write.contents)
@@ -42,7 +44,7 @@ returns-in-Spent-clause-run g c =
     (λ h. g.D.Device.honest h.volume.device) first.host old.host new.host
     first.machine old.machine new.machine _ c.args.fuel c.running.invariant.so_far c.in-Spent.ensures.run
     (omega (arith, c.in-Spent.ensures.run.units_rise, c.used.ensures, c.running.invariant.within)) c.in-Spent.ensures.numbers c.in-Spent.ensures.honest_after c.in-Spent.ensures.crash in
-    record { honest_after = ran.0; followed = followed_on g.D.Device.honest g.D.Device.disk g.D.Device.size g.D.Device.failures g.R.Read.remaining g.W1.Write.contents g.W2.Write.contents first old new _ _ c.running.invariant.followed c.in-Spent.ensures; numbers = c.in-Spent.ensures.numbers ∙ c.running.invariant.so_far.numbered; size = c.in-Spent.ensures.size ∙ c.running.invariant.size; run = ran.1.0; crash = ran.1.1 }
+    record { honest_after = ran.0; followed = followed_on g.D.Device.honest g.D.Device.disk g.D.Device.size g.D.Device.failures g.R.Read.remaining g.W1.Write.contents g.W2.Write.contents first old new _ _ c.running.invariant.followed c.in-Spent.ensures; numbers = c.in-Spent.ensures.numbers ∙ c.running.invariant.so_far.numbered; size = c.in-Spent.ensures.size ∙ c.running.invariant.size; run = ran.1.0; unit = λ running. ran.1.2 (c.running.invariant.going running); crash = ran.1.1 }
 
 -- the run ended
 pub returns-in-Ended-clause-run : goal.returns-in-Ended-clause-run
@@ -53,5 +55,5 @@ returns-in-Ended-clause-run g c =
     let ran = ran_to_end _ (Calls g.D.Device.honest g.D.Device.disk g.D.Device.size g.D.Device.failures g.R.Read.remaining g.W1.Write.contents g.W2.Write.contents)
     (disk_of g.D.Device.honest g.D.Device.disk g.D.Device.size g.D.Device.failures g.R.Read.remaining g.W1.Write.contents g.W2.Write.contents) (numbers_of g.D.Device.honest g.D.Device.disk g.D.Device.size g.D.Device.failures g.R.Read.remaining g.W1.Write.contents g.W2.Write.contents) (tree_of g.D.Device.honest g.D.Device.disk g.D.Device.size g.D.Device.failures g.R.Read.remaining g.W1.Write.contents g.W2.Write.contents)
     (λ h. g.D.Device.honest h.volume.device) first.host old.host new.host
-    first.machine old.machine new.machine _ c.args.fuel c.in-Ended.outcome c.running.invariant.so_far c.in-Ended.ensures.run c.in-Ended.ensures.numbers c.in-Ended.ensures.honest_after c.in-Ended.ensures.crash in
-    record { honest_after = ran.0; followed = followed_on g.D.Device.honest g.D.Device.disk g.D.Device.size g.D.Device.failures g.R.Read.remaining g.W1.Write.contents g.W2.Write.contents first old new _ _ c.running.invariant.followed c.in-Ended.ensures; numbers = c.in-Ended.ensures.numbers ∙ c.running.invariant.so_far.numbered; size = c.in-Ended.ensures.size ∙ c.running.invariant.size; run = ran.1.0; crash = ran.1.1 }
+    first.machine old.machine new.machine _ c.args.fuel c.in-Ended.outcome c.running.invariant.so_far c.in-Ended.ensures.run (omega (arith, c.used.ensures, c.running.invariant.within)) c.in-Ended.ensures.numbers c.in-Ended.ensures.honest_after c.in-Ended.ensures.crash in
+    record { honest_after = ran.0; followed = followed_on g.D.Device.honest g.D.Device.disk g.D.Device.size g.D.Device.failures g.R.Read.remaining g.W1.Write.contents g.W2.Write.contents first old new _ _ c.running.invariant.followed c.in-Ended.ensures; numbers = c.in-Ended.ensures.numbers ∙ c.running.invariant.so_far.numbered; size = c.in-Ended.ensures.size ∙ c.running.invariant.size; run = ran.1.0; unit = λ running. ran.1.2 (c.running.invariant.going running); crash = ran.1.1 }

@@ -1,6 +1,6 @@
 use Rattle.wasi_calls.specs.Host.{HostState, HostCalls}
 use Rattle.wasi_calls.proofs.Hosting.{keep_moments}
-use Rattle.wasi_calls.proofs.Moments.{resumes_keep}
+use Rattle.wasi_calls.proofs.Moments.{pauses_keep}
 use Rattle.sandbox_core.proofs.Places.{stays_there}
 use Rattle.sandbox_core.proofs.session.Session.resume.Goals as goal
 
@@ -9,9 +9,10 @@ pub returns : goal.returns
 returns g c =
     let keeps = keep_moments g.D.Device.honest g.D.Device.disk g.D.Device.size g.D.Device.failures g.R.Read.remaining g.W1.Write.contents g.W2.Write.contents
     (λ d t image h. g.met.D.Device.counts_now d t image h) (λ d image h. g.met.D.Device.only_now d image h) in
-    let kept = resumes_keep (λ (h : HostState _ _ _ _). g.D.Device.disk h.volume.device) (λ h. h.volume.numbers) (λ h. h.volume.tree) (λ h. g.D.Device.honest h.volume.device)
+    let run = c.resume.ensures.run c.self.invariant.instance c.self.invariant.configuration c.self.invariant.stands in
+    let kept = pauses_keep (λ (h : HostState _ _ _ _). g.D.Device.disk h.volume.device) (λ h. h.volume.numbers) (λ h. h.volume.tree) (λ h. g.D.Device.honest h.volume.device)
     (HostCalls g.D.Device.honest g.D.Device.disk g.D.Device.size g.D.Device.failures g.R.Read.remaining g.W1.Write.contents g.W2.Write.contents)
-    _ _ _ _ _ _ c.self.invariant.instance c.self.invariant.configuration keeps c.self.invariant.stands c.resume.ensures in
+    _ _ _ c.self.invariant.instance c.self.invariant.configuration run.0 keeps run.2 in
     let place = stays_there g.D.Device.honest g.D.Device.disk g.D.Device.size g.D.Device.failures g.R.Read.remaining g.W1.Write.contents g.W2.Write.contents
     _ _ _ _ _ _ c.self.invariant.instance c.self.invariant.configuration c.self.invariant.stands c.resume.ensures in
     rw (← c.self.view_is) record {
