@@ -5,7 +5,8 @@ use Rattle.vol_sector.specs.Disk.{Image, Disk, Leaves}
 use Rattle.vol_sector.specs.declared.fault.Refused.{Refused}
 use Rattle.vol_log.proofs.Moments.{leaves_same, leaves_then}
 use Rattle.vol_tree.specs.Tree.{Tree}
-use Rattle.vol_tree.specs.Stands.{Stands}
+use Rattle.vol_tree.specs.declared.superblock.Superblock.{Superblock}
+use Rattle.vol_tree.specs.Stands.{StandsAs}
 use Rattle.vol_tree.specs.Opened.{Opened}
 use Rattle.vol_tree.proofs.OneTree.{one_tree}
 use Rattle.wasm_store.specs.declared.call.HostCall.{HostCall}
@@ -23,22 +24,23 @@ use Rattle.sandbox_command.specs.Volumes.{IsOpenFor, LeftByOpening}
 use Rattle.sandbox_command.specs.declared.program.Executed.{Executed}
 use Rattle.sandbox_command.specs.Running.{Launches, LeftByRun, device_of}
 
-module _ (H : Type 0) (Calls : CallsOf H) (disk : H → Disk) (tree : H → Tree) where
+module _ (H : Type 0) (Calls : CallsOf H) (disk : H → Disk) (numbers : H → Superblock) (tree : H → Tree) where
   -- the image stands for the tree of a host that the run comes by
   abbrev InRun : Instance → H → Configuration → List (HostCall × Errno) → H → Configuration → Image → Type 0
-  InRun i h c es h' c' image = (host : H) × ComesBy H Calls i h c es h' c' host × Stands image (tree host)
+  InRun i h c es h' c' image = (host : H) × ComesBy H Calls i h c es h' c' host × StandsAs image (numbers h) (tree host)
 
   -- the run comes by the host that it begins with
-  pub began : (i : Instance) (h h' : H) (c c' : Configuration) (es : List (HostCall × Errno)) (a new : Disk) (T : Tree) → Reach H Calls i h c es h' c' → T ≡ tree h
-      → ((m : Image) → a.may_leave m → Stands m T) → Leaves a (disk h) (λ m. ⊥) → Leaves (disk h) new (Left H Calls disk tree i h c es h' c') → Leaves a new (InRun i h c es h' c')
-  began i h h' c c' es a new T run same lasts first second =
-      leaves_then a (disk h) new (λ m. ⊥) (Left H Calls disk tree i h c es h' c') (InRun i h c es h' c') first second (λ m never. absurd never) on
+  pub began : (i : Instance) (h h' : H) (c c' : Configuration) (es : List (HostCall × Errno)) (a new : Disk) (v : Superblock) (T : Tree) → Reach H Calls i h c es h' c' → v ≡ numbers h → T ≡ tree h
+      → ((m : Image) → a.may_leave m → StandsAs m v T) → Leaves a (disk h) (λ m. ⊥) → Leaves (disk h) new (Left H Calls disk numbers tree i h c es h' c') → Leaves a new (InRun i h c es h' c')
+  began i h h' c c' es a new v T run one same lasts first second =
+      leaves_then a (disk h) new (λ m. ⊥) (Left H Calls disk numbers tree i h c es h' c') (InRun i h c es h' c') first second (λ m never. absurd never) on
     where
-      on : (m : Image) → Left H Calls disk tree i h c es h' c' m → InRun i h c es h' c' m
+      on : (m : Image) → Left H Calls disk numbers tree i h c es h' c' m → InRun i h c es h' c' m
       on m (inl r) =
           let could : a.may_leave r.earlier = ⊎_elim (λ was. was) (λ never. absurd never) (first.now r.earlier r.could) in
-          let is : r.tree ≡ tree h = one_tree r.earlier r.tree T r.stood (lasts r.earlier could) ∙ same in
-          (h, record { at = c; before = []; after = es; parts = refl; comes = stays; goes_on = run }, subst (λ (U : Tree). Stands m U) is r.stands)
+          let stood : StandsAs r.earlier (numbers h) T = subst (λ (u : Superblock). StandsAs r.earlier u T) one (lasts r.earlier could) in
+          let is : r.tree ≡ tree h = one_tree r.earlier (numbers h) r.tree T r.stood stood ∙ same in
+          (h, record { at = c; before = []; after = es; parts = refl; comes = stays; goes_on = run }, subst (λ (U : Tree). StandsAs m (numbers h) U) is r.stands)
       on m (inr other) = other
 
 -- the device of what is handed back
@@ -54,9 +56,9 @@ module _ {D : Type 0} (is_honest : D → Type 0) (disk : D → Disk) (sectors_on
   opening_crash (Some file) device v opened h = opened.crash h
   opening_crash None device v opened h = opened.crash h
 
-  pub opened_lasts : (file : Option (Bor Text)) (device : D) (v : Opened D) → IsOpenFor is_honest disk sectors_on failures file device v → is_honest device → (c : Image) → (disk v.device).may_leave c → Stands c v.tree
-  opened_lasts (Some file) device v opened h c may = (v.numbers, opened.working.lasts h c may)
-  opened_lasts None device v opened h c may = (v.numbers, opened.working.lasts h c may)
+  pub opened_lasts : (file : Option (Bor Text)) (device : D) (v : Opened D) → IsOpenFor is_honest disk sectors_on failures file device v → is_honest device → (c : Image) → (disk v.device).may_leave c → StandsAs c v.numbers v.tree
+  opened_lasts (Some file) device v opened h c may = opened.working.lasts h c may
+  opened_lasts None device v opened h c may = opened.working.lasts h c may
 
   pub opened_honest : (file : Option (Bor Text)) (device : D) (v : Opened D) → IsOpenFor is_honest disk sectors_on failures file device v → is_honest device → is_honest v.device
   opened_honest (Some file) device v opened h = opened.working.honest.0 h
@@ -78,7 +80,7 @@ module _ {D : Type 0} (is_honest : D → Type 0) (disk : D → Disk) (sectors_on
   kept_honest Memory old new same h = subst (λ (v : Opened D). is_honest v.device) (sym same) h
 
   module _ {R W1 W2 : Type 0} (remaining : R → Option (List ℕ)) (outs : W1 → Option (List ℕ)) (errs : W2 → Option (List ℕ)) (m : Module) (fuel : ℕ) (parts : HostParts D R W1 W2) (left : Executed D R W1 W2) where
-    pub launch_crash : (launched : Launches is_honest disk sectors_on failures remaining outs errs m fuel parts left) → is_honest parts.volume.device → ((c : Image) → (disk parts.volume.device).may_leave c → Stands c parts.volume.tree)
+    pub launch_crash : (launched : Launches is_honest disk sectors_on failures remaining outs errs m fuel parts left) → is_honest parts.volume.device → ((c : Image) → (disk parts.volume.device).may_leave c → StandsAs c parts.volume.numbers parts.volume.tree)
         → Leaves (disk parts.volume.device) (disk left.device) (LeftByRun is_honest disk sectors_on failures remaining outs errs m fuel parts left launched)
     launch_crash (inl refused) h lasts =
         subst (λ (d : D). Leaves (disk parts.volume.device) (disk d) (λ c. ⊥)) (sym refused.device) (kept_crash refused.fault parts.volume refused.volume refused.kept h)

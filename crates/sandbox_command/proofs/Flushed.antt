@@ -38,6 +38,8 @@ module _ {D : Type 0} (is_honest : D → Type 0) (disk : D → Disk) (size failu
       why = refused.why;
       crash = refused.crash;
       unwritten = refused.unwritten;
+      untouched = refused.untouched;
+      installs = refused.installs;
       reads_nothing = refused.reads_nothing;
       prints_nothing = Keeps-trans before printed after refused.prints_nothing kept;
     })) (performs.ends h);

@@ -13,10 +13,12 @@ use Rattle.vol_tree.specs.Tree.{Tree}
 use Rattle.vol_tree.specs.Stands.{StandsAs, empty_tree}
 use Rattle.vol_tree.specs.Fresh.{IsNoneOrEmpty}
 use Rattle.vol_tree.specs.Opened.{Opened}
-use Rattle.vol_tree.specs.Opening.{StandsOn, NoVolumeOn, HasNoVersion, IsDamaged}
-use Rattle.vol_tree.proofs.OneTree.{one_tree, same_superblock, version_is}
+use Rattle.vol_tree.specs.Opening.{StandsOn, NoVolumeOn, HasNoVersion, IsDamaged, HoldsOn}
+use Rattle.vol_tree.proofs.OneTree.{one_volume, same_superblock, version_is}
+use Rattle.sandbox_command.specs.Doing.{HoldsNothing}
 use Rattle.sandbox_command.specs.Volumes.{fresh_numbers, FreshRefusedBy, IsFresh, IsFreshRefused, IsRefused}
 use Rattle.sandbox_command.proofs.Opened.{refused_by}
+use Rattle.sandbox_command.proofs.Refusals.{holds_nothing}
 
 has_ranges : HasRanges fresh_numbers
 has_ranges = record { least = omega arith; most = omega arith; some_slots = omega arith; few_slots = omega arith; room = omega arith }
@@ -26,7 +28,7 @@ same_numbers : (c : Image) (v : Superblock) (T U : Tree) → StandsAs c v T → 
 same_numbers c v T U one other = same_superblock (c 0) v fresh_numbers one.ranges other.ranges one.front other.front
 
 same_empty : (c : Image) (v : Superblock) (T U : Tree) → StandsAs c v T → StandsAs c fresh_numbers U → T ≡ U
-same_empty c v T U one other = one_tree c T U (v, one) (fresh_numbers, other)
+same_empty c v T U one other = (one_volume c v fresh_numbers T U one other).1
 
 -- what isn't less is as great
 as_great : (a n : ℕ) → (a < n → ⊥) → n ≤ a
@@ -95,14 +97,17 @@ module _ {D : Type 0} (is_honest : D → Type 0) (disk : D → Disk) (sectors_on
       → (is_honest device → IfErr r (λ e. e.fault ≡ fault.Damaged → IsDamaged (sectors_on device) (disk device).seen))
       → IfErr r (λ e. Named e.fault)
       → ((v : Superblock) (T : Tree) → is_honest device → StandsOn (sectors_on device) (disk device).seen v T → IfErr r (λ e. Leaves (disk device) (disk e.device) (λ c. StandsAs c v T)))
-      → (is_honest device → IfErr r (λ e. (e.fault ≡ fault.NotAVolume) ⊎ (e.fault ≡ fault.Version) → Leaves (disk device) (disk e.device) (λ c. ⊥)))
+      → (is_honest device → HoldsNothing (sectors_on device) (disk device).seen → IfErr r (λ e. Leaves (disk device) (disk e.device) (λ c. ⊥)))
+      → ((v : Superblock) (m : Image) → is_honest device → HoldsOn (sectors_on device) (disk device).seen v m → IfErr r (λ e. HoldsOn (sectors_on device) (disk e.device).seen v m × Leaves (disk device) (disk e.device) (λ c. HoldsOn (sectors_on device) c v m)))
       → IfErr r (λ e. (is_honest device ↔ is_honest e.device) × (sectors_on e.device ≡ sectors_on device) × (failures e.device ≡ counted (is_device e.fault) (failures device)))
       → IfErr r (IsRefused is_honest disk sectors_on failures device)
-  refused_open device (Ok v) none version damaged named crash unwritten kept = tt
-  refused_open device (Err e) none version damaged named crash unwritten kept = record {
+  refused_open device (Ok v) none version damaged named crash unwritten installs kept = tt
+  refused_open device (Err e) none version damaged named crash unwritten installs kept = record {
     why = λ h. refused_by e.fault (sectors_on device) (disk device).seen (none h) (version h) (damaged h) named;
     crash = crash;
-    unwritten = unwritten;
+    unwritten = λ h is. unwritten h (holds_nothing (sectors_on device) (disk device).seen e.fault (none h) (version h) is);
+    untouched = unwritten;
+    installs = λ v m h holds. (installs v m h holds).1;
     honest = kept.0;
     size = kept.1;
     failed = kept.2;

@@ -11,3 +11,4 @@ mod Missing
 mod Opened
 mod FreshVolume
 mod Began
+mod Refusals

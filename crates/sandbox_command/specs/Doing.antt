@@ -8,8 +8,9 @@ use Rattle.vol_sector.specs.declared.fault.VolumeFault.TheVariants.{NotAVolume, 
 use Rattle.vol_inode.specs.declared.version.Version.TheVariants.{One, Two}
 use Rattle.vol_tree.specs.declared.superblock.Superblock.{Superblock}
 use Rattle.vol_tree.specs.Tree.{Tree}
-use Rattle.vol_tree.specs.Stands.{Stands, StandsAs}
-use Rattle.vol_tree.specs.Opening.{StandsOn, NoVolumeOn, HasNoVersion, IsDamaged}
+use Rattle.vol_tree.specs.Stands.{StandsAs}
+use Rattle.vol_tree.specs.Opened.{raised}
+use Rattle.vol_tree.specs.Opening.{StandsOn, HoldsOn, NoVolumeOn, HasNoVersion, IsDamaged}
 use Rattle.sandbox_words.specs.declared.request.Task.{Task}
 use Rattle.sandbox_words.specs.declared.request.Task.TheVariants.{List as Ls, Get, Put, Check, Upgrade}
 use Rattle.sandbox_command.specs.declared.failure.Failure.{Failure}
@@ -39,13 +40,21 @@ IsPartOf (Put path) v T given U = IsPartOfPut v T path.now given U
 IsPartOf Check v T given U = U ≡ T
 IsPartOf Upgrade v T given U = U ≡ T
 
+-- a stop inside an upgrade may also leave the tree with version 2
+abbrev pub IsRaised : Task → Superblock → Tree → Image → Type 0
+IsRaised (Ls path) v T c = ⊥
+IsRaised (Get path) v T c = ⊥
+IsRaised (Put path) v T c = ⊥
+IsRaised Check v T c = ⊥
+IsRaised Upgrade v T c = StandsAs c (raised v) T
+
 -- what each crash leaves where a task that changes a volume ended with success
 abbrev pub Lasts : Task → Superblock → Tree → (Image → Type 0) → Type 0
 Lasts (Ls path) v U may_leave = Unit {0}
 Lasts (Get path) v U may_leave = Unit {0}
-Lasts (Put path) v U may_leave = (c : Image) → may_leave c → Stands c U
+Lasts (Put path) v U may_leave = (c : Image) → may_leave c → StandsAs c v U
 Lasts Check v U may_leave = Unit {0}
-Lasts Upgrade v U may_leave = (c : Image) → may_leave c → StandsAs c (record v { version = Two }) U
+Lasts Upgrade v U may_leave = (c : Image) → may_leave c → StandsAs c (raised v) U
 
 -- the tasks that print nothing
 abbrev pub PrintsNothing : Task → Type 0
@@ -62,6 +71,10 @@ ReadsNothing (Get path) = Unit {0}
 ReadsNothing (Put path) = ⊥
 ReadsNothing Check = Unit {0}
 ReadsNothing Upgrade = Unit {0}
+
+-- the first sector, or the log's header, is that of no volume on a device with this many sectors
+abbrev pub HoldsNothing : ℕ → Image → Type 0
+HoldsNothing size image = (v : Superblock) (m : Image) → HoldsOn size image v m → ⊥
 
 -- why a volume may be refused
 abbrev pub RefusedBy : VolumeFault → ℕ → Image → Type 0
@@ -82,17 +95,19 @@ module _ {D : Type 0} (is_honest : D → Type 0) (disk : D → Disk) (sectors_on
     pub stands : StandsOn (sectors_on device) (disk device).seen numbers tree
     pub new_tree : Tree
     pub does : Does task numbers tree given unread before after new_tree done
-    pub crash : Leaves (disk device) (disk left) (ReflectsAny (disk device) (IsPartOf task numbers tree given))
+    pub crash : Leaves (disk device) (disk left) (λ c. ReflectsAny (disk device) numbers (IsPartOf task numbers tree given) c ⊎ IsRaised task numbers tree c)
     pub lasts : OnOk done (Lasts task numbers new_tree (disk left).may_leave)
 
-  -- The volume is refused, and nothing read or printed. What stands for a tree stands for it still, and what is no volume
-  -- of a known version isn't written to.
+  -- The volume is refused, and nothing read or printed. What stands for a tree stands for it still. What is no volume of a
+  -- known version isn't written to, nor is one whose first sector or log header is wrong; else these stay, with the content.
   pub record WasRefused : Type 0 where
     pub fault : VolumeFault
     pub is : done ≡ Err (Volume fault)
     pub why : RefusedBy fault (sectors_on device) (disk device).seen
     pub crash : (v : Superblock) (T : Tree) → StandsOn (sectors_on device) (disk device).seen v T → Leaves (disk device) (disk left) (λ c. StandsAs c v T)
     pub unwritten : (fault ≡ NotAVolume) ⊎ (fault ≡ Version) → Leaves (disk device) (disk left) (λ c. ⊥)
+    pub untouched : HoldsNothing (sectors_on device) (disk device).seen → Leaves (disk device) (disk left) (λ c. ⊥)
+    pub installs : (v : Superblock) (m : Image) → HoldsOn (sectors_on device) (disk device).seen v m → Leaves (disk device) (disk left) (λ c. HoldsOn (sectors_on device) c v m)
     pub reads_nothing : unread ≡ given
     pub prints_nothing : Keeps before after
 

@@ -6,7 +6,7 @@ use Rattle.clap.specs.Words.{subcommand_of}
 use Rattle.vol_sector.specs.Disk.{Disk}
 use Rattle.sandbox_device.specs.declared.file_device.FileDevice.{FileDevice}
 use Rattle.sandbox_device.specs.declared.ram_device.RamDevice.{RamDevice}
-use Rattle.sandbox_device.specs.File.{kept}
+use Rattle.sandbox_device.specs.File.{kept, KeepsItsModel}
 use Rattle.sandbox_device.specs.Ram.{held}
 use Rattle.sandbox_words.specs.declared.request.Invocation.{Invocation}
 use Rattle.sandbox_words.specs.declared.request.Invocation.TheVariants as asked
@@ -60,7 +60,7 @@ module _ {R W1 W2 : Type 0} (remaining : R → Option (List ℕ)) (out_contents 
       (status ≡ 122) ⊎ ((status ≡ 124)
       ⊎ ((NamesNoVolume invocation × IsExecuted (λ d. Unit {0}) memory_disk (λ d. vec_len d.sectors) (λ d. 0) remaining out_contents err_contents
       IsNewInMemory invocation input out err status)
-      ⊎ ((NamesNoVolume invocation → ⊥) × IsExecuted (λ d. Unit {0}) file_disk (λ d. vec_len d.sectors) (λ d. d.failures) remaining out_contents err_contents
+      ⊎ ((NamesNoVolume invocation → ⊥) × IsExecuted (λ d. KeepsItsModel d.file) file_disk (λ d. vec_len d.sectors) (λ d. d.failures) remaining out_contents err_contents
       (IsNewInFile invocation) invocation input out err status)))
 
   -- The words can't be read, or the command line is refused. Or what some words ask for is performed.

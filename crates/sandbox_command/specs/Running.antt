@@ -5,20 +5,19 @@ use Rattle.std.specs.Io.KnownBytes.{Keeps}
 use Rattle.vol_sector.specs.Disk.{Image, Disk, Leaves}
 use Rattle.vol_sector.specs.declared.fault.Refused.{Refused}
 use Rattle.vol_tree.specs.Opened.{Opened}
-use Rattle.vol_tree.specs.Stands.{Stands}
+use Rattle.vol_tree.specs.Stands.{StandsAs}
 use Rattle.wasm_module.specs.declared.module.Module.{Module}
 use Rattle.wasm_steps.specs.Configuration.{Instance, Configuration, first_configuration}
 use Rattle.wasm_steps.specs.Steps.{CallsOf, Reach}
 use Rattle.wasi_calls.specs.declared.wasi_host.HostParts.{HostParts}
 use Rattle.wasi_calls.specs.World.{World}
 use Rattle.wasi_calls.specs.Calls as world
-use Rattle.wasi_calls.specs.Host.{HostState, StreamBytes, world_of}
+use Rattle.wasi_calls.specs.Host.{HostState, StreamBytes, StreamsMove, MayFollow, before_moving, after_moving, world_of}
 use Rattle.sandbox_core.specs.declared.fault.SessionFault.{SessionFault}
 use Rattle.sandbox_core.specs.declared.report.Report.{Report}
 use Rattle.sandbox_core.specs.Session.{SessionState, Opens, Shares, IsRefused, KeepsVolume}
 use Rattle.sandbox_core.specs.Runs.{ComesBy, RunsWithin}
 use Rattle.sandbox_core.specs.Report.{Calls, Reports}
-use Rattle.sandbox_core.specs.Headline.{TellAll}
 use Rattle.sandbox_command.specs.declared.program.Executed.{Executed}
 use Rattle.sandbox_command.specs.Status.{EndsWith, session_status}
 use Rattle.sandbox_command.specs.Streams.{AppendsLines, IsSilent}
@@ -46,9 +45,9 @@ module _ {D R W1 W2 : Type 0} (is_honest : D → Type 0) (disk : D → Disk) (se
     pub ends : left.status ≡ session_status fault
     pub streams : IsSilent out_contents err_contents parts.input parts.out parts.err left
 
-  -- the hosts that a run from a session comes by, whose trees a crash may leave
+  -- the hosts that a run from a session comes by, whose trees a crash may leave, under the volume's numbers
   abbrev pub StandsInRun : (i : Instance) (h : Host) (c : Configuration) (fuel : ℕ) (report : Report D R W1 W2) (last : Host) (used : ℕ) → RunsWithin Host HostCalls i h c fuel last report.outcome used → Image → Type 0
-  StandsInRun i h c fuel report last used run image = (host : Host) × ComesBy Host HostCalls i h c run.answers last run.last host × Stands image host.volume.tree
+  StandsInRun i h c fuel report last used run image = (host : Host) × ComesBy Host HostCalls i h c run.answers last run.last host × StandsAs image h.volume.numbers host.volume.tree
 
   -- A session ran from the module's first configuration, with this fuel.
   pub record Ran (m : Module) (fuel : ℕ) (parts : HostParts D R W1 W2) (left : Executed D R W1 W2) : Type 0 where
@@ -64,14 +63,15 @@ module _ {D R W1 W2 : Type 0} (is_honest : D → Type 0) (disk : D → Disk) (se
     pub input : left.input ≡ reports.last.host.input.reader
     pub out : Keeps (out_contents reports.last.host.out.writer) (out_contents left.out)
     pub err : AppendsLines (err_contents reports.last.host.err.writer) (err_contents left.err)
-    -- Where the streams tell their bytes, it is a run over a tree of paths and these bytes.
-    pub over_paths : is_honest parts.volume.device → (before : StreamBytes) → TellAll is_honest disk sectors_on failures remaining out_contents err_contents session.host before
-        → let first = first_configuration opens.starts.entered opens.starts.store in
+    -- The streams moved by some bytes, each that tells its bytes by those that it told. Whatever others they have, this is a
+    -- run over a tree of paths.
+    pub over_paths : is_honest parts.volume.device → let first = first_configuration opens.starts.entered opens.starts.store in
         let run = reports.run opens.starts.instance first opens.starts.stands in
-        (bytes : StreamBytes) × TellAll is_honest disk sectors_on failures remaining out_contents err_contents reports.last.host bytes
-        × Reach World world.Calls opens.starts.instance (world_of session.host before) first run.answers (world_of reports.last.host bytes) run.last
+        (moved : StreamBytes) × StreamsMove remaining out_contents err_contents session.host reports.last.host moved
+        × ((others : StreamBytes) → MayFollow reports.last.host others
+        → Reach World world.Calls opens.starts.instance (world_of session.host (before_moving moved others)) first run.answers (world_of reports.last.host (after_moving moved others)) run.last)
     -- Where a crash at its beginning leaves the volume's tree, one at any moment leaves that of a host that the run comes by.
-    pub crash : is_honest parts.volume.device → ((c : Image) → (disk parts.volume.device).may_leave c → Stands c parts.volume.tree)
+    pub crash : is_honest parts.volume.device → ((c : Image) → (disk parts.volume.device).may_leave c → StandsAs c parts.volume.numbers parts.volume.tree)
         → let first = first_configuration opens.starts.entered opens.starts.store in
         Leaves (disk parts.volume.device) (disk left.device) (StandsInRun opens.starts.instance session.host first fuel report reports.last.host _
         (reports.run opens.starts.instance first opens.starts.stands))

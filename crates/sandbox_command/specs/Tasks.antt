@@ -10,7 +10,7 @@ use Rattle.vol_tree.specs.Superblock.{version_number}
 use Rattle.vol_tree.specs.Tree.{Tree, Node, Directory, File, Entry}
 use Rattle.vol_tree.specs.Space.{Geometry, space, size_of}
 use Rattle.vol_tree.specs.Stats.{entries_of}
-use Rattle.vol_tree.specs.Stands.{Stands}
+use Rattle.vol_tree.specs.Stands.{StandsAs}
 use Rattle.vol_tree.specs.Calls.{directory_at, bytes_at, with_bytes, created, resized, if_it_fits}
 use Rattle.vol_tree.specs.Opened.{Reflects, data_sectors, geometry}
 use Rattle.path_walk.specs.Paths.{Reached, Found, Missing, slash, ◌>>=◌}
@@ -136,6 +136,6 @@ Puts v T path before after U result =
 abbrev pub IsPartOfPut : Superblock → Tree → Text → Option (List ℕ) → Tree → Type 0
 IsPartOfPut v T path known U = (U ≡ T) ⊎ ((B : Tree) × (file : ℕ) × (begun v T path ≡ Ok (B, file)) × HasBeginning B file known U)
 
--- the image stands for a tree that a crash could leave, or for one of these
-abbrev pub ReflectsAny : Disk → (Tree → Type 0) → Image → Type 0
-ReflectsAny disk these image = Reflects disk image ⊎ ((U : Tree) × these U × Stands image U)
+-- the image stands for a tree that a crash could leave, or for one of these, under these numbers
+abbrev pub ReflectsAny : Disk → Superblock → (Tree → Type 0) → Image → Type 0
+ReflectsAny disk v these image = Reflects disk v image ⊎ ((U : Tree) × these U × StandsAs image v U)

@@ -12,9 +12,9 @@ use Rattle.vol_tree.specs.Tree.{Tree}
 use Rattle.vol_tree.specs.Stands.{StandsAs, empty_tree}
 use Rattle.vol_tree.specs.Fresh.{fresh, IsNoneOrEmpty}
 use Rattle.vol_tree.specs.Opened.{Opened}
-use Rattle.vol_tree.specs.Opening.{StandsOn}
+use Rattle.vol_tree.specs.Opening.{StandsOn, HoldsOn}
 use Rattle.sandbox_words.specs.Request.{Text}
-use Rattle.sandbox_command.specs.Doing.{RefusedBy}
+use Rattle.sandbox_command.specs.Doing.{HoldsNothing, RefusedBy}
 
 -- the numbers of the volume of a run that names none
 abbrev pub fresh_numbers : Superblock
@@ -62,12 +62,15 @@ module _ {D : Type 0} (is_honest : D → Type 0) (disk : D → Disk) (sectors_on
   LeftByOpening (Some file) v c = StandsAs c v.numbers v.tree
   LeftByOpening None v c = IsNoneOrEmpty fresh_numbers c
 
-  -- The volume is refused, with 33 where an operation failed. What stands for a tree stands for it still, and what is no
-  -- volume of a known version isn't written to.
+  -- The volume is refused, with 33 where an operation failed. What stands for a tree stands for it still. What is no volume
+  -- of a known version isn't written to, nor is one whose first sector or log header is wrong; else these stay, with the
+  -- content.
   pub record IsRefused (device : D) (refused : Refused D) : Type 0 where
     pub why : is_honest device → RefusedBy refused.fault (sectors_on device) (disk device).seen
     pub crash : (v : Superblock) (T : Tree) → is_honest device → StandsOn (sectors_on device) (disk device).seen v T → Leaves (disk device) (disk refused.device) (λ c. StandsAs c v T)
     pub unwritten : is_honest device → (refused.fault ≡ fault.NotAVolume) ⊎ (refused.fault ≡ fault.Version) → Leaves (disk device) (disk refused.device) (λ c. ⊥)
+    pub untouched : is_honest device → HoldsNothing (sectors_on device) (disk device).seen → Leaves (disk device) (disk refused.device) (λ c. ⊥)
+    pub installs : (v : Superblock) (m : Image) → is_honest device → HoldsOn (sectors_on device) (disk device).seen v m → Leaves (disk device) (disk refused.device) (λ c. HoldsOn (sectors_on device) c v m)
     pub honest : is_honest device ↔ is_honest refused.device
     pub size : sectors_on refused.device ≡ sectors_on device
     pub failed : failures refused.device ≡ counted (is_device refused.fault) (failures device)

@@ -1,12 +1,12 @@
 //! What is done with the volume on a device.
 
-ghost use Rattle.std.specs.Prelude.{◌≡◌, ◌↔◌, OnOk};
+ghost use Rattle.std.specs.Prelude.{◌⊎◌, ◌≡◌, ◌↔◌, OnOk};
 ghost use Rattle.std.specs.Io.KnownBytes.{Keeps};
 ghost use Rattle.vol_sector.specs.Disk.{Leaves, counted};
 ghost use Rattle.sandbox_command.specs.Blame.{blames_device};
 ghost use Rattle.sandbox_command.specs.Tasks.{ReflectsAny};
 ghost use Rattle.sandbox_command.specs.Formatting.{Formats};
-ghost use Rattle.sandbox_command.specs.Doing.{Does, IsPartOf, Lasts, Performs};
+ghost use Rattle.sandbox_command.specs.Doing.{Does, IsPartOf, Lasts, Performs, IsRaised};
 ghost use Rattle.sandbox_command.specs.Doing.{PrintsNothing, ReadsNothing};
 ghost use Rattle.sandbox_command.specs.internal.Working.{IsWorking};
 
@@ -43,8 +43,9 @@ fn done_with<D: Device, R: Read, W: Write>(
         (R.remaining input.new) (W.contents out.old) (W.contents out.new) volume.new.tree result }
     ensures crash { D.honest volume.old.device
         → Leaves (D.disk volume.old.device) (D.disk volume.new.device)
-        (ReflectsAny (D.disk volume.old.device)
-        (IsPartOf task.entry volume.old.numbers volume.old.tree (R.remaining input.old))) }
+        (λ c. ReflectsAny (D.disk volume.old.device) volume.old.numbers
+        (IsPartOf task.entry volume.old.numbers volume.old.tree (R.remaining input.old)) c
+        ⊎ IsRaised task.entry volume.old.numbers volume.old.tree c) }
     ensures lasts { D.honest volume.old.device → OnOk result
         (Lasts task.entry volume.old.numbers volume.new.tree (D.disk volume.new.device).may_leave) }
     ensures honest { D.honest volume.old.device ↔ D.honest volume.new.device }

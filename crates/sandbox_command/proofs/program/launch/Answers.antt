@@ -3,7 +3,7 @@ use Rattle.std.specs.Io.KnownBytes.{Keeps}
 use Rattle.std.proofs.KnownBytes.{Keeps-refl}
 use Rattle.vol_sector.specs.Disk.{Leaves}
 use Rattle.wasm_steps.specs.Configuration.{first_configuration}
-use Rattle.sandbox_core.proofs.Headline.{reach_told}
+use Rattle.sandbox_core.proofs.Headline.{reach_moves}
 use Rattle.sandbox_command.specs.Running.{Host, HostCalls, StandsInRun}
 use Rattle.sandbox_command.specs.Streams.{AppendsLines}
 use Rattle.sandbox_command.proofs.Began.{began, device_back}
@@ -39,13 +39,12 @@ returns-in-Ok g c =
       input = c.report.ensures.input ∙ reports.input;
       out = subst (λ (w : g.row.W1.Denot). Keeps (outs w) (outs c.report.result.out)) reports.out c.report.ensures.out;
       err = subst (λ (w : g.row.W2.Denot). AppendsLines (errs w) (errs c.report.result.err)) reports.err c.report.ensures.err;
-      over_paths = λ is before told.
-          reach_told honest disk size failures remaining outs errs i s.host last first run.last run.answers before run.reach (made.shares.reads.kept.honest.0 is) told;
+      over_paths = λ is. reach_moves honest disk size failures remaining outs errs i s.host last first run.last run.answers run.reach (made.shares.reads.kept.honest.0 is);
       crash = λ is lasts.
           subst (λ (d : g.row.D.Denot). Leaves (disk parts.volume.device) (disk d) (StandsInRun honest disk size failures remaining outs errs i s.host first c.args.fuel c.run.result last _ run))
           (sym back)
-          (began (Host honest disk size failures remaining outs errs) (HostCalls honest disk size failures remaining outs errs) (λ h. disk h.volume.device) (λ h. h.volume.tree)
-          i s.host last first run.last run.answers (disk parts.volume.device) (disk reports.volume.new.device) parts.volume.tree run.reach (sym {b = parts.volume.tree} (made.shares.reads.tree is))
+          (began (Host honest disk size failures remaining outs errs) (HostCalls honest disk size failures remaining outs errs) (λ h. disk h.volume.device) (λ h. h.volume.numbers) (λ h. h.volume.tree)
+          i s.host last first run.last run.answers (disk parts.volume.device) (disk reports.volume.new.device) parts.volume.numbers parts.volume.tree run.reach (sym {b = parts.volume.numbers} made.shares.reads.kept.numbers) (sym {b = parts.volume.tree} (made.shares.reads.tree is))
           lasts (made.shares.reads.crash is) (reports.crash (made.shares.reads.kept.honest.0 is) i first made.opens.starts.stands));
     })
 

@@ -31,8 +31,8 @@ pub returns-in_err-write-clause-crash : goal.returns-in_err-write-clause-crash
 returns-in_err-write-clause-crash g c h =
     let before = c.loop.invariant in
     let so_far = before.filled h in
-    any_then (g.D.Device.disk c.args.volume.now.device) (HasBeginning c.args.volume.now.tree c.args.file (g.R.Read.remaining c.args.input.now))
-    (g.D.Device.disk c.loop.volume.device) (g.D.Device.disk c.write.new.self.device) c.loop.volume.tree
+    any_then (g.D.Device.disk c.args.volume.now.device) c.args.volume.now.numbers (HasBeginning c.args.volume.now.tree c.args.file (g.R.Read.remaining c.args.input.now))
+    (g.D.Device.disk c.loop.volume.device) (g.D.Device.disk c.write.new.self.device) c.loop.volume.numbers c.loop.volume.tree before.kept.numbers
     (so_far.0, consumed_begins (g.R.Read.remaining c.args.input.now) (g.R.Read.remaining c.loop.input) so_far.0 so_far.1, so_far.2)
     (before.crash h) (c.in_err-write.ensures.crash (before.kept.honest.0 h))
 
@@ -40,8 +40,8 @@ pub returns-then-count-lt-PIECE-clause-crash : goal.returns-then-count-lt-PIECE-
 returns-then-count-lt-PIECE-clause-crash g c h =
     let before = c.loop.invariant in
     let so_far = before.filled h in
-    any_then (g.D.Device.disk c.args.volume.now.device) (HasBeginning c.args.volume.now.tree c.args.file (g.R.Read.remaining c.args.input.now))
-    (g.D.Device.disk c.loop.volume.device) (g.D.Device.disk c.write.new.self.device) c.loop.volume.tree
+    any_then (g.D.Device.disk c.args.volume.now.device) c.args.volume.now.numbers (HasBeginning c.args.volume.now.tree c.args.file (g.R.Read.remaining c.args.input.now))
+    (g.D.Device.disk c.loop.volume.device) (g.D.Device.disk c.write.new.self.device) c.loop.volume.numbers c.loop.volume.tree before.kept.numbers
     (so_far.0, consumed_begins (g.R.Read.remaining c.args.input.now) (g.R.Read.remaining c.loop.input) so_far.0 so_far.1, so_far.2)
     (before.crash h) (c.in_ok-write.ensures.crash (before.kept.honest.0 h))
 
@@ -85,8 +85,8 @@ loop-preserved g c =
           );
       crash = λ h.
           let so_far = before.filled h in
-          any_then (g.D.Device.disk c.args.volume.now.device) (HasBeginning T c.args.file (g.R.Read.remaining c.args.input.now))
-          (g.D.Device.disk c.loop.volume.device) (g.D.Device.disk c.write.new.self.device) c.loop.volume.tree
+          any_then (g.D.Device.disk c.args.volume.now.device) c.args.volume.now.numbers (HasBeginning T c.args.file (g.R.Read.remaining c.args.input.now))
+          (g.D.Device.disk c.loop.volume.device) (g.D.Device.disk c.write.new.self.device) c.loop.volume.numbers c.loop.volume.tree before.kept.numbers
           (so_far.0, consumed_begins (g.R.Read.remaining c.args.input.now) (g.R.Read.remaining c.loop.input) so_far.0 so_far.1, so_far.2)
           (before.crash h) (c.in_ok-write.ensures.crash (before.kept.honest.0 h));
     }

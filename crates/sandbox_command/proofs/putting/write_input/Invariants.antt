@@ -16,5 +16,5 @@ invariant-loop g l = record {
   filled : g.D.Device.honest l.initial.volume.device → (bytes : List ℕ) × Consumes (g.R.Read.remaining l.initial.input) (g.R.Read.remaining l.input) bytes
       × (l.volume.tree ≡ with_bytes l.initial.volume.tree l.file bytes) × (l.offset ≡ length bytes) × (length bytes ≤ LARGEST_SIZE);
   crash : g.D.Device.honest l.initial.volume.device → Leaves (g.D.Device.disk l.initial.volume.device) (g.D.Device.disk l.volume.device)
-      (ReflectsAny (g.D.Device.disk l.initial.volume.device) (HasBeginning l.initial.volume.tree l.file (g.R.Read.remaining l.initial.input)));
+      (ReflectsAny (g.D.Device.disk l.initial.volume.device) l.initial.volume.numbers (HasBeginning l.initial.volume.tree l.file (g.R.Read.remaining l.initial.input)));
 }

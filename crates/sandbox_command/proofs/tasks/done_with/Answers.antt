@@ -1,16 +1,19 @@
-use Rattle.std.proofs.Common.{Bool, ap, sym, subst, arith}
+use Rattle.std.proofs.Common.{◌⊎◌, inl, Bool, ap, sym, subst, arith}
 use Rattle.std.proofs.lemmas.Grind.{common_steps}
 use Rattle.vol_sector.specs.Disk.{Leaves, counted}
 use Rattle.sandbox_words.specs.declared.request.Task.{Task}
-use Rattle.sandbox_command.specs.Tasks.{ReflectsAny}
-use Rattle.sandbox_command.specs.Doing.{IsPartOf}
+use Rattle.sandbox_command.specs.Tasks.{ReflectsAny, IsPartOfPut}
+use Rattle.sandbox_command.specs.Doing.{IsPartOf, IsRaised}
+use Rattle.sandbox_command.proofs.Beginning.{leaves_more}
 use Rattle.sandbox_command.proofs.tasks.done_with.Goals as goal
 
 pub returns-in-Put-clause-crash : goal.returns-in-Put-clause-crash
 returns-in-Put-clause-crash g c h =
     let v = c.args.volume.now in
+    let these = IsPartOfPut v.numbers v.tree c.in-Put.path.now (g.R.Read.remaining c.args.input.now) in
     subst (λ (t : Task). Leaves (g.D.Device.disk v.device) (g.D.Device.disk c.put.new.volume.device)
-    (ReflectsAny (g.D.Device.disk v.device) (IsPartOf t v.numbers v.tree (g.R.Read.remaining c.args.input.now)))) (sym c.in-Put.is) (c.put.ensures.crash h)
+    (λ m. ReflectsAny (g.D.Device.disk v.device) v.numbers (IsPartOf t v.numbers v.tree (g.R.Read.remaining c.args.input.now)) m ⊎ IsRaised t v.numbers v.tree m)) (sym c.in-Put.is)
+    (leaves_more (g.D.Device.disk v.device) (g.D.Device.disk c.put.new.volume.device) (ReflectsAny (g.D.Device.disk v.device) v.numbers these) (λ m. ReflectsAny (g.D.Device.disk v.device) v.numbers these m ⊎ ⊥) (λ m p. inl p) (c.put.ensures.crash h))
 
 pub returns-in-Check-clause-crash : goal.returns-in-Check-clause-crash
 returns-in-Check-clause-crash c = grind (arith, common_steps)

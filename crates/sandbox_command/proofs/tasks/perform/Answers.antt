@@ -2,9 +2,10 @@ use Rattle.std.proofs.Common.{inl, inr, refl, sym, ◌∙◌, ap, subst}
 use Rattle.std.proofs.KnownBytes.{Keeps-refl}
 use Rattle.vol_sector.specs.Disk.{counted}
 use Rattle.sandbox_command.specs.Blame.{blames_device}
-use Rattle.sandbox_command.specs.Doing.{IsPartOf, Performs}
-use Rattle.sandbox_command.proofs.Beginning.{any_after, leaves_standing}
+use Rattle.sandbox_command.specs.Doing.{IsPartOf, IsRaised, Performs}
+use Rattle.sandbox_command.proofs.Beginning.{task_after}
 use Rattle.sandbox_command.proofs.Opened.{refused_by, whole_is_part}
+use Rattle.sandbox_command.proofs.Refusals.{holds_nothing}
 use Rattle.sandbox_command.proofs.tasks.perform.Goals as goal
 
 -- the volume was opened, and the task was done with it
@@ -29,9 +30,8 @@ returns-in-Ok g c =
             stands = opened.stands h;
             new_tree = c.done_with-done.new.volume.tree;
             does = done.does now;
-            crash = any_after (disk c.args.device) these (disk v.device) (disk after) these (λ U part. part)
-                (leaves_standing (disk c.args.device) these (disk v.device) v.numbers v.tree (whole_is_part c.args.task v.numbers v.tree given) (opened.crash_ok v.numbers v.tree h (opened.stands h)))
-                (done.crash now);
+            crash = task_after (disk c.args.device) v.numbers these (disk v.device) (disk after) v.tree (IsRaised c.args.task v.numbers v.tree) (whole_is_part c.args.task v.numbers v.tree given)
+                (opened.crash_ok v.numbers v.tree h (opened.stands h)) (done.crash now);
             lasts = done.lasts now;
           });
       honest = (λ h. done.honest.0 (opened.kept_ok.0.0 h), λ h. opened.kept_ok.0.1 (done.honest.1 h));
@@ -53,7 +53,9 @@ returns-in-Err g c =
         is = refl;
         why = refused_by c.in-Err.field-0.fault (g.D.Device.size c.args.device) (g.D.Device.disk c.args.device).seen (refused.not_a_volume h) (refused.version h) (refused.damaged h) refused.faults_named;
         crash = λ v T stands. refused.crash_err v T h stands;
-        unwritten = refused.unwritten h;
+        unwritten = λ is. refused.unwritten h (holds_nothing (g.D.Device.size c.args.device) (g.D.Device.disk c.args.device).seen c.in-Err.field-0.fault (refused.not_a_volume h) (refused.version h) is);
+        untouched = refused.unwritten h;
+        installs = λ v m holds. (refused.installs v m h holds).1;
         reads_nothing = refl;
         prints_nothing = Keeps-refl (g.W.Write.contents c.args.out.now);
       });
