@@ -6,7 +6,6 @@ use Rattle.vol_tree.specs.declared.superblock.Superblock.{Superblock}
 use Rattle.wasm_interp.specs.Configuration.{Instance, Configuration}
 use Rattle.wasm_interp.specs.Machine.{Represents}
 use Rattle.wasm_interp.specs.Steps.{CallsOf}
-use Rattle.wasm_interp.specs.declared.pause.Outcome.{Outcome}
 use Rattle.wasi_calls.specs.Host.{HostState, HostCalls}
 use Rattle.sandbox_core.specs.declared.report.Report.{Report}
 use Rattle.sandbox_core.specs.Session.{SessionState, Commits, History, Follow, used_by}
