@@ -1,5 +1,5 @@
 -- One resume more after others.
-use Rattle.std.proofs.Common.{◌≡◌, ℕ, List, [], ◌∷◌, ◌++◌, Option, refl, subst}
+use Rattle.std.proofs.Common.{ℕ, List, [], ◌∷◌, ◌++◌, Option, refl, subst}
 use Rattle.vol_sector.specs.Disk.{Disk}
 use Rattle.wasm_steps.specs.declared.pause.Pause.{Pause}
 use Rattle.sandbox_core.specs.Session.{SessionState, Resumes, History, Follow}

@@ -1,5 +1,5 @@
 -- One turn after another.
-use Rattle.std.proofs.Common.{◌≡◌, ◌⊎◌, ℕ, ◌+◌, ◌-◌, ◌≤◌, ◌<◌, Bool, true, false, not, cond, List, [], ◌∷◌, ◌++◌, length, get_or, Option, Result, Ok, Err, refl, sym, ◌∙◌, ap, subst, inl, inr, arith}
+use Rattle.std.proofs.Common.{◌≡◌, ◌⊎◌, ℕ, ◌+◌, ◌-◌, ◌≤◌, ◌<◌, Bool, true, false, not, cond, List, [], ◌∷◌, ◌++◌, length, get_or, Option, refl, sym, ◌∙◌, ap, subst, inl, inr, arith}
 use Rattle.std.proofs.lemmas.List.{get_or_push, length_push}
 use Rattle.vol_sector.specs.Disk.{Image, Disk, Leaves}
 use Rattle.vol_tree.specs.Tree.{Tree}
@@ -7,13 +7,10 @@ use Rattle.vol_tree.specs.Stands.{StandsAs}
 use Rattle.vol_tree.specs.declared.superblock.Superblock.{Superblock}
 use Rattle.vol_tree.specs.Opened.{Opened, ReflectsOr}
 use Rattle.vol_tree.proofs.OneTree.{one_tree}
-use Rattle.wasm_steps.specs.declared.pause.Pause.{Pause}
-use Rattle.wasi_calls.specs.declared.wasi_host.HostParts.{HostParts}
 use Rattle.wasi_calls.specs.Moments.{CountsMoments, IsTurn, Kept, Turn, IsSafe}
 use Rattle.wasi_calls.proofs.Moments.{keeps_all}
-use Rattle.sandbox_core.specs.declared.session.Finished.{Finished}
-use Rattle.sandbox_core.specs.Session.{SessionState, Shares, Resumes, Finishes, is_refused, is_synced}
-use Rattle.sandbox_core.specs.Safety.{IsSafeVolume, KeptSince, StaysSafe, RestsSafe, TurnsAreSafe}
+use Rattle.sandbox_core.specs.Session.{is_refused, is_synced}
+use Rattle.sandbox_core.specs.Safety.{TurnsAreSafe}
 use Rattle.sandbox_core.proofs.Headline.{synced_by}
 
 either : (b : Bool) → (b ≡ true) ⊎ (b ≡ false)

@@ -38,8 +38,9 @@ module _ {D R W1 W2 : Type 0} (honest : D → Type 0) (disk : D → Disk) (secto
     pub during : KeptSince old new trees from (length trees - 1)
     pub after : IsSafeVolume new trees (if synced then length trees - 1 else from)
 
-  -- After `Volume::open` a crash leaves its tree alone. Making a session leaves no other tree; a resume may leave the one at its end, and after an answered sync no other; and
-  -- finishing leaves no other, and where the volume is handed back that tree alone.
+  -- After `Volume::open` a crash leaves its tree alone. Making a session leaves no other tree; a resume may leave the one at
+  -- its end, and after an answered sync no other; and finishing leaves no other, and where the volume is handed back that
+  -- tree alone.
   pub record TurnsAreSafe : Type 0 where
     pub opened : (v : Opened D) → honest v.device → ((image : Image) → (disk v.device).may_leave image → StandsAs image v.numbers v.tree) → IsSafeVolume v (v.tree ∷ []) 0
     pub begins : (parts : HostParts D R W1 W2) (s : SessionState D R W1 W2) (trees : List Tree) (from : ℕ) → honest parts.volume.device

@@ -1,5 +1,5 @@
 -- Calls that reach neither the volume nor a stream don't answer 29.
-use Rattle.std.proofs.Common.{◌≡◌, ◌≢◌, ℕ, ◌+◌, ◌*◌, ◌^◌, ◌||◌, false, nat_le, List, length, Some, None, Ok, refl, Err, sym, ◌∙◌, ap, arith}
+use Rattle.std.proofs.Common.{◌≡◌, ◌≢◌, ℕ, ◌*◌, ◌^◌, ◌||◌, false, nat_le, List, length, Some, None, Ok, refl, Err, sym, ◌∙◌, ap, arith}
 use Rattle.std.proofs.lemmas.Bool.{false≢true}
 use Rattle.std.specs.Option.{ok_or}
 use Rattle.wasi_fd.specs.declared.descriptor.EntryKind.TheVariants as kinds

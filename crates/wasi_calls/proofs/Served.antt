@@ -1,5 +1,5 @@
 -- Calls that reach neither the volume nor a stream.
-use Rattle.std.proofs.Common.{◌≡◌, ◌≢◌, Err, ℕ, IsTrue, Bool, true, false, List, [], ◌++◌, append-nil, Option, Some, None, refl, sym, ap, ◌∙◌, subst, inl, inr, arith}
+use Rattle.std.proofs.Common.{◌≡◌, ◌≢◌, Err, ℕ, IsTrue, Bool, true, false, List, [], ◌++◌, append-nil, Option, Some, None, refl, sym, ◌∙◌, subst, inl, inr, arith}
 use Rattle.std.proofs.lemmas.Bool.{cases_eq, cond-true, cond-false, eq-eqb, ne_eqb}
 use Rattle.std.proofs.lemmas.Option.{none-some}
 use Rattle.std.specs.Io.KnownBytes.{Appends}
@@ -19,7 +19,7 @@ use Rattle.wasi_calls.specs.World.{World}
 use Rattle.wasi_calls.specs.Checks.{Checked, Done}
 use Rattle.wasm_store.specs.declared.call.HostCall.{HostCall}
 use Rattle.wasi_calls.specs.Calls.{Answers, Answered, by_row, row, reaches_volume}
-use Rattle.wasi_calls.specs.Host.{StreamBytes, HasFailed, StreamsMove, before_moving, after_moving, world_of, VolumeStep}
+use Rattle.wasi_calls.specs.Host.{StreamBytes, HasFailed, StreamsMove, after_moving, world_of, VolumeStep}
 use Rattle.wasi_calls.specs.internal.Serving.{NoMoreEntries, state_of, with_volume, IsSetUp, Serves}
 use Rattle.wasi_calls.specs.internal.Opening.{AreSerials, with_both}
 use Rattle.wasi_calls.proofs.Elsewhere.{plain_never, answers_never}

@@ -102,7 +102,8 @@ module _ {D : Type 0} (honest : D → Type 0) (disk : D → Disk) (sectors_on fa
 module _ {D R W1 W2 : Type 0} (honest : D → Type 0) (disk : D → Disk) (sectors_on failures : D → ℕ)
     (remaining : R → Option (List ℕ)) (out_contents : W1 → Option (List ℕ)) (err_contents : W2 → Option (List ℕ)) where
   -- What a call of the host means: that call of a world that the host shows, whatever other bytes its streams have; where
-  -- the device keeps its model, or the call reaches no volume. On any device it takes of the settings random bytes alone, and 29 has its cause.
+  -- the device keeps its model, or the call reaches no volume. On any device it takes of the settings random bytes alone,
+  -- and 29 has its cause.
   pub record HostCalls (old : HostState D R W1 W2) (memory : List ℕ) (used : ℕ) (call : HostCall) (args : List ℕ)
       (new : HostState D R W1 W2) (memory' : List ℕ) (answer : Answer) : Type 0 where
     pub row : (IsTrue (reaches_volume call (table_of old.descriptors) args) → honest old.volume.device)

@@ -14,7 +14,7 @@ use Rattle.wasi_fd.specs.declared.descriptor.Opened.{Opened as OpenedEntry}
 use Rattle.wasi_fd.specs.Table.{Table, table_of}
 use Rattle.wasm_store.specs.declared.call.Errno.{Errno}
 use Rattle.wasm_store.specs.declared.call.HostCall.{HostCall}
-use Rattle.wasi_calls.specs.Checks.{Checked, Done, Refusals, any_kind, only_directories, no_directories, only_files, sized, no_streams}
+use Rattle.wasi_calls.specs.Checks.{Refusals, any_kind, only_directories, no_directories, only_files, sized, no_streams}
 use Rattle.wasi_calls.specs.declared.checks.Takes.{Takes}
 use Rattle.wasi_calls.specs.declared.checks.Takes.TheVariants as takes
 use Rattle.wasi_calls.specs.declared.inner.Inner.{Inner}
