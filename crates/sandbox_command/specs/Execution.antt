@@ -21,7 +21,7 @@ use Rattle.sandbox_command.specs.Formatting.{Formats}
 use Rattle.sandbox_command.specs.Doing.{Performs}
 use Rattle.sandbox_command.specs.declared.program.Executed.{Executed}
 use Rattle.sandbox_command.specs.Status.{load_status, session_status, volume_status, task_status}
-use Rattle.sandbox_command.specs.Streams.{AppendsLines, IsSilent}
+use Rattle.sandbox_command.specs.Streams.{AppendsSome, IsSilent}
 use Rattle.sandbox_command.specs.Supplies.{AreSettings, IsUncut, directories_of}
 use Rattle.sandbox_command.specs.Volumes.{IsOpenFor, IsRefusedFor, LeftByOpening}
 use Rattle.sandbox_command.specs.Running.{Launches, LeftByRun}
@@ -60,7 +60,7 @@ module _ {D R W1 W2 : Type 0} (is_honest : D → Type 0) (disk : D → Disk) (se
         (λ c. LeftByOpening is_honest disk sectors_on failures run.volume volume c ⊎ LeftByRun is_honest disk sectors_on failures remaining out_contents err_contents m run.limits.fuel (given settings volume input out err) left launched c)
     pub honest : is_honest device → is_honest left.device
 
-  -- Before a volume was opened: the device is as it was, and so are the streams but for the program's own lines.
+  -- Before a volume was opened: the device is as it was, and so are the input and the output.
   pub record IsUntouched (device : D) (input : R) (out : W1) (err : W2) (left : Executed D R W1 W2) : Type 0 where
     pub device_is : left.device ≡ device
     pub streams : IsSilent out_contents err_contents input out err left
@@ -84,4 +84,4 @@ module _ {D R W1 W2 : Type 0} (is_honest : D → Type 0) (disk : D → Disk) (se
   Executes (asked.Volume file task) bytes random device input out err left =
       (done : Result (Unit {0}) Failure)
       × Performs is_honest disk sectors_on failures task device (remaining input) (remaining left.input) (out_contents out) (out_contents left.out) left.device done
-      × (left.status ≡ task_status done left.flushed) × AppendsLines (err_contents err) (err_contents left.err)
+      × (left.status ≡ task_status done left.flushed) × AppendsSome (err_contents err) (err_contents left.err)

@@ -20,7 +20,7 @@ use Rattle.sandbox_core.specs.Runs.{ComesBy, RunsWithin}
 use Rattle.sandbox_core.specs.Report.{Calls, Reports}
 use Rattle.sandbox_command.specs.declared.program.Executed.{Executed}
 use Rattle.sandbox_command.specs.Status.{EndsWith, session_status}
-use Rattle.sandbox_command.specs.Streams.{AppendsLines, IsSilent}
+use Rattle.sandbox_command.specs.Streams.{AppendsSome, IsSilent}
 
 -- the device of a volume that is handed back, or the device itself
 abbrev pub device_of : {D : Type 0} → Result (Opened D) (Refused D) → D
@@ -58,11 +58,11 @@ module _ {D R W1 W2 : Type 0} (is_honest : D → Type 0) (disk : D → Disk) (se
     pub reports : Reports is_honest disk sectors_on failures remaining out_contents err_contents session fuel report
     pub ends : EndsWith report.outcome report.volume left.flushed left.status
     pub device : left.device ≡ device_of report.volume
-    -- The streams are those of the run's last host. The output has what the guest wrote there and nothing else; after
-    -- the guest's errors come only the program's own lines.
+    -- The streams are those of the run's last host. The output has what the guest wrote there and nothing else; what it
+    -- wrote on the side of errors stays, and some bytes may follow.
     pub input : left.input ≡ reports.last.host.input.reader
     pub out : Keeps (out_contents reports.last.host.out.writer) (out_contents left.out)
-    pub err : AppendsLines (err_contents reports.last.host.err.writer) (err_contents left.err)
+    pub err : AppendsSome (err_contents reports.last.host.err.writer) (err_contents left.err)
     -- The streams moved by some bytes, each that tells its bytes by those that it told. Whatever others they have, this is a
     -- run over a tree of paths.
     pub over_paths : is_honest parts.volume.device → let first = first_configuration opens.starts.entered opens.starts.store in

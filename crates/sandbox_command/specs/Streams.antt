@@ -10,13 +10,13 @@ pub record AppendsPart (before after : Option (List ℕ)) (text : List ℕ) : Ty
   pub parts : text ≡ part ++ rest
   pub appended : Appends before after part
 
--- Known bytes stay, and grow by lines of the program's own, or a beginning of them.
-abbrev pub AppendsLines : Option (List ℕ) → Option (List ℕ) → Type 0
-AppendsLines before after = (lines : List ℕ) × Appends before after lines
+-- Known bytes stay, and some may follow. (What follows are lines of the program's own, which is only tested.)
+abbrev pub AppendsSome : Option (List ℕ) → Option (List ℕ) → Type 0
+AppendsSome before after = (more : List ℕ) × Appends before after more
 
 module _ {D R W1 W2 : Type 0} (out_contents : W1 → Option (List ℕ)) (err_contents : W2 → Option (List ℕ)) where
-  -- Nothing was read, and nothing printed but the program's own lines.
+  -- Nothing was read, and nothing printed on the output.
   pub record IsSilent (input : R) (out : W1) (err : W2) (left : Executed D R W1 W2) : Type 0 where
     pub input_is : left.input ≡ input
     pub out_keeps : Keeps (out_contents out) (out_contents left.out)
-    pub err_appends : AppendsLines (err_contents err) (err_contents left.err)
+    pub err_appends : AppendsSome (err_contents err) (err_contents left.err)

@@ -7,7 +7,7 @@ ghost use Rattle.clap.specs.Values.{kind_of};
 ghost use Rattle.sandbox_command.specs.Status.{status_of, EndsWith, load_status, session_status};
 ghost use Rattle.sandbox_command.specs.Status.{volume_status, words_status, command_line_status};
 ghost use Rattle.sandbox_command.specs.Status.{task_status};
-ghost use Rattle.sandbox_command.specs.Streams.{AppendsLines, IsSilent};
+ghost use Rattle.sandbox_command.specs.Streams.{AppendsSome, IsSilent};
 ghost use Rattle.sandbox_command.specs.Running.{Launches, device_of};
 ghost use Rattle.sandbox_command.specs.internal.Supplies.{AreSupplies};
 ghost use Rattle.sandbox_command.specs.Execution.{NoVolume, OnVolume, Runs, Executes};
@@ -59,7 +59,7 @@ pub struct Executed<D, R, W1, W2> {
 /// Prints a fault's line, and gives its status.
 fn load_refused<W: Write>(err: &mut W, fault: LoadFault) -> u8
     ensures status { result ≡ load_status fault }
-    ensures line { AppendsLines (W.contents err.old) (W.contents err.new) }
+    ensures line { AppendsSome (W.contents err.old) (W.contents err.new) }
 {
     tell(err, fault);
     match fault {
@@ -71,7 +71,7 @@ fn load_refused<W: Write>(err: &mut W, fault: LoadFault) -> u8
 /// Prints a fault's line, and gives its status.
 fn session_refused<W: Write>(err: &mut W, fault: SessionFault) -> u8
     ensures status { result ≡ session_status fault }
-    ensures line { AppendsLines (W.contents err.old) (W.contents err.new) }
+    ensures line { AppendsSome (W.contents err.old) (W.contents err.new) }
 {
     tell(err, fault);
     match fault {
@@ -83,7 +83,7 @@ fn session_refused<W: Write>(err: &mut W, fault: SessionFault) -> u8
 /// Prints the line of a volume that is refused, and gives its status.
 fn volume_refused<W: Write>(err: &mut W, fault: VolumeFault) -> u8
     ensures status { result ≡ volume_status fault }
-    ensures line { AppendsLines (W.contents err.old) (W.contents err.new) }
+    ensures line { AppendsSome (W.contents err.old) (W.contents err.new) }
 {
     tell(err, fault);
     match fault {
@@ -95,7 +95,7 @@ fn volume_refused<W: Write>(err: &mut W, fault: VolumeFault) -> u8
 /// Prints the line of a volume whose device failed before all was committed, and gives its status.
 fn not_committed<W: Write>(err: &mut W) -> u8
     ensures status { result ≡ 123 }
-    ensures line { AppendsLines (W.contents err.old) (W.contents err.new) }
+    ensures line { AppendsSome (W.contents err.old) (W.contents err.new) }
 {
     tell(err, "fault 33");
     NOT_COMMITTED
@@ -127,7 +127,7 @@ pub fn refuse_command_line<W: Write>(err: &mut W, refused: &clap::Error) -> u8
 /// Prints the line of want of memory, and gives its status.
 pub fn out_of_memory<W: Write>(err: &mut W) -> u8
     ensures status { result ≡ 122 }
-    ensures line { AppendsLines (W.contents err.old) (W.contents err.new) }
+    ensures line { AppendsSome (W.contents err.old) (W.contents err.new) }
 {
     tell(err, "out of memory");
     OUT_OF_MEMORY
@@ -137,7 +137,7 @@ pub fn out_of_memory<W: Write>(err: &mut W) -> u8
 /// its status.
 pub fn refuse_file<W: Write>(err: &mut W) -> u8
     ensures status { result ≡ 124 }
-    ensures line { AppendsLines (W.contents err.old) (W.contents err.new) }
+    ensures line { AppendsSome (W.contents err.old) (W.contents err.new) }
 {
     tell(err, "fault 41");
     FAULT
@@ -146,7 +146,7 @@ pub fn refuse_file<W: Write>(err: &mut W) -> u8
 /// Prints the line of an outcome, where it has one, and gives its status.
 fn ended<W: Write>(err: &mut W, outcome: Outcome) -> u8
     ensures status { result ≡ status_of outcome }
-    ensures line { AppendsLines (W.contents err.old) (W.contents err.new) }
+    ensures line { AppendsSome (W.contents err.old) (W.contents err.new) }
 {
     match outcome {
         Outcome::Exited(status) if status <= GREATEST => (status & 0xff) as u8,
@@ -175,7 +175,7 @@ fn report<D: Device + Drop, R: Drop, W1: Write + Drop, W2: Write + Drop>(
     ensures device { result.device ≡ device_of report.volume }
     ensures input { result.input ≡ report.input }
     ensures out { Keeps (W1.contents report.out) (W1.contents result.out) }
-    ensures err { AppendsLines (W2.contents report.err) (W2.contents result.err) }
+    ensures err { AppendsSome (W2.contents report.err) (W2.contents result.err) }
 {
     let Report {
         outcome,
@@ -211,7 +211,7 @@ fn not_begun<D: Device + Drop, R: Drop, W1: Drop, W2: Write + Drop>(
     ensures device { result.device ≡ refused.entry.parts.volume.device }
     ensures input { result.input ≡ refused.entry.parts.input }
     ensures out { result.out ≡ refused.entry.parts.out }
-    ensures err { AppendsLines (W2.contents refused.entry.parts.err) (W2.contents result.err) }
+    ensures err { AppendsSome (W2.contents refused.entry.parts.err) (W2.contents result.err) }
 {
     let RefusedSession {
         valid,
@@ -349,7 +349,7 @@ fn task_ended<D: Drop, R: Drop, W1: Write + Drop, W2: Write + Drop>(
     ensures device { result.device ≡ device }
     ensures input { result.input ≡ input }
     ensures out { Keeps (W1.contents out) (W1.contents result.out) }
-    ensures err { AppendsLines (W2.contents err) (W2.contents result.err) }
+    ensures err { AppendsSome (W2.contents err) (W2.contents result.err) }
 {
     let flushed = out.flush().is_ok();
     let status = match done {

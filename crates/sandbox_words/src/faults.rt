@@ -20,8 +20,9 @@ module's file.
   12 at AT  the module is not valid
   13        an import is no function, or there is no such call of that type
   14        no function _start without parameters and results is exported
-  15        a --dir without =, or one with no name; too many or too long texts or
-            directories; or more than 65536 pages
+  15        a --dir without =, or whose name is empty or over 255 bytes; over 64
+            of them; arguments, or texts of the environment, over 1024 or over
+            65536 bytes; or --pages over 65536
   16        the PATH of a --dir is no directory of the volume
   20        a data segment passes the end of memory
   21        an element segment passes the end of the table

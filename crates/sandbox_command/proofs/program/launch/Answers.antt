@@ -5,7 +5,7 @@ use Rattle.vol_sector.specs.Disk.{Leaves}
 use Rattle.wasm_steps.specs.Configuration.{first_configuration}
 use Rattle.sandbox_core.proofs.Headline.{reach_moves}
 use Rattle.sandbox_command.specs.Running.{Host, HostCalls, StandsInRun}
-use Rattle.sandbox_command.specs.Streams.{AppendsLines}
+use Rattle.sandbox_command.specs.Streams.{AppendsSome}
 use Rattle.sandbox_command.proofs.Began.{began, device_back}
 use Rattle.sandbox_command.proofs.program.launch.Goals as goal
 
@@ -38,7 +38,7 @@ returns-in-Ok g c =
       device = c.report.ensures.device;
       input = c.report.ensures.input ∙ reports.input;
       out = subst (λ (w : g.row.W1.Denot). Keeps (outs w) (outs c.report.result.out)) reports.out c.report.ensures.out;
-      err = subst (λ (w : g.row.W2.Denot). AppendsLines (errs w) (errs c.report.result.err)) reports.err c.report.ensures.err;
+      err = subst (λ (w : g.row.W2.Denot). AppendsSome (errs w) (errs c.report.result.err)) reports.err c.report.ensures.err;
       over_paths = λ is. reach_moves honest disk size failures remaining outs errs i s.host last first run.last run.answers run.reach (made.shares.reads.kept.honest.0 is);
       crash = λ is lasts.
           subst (λ (d : g.row.D.Denot). Leaves (disk parts.volume.device) (disk d) (StandsInRun honest disk size failures remaining outs errs i s.host first c.args.fuel c.run.result last _ run))
@@ -61,6 +61,6 @@ returns-in-Err g c = inl (record {
     input_is = c.not_begun.ensures.input ∙ c.in-Err.ensures.hands_back.input;
     out_keeps = subst (λ (w : g.row.W1.Denot). Keeps (g.W1.Write.contents c.args.parts.out) (g.W1.Write.contents w))
         (sym (c.not_begun.ensures.out ∙ c.in-Err.ensures.hands_back.out)) (Keeps-refl (g.W1.Write.contents c.args.parts.out));
-    err_appends = subst (λ (w : g.row.W2.Denot). AppendsLines (g.W2.Write.contents w) (g.W2.Write.contents c.not_begun.result.err)) c.in-Err.ensures.hands_back.err c.not_begun.ensures.err;
+    err_appends = subst (λ (w : g.row.W2.Denot). AppendsSome (g.W2.Write.contents w) (g.W2.Write.contents c.not_begun.result.err)) c.in-Err.ensures.hands_back.err c.not_begun.ensures.err;
   };
 })

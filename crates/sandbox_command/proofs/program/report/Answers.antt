@@ -1,6 +1,6 @@
 use Rattle.std.proofs.Common.{sym, subst, rules, arith}
 use Rattle.std.proofs.lemmas.Grind.{common_steps}
-use Rattle.sandbox_command.specs.Streams.{AppendsLines}
+use Rattle.sandbox_command.specs.Streams.{AppendsSome}
 use Rattle.sandbox_command.proofs.Handed.{lines_kept, lines_then}
 use Rattle.sandbox_command.proofs.program.report.Goals as goal
 use Rattle.sandbox_command.proofs.program.report.Goals.{then-is_ok, else-is_ok, in-Ok, in-Ok-2, in-Err}
@@ -15,7 +15,7 @@ pub returns-clause-err : goal.returns-clause-err
 returns-clause-err g c =
     let errs = g.W2.Write.contents in
     let before = errs c.args.report.err in
-    let at = λ (err : g.row.W2.Denot). AppendsLines before (errs err) in
+    let at = λ (err : g.row.W2.Denot). AppendsSome before (errs err) in
     let flushed : at c.if-is_ok.err = elim c.if-is_ok.branch [
       | then-is_ok w ↦ subst at (sym w.err-is) (lines_kept before (errs c.ended-status.new.err) (errs w.flush-then-is_ok.new.self) c.ended-status.ensures.line w.flush-then-is_ok.ensures.bytes)
       | else-is_ok w ↦ subst at (sym w.err-is) c.ended-status.ensures.line

@@ -1,6 +1,6 @@
 use Rattle.std.proofs.Common.{inl, inr, refl, sym, ◌∙◌, subst}
 use Rattle.std.proofs.KnownBytes.{Keeps-refl}
-use Rattle.sandbox_command.specs.Streams.{AppendsLines}
+use Rattle.sandbox_command.specs.Streams.{AppendsSome}
 use Rattle.sandbox_command.proofs.program.run.Goals as goal
 use Rattle.sandbox_command.proofs.program.run.Goals.{in-Ok+in-Err-load, in-Err}
 
@@ -14,7 +14,7 @@ returns-in-Ok-load g c =
 pub returns : goal.returns
 returns g c =
     let errs = g.W2.Write.contents in
-    let at = λ (err : g.row.W2.Denot). AppendsLines (errs c.args.err) (errs err) in
+    let at = λ (err : g.row.W2.Denot). AppendsSome (errs c.args.err) (errs err) in
     elim c.match-supplied.branch [
       | in-Ok+in-Err-load w ↦ inr (inl (
         record { fault = w.in-Err-load.fault; refused = w.in-Err-load.ensures.no; ends = w.status-is ∙ w.load_refused.ensures.status },
