@@ -1,4 +1,4 @@
-use Rattle.std.proofs.Common.{◌≡◌, ◌≤◌, [], ◌∷◌, sym, ◌∙◌, ap, arith}
+use Rattle.std.proofs.Common.{◌≤◌, [], ◌∷◌, ap, arith}
 use Rattle.vol_tree.specs.declared.superblock.Superblock.{Superblock}
 use Rattle.sandbox_core.specs.Session.{given, is_synced}
 use Rattle.sandbox_tests.proofs.Found.{found, found_after}
