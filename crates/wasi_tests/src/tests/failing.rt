@@ -3,12 +3,11 @@
 use super::guest::{Guest, PLAIN, host, opened};
 use super::streams::{Feeding, Taking};
 use std::alloc::{AllocError, Global};
-use wasm_store::Host;
 use wasm_store::HostCall::{
     FdDatasync, FdPread, FdPwrite, FdRead, FdReaddir, FdSeek, FdSync, FdWrite, PathCreateDirectory,
     PathFilestatGet, PathOpen, PathRename, PathUnlinkFile,
 };
-use wasm_store::{Answer, Errno, HostCall, Memory};
+use wasm_store::{Answer, Errno, Host, HostCall, Memory};
 
 /// Calls that all reach the volume, in memory with `ab` at 100 and a buffer of 10,000 bytes at 200.
 static CALLS: [(HostCall, &[u64]); 15] = [

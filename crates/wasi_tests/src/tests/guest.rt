@@ -6,8 +6,7 @@ use std::process::Abort;
 use vol_sector::{FlakyDevice, MemoryDevice};
 use vol_tree::Volume;
 use wasi_calls::{HostFault, HostParts, Preopen, Settings, WasiHost};
-use wasm_store::Host;
-use wasm_store::{Answer, Errno, HostCall, Memory};
+use wasm_store::{Answer, Errno, Host, HostCall, Memory};
 
 /// What a guest does, and what is wanted of it.
 #[derive(Clone, Copy)]

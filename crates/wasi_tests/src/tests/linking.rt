@@ -4,9 +4,8 @@ use super::guest::{Guest, PLAIN, fresh};
 use super::streams::{Feeding, Taking};
 use std::alloc::{AllocError, Global};
 use std::process::Abort;
-use wasm_store::Host;
 use wasm_module::{FuncType, Items, ValueType};
-use wasm_store::{Answer, Errno, HostCall, Memory};
+use wasm_store::{Answer, Errno, Host, HostCall, Memory};
 
 /// A type by letters: `i` is i32 and `I` is i64.
 fn types(alloc: Global, letters: &[u8]) -> Result<Items<ValueType>, AllocError> {
