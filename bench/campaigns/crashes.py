@@ -59,6 +59,9 @@ def event(kind, words, descriptor):
     raise Wrong(f"a call that the model doesn't know: {kind}({words[:60]})")
 
 
+DRAWN = 24
+
+
 def picks(chance, pending, most):
     """Choices of a value for each pending sector: all, where there are at most so many, else the two extremes and drawn ones."""
     sectors = sorted(pending)
@@ -70,7 +73,7 @@ def picks(chance, pending, most):
         return
     yield {it: pending[it][0] for it in sectors}
     yield {it: pending[it][-1] for it in sectors}
-    for _ in range(most - 2):
+    for _ in range(min(most, DRAWN)):
         yield {it: chance.choice(pending[it]) for it in sectors}
 
 
@@ -108,7 +111,7 @@ def last_written(events, sector):
 def crashed(setting, name, base, events, right):
     """Opens each crash image; `right` is asked of the image's path and of what was said."""
     chance = random.Random(setting.seed)
-    most = 16 if setting.is_quick else 256
+    most = 8 if setting.is_quick else 256
 
     def one(it):
         moment, image, said = it
@@ -164,7 +167,7 @@ def pages(setting):
     """Pages over a journal, as a database writes them: each page is one write, so none is kept in half."""
     path = fresh(setting, "400", "16")
     base = read(path)
-    count, rounds = (2, 1) if setting.is_quick else (4, 3)
+    count, rounds = (2, 1) if setting.is_quick else (3, 2)
     events = recorded(setting, path, ["run", "--volume", path, f"{TOP}/examples/c/pages.wasm", "file", str(count), str(rounds)])
 
     def right(path, _):
@@ -206,16 +209,19 @@ def put(setting):
 
 def formatted(setting):
     """`format` over a volume: what was there, no volume, or the empty one."""
-    path = fresh(setting)
-    succeeded(setting, "put", path, "/a", given=b"old")
-    base = read(path)
+    path = fresh(setting, "202", "40")
+    for k in range(14):
+        succeeded(setting, "put", path, f"/{k}", given=b"old")
+    base, old = read(path), succeeded(setting, "ls", path, "/")
     events = recorded(setting, path, ["format", path, "202", "16"])
+    if succeeded(setting, "ls", path, "/") or not old:
+        raise Wrong("a formatted volume isn't empty")
 
     def right(path, _):
         status, _, said = answer(setting, ["check", path])
         if said == "sandbox: fault 30\n":
             return
-        if status or succeeded(setting, "ls", path, "/") not in (b"", b"f 3 a\n"):
+        if status or succeeded(setting, "ls", path, "/") not in (b"", old):
             raise Wrong(said or "another tree")
 
     return crashed(setting, "format", base, events, right), f"{len(events)} events"

@@ -53,20 +53,20 @@ def cut_modules(setting):
 
 
 def changed_modules(setting):
-    """Each byte of each module, to each other value; of the larger ones to four values."""
+    """Each byte of the first module to each value, and each one of some others to eight values."""
     chance = random.Random(setting.seed)
 
+    def values(name, byte):
+        few = {byte ^ 1, byte ^ 0x40, byte ^ 0x80, *chance.randbytes(5)}
+        if setting.is_quick:
+            return sorted(few)[:3]
+        return range(256) if name == SMALL[0] else sorted(few)
+
     def changes():
-        for name in SMALL[:1] if setting.is_quick else SMALL:
+        for name in SMALL[:1] if setting.is_quick else SMALL + LARGE[1:2]:
             module = content(name)
-            for at in range(len(module)):
-                values = range(256) if not setting.is_quick else (module[at] ^ 1, module[at] ^ 0x80, chance.randrange(256))
-                for value in values:
-                    yield module[:at] + bytes((value,)) + module[at + 1 :]
-        for name in [] if setting.is_quick else LARGE[1:2]:
-            module = content(name)
-            for at in range(len(module)):
-                for value in (module[at] ^ 1, module[at] ^ 0x40, module[at] ^ 0x80, chance.randrange(256)):
+            for at, byte in enumerate(module):
+                for value in values(name, byte):
                     yield module[:at] + bytes((value,)) + module[at + 1 :]
 
     found = collections.Counter(setting.each(lambda it: tried_module(setting, it), changes()))

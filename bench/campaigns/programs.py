@@ -37,7 +37,7 @@ class Writer:
         self.locals = list(takes) + [chance.choice(VALUES) for _ in range(chance.randrange(6))]
         self.takes, self.labels, self.counters, self.loops = len(takes), [], [], 0
 
-    def constant(self, kind):
+    def constant(self, kind, _=0):
         width = 32 if kind == I32 else 64
         value = self.chance.choice((self.chance.choice(EDGES), self.chance.randrange(100), self.chance.getrandbits(width)))
         value %= 1 << width
@@ -100,8 +100,9 @@ class Writer:
         return self.value(kind, depth) + self.value(kind, depth) + self.value(I32, depth) + [(0x1B, ())]
 
     def called(self, kind, depth):
-        fitting = [it for it in self.calls if it[2] == [kind]]
-        if not fitting or self.loops:
+        # in a loop the first function alone, once: all of them would take too long
+        fitting = [it for it in (self.calls[:1] if self.loops else self.calls) if it[2] == [kind]]
+        if not fitting or self.loops > 1:
             return self.binary(kind, depth)
         index, takes, _ = self.chance.choice(fitting)
         return [code for it in takes for code in self.value(it, depth - 1)] + [(0x10, (index,))]
@@ -215,7 +216,9 @@ class Writer:
         """Leaves the function, or ends it, in a branch that is seldom taken."""
         if self.chance.random() < 0.8:
             return self.dropped(depth)
-        code = [(RETURN, ())] if not self.gives else self.value(self.gives[0], depth) + [(RETURN, ())]
+        # `_start` has a block around it, which this leaves
+        out = (BR, (len(self.labels) + 1,))
+        code = [out] if not self.gives else self.value(self.gives[0], depth) + [self.chance.choice((out, (RETURN, ())))]
         if self.chance.random() < 0.1:
             code = [(0x00, ())]
         return self.value(I32, 0) + [(0x41, (7,)), (0x71, ()), (0x45, ()), (IF, (EMPTY,))] + code + [(END, ())]
