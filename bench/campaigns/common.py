@@ -1,5 +1,6 @@
 """What the campaigns of `bench/hostile` share: running the program, and what an answer of it may be."""
 import concurrent.futures
+import itertools
 import os
 import re
 import resource
@@ -46,22 +47,21 @@ class Setting:
 
     def each(self, function, items):
         """The function's answers of all items, some at a time; the first wrong answer ends it."""
+        items = iter(items)
         with concurrent.futures.ThreadPoolExecutor(self.jobs) as pool:
-            try:
-                yield from pool.map(function, items)
-            except Wrong:
-                pool.shutdown(wait=False, cancel_futures=True)
-                raise
+            # `map` takes all of what it is given at once
+            while some := list(itertools.islice(items, 64 * self.jobs)):
+                yield from pool.map(function, some)
 
 
 def bounded(bytes_of_memory):
     return lambda: resource.setrlimit(resource.RLIMIT_AS, (bytes_of_memory, bytes_of_memory)) if bytes_of_memory else None
 
 
-def answer(setting, words, given=b"", seconds=2, memory=4 << 30):
+def answer(setting, words, given=b"", seconds=2):
     """Status, output and error output of a call of the program, which has to answer in time and by the table of statuses."""
     try:
-        done = subprocess.run([setting.program, *words], input=given, capture_output=True, timeout=seconds, preexec_fn=bounded(memory))
+        done = subprocess.run([setting.program, *words], input=given, capture_output=True, timeout=seconds)
     except subprocess.TimeoutExpired:
         raise Wrong(f"no answer within {seconds} seconds: {' '.join(words)}") from None
     said = done.stderr.decode(errors="replace")

@@ -48,7 +48,7 @@ def locals_of(size):
 
 def pages(size):
     """Grows to so many pages, and writes to the last one; it traps where that fails."""
-    code = [(0x41, (size - 1,)), (0x40, (0,)), (0x1A, ()), (0x41, (s32(size * 65_536 - 4),)), (0x41, (1,)), (0x36, (0, 0))]
+    code = [(0x41, (size - 1,)), (0x40, (0,)), (0x1A, ()), (0x41, (s32(min(size, 65_536) * 65_536 - 4),)), (0x41, (1,)), (0x36, (0, 0))]
     return module(start(*code), memories=[(1, None)])
 
 
