@@ -36,7 +36,7 @@ def tried_module(setting, module):
         status, _, said = answer(setting, ["run", "--fuel", "200000", "--pages", "64", path])
     except Wrong as wrong:
         raise Wrong(f"{wrong}; the module is kept as {setting.keep('module.wasm', module)}") from None
-    return said.split(" at ")[0].removeprefix("sandbox: ").strip() if status == 124 else f"status {status}"
+    return said.splitlines()[-1].split(" at ")[0].removeprefix("sandbox: ") if status == 124 else f"status {status}"
 
 
 def told(found):
