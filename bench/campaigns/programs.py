@@ -216,9 +216,11 @@ class Writer:
         """Leaves the function, or ends it, in a branch that is seldom taken."""
         if self.chance.random() < 0.8:
             return self.dropped(depth)
+        self.labels.append(None)
         # `_start` has a block around it, which this leaves
-        out = (BR, (len(self.labels) + 1,))
+        out = (BR, (len(self.labels),))
         code = [out] if not self.gives else self.value(self.gives[0], depth) + [self.chance.choice((out, (RETURN, ())))]
+        self.labels.pop()
         if self.chance.random() < 0.1:
             code = [(0x00, ())]
         return self.value(I32, 0) + [(0x41, (7,)), (0x71, ()), (0x45, ()), (IF, (EMPTY,))] + code + [(END, ())]
@@ -284,7 +286,7 @@ def counting(module):
         body.code = code
     it.globals.append((I64, 1, [(0x42, (0,)), (END, ())]))
     it.types.append(([], [I64]))
-    first = 1 + len(it.functions)
+    first = len(it.imported_functions()) + len(it.functions)
     it.functions += [len(it.types) - 1] * 2
     it.bodies += [Body([], [(0x23, (counter,)), (END, ())]), Body([], [(0x41, (VALUE,)), (0x29, (0, 0)), (END, ())])]
     it.exports += [(b"units", 0, first), (b"value", 0, first + 1)]

@@ -129,25 +129,13 @@ U N(sqrt)(U a) {
   if (a & SIGN) return NAN_BITS;
   if (a == INFINITY_BITS) return a;
   int e;
-  U bits = N(significand)(a, &e) << (FRACTION & 1);
+  U bits = N(significand)(a, &e);
   e -= BIAS;
   if (e & 1) {
     bits <<= 1;
     e--;
   }
-  /* two bits of the number for each bit of the root, which gets FRACTION + 3 bits */
-  U root = 0, rest = 0;
-  for (int i = 0; i < FRACTION + 3; i++) {
-    int at = FRACTION + (FRACTION & 1) - 2 * i;
-    rest = rest << 2 | (at >= 0 ? bits >> at & 3 : 0);
-    U next = root << 2 | 1;
-    root <<= 1;
-    if (rest >= next) {
-      rest -= next;
-      root |= 1;
-    }
-  }
-  return N(rounded)(0, e / 2 + BIAS, root << (LEAD - FRACTION - 2) | (rest != 0));
+  return N(rounded)(0, e / 2 + BIAS, N(root)(bits));
 }
 
 U N(trunc)(U a) {

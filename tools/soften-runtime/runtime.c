@@ -29,6 +29,31 @@ static u64 high64(u64 a, u64 b) {
   return (a1 * b1 + (one >> 32) + (two >> 32)) | ((two << 32 | (u32)low) != 0);
 }
 
+/* The root towards 0 of a number from 2^62 on, by Newton's steps from above. */
+static u64 root_of(u64 x) {
+  u64 root = (x >> 33) + 0x80000001;
+  for (int i = 0; i < 4; i++) root = (root + x / root) >> 1;
+  return root > x / root ? root - 1 : root;
+}
+
+/* The root of a significand of 24 or 25 bits with its leading bit at 30, and its lowest bit set where it isn't whole. */
+static u32 f32_root(u32 bits) {
+  u64 x = (u64)bits << 39, root = root_of(x);
+  return (u32)(root >> 1 | (root & 1) | (root * root != x));
+}
+
+/* The root of a significand of 53 or 54 bits with its leading bit at 62: 32 bits by Newton, and 23 more by one division. */
+static u64 f64_root(u64 bits) {
+  u64 x = bits << 10, root = root_of(x), rest = (x - root * root) << 22;
+  u64 low = rest / root, whole = (root << 23) + low;
+  long long left = (long long)((rest - low * root) << 24) - (long long)(low * low);
+  if (left < 0) {
+    whole--;
+    left += 2 * (long long)whole + 1;
+  }
+  return whole << 8 | (left != 0);
+}
+
 #define WIDTH 32
 #define U u32
 #define S int
