@@ -108,10 +108,10 @@ def last_written(events, sector):
     return next(it[2] for it in reversed(events) if it[0] == "write" and it[1] == sector)
 
 
-def crashed(setting, name, base, events, right):
+def crashed(setting, name, base, events, right, most=None):
     """Opens each crash image; `right` is asked of the image's path and of what was said."""
     chance = random.Random(setting.seed)
-    most = 8 if setting.is_quick else 256
+    most = most or (8 if setting.is_quick else 256)
 
     def one(it):
         moment, image, said = it
