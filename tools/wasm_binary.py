@@ -24,23 +24,22 @@ class Reader:
         self.at += count
         return self.data[self.at - count : self.at]
 
-    def u(self):
+    def number(self):
+        """The bits of a LEB128 number, how many they are, and its last byte."""
         value = shift = 0
         while True:
             byte = self.byte()
             value |= (byte & 0x7F) << shift
             shift += 7
             if byte < 0x80:
-                return value
+                return value, shift, byte
+
+    def u(self):
+        return self.number()[0]
 
     def s(self):
-        value = shift = 0
-        while True:
-            byte = self.byte()
-            value |= (byte & 0x7F) << shift
-            shift += 7
-            if byte < 0x80:
-                return value - (1 << shift) if byte & 0x40 else value
+        value, bits, last = self.number()
+        return value - (1 << bits) if last & 0x40 else value
 
     def name(self):
         return self.bytes(self.u())
