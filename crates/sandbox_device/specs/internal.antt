@@ -1,2 +1,3 @@
 pub mod RamLaws
 pub mod FileLaws
+pub mod Packing

@@ -5,6 +5,7 @@ mod file_device;
 mod moments;
 mod past;
 mod ram_device;
+mod sectors;
 
 pub use file_device::FileDevice;
 pub use ram_device::RamDevice;
