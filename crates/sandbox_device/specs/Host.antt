@@ -1,5 +1,5 @@
 -- A device that is one in memory or one in a file, as its maker chose.
-use Rattle.std.specs.Prelude.{◌≡◌, ◌≤◌, ℕ, List, length}
+use Rattle.std.specs.Prelude.{ℕ, length}
 use Rattle.vol_sector.specs.Disk.{Disk}
 use Rattle.sandbox_device.specs.Ram.{held}
 use Rattle.sandbox_device.specs.File.{kept, KeepsItsModel}

@@ -7,6 +7,7 @@ mod moments;
 mod past;
 mod ram_device;
 mod sectors;
+mod storage;
 
 pub use file_device::FileDevice;
 pub use host_device::HostDevice;

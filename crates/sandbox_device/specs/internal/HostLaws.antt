@@ -1,5 +1,5 @@
 -- What holds of a device in memory or in a file.
-use Rattle.std.specs.Prelude.{◌≡◌, ◌≤◌, ℕ}
+use Rattle.std.specs.Prelude.{ℕ}
 use Rattle.std.proofs.Common.{refl}
 use Rattle.vol_sector.specs.Disk.{Image}
 use Rattle.sandbox_device.specs.declared.host_device.HostDevice.{HostDevice}
