@@ -2,7 +2,6 @@
 #![tactic(auto)]
 
 mod file_device;
-mod host_device;
 mod moments;
 mod past;
 mod ram_device;
@@ -10,5 +9,4 @@ mod sectors;
 mod storage;
 
 pub use file_device::FileDevice;
-pub use host_device::HostDevice;
 pub use ram_device::RamDevice;
