@@ -7,10 +7,10 @@ ghost use Rattle.sandbox_device.specs.internal.FileLaws.{mixed_since, mixed_now,
 
 use crate::moments::Moments;
 use crate::sectors::Sectors;
-use crate::storage::{Descriptor, Storage};
 use std::alloc::Global;
 use std::fs::{File, OpenOptions};
 use std::io;
+use std::os::unix::fs::FileExt;
 use std::rt::Files;
 use vol_sector::{Device, DeviceFault};
 
@@ -28,7 +28,7 @@ const MOST_SECTORS: u32 = 65_536;
 /// shown. A sync makes the file's bytes and its size last, but not its time stamps.
 #[derive(Drop)]
 pub struct FileDevice {
-    file: Storage,
+    file: File,
     sectors: Sectors,
     failures: u64,
     moments: Moments,
@@ -39,7 +39,7 @@ pub struct FileDevice {
 const PIECE: u32 = 64;
 
 /// The first sectors of a file. What is zeros there takes no memory.
-fn read_sectors(alloc: Global, file: &Storage, count: u32) -> io::Result<Sectors>
+fn read_sectors(alloc: Global, file: &File, count: u32) -> io::Result<Sectors>
     ensures { IfOk result (λ s. length s ≡ count) }
 {
     let mut sectors = Sectors::zeros(alloc, count)?;
@@ -48,7 +48,7 @@ fn read_sectors(alloc: Global, file: &Storage, count: u32) -> io::Result<Sectors
     while first < count {
         let more = (count - first).min(PIECE);
         let images = &mut piece[..more as usize];
-        file.read(images.as_flattened_mut(), u64::from(first) * SECTOR)?;
+        file.read_exact_at(images.as_flattened_mut(), u64::from(first) * SECTOR)?;
         sectors.put_all(first, images);
         first += more;
     }
@@ -103,32 +103,12 @@ impl FileDevice {
         Ok(device)
     }
 
-    /// The first sectors of a file of which the host has this descriptor open for reading and writing; at most 65,536 are
-    /// taken. The host keeps it open, locks the file against others, and closes it. It fails where the file is shorter,
-    /// where it can't be read, and where memory is refused.
-    pub fn of_descriptor(alloc: Global, descriptor: i32, sectors: u32) -> io::Result<FileDevice>
-        ensures count { IfOk result (λ d. length d.sectors ≡ min sectors 65536) }
-        ensures unused { IfOk result (λ d. d.failures ≡ 0) }
-    {
-        let file = Storage::Lent(Descriptor { number: descriptor });
-        FileDevice::over(alloc, file, sectors.min(MOST_SECTORS))
-    }
-
     /// The whole sectors of a file.
     fn read_from(alloc: Global, file: File) -> io::Result<FileDevice>
         ensures unused { IfOk result (λ d. d.failures ≡ 0) }
     {
         let count = (file.metadata()?.len() / SECTOR).min(u64::from(MOST_SECTORS));
-        FileDevice::over(alloc, Storage::Own(file), count as u32)
-    }
-
-    /// The first sectors of a file.
-    fn over(alloc: Global, file: Storage, count: u32) -> io::Result<FileDevice>
-        requires { count ≤ 65536 }
-        ensures count { IfOk result (λ d. length d.sectors ≡ count) }
-        ensures unused { IfOk result (λ d. d.failures ≡ 0) }
-    {
-        let sectors = read_sectors(alloc, &file, count)?;
+        let sectors = read_sectors(alloc, &file, count as u32)?;
         Ok(FileDevice {
             file,
             sectors,
@@ -206,14 +186,14 @@ impl Device for FileDevice {
     fn write(&mut self, n: u32, image: &[u8; 512]) -> Result<(), DeviceFault> {
         self.moments = self.after_writing();
         self.sectors.put(n, image);
-        match self.file.write(image, u64::from(n) * SECTOR) {
+        match self.file.write_all_at(image, u64::from(n) * SECTOR) {
             Ok(()) => Ok(()),
             Err(_) => Err(self.fail()),
         }
     }
 
     fn sync(&mut self) -> Result<(), DeviceFault> {
-        match self.file.sync() {
+        match self.file.sync_data() {
             Ok(()) => {
                 self.moments = self.after_syncing();
                 Ok(())

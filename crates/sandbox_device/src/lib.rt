@@ -6,7 +6,6 @@ mod moments;
 mod past;
 mod ram_device;
 mod sectors;
-mod storage;
 
 pub use file_device::FileDevice;
 pub use ram_device::RamDevice;
