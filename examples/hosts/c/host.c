@@ -78,6 +78,7 @@ static void many(sandbox_bytes bytes) {
     else if (told.kind != SANDBOX_EXITED || told.code != 0 || strcmp(said, wanted))
       fail("the guest counted wrong", n);
     units += told.used;
+    check("finish", sandbox_finish(&session));
     check("close", sandbox_close_loaded(&session, &module));
   }
   check("unload", sandbox_unload(&module));

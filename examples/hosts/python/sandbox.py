@@ -147,8 +147,9 @@ class Session:
         return room.raw[:512 * count]
 
     def close(self):
-        """Discards the session. Its module can be used again."""
+        """Discards the session, finished where it wasn't. Its module can be used again."""
         if self._raw:
+            _lib.sandbox_finish(c.byref(self._raw))
             _lib.sandbox_close_loaded(c.byref(self._raw), c.byref(self._module._raw))
 
     def __enter__(self):

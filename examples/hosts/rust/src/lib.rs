@@ -210,20 +210,22 @@ impl<'a> Session<'a> {
         }
     }
 
-    /// Discards the session, and gives its module back.
+    /// Discards the session, and gives its module back. What wasn't finished is finished first.
     pub fn close(mut self) -> Module<'a> {
         let mut module = Module { raw: null_mut(), bytes: PhantomData };
-        // SAFETY: `raw` is a session, and the module is none yet.
-        unsafe { sys::sandbox_close_loaded(&mut self.raw, &mut module.raw) };
+        // SAFETY: `raw` is a session, and the module is none yet. A second finish is answered as misuse.
+        unsafe {
+            sys::sandbox_finish(&mut self.raw);
+            sys::sandbox_close_loaded(&mut self.raw, &mut module.raw);
+        }
         module
     }
 }
 
 impl Drop for Session<'_> {
     fn drop(&mut self) {
-        let mut module = Module { raw: null_mut(), bytes: PhantomData };
         // SAFETY: NULL, once it is closed, is answered as misuse.
-        unsafe { sys::sandbox_close_loaded(&mut self.raw, &mut module.raw) };
+        unsafe { sys::sandbox_close(&mut self.raw) };
     }
 }
 

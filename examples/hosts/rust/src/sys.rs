@@ -71,6 +71,7 @@ extern "C" {
     pub fn sandbox_output(session: *mut *mut OpaqueSession, descriptor: u32, from: usize, room: *mut u8, length: usize) -> usize;
     pub fn sandbox_finish(session: *mut *mut OpaqueSession) -> u32;
     pub fn sandbox_volume_out(session: *mut *mut OpaqueSession, room: *mut [u8; 512], count: usize) -> usize;
+    pub fn sandbox_close(session: *mut *mut OpaqueSession) -> u32;
     pub fn sandbox_close_loaded(session: *mut *mut OpaqueSession, module: *mut *mut OpaqueModule) -> u32;
     pub fn sandbox_format(sectors: *mut [u8; 512], count: usize, slots: u32) -> u32;
 }
