@@ -1,0 +1,193 @@
+/* The C interface tried: each misuse that it answers, and what sessions cost. bench/embed builds and calls it. */
+#define _GNU_SOURCE
+#include <malloc.h>
+#include <pthread.h>
+#include <sandbox.h>
+#include <stdio.h>
+#include <stdlib.h>
+#include <string.h>
+#include <time.h>
+
+static sandbox_bytes module;
+static const sandbox_volume fresh = {.kind = SANDBOX_VOLUME_FRESH, .sectors = (const uint8_t(*)[512]) ""};
+static unsigned wrong;
+
+static void want(const char *what, int is) {
+  if (!is) {
+    wrong++;
+    printf("wrong: %s\n", what);
+  }
+}
+
+static sandbox_supplies supplies(void) {
+  static const sandbox_bytes name = {(const uint8_t *)"hi.wasm", 7}, none = {(const uint8_t *)"", 0};
+  static const sandbox_preopen root = {{(const uint8_t *)"/", 1}, {(const uint8_t *)"/", 1}};
+  return (sandbox_supplies){&name, 1, &none, 0, &root, 1, 0, none, 1024, none};
+}
+
+static double now(void) {
+  struct timespec t;
+  clock_gettime(CLOCK_MONOTONIC, &t);
+  return t.tv_sec + t.tv_nsec / 1e9;
+}
+
+static int same(const void *one, const void *other, size_t size) { return !memcmp(one, other, size); }
+
+/* Everything that a caller can do in the wrong order: MISUSE, and nothing is changed. */
+static void misuse(void) {
+  sandbox_supplies given = supplies();
+  sandbox_session *session = NULL;
+  sandbox_module *loaded = NULL;
+  sandbox_why why = {7, 7}, why_before = why;
+  sandbox_told told = {7, 7, 7, 7}, told_before = told;
+  uint8_t room[8] = "roomroo", room_before[8] = "roomroo", sector[1][512] = {{0}};
+  /* no session, no module */
+  want("resume of none", sandbox_resume(&session, 5, &told) == SANDBOX_MISUSE && same(&told, &told_before, sizeof told) && !session);
+  want("finish of none", sandbox_finish(&session) == SANDBOX_MISUSE && !session);
+  want("close of none", sandbox_close(&session) == SANDBOX_MISUSE && !session);
+  want("close_loaded of none", sandbox_close_loaded(&session, &loaded) == SANDBOX_MISUSE && !session && !loaded);
+  want("unload of none", sandbox_unload(&loaded) == SANDBOX_MISUSE && !loaded);
+  want("open_loaded of none", sandbox_open_loaded(&session, &loaded, &given, &fresh) == SANDBOX_MISUSE && !session);
+  want("output of none", sandbox_output(&session, 1, 0, room, sizeof room) == 0 && same(room, room_before, sizeof room));
+  want("volume_out of none", sandbox_volume_out(&session, sector, 1) == 0);
+  /* a volume of no kind */
+  sandbox_volume odd = fresh;
+  odd.kind = 9;
+  want("open over a volume of no kind", sandbox_open(&session, module.at, module.length, &given, &odd, &why) == SANDBOX_MISUSE && !session && same(&why, &why_before, sizeof why));
+  /* a session that is there */
+  want("open", sandbox_open(&session, module.at, module.length, &given, &fresh, &why) == SANDBOX_OK && session);
+  sandbox_session *before = session;
+  want("open over an open one", sandbox_open(&session, module.at, module.length, &given, &fresh, &why) == SANDBOX_MISUSE && session == before);
+  want("close_loaded before finish", sandbox_close_loaded(&session, &loaded) == SANDBOX_MISUSE && session && !loaded);
+  want("volume_out before finish", sandbox_volume_out(&session, sector, 1) == 0);
+  want("output of another descriptor", sandbox_output(&session, 3, 0, room, sizeof room) == 0 && same(room, room_before, sizeof room));
+  want("a session as a module", sandbox_unload((sandbox_module **)(void *)&session) == SANDBOX_MISUSE && session);
+  want("resume", sandbox_resume(&session, 1000, &told) == SANDBOX_OK && told.kind == SANDBOX_CALLED && told.call == SANDBOX_CALL_FD_WRITE && told.code == 0 && told.used == 5);
+  want("output while it runs", sandbox_output(&session, 1, 1, room, 1) == 3 && room[0] == 'i');
+  want("resume to the end", sandbox_resume(&session, 1000, &told) == SANDBOX_OK && told.kind == SANDBOX_EXITED && told.code == 0 && told.used == 8);
+  want("an ended session tells the same", sandbox_resume(&session, 1000, &told) == SANDBOX_OK && told.kind == SANDBOX_EXITED && told.used == 8);
+  want("finish", sandbox_finish(&session) == SANDBOX_OK);
+  want("finish twice", sandbox_finish(&session) == SANDBOX_MISUSE && session);
+  want("resume of a finished one", sandbox_resume(&session, 1, &told) == SANDBOX_MISUSE && session);
+  want("output after finish", sandbox_output(&session, 1, 0, room, sizeof room) == 3 && same(room, "hi\n", 3));
+  want("sectors after finish", sandbox_volume_out(&session, sector, 1) == 202 && same(sector, "WASMVOLU", 8));
+  want("close_loaded", sandbox_close_loaded(&session, &loaded) == SANDBOX_OK && !session && loaded);
+  want("load over a loaded one", sandbox_load(&loaded, module.at, module.length, &why) == SANDBOX_MISUSE && loaded);
+  want("a module as a session", sandbox_resume((sandbox_session **)(void *)&loaded, 1, &told) == SANDBOX_MISUSE && loaded);
+  want("open_loaded", sandbox_open_loaded(&session, &loaded, &given, &fresh) == SANDBOX_OK && session && !loaded);
+  want("close", sandbox_close(&session) == SANDBOX_OK && !session);
+  want("close twice", sandbox_close(&session) == SANDBOX_MISUSE && !session);
+  /* what is refused */
+  want("a cut module", sandbox_check(module.at, module.length - 1, &why) == 1 && why.fault == 1 && why.offset == module.length - 1);
+  given.pages = 65537;
+  want("too many pages", sandbox_open(&session, module.at, module.length, &given, &fresh, &why) == 15 && !session);
+  given.pages = 0;
+  want("too few pages", sandbox_open(&session, module.at, module.length, &given, &fresh, &why) == 22 && !session);
+  want("a volume of zeros", (given.pages = 1, odd = (sandbox_volume){.kind = SANDBOX_VOLUME_MEMORY, .sectors = (const uint8_t(*)[512])sector, .sectors_count = 1},
+       sandbox_open(&session, module.at, module.length, &given, &odd, &why) == 30 && !session));
+  want("format of too little", sandbox_format(sector, 1, 1) == 36);
+  printf("misuse: %u wrong\n", wrong);
+}
+
+static int one(sandbox_supplies *given) {
+  uint8_t out[16];
+  size_t length = 0;
+  sandbox_told told;
+  sandbox_why why;
+  return sandbox_run(module.at, module.length, given, 1000, out, sizeof out, &length, &told, &why) == SANDBOX_OK &&
+         told.kind == SANDBOX_EXITED && length == 3;
+}
+
+static void *thread(void *count) {
+  sandbox_supplies given = supplies();
+  for (long i = 0; i < (long)count; i++)
+    if (!one(&given))
+      return (void *)1;
+  return NULL;
+}
+
+static size_t in_use(void) {
+  struct mallinfo2 info = mallinfo2();
+  return info.uordblks + info.hblkhd;
+}
+
+static long resident(void) {
+  long pages = 0, skip;
+  FILE *file = fopen("/proc/self/statm", "r");
+  if (!file || fscanf(file, "%ld %ld", &skip, &pages) != 2)
+    pages = 0;
+  if (file)
+    fclose(file);
+  return pages * 4096;
+}
+
+static void costs(long runs) {
+  enum { MANY = 1000 };
+  sandbox_supplies given = supplies();
+  sandbox_told told;
+  sandbox_why why;
+  one(&given);
+  size_t before = in_use();
+  double begun = now(), best = 1e9;
+  for (int round = 0; round < 5; round++) {
+    begun = now();
+    for (long i = 0; i < runs; i++)
+      want("a run", one(&given));
+    double took = (now() - begun) / runs;
+    if (took < best)
+      best = took;
+  }
+  printf("a session of the module in one call: %.1f us, best of 5 times %ld; %zd bytes left\n", best * 1e6, runs, (ssize_t)(in_use() - before));
+  /* loaded once */
+  sandbox_module *loaded = NULL;
+  sandbox_session *session = NULL;
+  want("load", sandbox_load(&loaded, module.at, module.length, &why) == SANDBOX_OK);
+  begun = now();
+  for (long i = 0; i < runs; i++) {
+    sandbox_open_loaded(&session, &loaded, &given, &fresh);
+    do
+      sandbox_resume(&session, 1000, &told);
+    while (told.kind == SANDBOX_CALLED);
+    sandbox_finish(&session);
+    sandbox_close_loaded(&session, &loaded);
+  }
+  printf("the same of a loaded module, by resumes: %.1f us\n", (now() - begun) / runs * 1e6);
+  sandbox_unload(&loaded);
+  /* many at once */
+  static sandbox_session *many[MANY];
+  before = in_use();
+  long pages = resident();
+  begun = now();
+  for (int i = 0; i < MANY; i++)
+    want("open", sandbox_open(&many[i], module.at, module.length, &given, &fresh, &why) == SANDBOX_OK);
+  double opened = now();
+  printf("%d sessions at once: %.1f us each to open, %zu bytes asked for each, %ld resident\n", MANY, (opened - begun) / MANY * 1e6, (in_use() - before) / MANY, (resident() - pages) / MANY);
+  for (int i = 0; i < MANY; i++)
+    want("close", sandbox_close(&many[i]) == SANDBOX_OK);
+  for (int count = 1; count <= 4; count *= 2) {
+    pthread_t threads[4];
+    void *bad;
+    begun = now();
+    for (int i = 0; i < count; i++)
+      pthread_create(&threads[i], NULL, thread, (void *)runs);
+    for (int i = 0; i < count; i++) {
+      pthread_join(threads[i], &bad);
+      want("a thread", !bad);
+    }
+    printf("%d threads: %.0f sessions a second\n", count, count * runs / (now() - begun));
+  }
+}
+
+int main(int argc, char **argv) {
+  static uint8_t bytes[1 << 20];
+  FILE *file = argc > 2 ? fopen(argv[1], "rb") : NULL;
+  if (!file)
+    return 2;
+  module = (sandbox_bytes){bytes, fread(bytes, 1, sizeof bytes, file)};
+  fclose(file);
+  if (!strcmp(argv[2], "misuse"))
+    misuse();
+  else
+    costs(atol(argv[2]));
+  return wrong != 0;
+}
