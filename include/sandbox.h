@@ -71,14 +71,12 @@ typedef struct { /* what a guest is given */
 
 typedef struct { /* the guest's volume; borrowed */
     uint32_t kind;                 /* SANDBOX_VOLUME_* */
-    int32_t fd;                    /* _FILE: open for reading and writing, locked by the host; never closed here */
     const uint8_t (*sectors)[512]; /* _MEMORY: copied in; sandbox_volume_out copies out */
-    size_t sectors_count;          /* _MEMORY: how many; _FILE: none is 0, and the file has as many as its length gives */
+    size_t sectors_count;          /* _MEMORY: how many, at most 65,536; else 0 */
 } sandbox_volume;
 enum {
-    SANDBOX_VOLUME_FRESH = 0,  /* empty, 202 sectors and 16 slots, discarded at the end */
-    SANDBOX_VOLUME_MEMORY = 1,
-    SANDBOX_VOLUME_FILE = 2    /* pread, pwrite, fdatasync of fd: also a block device, a memfd */
+    SANDBOX_VOLUME_FRESH = 0,  /* empty, 202 sectors and 16 slots */
+    SANDBOX_VOLUME_MEMORY = 1  /* that of these sectors. The host keeps a volume by sandbox_volume_out */
 };
 
 typedef struct { /* why a call came back; a caller may pass any numbers in it */
@@ -170,18 +168,17 @@ uint32_t sandbox_resume(sandbox_session **session, uint64_t units, sandbox_told 
 size_t sandbox_output(sandbox_session **session, uint32_t descriptor, size_t from, uint8_t *room, size_t length);
 
 /* Commits the guest's calls to its volume, and ends the session's run. Its output and volume can be read until it is closed.
- * DEVICE_FAILED where the volume's device fails or has failed: what was synced before is on it, and the session is finished,
- * too. A second call is MISUSE. */
+ * DEVICE_FAILED where the volume couldn't be committed: the session is finished then, too. A second call is MISUSE. */
 uint32_t sandbox_finish(sandbox_session **session);
 
-/* Copies the sectors of a volume in memory out, as far as there is room; answers how many it has. After sandbox_finish, else
- * 0; and 0 of a file. */
+/* Copies the volume's sectors out, as far as there is room; answers how many it has. After sandbox_finish, else 0. */
 size_t sandbox_volume_out(sandbox_session **session, uint8_t (*room)[512], size_t count);
 
 /* Discards all, also what isn't committed, and makes *session NULL. MISUSE where there is none. */
 uint32_t sandbox_close(sandbox_session **session);
 
-/* The same, and the session's module becomes a loaded one in *module: MISUSE where there is one already. */
+/* Discards a finished session, and its module becomes a loaded one in *module: MISUSE where there is one already, or the
+ * session isn't finished. It asks for no memory. */
 uint32_t sandbox_close_loaded(sandbox_session **session, sandbox_module **module);
 
 /* Discards a loaded module, and makes *module NULL. MISUSE where there is none. */
