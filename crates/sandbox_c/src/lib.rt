@@ -1,0 +1,223 @@
+//! What C calls (`include/sandbox.h`). Each export is one call of `sandbox_host`, under its contract.
+#![tactic(auto)]
+
+ghost use Rattle.std.specs.Prelude.{◌≡◌, ◌≢◌, ◌⊎◌, None, Some, IfSome, IsSomeAnd, is_none, true, false, length, drop};
+ghost use Rattle.vol_sector.specs.Record.{image_of};
+ghost use Rattle.vol_tree.specs.Fresh.{fresh};
+ghost use Rattle.vol_tree.specs.Stands.{StandsAs, empty_tree};
+ghost use Rattle.wasm_module.specs.declared.module.Module.{Module as ModuleValue};
+ghost use Rattle.sandbox_host.specs.Sessions.{running, finished, loaded, has_session, has_module, output, sectors};
+ghost use Rattle.sandbox_host.specs.Sessions.{IsLoaded, IsShown, Begins, BeginsFrom, Paused, Finishes};
+ghost use Rattle.sandbox_host.specs.Volumes.{origin_of};
+ghost use Rattle.sandbox_host.specs.Refusals.{NotLoaded, NotBegun, NotOpened};
+ghost use Rattle.sandbox_host.specs.Whole.{Ran, IsUnformatted};
+ghost use Rattle.sandbox_host.specs.Texts.{text_of};
+ghost use Rattle.sandbox_host.specs.declared.volumes.Origin.TheVariants.{Fresh};
+
+use sandbox_host::{Handle, Supplies, Told, VolumeSource, Why};
+use std::alloc::Global;
+
+/// The version of the archive.
+#[unsafe(no_mangle)]
+pub extern "C" fn sandbox_version() -> u32
+    ensures { result ≡ 3000 }
+{
+    sandbox_host::VERSION
+}
+
+/// Copies the text of a number.
+#[unsafe(no_mangle)]
+pub extern "C" fn sandbox_text(kind: u32, number: u32, room: &mut [u8]) -> usize
+    ensures length { result ≡ length (text_of kind number) }
+    ensures shown { IsShown (text_of kind number) room.old room.new }
+{
+    sandbox_host::text(kind, number, room)
+}
+
+/// Decodes and validates a module.
+#[unsafe(no_mangle)]
+pub extern "C" fn sandbox_check(alloc: Global, module: &[u8], why: &mut Why) -> u32
+    ensures valid { result ≡ 0 → ((m : ModuleValue) × IsLoaded «module».now m) × (why.new ≡ why.old) }
+    ensures refused { result ≢ 0 → (result ≡ why.new.fault) × NotLoaded «module».now why.new }
+{
+    sandbox_host::check(alloc, module, why)
+}
+
+/// Runs a module with this much fuel over a fresh volume.
+#[unsafe(no_mangle)]
+pub extern "C" fn sandbox_run(
+    alloc: Global,
+    module: &[u8],
+    supplies: &Supplies<'_>,
+    fuel: u64,
+    out: &mut [u8],
+    out_length: &mut usize,
+    ended: &mut Told,
+    why: &mut Why,
+) -> u32
+    ensures ran { result ≡ 0 → Ran «module».now supplies.now fuel ended.new out_length.new out.old out.new × (why.new ≡ why.old) }
+    ensures refused { result ≢ 0 → NotOpened «module».now supplies.now Fresh result why.old why.new
+        × (out.new ≡ out.old) × (out_length.new ≡ out_length.old) × (ended.new ≡ ended.old) }
+{
+    sandbox_host::run(alloc, module, supplies, fuel, out, out_length, ended, why)
+}
+
+/// Makes a session.
+#[unsafe(no_mangle)]
+pub extern "C" fn sandbox_open(
+    alloc: Global,
+    session: &mut Handle,
+    module: &'static [u8],
+    supplies: &Supplies<'static>,
+    volume: &VolumeSource<'_>,
+    why: &mut Why,
+) -> u32
+    ensures misuse { (is_none session.old.held ≡ false) ⊎ (is_none (origin_of volume.now) ≡ true)
+        → (result ≡ 100) × (session.new ≡ session.old) × (why.new ≡ why.old) }
+    ensures opened { is_none session.old.held ≡ true → IfSome (origin_of volume.now) (λ origin. result ≡ 0
+        → IsSomeAnd (running session.new.held) (BeginsFrom «module».now supplies.now origin) × (why.new ≡ why.old)) }
+    ensures refused { is_none session.old.held ≡ true → IfSome (origin_of volume.now) (λ origin. result ≢ 0
+        → (session.new.held ≡ None) × NotOpened «module».now supplies.now origin result why.old why.new) }
+{
+    sandbox_host::open(alloc, session, module, supplies, volume, why)
+}
+
+/// Loads a module for many sessions.
+#[unsafe(no_mangle)]
+pub extern "C" fn sandbox_load(
+    alloc: Global,
+    module: &mut Handle,
+    bytes: &'static [u8],
+    why: &mut Why,
+) -> u32
+    ensures misuse { is_none «module».old.held ≡ false
+        → (result ≡ 100) × («module».new ≡ «module».old) × (why.new ≡ why.old) }
+    ensures loaded { is_none «module».old.held ≡ true → result ≡ 0
+        → IsSomeAnd (loaded «module».new.held) (IsLoaded bytes.now) × (why.new ≡ why.old) }
+    ensures refused { is_none «module».old.held ≡ true → result ≢ 0 → («module».new.held ≡ None)
+        × (((result ≡ why.new.fault) × NotLoaded bytes.now why.new) ⊎ ((result ≡ 40) × (why.new ≡ why.old))) }
+{
+    sandbox_host::load_module(alloc, module, bytes, why)
+}
+
+/// Makes a session of a loaded module.
+#[unsafe(no_mangle)]
+pub extern "C" fn sandbox_open_loaded(
+    alloc: Global,
+    session: &mut Handle,
+    module: &mut Handle,
+    supplies: &Supplies<'static>,
+    volume: &VolumeSource<'_>,
+) -> u32
+    ensures misuse { ((is_none session.old.held ≡ false) ⊎ (is_none (origin_of volume.now) ≡ true)) ⊎ (is_none (loaded «module».old.held) ≡ true)
+        → (result ≡ 100) × (session.new.held ≡ session.old.held) × («module».new.held ≡ «module».old.held) }
+    ensures opened { is_none session.old.held ≡ true → IfSome (origin_of volume.now) (λ origin.
+        IfSome (loaded «module».old.held) (λ m. result ≡ 0
+        → IsSomeAnd (running session.new.held) (Begins m supplies.now origin) × («module».new.held ≡ None))) }
+    ensures refused { is_none session.old.held ≡ true → IfSome (origin_of volume.now) (λ origin.
+        IfSome (loaded «module».old.held) (λ m. result ≢ 0 → (session.new.held ≡ session.old.held)
+        × («module».new.held ≡ «module».old.held) × NotBegun m supplies.now origin result)) }
+{
+    sandbox_host::open_loaded(alloc, session, module, supplies, volume)
+}
+
+/// Lets the guest go on.
+#[unsafe(no_mangle)]
+pub extern "C" fn sandbox_resume(
+    alloc: Global,
+    session: &mut Handle,
+    units: u64,
+    told: &mut Told,
+) -> u32
+    ensures misuse { is_none (running session.old.held) ≡ true
+        → (result ≡ 100) × (session.new.held ≡ session.old.held) × (told.new ≡ told.old) }
+    ensures resumed { IfSome (running session.old.held) (λ old. (result ≡ 0)
+        × IsSomeAnd (running session.new.held) (λ new. Paused units old new told.new)) }
+{
+    sandbox_host::resume(alloc, session, units, told)
+}
+
+/// Copies what the guest has written.
+#[unsafe(no_mangle)]
+pub extern "C" fn sandbox_output(
+    alloc: Global,
+    session: &mut Handle,
+    descriptor: u32,
+    from: usize,
+    room: &mut [u8],
+) -> usize
+    ensures length { result ≡ length (output session.old.held descriptor) }
+    ensures shown { IsShown (drop from (output session.old.held descriptor)) room.old room.new }
+    ensures kept { session.new.held ≡ session.old.held }
+{
+    sandbox_host::output(alloc, session, descriptor, from, room)
+}
+
+/// Commits, and ends the run.
+#[unsafe(no_mangle)]
+pub extern "C" fn sandbox_finish(alloc: Global, session: &mut Handle) -> u32
+    ensures misuse { is_none (running session.old.held) ≡ true
+        → (result ≡ 100) × (session.new.held ≡ session.old.held) }
+    ensures finished { IfSome (running session.old.held) (λ s.
+        IsSomeAnd (finished session.new.held) (λ e. Finishes s e result)) }
+{
+    sandbox_host::finish(alloc, session)
+}
+
+/// Copies the volume's sectors.
+#[unsafe(no_mangle)]
+pub extern "C" fn sandbox_volume_out(
+    alloc: Global,
+    session: &mut Handle,
+    room: &mut [[u8; 512]],
+) -> usize
+    ensures length { result ≡ length (sectors session.old.held) }
+    ensures shown { IsShown (sectors session.old.held) room.old room.new }
+    ensures kept { session.new.held ≡ session.old.held }
+{
+    sandbox_host::volume_out(alloc, session, room)
+}
+
+/// Discards a session.
+#[unsafe(no_mangle)]
+pub extern "C" fn sandbox_close(alloc: Global, session: &mut Handle) -> u32
+    ensures misuse { has_session session.old.held ≡ false
+        → (result ≡ 100) × (session.new.held ≡ session.old.held) }
+    ensures closed { has_session session.old.held ≡ true → (result ≡ 0) × (session.new.held ≡ None) }
+{
+    sandbox_host::close(alloc, session)
+}
+
+/// Discards a finished session, and keeps its module.
+#[unsafe(no_mangle)]
+pub extern "C" fn sandbox_close_loaded(
+    alloc: Global,
+    session: &mut Handle,
+    module: &mut Handle,
+) -> u32
+    ensures misuse { (is_none (finished session.old.held) ≡ true) ⊎ (is_none «module».old.held ≡ false)
+        → (result ≡ 100) × (session.new.held ≡ session.old.held) × («module».new.held ≡ «module».old.held) }
+    ensures closed { IfSome (finished session.old.held) (λ e. is_none «module».old.held ≡ true
+        → (result ≡ 0) × (session.new.held ≡ None) × (loaded «module».new.held ≡ Some e.valid)) }
+{
+    sandbox_host::close_loaded(alloc, session, module)
+}
+
+/// Discards a loaded module.
+#[unsafe(no_mangle)]
+pub extern "C" fn sandbox_unload(alloc: Global, module: &mut Handle) -> u32
+    ensures misuse { has_module «module».old.held ≡ false
+        → (result ≡ 100) × («module».new.held ≡ «module».old.held) }
+    ensures closed { has_module «module».old.held ≡ true → (result ≡ 0) × («module».new.held ≡ None) }
+{
+    sandbox_host::unload(alloc, module)
+}
+
+/// Makes sectors an empty volume.
+#[unsafe(no_mangle)]
+pub extern "C" fn sandbox_format(alloc: Global, sectors: &mut [[u8; 512]], slots: u32) -> u32
+    ensures formatted { result ≡ 0 → StandsAs (image_of sectors.new) (fresh (length sectors.old) slots) (empty_tree slots) }
+    ensures refused { result ≢ 0 → IsUnformatted (fresh (length sectors.old) slots) result × (sectors.new ≡ sectors.old) }
+{
+    sandbox_host::format(alloc, sectors, slots)
+}

@@ -1,0 +1,34 @@
+use Rattle.std.proofs.Common.{◌≡◌, subst, inr}
+use Rattle.wasi_calls.specs.declared.settings.Settings.{Settings}
+use Rattle.sandbox_core.specs.Session.{given, IsRefused}
+use Rattle.sandbox_host.specs.Host.{State, Opens, Shares, IsHonest}
+use Rattle.sandbox_host.proofs.opening.begin.Goals as goal
+
+-- the settings are those of the supplies
+pub returns-in-Ok-new-clause-begins : goal.returns-in-Ok-new-clause-begins
+returns-in-Ok-new-clause-begins c =
+    let made = c.in-Ok-new.ensures in
+    let session : State = c.in-Ok-new.session in
+    let input = c.args.supplies.now.input in
+    record {
+      volume = c.in-Ok.volume;
+      is_volume = c.in-Ok.ensures.opens;
+      out = c.new-out.result;
+      err = c.new-err.result;
+      no_output = c.new-out.ensures.items;
+      no_errors = c.new-err.ensures.items;
+      opens = subst (λ (s : Settings). Opens c.args.valid (given s c.in-Ok.volume input c.new-out.result c.new-err.result) session) c.settings-settings.ensures made.opens;
+      shares = subst (λ (s : Settings). Shares (given s c.in-Ok.volume input c.new-out.result c.new-err.result) session) c.settings-settings.ensures made.shares;
+    }
+
+pub returns-in-Err-new-clause-refused : goal.returns-in-Err-new-clause-refused
+returns-in-Err-new-clause-refused c =
+    inr (record {
+      volume = c.in-Ok.volume;
+      is_volume = c.in-Ok.ensures.opens;
+      out = c.new-out.result;
+      err = c.new-err.result;
+      fault = c.in-Err-new.field-0.fault;
+      refuses = subst (λ (s : Settings). IsRefused IsHonest c.in-Err-new.field-0.fault c.args.valid (given s c.in-Ok.volume c.args.supplies.now.input c.new-out.result c.new-err.result)) c.settings-settings.ensures c.in-Err-new.ensures.refused;
+      tells = c.session_number.ensures.number;
+    })

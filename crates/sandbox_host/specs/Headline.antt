@@ -1,0 +1,37 @@
+-- The headline over what a host calls: one `resume` after another on a session that was opened.
+use Rattle.std.specs.Prelude.{◌≡◌, ℕ, List, [], ◌∷◌}
+use Rattle.wasm_module.specs.declared.module.Module.{Module}
+use Rattle.sandbox_core.specs.Session.{History, used_by}
+use Rattle.sandbox_core.specs.Session as core
+use Rattle.sandbox_core.specs.Headline as headline
+use Rattle.sandbox_host.specs.declared.numbers.Told.{Told}
+use Rattle.sandbox_host.specs.declared.supplies.Supplies.{Supplies}
+use Rattle.sandbox_host.specs.declared.volumes.Origin.{Origin}
+use Rattle.sandbox_host.specs.Numbers.{told_pause}
+use Rattle.sandbox_host.specs.Host.{State, remaining, written, disk_of, IsHonest, size_of, failures_of}
+use Rattle.sandbox_host.specs.Sessions.{Begins, Paused}
+
+-- one call of `resume` after another: what each told, and the session after it
+abbrev pub Resumed : State → List (Told × State) → State → Type 0
+Resumed s [] s' = s' ≡ s
+Resumed s (r ∷ rs) s' = ((units : ℕ) × Paused units s r.1 r.0) × Resumed r.1 rs s'
+
+-- these pauses of the session were told by these numbers, one after another
+abbrev pub TellAll : History State → List (Told × State) → Type 0
+TellAll [] [] = Unit {0}
+TellAll [] (r ∷ rs) = ⊥
+TellAll (h ∷ hs) [] = ⊥
+TellAll (h ∷ hs) (r ∷ rs) = (r.0 ≡ told_pause h.0 (used_by h.1)) × (r.1 ≡ h.1) × TellAll hs rs
+
+-- The calls are resumes of the session, told by these numbers, and all that the headline says of them holds.
+pub record HostUpholds (m : Module) (supplies : Supplies) (s : State) (rs : List (Told × State)) (s' : State) : Type 0 where
+  pub history : History State
+  pub tells : TellAll history rs
+  pub follow : core.Follow IsHonest disk_of size_of failures_of remaining written written s history s'
+
+-- Whatever is called on a session that begins.
+abbrev pub HostHeadline : Type 0
+HostHeadline = (m : Module) (supplies : Supplies) (origin : Origin) (s s' : State) (rs : List (Told × State))
+    → (begins : Begins m supplies origin s) → Resumed s rs s'
+    → (all : HostUpholds m supplies s rs s')
+    × headline.Upholds IsHonest disk_of size_of failures_of remaining written written m supplies.pages (begins.volume.tree ∷ []) 0 s all.history s'

@@ -1,0 +1,61 @@
+-- Why a module isn't loaded and a session doesn't begin, and with which number it is told.
+use Rattle.std.specs.Prelude.{◌≡◌, ◌≢◌, ◌⊎◌, ℕ, List, Option, Some, None}
+use Rattle.vol_sector.specs.declared.fault.VolumeFault.{VolumeFault}
+use Rattle.wasm_module.specs.declared.module.Module.{Module}
+use Rattle.wasm_module.specs.declared.fault.LoadFault.{LoadFault}
+use Rattle.wasm_module.specs.declared.fault.LoadFault.TheVariants.{Memory}
+use Rattle.wasm_module.specs.Module.{Spells}
+use Rattle.wasm_valid.specs.Validity.{IsValid}
+use Rattle.wasm_valid.specs.Refusal.{IsRefusal}
+use Rattle.sandbox_core.specs.declared.fault.SessionFault.{SessionFault}
+use Rattle.sandbox_core.specs.Session.{given, IsRefused}
+use Rattle.sandbox_host.specs.declared.numbers.Why.{Why}
+use Rattle.sandbox_host.specs.declared.supplies.Supplies.{Supplies}
+use Rattle.sandbox_host.specs.declared.volumes.Origin.{Origin}
+use Rattle.sandbox_host.specs.Numbers.{why_of, session_number, volume_number}
+use Rattle.sandbox_host.specs.Supplies.{settings_of}
+use Rattle.sandbox_host.specs.Host.{Bytes, HostVolume, IsHonest}
+use Rattle.sandbox_host.specs.Volumes.{IsVolume, RefusesVolume}
+use Rattle.sandbox_host.specs.Sessions.{IsLoaded}
+
+-- The bytes spell no valid module, but where memory was refused; and no module at all, but where what they spell isn't valid.
+pub record RefusesModule (bytes : List ℕ) (why : LoadFault) : Type 0 where
+  pub no : why ≢ Memory → (m : Module) → Spells bytes m → IsValid m → ⊥
+  pub none : ¬ IsRefusal why → (m : Module) → Spells bytes m → ⊥
+
+-- the module isn't loaded, for this reason
+pub record NotLoaded (bytes : List ℕ) (told : Why) : Type 0 where
+  pub fault : LoadFault
+  pub refuses : RefusesModule bytes fault
+  pub tells : told ≡ why_of fault
+
+-- the volume isn't opened, for a reason with this number
+pub record NoVolume (origin : Origin) (number : ℕ) : Type 0 where
+  pub fault : VolumeFault
+  pub refuses : RefusesVolume origin fault
+  pub tells : number ≡ volume_number fault
+
+-- the session isn't made over the volume, for a reason with this number
+pub record NoSession (m : Module) (supplies : Supplies) (origin : Origin) (number : ℕ) : Type 0 where
+  pub volume : HostVolume
+  pub is_volume : IsVolume origin volume
+  pub out : Bytes
+  pub err : Bytes
+  pub fault : SessionFault
+  pub refuses : IsRefused IsHonest fault m (given (settings_of supplies) volume supplies.input out err)
+  pub tells : number ≡ session_number fault
+
+-- A session of the module doesn't begin: the volume is refused, then the session.
+abbrev pub NotBegun : Module → Supplies → Origin → ℕ → Type 0
+NotBegun m supplies origin number = NoVolume origin number ⊎ NoSession m supplies origin number
+
+-- the module was loaded, and no session of it begins, or memory for it was refused
+pub record NotBegunFrom (bytes : List ℕ) (supplies : Supplies) (origin : Origin) (number : ℕ) : Type 0 where
+  pub m : Module
+  pub is_loaded : IsLoaded bytes m
+  pub why : NotBegun m supplies origin number ⊎ (number ≡ 40)
+
+-- A session isn't opened: the module is refused, which is told, or what it was to be made of.
+abbrev pub NotOpened : List ℕ → Supplies → Origin → ℕ → Why → Why → Type 0
+NotOpened bytes supplies origin number before after =
+    ((number ≡ after.fault) × NotLoaded bytes after) ⊎ (NotBegunFrom bytes supplies origin number × (after ≡ before))

@@ -1,0 +1,151 @@
+-- What a handle has, and what each call makes of it.
+use Rattle.std.specs.Prelude.{◌≡◌, ◌-◌, ◌^◌, ◌==◌, ℕ, Bool, true, false, List, [], length, take, drop, ◌++◌, min, Option, Some, None, Result, Ok, Err, if◌then◌else◌}
+use Rattle.vol_sector.specs.declared.fault.Refused.{Refused}
+use Rattle.vol_tree.specs.Opened.{Opened}
+use Rattle.wasm_module.specs.declared.module.Module.{Module}
+use Rattle.wasm_module.specs.Module.{Spells}
+use Rattle.wasm_valid.specs.Validity.{IsValid}
+use Rattle.wasm_steps.specs.declared.pause.Pause.{Pause}
+use Rattle.sandbox_core.specs.Session.{given, used_by}
+use Rattle.sandbox_device.specs.declared.ram_device.RamDevice.{RamDevice}
+use Rattle.sandbox_host.specs.declared.numbers.Told.{Told}
+use Rattle.sandbox_host.specs.declared.supplies.Supplies.{Supplies}
+use Rattle.sandbox_host.specs.declared.volumes.Origin.{Origin}
+use Rattle.sandbox_host.specs.declared.held.Held.{Held}
+use Rattle.sandbox_host.specs.declared.held.Held.TheVariants.{Loaded, Running, Finished, Nothing}
+use Rattle.sandbox_host.specs.declared.held.Ended.{Ended}
+use Rattle.sandbox_host.specs.Numbers.{told_pause}
+use Rattle.sandbox_host.specs.Supplies.{settings_of}
+use Rattle.sandbox_host.specs.Host.{HostVolume, Bytes, State, Opens, Shares, Resumes, Commits}
+use Rattle.sandbox_host.specs.Volumes.{IsVolume}
+
+-- ---- what a handle has
+
+abbrev pub is_session : Held → Bool
+is_session (Loaded m) = false
+is_session (Running s) = true
+is_session (Finished e) = true
+is_session Nothing = false
+
+abbrev pub is_loaded : Held → Bool
+is_loaded (Loaded m) = true
+is_loaded (Running s) = false
+is_loaded (Finished e) = false
+is_loaded Nothing = false
+
+abbrev pub has_session : Option Held → Bool
+has_session None = false
+has_session (Some held) = is_session held
+
+abbrev pub has_module : Option Held → Bool
+has_module None = false
+has_module (Some held) = is_loaded held
+
+-- the session that isn't finished, what a finished one left, and the module that no session has
+abbrev pub running_in : Held → Option State
+running_in (Loaded m) = None
+running_in (Running s) = Some s
+running_in (Finished e) = None
+running_in Nothing = None
+
+abbrev pub finished_in : Held → Option Ended
+finished_in (Loaded m) = None
+finished_in (Running s) = None
+finished_in (Finished e) = Some e
+finished_in Nothing = None
+
+abbrev pub loaded_in : Held → Option Module
+loaded_in (Loaded m) = Some m
+loaded_in (Running s) = None
+loaded_in (Finished e) = None
+loaded_in Nothing = None
+
+abbrev pub running : Option Held → Option State
+running None = None
+running (Some held) = running_in held
+
+abbrev pub finished : Option Held → Option Ended
+finished None = None
+finished (Some held) = finished_in held
+
+abbrev pub loaded : Option Held → Option Module
+loaded None = None
+loaded (Some held) = loaded_in held
+
+-- what the guest has written so far to a descriptor
+abbrev pub stream : Bytes → Bytes → ℕ → List ℕ
+stream out err descriptor = if descriptor == 1 then out.items else (if descriptor == 2 then err.items else [])
+
+abbrev pub output_of : Held → ℕ → List ℕ
+output_of (Loaded m) descriptor = []
+output_of (Running s) descriptor = stream s.host.out.writer s.host.err.writer descriptor
+output_of (Finished e) descriptor = stream e.out e.err descriptor
+output_of Nothing descriptor = []
+
+abbrev pub output : Option Held → ℕ → List ℕ
+output None descriptor = []
+output (Some held) descriptor = output_of held descriptor
+
+-- the sectors of a finished session's volume
+abbrev pub sectors_of : Held → List (List ℕ)
+sectors_of (Loaded m) = []
+sectors_of (Running s) = []
+sectors_of (Finished e) = e.device.sectors
+sectors_of Nothing = []
+
+abbrev pub sectors : Option Held → List (List ℕ)
+sectors None = []
+sectors (Some held) = sectors_of held
+
+-- ---- what each call makes of it
+
+-- the room begins with the items, as many as it has places for, and the rest of it is as it was
+abbrev pub IsShown : {X : Type 0} → List X → List X → List X → Type 0
+IsShown items before after = let count = min (length before) (length items) in after ≡ take count items ++ drop count before
+
+-- A session of the module over the volume that was named, with what the guest was given, which has used and written nothing.
+pub record Begins (m : Module) (supplies : Supplies) (origin : Origin) (s : State) : Type 0 where
+  pub volume : HostVolume
+  pub is_volume : IsVolume origin volume
+  pub out : Bytes
+  pub err : Bytes
+  pub no_output : out.items ≡ []
+  pub no_errors : err.items ≡ []
+  pub opens : Opens m (given (settings_of supplies) volume supplies.input out err) s
+  pub shares : Shares (given (settings_of supplies) volume supplies.input out err) s
+
+-- the module that the bytes spell, which is valid
+pub record IsLoaded (bytes : List ℕ) (m : Module) : Type 0 where
+  pub spells : Spells bytes m
+  pub valid : IsValid m
+
+-- a session that begins, of the module that the bytes spell
+pub record BeginsFrom (bytes : List ℕ) (supplies : Supplies) (origin : Origin) (s : State) : Type 0 where
+  pub m : Module
+  pub is_loaded : IsLoaded bytes m
+  pub begins : Begins m supplies origin s
+
+-- a resume with at most these units, and not past 2^64 - 1 in all, and what it told
+pub record Paused (units : ℕ) (old new : State) (told : Told) : Type 0 where
+  pub pause : Pause
+  pub resumes : Resumes old new (min units (2 ^ 64 - 1 - used_by old)) pause
+  pub tells : told ≡ told_pause pause (used_by new)
+
+-- the device of what is handed back of a volume, and the number that is answered
+abbrev pub device_of : Result HostVolume (Refused RamDevice) → RamDevice
+device_of (Ok v) = v.device
+device_of (Err r) = r.device
+
+abbrev pub commit_number : Result HostVolume (Refused RamDevice) → ℕ
+commit_number (Ok v) = 0
+commit_number (Err r) = 33
+
+-- The session's calls are committed, and what it leaves is its module, the volume's device then, and what it has written.
+pub record Finishes (s : State) (e : Ended) (number : ℕ) : Type 0 where
+  pub volume : Result HostVolume (Refused RamDevice)
+  pub commits : Commits s.host.volume volume
+  pub device : e.device ≡ device_of volume
+  pub number_told : number ≡ commit_number volume
+  pub valid : e.valid ≡ s.machine.valid
+  pub out : e.out ≡ s.host.out.writer
+  pub err : e.err ≡ s.host.err.writer

@@ -1,0 +1,6 @@
+-- What a host hands in of a guest, as the settings of a session.
+use Rattle.wasi_calls.specs.declared.settings.Settings.{Settings}
+use Rattle.sandbox_host.specs.declared.supplies.Supplies.{Supplies}
+
+abbrev pub settings_of : Supplies → Settings
+settings_of s = record { args = s.args; env = s.env; preopens = s.preopens; moment = s.moment; random = s.random; pages = s.pages }

@@ -1,0 +1,54 @@
+-- The volume of a guest: a fresh one of 202 sectors and 16 slots, or that of sectors that a host hands in.
+use Rattle.std.specs.Prelude.{◌≡◌, ◌⊎◌, ◌<◌, ◌==◌, ℕ, List, length, Option, Some, None, false, if◌then◌else◌}
+use Rattle.vol_sector.specs.Disk.{Image}
+use Rattle.vol_sector.specs.Record.{image_of}
+use Rattle.vol_sector.specs.declared.fault.VolumeFault.{VolumeFault}
+use Rattle.vol_sector.specs.declared.fault.VolumeFault.TheVariants as fault
+use Rattle.vol_tree.specs.Tree.{Tree}
+use Rattle.vol_tree.specs.declared.superblock.Superblock.{Superblock}
+use Rattle.vol_tree.specs.Stands.{StandsAs, empty_tree}
+use Rattle.vol_tree.specs.Fresh.{fresh}
+use Rattle.vol_tree.specs.Opening.{StandsOn, NoVolumeOn, HasNoVersion, IsDamaged}
+use Rattle.sandbox_host.specs.Host.{HostVolume, disk_of, size_of}
+use Rattle.sandbox_host.specs.declared.volumes.VolumeSource.{VolumeSource}
+use Rattle.sandbox_host.specs.declared.volumes.Origin.{Origin}
+use Rattle.sandbox_host.specs.declared.volumes.Origin.TheVariants.{Fresh, Sectors}
+
+abbrev pub origin_of : VolumeSource → Option Origin
+origin_of s = if s.kind == 0 then Some Fresh else (if s.kind == 1 then Some (Sectors s.sectors) else None)
+
+-- A volume that works, and each crash leaves its tree.
+pub record Works (v : HostVolume) : Type 0 where
+  pub works : v.failed ≡ false
+  pub lasts : (c : Image) → (disk_of v.device).may_leave c → StandsAs c v.numbers v.tree
+
+-- the empty volume
+pub record IsNew (v : HostVolume) : Type 0 where
+  pub numbers : v.numbers ≡ fresh 202 16
+  pub tree : v.tree ≡ empty_tree 16
+  pub working : Works v
+
+-- what these sectors stand for, on a device that has as many
+pub record IsIn (sectors : List (List ℕ)) (v : HostVolume) : Type 0 where
+  pub stands : StandsOn (length sectors) (image_of sectors) v.numbers v.tree
+  pub size : size_of v.device ≡ length sectors
+  pub working : Works v
+
+abbrev pub IsVolume : Origin → HostVolume → Type 0
+IsVolume Fresh v = IsNew v
+IsVolume (Sectors sectors) v = IsIn sectors.now v
+
+-- Why the volume of these sectors isn't opened.
+abbrev pub RefusesSectors : List (List ℕ) → VolumeFault → Type 0
+RefusesSectors sectors fault.NotAVolume = NoVolumeOn (length sectors) (image_of sectors)
+RefusesSectors sectors fault.Version = HasNoVersion (length sectors) (image_of sectors)
+RefusesSectors sectors fault.Damaged = IsDamaged (length sectors) (image_of sectors)
+RefusesSectors sectors fault.Device = ⊥
+RefusesSectors sectors fault.TooSmall = ⊥
+RefusesSectors sectors fault.Upgraded = ⊥
+RefusesSectors sectors fault.Geometry = 65536 < length sectors
+RefusesSectors sectors fault.Memory = Unit {0}
+
+abbrev pub RefusesVolume : Origin → VolumeFault → Type 0
+RefusesVolume Fresh f = f ≡ fault.Memory
+RefusesVolume (Sectors sectors) f = RefusesSectors sectors.now f

@@ -1,0 +1,86 @@
+//! What a host in C keeps of a session or a module: a pointer.
+
+ghost use Rattle.std.specs.Prelude.{◌≡◌, Option, None, Some, false, is_none, option_map};
+ghost use Rattle.sandbox_host.specs.declared.held.Held.{Held};
+ghost use Rattle.sandbox_host.specs.Handles.{held_coded, handle_owns};
+
+use crate::held::Held;
+use crate::parts::Parts;
+use std::alloc::{Allocator, Global};
+use std::marker::Model;
+use std::mem;
+use std::ptr::null_mut;
+
+/// A pointer to a session or a loaded module on the heap, or null. C has it as a struct of one pointer.
+#[repr(C)]
+#[derive(Drop)]
+pub struct Handle {
+    at: *mut u8,
+    alloc: Global,
+    pub ghost held: { Option Held } by { held_coded },
+}
+
+impl Model for Handle {
+    ghost also_owns = { λ h. handle_owns (⟦<Global as Allocator>⟧.dealloc_token h.alloc) h.at h.held };
+}
+
+impl Handle {
+    /// Whether there is nothing behind it.
+    pub(crate) fn is_closed(&mut self) -> bool
+        ensures { (result ≡ is_none self.old.held) × (self.new ≡ self.old) }
+    {
+        self.at == null_mut()
+    }
+
+    /// Takes out what it has.
+    pub(crate) fn take(&mut self, alloc: Global) -> Option<Box<Held>>
+        ensures taken { option_map (λ b. b.value) result ≡ self.old.held }
+        ensures closed { self.new.held ≡ None }
+    {
+        if self.is_closed() {
+            return None;
+        }
+        Some(
+            mem::replace(self, Handle::empty(alloc))
+                .into_parts()
+                .into_box(),
+        )
+    }
+
+    /// Gives it this. It has to be closed: what it had else is leaked.
+    pub(crate) fn put(&mut self, held: Box<Held>)
+        ensures { self.new.held ≡ Some held.value }
+    {
+        let _before = mem::replace(self, Handle::of_parts(Parts::of(held)));
+    }
+
+    fn empty(alloc: Global) -> Handle
+        ensures { result.held ≡ None }
+    {
+        Handle {
+            at: null_mut(),
+            alloc,
+        }
+    }
+
+    fn of_parts(parts: Parts<Held, Global>) -> Handle
+        ensures { result.held ≡ Some parts.value }
+    {
+        let Parts { ptr, alloc } = parts;
+        Handle {
+            at: ptr as *mut u8,
+            alloc,
+        }
+    }
+
+    fn into_parts(self) -> Parts<Held, Global>
+        requires { is_none self.held ≡ false }
+        ensures { self.held ≡ Some result.value }
+    {
+        let Handle { at, alloc } = self;
+        Parts {
+            ptr: at as *mut Held,
+            alloc,
+        }
+    }
+}

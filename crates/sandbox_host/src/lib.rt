@@ -1,0 +1,27 @@
+//! Sessions behind a handle, for hosts in C and what calls C: what stands here is exported by `sandbox_c`.
+#![tactic(auto)]
+
+mod closing;
+mod handle;
+mod held;
+pub mod laws;
+mod numbers;
+mod opening;
+mod parts;
+mod running;
+mod showing;
+mod supplies;
+mod texts;
+mod volumes;
+mod whole;
+
+pub use closing::{close, close_loaded, unload};
+pub use handle::Handle;
+pub use held::{Ended, Held, HostSession};
+pub use numbers::{DEVICE_FAILED, GEOMETRY, MISUSE, OK, OUT_OF_MEMORY, Told, VERSION, Why};
+pub use opening::{load_module, open, open_loaded};
+pub use running::{finish, output, resume, volume_out};
+pub use supplies::Supplies;
+pub use texts::text;
+pub use volumes::{Origin, VolumeSource};
+pub use whole::{check, format, run};

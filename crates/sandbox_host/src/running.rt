@@ -1,0 +1,140 @@
+//! Sessions that run, what they have written, and their ends.
+
+ghost use Rattle.std.specs.Prelude.{◌≡◌, ◌≢◌, ◌⊎◌, None, Some, IfSome, IsSomeAnd, is_none, true, false, length, drop, min, take, ◌++◌};
+ghost use Rattle.sandbox_host.specs.Sessions.{running, running_in, finished, finished_in, loaded, has_session, has_module};
+ghost use Rattle.sandbox_host.specs.Sessions.{output, sectors, IsShown, Paused, Finishes};
+
+use crate::handle::Handle;
+use crate::held::{Ended, Held, HostSession};
+use crate::numbers::{DEVICE_FAILED, MISUSE, OK, Told, told_pause};
+use crate::showing::{show, show_sectors};
+use sandbox_core::Finished;
+use std::alloc::Global;
+use vol_sector::Refused;
+
+/// Lets a session go on for at most this many units, and not past 2^64 - 1 in all.
+fn go_on(session: &mut HostSession<'static>, units: u64) -> Told
+    ensures { Paused units session.old session.new result }
+{
+    let most = units.min(u64::MAX - session.used());
+    let pause = session.resume(most);
+    told_pause(pause, session.used())
+}
+
+/// Lets the guest go on for at most this many units, until a call is answered or it ends, and tells which. A session that
+/// has ended tells the same again.
+pub fn resume(alloc: Global, session: &mut Handle, units: u64, told: &mut Told) -> u32
+    ensures misuse { is_none (running session.old.held) ≡ true
+        → (result ≡ MISUSE) × (session.new.held ≡ session.old.held) × (told.new ≡ told.old) }
+    ensures resumed { IfSome (running session.old.held) (λ old. (result ≡ OK)
+        × IsSomeAnd (running session.new.held) (λ new. Paused units old new told.new)) }
+{
+    let Some(mut held) = session.take(alloc) else {
+        return MISUSE;
+    };
+    let answer = match &mut *held {
+        Held::Running(running) => {
+            *told = go_on(running, units);
+            OK
+        }
+        _ => MISUSE,
+    };
+    session.put(held);
+    answer
+}
+
+/// Copies what the guest has written to descriptor 1 or 2 from a byte on, as much as there is room for, and says how much it
+/// has written in all.
+pub fn output(
+    alloc: Global,
+    session: &mut Handle,
+    descriptor: u32,
+    from: usize,
+    room: &mut [u8],
+) -> usize
+    ensures length { result ≡ length (output session.old.held descriptor) }
+    ensures shown { IsShown (drop from (output session.old.held descriptor)) room.old room.new }
+    ensures kept { session.new.held ≡ session.old.held }
+{
+    let Some(held) = session.take(alloc) else {
+        return 0;
+    };
+    let written = held.output(descriptor);
+    let length = written.len();
+    show(&written[from.min(length)..], room);
+    session.put(held);
+    length
+}
+
+/// Copies the sectors of a finished session's volume, as many as there is room for, and says how many it has.
+pub fn volume_out(alloc: Global, session: &mut Handle, room: &mut [[u8; 512]]) -> usize
+    ensures length { result ≡ length (sectors session.old.held) }
+    ensures shown { IsShown (sectors session.old.held) room.old room.new }
+    ensures kept { session.new.held ≡ session.old.held }
+{
+    let Some(held) = session.take(alloc) else {
+        return 0;
+    };
+    let length = held.show_sectors(room);
+    session.put(held);
+    length
+}
+
+/// Commits a session's calls. What is left of it, and whether its device failed.
+fn end(session: HostSession<'static>) -> (Ended, u32)
+    ensures { Finishes session.entry result.0 result.1 }
+{
+    let (
+        valid,
+        Finished {
+            volume,
+            out,
+            err,
+            ..
+        },
+    ) = session.finish_with_module();
+    let (device, number) = match volume {
+        Ok(volume) => (volume.into_device(), OK),
+        Err(Refused { device, .. }) => (device, DEVICE_FAILED),
+    };
+    (
+        Ended {
+            valid,
+            device,
+            out,
+            err,
+        },
+        number,
+    )
+}
+
+/// What a session becomes where it is finished.
+fn ended(held: Held) -> (Held, u32)
+    ensures finished { IfSome (running_in held) (λ s. IsSomeAnd (finished_in result.0) (λ e. Finishes s e result.1)) }
+    ensures other { is_none (running_in held) ≡ true → (result.1 ≡ 100) × (result.0 ≡ held) }
+{
+    match held {
+        Held::Running(session) => {
+            let (ended, number) = end(session);
+            (Held::Finished(ended), number)
+        }
+        other => (other, MISUSE),
+    }
+}
+
+/// Commits the guest's calls to its volume, and ends the session's run. Its output and its volume can be read until it is
+/// closed. Where the device fails, what was synced before is on it.
+pub fn finish(alloc: Global, session: &mut Handle) -> u32
+    ensures misuse { is_none (running session.old.held) ≡ true
+        → (result ≡ MISUSE) × (session.new.held ≡ session.old.held) }
+    ensures finished { IfSome (running session.old.held) (λ s.
+        IsSomeAnd (finished session.new.held) (λ e. Finishes s e result)) }
+{
+    let Some(mut held) = session.take(alloc) else {
+        return MISUSE;
+    };
+    let (after, answer) = ended(Box::replace(&mut held, Held::Nothing));
+    drop(Box::replace(&mut held, after));
+    session.put(held);
+    answer
+}

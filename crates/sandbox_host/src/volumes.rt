@@ -1,0 +1,96 @@
+//! The volume of a guest.
+
+ghost use Rattle.std.specs.Prelude.{◌≡◌, IfOk, IfErr};
+ghost use Rattle.sandbox_host.specs.Volumes.{IsVolume, RefusesVolume};
+
+use sandbox_core::Volume;
+use sandbox_device::RamDevice;
+use std::alloc::Global;
+use vol_sector::{Refused, VolumeFault};
+
+/// The sectors of a fresh volume.
+const FRESH_SECTORS: u32 = 202;
+
+/// And its slots for entries.
+const FRESH_SLOTS: u32 = 16;
+
+/// The sectors that a device in memory has at most.
+pub(crate) const MOST_SECTORS: usize = 65_536;
+
+/// The volume of a guest, as a host in C names it.
+#[repr(C)]
+#[derive(Clone, Copy)]
+pub struct VolumeSource<'a> {
+    /// 0 a fresh volume, 1 that of the sectors.
+    pub kind: u32,
+    pub sectors: &'a [[u8; 512]],
+}
+
+/// Where the volume of a guest comes from.
+#[derive(Clone, Copy)]
+pub enum Origin<'a> {
+    /// An empty one is made in memory.
+    Fresh,
+    /// It is that of these sectors, which are copied.
+    Sectors(&'a [[u8; 512]]),
+}
+
+impl<'a> VolumeSource<'a> {
+    ghost use Rattle.sandbox_host.specs.Volumes.{origin_of};
+
+    /// What it names, if it is a kind that is known.
+    pub(crate) fn origin(&self) -> Option<Origin<'a>>
+        ensures { result ≡ origin_of self.now }
+    {
+        match self.kind {
+            0 => Some(Origin::Fresh),
+            1 => Some(Origin::Sectors(self.sectors)),
+            _ => None,
+        }
+    }
+}
+
+/// Makes an empty volume in memory, and opens it.
+fn open_fresh(alloc: Global) -> Result<Volume<RamDevice>, VolumeFault>
+    ensures opens { IfOk result (IsVolume Origin.Fresh) }
+    ensures refused { IfErr result (RefusesVolume Origin.Fresh) }
+{
+    let device = RamDevice::new(alloc, FRESH_SECTORS)?;
+    let device = match Volume::format(device, FRESH_SECTORS, FRESH_SLOTS) {
+        Ok(device) => device,
+        Err(Refused { fault, .. }) => return Err(fault),
+    };
+    match Volume::open(alloc, device) {
+        Ok(volume) => Ok(volume),
+        Err(Refused { fault, .. }) => Err(fault),
+    }
+}
+
+/// Opens the volume that sectors hold, of which a copy is made.
+fn open_sectors(alloc: Global, sectors: &[[u8; 512]]) -> Result<Volume<RamDevice>, VolumeFault>
+    ensures opens { IfOk result (IsVolume (Origin.Sectors sectors.entry)) }
+    ensures refused { IfErr result (RefusesVolume (Origin.Sectors sectors.entry)) }
+{
+    if sectors.len() > MOST_SECTORS {
+        return Err(VolumeFault::Geometry);
+    }
+    let device = RamDevice::of(alloc, sectors)?;
+    match Volume::open(alloc, device) {
+        Ok(volume) => Ok(volume),
+        Err(Refused { fault, .. }) => Err(fault),
+    }
+}
+
+/// Opens the volume of a guest.
+pub(crate) fn open_volume(
+    alloc: Global,
+    origin: Origin<'_>,
+) -> Result<Volume<RamDevice>, VolumeFault>
+    ensures opens { IfOk result (IsVolume origin.entry) }
+    ensures refused { IfErr result (RefusesVolume origin.entry) }
+{
+    match origin {
+        Origin::Fresh => open_fresh(alloc),
+        Origin::Sectors(sectors) => open_sectors(alloc, sectors),
+    }
+}
