@@ -31,7 +31,12 @@ impl Model for Sectors {
 fn is_zeros(image: &[u8; 512]) -> bool
     ensures { IsTrue result → image.now ≡ replicate 512 0 }
 {
-    *image == [0; 512]
+    // (An array is compared byte after byte, up to the first that differs. A sum is taken of many at a time.)
+    let mut sum: u32 = 0;
+    for byte in image {
+        sum += u32::from(*byte);
+    }
+    sum == 0
 }
 
 impl Sectors {
