@@ -17,7 +17,7 @@ use Rattle.sandbox_words.specs.declared.request.Invocation.{Invocation}
 use Rattle.sandbox_words.specs.declared.request.Invocation.TheVariants as asked
 use Rattle.sandbox_words.specs.Request.{Text}
 use Rattle.sandbox_command.specs.declared.failure.Failure.{Failure}
-use Rattle.sandbox_command.specs.Formatting.{Formats}
+use Rattle.sandbox_command.specs.Formatting.{FormatsAs}
 use Rattle.sandbox_command.specs.Doing.{Performs}
 use Rattle.sandbox_command.specs.declared.program.Executed.{Executed}
 use Rattle.sandbox_command.specs.Status.{load_status, session_status, volume_status, task_status}
@@ -78,8 +78,8 @@ module _ {D R W1 W2 : Type 0} (is_honest : D → Type 0) (disk : D → Disk) (se
   -- output is flushed, which keeps what it has.
   abbrev pub Executes : Invocation → List ℕ → Text → D → R → W1 → W2 → Executed D R W1 W2 → Type 0
   Executes (asked.Run run) bytes random device input out err left = Runs run bytes random device input out err left
-  Executes (asked.Format file sectors slots) bytes random device input out err left =
-      (done : Result (Unit {0}) Failure) × Formats is_honest disk sectors_on failures device sectors slots left.device done
+  Executes (asked.Format file sectors slots large) bytes random device input out err left =
+      (done : Result (Unit {0}) Failure) × FormatsAs large is_honest disk sectors_on failures device sectors slots left.device done
       × (left.status ≡ task_status done left.flushed) × IsSilent out_contents err_contents input out err left
   Executes (asked.Volume file task) bytes random device input out err left =
       (done : Result (Unit {0}) Failure)

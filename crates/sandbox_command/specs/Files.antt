@@ -26,7 +26,7 @@ file_disk d = kept d.sectors.items d.moments.unsynced d.moments.times
 -- a run that names no file for its volume
 abbrev pub NamesNoVolume : Invocation → Type 0
 NamesNoVolume (asked.Run run) = run.volume ≡ None
-NamesNoVolume (asked.Format file sectors slots) = ⊥
+NamesNoVolume (asked.Format file sectors slots large) = ⊥
 NamesNoVolume (asked.Volume file task) = ⊥
 
 -- a device of 202 sectors of zeros
@@ -36,7 +36,7 @@ IsNewInMemory device = device.sectors.items ≡ replicate 202 (replicate 512 0)
 -- A device on which no operation failed yet. What is to be formatted is lengthened to its sectors first, or to 65,536.
 abbrev pub IsNewInFile : Invocation → FileDevice → Type 0
 IsNewInFile (asked.Run run) device = device.failures ≡ 0
-IsNewInFile (asked.Format file sectors slots) device = (device.failures ≡ 0) × (min sectors 65536 ≤ vec_len device.sectors)
+IsNewInFile (asked.Format file sectors slots large) device = (device.failures ≡ 0) × (min sectors 65536 ≤ vec_len device.sectors)
 IsNewInFile (asked.Volume file task) device = device.failures ≡ 0
 
 module _ {D R W1 W2 : Type 0} (is_honest : D → Type 0) (disk : D → Disk) (sectors_on failures : D → ℕ)

@@ -4,6 +4,7 @@
 
 mod failure;
 mod files;
+mod formatting;
 mod opening;
 mod output;
 mod printing;

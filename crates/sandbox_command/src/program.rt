@@ -13,10 +13,11 @@ ghost use Rattle.sandbox_command.specs.internal.Supplies.{AreSupplies};
 ghost use Rattle.sandbox_command.specs.Execution.{NoVolume, OnVolume, Runs, Executes};
 
 use crate::failure::Failure;
+use crate::formatting::format_as;
 use crate::opening::open_for_run;
 use crate::output::tell;
 use crate::supplies::{Supplies, settings, supplied};
-use crate::tasks::{format, perform};
+use crate::tasks::perform;
 use sandbox_core::{
     HostParts, LoadFault, Outcome, RefusedSession, Report, Session, SessionFault, Valid,
 };
@@ -391,8 +392,13 @@ pub fn execute<D: Device + Drop, R: Read + Drop, W1: Write + Drop, W2: Write + D
 {
     match invocation {
         Invocation::Run(it) => run(alloc, it, module, random, device, input, out, err),
-        Invocation::Format { sectors, slots, .. } => {
-            let (done, device) = format(device, *sectors, *slots);
+        Invocation::Format {
+            sectors,
+            slots,
+            large,
+            ..
+        } => {
+            let (done, device) = format_as(alloc, device, *sectors, *slots, *large);
             task_ended(done, device, input, out, err)
         }
         Invocation::Volume { task, .. } => {
