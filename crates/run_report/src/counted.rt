@@ -18,8 +18,7 @@ pub struct Counted<S> {
 impl<S> Counted<S> {
     /// A stream that is counted from here on.
     pub fn new(stream: S) -> Counted<S>
-        ensures stream { result.stream ≡ stream }
-        ensures count { result.count ≡ 0 }
+        ensures { result ≡ record { stream = stream; count = 0 } }
     {
         Counted { stream, count: 0 }
     }
