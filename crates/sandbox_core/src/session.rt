@@ -146,13 +146,18 @@ where
         self.machine.used()
     }
 
-    /// The host of a session that is done with. (What owns much is let go by `drop`, which the checker proves once.)
-    fn into_host(self) -> WasiHost<'s, 't, D, R, W1, W2>
-        ensures { result ≡ self.entry.host }
+    /// The writer of descriptor 1, with what the guest has written there so far.
+    pub fn out(&self) -> &W1
+        ensures { result.now ≡ self.now.host.out.writer }
     {
-        let Session { machine, host } = self;
-        drop(machine);
-        host
+        self.host.out()
+    }
+
+    /// The writer of descriptor 2, with what the guest has written there so far.
+    pub fn err(&self) -> &W2
+        ensures { result.now ≡ self.now.host.err.writer }
+    {
+        self.host.err()
     }
 
     /// Commits all calls so far, and gives the volume back and the streams. Where the device fails, or had failed, the
@@ -160,18 +165,31 @@ where
     pub fn finish(self) -> Finished<D, R, W1, W2>
         ensures { Finishes D.honest D.disk D.size D.failures self.entry result }
     {
+        let (valid, finished) = self.finish_with_module();
+        drop(valid);
+        finished
+    }
+
+    /// Commits as `finish` does, and gives the module back too, which another session can be made of: it was decoded
+    /// and validated once.
+    pub fn finish_with_module(self) -> (Valid<'a>, Finished<D, R, W1, W2>)
+        ensures module { result.0 ≡ self.entry.machine.valid }
+        ensures finishes { Finishes D.honest D.disk D.size D.failures self.entry result.1 }
+    {
+        let Session { machine, host } = self;
         let HostParts {
             settings: _,
             volume,
             input,
             out,
             err,
-        } = self.into_host().into_parts();
-        Finished {
+        } = host.into_parts();
+        let finished = Finished {
             volume: committed(volume),
             input,
             out,
             err,
-        }
+        };
+        (machine.into_valid(), finished)
     }
 }

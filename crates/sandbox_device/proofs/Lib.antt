@@ -1,2 +1,3 @@
 mod Ram
 mod File
+pub mod Packing

@@ -1,2 +1,4 @@
 pub mod RamLaws
 pub mod FileLaws
+pub mod Packing
+pub mod HostLaws

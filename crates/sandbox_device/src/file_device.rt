@@ -1,11 +1,12 @@
 //! A device in a file of the system.
 
-ghost use Rattle.std.specs.Prelude.{◌≡◌, ◌≤◌, IfOk, IfErr, min, true, vec_len};
+ghost use Rattle.std.specs.Prelude.{◌≡◌, ◌≤◌, IfOk, IfErr, length, min, true};
 ghost use Rattle.vol_sector.specs.Disk.{counted};
 ghost use Rattle.sandbox_device.specs.File.{kept, KeepsItsModel};
 ghost use Rattle.sandbox_device.specs.internal.FileLaws.{mixed_since, mixed_now, now_may_stay};
 
 use crate::moments::Moments;
+use crate::sectors::Sectors;
 use std::alloc::Global;
 use std::fs::{File, OpenOptions};
 use std::io;
@@ -28,10 +29,30 @@ const MOST_SECTORS: u32 = 65_536;
 #[derive(Drop)]
 pub struct FileDevice {
     file: File,
-    sectors: Vec<[u8; 512]>,
+    sectors: Sectors,
     failures: u64,
     moments: Moments,
-    ghost few: { vec_len sectors ≤ 65536 },
+    ghost few: { length sectors ≤ 65536 },
+}
+
+/// How many sectors are read from a file at once.
+const PIECE: u32 = 64;
+
+/// The first sectors of a file. What is zeros there takes no memory.
+fn read_sectors(alloc: Global, file: &File, count: u32) -> io::Result<Sectors>
+    ensures { IfOk result (λ s. length s ≡ count) }
+{
+    let mut sectors = Sectors::zeros(alloc, count)?;
+    let mut piece = [[0; 512]; PIECE as usize];
+    let mut first = 0;
+    while first < count {
+        let more = (count - first).min(PIECE);
+        let images = &mut piece[..more as usize];
+        file.read_exact_at(images.as_flattened_mut(), u64::from(first) * SECTOR)?;
+        sectors.put_all(first, images);
+        first += more;
+    }
+    Ok(sectors)
 }
 
 impl FileDevice {
@@ -45,7 +66,7 @@ impl FileDevice {
         files: &R,
         path: &str,
     ) -> io::Result<FileDevice>
-        ensures few { IfOk result (λ d. vec_len d.sectors ≤ 65536) }
+        ensures few { IfOk result (λ d. length d.sectors ≤ 65536) }
         ensures unused { IfOk result (λ d. d.failures ≡ 0) }
     {
         let file = OpenOptions::new().read(true).write(true).open(files, path)?;
@@ -61,8 +82,8 @@ impl FileDevice {
         path: &str,
         sectors: u32,
     ) -> io::Result<FileDevice>
-        ensures few { IfOk result (λ d. vec_len d.sectors ≤ 65536) }
-        ensures enough { IfOk result (λ d. min sectors 65536 ≤ vec_len d.sectors) }
+        ensures few { IfOk result (λ d. length d.sectors ≤ 65536) }
+        ensures enough { IfOk result (λ d. min sectors 65536 ≤ length d.sectors) }
         ensures unused { IfOk result (λ d. d.failures ≡ 0) }
     {
         let file = OpenOptions::new()
@@ -87,8 +108,7 @@ impl FileDevice {
         ensures unused { IfOk result (λ d. d.failures ≡ 0) }
     {
         let count = (file.metadata()?.len() / SECTOR).min(u64::from(MOST_SECTORS));
-        let mut sectors = vec![in alloc; [0; 512]; count as usize]?;
-        file.read_exact_at(sectors.as_mut_slice().as_flattened_mut(), 0)?;
+        let sectors = read_sectors(alloc, &file, count as u32)?;
         Ok(FileDevice {
             file,
             sectors,
@@ -100,15 +120,15 @@ impl FileDevice {
     /// What its sectors were, after an operation that writes nothing.
     fn after_reading(&self) -> Moments
         ensures { (result.unsynced ≡ self.now.moments.unsynced) × (result.times
-            ≡ (self.now.sectors.items ∷ self.now.moments.unsynced) ∷ self.now.moments.times) }
+            ≡ (self.now.sectors ∷ self.now.moments.unsynced) ∷ self.now.moments.times) }
     {
         Moments {}
     }
 
     /// What its sectors were, after a write.
     fn after_writing(&self) -> Moments
-        ensures { (result.unsynced ≡ self.now.sectors.items ∷ self.now.moments.unsynced) × (result.times
-            ≡ (self.now.sectors.items ∷ self.now.moments.unsynced) ∷ self.now.moments.times) }
+        ensures { (result.unsynced ≡ self.now.sectors ∷ self.now.moments.unsynced) × (result.times
+            ≡ (self.now.sectors ∷ self.now.moments.unsynced) ∷ self.now.moments.times) }
     {
         Moments {}
     }
@@ -116,7 +136,7 @@ impl FileDevice {
     /// What its sectors were, after a sync.
     fn after_syncing(&self) -> Moments
         ensures { (result.unsynced ≡ []) × (result.times
-            ≡ (self.now.sectors.items ∷ self.now.moments.unsynced) ∷ self.now.moments.times) }
+            ≡ (self.now.sectors ∷ self.now.moments.unsynced) ∷ self.now.moments.times) }
     {
         Moments {}
     }
@@ -134,21 +154,21 @@ impl FileDevice {
 }
 
 impl Device for FileDevice {
-    ghost disk = { λ d. kept d.sectors.items d.moments.unsynced d.moments.times };
+    ghost disk = { λ d. kept d.sectors d.moments.unsynced d.moments.times };
 
     ghost honest = { λ d. KeepsItsModel d.file };
 
-    ghost size = { λ d. vec_len d.sectors };
+    ghost size = { λ d. length d.sectors };
 
     ghost failures = { λ d. d.failures };
 
     ghost counts_now = { λ d t c h le may.
-        mixed_since d.sectors.items d.moments.unsynced d.moments.times t c may };
+        mixed_since d.sectors d.moments.unsynced d.moments.times t c may };
 
     ghost only_now = { λ d c h left.
-        mixed_now d.sectors.items d.moments.unsynced d.moments.times c left };
+        mixed_now d.sectors d.moments.unsynced d.moments.times c left };
 
-    ghost may_stay = { λ d h. now_may_stay d.sectors.items d.moments.unsynced };
+    ghost may_stay = { λ d h. now_may_stay d.sectors d.moments.unsynced };
 
     fn sectors(&self) -> u32 {
         self.sectors.len() as u32
@@ -160,12 +180,12 @@ impl Device for FileDevice {
 
     fn read(&mut self, n: u32) -> Result<[u8; 512], DeviceFault> {
         self.moments = self.after_reading();
-        Ok(self.sectors[n as usize])
+        Ok(self.sectors.get(n))
     }
 
     fn write(&mut self, n: u32, image: &[u8; 512]) -> Result<(), DeviceFault> {
         self.moments = self.after_writing();
-        self.sectors[n as usize] = *image;
+        self.sectors.put(n, image);
         match self.file.write_all_at(image, u64::from(n) * SECTOR) {
             Ok(()) => Ok(()),
             Err(_) => Err(self.fail()),

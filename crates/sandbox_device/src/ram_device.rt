@@ -1,19 +1,21 @@
 //! A device in memory.
 
-ghost use Rattle.std.specs.Prelude.{◌≡◌, ◌<◌, ◌^◌, IfOk, refl, replicate, vec_len};
+ghost use Rattle.std.specs.Prelude.{◌≡◌, ◌<◌, ◌≤◌, IfOk, length, refl, replicate};
+ghost use Rattle.vol_sector.specs.Record.{image_of};
 ghost use Rattle.sandbox_device.specs.Ram.{held};
 ghost use Rattle.sandbox_device.specs.internal.RamLaws.{now_is_since, now_is_all};
 
 use crate::past::Past;
+use crate::sectors::Sectors;
 use std::alloc::{AllocError, Global};
 use vol_sector::{Device, DeviceFault};
 
-/// Sectors in memory. No operation fails, and each write lasts at once. It keeps no record.
+/// Sectors in memory. No operation fails, and each write lasts at once. It keeps no record. The room for all is
+/// reserved when it is made, and a sector that is zeros ever since isn't touched.
 #[derive(Drop)]
 pub struct RamDevice {
-    sectors: Vec<[u8; 512]>,
+    sectors: Sectors,
     past: Past,
-    ghost small: { vec_len sectors < 2 ^ 32 },
 }
 
 impl RamDevice {
@@ -21,36 +23,54 @@ impl RamDevice {
 
     /// A device of this many sectors of zeros. It fails only where memory is refused.
     pub fn new(alloc: Global, sectors: u32) -> Result<RamDevice, AllocError>
-        ensures sectors { IfOk result (λ d. vec_len d.sectors ≡ sectors) }
-        ensures zeros { IfOk result (λ d.
-            d.sectors.items ≡ replicate sectors (replicate 512 0)) }
+        ensures sectors { IfOk result (λ d. length d.sectors ≡ sectors) }
+        ensures zeros { IfOk result (λ d. d.sectors ≡ replicate sectors (replicate 512 0)) }
     {
         Ok(RamDevice {
-            sectors: vec![in alloc; [0; 512]; sectors as usize]?,
+            sectors: Sectors::zeros(alloc, sectors)?,
             past: Past::new(),
         })
     }
 
+    /// A device of these sectors. It fails only where memory is refused.
+    pub fn of(alloc: Global, sectors: &[[u8; 512]]) -> Result<RamDevice, AllocError>
+        requires { length sectors.now ≤ 65536 }
+        ensures { IfOk result (λ d. d.sectors ≡ sectors.now) }
+    {
+        Ok(RamDevice {
+            sectors: Sectors::of(alloc, sectors)?,
+            past: Past::new(),
+        })
+    }
+
+    /// The bytes of a sector.
+    pub fn sector(&self, n: u32) -> [u8; 512]
+        requires { n < length self.now.sectors }
+        ensures { result ≡ image_of self.now.sectors n }
+    {
+        self.sectors.get(n)
+    }
+
     /// Its sectors before each operation, after one more.
     fn next_past(&self) -> Past
-        ensures { result.images ≡ self.now.sectors.items ∷ self.now.past.images }
+        ensures { result.images ≡ self.now.sectors ∷ self.now.past.images }
     {
         Past {}
     }
 }
 
 impl Device for RamDevice {
-    ghost disk = { λ d. held d.sectors.items d.past.images };
+    ghost disk = { λ d. held d.sectors d.past.images };
 
     ghost honest = { λ d. Unit {0} };
 
-    ghost size = { λ d. vec_len d.sectors };
+    ghost size = { λ d. length d.sectors };
 
     ghost failures = { λ d. 0 };
 
-    ghost counts_now = { λ d t c h le may. now_is_since d.sectors.items d.past.images t c may };
+    ghost counts_now = { λ d t c h le may. now_is_since d.sectors d.past.images t c may };
 
-    ghost only_now = { λ d c h left. now_is_all d.sectors.items d.past.images c left };
+    ghost only_now = { λ d c h left. now_is_all d.sectors d.past.images c left };
 
     ghost may_stay = { λ d h. refl };
 
@@ -64,12 +84,12 @@ impl Device for RamDevice {
 
     fn read(&mut self, n: u32) -> Result<[u8; 512], DeviceFault> {
         self.past = self.next_past();
-        Ok(self.sectors[n as usize])
+        Ok(self.sectors.get(n))
     }
 
     fn write(&mut self, n: u32, image: &[u8; 512]) -> Result<(), DeviceFault> {
         self.past = self.next_past();
-        self.sectors[n as usize] = *image;
+        self.sectors.put(n, image);
         Ok(())
     }
 

@@ -5,6 +5,7 @@ ghost use Rattle.wasi_calls.specs.Texts.{has_nul_byte, ended_bytes, texts_fit, n
 ghost use Rattle.std.specs.List.{list_any, list_all};
 
 /// A directory that the guest finds open: the name that it knows it by, and its path in the volume.
+#[repr(C)] // a host in C hands it in
 #[derive(Clone, Copy)]
 pub struct Preopen<'a> {
     pub guest_name: &'a [u8],
@@ -12,6 +13,7 @@ pub struct Preopen<'a> {
 }
 
 /// What a guest is given besides its streams. Texts are bytes.
+#[repr(C)] // a host in C hands it in
 #[derive(Clone, Copy)]
 pub struct Settings<'a, 't> {
     /// The arguments, the program's name first: at most 1,024, of at most 65,536 bytes with one more for the end of each.

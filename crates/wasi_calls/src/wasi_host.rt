@@ -137,6 +137,20 @@ impl<'s, 't, D: Device, R: Read + Drop, W1: Write + Drop, W2: Write + Drop> Wasi
         })
     }
 
+    /// The writer of descriptor 1, with what the guest has written there so far.
+    pub fn out(&self) -> &W1
+        ensures { result.now ≡ self.now.out.writer }
+    {
+        &self.inner.out.writer
+    }
+
+    /// The writer of descriptor 2, with what the guest has written there so far.
+    pub fn err(&self) -> &W2
+        ensures { result.now ≡ self.now.err.writer }
+    {
+        &self.inner.err.writer
+    }
+
     /// What the host was made of, as it is now.
     pub fn into_parts(self) -> HostParts<'s, 't, D, R, W1, W2>
         ensures { result ≡ parts_of self.entry }

@@ -9,5 +9,5 @@ pub returns-clause-keeps : goal.returns-clause-keeps
 returns-clause-keeps c h =
     let d = c.args.self.now in
     let after = c.after_reading-self.result in
-    subst (λ (times : List (List Sectors)). Keeps (kept d.sectors.items d.moments.unsynced d.moments.times) (kept d.sectors.items after.unsynced times))
-    (sym c.after_reading-self.ensures.1) (keeps_more d.sectors.items d.sectors.items after.unsynced d.moments.unsynced d.moments.times)
+    subst (λ (times : List (List Sectors)). Keeps (kept d.sectors d.moments.unsynced d.moments.times) (kept d.sectors after.unsynced times))
+    (sym c.after_reading-self.ensures.1) (keeps_more d.sectors d.sectors after.unsynced d.moments.unsynced d.moments.times)

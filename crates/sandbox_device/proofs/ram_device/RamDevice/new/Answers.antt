@@ -1,8 +1,10 @@
-use Rattle.std.proofs.Common.{◌∙◌}
-use Rattle.std.proofs.lemmas.List.{get_or-replicate}
-use Rattle.vol_sector.proofs.Records.{zeros_are}
+use Rattle.std.proofs.Common.{◌∙◌, ap, length}
+use Rattle.std.proofs.lemmas.List.{length-replicate}
+use Rattle.sandbox_device.specs.internal.Packing.{zeros}
 use Rattle.sandbox_device.proofs.ram_device.RamDevice.new.Goals as goal
 
--- each sector is a copy of one of zeros
+pub returns-clause-sectors : goal.returns-clause-sectors
+returns-clause-sectors c = ap length c.in_ok-zeros.ensures ∙ length-replicate c.args.sectors zeros
+
 pub returns-clause-zeros : goal.returns-clause-zeros
-returns-clause-zeros c = c.in_ok-vec.ensures.items_if_clones_equal (λ y clone. zeros_are 512 y clone.long (λ i lt. clone.at i 0 0 lt ∙ get_or-replicate 512 i 0 0 lt))
+returns-clause-zeros c = c.in_ok-zeros.ensures

@@ -8,5 +8,5 @@ use Rattle.sandbox_device.proofs.ram_device.RamDeviceDevice.read.Goals as goal
 pub returns-clause-crash : goal.returns-clause-crash
 returns-clause-crash c h =
     let d = c.args.self.now in
-    subst (λ (images : List Sectors). Leaves (held d.sectors.items d.past.images) (held d.sectors.items images) (λ m. ⊥)) (sym c.next_past-self.ensures)
-    (leaves_held d.sectors.items d.past.images)
+    subst (λ (images : List Sectors). Leaves (held d.sectors d.past.images) (held d.sectors images) (λ m. ⊥)) (sym c.next_past-self.ensures)
+    (leaves_held d.sectors d.past.images)

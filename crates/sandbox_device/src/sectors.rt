@@ -1,0 +1,102 @@
+//! Sectors in memory, of which those of zeros take no room.
+
+ghost use Rattle.std.specs.Prelude.{◌≡◌, ◌<◌, ◌^◌, ◌≤◌, ◌+◌, ◌++◌, IfOk, drop, take, IsTrue, length, replicate, set};
+ghost use Rattle.vol_sector.specs.Record.{image_of};
+
+use std::alloc::{AllocError, Global};
+use std::marker::Model;
+
+/// The sectors of a device. One that was never anything but zeros takes four bytes; the room for all others is
+/// reserved when they are made, so that no write takes memory, and isn't touched before they are written.
+#[derive(Drop)]
+pub(crate) struct Sectors {
+    /// Of each sector 0 where it is zeros, else one more than its place among the written ones.
+    places: Vec<u32>,
+    written: Vec<[u8; 512]>,
+}
+
+impl Model for Sectors {
+    ghost use Rattle.std.specs.Prelude.{List, ℕ, ◌≤◌, ◌<◌, ◌^◌, vec_len, vec_capacity};
+    ghost use Rattle.sandbox_device.specs.internal.Packing.{sectors_of, IsPacked};
+
+    ghost Value = { List (List ℕ) };
+
+    ghost view = { λ s. sectors_of s.written.items s.places.items };
+
+    ghost invariant = { λ s. IsPacked s.written.items s.places.items
+        × (vec_len s.places ≤ vec_capacity s.written) × (vec_len s.places < 2 ^ 32) };
+}
+
+/// Whether these are zeros.
+fn is_zeros(image: &[u8; 512]) -> bool
+    ensures { IsTrue result → image.now ≡ replicate 512 0 }
+{
+    *image == [0; 512]
+}
+
+impl Sectors {
+    /// This many, of zeros.
+    pub(crate) fn zeros(alloc: Global, count: u32) -> Result<Sectors, AllocError>
+        ensures { IfOk result (λ s. s ≡ replicate count (replicate 512 0)) }
+    {
+        let places = vec![in alloc; 0; count as usize]?;
+        let written = Vec::with_capacity(alloc, count as usize)?;
+        Ok(Sectors { places, written })
+    }
+
+    /// These.
+    pub(crate) fn of(alloc: Global, images: &[[u8; 512]]) -> Result<Sectors, AllocError>
+        requires { length images.now ≤ 65536 }
+        ensures { IfOk result (λ s. s ≡ images.now) }
+    {
+        let mut sectors = Sectors::zeros(alloc, images.len() as u32)?;
+        sectors.put_all(0, images);
+        Ok(sectors)
+    }
+
+    /// How many there are.
+    pub(crate) fn len(&self) -> usize
+        ensures count { result ≡ length self.now }
+        ensures small { result < 2 ^ 32 }
+    {
+        self.places.len()
+    }
+
+    /// The bytes of one.
+    pub(crate) fn get(&self, n: u32) -> [u8; 512]
+        requires { n < length self.now }
+        ensures { result ≡ image_of self.now n }
+    {
+        match self.places[n as usize] {
+            0 => [0; 512],
+            place => self.written[place as usize - 1],
+        }
+    }
+
+    /// Gives those from one on these bytes.
+    pub(crate) fn put_all(&mut self, first: u32, images: &[[u8; 512]])
+        requires fit { first + length images.now ≤ length self.old }
+        requires small { first + length images.now < 2 ^ 32 }
+        ensures { self.new ≡ take first self.old ++ images.now ++ drop (first + length images.now) self.old }
+    {
+        let mut n = first;
+        for image in images {
+            self.put(n, image);
+            n += 1;
+        }
+    }
+
+    /// Gives one these bytes.
+    pub(crate) fn put(&mut self, n: u32, image: &[u8; 512])
+        requires { n < length self.old }
+        ensures { self.new ≡ set self.old n image.now }
+    {
+        let place = self.places[n as usize];
+        if place > 0 {
+            self.written[place as usize - 1] = *image;
+        } else if !is_zeros(image) {
+            self.written.push_reserved(*image);
+            self.places[n as usize] = self.written.len() as u32;
+        }
+    }
+}
