@@ -13,6 +13,8 @@ use Rattle.wasi_calls.specs.Host.{HostState, HostCalls}
 use Rattle.sandbox_core.specs.declared.report.Report.{Report}
 use Rattle.sandbox_core.specs.Session.{SessionState, Commits, History, Follow, used_by}
 use Rattle.sandbox_core.specs.Runs.{RunsWithin, Passed}
+use Rattle.sandbox_core.specs.declared.tally.Tally.{Tally}
+use Rattle.sandbox_core.specs.Tally.{Tallies}
 
 module _ {D R W1 W2 : Type 0} (honest : D → Type 0) (disk : D → Disk) (sectors_on failures : D → ℕ)
     (remaining : R → Option (List ℕ)) (out_contents : W1 → Option (List ℕ)) (err_contents : W2 → Option (List ℕ)) where
@@ -52,3 +54,8 @@ module _ {D R W1 W2 : Type 0} (honest : D → Type 0) (disk : D → Disk) (secto
     pub input : report.input ≡ last.host.input.reader
     pub out : report.out ≡ last.host.out.writer
     pub err : report.err ≡ last.host.err.writer
+
+  -- such a report, and the tally of the resumes that the run was made of
+  pub record ReportsCounted (session : SessionState D R W1 W2) (fuel : ℕ) (report : Report D R W1 W2) (tally : Tally) : Type 0 where
+    pub reports : Reports session fuel report
+    pub tallies : Tallies reports.resumes tally

@@ -76,9 +76,9 @@ supplied_app =
     with_rule (with_rule (with_rule (with_rule limited_app (texts_rule (codes "dir"))) (texts_rule (codes "env")))
     (number_rule (codes "moment") u64_numbers)) (text_rule (codes "random"))
 
--- and with what it is called
+-- and with what it is called, and where it is reported
 unfoldable pub named_app : App
-named_app = with_rule supplied_app (text_rule (codes "name"))
+named_app = with_rule (with_rule supplied_app (text_rule (codes "name"))) (text_rule (codes "report"))
 
 -- and with its words
 unfoldable pub run_app : App
@@ -151,6 +151,7 @@ pub record AsksRun (rows : List Row) (run : Run) : Type 0 where
   pub moment : run.moment ≡ number_or 0 64 (codes "moment") rows
   pub random : text_in run.random ≡ first_of (codes "random") rows
   pub name : text_in run.name ≡ first_of (codes "name") rows
+  pub report : text_in run.report ≡ first_of (codes "report") rows
   pub module_word : run.module.now ≡ word_of (codes "MODULE") rows
   pub words : texts run.words.items ≡ texts_of (codes "WORD") rows
 

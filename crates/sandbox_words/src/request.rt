@@ -26,6 +26,8 @@ pub struct Run<'a> {
     pub random: Option<&'a str>,
     /// The guest's argument 0; where there is none, it gets the word that names the module.
     pub name: Option<&'a str>,
+    /// The file of its report, which says how it ended and what it used.
+    pub report: Option<&'a str>,
     /// The module's file.
     pub module: &'a str,
     /// The guest's further arguments.

@@ -35,6 +35,7 @@ Statuses:
 Examples:
   sandbox run --fuel 5000000 --pages 16 hello.wasm first second -- --third
   sandbox run --volume disk.img --dir /=/home --env LANG=C edit.wasm notes.txt
+  sandbox run --report end.txt --fuel 5000000 hello.wasm < input > output
   sandbox format disk.img 2048 64
   sandbox put disk.img /notes.txt < notes.txt";
 
@@ -203,7 +204,7 @@ fn supplied_command<'a>(alloc: Global) -> Result<Command<'a>, AllocError>
     with_argument(with_argument(command, moment), random)
 }
 
-/// `run`, also with the options of what it is called.
+/// `run`, also with the options of what it is called and where it is reported.
 fn named_command<'a>(alloc: Global) -> Result<Command<'a>, AllocError>
     ensures { IfOk result (λ c. (app_of c ≡ named_app) × ((fields_of c).has_globals ≡ false)) }
 {
@@ -213,7 +214,13 @@ fn named_command<'a>(alloc: Global) -> Result<Command<'a>, AllocError>
         "WORD",
         "Its argument 0 [default: the word MODULE]",
     );
-    with_argument(supplied_command(alloc), name)
+    let report = text_option(
+        alloc,
+        "report",
+        "FILE",
+        "The file to be made with what it used and how it ended, a line key:value each",
+    );
+    with_argument(with_argument(supplied_command(alloc), name), report)
 }
 
 /// `run`, with its arguments.
@@ -380,6 +387,7 @@ fn run_given<'a>(alloc: Global, matches: &ArgMatches<'a>) -> Result<Run<'a>, All
         moment: long_number(matches, "moment").unwrap_or(0),
         random: option_text(matches, "random"),
         name: option_text(matches, "name"),
+        report: option_text(matches, "report"),
         module: text(matches, "MODULE"),
         words: texts(alloc, matches, "WORD")?,
     })
