@@ -7,7 +7,6 @@ use Rattle.wasm_steps.specs.Configuration.{Instance, Configuration}
 use Rattle.wasm_interp.specs.Machine.{Represents, outcome_of}
 use Rattle.wasm_interp.specs.Promise.{HasItsUnit}
 use Rattle.wasm_steps.specs.Steps.{CallsOf}
-use Rattle.wasm_steps.specs.declared.pause.Outcome.{Outcome}
 use Rattle.wasm_steps.specs.declared.pause.Pause.TheVariants.{Ended}
 use Rattle.wasi_calls.specs.Host.{HostState, HostCalls}
 use Rattle.sandbox_core.specs.declared.report.Report.{Report}

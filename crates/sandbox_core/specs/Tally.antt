@@ -1,5 +1,5 @@
 -- How many calls some resumes answered, and how many syncs among them.
-use Rattle.std.specs.Prelude.{◌≡◌, ◌-◌, ◌^◌, ℕ, min}
+use Rattle.std.specs.Prelude.{◌≡◌, ◌-◌, ◌^◌, min}
 use Rattle.std.specs.List.{count_by}
 use Rattle.wasm_steps.specs.declared.pause.Pause.{Pause}
 use Rattle.sandbox_core.specs.declared.tally.Tally.{Tally}

@@ -1,13 +1,13 @@
-use Rattle.std.proofs.Common.{◌≡◌, inl, inr, sym, ◌∙◌, ap, subst}
+use Rattle.std.proofs.Common.{inl, inr, sym, ◌∙◌, ap, subst}
 use Rattle.std.specs.Io.KnownBytes.{Keeps}
 use Rattle.std.proofs.KnownBytes.{Keeps-refl}
 use Rattle.vol_sector.specs.Disk.{Leaves}
 use Rattle.wasm_steps.specs.Configuration.{first_configuration}
 use Rattle.wasi_calls.specs.declared.wasi_host.HostParts.{HostParts}
-use Rattle.sandbox_core.specs.Session.{IsRefused, KeepsVolume, Opens, Shares, given}
+use Rattle.sandbox_core.specs.Session.{IsRefused, Opens, Shares}
 use Rattle.sandbox_core.proofs.Headline.{reach_moves}
 use Rattle.run_report.specs.declared.counted.Counted.{Counted}
-use Rattle.sandbox_command.specs.Reporting.{counted_bytes, counting, from_here}
+use Rattle.sandbox_command.specs.Reporting.{counted_bytes}
 use Rattle.sandbox_command.specs.Running.{Host, HostCalls, StandsInRun}
 use Rattle.sandbox_command.specs.Streams.{AppendsSome}
 use Rattle.sandbox_command.proofs.Began.{began, counting_from, device_back}
