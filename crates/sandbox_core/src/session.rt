@@ -1,6 +1,6 @@
 //! Sessions of a guest.
 
-ghost use Rattle.std.specs.Prelude.{◌≡◌, ◌+◌, ◌^◌, ◌<◌, IfOk, IfErr};
+ghost use Rattle.std.specs.Prelude.{◌≡◌, ◌+◌, ◌^◌, ◌<◌, ◌/◌, IfOk, IfErr, length};
 ghost use Rattle.sandbox_core.specs.Session.{given, Commits};
 
 use crate::fault::{SessionFault, of_host, of_instance};
@@ -144,6 +144,13 @@ where
         ensures { result ≡ used_by self.now }
     {
         self.machine.used()
+    }
+
+    /// How many pages of 65,536 bytes the guest's memory has. It never has fewer later on.
+    pub fn pages(&self) -> u32
+        ensures { result ≡ length self.now.machine.memory / 65536 }
+    {
+        self.machine.pages()
     }
 
     /// The writer of descriptor 1, with what the guest has written there so far.

@@ -1,5 +1,4 @@
 -- What public contracts cite, in reading order; `internal` serves private contracts and proofs.
 pub mod Ram
 pub mod File
-pub mod Host
 pub mod internal

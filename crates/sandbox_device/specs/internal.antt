@@ -1,4 +1,3 @@
 pub mod RamLaws
 pub mod FileLaws
 pub mod Packing
-pub mod HostLaws

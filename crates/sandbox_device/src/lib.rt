@@ -2,12 +2,10 @@
 #![tactic(auto)]
 
 mod file_device;
-mod host_device;
 mod moments;
 mod past;
 mod ram_device;
 mod sectors;
 
 pub use file_device::FileDevice;
-pub use host_device::HostDevice;
 pub use ram_device::RamDevice;

@@ -2,8 +2,8 @@ pub mod Anywhere
 pub mod Typings
 pub mod Values
 pub mod Linking
-pub mod Flat
+pub mod PlainSteps
 pub mod Checks
 pub mod Alike
-pub mod Fast
+pub mod FastSteps
 pub mod Reading

@@ -1,13 +1,11 @@
--- Definitions that only private contracts and proofs cite.
-pub mod Laying
+-- Definitions that only private contracts and proofs cite. `Plain` is of the plain machine alone, `Fast` of the fast loop.
+pub mod BranchTables
 pub mod Standing
 pub mod Programs
 pub mod Driving
-pub mod Performing
-pub mod FlatSteps
+pub mod Plain
 pub mod Running
 pub mod Signatures
 pub mod Begun
 pub mod Keys
-pub mod Loop
-pub mod Hurrying
+pub mod Fast

@@ -1,6 +1,6 @@
 //! The machine.
 
-ghost use Rattle.std.specs.Prelude.{◌≡◌, ◌+◌, ◌^◌, ◌<◌, IfOk, IfErr, ◌*◌};
+ghost use Rattle.std.specs.Prelude.{◌≡◌, ◌+◌, ◌^◌, ◌<◌, ◌/◌, IfOk, IfErr, length, ◌*◌};
 ghost use Rattle.wasm_store.specs.Instantiation.{RefusedFor};
 ghost use Rattle.wasm_interp.specs.Promise.{Starts, Resumed};
 
@@ -76,6 +76,13 @@ impl<'a> Machine<'a> {
         ensures { result ≡ self.now.used }
     {
         self.state.used
+    }
+
+    /// How many pages of 65,536 bytes the guest's memory has. It never has fewer later on.
+    pub fn pages(&self) -> u32
+        ensures { result ≡ length self.now.memory / 65536 }
+    {
+        self.state.memory.pages()
     }
 
     /// The module that `new` took.

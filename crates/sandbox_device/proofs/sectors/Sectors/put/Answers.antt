@@ -1,5 +1,4 @@
-use Rattle.std.proofs.Common.{arith, rules, ◌∙◌}
-use Rattle.std.proofs.lemmas.Grind.{common_steps}
+use Rattle.std.proofs.Common.{arith, ◌∙◌}
 use Rattle.sandbox_device.proofs.Packing.{put_over, has_room, put_packed, put_new, put_zeros}
 use Rattle.sandbox_device.proofs.sectors.Sectors.put.Goals as goal
 

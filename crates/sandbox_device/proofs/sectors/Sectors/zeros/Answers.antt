@@ -1,4 +1,3 @@
-use Rattle.std.proofs.Common.{◌∙◌}
 use Rattle.sandbox_device.proofs.Packing.{made_of_zeros}
 use Rattle.sandbox_device.proofs.sectors.Sectors.zeros.Goals as goal
 

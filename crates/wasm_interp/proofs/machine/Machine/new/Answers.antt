@@ -1,5 +1,5 @@
 use Rattle.std.proofs.Common.{refl}
-use Rattle.wasm_interp.proofs.Flat.First.{first_machine, starts}
+use Rattle.wasm_interp.proofs.PlainSteps.First.{first_machine, starts}
 use Rattle.wasm_interp.proofs.machine.Machine.new.Goals as goal
 
 pub invariant_of-result : goal.invariant_of-result

@@ -1,4 +1,4 @@
-use Rattle.wasm_interp.proofs.Flat.Snapshots.{resumed_of}
+use Rattle.wasm_interp.proofs.PlainSteps.Snapshots.{resumed_of}
 use Rattle.wasm_interp.proofs.machine.Machine.resume.Goals as goal
 
 pub invariant_of-self : goal.invariant_of-self

@@ -6,8 +6,8 @@ use Rattle.wasm_steps.specs.declared.pause.Outcome.TheVariants as ends
 use Rattle.wasm_interp.specs.declared.phase.Phase.TheVariants.{Over as over}
 use Rattle.wasm_interp.specs.declared.state.State.{State}
 use Rattle.wasm_interp.specs.internal.Running.{flat_of, stopped, refused, entered, HasRoom}
-use Rattle.wasm_interp.proofs.Flat.Between.{room_phase, room_widened}
-use Rattle.wasm_interp.proofs.Flat.Frames.{called_into, machine_is}
+use Rattle.wasm_interp.proofs.PlainSteps.Between.{room_phase, room_widened}
+use Rattle.wasm_interp.proofs.PlainSteps.Frames.{called_into, machine_is}
 use Rattle.wasm_interp.proofs.state.State.call_own.Goals as goal
 
 -- one unit later there is as much room

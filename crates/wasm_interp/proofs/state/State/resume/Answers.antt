@@ -1,6 +1,6 @@
 use Rattle.std.proofs.Common.{◌+◌, refl, arith, inr}
-use Rattle.wasm_interp.proofs.Flat.Turns.{goes_none}
-use Rattle.wasm_interp.proofs.Flat.Pausing.{runs_on, runs_to}
+use Rattle.wasm_interp.proofs.PlainSteps.Turns.{goes_none}
+use Rattle.wasm_interp.proofs.PlainSteps.Pausing.{runs_on, runs_to}
 use Rattle.wasm_interp.proofs.state.State.resume.Goals as goal
 
 pub running-init : goal.running-init

@@ -1,0 +1,160 @@
+"""WebAssembly guests with exact fuel, from Python: a class over include/sandbox.h, by ctypes.
+
+    module = Module(bytes)
+    with module.session(args=["wc"], input=b"a b\n") as session:
+        ended, used = session.run(fuel=10**6)
+        print(session.output())
+
+A module is decoded and validated once and serves one session at a time. Bytes that a session reads are kept for it.
+"""
+import ctypes as c
+import os
+import subprocess
+
+HERE = os.path.dirname(os.path.abspath(__file__))
+EXITED, TRAPPED, OUT_OF_FUEL, NO_MEMORY, CALLED, SPENT = range(6)
+
+
+class Refused(Exception):
+    """A call that was refused, with the number of a fault as the program prints it."""
+
+    def __init__(self, number, offset=0):
+        super().__init__(f"fault {number} at {offset}: {text(number)}")
+        self.number, self.offset = number, offset
+
+
+class _Bytes(c.Structure):
+    _fields_ = [("at", c.c_char_p), ("length", c.c_size_t)]
+
+    @classmethod
+    def of(cls, given):
+        return cls(given, len(given))
+
+
+class _Preopen(c.Structure):
+    _fields_ = [("guest_name", _Bytes), ("path", _Bytes)]
+
+
+class _Supplies(c.Structure):
+    _fields_ = [("args", c.POINTER(_Bytes)), ("args_count", c.c_size_t), ("env", c.POINTER(_Bytes)), ("env_count", c.c_size_t),
+                ("preopens", c.POINTER(_Preopen)), ("preopens_count", c.c_size_t), ("moment", c.c_uint64), ("random", _Bytes),
+                ("pages", c.c_uint32), ("input", _Bytes)]
+
+
+class _Volume(c.Structure):
+    _fields_ = [("kind", c.c_uint32), ("sectors", c.c_char_p), ("sectors_count", c.c_size_t)]
+
+
+class Told(c.Structure):
+    """Why a session came back: the kind, its code, the call, and the units used since it began."""
+    _fields_ = [("kind", c.c_uint32), ("code", c.c_uint32), ("call", c.c_uint32), ("used", c.c_uint64)]
+
+
+class _Why(c.Structure):
+    _fields_ = [("fault", c.c_uint32), ("offset", c.c_uint32)]
+
+
+def _library():
+    """The archive as a shared library beside this file, made by the C compiler where it isn't there or is older."""
+    subprocess.run([f"{HERE}/../library"], check=True)
+    archive, made = f"{HERE}/../../../out/libsandbox.a", f"{HERE}/libsandbox.so"
+    if not os.path.exists(made) or os.path.getmtime(made) < os.path.getmtime(archive):
+        subprocess.run(["cc", "-shared", "-o", f"{made}.new", "-Wl,--whole-archive", archive, "-Wl,--no-whole-archive"], check=True)
+        os.rename(f"{made}.new", made)
+    library = c.CDLL(made)
+    for name in ("text", "output", "volume_out"):
+        getattr(library, f"sandbox_{name}").restype = c.c_size_t
+    return library
+
+
+_lib = _library()
+
+
+def _check(number, offset=0):
+    if number:
+        raise Refused(number, offset)
+
+
+def text(number, kind=0):
+    """The text of a fault (kind 0), a trap (1) or an errno (2)."""
+    room = c.create_string_buffer(80)
+    length = _lib.sandbox_text(kind, number, room, c.c_size_t(80))
+    return room.raw[:min(length, 80)].decode()
+
+
+def empty_volume(sectors=1000, slots=16):
+    """The bytes of an empty volume."""
+    room = c.create_string_buffer(512 * sectors)
+    _check(_lib.sandbox_format(room, c.c_size_t(sectors), c.c_uint32(slots)))
+    return room.raw
+
+
+class Module:
+    """A valid module."""
+
+    def __init__(self, given):
+        self._bytes, self._raw, why = bytes(given), c.c_void_p(), _Why()
+        _check(_lib.sandbox_load(c.byref(self._raw), self._bytes, c.c_size_t(len(self._bytes)), c.byref(why)), why.offset)
+
+    def session(self, **supplies):
+        return Session(self, **supplies)
+
+    def __del__(self):
+        _lib.sandbox_unload(c.byref(self._raw))
+
+
+class Session:
+    """A guest with what it is given; `with` closes it, and its module can be used again then."""
+
+    def __init__(self, module, args=(), env=(), preopens=(("/", "/"),), moment=0, random=b"", pages=1024, input=b"", volume=None):
+        def texts(given):
+            return [it.encode() if isinstance(it, str) else bytes(it) for it in given]
+
+        args, env, names, paths = texts(args), texts(env), texts(it[0] for it in preopens), texts(it[1] for it in preopens)
+        array = (_Bytes * max(1, len(args)))(*map(_Bytes.of, args)), (_Bytes * max(1, len(env)))(*map(_Bytes.of, env))
+        opened = (_Preopen * max(1, len(names)))(*[_Preopen(_Bytes.of(name), _Bytes.of(path)) for name, path in zip(names, paths)])
+        given = _Supplies(array[0], len(args), array[1], len(env), opened, len(names), moment, _Bytes.of(random), pages, _Bytes.of(input))
+        over = _Volume(1, volume, len(volume) // 512) if volume is not None else _Volume(0, b"", 0)
+        self._kept, self._module, self._raw = (args, env, names, paths, array, opened, random, input, module), module, c.c_void_p()
+        _check(_lib.sandbox_open_loaded(c.byref(self._raw), c.byref(module._raw), c.byref(given), c.byref(over)))
+
+    def resume(self, units):
+        """Goes on for at most this many units, until one call is answered, the units are used, or the guest ends."""
+        told = Told()
+        _check(_lib.sandbox_resume(c.byref(self._raw), c.c_uint64(units), c.byref(told)))
+        return told
+
+    def run(self, fuel):
+        """Goes on until the guest ends, or this many units are used since the session began."""
+        told = self.resume(fuel)
+        while told.kind == CALLED:
+            told = self.resume(fuel - told.used)
+        return told
+
+    def output(self, descriptor=1):
+        """What the guest has written so far."""
+        length = _lib.sandbox_output(c.byref(self._raw), c.c_uint32(descriptor), c.c_size_t(0), b"", c.c_size_t(0))
+        room = c.create_string_buffer(max(1, length))
+        _lib.sandbox_output(c.byref(self._raw), c.c_uint32(descriptor), c.c_size_t(0), room, c.c_size_t(length))
+        return room.raw[:length]
+
+    def finish(self):
+        """Commits the guest's calls, and gives the bytes of its volume."""
+        _check(_lib.sandbox_finish(c.byref(self._raw)))
+        count = _lib.sandbox_volume_out(c.byref(self._raw), b"", c.c_size_t(0))
+        room = c.create_string_buffer(512 * max(1, count))
+        _lib.sandbox_volume_out(c.byref(self._raw), room, c.c_size_t(count))
+        return room.raw[:512 * count]
+
+    def close(self):
+        """Discards the session. Its module can be used again."""
+        if self._raw:
+            _lib.sandbox_close_loaded(c.byref(self._raw), c.byref(self._module._raw))
+
+    def __enter__(self):
+        return self
+
+    def __exit__(self, *_):
+        self.close()
+
+    __del__ = close

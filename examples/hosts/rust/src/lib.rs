@@ -1,0 +1,242 @@
+//! WebAssembly guests with exact fuel, from Rust: safe types over `include/sandbox.h`.
+//!
+//! A [`Module`] is decoded and validated once. [`Module::open`] turns it into a [`Session`], and [`Session::close`] gives it
+//! back, so one module serves many sessions one after another; for several at once load it as often. What a guest reads is
+//! borrowed for as long as its session lives. Both types may move to another thread.
+mod sys;
+
+use std::fmt;
+use std::marker::PhantomData;
+use std::ptr::null_mut;
+
+/// The bytes of a volume's sectors.
+pub type Sectors = Vec<[u8; 512]>;
+
+/// Why a call was refused: the number of a fault as the program `sandbox` prints it, and the place in a refused module.
+#[derive(Debug, Clone, Copy, PartialEq, Eq)]
+pub struct Refused {
+    pub number: u32,
+    pub offset: u32,
+}
+
+impl fmt::Display for Refused {
+    fn fmt(&self, f: &mut fmt::Formatter<'_>) -> fmt::Result {
+        let mut room = [0; 80];
+        // SAFETY: the room has this length.
+        let length = unsafe { sys::sandbox_text(0, self.number, room.as_mut_ptr(), room.len()) };
+        let text = String::from_utf8_lossy(&room[..length.min(room.len())]);
+        write!(f, "fault {} at {}: {text}", self.number, self.offset)
+    }
+}
+
+impl std::error::Error for Refused {}
+
+fn answered(number: u32) -> Result<(), Refused> {
+    match number {
+        0 => Ok(()),
+        _ => Err(Refused { number, offset: 0 }),
+    }
+}
+
+/// Why a session came back.
+#[derive(Debug, Clone, Copy, PartialEq, Eq)]
+pub enum Pause {
+    /// The guest exited with this status.
+    Exited(u32),
+    /// It trapped; the number is the header's.
+    Trapped(u32),
+    OutOfMemory,
+    /// One call of the host was answered, with this errno; which one is the header's number.
+    Called { call: u32, errno: u32 },
+    /// The units are used.
+    Spent,
+}
+
+/// What a guest is given. Texts are bytes.
+#[derive(Clone, Default)]
+pub struct Supplies<'a> {
+    /// The program's name first.
+    pub args: Vec<&'a [u8]>,
+    pub env: Vec<&'a [u8]>,
+    /// The name that the guest knows a directory by, and its path in the volume.
+    pub preopens: Vec<(&'a [u8], &'a [u8])>,
+    /// Nanoseconds since 1970-01-01 00:00:00 UTC.
+    pub moment: u64,
+    pub random: &'a [u8],
+    /// Most pages of 65,536 bytes.
+    pub pages: u32,
+    pub input: &'a [u8],
+}
+
+/// A valid module.
+pub struct Module<'a> {
+    raw: *mut sys::OpaqueModule,
+    bytes: PhantomData<&'a [u8]>,
+}
+
+// SAFETY: nothing is shared between modules, and a call has the whole module.
+unsafe impl Send for Module<'_> {}
+
+impl<'a> Module<'a> {
+    /// Decodes and validates the module that the bytes spell.
+    pub fn load(bytes: &'a [u8]) -> Result<Module<'a>, Refused> {
+        let (mut raw, mut why) = (null_mut(), sys::Why::default());
+        // SAFETY: the bytes are borrowed for as long as the module or its session lives.
+        match unsafe { sys::sandbox_load(&mut raw, bytes.as_ptr(), bytes.len(), &mut why) } {
+            0 => Ok(Module { raw, bytes: PhantomData }),
+            number => Err(Refused { number, offset: why.offset }),
+        }
+    }
+
+    /// A session of the module, over these sectors, or over an empty volume that is discarded at the end. A refusal gives the
+    /// module back.
+    pub fn open(mut self, supplies: &Supplies<'a>, volume: Option<&[[u8; 512]]>) -> Result<Session<'a>, (Refused, Module<'a>)> {
+        let kept = Kept::of(supplies);
+        let volume = match volume {
+            None => sys::Volume { kind: 0, sectors: [].as_ptr(), sectors_count: 0 },
+            Some(sectors) => sys::Volume { kind: 1, sectors: sectors.as_ptr(), sectors_count: sectors.len() },
+        };
+        let mut raw = null_mut();
+        // SAFETY: what the supplies lead to is in `kept`, beside the session, or borrowed as long as it.
+        match unsafe { sys::sandbox_open_loaded(&mut raw, &mut self.raw, &kept.supplies(supplies), &volume) } {
+            0 => Ok(Session { raw, _kept: kept, bytes: PhantomData }),
+            number => Err((Refused { number, offset: 0 }, self)),
+        }
+    }
+}
+
+impl Drop for Module<'_> {
+    fn drop(&mut self) {
+        // SAFETY: NULL, once it has gone into a session, is answered as misuse.
+        unsafe { sys::sandbox_unload(&mut self.raw) };
+    }
+}
+
+/// The arrays that a session reads as long as it lives.
+struct Kept {
+    args: Box<[sys::Bytes]>,
+    env: Box<[sys::Bytes]>,
+    preopens: Box<[sys::Preopen]>,
+}
+
+fn bytes_of(bytes: &[u8]) -> sys::Bytes {
+    sys::Bytes { at: bytes.as_ptr(), length: bytes.len() }
+}
+
+impl Kept {
+    fn of(supplies: &Supplies<'_>) -> Kept {
+        let preopen = |it: &(&[u8], &[u8])| sys::Preopen { guest_name: bytes_of(it.0), path: bytes_of(it.1) };
+        Kept {
+            args: supplies.args.iter().map(|it| bytes_of(it)).collect(),
+            env: supplies.env.iter().map(|it| bytes_of(it)).collect(),
+            preopens: supplies.preopens.iter().map(preopen).collect(),
+        }
+    }
+
+    fn supplies(&self, given: &Supplies<'_>) -> sys::Supplies {
+        sys::Supplies {
+            args: self.args.as_ptr(),
+            args_count: self.args.len(),
+            env: self.env.as_ptr(),
+            env_count: self.env.len(),
+            preopens: self.preopens.as_ptr(),
+            preopens_count: self.preopens.len(),
+            moment: given.moment,
+            random: bytes_of(given.random),
+            pages: given.pages,
+            input: bytes_of(given.input),
+        }
+    }
+}
+
+/// A guest on its way.
+pub struct Session<'a> {
+    raw: *mut sys::OpaqueSession,
+    _kept: Kept,
+    bytes: PhantomData<&'a [u8]>,
+}
+
+// SAFETY: nothing is shared between sessions, and a call has the whole session.
+unsafe impl Send for Session<'_> {}
+
+impl<'a> Session<'a> {
+    /// Goes on for at most this many units, and tells how many were used since the session began.
+    pub fn resume(&mut self, units: u64) -> Result<(Pause, u64), Refused> {
+        let mut told = sys::Told::default();
+        // SAFETY: `raw` is a session.
+        answered(unsafe { sys::sandbox_resume(&mut self.raw, units, &mut told) })?;
+        let pause = match told.kind {
+            0 => Pause::Exited(told.code),
+            1 => Pause::Trapped(told.code),
+            3 => Pause::OutOfMemory,
+            4 => Pause::Called { call: told.call, errno: told.code },
+            _ => Pause::Spent,
+        };
+        Ok((pause, told.used))
+    }
+
+    /// Goes on until the guest ends or this many units are used since the session began.
+    pub fn run(&mut self, fuel: u64) -> Result<(Pause, u64), Refused> {
+        let mut used = 0;
+        loop {
+            let (pause, now) = self.resume(fuel.saturating_sub(used))?;
+            used = now;
+            if !matches!(pause, Pause::Called { .. }) {
+                return Ok((pause, used));
+            }
+        }
+    }
+
+    /// What the guest has written so far to descriptor 1 or 2.
+    pub fn output(&mut self, descriptor: u32) -> Vec<u8> {
+        // SAFETY: `raw` is a session, and the room has its length.
+        unsafe {
+            let length = sys::sandbox_output(&mut self.raw, descriptor, 0, [].as_mut_ptr(), 0);
+            let mut room = vec![0; length];
+            sys::sandbox_output(&mut self.raw, descriptor, 0, room.as_mut_ptr(), length);
+            room
+        }
+    }
+
+    /// Commits the guest's calls, and gives the sectors of its volume.
+    pub fn finish(&mut self) -> Result<Sectors, Refused> {
+        // SAFETY: `raw` is a session, and the room has its length.
+        unsafe {
+            answered(sys::sandbox_finish(&mut self.raw))?;
+            let count = sys::sandbox_volume_out(&mut self.raw, [].as_mut_ptr(), 0);
+            let mut sectors = vec![[0; 512]; count];
+            sys::sandbox_volume_out(&mut self.raw, sectors.as_mut_ptr(), count);
+            Ok(sectors)
+        }
+    }
+
+    /// Discards the session, and gives its module back.
+    pub fn close(mut self) -> Module<'a> {
+        let mut module = Module { raw: null_mut(), bytes: PhantomData };
+        // SAFETY: `raw` is a session, and the module is none yet.
+        unsafe { sys::sandbox_close_loaded(&mut self.raw, &mut module.raw) };
+        module
+    }
+}
+
+impl Drop for Session<'_> {
+    fn drop(&mut self) {
+        let mut module = Module { raw: null_mut(), bytes: PhantomData };
+        // SAFETY: NULL, once it is closed, is answered as misuse.
+        unsafe { sys::sandbox_close_loaded(&mut self.raw, &mut module.raw) };
+    }
+}
+
+/// An empty volume of so many sectors and slots.
+pub fn format(sectors: usize, slots: u32) -> Result<Sectors, Refused> {
+    let mut made = vec![[0; 512]; sectors];
+    // SAFETY: there are so many sectors.
+    answered(unsafe { sys::sandbox_format(made.as_mut_ptr(), sectors, slots) })?;
+    Ok(made)
+}
+
+/// The archive's version, as the header counts it.
+pub fn version() -> u32 {
+    // SAFETY: it takes nothing.
+    unsafe { sys::sandbox_version() }
+}

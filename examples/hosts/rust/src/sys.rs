@@ -1,0 +1,76 @@
+//! The header `include/sandbox.h`, as far as the safe types need it.
+#[repr(C)]
+pub struct OpaqueSession([u8; 0]);
+
+#[repr(C)]
+pub struct OpaqueModule([u8; 0]);
+
+#[repr(C)]
+#[derive(Clone, Copy)]
+pub struct Bytes {
+    pub at: *const u8,
+    pub length: usize,
+}
+
+#[repr(C)]
+#[derive(Clone, Copy)]
+pub struct Preopen {
+    pub guest_name: Bytes,
+    pub path: Bytes,
+}
+
+#[repr(C)]
+pub struct Supplies {
+    pub args: *const Bytes,
+    pub args_count: usize,
+    pub env: *const Bytes,
+    pub env_count: usize,
+    pub preopens: *const Preopen,
+    pub preopens_count: usize,
+    pub moment: u64,
+    pub random: Bytes,
+    pub pages: u32,
+    pub input: Bytes,
+}
+
+#[repr(C)]
+pub struct Volume {
+    pub kind: u32,
+    pub sectors: *const [u8; 512],
+    pub sectors_count: usize,
+}
+
+#[repr(C)]
+#[derive(Default)]
+pub struct Told {
+    pub kind: u32,
+    pub code: u32,
+    pub call: u32,
+    pub used: u64,
+}
+
+#[repr(C)]
+#[derive(Default)]
+pub struct Why {
+    pub fault: u32,
+    pub offset: u32,
+}
+
+extern "C" {
+    pub fn sandbox_version() -> u32;
+    pub fn sandbox_text(kind: u32, number: u32, room: *mut u8, length: usize) -> usize;
+    pub fn sandbox_load(module: *mut *mut OpaqueModule, bytes: *const u8, length: usize, why: *mut Why) -> u32;
+    pub fn sandbox_unload(module: *mut *mut OpaqueModule) -> u32;
+    pub fn sandbox_open_loaded(
+        session: *mut *mut OpaqueSession,
+        module: *mut *mut OpaqueModule,
+        supplies: *const Supplies,
+        volume: *const Volume,
+    ) -> u32;
+    pub fn sandbox_resume(session: *mut *mut OpaqueSession, units: u64, told: *mut Told) -> u32;
+    pub fn sandbox_output(session: *mut *mut OpaqueSession, descriptor: u32, from: usize, room: *mut u8, length: usize) -> usize;
+    pub fn sandbox_finish(session: *mut *mut OpaqueSession) -> u32;
+    pub fn sandbox_volume_out(session: *mut *mut OpaqueSession, room: *mut [u8; 512], count: usize) -> usize;
+    pub fn sandbox_close_loaded(session: *mut *mut OpaqueSession, module: *mut *mut OpaqueModule) -> u32;
+    pub fn sandbox_format(sectors: *mut [u8; 512], count: usize, slots: u32) -> u32;
+}
