@@ -32,7 +32,7 @@ ending_text s = concat (codes "end:" ∷ label_of s.end ∷ codes "\ncode:" ∷ 
     ∷ codes "\noffset:" ∷ number_text (end_offset s.end) ∷ codes "\nstatus:" ∷ decimal s.status ∷ codes "\n" ∷ [])
 
 abbrev pub use_text : Summary → Text
-use_text s = concat (codes "units:" ∷ decimal s.units ∷ codes "\nfuel:" ∷ decimal s.fuel ∷ codes "\nread:" ∷ decimal s.read
+use_text s = concat (codes "units:" ∷ decimal s.units ∷ codes "\nfuel:" ∷ decimal s.fuel ∷ codes "\npages:" ∷ decimal s.pages ∷ codes "\nread:" ∷ decimal s.read
     ∷ codes "\nwritten:" ∷ decimal s.written ∷ codes "\ncomplained:" ∷ decimal s.complained ∷ codes "\ncalls:" ∷ decimal s.calls
     ∷ codes "\nsyncs:" ∷ decimal s.syncs ∷ codes "\n" ∷ [])
 

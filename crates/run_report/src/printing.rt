@@ -49,9 +49,10 @@ fn add_use(text: &mut Text, summary: &Summary) -> io::Result<()>
 {
     write!(
         text,
-        "units:{}\nfuel:{}\nread:{}\nwritten:{}\ncomplained:{}\ncalls:{}\nsyncs:{}\n",
+        "units:{}\nfuel:{}\npages:{}\nread:{}\nwritten:{}\ncomplained:{}\ncalls:{}\nsyncs:{}\n",
         summary.units,
         summary.fuel,
+        summary.pages,
         summary.read,
         summary.written,
         summary.complained,

@@ -25,6 +25,8 @@ pub struct Summary {
     /// The units of fuel that were used, of `fuel`.
     pub units: u64,
     pub fuel: u64,
+    /// The most pages of 65,536 bytes that the guest's memory had.
+    pub pages: u32,
     /// The bytes of standard input that the guest took.
     pub read: u64,
     /// The bytes that it gave to standard output, and to standard error.

@@ -35,6 +35,7 @@ not_run run fault became status = record {
   status = status;
   units = 0;
   fuel = run.limits.fuel;
+  pages = 0;
   read = 0;
   written = 0;
   complained = 0;
@@ -77,7 +78,7 @@ module _ {D R W1 W2 : Type 0} where
   abbrev pub counting : HostParts D R W1 W2 → HostParts D (Counted R) (Counted W1) (Counted W2)
   counting parts = given parts.settings parts.volume (from_here parts.input) (from_here parts.out) (from_here parts.err)
 
-  -- How the run ended and the units that it used are those of its report; the calls and syncs are those of its resumes; the
+  -- How the run ended, the units that it used and its pages are those of its report; the calls and syncs are those of its resumes; the
   -- bytes are those that its streams counted.
   abbrev pub run_summary : Run → Report D (Counted R) (Counted W1) (Counted W2) → Tally → (status : ℕ) → (flushed : Bool) → Summary
   run_summary run report tally status flushed = record {
@@ -85,6 +86,7 @@ module _ {D R W1 W2 : Type 0} where
     status = status;
     units = report.used;
     fuel = run.limits.fuel;
+    pages = report.pages;
     read = report.input.count;
     written = report.out.count;
     complained = report.err.count;

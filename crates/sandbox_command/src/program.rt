@@ -225,7 +225,7 @@ fn uncounted<D: Device, R, W1, W2>(
     report: Report<D, Counted<R>, Counted<W1>, Counted<W2>>,
 ) -> (Report<D, R, W1, W2>, Moved)
     ensures outcome { result.0.outcome ≡ report.outcome }
-    ensures used { result.0.used ≡ report.used }
+    ensures used { (result.0.used ≡ report.used) × (result.0.pages ≡ report.pages) }
     ensures volume { result.0.volume ≡ report.volume }
     ensures input { (result.0.input ≡ report.input.stream) × (result.1.read ≡ report.input.count) }
     ensures out { (result.0.out ≡ report.out.stream) × (result.1.written ≡ report.out.count) }
@@ -234,6 +234,7 @@ fn uncounted<D: Device, R, W1, W2>(
     let Report {
         outcome,
         used,
+        pages,
         volume,
         input,
         out,
@@ -247,6 +248,7 @@ fn uncounted<D: Device, R, W1, W2>(
     let report = Report {
         outcome,
         used,
+        pages,
         volume,
         input: input.stream,
         out: out.stream,
@@ -269,7 +271,7 @@ fn reported<D: Device + Drop, R: Drop, W1: Write + Drop, W2: Write + Drop>(
     ensures err { AppendsSome (W2.contents counted.err.stream) (W2.contents result.err) }
 {
     let (plain, moved) = uncounted(counted);
-    let (outcome, units) = (plain.outcome, plain.used);
+    let (outcome, units, pages) = (plain.outcome, plain.used, plain.pages);
     let volume = kept_after_run(run.volume, &plain.volume);
     let mut left = report(plain);
     left.summary = Some(Summary {
@@ -277,6 +279,7 @@ fn reported<D: Device + Drop, R: Drop, W1: Write + Drop, W2: Write + Drop>(
         status: left.status,
         units,
         fuel: run.limits.fuel,
+        pages,
         read: moved.read,
         written: moved.written,
         complained: moved.complained,

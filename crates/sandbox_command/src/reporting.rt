@@ -31,6 +31,7 @@ pub(crate) fn not_run(run: &Run<'_>, fault: Fault, volume: Kept, status: u8) -> 
         status,
         units: 0,
         fuel: run.limits.fuel,
+        pages: 0,
         read: 0,
         written: 0,
         complained: 0,

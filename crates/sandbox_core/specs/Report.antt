@@ -1,5 +1,5 @@
 -- What the report of a run says (`README.md`, "The program").
-use Rattle.std.specs.Prelude.{◌≡◌, ℕ, ◌≤◌, List, Option, None}
+use Rattle.std.specs.Prelude.{◌≡◌, ℕ, ◌≤◌, ◌/◌, List, length, Option, None}
 use Rattle.vol_sector.specs.Disk.{Disk, Leaves}
 use Rattle.vol_tree.specs.Tree.{Tree}
 use Rattle.vol_tree.specs.declared.superblock.Superblock.{Superblock}
@@ -36,6 +36,7 @@ module _ {D R W1 W2 : Type 0} (honest : D → Type 0) (disk : D → Disk) (secto
     pub last : SessionState D R W1 W2
     pub used : report.used ≡ used_by last
     pub within : report.used ≤ fuel
+    pub pages : report.pages ≡ length last.machine.memory / 65536
     -- the resumes that it was made of, one after another
     pub resumes : History (SessionState D R W1 W2)
     pub follow : Follow honest disk sectors_on failures remaining out_contents err_contents session resumes last

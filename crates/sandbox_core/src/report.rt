@@ -18,6 +18,8 @@ use wasm_interp::{Outcome, Pause};
 pub struct Report<D: Device, R, W1, W2> {
     pub outcome: Outcome,
     pub used: u64,
+    /// The pages that its memory had at the end, which are the most that it had: a memory never shrinks.
+    pub pages: u32,
     pub volume: Result<Volume<D>, Refused<D>>,
     pub input: R,
     pub out: W1,
@@ -57,6 +59,7 @@ where
 {
     let (outcome, tally) = run_out(&mut session, fuel);
     let used = session.used();
+    let pages = session.pages();
     let Finished {
         volume,
         input,
@@ -66,6 +69,7 @@ where
     let report = Report {
         outcome,
         used,
+        pages,
         volume,
         input,
         out,

@@ -13,6 +13,7 @@ returns g c =
       last = last;
       used = c.used-used.ensures;
       within = omega (arith, c.used-used.ensures, c.run_out-outcome.ensures.within);
+      pages = c.pages-pages.ensures;
       resumes = ran.followed.0;
       follow = ran.followed.1;
       run = ran.run;
