@@ -1,13 +1,12 @@
 -- What is no volume of a known version holds nothing.
-use Rattle.std.proofs.Common.{◌≡◌, ◌≢◌, ◌⊎◌, ℕ, inl, inr, ap, subst, take, arith}
+use Rattle.std.proofs.Common.{◌≡◌, ◌⊎◌, ℕ, inl, inr, ap, subst, take, arith}
 use Rattle.vol_sector.specs.Disk.{Image}
 use Rattle.vol_sector.specs.declared.fault.VolumeFault.{VolumeFault}
 use Rattle.vol_sector.specs.declared.fault.VolumeFault.TheVariants as fault
 use Rattle.vol_inode.specs.declared.version.Version.{Version}
 use Rattle.vol_inode.specs.declared.version.Version.TheVariants.{One, Two}
-use Rattle.vol_tree.specs.declared.superblock.Superblock.{Superblock}
 use Rattle.vol_tree.specs.Superblock.{IsNoVersion, version_number}
-use Rattle.vol_tree.specs.Opening.{HoldsOn, NoVolumeOn, HasNoVersion}
+use Rattle.vol_tree.specs.Opening.{NoVolumeOn, HasNoVersion}
 use Rattle.vol_tree.proofs.OneTree.{version_is}
 use Rattle.sandbox_command.specs.Doing.{HoldsNothing}
 

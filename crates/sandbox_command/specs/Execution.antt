@@ -1,6 +1,6 @@
 -- What the program does: how it ends, and of which run, formatting or task its status tells
 -- (`README.md`, "The program").
-use Rattle.std.specs.Prelude.{◌≡◌, ◌≢◌, ◌⊎◌, ℕ, List, Option, Result}
+use Rattle.std.specs.Prelude.{◌≡◌, ◌≢◌, ◌⊎◌, ℕ, List, Option, Some, None, Result}
 use Rattle.vol_sector.specs.Disk.{Disk, Leaves}
 use Rattle.vol_sector.specs.declared.fault.Refused.{Refused}
 use Rattle.vol_tree.specs.Opened.{Opened}
@@ -17,7 +17,11 @@ use Rattle.sandbox_words.specs.declared.request.Invocation.{Invocation}
 use Rattle.sandbox_words.specs.declared.request.Invocation.TheVariants as asked
 use Rattle.sandbox_words.specs.Request.{Text}
 use Rattle.sandbox_command.specs.declared.failure.Failure.{Failure}
-use Rattle.sandbox_command.specs.Formatting.{Formats}
+use Rattle.run_report.specs.declared.fault.Fault.TheVariants as reason
+use Rattle.run_report.specs.declared.summary.Kept.TheVariants as kept
+use Rattle.run_report.specs.declared.summary.Summary.{Summary}
+use Rattle.sandbox_command.specs.Formatting.{FormatsAs}
+use Rattle.sandbox_command.specs.Reporting.{kept_where_refused, not_run, session_reason}
 use Rattle.sandbox_command.specs.Doing.{Performs}
 use Rattle.sandbox_command.specs.declared.program.Executed.{Executed}
 use Rattle.sandbox_command.specs.Status.{load_status, session_status, volume_status, task_status}
@@ -27,16 +31,18 @@ use Rattle.sandbox_command.specs.Volumes.{IsOpenFor, IsRefusedFor, LeftByOpening
 use Rattle.sandbox_command.specs.Running.{Launches, LeftByRun}
 
 -- A directory's word has no `=`, or memory was refused.
-pub record NotSupplied (run : Run) (status : ℕ) : Type 0 where
+pub record NotSupplied (run : Run) (status : ℕ) (summary : Option Summary) : Type 0 where
   pub fault : SessionFault
   pub uncut : IsUncut (directories_of run) fault
   pub ends : status ≡ session_status fault
+  pub summary_is : summary ≡ Some (not_run run (session_reason fault) kept.None status)
 
 -- The bytes are refused: where it isn't memory that was wanting, they spell no valid module.
-pub record NotLoaded (bytes : List ℕ) (status : ℕ) : Type 0 where
+pub record NotLoaded (run : Run) (bytes : List ℕ) (status : ℕ) (summary : Option Summary) : Type 0 where
   pub fault : LoadFault
   pub refused : fault ≢ Memory → (m : Module) → Spells bytes m → IsValid m → ⊥
   pub ends : status ≡ load_status fault
+  pub summary_is : summary ≡ Some (not_run run (reason.Module fault) kept.None status)
 
 module _ {D R W1 W2 : Type 0} (is_honest : D → Type 0) (disk : D → Disk) (sectors_on failures : D → ℕ)
     (remaining : R → Option (List ℕ)) (out_contents : W1 → Option (List ℕ)) (err_contents : W2 → Option (List ℕ)) where
@@ -46,6 +52,7 @@ module _ {D R W1 W2 : Type 0} (is_honest : D → Type 0) (disk : D → Disk) (se
     pub why : IsRefusedFor is_honest disk sectors_on failures run.volume device refused
     pub device_is : left.device ≡ refused.device
     pub ends : left.status ≡ volume_status refused.fault
+    pub summary : left.summary ≡ Some (not_run run (reason.Volume refused.fault) (kept_where_refused run.volume refused.fault) left.status)
     pub streams : IsSilent out_contents err_contents input out err left
 
   -- The volume was opened, and the module launched with it and with the settings that were asked for.
@@ -54,10 +61,10 @@ module _ {D R W1 W2 : Type 0} (is_honest : D → Type 0) (disk : D → Disk) (se
     pub opened : IsOpenFor is_honest disk sectors_on failures run.volume device volume
     pub settings : Settings
     pub are_settings : AreSettings run random settings
-    pub launched : Launches is_honest disk sectors_on failures remaining out_contents err_contents m run.limits.fuel (given settings volume input out err) left
+    pub launched : Launches is_honest disk sectors_on failures remaining out_contents err_contents m run (given settings volume input out err) left
     -- At any moment a crash leaves what it could leave before, what opening leaves, or the tree of a host that the run comes by.
     pub crash : is_honest device → Leaves (disk device) (disk left.device)
-        (λ c. LeftByOpening is_honest disk sectors_on failures run.volume volume c ⊎ LeftByRun is_honest disk sectors_on failures remaining out_contents err_contents m run.limits.fuel (given settings volume input out err) left launched c)
+        (λ c. LeftByOpening is_honest disk sectors_on failures run.volume volume c ⊎ LeftByRun is_honest disk sectors_on failures remaining out_contents err_contents m run (given settings volume input out err) left launched c)
     pub honest : is_honest device → is_honest left.device
 
   -- Before a volume was opened: the device is as it was, and so are the input and the output.
@@ -69,8 +76,8 @@ module _ {D R W1 W2 : Type 0} (is_honest : D → Type 0) (disk : D → Disk) (se
   -- launched.
   abbrev pub Runs : Run → List ℕ → Text → D → R → W1 → W2 → Executed D R W1 W2 → Type 0
   Runs run bytes random device input out err left =
-      (NotSupplied run left.status × IsUntouched device input out err left)
-      ⊎ ((NotLoaded bytes left.status × IsUntouched device input out err left)
+      (NotSupplied run left.status left.summary × IsUntouched device input out err left)
+      ⊎ ((NotLoaded run bytes left.status left.summary × IsUntouched device input out err left)
       ⊎ ((m : Module) × Spells bytes m × IsValid m
       × (NoVolume run device input out err left ⊎ OnVolume run m random device input out err left)))
 
@@ -78,10 +85,10 @@ module _ {D R W1 W2 : Type 0} (is_honest : D → Type 0) (disk : D → Disk) (se
   -- output is flushed, which keeps what it has.
   abbrev pub Executes : Invocation → List ℕ → Text → D → R → W1 → W2 → Executed D R W1 W2 → Type 0
   Executes (asked.Run run) bytes random device input out err left = Runs run bytes random device input out err left
-  Executes (asked.Format file sectors slots) bytes random device input out err left =
-      (done : Result (Unit {0}) Failure) × Formats is_honest disk sectors_on failures device sectors slots left.device done
-      × (left.status ≡ task_status done left.flushed) × IsSilent out_contents err_contents input out err left
+  Executes (asked.Format file sectors slots large) bytes random device input out err left =
+      (done : Result (Unit {0}) Failure) × FormatsAs large is_honest disk sectors_on failures device sectors slots left.device done
+      × (left.status ≡ task_status done left.flushed) × (left.summary ≡ None) × IsSilent out_contents err_contents input out err left
   Executes (asked.Volume file task) bytes random device input out err left =
       (done : Result (Unit {0}) Failure)
       × Performs is_honest disk sectors_on failures task device (remaining input) (remaining left.input) (out_contents out) (out_contents left.out) left.device done
-      × (left.status ≡ task_status done left.flushed) × AppendsSome (err_contents err) (err_contents left.err)
+      × (left.status ≡ task_status done left.flushed) × (left.summary ≡ None) × AppendsSome (err_contents err) (err_contents left.err)

@@ -1,5 +1,5 @@
 -- What is done on the files that a command line names (`README.md`, "The program"). No contract says what a file holds.
-use Rattle.std.specs.Prelude.{◌≡◌, ◌⊎◌, ◌≤◌, ℕ, List, Option, None, IsSomeAnd, min, replicate, vec_len}
+use Rattle.std.specs.Prelude.{◌≡◌, ◌⊎◌, ◌≤◌, ℕ, List, Option, None, IsSomeAnd, length, min, replicate}
 use Rattle.std.specs.declared.io.ErrorKind.{ErrorKind as InputKind}
 use Rattle.clap.specs.declared.error.kind.ErrorKind.{ErrorKind as LineKind}
 use Rattle.clap.specs.Words.{subcommand_of}
@@ -18,25 +18,25 @@ use Rattle.sandbox_command.specs.Status.{command_line_status, words_status}
 
 -- what is known of the disk of a device in memory, and of one in a file
 abbrev pub memory_disk : RamDevice → Disk
-memory_disk d = held d.sectors.items d.past.images
+memory_disk d = held d.sectors d.past.images
 
 abbrev pub file_disk : FileDevice → Disk
-file_disk d = kept d.sectors.items d.moments.unsynced d.moments.times
+file_disk d = kept d.sectors d.moments.unsynced d.moments.times
 
 -- a run that names no file for its volume
 abbrev pub NamesNoVolume : Invocation → Type 0
 NamesNoVolume (asked.Run run) = run.volume ≡ None
-NamesNoVolume (asked.Format file sectors slots) = ⊥
+NamesNoVolume (asked.Format file sectors slots large) = ⊥
 NamesNoVolume (asked.Volume file task) = ⊥
 
 -- a device of 202 sectors of zeros
 abbrev pub IsNewInMemory : RamDevice → Type 0
-IsNewInMemory device = device.sectors.items ≡ replicate 202 (replicate 512 0)
+IsNewInMemory device = device.sectors ≡ replicate 202 (replicate 512 0)
 
 -- A device on which no operation failed yet. What is to be formatted is lengthened to its sectors first, or to 65,536.
 abbrev pub IsNewInFile : Invocation → FileDevice → Type 0
 IsNewInFile (asked.Run run) device = device.failures ≡ 0
-IsNewInFile (asked.Format file sectors slots) device = (device.failures ≡ 0) × (min sectors 65536 ≤ vec_len device.sectors)
+IsNewInFile (asked.Format file sectors slots large) device = (device.failures ≡ 0) × (min sectors 65536 ≤ length device.sectors)
 IsNewInFile (asked.Volume file task) device = device.failures ≡ 0
 
 module _ {D R W1 W2 : Type 0} (is_honest : D → Type 0) (disk : D → Disk) (sectors_on failures : D → ℕ)
@@ -58,9 +58,9 @@ module _ {R W1 W2 : Type 0} (remaining : R → Option (List ℕ)) (out_contents 
   abbrev pub IsPerformed : Invocation → R → W1 → W2 → ℕ → Type 0
   IsPerformed invocation input out err status =
       (status ≡ 122) ⊎ ((status ≡ 124)
-      ⊎ ((NamesNoVolume invocation × IsExecuted (λ d. Unit {0}) memory_disk (λ d. vec_len d.sectors) (λ d. 0) remaining out_contents err_contents
+      ⊎ ((NamesNoVolume invocation × IsExecuted (λ d. Unit {0}) memory_disk (λ d. length d.sectors) (λ d. 0) remaining out_contents err_contents
       IsNewInMemory invocation input out err status)
-      ⊎ ((NamesNoVolume invocation → ⊥) × IsExecuted (λ d. KeepsItsModel d.file) file_disk (λ d. vec_len d.sectors) (λ d. d.failures) remaining out_contents err_contents
+      ⊎ ((NamesNoVolume invocation → ⊥) × IsExecuted (λ d. KeepsItsModel d.file) file_disk (λ d. length d.sectors) (λ d. d.failures) remaining out_contents err_contents
       (IsNewInFile invocation) invocation input out err status)))
 
   -- The words can't be read, or the command line is refused. Or what some words ask for is performed.

@@ -7,6 +7,7 @@ pub mod Tasks
 pub mod Doing
 pub mod Supplies
 pub mod Volumes
+pub mod Reporting
 pub mod Running
 pub mod Execution
 pub mod Files

@@ -1,5 +1,5 @@
 -- What a run of a module on an open volume says (`README.md`, "The program").
-use Rattle.std.specs.Prelude.{◌≡◌, ◌⊎◌, ℕ, List, Option, Result, Ok, Err}
+use Rattle.std.specs.Prelude.{◌≡◌, ◌⊎◌, ℕ, List, Option, Some, Result, Ok, Err}
 use Rattle.std.proofs.Common.{inl, inr}
 use Rattle.std.specs.Io.KnownBytes.{Keeps}
 use Rattle.vol_sector.specs.Disk.{Image, Disk, Leaves}
@@ -17,10 +17,14 @@ use Rattle.sandbox_core.specs.declared.fault.SessionFault.{SessionFault}
 use Rattle.sandbox_core.specs.declared.report.Report.{Report}
 use Rattle.sandbox_core.specs.Session.{SessionState, Opens, Shares, IsRefused, KeepsVolume}
 use Rattle.sandbox_core.specs.Runs.{ComesBy, RunsWithin}
-use Rattle.sandbox_core.specs.Report.{Calls, Reports}
+use Rattle.sandbox_core.specs.declared.tally.Tally.{Tally}
+use Rattle.sandbox_core.specs.Report.{Calls, ReportsCounted}
+use Rattle.sandbox_words.specs.declared.request.Run.{Run}
+use Rattle.run_report.specs.declared.counted.Counted.{Counted}
 use Rattle.sandbox_command.specs.declared.program.Executed.{Executed}
 use Rattle.sandbox_command.specs.Status.{EndsWith, session_status}
 use Rattle.sandbox_command.specs.Streams.{AppendsSome, IsSilent}
+use Rattle.sandbox_command.specs.Reporting.{counted_bytes, counting, kept_where_not_begun, not_run, run_summary, session_reason}
 
 -- the device of a volume that is handed back, or the device itself
 abbrev pub device_of : {D : Type 0} → Result (Opened D) (Refused D) → D
@@ -29,61 +33,65 @@ device_of (Err refused) = refused.device
 
 module _ {D R W1 W2 : Type 0} (is_honest : D → Type 0) (disk : D → Disk) (sectors_on failures : D → ℕ)
     (remaining : R → Option (List ℕ)) (out_contents : W1 → Option (List ℕ)) (err_contents : W2 → Option (List ℕ)) where
+  -- a host whose streams are counted
   abbrev pub Host : Type 0
-  Host = HostState D R W1 W2
+  Host = HostState D (Counted R) (Counted W1) (Counted W2)
 
   abbrev pub HostCalls : CallsOf Host
-  HostCalls = Calls is_honest disk sectors_on failures remaining out_contents err_contents
+  HostCalls = Calls is_honest disk sectors_on failures (counted_bytes remaining) (counted_bytes out_contents) (counted_bytes err_contents)
 
   -- The module gets no session, and nothing but reads was done with the volume.
-  pub record NotOpened (m : Module) (parts : HostParts D R W1 W2) (left : Executed D R W1 W2) : Type 0 where
+  pub record NotOpened (m : Module) (run : Run) (parts : HostParts D R W1 W2) (left : Executed D R W1 W2) : Type 0 where
     pub fault : SessionFault
-    pub refused : IsRefused is_honest fault m parts
+    pub refused : IsRefused is_honest fault m (counting parts)
     pub volume : Opened D
     pub kept : KeepsVolume is_honest disk sectors_on failures fault parts.volume volume
     pub device : left.device ≡ volume.device
     pub ends : left.status ≡ session_status fault
+    pub summary : left.summary ≡ Some (not_run run (session_reason fault) (kept_where_not_begun run.volume fault) left.status)
     pub streams : IsSilent out_contents err_contents parts.input parts.out parts.err left
 
   -- the hosts that a run from a session comes by, whose trees a crash may leave, under the volume's numbers
-  abbrev pub StandsInRun : (i : Instance) (h : Host) (c : Configuration) (fuel : ℕ) (report : Report D R W1 W2) (last : Host) (used : ℕ) → RunsWithin Host HostCalls i h c fuel last report.outcome used → Image → Type 0
+  abbrev pub StandsInRun : (i : Instance) (h : Host) (c : Configuration) (fuel : ℕ) (report : Report D (Counted R) (Counted W1) (Counted W2)) (last : Host) (used : ℕ) → RunsWithin Host HostCalls i h c fuel last report.outcome used → Image → Type 0
   StandsInRun i h c fuel report last used run image = (host : Host) × ComesBy Host HostCalls i h c run.answers last run.last host × StandsAs image h.volume.numbers host.volume.tree
 
   -- A session ran from the module's first configuration, with this fuel.
-  pub record Ran (m : Module) (fuel : ℕ) (parts : HostParts D R W1 W2) (left : Executed D R W1 W2) : Type 0 where
-    pub session : SessionState D R W1 W2
-    pub opens : Opens m parts session
-    pub shares : Shares is_honest disk sectors_on failures parts session
-    pub report : Report D R W1 W2
-    pub reports : Reports is_honest disk sectors_on failures remaining out_contents err_contents session fuel report
+  pub record Ran (m : Module) (run : Run) (parts : HostParts D R W1 W2) (left : Executed D R W1 W2) : Type 0 where
+    pub session : SessionState D (Counted R) (Counted W1) (Counted W2)
+    pub opens : Opens m (counting parts) session
+    pub shares : Shares is_honest disk sectors_on failures (counting parts) session
+    pub report : Report D (Counted R) (Counted W1) (Counted W2)
+    pub tally : Tally
+    pub counted : ReportsCounted is_honest disk sectors_on failures (counted_bytes remaining) (counted_bytes out_contents) (counted_bytes err_contents) session run.limits.fuel report tally
     pub ends : EndsWith report.outcome report.volume left.flushed left.status
+    pub summary : left.summary ≡ Some (run_summary run report tally left.status left.flushed)
     pub device : left.device ≡ device_of report.volume
     -- The streams are those of the run's last host. The output has what the guest wrote there and nothing else; what it
     -- wrote on the side of errors stays, and some bytes may follow.
-    pub input : left.input ≡ reports.last.host.input.reader
-    pub out : Keeps (out_contents reports.last.host.out.writer) (out_contents left.out)
-    pub err : AppendsSome (err_contents reports.last.host.err.writer) (err_contents left.err)
+    pub input : left.input ≡ counted.reports.last.host.input.reader.stream
+    pub out : Keeps (out_contents counted.reports.last.host.out.writer.stream) (out_contents left.out)
+    pub err : AppendsSome (err_contents counted.reports.last.host.err.writer.stream) (err_contents left.err)
     -- The streams moved by some bytes, each that tells its bytes by those that it told. Whatever others they have, this is a
     -- run over a tree of paths.
     pub over_paths : is_honest parts.volume.device → let first = first_configuration opens.starts.entered opens.starts.store in
-        let run = reports.run opens.starts.instance first opens.starts.stands in
-        (moved : StreamBytes) × StreamsMove remaining out_contents err_contents session.host reports.last.host moved
-        × ((others : StreamBytes) → MayFollow reports.last.host others
-        → Reach World world.Calls opens.starts.instance (world_of session.host (before_moving moved others)) first run.answers (world_of reports.last.host (after_moving moved others)) run.last)
+        let run = counted.reports.run opens.starts.instance first opens.starts.stands in
+        (moved : StreamBytes) × StreamsMove (counted_bytes remaining) (counted_bytes out_contents) (counted_bytes err_contents) session.host counted.reports.last.host moved
+        × ((others : StreamBytes) → MayFollow counted.reports.last.host others
+        → Reach World world.Calls opens.starts.instance (world_of session.host (before_moving moved others)) first run.answers (world_of counted.reports.last.host (after_moving moved others)) run.last)
     -- Where a crash at its beginning leaves the volume's tree, one at any moment leaves that of a host that the run comes by.
     pub crash : is_honest parts.volume.device → ((c : Image) → (disk parts.volume.device).may_leave c → StandsAs c parts.volume.numbers parts.volume.tree)
         → let first = first_configuration opens.starts.entered opens.starts.store in
-        Leaves (disk parts.volume.device) (disk left.device) (StandsInRun opens.starts.instance session.host first fuel report reports.last.host _
-        (reports.run opens.starts.instance first opens.starts.stands))
+        Leaves (disk parts.volume.device) (disk left.device) (StandsInRun opens.starts.instance session.host first run.limits.fuel report counted.reports.last.host _
+        (counted.reports.run opens.starts.instance first opens.starts.stands))
 
   -- a valid module gets no session, or runs
-  abbrev pub Launches : Module → ℕ → HostParts D R W1 W2 → Executed D R W1 W2 → Type 0
-  Launches m fuel parts left = NotOpened m parts left ⊎ Ran m fuel parts left
+  abbrev pub Launches : Module → Run → HostParts D R W1 W2 → Executed D R W1 W2 → Type 0
+  Launches m run parts left = NotOpened m run parts left ⊎ Ran m run parts left
 
   -- what a stop after the volume was opened may leave: the tree of a host that the run comes by
-  abbrev pub LeftByRun : (m : Module) (fuel : ℕ) (parts : HostParts D R W1 W2) (left : Executed D R W1 W2) → Launches m fuel parts left → Image → Type 0
-  LeftByRun m fuel parts left (inl refused) image = ⊥
-  LeftByRun m fuel parts left (inr ran) image =
-      let first = first_configuration ran.opens.starts.entered ran.opens.starts.store in
-      StandsInRun ran.opens.starts.instance ran.session.host first fuel ran.report ran.reports.last.host _
-      (ran.reports.run ran.opens.starts.instance first ran.opens.starts.stands) image
+  abbrev pub LeftByRun : (m : Module) (run : Run) (parts : HostParts D R W1 W2) (left : Executed D R W1 W2) → Launches m run parts left → Image → Type 0
+  LeftByRun m run parts left (inl refused) image = ⊥
+  LeftByRun m run parts left (inr r) image =
+      let first = first_configuration r.opens.starts.entered r.opens.starts.store in
+      StandsInRun r.opens.starts.instance r.session.host first run.limits.fuel r.report r.counted.reports.last.host _
+      (r.counted.reports.run r.opens.starts.instance first r.opens.starts.stands) image

@@ -9,6 +9,8 @@ ghost use Rattle.sandbox_command.specs.Files.{IsAnswered, IsPerformed};
 
 use crate::opening::FRESH_SECTORS;
 use crate::program;
+use crate::reporting::not_run;
+use run_report::{Fault, Kept, Summary};
 use sandbox_device::{FileDevice, RamDevice};
 use sandbox_words::{Invocation, Run, invocation};
 use std::alloc::Global;
@@ -107,28 +109,83 @@ pub fn perform<R: Read + Drop, W1: Write + Drop, W2: Write + Drop>(
     }
 }
 
-/// Executes a run on the bytes of its files and on the file of its volume, or on one in memory.
+/// How a run ended: its status, what its report says, and where the program's own lines go.
+#[derive(Drop)]
+struct Ended<W> {
+    status: u8,
+    summary: Option<Summary>,
+    err: W,
+}
+
+/// Makes the file of a run's report, executes the run, and reports how it ended.
 fn perform_run<R: Read + Drop, W1: Write + Drop, W2: Write + Drop>(
     rt: &HostRuntime,
     invocation: &Invocation<'_>,
     run: &Run<'_>,
     input: R,
     out: W1,
-    mut err: W2,
+    err: W2,
 ) -> u8
     requires { invocation.now ≡ asked.Run run.now }
     ensures tells { IsPerformed R.remaining W1.contents W2.contents
         invocation.now input out err result }
     ensures within { result ≤ 124 }
 {
+    match made_report(rt, run) {
+        Ok(file) => told(file, run_on_files(rt, invocation, run, input, out, err)),
+        Err(error) => refuse(&error, err),
+    }
+}
+
+/// The file of a run's report, made or cut to nothing.
+fn made_report(rt: &HostRuntime, run: &Run<'_>) -> io::Result<Option<File>> {
+    match run.report {
+        Some(path) => Ok(Some(File::create(rt, path)?)),
+        None => Ok(None),
+    }
+}
+
+/// Prints the report of a run into its file, and gives the status: that of the run, or 124 where the report can't be
+/// written.
+fn told<W: Write + Drop>(file: Option<File>, ended: Ended<W>) -> u8
+    ensures { (result ≡ ended.status) ⊎ (result ≡ 124) }
+{
+    let Ended {
+        status,
+        summary,
+        mut err,
+    } = ended;
+    let (Some(mut file), Some(summary)) = (file, summary) else {
+        return status;
+    };
+    match run_report::print(&mut file, &summary) {
+        Ok(()) => status,
+        Err(_) => program::refuse_file(&mut err),
+    }
+}
+
+/// Executes a run on the bytes of its files and on the file of its volume, or on one in memory.
+fn run_on_files<R: Read + Drop, W1: Write + Drop, W2: Write + Drop>(
+    rt: &HostRuntime,
+    invocation: &Invocation<'_>,
+    run: &Run<'_>,
+    input: R,
+    out: W1,
+    err: W2,
+) -> Ended<W2>
+    requires { invocation.now ≡ asked.Run run.now }
+    ensures tells { IsPerformed R.remaining W1.contents W2.contents
+        invocation.now input out err result.status }
+    ensures within { result.status ≤ 124 }
+{
     let (module, random) = match read_files(rt, run) {
         Ok(bytes) => bytes,
-        Err(error) => return refuse(&error, err),
+        Err(error) => return refused(run, &error, err),
     };
     let (module, random) = (module.as_slice(), random.as_slice());
     let Some(file) = run.volume else {
         return match RamDevice::new(rt.alloc(), FRESH_SECTORS) {
-            Ok(device) => status_on(
+            Ok(device) => run_on(
                 rt.alloc(),
                 invocation,
                 module,
@@ -138,11 +195,11 @@ fn perform_run<R: Read + Drop, W1: Write + Drop, W2: Write + Drop>(
                 out,
                 err,
             ),
-            Err(_) => program::out_of_memory(&mut err),
+            Err(_) => out_of_memory(run, err),
         };
     };
     match FileDevice::open(rt.alloc(), rt, file) {
-        Ok(device) => status_on(
+        Ok(device) => run_on(
             rt.alloc(),
             invocation,
             module,
@@ -152,7 +209,60 @@ fn perform_run<R: Read + Drop, W1: Write + Drop, W2: Write + Drop>(
             out,
             err,
         ),
-        Err(error) => refuse(&error, err),
+        Err(error) => refused(run, &error, err),
+    }
+}
+
+/// Refuses a run for want of memory before it begins.
+fn out_of_memory<W: Write + Drop>(run: &Run<'_>, mut err: W) -> Ended<W>
+    ensures { result.status ≡ 122 }
+{
+    let status = program::out_of_memory(&mut err);
+    let summary = Some(not_run(run, Fault::Memory, Kept::None, status));
+    Ended {
+        status,
+        summary,
+        err,
+    }
+}
+
+/// Refuses a run one of whose files can't be read.
+fn refused<W: Write + Drop>(run: &Run<'_>, error: &io::Error, mut err: W) -> Ended<W>
+    ensures { (result.status ≡ 122) ⊎ (result.status ≡ 124) }
+{
+    if error.kind() == ErrorKind::OutOfMemory {
+        return out_of_memory(run, err);
+    }
+    let status = program::refuse_file(&mut err);
+    let summary = Some(not_run(run, Fault::File, Kept::None, status));
+    Ended {
+        status,
+        summary,
+        err,
+    }
+}
+
+/// Executes a run on a device, and gives how it ended.
+fn run_on<D: Device + Drop, R: Read + Drop, W1: Write + Drop, W2: Write + Drop>(
+    alloc: Global,
+    invocation: &Invocation<'_>,
+    module: &[u8],
+    random: &[u8],
+    device: D,
+    input: R,
+    out: W1,
+    err: W2,
+) -> Ended<W2>
+    ensures tells { (left : Executed D R W1 W2) × Executes D.honest D.disk D.size D.failures
+        R.remaining W1.contents W2.contents invocation.now «module».now random.now device input
+        out err left × (result.status ≡ left.status) × (result.summary ≡ left.summary) }
+    ensures within { result.status ≤ 124 }
+{
+    let left = program::execute(alloc, invocation, module, random, device, input, out, err);
+    Ended {
+        status: left.status,
+        summary: left.summary,
+        err: left.err,
     }
 }
 

@@ -1,6 +1,6 @@
 //! What the program does once the command line is read, and with which status it ends.
 
-ghost use Rattle.std.specs.Prelude.{◌≡◌, ◌⊎◌, ◌≤◌};
+ghost use Rattle.std.specs.Prelude.{◌≡◌, ◌⊎◌, ◌≤◌, Some, None};
 ghost use Rattle.std.specs.Io.KnownBytes.{Keeps};
 ghost use Rattle.std.specs.IoError.{error_kind};
 ghost use Rattle.clap.specs.Values.{kind_of};
@@ -8,17 +8,24 @@ ghost use Rattle.sandbox_command.specs.Status.{status_of, EndsWith, load_status,
 ghost use Rattle.sandbox_command.specs.Status.{volume_status, words_status, command_line_status};
 ghost use Rattle.sandbox_command.specs.Status.{task_status};
 ghost use Rattle.sandbox_command.specs.Streams.{AppendsSome, IsSilent};
+ghost use Rattle.sandbox_command.specs.Reporting.{kept_where_not_begun, not_run, run_summary, session_reason};
 ghost use Rattle.sandbox_command.specs.Running.{Launches, device_of};
 ghost use Rattle.sandbox_command.specs.internal.Supplies.{AreSupplies};
 ghost use Rattle.sandbox_command.specs.Execution.{NoVolume, OnVolume, Runs, Executes};
 
 use crate::failure::Failure;
+use crate::formatting::format_as;
 use crate::opening::open_for_run;
 use crate::output::tell;
+use crate::reporting::{
+    kept_after_run, kept_where_not_begun, kept_where_refused, not_run, session_reason,
+};
 use crate::supplies::{Supplies, settings, supplied};
-use crate::tasks::{format, perform};
+use crate::tasks::perform;
+use run_report::{Counted, End, Fault, Kept, Summary};
 use sandbox_core::{
-    HostParts, LoadFault, Outcome, RefusedSession, Report, Session, SessionFault, Valid,
+    HostParts, LoadFault, Outcome, RefusedSession, Report, Session, SessionFault, Tally, Valid,
+    run_counted,
 };
 use sandbox_words::{Invocation, Run};
 use std::alloc::Global;
@@ -48,6 +55,8 @@ const REFUSED: u8 = 125;
 #[derive(Drop)]
 pub struct Executed<D, R, W1, W2> {
     pub status: u8,
+    /// What the report of a run says; there is none of a task and of formatting.
+    pub summary: Option<Summary>,
     /// Whether no output that was flushed refused it. What isn't flushed refuses nothing.
     pub flushed: bool,
     pub device: D,
@@ -194,6 +203,7 @@ fn report<D: Device + Drop, R: Drop, W1: Write + Drop, W2: Write + Drop>(
     };
     Executed {
         status,
+        summary: None,
         flushed,
         device,
         input,
@@ -202,16 +212,98 @@ fn report<D: Device + Drop, R: Drop, W1: Write + Drop, W2: Write + Drop>(
     }
 }
 
+/// How many bytes a guest took and gave.
+#[derive(Clone, Copy)]
+struct Moved {
+    read: u64,
+    written: u64,
+    complained: u64,
+}
+
+/// A report without the counts of its streams, and these.
+fn uncounted<D: Device, R, W1, W2>(
+    report: Report<D, Counted<R>, Counted<W1>, Counted<W2>>,
+) -> (Report<D, R, W1, W2>, Moved)
+    ensures outcome { result.0.outcome ≡ report.outcome }
+    ensures used { (result.0.used ≡ report.used) × (result.0.pages ≡ report.pages) }
+    ensures volume { result.0.volume ≡ report.volume }
+    ensures input { (result.0.input ≡ report.input.stream) × (result.1.read ≡ report.input.count) }
+    ensures out { (result.0.out ≡ report.out.stream) × (result.1.written ≡ report.out.count) }
+    ensures err { (result.0.err ≡ report.err.stream) × (result.1.complained ≡ report.err.count) }
+{
+    let Report {
+        outcome,
+        used,
+        pages,
+        volume,
+        input,
+        out,
+        err,
+    } = report;
+    let moved = Moved {
+        read: input.count,
+        written: out.count,
+        complained: err.count,
+    };
+    let report = Report {
+        outcome,
+        used,
+        pages,
+        volume,
+        input: input.stream,
+        out: out.stream,
+        err: err.stream,
+    };
+    (report, moved)
+}
+
+/// Ends a run whose streams were counted, and says what its report is.
+fn reported<D: Device + Drop, R: Drop, W1: Write + Drop, W2: Write + Drop>(
+    run: &Run<'_>,
+    counted: Report<D, Counted<R>, Counted<W1>, Counted<W2>>,
+    tally: Tally,
+) -> Executed<D, R, W1, W2>
+    ensures ends { EndsWith counted.outcome counted.volume result.flushed result.status }
+    ensures summary { result.summary ≡ Some (run_summary run.now counted tally result.status result.flushed) }
+    ensures device { result.device ≡ device_of counted.volume }
+    ensures input { result.input ≡ counted.input.stream }
+    ensures out { Keeps (W1.contents counted.out.stream) (W1.contents result.out) }
+    ensures err { AppendsSome (W2.contents counted.err.stream) (W2.contents result.err) }
+{
+    let (plain, moved) = uncounted(counted);
+    let (outcome, units, pages) = (plain.outcome, plain.used, plain.pages);
+    let volume = kept_after_run(run.volume, &plain.volume);
+    let mut left = report(plain);
+    left.summary = Some(Summary {
+        end: End::Ran(outcome),
+        status: left.status,
+        units,
+        fuel: run.limits.fuel,
+        pages,
+        read: moved.read,
+        written: moved.written,
+        complained: moved.complained,
+        calls: tally.calls,
+        syncs: tally.syncs,
+        volume,
+        flushed: left.flushed,
+    });
+    left
+}
+
 /// Ends a run that could not begin: its fault's line and status. Gives the device of the volume and
 /// the streams back.
 fn not_begun<D: Device + Drop, R: Drop, W1: Drop, W2: Write + Drop>(
-    refused: RefusedSession<'_, '_, '_, D, R, W1, W2>,
+    run: &Run<'_>,
+    refused: RefusedSession<'_, '_, '_, D, Counted<R>, Counted<W1>, Counted<W2>>,
 ) -> Executed<D, R, W1, W2>
     ensures ends { result.status ≡ session_status refused.entry.fault }
+    ensures summary { result.summary ≡ Some (not_run run.now (session_reason refused.entry.fault)
+        (kept_where_not_begun run.now.volume refused.entry.fault) result.status) }
     ensures device { result.device ≡ refused.entry.parts.volume.device }
-    ensures input { result.input ≡ refused.entry.parts.input }
-    ensures out { result.out ≡ refused.entry.parts.out }
-    ensures err { AppendsSome (W2.contents refused.entry.parts.err) (W2.contents result.err) }
+    ensures input { result.input ≡ refused.entry.parts.input.stream }
+    ensures out { result.out ≡ refused.entry.parts.out.stream }
+    ensures err { AppendsSome (W2.contents refused.entry.parts.err.stream) (W2.contents result.err) }
 {
     let RefusedSession {
         valid,
@@ -223,15 +315,19 @@ fn not_begun<D: Device + Drop, R: Drop, W1: Drop, W2: Write + Drop>(
         volume,
         input,
         out,
-        mut err,
+        err,
         ..
     } = parts;
+    let mut err = err.stream;
+    let status = session_refused(&mut err, fault);
+    let kept = kept_where_not_begun(run.volume, fault);
     Executed {
-        status: session_refused(&mut err, fault),
+        status,
+        summary: Some(not_run(run, session_reason(fault), kept, status)),
         flushed: true,
         device: volume.into_device(),
-        input,
-        out,
+        input: input.stream,
+        out: out.stream,
         err,
     }
 }
@@ -239,12 +335,12 @@ fn not_begun<D: Device + Drop, R: Drop, W1: Drop, W2: Write + Drop>(
 /// Runs a valid module with these settings on an open volume, whose device it gives back.
 fn launch<D: Device + Drop, R: Read + Drop, W1: Write + Drop, W2: Write + Drop>(
     alloc: Global,
+    run: &Run<'_>,
     valid: Valid<'_>,
-    fuel: u64,
     parts: HostParts<'_, '_, D, R, W1, W2>,
 ) -> Executed<D, R, W1, W2>
     ensures { Launches D.honest D.disk D.size D.failures R.remaining W1.contents W2.contents
-        valid.entry fuel parts.entry result }
+        valid.entry run.now parts.entry result }
 {
     let HostParts {
         settings,
@@ -253,9 +349,15 @@ fn launch<D: Device + Drop, R: Read + Drop, W1: Write + Drop, W2: Write + Drop>(
         out,
         err,
     } = parts;
-    match Session::new(alloc, valid, settings, volume, input, out, err) {
-        Ok(session) => report(sandbox_core::run(session, fuel)),
-        Err(refused) => not_begun(refused),
+    let taken = Counted::new(input);
+    let given = Counted::new(out);
+    let complaints = Counted::new(err);
+    match Session::new(alloc, valid, settings, volume, taken, given, complaints) {
+        Ok(session) => {
+            let (counted, tally) = run_counted(session, run.limits.fuel);
+            reported(run, counted, tally)
+        }
+        Err(refused) => not_begun(run, refused),
     }
 }
 
@@ -281,8 +383,11 @@ fn run_valid<D: Device + Drop, R: Read + Drop, W1: Write + Drop, W2: Write + Dro
         Ok(volume) => volume,
         Err(Refused { device, fault }) => {
             drop(valid);
+            let status = volume_refused(&mut err, fault);
+            let kept = kept_where_refused(run.volume, fault);
             return Executed {
-                status: volume_refused(&mut err, fault),
+                status,
+                summary: Some(not_run(run, Fault::Volume(fault), kept, status)),
                 flushed: true,
                 device,
                 input,
@@ -298,7 +403,7 @@ fn run_valid<D: Device + Drop, R: Read + Drop, W1: Write + Drop, W2: Write + Dro
         out,
         err,
     };
-    launch(alloc, valid, run.limits.fuel, parts)
+    launch(alloc, run, valid, parts)
 }
 
 /// Runs a module on the volume of a device, with random bytes, and gives the device back.
@@ -315,19 +420,20 @@ fn run<D: Device + Drop, R: Read + Drop, W1: Write + Drop, W2: Write + Drop>(
     ensures { Runs D.honest D.disk D.size D.failures R.remaining W1.contents W2.contents
         run.now «module».now random.now device input out err result }
 {
-    let status = match supplied(alloc, run) {
+    let (status, fault) = match supplied(alloc, run) {
         Ok(supplies) => match sandbox_core::load(alloc, module) {
             Ok(valid) => {
                 return run_valid(
                     alloc, run, valid, &supplies, random, device, input, out, err,
                 );
             }
-            Err(fault) => load_refused(&mut err, fault),
+            Err(fault) => (load_refused(&mut err, fault), Fault::Module(fault)),
         },
-        Err(fault) => session_refused(&mut err, fault),
+        Err(fault) => (session_refused(&mut err, fault), session_reason(fault)),
     };
     Executed {
         status,
+        summary: Some(not_run(run, fault, Kept::None, status)),
         flushed: true,
         device,
         input,
@@ -346,6 +452,7 @@ fn task_ended<D: Drop, R: Drop, W1: Write + Drop, W2: Write + Drop>(
     mut err: W2,
 ) -> Executed<D, R, W1, W2>
     ensures status { result.status ≡ task_status done result.flushed }
+    ensures summary { result.summary ≡ None }
     ensures device { result.device ≡ device }
     ensures input { result.input ≡ input }
     ensures out { Keeps (W1.contents out) (W1.contents result.out) }
@@ -363,6 +470,7 @@ fn task_ended<D: Drop, R: Drop, W1: Write + Drop, W2: Write + Drop>(
     };
     Executed {
         status,
+        summary: None,
         flushed,
         device,
         input,
@@ -391,8 +499,13 @@ pub fn execute<D: Device + Drop, R: Read + Drop, W1: Write + Drop, W2: Write + D
 {
     match invocation {
         Invocation::Run(it) => run(alloc, it, module, random, device, input, out, err),
-        Invocation::Format { sectors, slots, .. } => {
-            let (done, device) = format(device, *sectors, *slots);
+        Invocation::Format {
+            sectors,
+            slots,
+            large,
+            ..
+        } => {
+            let (done, device) = format_as(alloc, device, *sectors, *slots, *large);
             task_ended(done, device, input, out, err)
         }
         Invocation::Volume { task, .. } => {

@@ -1,7 +1,7 @@
 //! What a guest is given by the words of its command line.
 
 ghost use Rattle.std.specs.Prelude.{◌≡◌, IfOk, IfErr, option_map};
-ghost use Rattle.sandbox_words.specs.Request.{texts, arguments_of};
+ghost use Rattle.sandbox_words.specs.Request.{argument_0, arguments_of, texts};
 ghost use Rattle.sandbox_command.specs.Supplies.{cut, names_of, directories_of};
 ghost use Rattle.sandbox_command.specs.Supplies.{AreDirectories, AreSettings, IsUncut};
 ghost use Rattle.sandbox_command.specs.internal.Supplies.{AreSupplies};
@@ -21,12 +21,22 @@ pub(crate) struct Supplies<'t> {
     preopens: Vec<Preopen<'t>>,
 }
 
-/// The guest's arguments: the module's word, and then the others.
+/// The guest's argument 0: its name, or without one the word that names the module.
+fn argument_0<'t>(run: &Run<'t>) -> &'t [u8]
+    ensures { result.now ≡ argument_0 run.now }
+{
+    match run.name {
+        Some(name) => name.as_bytes(),
+        None => run.module.as_bytes(),
+    }
+}
+
+/// The guest's arguments: its argument 0, and then the words after the module.
 fn arguments<'t>(alloc: Global, run: &Run<'t>) -> Result<Vec<&'t [u8]>, AllocError>
     ensures { IfOk result (λ args. texts args.items ≡ arguments_of run.now) }
 {
     let mut arguments = Vec::new(alloc);
-    arguments.push(run.module.as_bytes())?;
+    arguments.push(argument_0(run))?;
     for word in &run.words {
         arguments.push(word.as_bytes())?;
     }

@@ -1,9 +1,44 @@
 -- One resume more after others.
-use Rattle.std.proofs.Common.{ℕ, List, [], ◌∷◌, ◌++◌, Option, refl, subst}
+use Rattle.std.proofs.Common.{◌≡◌, ℕ, ◌+◌, ◌-◌, ◌^◌, min, Bool, true, false, if◌then◌else◌, List, [], ◌∷◌, ◌++◌, Option, refl, sym, ◌∙◌, ap, subst, zero-add, true≢false, arith}
+use Rattle.std.specs.List.{count_by}
+use Rattle.std.proofs.lemmas.List.Sums.{sum_by-append}
 use Rattle.vol_sector.specs.Disk.{Disk}
 use Rattle.wasm_steps.specs.declared.pause.Pause.{Pause}
-use Rattle.sandbox_core.specs.Session.{SessionState, Resumes, History, Follow}
+use Rattle.sandbox_core.specs.declared.tally.Tally.{Tally}
+use Rattle.sandbox_core.specs.Session.{SessionState, Resumes, History, Follow, is_called, is_synced}
+use Rattle.sandbox_core.specs.Tally.{Tallies}
 use Rattle.sandbox_core.specs.internal.Running.{Followed}
+use Rattle.sandbox_core.specs.internal.Tallying.{Adds}
+
+-- a count that stops at a greatest one
+stops : (n b most : ℕ) → min (min n most + b) most ≡ min (n + b) most
+stops n b most = omega arith
+
+one_more : {X : Type 0} (p : X → Bool) (xs : List X) (x : X) → count_by p (xs ++ x ∷ []) ≡ count_by p xs + (if p x then 1 else 0)
+one_more p xs x = sum_by-append (λ y. if p y then 1 else 0) xs (x ∷ []) ∙ ap (λ n. count_by p xs + n) (zero-add (if p x then 1 else 0))
+
+-- one pause more is tallied
+pub tallied_on : {S : Type 0} (rs : History S) (p : Pause) (u : S) (old new : Tally) → Tallies rs old → Adds p old new → Tallies (rs ++ (p, u) ∷ []) new
+tallied_on {S} rs p u old new tallies added = record {
+  calls = on (λ (r : Pause × S). is_called r.0) old.calls new.calls tallies.calls added.calls;
+  syncs = on (λ (r : Pause × S). is_synced r.0) old.syncs new.syncs tallies.syncs added.syncs;
+}
+  where
+    on : (is : Pause × S → Bool) (a b : ℕ) → a ≡ min (count_by is rs) (2 ^ 64 - 1) → b ≡ min (a + (if is (p, u) then 1 else 0)) (2 ^ 64 - 1) → b ≡ min (count_by is (rs ++ (p, u) ∷ [])) (2 ^ 64 - 1)
+    on is a b was more =
+        more ∙ ap (λ (n : ℕ). min (n + (if is (p, u) then 1 else 0)) (2 ^ 64 - 1)) was ∙ stops (count_by is rs) (if is (p, u) then 1 else 0) (2 ^ 64 - 1)
+        ∙ ap (λ (n : ℕ). min n (2 ^ 64 - 1)) (sym (one_more is rs (p, u)))
+
+-- a pause that is no call adds nothing
+pub adds_nothing : {S : Type 0} (rs : History S) (p : Pause) (tally : Tally) → Tallies rs tally → is_called p ≡ false → is_synced p ≡ false → Adds p tally tally
+adds_nothing {S} rs p tally tallies uncalled unsynced = record {
+  calls = same (count_by (λ (r : Pause × S). is_called r.0) rs) tally.calls (is_called p) tallies.calls uncalled;
+  syncs = same (count_by (λ (r : Pause × S). is_synced r.0) rs) tally.syncs (is_synced p) tallies.syncs unsynced;
+}
+  where
+    same : (n a : ℕ) (b : Bool) → a ≡ min n (2 ^ 64 - 1) → b ≡ false → a ≡ min (a + (if b then 1 else 0)) (2 ^ 64 - 1)
+    same n a true is isnt = absurd (true≢false isnt)
+    same n a false is isnt = omega (arith, is)
 
 module _ {D R W1 W2 : Type 0} (honest : D → Type 0) (disk : D → Disk) (sectors_on failures : D → ℕ)
     (remaining : R → Option (List ℕ)) (out_contents : W1 → Option (List ℕ)) (err_contents : W2 → Option (List ℕ)) where
@@ -18,6 +53,13 @@ module _ {D R W1 W2 : Type 0} (honest : D → Type 0) (disk : D → Disk) (secto
   follow_on [] s t u units p same more = ((units, subst (λ (x : S). Resumed x u units p) same more), refl)
   follow_on (r ∷ rs) s t u units p (first, rest) more = (first, follow_on rs r.1 t u units p rest more)
 
-  pub followed_on : (s t u : S) (units : ℕ) (p : Pause) → Followed honest disk sectors_on failures remaining out_contents err_contents s t → Resumed t u units p
-      → Followed honest disk sectors_on failures remaining out_contents err_contents s u
-  followed_on s t u units p (rs, follow) more = (rs ++ (p, u) ∷ [], follow_on rs s t u units p follow more)
+  -- a pause that adds what the tally has more
+  pub followed_on : (s t u : S) (units : ℕ) (p : Pause) (tally after : Tally) → Followed honest disk sectors_on failures remaining out_contents err_contents s t tally → Resumed t u units p
+      → Adds p tally after → Followed honest disk sectors_on failures remaining out_contents err_contents s u after
+  followed_on s t u units p tally after (rs, follow, tallies) more added = (rs ++ (p, u) ∷ [], follow_on rs s t u units p follow more, tallied_on rs p u tally after tallies added)
+
+  -- the last pause, which adds nothing
+  pub followed_to_end : (s t u : S) (units : ℕ) (p : Pause) (tally : Tally) → Followed honest disk sectors_on failures remaining out_contents err_contents s t tally → Resumed t u units p
+      → is_called p ≡ false → is_synced p ≡ false → Followed honest disk sectors_on failures remaining out_contents err_contents s u tally
+  followed_to_end s t u units p tally (rs, follow, tallies) more uncalled unsynced =
+      (rs ++ (p, u) ∷ [], follow_on rs s t u units p follow more, tallied_on rs p u tally tally tallies (adds_nothing rs p tally tallies uncalled unsynced))

@@ -2,6 +2,7 @@
 -- may leave turn by turn, and the headline over any list of resumes.
 pub mod Session
 pub mod Runs
+pub mod Tally
 pub mod Report
 pub mod Safety
 pub mod Headline

@@ -1,5 +1,5 @@
 -- What the report of a run says (`README.md`, "The program").
-use Rattle.std.specs.Prelude.{◌≡◌, ℕ, ◌≤◌, List, Option, None}
+use Rattle.std.specs.Prelude.{◌≡◌, ℕ, ◌≤◌, ◌/◌, List, length, Option, None}
 use Rattle.vol_sector.specs.Disk.{Disk, Leaves}
 use Rattle.vol_tree.specs.Tree.{Tree}
 use Rattle.vol_tree.specs.declared.superblock.Superblock.{Superblock}
@@ -7,12 +7,13 @@ use Rattle.wasm_steps.specs.Configuration.{Instance, Configuration}
 use Rattle.wasm_interp.specs.Machine.{Represents, outcome_of}
 use Rattle.wasm_interp.specs.Promise.{HasItsUnit}
 use Rattle.wasm_steps.specs.Steps.{CallsOf}
-use Rattle.wasm_steps.specs.declared.pause.Outcome.{Outcome}
 use Rattle.wasm_steps.specs.declared.pause.Pause.TheVariants.{Ended}
 use Rattle.wasi_calls.specs.Host.{HostState, HostCalls}
 use Rattle.sandbox_core.specs.declared.report.Report.{Report}
 use Rattle.sandbox_core.specs.Session.{SessionState, Commits, History, Follow, used_by}
 use Rattle.sandbox_core.specs.Runs.{RunsWithin, Passed}
+use Rattle.sandbox_core.specs.declared.tally.Tally.{Tally}
+use Rattle.sandbox_core.specs.Tally.{Tallies}
 
 module _ {D R W1 W2 : Type 0} (honest : D → Type 0) (disk : D → Disk) (sectors_on failures : D → ℕ)
     (remaining : R → Option (List ℕ)) (out_contents : W1 → Option (List ℕ)) (err_contents : W2 → Option (List ℕ)) where
@@ -35,6 +36,7 @@ module _ {D R W1 W2 : Type 0} (honest : D → Type 0) (disk : D → Disk) (secto
     pub last : SessionState D R W1 W2
     pub used : report.used ≡ used_by last
     pub within : report.used ≤ fuel
+    pub pages : report.pages ≡ length last.machine.memory / 65536
     -- the resumes that it was made of, one after another
     pub resumes : History (SessionState D R W1 W2)
     pub follow : Follow honest disk sectors_on failures remaining out_contents err_contents session resumes last
@@ -52,3 +54,8 @@ module _ {D R W1 W2 : Type 0} (honest : D → Type 0) (disk : D → Disk) (secto
     pub input : report.input ≡ last.host.input.reader
     pub out : report.out ≡ last.host.out.writer
     pub err : report.err ≡ last.host.err.writer
+
+  -- such a report, and the tally of the resumes that the run was made of
+  pub record ReportsCounted (session : SessionState D R W1 W2) (fuel : ℕ) (report : Report D R W1 W2) (tally : Tally) : Type 0 where
+    pub reports : Reports session fuel report
+    pub tallies : Tallies reports.resumes tally

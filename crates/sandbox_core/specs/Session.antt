@@ -111,6 +111,12 @@ History S = List (Pause × S)
 abbrev pub pauses_of : {S : Type 0} → History S → List Pause
 pauses_of rs = map (λ r. r.0) rs
 
+-- a call that was answered
+abbrev pub is_called : Pause → Bool
+is_called (Called c e) = true
+is_called Spent = false
+is_called (Ended o) = false
+
 -- a sync that was answered with success
 abbrev pub is_synced : Pause → Bool
 is_synced (Called c e) = is_sync c && (e.0 == 0)

@@ -6,11 +6,13 @@ pub mod laws;
 mod loading;
 mod report;
 mod session;
+mod tally;
 
 pub use fault::SessionFault;
 pub use loading::load;
-pub use report::{Report, run};
+pub use report::{Report, run, run_counted};
 pub use session::{Finished, RefusedSession, Session};
+pub use tally::Tally;
 pub use vol_sector::Refused;
 pub use vol_tree::Volume;
 pub use wasi_calls::{HostParts, Preopen, Settings};

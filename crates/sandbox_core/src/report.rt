@@ -2,10 +2,11 @@
 
 ghost use Rattle.std.specs.Prelude.{◌≡◌, ◌≤◌};
 ghost use Rattle.sandbox_core.specs.Session.{used_by};
-ghost use Rattle.sandbox_core.specs.Report.{Reports};
+ghost use Rattle.sandbox_core.specs.Report.{Reports, ReportsCounted};
 ghost use Rattle.sandbox_core.specs.internal.Running.{RunsTo};
 
 use crate::session::{Finished, Session};
+use crate::tally::Tally;
 use std::io::{Read, Write};
 use vol_sector::{Device, Refused};
 use vol_tree::Volume;
@@ -17,6 +18,8 @@ use wasm_interp::{Outcome, Pause};
 pub struct Report<D: Device, R, W1, W2> {
     pub outcome: Outcome,
     pub used: u64,
+    /// The pages that its memory had at the end, which are the most that it had: a memory never shrinks.
+    pub pages: u32,
     pub volume: Result<Volume<D>, Refused<D>>,
     pub input: R,
     pub out: W1,
@@ -26,7 +29,7 @@ pub struct Report<D: Device, R, W1, W2> {
 /// Runs a session that has used nothing with this many units of fuel: until it ends, or the fuel is used and the next step
 /// takes a unit. Then it commits all calls, whatever the outcome.
 pub fn run<D, R, W1, W2>(
-    mut session: Session<'_, '_, '_, D, R, W1, W2>,
+    session: Session<'_, '_, '_, D, R, W1, W2>,
     fuel: u64,
 ) -> Report<D, R, W1, W2>
 where
@@ -37,26 +40,49 @@ where
     requires { used_by session ≡ 0 }
     ensures { Reports D.honest D.disk D.size D.failures R.remaining W1.contents W2.contents session.entry fuel result }
 {
-    let outcome = run_out(&mut session, fuel);
+    let (report, _) = run_counted(session, fuel);
+    report
+}
+
+/// The same, and how many host calls were answered.
+pub fn run_counted<D, R, W1, W2>(
+    mut session: Session<'_, '_, '_, D, R, W1, W2>,
+    fuel: u64,
+) -> (Report<D, R, W1, W2>, Tally)
+where
+    D: Device + Drop,
+    R: Read + Drop,
+    W1: Write + Drop,
+    W2: Write + Drop,
+    requires { used_by session ≡ 0 }
+    ensures { ReportsCounted D.honest D.disk D.size D.failures R.remaining W1.contents W2.contents session.entry fuel result.0 result.1 }
+{
+    let (outcome, tally) = run_out(&mut session, fuel);
     let used = session.used();
+    let pages = session.pages();
     let Finished {
         volume,
         input,
         out,
         err,
     } = session.finish();
-    Report {
+    let report = Report {
         outcome,
         used,
+        pages,
         volume,
         input,
         out,
         err,
-    }
+    };
+    (report, tally)
 }
 
 /// Resumes a session until it ends, or the fuel is used and the next step takes a unit.
-fn run_out<D, R, W1, W2>(session: &mut Session<'_, '_, '_, D, R, W1, W2>, fuel: u64) -> Outcome
+fn run_out<D, R, W1, W2>(
+    session: &mut Session<'_, '_, '_, D, R, W1, W2>,
+    fuel: u64,
+) -> (Outcome, Tally)
 where
     D: Device + Drop,
     R: Read + Drop,
@@ -64,13 +90,17 @@ where
     W2: Write + Drop,
     requires { used_by session.old ≤ fuel }
     ensures within { used_by session.new ≤ fuel }
-    ensures run { RunsTo D.honest D.disk D.size D.failures R.remaining W1.contents W2.contents session.old fuel session.new result }
+    ensures run { RunsTo D.honest D.disk D.size D.failures R.remaining W1.contents W2.contents session.old fuel session.new result.0 result.1 }
 {
+    let mut tally = Tally { calls: 0, syncs: 0 };
     'running: loop {
         match session.resume(fuel - session.used()) {
-            Pause::Called(_, _) => continue 'running,
-            Pause::Spent => return Outcome::OutOfFuel,
-            Pause::Ended(outcome) => return outcome,
+            Pause::Called(call, errno) => {
+                tally = tally.with(call, errno);
+                continue 'running;
+            }
+            Pause::Spent => return (Outcome::OutOfFuel, tally),
+            Pause::Ended(outcome) => return (outcome, tally),
         }
     }
 }

@@ -11,7 +11,7 @@ use Rattle.clap.specs.declared.builder.command.Command.{Command}
 use Rattle.clap.specs.declared.builder.command.Command.TheViews.{out-Command as fields_of}
 use Rattle.clap.proofs.OnLiterals.{clap_on_literals}
 use Rattle.sandbox_words.specs.Request.{Text}
-use Rattle.sandbox_words.specs.CommandLine.{is_numeral, limited_app, number_of, program, run_app, supplied_app}
+use Rattle.sandbox_words.specs.CommandLine.{is_numeral, limited_app, named_app, number_of, program, run_app, supplied_app}
 
 -- ---- numbers
 
@@ -108,11 +108,11 @@ with_command_has old sub (Err e) app leaf added stood made = tt
 
 -- the program's command is one of which clap's model says all
 pub program_is_simple : is_simple program ≡ true
-unfolding program run_app supplied_app limited_app clap_on_literals
+unfolding program run_app named_app supplied_app limited_app clap_on_literals
 program_is_simple = refl
 
 pub program_is_free : is_simple_and_free program ≡ true
-unfolding program run_app supplied_app limited_app clap_on_literals
+unfolding program run_app named_app supplied_app limited_app clap_on_literals
 program_is_free = refl
 
 pub subcommand_is_required : program.top.subcommand_required ≡ true

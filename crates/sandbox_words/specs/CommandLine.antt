@@ -1,12 +1,12 @@
 -- The command line: the command that clap is told of, and what its matches ask for. The words are those of clap's own
 -- model: an `App` is a command with its subcommands, a `Rule` an argument, and a `Row` what was found for one
 -- (`README.md`, "The program").
-use Rattle.std.specs.Prelude.{◌≡◌, ◌≢◌, ◌&&◌, ◌^◌, ℕ, Bool, true, List, [], ◌∷◌, length, pos, Option, Some, None, unwrap_or, option_and_then, option_map, if◌then◌else◌, nat_lt, codes}
+use Rattle.std.specs.Prelude.{◌≡◌, ◌≢◌, ◌↔◌, IsTrue, ◌&&◌, ◌^◌, ℕ, Bool, true, List, [], ◌∷◌, length, pos, Option, Some, None, unwrap_or, option_and_then, option_map, if◌then◌else◌, nat_lt, codes}
 use Rattle.std.specs.Borrow.{Bor}
 use Rattle.std.specs.List.{Contains, list_all}
 use Rattle.std.specs.Char.{digit_value}
 use Rattle.std.specs.Str.Parse.{digits_value, without_leading_plus}
-use Rattle.clap.specs.declared.builder.action.ArgAction.TheVariants.{Set, Append}
+use Rattle.clap.specs.declared.builder.action.ArgAction.TheVariants.{Set, Append, SetTrue}
 use Rattle.clap.specs.declared.builder.value_parser.ValueParser.{ValueParser}
 use Rattle.clap.specs.declared.builder.value_parser.ValueParser.TheVariants.{Signed, Unsigned}
 use Rattle.clap.specs.Lexer.{usize_max}
@@ -45,6 +45,10 @@ text_rule name = record (new_rule name) { long = Some name; action = Some Set; v
 abbrev pub texts_rule : Text → Rule
 texts_rule name = record (new_rule name) { long = Some name; action = Some Append; value_names = 1 }
 
+-- `--name` alone
+abbrev pub flag_rule : Text → Rule
+flag_rule name = record (new_rule name) { long = Some name; action = Some SetTrue }
+
 -- a word that has to be there
 abbrev pub word_rule : Text → Rule
 word_rule name = record (new_rule name) { action = Some Set; required = true }
@@ -72,9 +76,13 @@ supplied_app =
     with_rule (with_rule (with_rule (with_rule limited_app (texts_rule (codes "dir"))) (texts_rule (codes "env")))
     (number_rule (codes "moment") u64_numbers)) (text_rule (codes "random"))
 
+-- and with what it is called, and where it is reported
+unfoldable pub named_app : App
+named_app = with_rule (with_rule supplied_app (text_rule (codes "name"))) (text_rule (codes "report"))
+
 -- and with its words
 unfoldable pub run_app : App
-run_app = with_rule (with_rule supplied_app (word_rule (codes "MODULE"))) words_rule
+run_app = with_rule (with_rule named_app (word_rule (codes "MODULE"))) words_rule
 
 -- a command on the volume in a file
 abbrev pub file_app : Text → App
@@ -85,7 +93,9 @@ abbrev pub path_app : Text → App
 path_app name = with_rule (file_app name) (word_rule (codes "PATH"))
 
 abbrev pub format_app : App
-format_app = with_rule (with_rule (file_app (codes "format")) (number_word_rule (codes "SECTORS"))) (number_word_rule (codes "SLOTS"))
+format_app =
+    with_rule (with_rule (with_rule (file_app (codes "format")) (number_word_rule (codes "SECTORS")))
+    (number_word_rule (codes "SLOTS"))) (flag_rule (codes "large"))
 
 -- `faults`, which has no word, and without one prints its help
 abbrev pub faults_app : App
@@ -119,6 +129,10 @@ number_or default bits id rows = unwrap_or (option_and_then (number_of bits) (on
 abbrev pub word_of : Text → List Row → Text
 word_of id rows = unwrap_or (first_of id rows) []
 
+-- a flag is there
+abbrev pub IsFlagged : Text → List Row → Type 0
+IsFlagged id rows = word_of id rows ≡ codes "true"
+
 -- all texts of an argument, in order
 abbrev pub texts_of : Text → List Row → List Text
 texts_of id rows = unwrap_or (all_of id rows) []
@@ -136,6 +150,8 @@ pub record AsksRun (rows : List Row) (run : Run) : Type 0 where
   pub env : texts run.env.items ≡ texts_of (codes "env") rows
   pub moment : run.moment ≡ number_or 0 64 (codes "moment") rows
   pub random : text_in run.random ≡ first_of (codes "random") rows
+  pub name : text_in run.name ≡ first_of (codes "name") rows
+  pub report : text_in run.report ≡ first_of (codes "report") rows
   pub module_word : run.module.now ≡ word_of (codes "MODULE") rows
   pub words : texts run.words.items ≡ texts_of (codes "WORD") rows
 
@@ -154,6 +170,7 @@ task_names = codes "ls" ∷ codes "get" ∷ codes "put" ∷ codes "check" ∷ co
 -- What the command of this name is asked for by what was found for its arguments. It is `run` where it is no other.
 abbrev pub AsksFor : Text → List Row → Invocation → Type 0
 AsksFor name rows (asked.Run run) = (name ≢ codes "format") × (Contains task_names name → ⊥) × AsksRun rows run
-AsksFor name rows (asked.Format file sectors slots) = (name ≡ codes "format") × (file.now ≡ word_of (codes "FILE") rows)
+AsksFor name rows (asked.Format file sectors slots large) = (name ≡ codes "format") × (file.now ≡ word_of (codes "FILE") rows)
     × (sectors ≡ number_or 0 32 (codes "SECTORS") rows) × (slots ≡ number_or 0 32 (codes "SLOTS") rows)
+    × (IsTrue large ↔ IsFlagged (codes "large") rows)
 AsksFor name rows (asked.Volume file task) = (file.now ≡ word_of (codes "FILE") rows) × AsksTask name rows task

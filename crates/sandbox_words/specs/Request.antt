@@ -1,5 +1,6 @@
 -- What a command line asks for (`README.md`, "The program").
 use Rattle.std.specs.Prelude.{ℕ, List, ◌∷◌, map}
+use Rattle.std.specs.Option.{option_map_or}
 use Rattle.std.specs.Borrow.{Bor}
 use Rattle.sandbox_words.specs.declared.request.Run.{Run}
 
@@ -10,6 +11,10 @@ Text = List ℕ
 abbrev pub texts : List (Bor Text) → List Text
 texts = map (λ t. t.now)
 
--- the guest's arguments: the word that names the module, and the words after it
+-- the guest's argument 0: its name, or without one the word that names the module
+abbrev pub argument_0 : Run → Text
+argument_0 run = option_map_or (λ name. name.now) run.name run.module.now
+
+-- the guest's arguments: its argument 0, and the words after the module
 abbrev pub arguments_of : Run → List Text
-arguments_of run = run.module.now ∷ texts run.words.items
+arguments_of run = argument_0 run ∷ texts run.words.items

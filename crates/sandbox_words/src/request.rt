@@ -24,7 +24,11 @@ pub struct Run<'a> {
     pub moment: u64,
     /// The file of its random bytes; where there is none, it gets none.
     pub random: Option<&'a str>,
-    /// The module's file, which is also the guest's argument 0.
+    /// The guest's argument 0; where there is none, it gets the word that names the module.
+    pub name: Option<&'a str>,
+    /// The file of its report, which says how it ended and what it used.
+    pub report: Option<&'a str>,
+    /// The module's file.
     pub module: &'a str,
     /// The guest's further arguments.
     pub words: Vec<&'a str>,
@@ -50,11 +54,13 @@ pub enum Task<'a> {
 pub enum Invocation<'a> {
     /// Run a module.
     Run(Run<'a>),
-    /// Make a file an empty volume with these numbers of sectors and of slots for entries.
+    /// Make a file an empty volume with these numbers of sectors and of slots for entries, of
+    /// version 2 where it is to be large, else of version 1.
     Format {
         file: &'a str,
         sectors: u32,
         slots: u32,
+        large: bool,
     },
     /// Do this with the volume in a file.
     Volume {

@@ -2,15 +2,15 @@
 
 ghost use Rattle.std.specs.Option.{MatchOption};
 ghost use Rattle.std.specs.List.{Contains};
-ghost use Rattle.std.specs.Prelude.{◌≡◌, IfOk, IsOkAnd, IsSomeAnd, Some, None, false, map, string_bytes, option_and_then};
+ghost use Rattle.std.specs.Prelude.{◌≡◌, ◌↔◌, IfOk, IsTrue, IsOkAnd, IsSomeAnd, Some, None, false, map, string_bytes, option_and_then};
 ghost use Rattle.clap.specs.Words.{AddsArg, AddsSubcommand, FailsBy, app_of, fault_of, first_of, found_of, one_of, rows_of, rule_of, subcommand_of};
 ghost use Rattle.clap.specs.declared.builder.command.Command.TheViews.{out-Command as fields_of};
 ghost use Rattle.sandbox_words.specs.Request.{texts};
 ghost use Rattle.sandbox_words.specs.CommandLine.{AsksFor, AsksRun, AsksTask, number_of, number_rule, number_word_rule};
-ghost use Rattle.sandbox_words.specs.CommandLine.{task_names, text_rule, texts_rule, word_rule, words_rule};
-ghost use Rattle.sandbox_words.specs.CommandLine.{text_in, texts_of, word_of};
+ghost use Rattle.sandbox_words.specs.CommandLine.{flag_rule, task_names, text_rule, texts_rule, word_rule, words_rule};
+ghost use Rattle.sandbox_words.specs.CommandLine.{IsFlagged, text_in, texts_of, word_of};
 ghost use Rattle.sandbox_words.specs.CommandLine.{file_app, path_app, format_app, faults_app, program};
-ghost use Rattle.sandbox_words.specs.CommandLine.{limited_app, run_app, supplied_app};
+ghost use Rattle.sandbox_words.specs.CommandLine.{limited_app, named_app, run_app, supplied_app};
 
 use crate::faults::MEANINGS;
 use crate::request::{Invocation, Limits, Run, Task};
@@ -19,7 +19,7 @@ use clap::{Arg, ArgAction, ArgMatches, Command, Error};
 use std::alloc::{AllocError, Global};
 
 /// What `--version` prints after the program's name.
-const VERSION: &str = "0.2.0";
+const VERSION: &str = "0.3.0";
 
 /// What help ends with.
 const STATUSES: &str = "\
@@ -35,6 +35,7 @@ Statuses:
 Examples:
   sandbox run --fuel 5000000 --pages 16 hello.wasm first second -- --third
   sandbox run --volume disk.img --dir /=/home --env LANG=C edit.wasm notes.txt
+  sandbox run --report end.txt --fuel 5000000 hello.wasm < input > output
   sandbox format disk.img 2048 64
   sandbox put disk.img /notes.txt < notes.txt";
 
@@ -88,6 +89,16 @@ fn texts_option<'a>(alloc: Global, name: &'a str, value: &'a str, help: &'a str)
         .long(name)
         .value_name(value)
         .action(ArgAction::Append)
+        .help(help)
+}
+
+/// A flag.
+fn flag_option<'a>(alloc: Global, name: &'a str, help: &'a str) -> Arg<'a>
+    ensures { (rule_of result ≡ flag_rule name.entry.now) × (result.global ≡ false) }
+{
+    Arg::new(alloc, name)
+        .long(name)
+        .action(ArgAction::SetTrue)
         .help(help)
 }
 
@@ -193,12 +204,31 @@ fn supplied_command<'a>(alloc: Global) -> Result<Command<'a>, AllocError>
     with_argument(with_argument(command, moment), random)
 }
 
+/// `run`, also with the options of what it is called and where it is reported.
+fn named_command<'a>(alloc: Global) -> Result<Command<'a>, AllocError>
+    ensures { IfOk result (λ c. (app_of c ≡ named_app) × ((fields_of c).has_globals ≡ false)) }
+{
+    let name = text_option(
+        alloc,
+        "name",
+        "WORD",
+        "Its argument 0 [default: the word MODULE]",
+    );
+    let report = text_option(
+        alloc,
+        "report",
+        "FILE",
+        "The file to be made with what it used and how it ended, a line key:value each",
+    );
+    with_argument(with_argument(supplied_command(alloc), name), report)
+}
+
 /// `run`, with its arguments.
 fn run_command<'a>(alloc: Global) -> Result<Command<'a>, AllocError>
     ensures { IfOk result (λ c. (app_of c ≡ run_app) × ((fields_of c).has_globals ≡ false)) }
 {
-    let module = "The module's file; the guest gets this word as argument 0";
-    let command = with_argument(supplied_command(alloc), word(alloc, "MODULE", module));
+    let module = "The module's file; the guest gets this word as argument 0, without --name";
+    let command = with_argument(named_command(alloc), word(alloc, "MODULE", module));
     with_argument(command, further_words(alloc))
 }
 
@@ -229,6 +259,11 @@ fn format_command<'a>(alloc: Global) -> Result<Command<'a>, AllocError>
             alloc,
             "SLOTS",
             "Slots for entries, 1 to 8192 and fewer than SECTORS - 122",
+        ))?
+        .arg(flag_option(
+            alloc,
+            "large",
+            "Make it one of version 2, whose files have up to 8483840 bytes instead of 95232",
         ))
 }
 
@@ -316,6 +351,13 @@ fn option_text<'a>(matches: &ArgMatches<'a>, id: &str) -> Option<&'a str>
     matches.get_str(id)
 }
 
+/// Whether a flag is there.
+fn is_flagged(matches: &ArgMatches<'_>, id: &str) -> bool
+    ensures { IsTrue result ↔ IsFlagged id.now (rows_of (found_of matches.now)) }
+{
+    text(matches, id) == "true"
+}
+
 /// The number of an argument.
 fn number(matches: &ArgMatches<'_>, id: &str) -> Option<u32>
     ensures { result ≡ option_and_then (number_of 32) (one_of id.now (rows_of (found_of matches.now))) }
@@ -344,6 +386,8 @@ fn run_given<'a>(alloc: Global, matches: &ArgMatches<'a>) -> Result<Run<'a>, All
         env: texts(alloc, matches, "env")?,
         moment: long_number(matches, "moment").unwrap_or(0),
         random: option_text(matches, "random"),
+        name: option_text(matches, "name"),
+        report: option_text(matches, "report"),
         module: text(matches, "MODULE"),
         words: texts(alloc, matches, "WORD")?,
     })
@@ -379,6 +423,7 @@ fn asked<'a>(
             file,
             sectors: number(matches, "SECTORS").unwrap_or(0),
             slots: number(matches, "SLOTS").unwrap_or(0),
+            large: is_flagged(matches, "large"),
         });
     }
     match task_given(name, matches) {

@@ -10,6 +10,8 @@ use Rattle.wasi_calls.specs.Host.{HostState}
 use Rattle.sandbox_core.specs.Session.{SessionState, History, Follow, used_by}
 use Rattle.sandbox_core.specs.Runs.{RunsWithin, Passed}
 use Rattle.sandbox_core.specs.Report.{Calls, disk_of, numbers_of, tree_of}
+use Rattle.sandbox_core.specs.declared.tally.Tally.{Tally}
+use Rattle.sandbox_core.specs.Tally.{Tallies}
 
 -- the machine stands for some configuration
 pub record HasConfiguration (machine : Snapshot) : Type 0 where
@@ -19,17 +21,18 @@ pub record HasConfiguration (machine : Snapshot) : Type 0 where
 
 module _ {D R W1 W2 : Type 0} (honest : D → Type 0) (disk : D → Disk) (sectors_on failures : D → ℕ)
     (remaining : R → Option (List ℕ)) (out_contents : W1 → Option (List ℕ)) (err_contents : W2 → Option (List ℕ)) where
-  -- some resumes, one after another
-  abbrev pub Followed : SessionState D R W1 W2 → SessionState D R W1 W2 → Type 0
-  Followed old new = (resumes : History (SessionState D R W1 W2)) × Follow honest disk sectors_on failures remaining out_contents err_contents old resumes new
+  -- some resumes, one after another, and their tally
+  abbrev pub Followed : SessionState D R W1 W2 → SessionState D R W1 W2 → Tally → Type 0
+  Followed old new tally = (resumes : History (SessionState D R W1 W2)) × Follow honest disk sectors_on failures remaining out_contents err_contents old resumes new
+      × Tallies resumes tally
 
   -- A run from a configuration with these units of fuel, which ends so. Each image that a crash may leave since it began
   -- could be left before, or stands for a tree that one could leave then, or for that of a host that the run comes by.
-  pub record RunsTo (old : SessionState D R W1 W2) (fuel : ℕ) (new : SessionState D R W1 W2) (outcome : Outcome) : Type 0 where
+  pub record RunsTo (old : SessionState D R W1 W2) (fuel : ℕ) (new : SessionState D R W1 W2) (outcome : Outcome) (tally : Tally) : Type 0 where
     pub numbers : new.host.volume.numbers ≡ old.host.volume.numbers
     pub size : sectors_on new.host.volume.device ≡ sectors_on old.host.volume.device
     pub honest_after : honest old.host.volume.device → honest new.host.volume.device
-    pub followed : Followed old new
+    pub followed : Followed old new tally
     pub run : (i : Instance) (c : Configuration) → Represents old.machine i c
         → RunsWithin (HostState D R W1 W2) (Calls honest disk sectors_on failures remaining out_contents err_contents) i old.host c fuel new.host outcome (used_by new)
     pub unit : outcome_of old.machine ≡ None → (i : Instance) (c : Configuration) (stands : Represents old.machine i c) → HasItsUnit (Ended outcome) fuel (run i c stands).last

@@ -1,4 +1,4 @@
-use Rattle.std.proofs.Common.{◌≡◌, ◌≤◌, Result, Ok, IfOk, inr, sym, ◌∙◌, subst, min, vec_len}
+use Rattle.std.proofs.Common.{◌≡◌, ◌≤◌, Result, Ok, IfOk, inr, sym, ◌∙◌, subst, length, min}
 use Rattle.sandbox_device.specs.declared.file_device.FileDevice.{FileDevice}
 use Rattle.sandbox_words.specs.declared.request.Invocation.{Invocation}
 use Rattle.sandbox_command.specs.Files.{IsNewInFile, NamesNoVolume}
@@ -25,7 +25,7 @@ returns-in-Ok-clause-tells g c =
         new = elim c.match-invocation.branch [
           | in-Format w ↦ subst (λ (i : Invocation). IsNewInFile i device) (sym w.in-Format.is) (
             of_ok w.make-opened.result device (λ d. d.failures ≡ 0) (sym w.opened-is ∙ c.in-Ok.is) w.make-opened.ensures.unused,
-            of_ok w.make-opened.result device (λ d. min w.in-Format.sectors 65536 ≤ vec_len d.sectors) (sym w.opened-is ∙ c.in-Ok.is) w.make-opened.ensures.enough,
+            of_ok w.make-opened.result device (λ d. min w.in-Format.sectors 65536 ≤ length d.sectors) (sym w.opened-is ∙ c.in-Ok.is) w.make-opened.ensures.enough,
           )
           | in-Volume w ↦ subst (λ (i : Invocation). IsNewInFile i device) (sym w.in-Volume.is)
               (of_ok w.open-opened.result device (λ d. d.failures ≡ 0) (sym w.opened-is ∙ c.in-Ok.is) w.open-opened.ensures.unused)

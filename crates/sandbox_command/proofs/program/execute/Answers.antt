@@ -23,4 +23,4 @@ returns-in-Volume-clause-tells g c =
     let at_input = subst (λ (r : g.row.R.Denot). Performs honest disk size failures task c.args.device (remaining c.args.input) (remaining r) (outs c.args.out) (outs left.out) c.perform-done.result.1 done) (sym ended.input) flushed in
     let performs = subst (λ (d : g.row.D.Denot). Performs honest disk size failures task c.args.device (remaining c.args.input) (remaining left.input) (outs c.args.out) (outs left.out) d done) (sym ended.device) at_input in
     subst (λ (i : Invocation). Executes honest disk size failures remaining outs g.W2.Write.contents i c.args.module.now c.args.random.now c.args.device c.args.input c.args.out c.args.err left) (sym c.in-Volume.is)
-    (done, performs, ended.status, ended.err)
+    (done, performs, ended.status, ended.summary, ended.err)

@@ -1,12 +1,16 @@
-use Rattle.std.proofs.Common.{inl, inr, sym, ◌∙◌, subst}
+use Rattle.std.proofs.Common.{inl, inr, sym, ◌∙◌, ap, subst}
 use Rattle.std.specs.Io.KnownBytes.{Keeps}
 use Rattle.std.proofs.KnownBytes.{Keeps-refl}
 use Rattle.vol_sector.specs.Disk.{Leaves}
 use Rattle.wasm_steps.specs.Configuration.{first_configuration}
+use Rattle.wasi_calls.specs.declared.wasi_host.HostParts.{HostParts}
+use Rattle.sandbox_core.specs.Session.{IsRefused, Opens, Shares}
 use Rattle.sandbox_core.proofs.Headline.{reach_moves}
+use Rattle.run_report.specs.declared.counted.Counted.{Counted}
+use Rattle.sandbox_command.specs.Reporting.{counted_bytes}
 use Rattle.sandbox_command.specs.Running.{Host, HostCalls, StandsInRun}
 use Rattle.sandbox_command.specs.Streams.{AppendsSome}
-use Rattle.sandbox_command.proofs.Began.{began, device_back}
+use Rattle.sandbox_command.proofs.Began.{began, counting_from, device_back}
 use Rattle.sandbox_command.proofs.program.launch.Goals as goal
 
 -- the session ran
@@ -16,51 +20,63 @@ returns-in-Ok g c =
     let disk = g.D.Device.disk in
     let size = g.D.Device.size in
     let failures = g.D.Device.failures in
-    let remaining = g.R.Read.remaining in
-    let outs = g.W1.Write.contents in
-    let errs = g.W2.Write.contents in
+    let remaining = counted_bytes g.R.Read.remaining in
+    let outs = counted_bytes g.W1.Write.contents in
+    let errs = counted_bytes g.W2.Write.contents in
     let parts = c.args.parts in
     let s = c.in-Ok.session in
-    let made = c.in-Ok.ensures in
-    let i = made.opens.starts.instance in
-    let first = first_configuration made.opens.starts.entered made.opens.starts.store in
-    let reports = c.run.ensures in
+    let same = counting_from parts c.new-taken.result c.new-given.result c.new-complaints.result c.new-taken.ensures c.new-given.ensures c.new-complaints.ensures in
+    let opens = subst (λ (p : HostParts g.row.D.Denot (Counted g.row.R.Denot) (Counted g.row.W1.Denot) (Counted g.row.W2.Denot)). Opens c.args.valid p s) same c.in-Ok.ensures.opens in
+    let shares = subst (λ (p : HostParts g.row.D.Denot (Counted g.row.R.Denot) (Counted g.row.W1.Denot) (Counted g.row.W2.Denot)). Shares honest disk size failures p s) same c.in-Ok.ensures.shares in
+    let i = opens.starts.instance in
+    let first = first_configuration opens.starts.entered opens.starts.store in
+    let counted = c.run_counted-counted.ensures in
+    let reports = counted.reports in
     let last = reports.last.host in
-    let run = reports.run i first made.opens.starts.stands in
-    let back = c.report.ensures.device ∙ device_back honest disk size failures reports.volume.new c.run.result.volume reports.volume.handed_back in
+    let run = reports.run i first opens.starts.stands in
+    let ended = c.reported.ensures in
+    let back = ended.device ∙ device_back honest disk size failures reports.volume.new c.run_counted-counted.result.0.volume reports.volume.handed_back in
     inr (record {
       session = s;
-      opens = made.opens;
-      shares = made.shares;
-      report = c.run.result;
-      reports = reports;
-      ends = c.report.ensures.ends;
-      device = c.report.ensures.device;
-      input = c.report.ensures.input ∙ reports.input;
-      out = subst (λ (w : g.row.W1.Denot). Keeps (outs w) (outs c.report.result.out)) reports.out c.report.ensures.out;
-      err = subst (λ (w : g.row.W2.Denot). AppendsSome (errs w) (errs c.report.result.err)) reports.err c.report.ensures.err;
-      over_paths = λ is. reach_moves honest disk size failures remaining outs errs i s.host last first run.last run.answers run.reach (made.shares.reads.kept.honest.0 is);
+      opens = opens;
+      shares = shares;
+      report = c.run_counted-counted.result.0;
+      tally = c.run_counted-counted.result.1;
+      counted = counted;
+      ends = ended.ends;
+      summary = ended.summary;
+      device = ended.device;
+      input = ended.input ∙ ap (λ (r : Counted g.row.R.Denot). r.stream) reports.input;
+      out = subst (λ (w : Counted g.row.W1.Denot). Keeps (outs w) (g.W1.Write.contents c.reported.result.out)) reports.out ended.out;
+      err = subst (λ (w : Counted g.row.W2.Denot). AppendsSome (errs w) (g.W2.Write.contents c.reported.result.err)) reports.err ended.err;
+      over_paths = λ is. reach_moves honest disk size failures remaining outs errs i s.host last first run.last run.answers run.reach (shares.reads.kept.honest.0 is);
       crash = λ is lasts.
-          subst (λ (d : g.row.D.Denot). Leaves (disk parts.volume.device) (disk d) (StandsInRun honest disk size failures remaining outs errs i s.host first c.args.fuel c.run.result last _ run))
+          subst (λ (d : g.row.D.Denot). Leaves (disk parts.volume.device) (disk d) (StandsInRun honest disk size failures g.R.Read.remaining g.W1.Write.contents g.W2.Write.contents i s.host first c.args.run.now.limits.fuel c.run_counted-counted.result.0 last _ run))
           (sym back)
-          (began (Host honest disk size failures remaining outs errs) (HostCalls honest disk size failures remaining outs errs) (λ h. disk h.volume.device) (λ h. h.volume.numbers) (λ h. h.volume.tree)
-          i s.host last first run.last run.answers (disk parts.volume.device) (disk reports.volume.new.device) parts.volume.numbers parts.volume.tree run.reach (sym {b = parts.volume.numbers} made.shares.reads.kept.numbers) (sym {b = parts.volume.tree} (made.shares.reads.tree is))
-          lasts (made.shares.reads.crash is) (reports.crash (made.shares.reads.kept.honest.0 is) i first made.opens.starts.stands));
+          (began (Host honest disk size failures g.R.Read.remaining g.W1.Write.contents g.W2.Write.contents) (HostCalls honest disk size failures g.R.Read.remaining g.W1.Write.contents g.W2.Write.contents) (λ h. disk h.volume.device) (λ h. h.volume.numbers) (λ h. h.volume.tree)
+          i s.host last first run.last run.answers (disk parts.volume.device) (disk reports.volume.new.device) parts.volume.numbers parts.volume.tree run.reach (sym {b = parts.volume.numbers} shares.reads.kept.numbers) (sym {b = parts.volume.tree} (shares.reads.tree is))
+          lasts (shares.reads.crash is) (reports.crash (shares.reads.kept.honest.0 is) i first opens.starts.stands));
     })
 
 -- there is no session
 pub returns-in-Err : goal.returns-in-Err
-returns-in-Err g c = inl (record {
-  fault = c.in-Err.refused.fault;
-  refused = c.in-Err.ensures.refused;
-  volume = c.in-Err.refused.parts.volume;
-  kept = c.in-Err.ensures.hands_back.volume;
-  device = c.not_begun.ensures.device;
-  ends = c.not_begun.ensures.ends;
-  streams = record {
-    input_is = c.not_begun.ensures.input ∙ c.in-Err.ensures.hands_back.input;
-    out_keeps = subst (λ (w : g.row.W1.Denot). Keeps (g.W1.Write.contents c.args.parts.out) (g.W1.Write.contents w))
-        (sym (c.not_begun.ensures.out ∙ c.in-Err.ensures.hands_back.out)) (Keeps-refl (g.W1.Write.contents c.args.parts.out));
-    err_appends = subst (λ (w : g.row.W2.Denot). AppendsSome (g.W2.Write.contents w) (g.W2.Write.contents c.not_begun.result.err)) c.in-Err.ensures.hands_back.err c.not_begun.ensures.err;
-  };
-})
+returns-in-Err g c =
+    let parts = c.args.parts in
+    let same = counting_from parts c.new-taken.result c.new-given.result c.new-complaints.result c.new-taken.ensures c.new-given.ensures c.new-complaints.ensures in
+    let back = c.in-Err.ensures.hands_back in
+    let ended = c.not_begun.ensures in
+    inl (record {
+      fault = c.in-Err.refused.fault;
+      refused = subst (λ (p : HostParts g.row.D.Denot (Counted g.row.R.Denot) (Counted g.row.W1.Denot) (Counted g.row.W2.Denot)). IsRefused g.D.Device.honest c.in-Err.refused.fault c.args.valid p) same c.in-Err.ensures.refused;
+      volume = c.in-Err.refused.parts.volume;
+      kept = back.volume;
+      device = ended.device;
+      ends = ended.ends;
+      summary = ended.summary;
+      streams = record {
+        input_is = ended.input ∙ ap (λ (r : Counted g.row.R.Denot). r.stream) (back.input ∙ c.new-taken.ensures);
+        out_keeps = subst (λ (w : g.row.W1.Denot). Keeps (g.W1.Write.contents parts.out) (g.W1.Write.contents w))
+            (sym (ended.out ∙ ap (λ (w : Counted g.row.W1.Denot). w.stream) (back.out ∙ c.new-given.ensures))) (Keeps-refl (g.W1.Write.contents parts.out));
+        err_appends = subst (λ (w : Counted g.row.W2.Denot). AppendsSome (g.W2.Write.contents w.stream) (g.W2.Write.contents c.not_begun.result.err)) (back.err ∙ c.new-complaints.ensures) ended.err;
+      };
+    })

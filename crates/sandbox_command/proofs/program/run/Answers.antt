@@ -1,5 +1,8 @@
-use Rattle.std.proofs.Common.{inl, inr, refl, sym, ◌∙◌, subst}
+use Rattle.std.proofs.Common.{ℕ, inl, inr, refl, sym, ◌∙◌, ap, subst, Some}
 use Rattle.std.proofs.KnownBytes.{Keeps-refl}
+use Rattle.run_report.specs.declared.fault.Fault.{Fault}
+use Rattle.run_report.specs.declared.summary.Kept.TheVariants as kept
+use Rattle.sandbox_command.specs.Reporting.{not_run}
 use Rattle.sandbox_command.specs.Streams.{AppendsSome}
 use Rattle.sandbox_command.proofs.program.run.Goals as goal
 use Rattle.sandbox_command.proofs.program.run.Goals.{in-Ok+in-Err-load, in-Err}
@@ -17,17 +20,27 @@ returns g c =
     let at = λ (err : g.row.W2.Denot). AppendsSome (errs c.args.err) (errs err) in
     elim c.match-supplied.branch [
       | in-Ok+in-Err-load w ↦ inr (inl (
-        record { fault = w.in-Err-load.fault; refused = w.in-Err-load.ensures.no; ends = w.status-is ∙ w.load_refused.ensures.status },
+        record {
+          fault = w.in-Err-load.fault;
+          refused = w.in-Err-load.ensures.no;
+          ends = ap (λ (p : ℕ × Fault). p.0) w.status-is ∙ w.load_refused.ensures.status;
+          summary_is = ap Some (c.not_run.ensures ∙ ap (λ (f : Fault). not_run c.args.run.now f kept.None c.match-supplied.status.0) (ap (λ (p : ℕ × Fault). p.1) w.status-is));
+        },
         record {
           device_is = refl;
           streams = record { input_is = refl; out_keeps = Keeps-refl (g.W1.Write.contents c.args.out); err_appends = subst at (sym w.err-is) w.load_refused.ensures.line };
         },
       ))
       | in-Err w ↦ inl (
-        record { fault = w.in-Err.fault; uncut = w.in-Err.ensures.refused; ends = w.status-is ∙ w.session_refused-status.ensures.status },
+        record {
+          fault = w.in-Err.fault;
+          uncut = w.in-Err.ensures.refused;
+          ends = ap (λ (p : ℕ × Fault). p.0) w.status-is ∙ w.session_refused.ensures.status;
+          summary_is = ap Some (c.not_run.ensures ∙ ap (λ (f : Fault). not_run c.args.run.now f kept.None c.match-supplied.status.0) (ap (λ (p : ℕ × Fault). p.1) w.status-is ∙ w.session_reason.ensures));
+        },
         record {
           device_is = refl;
-          streams = record { input_is = refl; out_keeps = Keeps-refl (g.W1.Write.contents c.args.out); err_appends = subst at (sym w.err-is) w.session_refused-status.ensures.line };
+          streams = record { input_is = refl; out_keeps = Keeps-refl (g.W1.Write.contents c.args.out); err_appends = subst at (sym w.err-is) w.session_refused.ensures.line };
         },
       )
     ]

@@ -1,6 +1,6 @@
 use Rattle.std.proofs.Common.{[], refl, ◌∙◌, arith}
 use Rattle.sandbox_core.specs.Report.{Calls, disk_of, numbers_of, tree_of}
-use Rattle.sandbox_core.proofs.Following.{followed_on}
+use Rattle.sandbox_core.proofs.Following.{followed_on, followed_to_end}
 use Rattle.sandbox_core.proofs.Reaching.{safe_so_far, safe_on, ran_out, ran_to_end}
 use Rattle.sandbox_core.proofs.report.run_out.Goals as goal
 
@@ -10,7 +10,7 @@ running-init g c = record {
   within = c.requires;
   going = λ running. running;
   size = refl;
-  followed = ([], refl);
+  followed = ([], refl, record { calls = refl; syncs = refl });
   so_far = safe_so_far _ (Calls g.D.Device.honest g.D.Device.disk g.D.Device.size g.D.Device.failures g.R.Read.remaining g.W1.Write.contents g.W2.Write.contents)
       (disk_of g.D.Device.honest g.D.Device.disk g.D.Device.size g.D.Device.failures g.R.Read.remaining g.W1.Write.contents g.W2.Write.contents) (numbers_of g.D.Device.honest g.D.Device.disk g.D.Device.size g.D.Device.failures g.R.Read.remaining g.W1.Write.contents g.W2.Write.contents) (tree_of g.D.Device.honest g.D.Device.disk g.D.Device.size g.D.Device.failures g.R.Read.remaining g.W1.Write.contents g.W2.Write.contents)
       (λ h. g.D.Device.honest h.volume.device) c.args.session.now.host c.args.session.now.machine;
@@ -26,7 +26,7 @@ running-preserved g c =
       within = let rise = c.in-Called.ensures.run.units_rise in omega (arith, rise, c.used.ensures, c.running.invariant.within);
       going = λ running. c.in-Called.ensures.run.end_is;
       size = c.in-Called.ensures.size ∙ c.running.invariant.size;
-      followed = followed_on g.D.Device.honest g.D.Device.disk g.D.Device.size g.D.Device.failures g.R.Read.remaining g.W1.Write.contents g.W2.Write.contents first old new _ _ c.running.invariant.followed c.in-Called.ensures;
+      followed = followed_on g.D.Device.honest g.D.Device.disk g.D.Device.size g.D.Device.failures g.R.Read.remaining g.W1.Write.contents g.W2.Write.contents first old new _ _ _ _ c.running.invariant.followed c.in-Called.ensures c.with-tally.ensures;
       so_far = safe_on _ (Calls g.D.Device.honest g.D.Device.disk g.D.Device.size g.D.Device.failures g.R.Read.remaining g.W1.Write.contents g.W2.Write.contents)
           (disk_of g.D.Device.honest g.D.Device.disk g.D.Device.size g.D.Device.failures g.R.Read.remaining g.W1.Write.contents g.W2.Write.contents) (numbers_of g.D.Device.honest g.D.Device.disk g.D.Device.size g.D.Device.failures g.R.Read.remaining g.W1.Write.contents g.W2.Write.contents) (tree_of g.D.Device.honest g.D.Device.disk g.D.Device.size g.D.Device.failures g.R.Read.remaining g.W1.Write.contents g.W2.Write.contents)
           (λ h. g.D.Device.honest h.volume.device) first.host old.host new.host
@@ -44,7 +44,7 @@ returns-in-Spent-clause-run g c =
     (λ h. g.D.Device.honest h.volume.device) first.host old.host new.host
     first.machine old.machine new.machine _ c.args.fuel c.running.invariant.so_far c.in-Spent.ensures.run
     (omega (arith, c.in-Spent.ensures.run.units_rise, c.used.ensures, c.running.invariant.within)) c.in-Spent.ensures.numbers c.in-Spent.ensures.honest_after c.in-Spent.ensures.crash in
-    record { honest_after = ran.0; followed = followed_on g.D.Device.honest g.D.Device.disk g.D.Device.size g.D.Device.failures g.R.Read.remaining g.W1.Write.contents g.W2.Write.contents first old new _ _ c.running.invariant.followed c.in-Spent.ensures; numbers = c.in-Spent.ensures.numbers ∙ c.running.invariant.so_far.numbered; size = c.in-Spent.ensures.size ∙ c.running.invariant.size; run = ran.1.0; unit = λ running. ran.1.2 (c.running.invariant.going running); crash = ran.1.1 }
+    record { honest_after = ran.0; followed = followed_to_end g.D.Device.honest g.D.Device.disk g.D.Device.size g.D.Device.failures g.R.Read.remaining g.W1.Write.contents g.W2.Write.contents first old new _ _ _ c.running.invariant.followed c.in-Spent.ensures refl refl; numbers = c.in-Spent.ensures.numbers ∙ c.running.invariant.so_far.numbered; size = c.in-Spent.ensures.size ∙ c.running.invariant.size; run = ran.1.0; unit = λ running. ran.1.2 (c.running.invariant.going running); crash = ran.1.1 }
 
 -- the run ended
 pub returns-in-Ended-clause-run : goal.returns-in-Ended-clause-run
@@ -56,4 +56,4 @@ returns-in-Ended-clause-run g c =
     (disk_of g.D.Device.honest g.D.Device.disk g.D.Device.size g.D.Device.failures g.R.Read.remaining g.W1.Write.contents g.W2.Write.contents) (numbers_of g.D.Device.honest g.D.Device.disk g.D.Device.size g.D.Device.failures g.R.Read.remaining g.W1.Write.contents g.W2.Write.contents) (tree_of g.D.Device.honest g.D.Device.disk g.D.Device.size g.D.Device.failures g.R.Read.remaining g.W1.Write.contents g.W2.Write.contents)
     (λ h. g.D.Device.honest h.volume.device) first.host old.host new.host
     first.machine old.machine new.machine _ c.args.fuel c.in-Ended.outcome c.running.invariant.so_far c.in-Ended.ensures.run (omega (arith, c.used.ensures, c.running.invariant.within)) c.in-Ended.ensures.numbers c.in-Ended.ensures.honest_after c.in-Ended.ensures.crash in
-    record { honest_after = ran.0; followed = followed_on g.D.Device.honest g.D.Device.disk g.D.Device.size g.D.Device.failures g.R.Read.remaining g.W1.Write.contents g.W2.Write.contents first old new _ _ c.running.invariant.followed c.in-Ended.ensures; numbers = c.in-Ended.ensures.numbers ∙ c.running.invariant.so_far.numbered; size = c.in-Ended.ensures.size ∙ c.running.invariant.size; run = ran.1.0; unit = λ running. ran.1.2 (c.running.invariant.going running); crash = ran.1.1 }
+    record { honest_after = ran.0; followed = followed_to_end g.D.Device.honest g.D.Device.disk g.D.Device.size g.D.Device.failures g.R.Read.remaining g.W1.Write.contents g.W2.Write.contents first old new _ _ _ c.running.invariant.followed c.in-Ended.ensures refl refl; numbers = c.in-Ended.ensures.numbers ∙ c.running.invariant.so_far.numbered; size = c.in-Ended.ensures.size ∙ c.running.invariant.size; run = ran.1.0; unit = λ running. ran.1.2 (c.running.invariant.going running); crash = ran.1.1 }

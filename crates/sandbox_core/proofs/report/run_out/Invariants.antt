@@ -10,7 +10,7 @@ invariant-running g l = record {
   within : l.session.machine.used ≤ l.fuel;
   going : outcome_of l.initial.session.machine ≡ None → outcome_of l.session.machine ≡ None;
   size : g.D.Device.size l.session.host.volume.device ≡ g.D.Device.size l.initial.session.host.volume.device;
-  followed : Followed g.D.Device.honest g.D.Device.disk g.D.Device.size g.D.Device.failures g.R.Read.remaining g.W1.Write.contents g.W2.Write.contents l.initial.session l.session;
+  followed : Followed g.D.Device.honest g.D.Device.disk g.D.Device.size g.D.Device.failures g.R.Read.remaining g.W1.Write.contents g.W2.Write.contents l.initial.session l.session l.tally;
   so_far : SafeSoFar _ (Calls g.D.Device.honest g.D.Device.disk g.D.Device.size g.D.Device.failures g.R.Read.remaining g.W1.Write.contents g.W2.Write.contents)
       (disk_of g.D.Device.honest g.D.Device.disk g.D.Device.size g.D.Device.failures g.R.Read.remaining g.W1.Write.contents g.W2.Write.contents)
       (numbers_of g.D.Device.honest g.D.Device.disk g.D.Device.size g.D.Device.failures g.R.Read.remaining g.W1.Write.contents g.W2.Write.contents)

@@ -7,5 +7,5 @@ use Rattle.sandbox_words.proofs.words.run_command.Goals as goal
 pub returns : goal.returns
 unfolding run_app
 returns c =
-    let one = with_argument_has _ _ _ _ (word_rule (codes "MODULE")) c.with_argument-command.ensures c.supplied_command.ensures c.word.ensures in
+    let one = with_argument_has _ _ _ _ (word_rule (codes "MODULE")) c.with_argument-command.ensures c.named_command.ensures c.word.ensures in
     with_argument_has _ _ _ _ words_rule c.with_argument.ensures one c.further_words.ensures

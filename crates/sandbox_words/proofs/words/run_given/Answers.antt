@@ -11,6 +11,8 @@ returns c = record {
   env = c.in_ok-texts-2.ensures;
   moment = c.unwrap_or-3.ensures ∙ ap (λ (o : Option ℕ). unwrap_or o 0) c.long_number-2.ensures;
   random = c.option_text-2.ensures;
+  name = c.option_text-3.ensures;
+  report = c.option_text-4.ensures;
   module_word = c.text.ensures;
   words = c.in_ok-texts-3.ensures;
 }

@@ -1,7 +1,7 @@
 use Rattle.std.proofs.Common.{arith}
-use Rattle.sandbox_core.specs.Report.{Calls, disk_of, numbers_of, tree_of}
+use Rattle.sandbox_core.specs.Report.{Calls, Reports, disk_of, numbers_of, tree_of}
 use Rattle.sandbox_core.proofs.Reaching.{commit_after}
-use Rattle.sandbox_core.proofs.report.run.Goals as goal
+use Rattle.sandbox_core.proofs.report.run_counted.Goals as goal
 
 -- the report has what the run and the commit left
 pub returns : goal.returns
@@ -9,10 +9,11 @@ returns g c =
     let last = c.run_out-outcome.new.session in
     let ran = c.run_out-outcome.ensures.run in
     let finishes = c.finish-volume.ensures in
-    record {
+    let reports : Reports g.D.Device.honest g.D.Device.disk g.D.Device.size g.D.Device.failures g.R.Read.remaining g.W1.Write.contents g.W2.Write.contents c.args.session c.args.fuel _ = record {
       last = last;
       used = c.used-used.ensures;
       within = omega (arith, c.used-used.ensures, c.run_out-outcome.ensures.within);
+      pages = c.pages-pages.ensures;
       resumes = ran.followed.0;
       follow = ran.followed.1;
       run = ran.run;
@@ -28,4 +29,5 @@ returns g c =
       input = finishes.input;
       out = finishes.out;
       err = finishes.err;
-    }
+    } in
+    record { reports = reports; tallies = ran.followed.2 }

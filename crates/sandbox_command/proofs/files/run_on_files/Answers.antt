@@ -2,12 +2,12 @@ use Rattle.std.proofs.Common.{inl, inr, sym, ◌∙◌, subst}
 use Rattle.std.proofs.lemmas.Option.{none-some}
 use Rattle.sandbox_words.specs.declared.request.Invocation.{Invocation}
 use Rattle.sandbox_command.specs.Files.{IsNewInFile, NamesNoVolume}
-use Rattle.sandbox_command.proofs.files.perform_run.Goals as goal
+use Rattle.sandbox_command.proofs.files.run_on_files.Goals as goal
 
 -- on sectors in memory
 pub returns-in-Ok-new-clause-tells : goal.returns-in-Ok-new-clause-tells
 returns-in-Ok-new-clause-tells g c =
-    let tells = c.status_on.ensures.tells in
+    let tells = c.run_on.ensures.tells in
     inr (inr (inl (
       subst NamesNoVolume (sym c.requires) c.in_default.is,
       record {
@@ -24,7 +24,7 @@ returns-in-Ok-new-clause-tells g c =
 -- on those of a file
 pub returns-in-Ok-open-clause-tells : goal.returns-in-Ok-open-clause-tells
 returns-in-Ok-open-clause-tells g c =
-    let tells = c.status_on-in-Ok-open.ensures.tells in
+    let tells = c.run_on-in-Ok-open.ensures.tells in
     inr (inr (inr (
       (λ none. none-some c.in-Some.file (sym (subst NamesNoVolume c.requires none) ∙ c.in-Some.is)),
       record {

@@ -1,0 +1,2 @@
+-- Aids of private contracts and of proofs.
+pub mod Raising

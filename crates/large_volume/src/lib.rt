@@ -1,0 +1,6 @@
+//! Volumes of version 2, made at once.
+#![tactic(auto)]
+
+mod formatting;
+
+pub use formatting::format_large;

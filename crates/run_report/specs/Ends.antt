@@ -1,0 +1,65 @@
+-- How a run ended, as its report says it.
+use Rattle.std.specs.Prelude.{◌==◌, ◌||◌, ℕ, Bool, true, false, [], Option, Some, None, codes}
+use Rattle.std.specs.Option.{option_map_or}
+use Rattle.wasm_num.specs.declared.trap.Trap.{Trap}
+use Rattle.wasm_num.specs.declared.trap.Trap.TheVariants as trap
+use Rattle.wasm_steps.specs.declared.pause.Outcome.TheVariants.{Exited, Trapped, OutOfFuel, OutOfMemory}
+use Rattle.run_report.specs.declared.end.End.{End}
+use Rattle.run_report.specs.declared.end.End.TheVariants.{Ran, Refused}
+use Rattle.run_report.specs.Faults.{Text, fault_number, fault_offset, fault_text}
+
+abbrev pub trap_number : Trap → ℕ
+trap_number trap.Unreachable = 0
+trap_number trap.DivideByZero = 1
+trap_number trap.IntegerOverflow = 2
+trap_number trap.OutOfBoundsMemory = 3
+trap_number trap.UndefinedElement = 4
+trap_number trap.UninitializedElement = 5
+trap_number trap.IndirectCallMismatch = 6
+trap_number trap.CallStackExhausted = 7
+
+abbrev pub trap_text : Trap → Text
+trap_text trap.Unreachable = codes "unreachable"
+trap_text trap.DivideByZero = codes "integer divide by zero"
+trap_text trap.IntegerOverflow = codes "integer overflow"
+trap_text trap.OutOfBoundsMemory = codes "out of bounds memory access"
+trap_text trap.UndefinedElement = codes "undefined element"
+trap_text trap.UninitializedElement = codes "uninitialized element"
+trap_text trap.IndirectCallMismatch = codes "indirect call type mismatch"
+trap_text trap.CallStackExhausted = codes "call stack exhausted"
+
+-- what has no number is want of memory
+abbrev pub refusal_label : Option ℕ → Text
+refusal_label (Some n) = codes "fault"
+refusal_label None = codes "out of memory"
+
+abbrev pub label_of : End → Text
+label_of (Ran (Exited status)) = codes "exit"
+label_of (Ran (Trapped trap)) = codes "trap"
+label_of (Ran OutOfFuel) = codes "out of fuel"
+label_of (Ran OutOfMemory) = codes "out of memory"
+label_of (Refused fault) = refusal_label (fault_number fault)
+
+-- the guest's whole status, the number of a trap or of a fault
+abbrev pub code_of : End → Option ℕ
+code_of (Ran (Exited status)) = Some status
+code_of (Ran (Trapped trap)) = Some (trap_number trap)
+code_of (Ran OutOfFuel) = None
+code_of (Ran OutOfMemory) = None
+code_of (Refused fault) = fault_number fault
+
+abbrev pub end_text : End → Text
+end_text (Ran (Exited status)) = []
+end_text (Ran (Trapped trap)) = trap_text trap
+end_text (Ran OutOfFuel) = []
+end_text (Ran OutOfMemory) = []
+end_text (Refused fault) = fault_text fault
+
+abbrev pub end_offset : End → Option ℕ
+end_offset (Ran outcome) = None
+end_offset (Refused fault) = fault_offset fault
+
+-- What is the machine's: a device or a file that failed, and memory that was wanting before the guest ran.
+abbrev pub is_machines : End → Bool
+is_machines (Ran outcome) = false
+is_machines (Refused fault) = option_map_or (λ n. n == 33 || n == 41) (fault_number fault) true

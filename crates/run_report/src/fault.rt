@@ -1,0 +1,203 @@
+//! Why a run could not begin.
+
+ghost use Rattle.std.specs.Prelude.{◌≡◌};
+ghost use Rattle.run_report.specs.Faults.{fault_number, fault_offset, fault_text};
+ghost use Rattle.run_report.specs.Faults.{instance_number, instance_text};
+ghost use Rattle.run_report.specs.Faults.{load_number, load_offset, load_text};
+ghost use Rattle.run_report.specs.Faults.{volume_number, volume_text};
+
+use vol_sector::VolumeFault;
+use wasm_module::LoadFault;
+use wasm_store::InstanceFault;
+
+/// Why a run could not begin.
+#[derive(Clone, Copy)]
+pub enum Fault {
+    /// The module is refused.
+    Module(LoadFault),
+    /// The volume is refused, or its device failed.
+    Volume(VolumeFault),
+    /// The module can't be instantiated.
+    Instance(InstanceFault),
+    /// A setting breaks a rule.
+    Setting,
+    /// A path to be preopened is no directory of the volume.
+    Preopen,
+    /// A file of the host could not be opened, made or read.
+    File,
+    /// Memory was refused.
+    Memory,
+}
+
+/// The number of a module's fault; none for want of memory.
+fn load_number(fault: LoadFault) -> Option<u32>
+    ensures { result ≡ load_number fault }
+{
+    match fault {
+        LoadFault::Truncated { .. } => Some(1),
+        LoadFault::BadMagic { .. } => Some(2),
+        LoadFault::BadVersion { .. } => Some(3),
+        LoadFault::BadInteger { .. } => Some(4),
+        LoadFault::SectionOrder { .. } => Some(5),
+        LoadFault::SectionSize { .. } => Some(6),
+        LoadFault::BadByte { .. } => Some(7),
+        LoadFault::NotUtf8 { .. } => Some(8),
+        LoadFault::CountMismatch { .. } => Some(9),
+        LoadFault::Float { .. } => Some(10),
+        LoadFault::Limit { .. } => Some(11),
+        LoadFault::Invalid { .. } => Some(12),
+        LoadFault::Memory => None,
+    }
+}
+
+/// Where in the module's bytes it is.
+fn load_offset(fault: LoadFault) -> Option<u32>
+    ensures { result ≡ load_offset fault }
+{
+    match fault {
+        LoadFault::Truncated { offset }
+        | LoadFault::BadMagic { offset }
+        | LoadFault::BadVersion { offset }
+        | LoadFault::BadInteger { offset }
+        | LoadFault::SectionOrder { offset }
+        | LoadFault::SectionSize { offset }
+        | LoadFault::BadByte { offset }
+        | LoadFault::NotUtf8 { offset }
+        | LoadFault::CountMismatch { offset }
+        | LoadFault::Float { offset }
+        | LoadFault::Limit { offset }
+        | LoadFault::Invalid { offset, .. } => Some(offset),
+        LoadFault::Memory => None,
+    }
+}
+
+/// A module's fault in words, as help has it.
+fn load_text(fault: LoadFault) -> &'static str
+    ensures { result.now ≡ load_text fault }
+{
+    match fault {
+        LoadFault::Truncated { .. } => "the module ends too early",
+        LoadFault::BadMagic { .. } => "its first four bytes are not 00 61 73 6D",
+        LoadFault::BadVersion { .. } => "its next four bytes are not 01 00 00 00",
+        LoadFault::BadInteger { .. } => "a number is too long, or its unused bits are wrong",
+        LoadFault::SectionOrder { .. } => {
+            "a section stands after one of its own or a greater id"
+        }
+        LoadFault::SectionSize { .. } => "what has a size of its own does not fill it",
+        LoadFault::BadByte { .. } => "a byte that has no meaning where it stands",
+        LoadFault::NotUtf8 { .. } => "a name is not UTF-8",
+        LoadFault::CountMismatch { .. } => "two counts that have to agree differ",
+        LoadFault::Float { .. } => "a type or an instruction of floating point",
+        LoadFault::Limit { .. } => "more than the limits of the program allow",
+        LoadFault::Invalid { .. } => "the module is not valid",
+        LoadFault::Memory => "",
+    }
+}
+
+/// The number of a volume's fault; none for want of memory.
+fn volume_number(fault: VolumeFault) -> Option<u32>
+    ensures { result ≡ volume_number fault }
+{
+    match fault {
+        VolumeFault::NotAVolume => Some(30),
+        VolumeFault::Version => Some(31),
+        VolumeFault::Damaged => Some(32),
+        VolumeFault::Device => Some(33),
+        VolumeFault::TooSmall => Some(34),
+        VolumeFault::Upgraded => Some(35),
+        VolumeFault::Geometry => Some(36),
+        VolumeFault::Memory => None,
+    }
+}
+
+/// A volume's fault in words, as help has it.
+fn volume_text(fault: VolumeFault) -> &'static str
+    ensures { result.now ≡ volume_text fault }
+{
+    match fault {
+        VolumeFault::NotAVolume => "the file is no volume",
+        VolumeFault::Version => "the volume has a version that is not known",
+        VolumeFault::Damaged => "the volume is damaged",
+        VolumeFault::Device => "the volume's file could not be read, written or synced",
+        VolumeFault::TooSmall => "the volume's file has too few sectors",
+        VolumeFault::Upgraded => "the volume has version 2 already",
+        VolumeFault::Geometry => "SECTORS or SLOTS is out of its range",
+        VolumeFault::Memory => "",
+    }
+}
+
+/// The number of an instance's fault; none for want of memory.
+fn instance_number(fault: InstanceFault) -> Option<u32>
+    ensures { result ≡ instance_number fault }
+{
+    match fault {
+        InstanceFault::Import => Some(13),
+        InstanceFault::NoStart => Some(14),
+        InstanceFault::DataOutOfBounds => Some(20),
+        InstanceFault::ElementOutOfBounds => Some(21),
+        InstanceFault::PageLimit => Some(22),
+        InstanceFault::Memory => None,
+    }
+}
+
+/// An instance's fault in words, as help has it.
+fn instance_text(fault: InstanceFault) -> &'static str
+    ensures { result.now ≡ instance_text fault }
+{
+    match fault {
+        InstanceFault::Import => "an import is no function, or there is no such call of that type",
+        InstanceFault::NoStart => {
+            "no function _start without parameters and results is exported"
+        }
+        InstanceFault::DataOutOfBounds => "a data segment passes the end of memory",
+        InstanceFault::ElementOutOfBounds => "an element segment passes the end of the table",
+        InstanceFault::PageLimit => "the module's memory begins with more pages than --pages",
+        InstanceFault::Memory => "",
+    }
+}
+
+impl Fault {
+    /// Its number, as `sandbox help faults` has it; none for want of memory.
+    pub fn number(self) -> Option<u32>
+        ensures { result ≡ fault_number self }
+    {
+        match self {
+            Fault::Module(fault) => load_number(fault),
+            Fault::Volume(fault) => volume_number(fault),
+            Fault::Instance(fault) => instance_number(fault),
+            Fault::Setting => Some(15),
+            Fault::Preopen => Some(16),
+            Fault::File => Some(41),
+            Fault::Memory => None,
+        }
+    }
+
+    /// Where in the module's bytes it is, of a fault of the module.
+    pub fn offset(self) -> Option<u32>
+        ensures { result ≡ fault_offset self }
+    {
+        match self {
+            Fault::Module(fault) => load_offset(fault),
+            _ => None,
+        }
+    }
+
+    /// It in words, as `sandbox help faults` has it; nothing for want of memory.
+    pub fn text(self) -> &'static str
+        ensures { result.now ≡ fault_text self }
+    {
+        match self {
+            Fault::Module(fault) => load_text(fault),
+            Fault::Volume(fault) => volume_text(fault),
+            Fault::Instance(fault) => instance_text(fault),
+            Fault::Setting => {
+                "a --dir without =, or whose name is empty or over 255 bytes; over 64 of them; arguments, or texts of the environment, over 1024 or over 65536 bytes; or --pages over 65536"
+            }
+            Fault::Preopen => "the PATH of a --dir is no directory of the volume",
+            Fault::File => {
+                "a file could not be opened, made, lengthened, locked or read, or standard input or output failed"
+            }
+            Fault::Memory => "",
+        }
+    }
+}

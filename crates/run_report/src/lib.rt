@@ -1,0 +1,14 @@
+//! The report of a run: how it ended and what it used, as lines `key:value`.
+#![tactic(auto)]
+
+mod counted;
+mod end;
+mod fault;
+mod printing;
+mod summary;
+
+pub use counted::Counted;
+pub use end::End;
+pub use fault::Fault;
+pub use printing::print;
+pub use summary::{Kept, Summary};

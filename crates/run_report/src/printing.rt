@@ -1,0 +1,79 @@
+//! The report as text.
+
+ghost use Rattle.std.specs.Prelude.{◌≡◌, ◌++◌, Some, OnOk};
+ghost use Rattle.std.specs.Io.KnownBytes.{Appends};
+ghost use Rattle.run_report.specs.Reporting.{ending_text, number_text, report_text, use_text};
+
+use crate::summary::Summary;
+use arrayvec::ArrayVec;
+use std::io::Write;
+use std::{fmt, io};
+
+/// A report before it is printed, with room for any.
+type Text = ArrayVec<u8, 1024>;
+
+/// A number, or nothing.
+#[derive(Clone, Copy)]
+struct Number(Option<u32>);
+
+impl fmt::Display for Number {
+    ghost output = { λ n. Some (number_text n.0) };
+
+    fn fmt<W: fmt::Write>(&self, f: &mut fmt::Formatter<W>) -> fmt::Result {
+        match self.0 {
+            Some(number) => write!(f, "{number}"),
+            None => Ok(()),
+        }
+    }
+}
+
+/// Adds how a run ended.
+fn add_ending(text: &mut Text, summary: &Summary) -> io::Result<()>
+    ensures { OnOk result (text.new.items ≡ text.old.items ++ ending_text summary.now) }
+{
+    let end = summary.end;
+    write!(
+        text,
+        "end:{}\ncode:{}\ntext:{}\noffset:{}\nstatus:{}\n",
+        end.label(),
+        Number(end.code()),
+        end.text(),
+        Number(end.offset()),
+        summary.status
+    )
+}
+
+/// Adds what it used.
+fn add_use(text: &mut Text, summary: &Summary) -> io::Result<()>
+    ensures { OnOk result (text.new.items ≡ text.old.items ++ use_text summary.now) }
+{
+    write!(
+        text,
+        "units:{}\nfuel:{}\npages:{}\nread:{}\nwritten:{}\ncomplained:{}\ncalls:{}\nsyncs:{}\n",
+        summary.units,
+        summary.fuel,
+        summary.pages,
+        summary.read,
+        summary.written,
+        summary.complained,
+        summary.calls,
+        summary.syncs
+    )
+}
+
+/// Prints the report. Where that fails, some of it may have been printed.
+pub fn print<W: Write>(out: &mut W, summary: &Summary) -> io::Result<()>
+    ensures { OnOk result
+        (Appends (W.contents out.old) (W.contents out.new) (report_text summary.now)) }
+{
+    let mut text = Text::new();
+    add_ending(&mut text, summary)?;
+    add_use(&mut text, summary)?;
+    write!(
+        text,
+        "volume:{}\nblame:{}\n",
+        summary.volume.text(),
+        summary.blame()
+    )?;
+    out.write_all(text.as_slice())
+}

@@ -1,0 +1,68 @@
+//! What the report of a run says.
+
+ghost use Rattle.std.specs.Prelude.{◌≡◌};
+ghost use Rattle.run_report.specs.Reporting.{blame_of, kept_text};
+
+use crate::end::End;
+
+/// What became of the volume of a run.
+#[derive(Clone, Copy)]
+pub enum Kept {
+    /// The run names no volume, or ended before one was open.
+    None,
+    /// All of the guest's calls are on it.
+    Kept,
+    /// Its device failed, so that the last of them may not be.
+    Failed,
+}
+
+/// How a run ended and what it used.
+#[derive(Clone, Copy)]
+pub struct Summary {
+    pub end: End,
+    /// The status of the process.
+    pub status: u8,
+    /// The units of fuel that were used, of `fuel`.
+    pub units: u64,
+    pub fuel: u64,
+    /// The most pages of 65,536 bytes that the guest's memory had.
+    pub pages: u32,
+    /// The bytes of standard input that the guest took.
+    pub read: u64,
+    /// The bytes that it gave to standard output, and to standard error.
+    pub written: u64,
+    pub complained: u64,
+    /// The calls of WASI that were answered, and the syncs among them that were answered with success.
+    pub calls: u64,
+    pub syncs: u64,
+    pub volume: Kept,
+    /// Whether no output refused to be flushed.
+    pub flushed: bool,
+}
+
+impl Kept {
+    /// What the report calls it.
+    pub fn text(self) -> &'static str
+        ensures { result.now ≡ kept_text self }
+    {
+        match self {
+            Kept::None => "none",
+            Kept::Kept => "kept",
+            Kept::Failed => "failed",
+        }
+    }
+}
+
+impl Summary {
+    /// Who is to blame for the end, or has brought it about where it is a good one: the machine where a file, a device, a
+    /// stream or memory before the guest ran failed; else the guest.
+    pub fn blame(&self) -> &'static str
+        ensures { result.now ≡ blame_of self.now }
+    {
+        if self.end.is_machines() || matches!(self.volume, Kept::Failed) || !self.flushed {
+            "machine"
+        } else {
+            "guest"
+        }
+    }
+}

@@ -1,0 +1,97 @@
+-- What the report of a run says of it (`crates/run_report/specs`).
+use Rattle.std.specs.Prelude.{ℕ, List, Bool, true, Option, Some, None, Result, Ok, Err}
+use Rattle.std.specs.Borrow.{Bor}
+use Rattle.vol_sector.specs.declared.fault.VolumeFault.{VolumeFault}
+use Rattle.vol_sector.specs.declared.fault.VolumeFault.TheVariants as volume
+use Rattle.wasi_calls.specs.declared.wasi_host.HostParts.{HostParts}
+use Rattle.sandbox_core.specs.declared.fault.SessionFault.{SessionFault}
+use Rattle.sandbox_core.specs.declared.fault.SessionFault.TheVariants as opening
+use Rattle.sandbox_core.specs.declared.report.Report.{Report}
+use Rattle.sandbox_core.specs.declared.tally.Tally.{Tally}
+use Rattle.sandbox_core.specs.Session.{given}
+use Rattle.sandbox_words.specs.declared.request.Run.{Run}
+use Rattle.sandbox_words.specs.Request.{Text}
+use Rattle.run_report.specs.declared.counted.Counted.{Counted}
+use Rattle.run_report.specs.declared.end.End.TheVariants.{Ran, Refused}
+use Rattle.run_report.specs.declared.fault.Fault.{Fault}
+use Rattle.run_report.specs.declared.fault.Fault.TheVariants as reason
+use Rattle.run_report.specs.declared.summary.Kept.{Kept}
+use Rattle.run_report.specs.declared.summary.Kept.TheVariants as kept
+use Rattle.run_report.specs.declared.summary.Summary.{Summary}
+
+-- ---- a run that could not begin
+
+abbrev pub session_reason : SessionFault → Fault
+session_reason opening.Setting = reason.Setting
+session_reason (opening.Instance f) = reason.Instance f
+session_reason opening.Device = reason.Volume volume.Device
+session_reason opening.Preopen = reason.Preopen
+session_reason opening.Memory = reason.Memory
+
+-- the guest took nothing and gave nothing
+abbrev pub not_run : Run → Fault → Kept → ℕ → Summary
+not_run run fault became status = record {
+  end = Refused fault;
+  status = status;
+  units = 0;
+  fuel = run.limits.fuel;
+  pages = 0;
+  read = 0;
+  written = 0;
+  complained = 0;
+  calls = 0;
+  syncs = 0;
+  volume = became;
+  flushed = true;
+}
+
+-- what became of the volume that could not be opened: its device failed, or it wasn't open at all
+abbrev pub kept_where_refused : Option (Bor Text) → VolumeFault → Kept
+kept_where_refused None f = kept.None
+kept_where_refused (Some file) volume.Device = kept.Failed
+kept_where_refused (Some file) f = kept.None
+
+-- and of an open one whose module gets no session
+abbrev pub kept_where_not_begun : Option (Bor Text) → SessionFault → Kept
+kept_where_not_begun None f = kept.None
+kept_where_not_begun (Some file) opening.Device = kept.Failed
+kept_where_not_begun (Some file) f = kept.Kept
+
+-- ---- a run
+
+-- and of that of a guest that ran
+abbrev pub kept_after_run : {V R : Type 0} → Option (Bor Text) → Result V R → Kept
+kept_after_run None result = kept.None
+kept_after_run (Some file) (Ok v) = kept.Kept
+kept_after_run (Some file) (Err refused) = kept.Failed
+
+-- the bytes of a stream that is counted
+abbrev pub counted_bytes : {S : Type 0} → (S → Option (List ℕ)) → Counted S → Option (List ℕ)
+counted_bytes bytes c = bytes c.stream
+
+-- a stream that is counted from here on
+abbrev pub from_here : {S : Type 0} → S → Counted S
+from_here s = record { stream = s; count = 0 }
+
+module _ {D R W1 W2 : Type 0} where
+  -- what a host is made of, with streams that are counted from here on
+  abbrev pub counting : HostParts D R W1 W2 → HostParts D (Counted R) (Counted W1) (Counted W2)
+  counting parts = given parts.settings parts.volume (from_here parts.input) (from_here parts.out) (from_here parts.err)
+
+  -- How the run ended, the units that it used and its pages are those of its report; the calls and syncs are those of its resumes; the
+  -- bytes are those that its streams counted.
+  abbrev pub run_summary : Run → Report D (Counted R) (Counted W1) (Counted W2) → Tally → (status : ℕ) → (flushed : Bool) → Summary
+  run_summary run report tally status flushed = record {
+    end = Ran report.outcome;
+    status = status;
+    units = report.used;
+    fuel = run.limits.fuel;
+    pages = report.pages;
+    read = report.input.count;
+    written = report.out.count;
+    complained = report.err.count;
+    calls = tally.calls;
+    syncs = tally.syncs;
+    volume = kept_after_run run.volume report.volume;
+    flushed = flushed;
+  }

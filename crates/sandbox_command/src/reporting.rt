@@ -1,0 +1,75 @@
+//! What the report of a run says of it.
+
+ghost use Rattle.std.specs.Prelude.{◌≡◌};
+ghost use Rattle.sandbox_command.specs.Reporting.{kept_after_run, kept_where_not_begun};
+ghost use Rattle.sandbox_command.specs.Reporting.{kept_where_refused, not_run, session_reason};
+
+use run_report::{End, Fault, Kept, Summary};
+use sandbox_core::SessionFault;
+use sandbox_words::Run;
+use vol_sector::VolumeFault;
+
+/// Why a session can't be made, as a report has it.
+pub(crate) fn session_reason(fault: SessionFault) -> Fault
+    ensures { result ≡ session_reason fault }
+{
+    match fault {
+        SessionFault::Setting => Fault::Setting,
+        SessionFault::Instance(fault) => Fault::Instance(fault),
+        SessionFault::Device => Fault::Volume(VolumeFault::Device),
+        SessionFault::Preopen => Fault::Preopen,
+        SessionFault::Memory => Fault::Memory,
+    }
+}
+
+/// The report of a run that could not begin.
+pub(crate) fn not_run(run: &Run<'_>, fault: Fault, volume: Kept, status: u8) -> Summary
+    ensures { result ≡ not_run run.now fault volume status }
+{
+    Summary {
+        end: End::Refused(fault),
+        status,
+        units: 0,
+        fuel: run.limits.fuel,
+        pages: 0,
+        read: 0,
+        written: 0,
+        complained: 0,
+        calls: 0,
+        syncs: 0,
+        volume,
+        flushed: true,
+    }
+}
+
+/// What became of the volume of a run that could not be opened.
+pub(crate) fn kept_where_refused(file: Option<&str>, fault: VolumeFault) -> Kept
+    ensures { result ≡ kept_where_refused file.entry fault }
+{
+    match (file, fault) {
+        (Some(_), VolumeFault::Device) => Kept::Failed,
+        _ => Kept::None,
+    }
+}
+
+/// What became of the open volume of a run whose module gets no session.
+pub(crate) fn kept_where_not_begun(file: Option<&str>, fault: SessionFault) -> Kept
+    ensures { result ≡ kept_where_not_begun file.entry fault }
+{
+    match (file, fault) {
+        (None, _) => Kept::None,
+        (Some(_), SessionFault::Device) => Kept::Failed,
+        (Some(_), _) => Kept::Kept,
+    }
+}
+
+/// What became of the volume of a guest that ran.
+pub(crate) fn kept_after_run<V, E>(file: Option<&str>, left: &Result<V, E>) -> Kept
+    ensures { result ≡ kept_after_run file.entry left.now }
+{
+    match (file, left) {
+        (None, _) => Kept::None,
+        (Some(_), Ok(_)) => Kept::Kept,
+        (Some(_), Err(_)) => Kept::Failed,
+    }
+}
