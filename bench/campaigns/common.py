@@ -8,6 +8,7 @@ import shutil
 import signal
 import subprocess
 import sys
+import tempfile
 
 TOP = os.path.dirname(os.path.dirname(os.path.dirname(os.path.abspath(__file__))))
 sys.dont_write_bytecode = True
@@ -109,13 +110,13 @@ def succeeded(setting, *words, given=b""):
 
 def measured(setting, words, given=b"", memory=None):
     """Status, error output, seconds of the processor and mebibytes of a call."""
-    started = subprocess.Popen(
-        [setting.program, *words], stdin=subprocess.PIPE, stdout=subprocess.DEVNULL, stderr=subprocess.PIPE, preexec_fn=bounded(memory)
-    )
-    started.stdin.write(given)
-    started.stdin.close()
-    said = started.stderr.read().decode()
-    _, status, usage = os.wait4(started.pid, 0)
+    with tempfile.TemporaryFile() as source:
+        source.write(given)
+        source.seek(0)
+        how = {"stdin": source, "stdout": subprocess.DEVNULL, "stderr": subprocess.PIPE, "preexec_fn": bounded(memory)}
+        started = subprocess.Popen([setting.program, *words], **how)
+        said = started.stderr.read().decode()
+        _, status, usage = os.wait4(started.pid, 0)
     started.returncode = os.waitstatus_to_exitcode(status)
     return started.returncode, said.strip(), usage.ru_utime + usage.ru_stime, usage.ru_maxrss / 1024
 

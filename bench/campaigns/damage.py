@@ -102,7 +102,7 @@ def mutants(setting):
     chance = random.Random(setting.seed)
     names = SMALL + (LARGE[1:2] if setting.is_quick else LARGE)
     all_modules = [content(it) for it in names]
-    count = 2_000 if setting.is_quick else 60_000
+    count = 2_000 if setting.is_quick else 100_000
     made = (mutant(chance, chance.choice(all_modules)) for _ in range(count))
     found = collections.Counter(setting.each(lambda it: tried_module(setting, it), made))
     return found.total(), told(found)
@@ -192,7 +192,7 @@ def damaged_volumes(setting):
     """Random damage of a volume with files, and all commands on it."""
     chance = random.Random(setting.seed)
     image = begun_volume(setting)
-    count = 200 if setting.is_quick else 5_000
+    count = 200 if setting.is_quick else 10_000
     found = collections.Counter(setting.each(lambda it: tried_volume(setting, it), (damaged(chance, image) for _ in range(count))))
     return found.total() * 6, told(found)
 
