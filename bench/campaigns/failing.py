@@ -87,8 +87,8 @@ SCENES = [
 class Failing:
     """A scene whose writes and syncs fail, one in each run."""
 
-    def __init__(self, setting, make, ends):
-        self.setting, self.scene, self.ends = setting, make(setting), ends
+    def __init__(self, setting, make, ends, most=8):
+        self.setting, self.scene, self.ends, self.most = setting, make(setting), ends, most
         path = f"{setting.room}/recorded"
         written(path, self.scene.base)
         self.trace = crashes.recorded(setting, path, self.scene.words(path), self.scene.given)
@@ -96,7 +96,9 @@ class Failing:
         self.at = [k for k, it in enumerate(events) if it[0] in ("write", "sync")]
         said = [k for k, it in enumerate(events) if it[0] == "said"]
         # the end's commit comes after the guest's last call; of pages, which say nothing, it is the last one
-        self.end = max(said) if said else last_commit(events) if make is crashes.pages else len(events)
+        self.end = len(events)
+        if said or make is crashes.pages:
+            self.end = max(said) if said else last_commit(events)
         self.opening = 0 if make is crashes.formatted else of_opening(self.scene.base)
 
     def place(self, turn):
@@ -143,7 +145,7 @@ class Failing:
         for it in events:
             disk.does(it)
         chance = random.Random(turn)
-        found = {crashes.read(path), *disk.images(chance, 2 if self.setting.is_quick else 8)}
+        found = {crashes.read(path), *disk.images(chance, 2 if self.setting.is_quick else self.most)}
         for image in found:
             self.held(path, image, answered)
         return len(found)
