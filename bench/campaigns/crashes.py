@@ -69,17 +69,17 @@ class Trace:
 def event(name, words, result):
     if name == "fdatasync":
         return ("sync",) if result == 0 else ("failed sync",)
-    text, length, at = re.search(r'"(.*)", (\d+), (\d+)$', words).groups()
+    text, is_cut, length, at = re.search(r'"(.*)"(\.\.\.)?, (\d+), (\d+)$', words).groups()
     content = bytes.fromhex(text.replace("\\x", ""))
-    if len(content) != int(length) or int(at) % 512 or len(content) != 512 or result not in (-1, 0, 512):
+    if length != "512" or int(at) % 512 or not is_cut and len(content) != 512 or result not in (-1, 0, 512):
         raise Wrong(f"a write that is no sector: {length} bytes at {at} answered {result}")
     return "write" if result == 512 else "failed write", int(at) // 512, content
 
 
 def traced(setting, volume, words, given=b"", inject=()):
-    """A call on a volume; `inject` has words for strace that make a call of the system fail."""
+    """A call on a volume; `inject` has words for strace that make a call of the system fail, and then no event has its bytes."""
     log = own_path(setting, "trace")
-    call = ["strace", "-f", "-xx", "-s", "70000", "-e", f"trace={TRACED}", *inject, "-o", log, setting.program, *words]
+    call = ["strace", "-f", "-xx", "-s", "0" if inject else "70000", "-e", f"trace={TRACED}", *inject, "-o", log, setting.program, *words]
     it = Trace(subprocess.run(call, input=given, capture_output=True))
     it.read(log, volume, next((word for word in words if word.endswith(".wasm")), None))
     return it

@@ -48,6 +48,20 @@ def last_commit(events):
     return ends[-2] + 1 if len(ends) > 1 else 0
 
 
+def shape(event):
+    """What of an event is known where its bytes aren't: its name, and the sector of a write."""
+    return event[:2] if event[0].endswith("write") else event[:1]
+
+
+def after(base, events):
+    """The file after these writes."""
+    it = bytearray(base)
+    for event in events:
+        if event[0] == "write":
+            it[512 * event[1] : 512 * event[1] + 512] = event[2]
+    return bytes(it)
+
+
 # How each scene ends, where a write or a sync fails: `place` is `opening`, `call` or `end`, which is after the guest's last call.
 FAULT, ERRNO, COMMITTED = (124, "sandbox: fault 33\n"), (124, "sandbox: errno 29\n"), (123, "sandbox: fault 33\n")
 
@@ -124,14 +138,17 @@ class Failing:
         trace = crashes.traced(self.setting, path, scene.words(path), scene.given, words)
         wanted(self.ends(trace, self.place(turn)), f"status {trace.status}, {trace.said[-200:]!r}")
         events = self.trace.events
-        wanted(trace.events[:at] == events[:at], "another run before it")
-        wanted(trace.events[at] == (f"failed {events[at][0]}", *events[at][1:]), f"nothing failed there, but {trace.events[at][0]}")
+        wanted(list(map(shape, trace.events[:at])) == list(map(shape, events[:at])), "another run before it")
+        failure = (f"failed {events[at][0]}", *events[at][1:])
+        wanted(shape(trace.events[at]) == shape(failure), f"nothing failed there, but {trace.events[at][0]}")
         later = [it[0] for it in trace.events[at + 1 :]]
         wanted(all(it == "said" for it in later), f"{later[:3]} after the failure")
-        answered = b"".join(it[1] for it in trace.events[:at] if it[0] == "said")
+        answered = b"".join(it[1] for it in events[:at] if it[0] == "said")
+        wanted(trace.out.startswith(answered), f"another output: {trace.out[:80]!r}")
         if self.place(turn) != "opening" and hasattr(scene, "answers"):
             self.told(trace.out, answered.count(b"\n"))
-        return self.left(path, trace.events[: at + 1], answered, turn)
+        wanted(crashes.read(path) == after(scene.base, events[:at]), "other bytes were written before it")
+        return self.left(path, [*events[:at], failure], answered, turn)
 
     def told(self, out, done):
         """The calls from the one that failed on are answered 29."""
