@@ -92,6 +92,11 @@ class Program:
         self.is_float, self.prepare = is_float, prepare
 
 
+def case(name, words, given=b"", there=None, wanted=()):
+    """A case of a program."""
+    return name, words, given, there or {}, wanted
+
+
 def all_but(*names):
     return lambda files: [it for it in files if os.path.basename(it) not in names]
 
@@ -151,7 +156,10 @@ PROGRAMS = {
     "lua": Program(
         "lua5.4",
         (["src"], all_but("luac.c")),
-        [(name, ["-e", text], b"", {}, []) for name, text in LUA.items()] + [("a script from input", ["-"], LUA["sums"].encode(), {}, [])],
+        [
+            *(case(name, ["-e", text]) for name, text in LUA.items()),
+            case("a script from input", ["-"], given=LUA["sums"].encode()),
+        ],
         ["-DLUA_COMPAT_5_3"],
         is_float=True,
         prepare=headers({"src/lua5.4-deb-multiarch.h": '#define DEB_HOST_MULTIARCH "x"\n'}),
@@ -159,46 +167,66 @@ PROGRAMS = {
     "minigzip": Program(
         "zlib",
         (["", "test/minigzip.c"], None),
-        [("packs and unpacks", ["it"], b"", {"it": TEXT}, ["it.gz"]), ("to output", ["-c", "it"], b"", {"it": TEXT * 4}, []), ("of input", ["-9"], TEXT, {}, [])],
+        [
+            case("packs and unpacks", ["it"], there={"it": TEXT}, wanted=["it.gz"]),
+            case("to output", ["-c", "it"], there={"it": TEXT * 4}),
+            case("of input", ["-9"], given=TEXT),
+        ],
         ["-DHAVE_UNISTD_H", "-I."],
     ),
     "bzip2": Program(
         "bzip2",
         (["blocksort.c", "huffman.c", "crctable.c", "randtable.c", "compress.c", "decompress.c", "bzlib.c", "bzip2.c"], None),
-        [("packs", ["-k", "it"], b"", {"it": TEXT}, ["it.bz2"]), ("best", ["-9", "it"], b"", {"it": TEXT * 3}, ["it.bz2"])],
+        [
+            case("packs", ["-k", "it"], there={"it": TEXT}, wanted=["it.bz2"]),
+            case("best", ["-9", "it"], there={"it": TEXT * 3}, wanted=["it.bz2"]),
+        ],
         ["-DBZ_UNIX=1"],
         is_float=True,
     ),
     "zopfli": Program(
         "zopfli",
         (["src/zopfli"], None),
-        [("gzip", ["-c", "--i3", "it"], b"", {"it": TEXT[:6000]}, []), ("zlib", ["-c", "--zlib", "--i1", "it"], b"", {"it": TEXT[:9000]}, [])],
+        [
+            case("gzip", ["-c", "--i3", "it"], there={"it": TEXT[:6000]}),
+            case("zlib", ["-c", "--zlib", "--i1", "it"], there={"it": TEXT[:9000]}),
+        ],
         is_float=True,
     ),
     "cmark": Program(
         "cmark",
         (["src"], None),
-        [(kind, ["-t", kind], TEXT[:40_000], {}, []) for kind in ("html", "xml", "man", "commonmark", "latex")],
+        [
+            *(case(kind, ["-t", kind], given=TEXT[:40_000]) for kind in ("html", "xml", "man", "commonmark", "latex")),
+        ],
         ["-Isrc"],
         prepare=headers(CMARK),
     ),
     "lz4": Program(
         "lz4",
         (["lib/lz4.c", "lib/lz4hc.c", "lib/lz4frame.c", "lib/xxhash.c", "programs/lz4cli.c", "programs/lz4io.c", "programs/bench.c", "programs/datagen.c"], None),
-        [("of input", ["-c"], TEXT, {}, []), ("best", ["-9", "-c"], TEXT * 2, {}, [])],
+        [
+            case("of input", ["-c"], given=TEXT),
+            case("best", ["-9", "-c"], given=TEXT * 2),
+        ],
         ["-Ilib", "-Iprograms", "-DXXH_NAMESPACE=LZ4_"],
         is_float=True,
     ),
     "xxhsum": Program(
         "xxhash",
         (["xxhash.c", "cli"], None),
-        [(f"-H{k}", [f"-H{k}", "it"], b"", {"it": TEXT * 9}, []) for k in range(4)],
+        [
+            *(case(f"-H{k}", [f"-H{k}", "it"], there={"it": TEXT * 9}) for k in range(4)),
+        ],
         is_float=True,
     ),
     "sqlite3": Program(
         "sqlite3",
         (["sqlite3.c", "shell.c"], None),
-        [("in memory", ["-batch", "-vfs", "unix-none", ":memory:"], SQL.encode(), {}, []), ("in a file", ["-batch", "-vfs", "unix-none", "it.db"], b"pragma journal_mode=persist;" + SQL.encode(), {}, ["it.db"])],
+        [
+            case("in memory", ["-batch", "-vfs", "unix-none", ":memory:"], given=SQL.encode()),
+            case("in a file", ["-batch", "-vfs", "unix-none", "it.db"], given=b"pragma journal_mode=persist;" + SQL.encode(), wanted=["it.db"]),
+        ],
         SQLITE,
         SQLITE_WASI,
         is_float=True,
@@ -207,14 +235,16 @@ PROGRAMS = {
     "lemon": Program(
         "sqlite3",
         (["tool/lemon.c"], None),
-        [("SQL's grammar", ["-q", "-Tlempar.c", "it.y"], b"", {"it.y": "src/parse.y", "lempar.c": "tool/lempar.c"}, ["it.c", "it.h"])],
+        [
+            case("SQL's grammar", ["-q", "-Tlempar.c", "it.y"], there={"it.y": "src/parse.y", "lempar.c": "tool/lempar.c"}, wanted=["it.c", "it.h"]),
+        ],
         is_float=True,
     ),
     "byacc": Program(
         "byacc",
         ("closure.c error.c graph.c lalr.c lr0.c main.c mkpar.c mstring.c output.c reader.c symtab.c verbose.c warshall.c yaccpar.c".split(), None),
         [
-            (name, ["-d", "-v", "-o", "it.c", "it.y"], b"", {"it.y": f"test/{name}.y"}, ["it.c", "it.h"]) for name in ("btyacc_calc1", "quote_calc", "grammar")
+            *(case(name, ["-d", "-v", "-o", "it.c", "it.y"], there={"it.y": f"test/{name}.y"}, wanted=["it.c", "it.h"]) for name in ("btyacc_calc1", "quote_calc", "grammar")),
         ],
         ["-I.", "-DHAVE_CONFIG_H"],
         prepare=headers({"config.h": BYACC}),
@@ -222,72 +252,113 @@ PROGRAMS = {
     "awk": Program(
         "original-awk",
         (["b.c", "lex.c", "lib.c", "main.c", "parse.c", "run.c", "tran.c", "awkgram.tab.c", "proctab.c"], None),
-        [(name, [text], TEXT, {}, []) for name, text in AWK.items()] + [("a program in a file", ["-f", "it.awk", "it"], b"", {"it.awk": AWK["sums"].encode(), "it": TEXT}, [])],
+        [
+            *(case(name, [text], given=TEXT) for name, text in AWK.items()),
+            case("a program in a file", ["-f", "it.awk", "it"], there={"it.awk": AWK["sums"].encode(), "it": TEXT}),
+        ],
         is_float=True,
         prepare=awk_grammar,
     ),
-    "jimsh": Program("jimtcl", (["autosetup/jimsh0.c"], None), [("a script", ["it.tcl"], b"", {"it.tcl": TCL.encode()}, [])], is_float=True),
+    "jimsh": Program(
+        "jimtcl",
+        (["autosetup/jimsh0.c"], None),
+        [
+            case("a script", ["it.tcl"], there={"it.tcl": TCL.encode()}),
+        ],
+        is_float=True,
+    ),
     "figlet": Program(
         "figlet",
         (["figlet.c", "zipio.c", "crc.c", "inflate.c", "utf8.c"], None),
-        [(font, ["-f", font, "-w", "100", "Sand box"], b"", {f"{font}.flf": f"fonts/{font}.flf"}, []) for font in ("standard", "slant", "banner")],
+        [
+            *(case(font, ["-f", font, "-w", "100", "Sand box"], there={f"{font}.flf": f"fonts/{font}.flf"}) for font in ("standard", "slant", "banner")),
+        ],
         ["-DTLF_FONTS", '-DDEFAULTFONTDIR="."', '-DDEFAULTFONTFILE="standard.flf"'],
         is_float=True,
     ),
     "xmlwf": Program(
         "expat",
         ([f"expat/lib/{it}.c" for it in ("xmlparse", "xmlrole", "xmltok")] + [f"expat/xmlwf/{it}.c" for it in ("xmlwf", "xmlfile", "codepage", "readfilemap")], None),
-        [("well formed", ["it.xml"], b"", {"it.xml": XML}, []), ("with namespaces", ["-n", "it.xml"], b"", {"it.xml": XML}, []), ("broken", ["it.xml"], b"", {"it.xml": XML[:-9]}, [])],
+        [
+            case("well formed", ["it.xml"], there={"it.xml": XML}),
+            case("with namespaces", ["-n", "it.xml"], there={"it.xml": XML}),
+            case("broken", ["it.xml"], there={"it.xml": XML[:-9]}),
+        ],
         ["-Iexpat/lib", "-Iexpat", "-DHAVE_EXPAT_CONFIG_H"],
         is_float=True,
         prepare=headers({"expat/expat_config.h": EXPAT}),
     ),
-    "mujs": Program("mujs", (["one.c", "main.c"], None), [("a script", ["it.js"], b"", {"it.js": JAVASCRIPT.encode()}, [])], is_float=True),
+    "mujs": Program(
+        "mujs",
+        (["one.c", "main.c"], None),
+        [
+            case("a script", ["it.js"], there={"it.js": JAVASCRIPT.encode()}),
+        ],
+        is_float=True,
+    ),
     "tinyscheme": Program(
         "tinyscheme",
         (["scheme.c"], None),
-        [("a script", ["it.scm"], b"", {"it.scm": SCHEME.encode(), "init.scm": "init.scm"}, [])],
+        [
+            case("a script", ["it.scm"], there={"it.scm": SCHEME.encode(), "init.scm": "init.scm"}),
+        ],
         ["-DSTANDALONE=1", "-DUSE_DL=0", "-DUSE_STRLWR=1", '-DInitFile="init.scm"'],
         is_float=True,
     ),
     "clzip": Program(
         "clzip",
         ("carg_parser.c decoder.c encoder.c encoder_base.c fast_encoder.c list.c lzip_index.c main.c".split(), None),
-        [("packs", ["-k", "it"], b"", {"it": TEXT}, ["it.lz"]), ("fast", ["-0", "-k", "it"], b"", {"it": TEXT * 3}, ["it.lz"])],
+        [
+            case("packs", ["-k", "it"], there={"it": TEXT}, wanted=["it.lz"]),
+            case("fast", ["-0", "-k", "it"], there={"it": TEXT * 3}, wanted=["it.lz"]),
+        ],
         ['-DPROGVERSION="0"'],
         is_float=True,
     ),
     "brotli": Program(
         "brotli",
         (["c/common", "c/dec", "c/enc", "c/tools"], None),
-        [("packs", ["-q", "9", "-k", "it"], b"", {"it": TEXT}, ["it.br"]), ("best", ["-q", "11", "-k", "it"], b"", {"it": TEXT[:9000]}, ["it.br"])],
+        [
+            case("packs", ["-q", "9", "-k", "it"], there={"it": TEXT}, wanted=["it.br"]),
+            case("best", ["-q", "11", "-k", "it"], there={"it": TEXT[:9000]}, wanted=["it.br"]),
+        ],
         ["-Ic/include"],
         is_float=True,
     ),
     "compress": Program(
         "ncompress",
         (["compress42.c"], None),
-        [("packs", ["-f", "it"], b"", {"it": TEXT}, ["it.Z"]), ("of input", ["-c"], TEXT, {}, [])],
+        [
+            case("packs", ["-f", "it"], there={"it": TEXT}, wanted=["it.Z"]),
+            case("of input", ["-c"], given=TEXT),
+        ],
         ["-DDIRENT=1", "-DUTIME_H=1", "-DUSERMEM=800000", '-DCOMPILE_DATE="0"', "-DBYTEORDER=4321", "-DNOALLIGN=0"],
     ),
     "dc": Program(
         "bc",
         (["dc", "lib/number.c"], None),
-        [("big numbers", ["-"], POSTFIX.encode(), {}, [])],
+        [
+            case("big numbers", ["-"], given=POSTFIX.encode()),
+        ],
         ["-I.", "-Ih", "-Idc", "-DHAVE_CONFIG_H"],
         prepare=headers({"config.h": BC}),
     ),
     "bc": Program(
         "bc",
         (["bc", "lib/number.c", "lib/getopt.c", "lib/getopt1.c"], all_but("sbc.c", "libmath.c")),
-        [("big numbers", ["-q"], BIG_NUMBERS.encode(), {}, [])],
+        [
+            case("big numbers", ["-q"], given=BIG_NUMBERS.encode()),
+        ],
         ["-I.", "-Ih", "-Ibc", "-DHAVE_CONFIG_H"],
         prepare=headers({"config.h": BC, "bc/libmath.h": '{ 0 }\n'}),
     ),
     "tcc": Program(
         "tcc",
         (["tcc.c"], None),
-        [("compiles", ["-nostdinc", "-c", "it.c", "-o", "it.o"], b"", {"it.c": C_SOURCE}, ["it.o"]), ("preprocesses", ["-nostdinc", "-E", "it.c"], b"", {"it.c": b"#define A(x) x##1 + #x\nA(b) __LINE__\n" * 200}, [])],
+        [
+            case("compiles", ["-nostdinc", "-c", "it.c", "-o", "it.o"], there={"it.c": C_SOURCE}, wanted=["it.o"]),
+            case("preprocesses", ["-nostdinc", "-E", "it.c"], there={"it.c": b"#define A(x) x##1 + #x\nA(b) __LINE__\n" * 200}),
+        ],
         ["-DONE_SOURCE=1", "-DTCC_TARGET_X86_64", "-DCONFIG_TCC_STATIC=1", "-DCONFIG_TCC_SEMLOCK=0", "-I."],
         is_float=True,
         prepare=headers({"config.h": '#define TCC_VERSION "0"\n#define CONFIG_TCCDIR "/"\n'}),
@@ -295,13 +366,18 @@ PROGRAMS = {
     "unifdef": Program(
         "unifdef",
         (["unifdef.c"], None),
-        [("some", ["-DA1", "-UA2", "it.c"], b"", {"it.c": DEFINES}, []), ("all", ["-DA1", "-DA2", "-UB", "-UA0"], DEFINES, {}, [])],
+        [
+            case("some", ["-DA1", "-UA2", "it.c"], there={"it.c": DEFINES}),
+            case("all", ["-DA1", "-DA2", "-UB", "-UA0"], given=DEFINES),
+        ],
         ["-I."],
     ),
     "picosat": Program(
         "picosat",
         (["picosat.c", "app.c", "main.c", "version.c"], None),
-        [("a formula", ["it.cnf"], b"", {"it.cnf": CNF.encode()}, [])],
+        [
+            case("a formula", ["it.cnf"], there={"it.cnf": CNF.encode()}),
+        ],
         ["-DNGETRUSAGE", "-DNDEBUG"],
         is_float=True,
         prepare=headers({"config.h": '#define PICOSAT_CC "0"\n#define PICOSAT_CFLAGS "0"\n#define PICOSAT_VERSION "0"\n'}),
@@ -309,32 +385,54 @@ PROGRAMS = {
     "par": Program(
         "par",
         (["buffer.c", "charset.c", "errmsg.c", "par.c", "reformat.c"], None),
-        [("lines of 50", ["50"], TEXT[:20_000], {}, []), ("justified", ["60", "j1"], TEXT[:20_000], {}, [])],
+        [
+            case("lines of 50", ["50"], given=TEXT[:20_000]),
+            case("justified", ["60", "j1"], given=TEXT[:20_000]),
+        ],
     ),
     "toast": Program(
         "libgsm",
         (["src"], all_but("gsm_print.c")),
-        [("packs", ["-l", "-p", "-c", "it"], b"", {"it": SOUND}, [])],
+        [
+            case("packs", ["-l", "-p", "-c", "it"], there={"it": SOUND}),
+        ],
         ["-Iinc", "-DSASR", "-DWAV49", "-DNeedFunctionPrototypes=1", "-DHAS_UNISTD_H", "-DHAS_FCNTL_H", "-DHAS_STDLIB_H", "-DHAS_LIMITS_H"],
     ),
     "pbmtojbg": Program(
         "jbigkit",
         (["libjbig/jbig.c", "libjbig/jbig_ar.c", "pbmtools/pbmtojbg.c"], None),
-        [("a picture", ["it.pbm", "it.jbg"], b"", {"it.pbm": PBM}, ["it.jbg"]), ("in one layer", ["-q", "it.pbm", "it.jbg"], b"", {"it.pbm": PBM}, ["it.jbg"])],
+        [
+            case("a picture", ["it.pbm", "it.jbg"], there={"it.pbm": PBM}, wanted=["it.jbg"]),
+            case("in one layer", ["-q", "it.pbm", "it.jbg"], there={"it.pbm": PBM}, wanted=["it.jbg"]),
+        ],
         ["-Ilibjbig"],
         is_float=True,
     ),
-    "xa": Program("xa", (["src"], None), [("assembles", ["-o", "it.o65", "it.a65"], b"", {"it.a65": ASSEMBLER}, ["it.o65"])], ["-Isrc"], is_float=True),
+    "xa": Program(
+        "xa",
+        (["src"], None),
+        [
+            case("assembles", ["-o", "it.o65", "it.a65"], there={"it.a65": ASSEMBLER}, wanted=["it.o65"]),
+        ],
+        ["-Isrc"],
+        is_float=True,
+    ),
     "z80asm": Program(
         "z80asm",
         (["z80asm.c", "expressions.c"], None),
-        [("assembles", ["-o", "it.bin", "it.asm"], b"", {"it.asm": Z80}, ["it.bin"])],
+        [
+            case("assembles", ["-o", "it.bin", "it.asm"], there={"it.asm": Z80}, wanted=["it.bin"]),
+        ],
         ["-Ignulib", '-DVERSION="0"'],
     ),
     "json_reformat": Program(
         "yajl",
         (["src", "reformatter"], None),
-        [("lays out", [], JSON, {}, []), ("makes small", ["-m"], JSON, {}, []), ("refuses", [], JSON[:-20], {}, [])],
+        [
+            case("lays out", [], given=JSON),
+            case("makes small", ["-m"], given=JSON),
+            case("refuses", [], given=JSON[:-20]),
+        ],
         ["-Iinclude", "-Isrc/api", "-Isrc"],
         is_float=True,
         prepare=json_headers,
@@ -342,7 +440,9 @@ PROGRAMS = {
     "basez": Program(
         "basez",
         (["basez.c", "base16.c", "base32.c", "base64.c"], None),
-        [(name, [f"--{name}", "it"], b"", {"it": BYTES}, []) for name in ("base64", "base32hex", "hex")],
+        [
+            *(case(name, [f"--{name}", "it"], there={"it": BYTES}) for name in ("base64", "base32hex", "hex")),
+        ],
         ["-DHAVE_CONFIG_H", "-I."],
         prepare=headers({"config.h": BASEZ}),
     ),
