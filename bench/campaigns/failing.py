@@ -247,8 +247,9 @@ def output_of_commands(setting):
         for k in places(setting, len(numbers)):
             error = STREAM_ERRORS[k % len(STREAM_ERRORS)]
             failed = crashes.traced(setting, begun, words, inject=inject("write", numbers[k], error))
-            ends = (failed.status, failed.said) == (124, "sandbox: fault 41\n") and trace.out.startswith(failed.out) and failed.out != trace.out
-            wanted(ends, f"{words[0]}, output number {k + 1} with {error}: status {failed.status}, {failed.said!r}")
+            is_part = trace.out.startswith(failed.out) and failed.out != trace.out
+            told = f"{words[0]}, output number {k + 1} with {error}: status {failed.status}, {failed.said!r}"
+            wanted((failed.status, failed.said) == (124, "sandbox: fault 41\n") and is_part, told)
             wanted(crashes.read(begun) == base, f"{words[0]}, output number {k + 1}: the volume was written")
             tried += 1
     return tried
@@ -264,6 +265,7 @@ def input_of_put(setting):
         error = STREAM_ERRORS[k % 3]
         written(path, scene.base)
         trace = crashes.traced(setting, path, scene.words(path), scene.given, inject("read", number, error))
-        wanted((trace.status, trace.said) == (124, "sandbox: fault 41\n"), f"put, input number {k + 1} with {error}: status {trace.status}, {trace.said!r}")
+        told = f"put, input number {k + 1} with {error}: status {trace.status}, {trace.said!r}"
+        wanted((trace.status, trace.said) == (124, "sandbox: fault 41\n"), told)
         scene.right(path, b"")
     return len(numbers)

@@ -56,7 +56,8 @@ AWK_HEADER = """
 LUA_SCRIPTS = {
     "sums": "local s = 0; for i = 1, 1000000 do s = (s + i * 7) % 1000003 end; print(s)",
     "calls": "local function fib(n) if n < 2 then return n end return fib(n - 1) + fib(n - 2) end; print(fib(24))",
-    "sorting": "local t = {}; local x = 1; for i = 1, 20000 do x = (x * 4827) % 65537; t[i] = x end; table.sort(t); print(t[1], t[10000], t[20000])",
+    "sorting": "local t = {}; local x = 1; for i = 1, 20000 do x = (x * 4827) % 65537; t[i] = x end; table.sort(t);"
+    " print(t[1], t[10000], t[20000])",
     "strings": "local n = 0; for i = 1, 20000 do n = n + #string.rep('ab', i % 20) + string.byte(tostring(i), 1) end; print(n)",
 }
 AWK_SCRIPTS = {
@@ -146,5 +147,6 @@ def rows(given, real):
             wrong += one[0] != other[0]
             same = "same" if one[0] == other[0] else f"DIFFERS: {one[0][:60]!r} and {other[0][:60]!r}"
             units = f"{one[2] / 1e6:8.2f} and {other[2] / 1e6:8.2f} million units, {other[2] / one[2]:5.2f} times"
-            print(f"{name:7} {script:9} integers {one[1]:6.2f} s, softened {other[1]:6.2f} s, {other[1] / one[1]:5.2f} times; {units}  {same}", flush=True)
+            seconds = f"integers {one[1]:6.2f} s, softened {other[1]:6.2f} s, {other[1] / one[1]:5.2f} times"
+            print(f"{name:7} {script:9} {seconds}; {units}  {same}", flush=True)
     return wrong

@@ -247,11 +247,11 @@ def judged(setting, name, limit, small, large):
 
 
 def table_of_modules(setting):
-    return sum(row(setting, name, make, limit, ["run", *words], [], wanted, past, memory) for name, make, limit, words, wanted, past, memory in MODULES)
+    return sum(row(setting, name, make, limit, ["run", *words], [], *ends) for name, make, limit, words, *ends in MODULES)
 
 
 def table_of_volumes(setting):
-    return sum(row(setting, name, make, limit, words, after, wanted, None, GIB) for name, make, limit, words, after, wanted in VOLUMES)
+    return sum(row(setting, *it, None, GIB) for it in VOLUMES)
 
 
 def table_of_words(setting):
@@ -312,4 +312,5 @@ def table(setting):
     """Each limit."""
     if not setting.is_quick:
         print(f"  {'limit':28} {'at':>11} quarter   whole   quarter   whole", flush=True)
-    return table_of_modules(setting) + table_of_volumes(setting) + table_of_files(setting) + table_of_words(setting), "at a quarter, at the limit and past it"
+    tables = table_of_modules, table_of_volumes, table_of_files, table_of_words
+    return sum(it(setting) for it in tables), "at a quarter, at the limit and past it"
