@@ -5,9 +5,10 @@ import os
 import re
 import resource
 import shutil
+import signal
 import subprocess
 import sys
-import time
+import tempfile
 
 TOP = os.path.dirname(os.path.dirname(os.path.dirname(os.path.abspath(__file__))))
 sys.dont_write_bytecode = True
@@ -22,6 +23,7 @@ LINES = {
     120: f"sandbox: trap: ({TRAPS})",
     121: "sandbox: out of fuel",
     122: "sandbox: out of memory",
+    123: "sandbox: fault 33",
     124: r"sandbox: (fault (\d|1[0-6]|2[0-2]|3[0-6]|41)( at \d+)?|errno \d+)",
 }
 
@@ -58,22 +60,44 @@ def bounded(bytes_of_memory):
     return lambda: resource.setrlimit(resource.RLIMIT_AS, (bytes_of_memory, bytes_of_memory)) if bytes_of_memory else None
 
 
+# A call that waits for nothing but itself; only one that hangs without working takes so long by the clock.
+HANGS = 600
+
+
+def ran(words, given, seconds):
+    """A process with its output, ended by SIGXCPU where it takes more than these seconds of the processor.
+
+    The clock would tell how busy the machine is.
+    """
+    started = subprocess.Popen(words, stdin=subprocess.PIPE, stdout=subprocess.PIPE, stderr=subprocess.PIPE)
+    try:
+        resource.prlimit(started.pid, resource.RLIMIT_CPU, (seconds, seconds + 1))
+    except ProcessLookupError:
+        pass  # it has ended
+    try:
+        out, said = started.communicate(given, HANGS)
+    except subprocess.TimeoutExpired:
+        started.kill()
+        started.communicate()
+        raise Wrong(f"no answer at all: {' '.join(words)}") from None
+    if started.returncode in (-signal.SIGXCPU, -signal.SIGKILL):
+        raise Wrong(f"no answer within {seconds} seconds of the processor: {' '.join(words)}")
+    return started.returncode, out, said.decode(errors="replace")
+
+
+def by_the_table(status, said):
+    """Whether a status and error output stand in the table of statuses."""
+    line = LINES.get(status)
+    # the guest may have written before it
+    return bool(re.search(line + "\n\\Z", said)) if line else 0 <= status < 119 and "sandbox:" not in said
+
+
 def answer(setting, words, given=b"", seconds=2):
     """Status, output and error output of a call of the program, which has to answer in time and by the table of statuses."""
-    try:
-        done = subprocess.run([setting.program, *words], input=given, capture_output=True, timeout=seconds)
-    except subprocess.TimeoutExpired:
-        raise Wrong(f"no answer within {seconds} seconds: {' '.join(words)}") from None
-    said = done.stderr.decode(errors="replace")
-    line = LINES.get(done.returncode)
-    if line:
-        # the guest may have written before it
-        is_right = re.search(line + "\n\\Z", said)
-    else:
-        is_right = 0 <= done.returncode < 119 and "sandbox:" not in said
-    if not is_right:
-        raise Wrong(f"status {done.returncode}, {said[:200]!r}: {' '.join(words)}")
-    return done.returncode, done.stdout, said
+    status, out, said = ran([setting.program, *words], given, seconds)
+    if not by_the_table(status, said):
+        raise Wrong(f"status {status}, {said[:200]!r}: {' '.join(words)}")
+    return status, out, said
 
 
 def succeeded(setting, *words, given=b""):
@@ -84,22 +108,25 @@ def succeeded(setting, *words, given=b""):
     return out
 
 
-def measured(setting, words, given=b"", memory=None, seconds=600):
+def measured(setting, words, given=b"", memory=None):
     """Status, error output, seconds of the processor and mebibytes of a call."""
-    begun = time.monotonic()
-    started = subprocess.Popen(
-        [setting.program, *words], stdin=subprocess.PIPE, stdout=subprocess.DEVNULL, stderr=subprocess.PIPE, preexec_fn=bounded(memory)
-    )
-    started.stdin.write(given)
-    started.stdin.close()
-    said = started.stderr.read().decode()
-    _, status, usage = os.wait4(started.pid, 0)
+    with tempfile.TemporaryFile() as source:
+        source.write(given)
+        source.seek(0)
+        how = {"stdin": source, "stdout": subprocess.DEVNULL, "stderr": subprocess.PIPE, "preexec_fn": bounded(memory)}
+        started = subprocess.Popen([setting.program, *words], **how)
+        said = started.stderr.read().decode()
+        _, status, usage = os.wait4(started.pid, 0)
     started.returncode = os.waitstatus_to_exitcode(status)
-    if time.monotonic() - begun > seconds:
-        raise Wrong(f"more than {seconds} seconds: {' '.join(words)}")
     return started.returncode, said.strip(), usage.ru_utime + usage.ru_stime, usage.ru_maxrss / 1024
 
 
 def copied(path, to):
     shutil.copyfile(path, to)
     return to
+
+
+def written(path, content):
+    with open(path, "wb") as it:
+        it.write(content)
+    return path

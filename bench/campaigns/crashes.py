@@ -10,53 +10,87 @@ import random
 import re
 import subprocess
 
-from common import TOP, Wrong, answer, copied, succeeded
+from common import TOP, Wrong, answer, copied, succeeded, written
 from damage import own_path
 
-CALL = re.compile(r'\d+ +(pwrite64|write|fdatasync|fsync|ftruncate|openat)\((.*)\) += (-?\d+)')
+CALL = re.compile(r"\d+ +(\w+)\((.*)\) += (-?\d+)")
+TRACED = "openat,read,write,pread64,pwrite64,fdatasync,fsync,ftruncate,flock,statx,fstat,newfstatat,pwritev,writev,fallocate,sync_file_range"
+UNKNOWN = ("pwritev", "writev", "fallocate", "sync_file_range", "fsync")
 KEYS = f"{TOP}/examples/c/keys.wasm"
 
 
+class Trace:
+    """What `strace` saw of a call: status, output, error output; the events of its volume; the calls that opened its files.
+
+    An event is ("write", sector, bytes), ("sync",), ("said", bytes), or one of the first two that failed, with "failed " before its
+    name. Each has in `numbers` which call of its name it was, and so has each of `files`, which has names alone: the calls on the
+    volume before its first event, and those on the module.
+    """
+
+    def __init__(self, done):
+        self.status, self.out, self.said = done.returncode, done.stdout, done.stderr.decode(errors="replace")
+        self.events, self.numbers, self.files, self.inputs = [], [], [], []
+
+    def read(self, log, volume, module):
+        counts, kinds = collections.Counter(), {0: "input", 1: "output"}
+        names = {"".join(f"\\x{it:02x}" for it in path.encode()): kind for path, kind in ((volume, "volume"), (module, "module")) if path}
+        with open(log) as lines:
+            for line in lines:
+                found = CALL.match(line)
+                if not found:
+                    continue
+                name, words, result = found[1], found[2], int(found[3])
+                counts[name] += 1
+                if name == "openat":
+                    kind = next((it for path, it in names.items() if f'"{path}"' in words), None)
+                    kinds[result] = kind
+                else:
+                    number = words.split(",")[0]
+                    kind = kinds.get(int(number)) if number.isdigit() else None
+                self.call(kind, name, words, result, counts[name])
+
+    def call(self, kind, name, words, result, number):
+        if kind == "output" and name == "write":
+            it = ("said", bytes.fromhex(re.search(r'"(.*)"', words)[1].replace("\\x", ""))[: max(result, 0)])
+        elif kind == "volume" and name in ("pwrite64", "fdatasync"):
+            it = event(name, words, result)
+        elif kind == "volume" and name in UNKNOWN:
+            raise Wrong(f"a call that the model doesn't know: {name}({words[:60]})")
+        else:
+            if kind == "input" and name == "read":
+                self.inputs.append(number)
+            if kind in ("volume", "module") and not self.events:
+                self.files.append((name, number))
+            return
+        self.events.append(it)
+        self.numbers.append(number)
+
+
+def event(name, words, result):
+    if name == "fdatasync":
+        return ("sync",) if result == 0 else ("failed sync",)
+    text, is_cut, length, at = re.search(r'"(.*)"(\.\.\.)?, (\d+), (\d+)$', words).groups()
+    content = bytes.fromhex(text.replace("\\x", ""))
+    if length != "512" or int(at) % 512 or not is_cut and len(content) != 512 or result not in (-1, 0, 512):
+        raise Wrong(f"a write that is no sector: {length} bytes at {at} answered {result}")
+    return "write" if result == 512 else "failed write", int(at) // 512, content
+
+
+def traced(setting, volume, words, given=b"", inject=()):
+    """A call on a volume; `inject` has words for strace that make a call of the system fail, and then no event has its bytes."""
+    log = own_path(setting, "trace")
+    call = ["strace", "-f", "-xx", "-s", "0" if inject else "70000", "-e", f"trace={TRACED}", *inject, "-o", log, setting.program, *words]
+    it = Trace(subprocess.run(call, input=given, capture_output=True))
+    it.read(log, volume, next((word for word in words if word.endswith(".wasm")), None))
+    return it
+
+
 def recorded(setting, volume, words, given=b""):
-    """The events of a call on a volume: writes of a sector, syncs, and what was said on standard output."""
-    log = f"{setting.room}/trace"
-    traced = "trace=openat,pwrite64,write,fdatasync,fsync,ftruncate,pwritev,writev,fallocate,sync_file_range"
-    call = ["strace", "-f", "-xx", "-s", "70000", "-e", traced, "-o", log, setting.program, *words]
-    done = subprocess.run(call, input=given, capture_output=True)
-    if done.returncode:
-        raise Wrong(f"status {done.returncode} under strace: {' '.join(words)}")
-    events, descriptor = [], None
-    name = "".join(f"\\x{it:02x}" for it in volume.encode())
-    with open(log) as lines:
-        for line in lines:
-            found = CALL.match(line)
-            if not found:
-                if re.match(r"\d+ +(pwritev|writev|fallocate|sync_file_range)\(", line):
-                    raise Wrong(f"a call that the model doesn't know: {line[:80]}")
-                continue
-            kind, words_of_call, result = found[1], found[2], int(found[3])
-            if kind == "openat":
-                descriptor = result if name in words_of_call else descriptor
-                continue
-            events += event(kind, words_of_call, descriptor)
-    return events
-
-
-def event(kind, words, descriptor):
-    number = int(words.split(",")[0])
-    if kind == "write" and number == 1:
-        return [("said", bytes.fromhex(re.search(r'"(.*)"', words)[1].replace("\\x", "")))]
-    if descriptor is None or number != descriptor:
-        return []
-    if kind == "pwrite64":
-        text, length, at = re.search(r'"(.*)", (\d+), (\d+)$', words).groups()
-        content = bytes.fromhex(text.replace("\\x", ""))
-        if len(content) != int(length) or int(at) % 512 or len(content) % 512:
-            raise Wrong(f"a write that is no sector: {length} bytes at {at}")
-        return [("write", int(at) // 512 + k, content[512 * k : 512 * k + 512]) for k in range(len(content) // 512)]
-    if kind in ("fdatasync", "fsync"):
-        return [("sync",)]
-    raise Wrong(f"a call that the model doesn't know: {kind}({words[:60]})")
+    """A call on a volume that has to succeed."""
+    it = traced(setting, volume, words, given)
+    if it.status or any(event[0].startswith("failed") for event in it.events):
+        raise Wrong(f"status {it.status}, {it.said[:200]!r} under strace: {' '.join(words)}")
+    return it
 
 
 DRAWN = 24
@@ -77,54 +111,74 @@ def picks(chance, pending, most):
         yield {it: chance.choice(pending[it]) for it in sectors}
 
 
+class Disk:
+    """What each sector held at the last sync that succeeded, and all values whose write was tried since."""
+
+    def __init__(self, base):
+        self.settled = [base[512 * k : 512 * k + 512] for k in range(len(base) // 512)]
+        self.pending, self.last = {}, {}
+
+    def does(self, event):
+        if event[0] in ("write", "failed write"):
+            values = self.pending.setdefault(event[1], [self.settled[event[1]]])
+            if event[2] not in values:
+                values.append(event[2])
+            # what reads give
+            self.last[event[1]] = event[2]
+        elif event[0] == "sync":
+            for sector in self.pending:
+                self.settled[sector] = self.last[sector]
+            self.pending = {}
+
+    def images(self, chance, most):
+        for chosen in picks(chance, self.pending, most):
+            yield b"".join(chosen.get(k, it) for k, it in enumerate(self.settled))
+
+
 def images(chance, base, events, most):
     """Each crash image, with the number of events before it and what was said on standard output by then."""
-    settled = [base[512 * k : 512 * k + 512] for k in range(len(base) // 512)]
-    pending, said, seen = collections.OrderedDict(), b"", set()
+    disk, said, seen = Disk(base), b"", set()
     for moment in range(len(events) + 1):
-        for chosen in picks(chance, pending, most):
-            image = b"".join(chosen.get(k, it) for k, it in enumerate(settled))
+        for image in disk.images(chance, most):
             key = hash((image, said))
             if key not in seen:
                 seen.add(key)
                 yield moment, image, said
-        if moment == len(events):
-            return
-        it = events[moment]
-        if it[0] == "write":
-            values = pending.setdefault(it[1], [settled[it[1]]])
-            if it[2] not in values:
-                values.append(it[2])
-        elif it[0] == "sync":
-            for sector, values in pending.items():
-                # what reads give is the last write
-                settled[sector] = last_written(events[:moment], sector)
-            pending.clear()
-        else:
-            said += it[1]
+        if moment < len(events):
+            disk.does(events[moment])
+            said += events[moment][1] if events[moment][0] == "said" else b""
 
 
-def last_written(events, sector):
-    return next(it[2] for it in reversed(events) if it[0] == "write" and it[1] == sector)
+def is_right(setting, scene, name, image, said):
+    """Asks whether a volume is as it has to be."""
+    path = own_path(setting, "crash")
+    written(path, image)
+    try:
+        scene.right(path, said)
+    except Wrong as wrong:
+        raise Wrong(f"{scene.name}, {name}: {wrong}; the image is kept as {setting.keep('crash', image)}") from None
+    return 1
 
 
-def crashed(setting, name, base, events, right, most=None):
-    """Opens each crash image; `right` is asked of the image's path and of what was said."""
+class Scene:
+    """A call on a volume: the volume before it, its words and input, what has to hold of each volume that a crash leaves (`right`,
+    of the volume's path and what was said by then), and of the volume when it has ended (`ended`)."""
+
+    def __init__(self, name, base, words, right, text, given=b"", ended=None):
+        self.name, self.base, self.words, self.right, self.text, self.given, self.ended = name, base, words, right, text, given, ended
+
+
+def crashed(setting, scene, most):
+    """A row: records the call, and opens each crash image, of which a moment has at most so many."""
+    path = f"{setting.room}/recorded"
+    written(path, scene.base)
+    trace = recorded(setting, path, scene.words(path), scene.given)
     chance = random.Random(setting.seed)
-    most = most or (8 if setting.is_quick else 256)
-
-    def one(it):
-        moment, image, said = it
-        path = own_path(setting, "crash")
-        with open(path, "wb") as file:
-            file.write(image)
-        try:
-            right(path, said)
-        except Wrong as wrong:
-            raise Wrong(f"{name}, after {moment} events: {wrong}; the image is kept as {setting.keep('crash', image)}") from None
-        return 1
-
-    return sum(setting.each(one, images(chance, base, events, most)))
+    every = images(chance, scene.base, trace.events, most)
+    tried = sum(setting.each(lambda it: is_right(setting, scene, f"after {it[0]} events", *it[1:]), every))
+    if scene.ended:
+        scene.ended(path, trace)
+    return tried, f"{scene.text}, {len(trace.events)} events"
 
 
 def read(path):
@@ -144,31 +198,27 @@ def key_store(setting):
     """Records that are appended and synced one by one: a first part is there, with all that were said."""
     path = fresh(setting)
     succeeded(setting, "put", path, "/other", given=b"other")
-    base = read(path)
     count = 6 if setting.is_quick else 120
-    events = recorded(setting, path, ["run", "--volume", path, KEYS, "store", "fill", str(count)])
-    whole = b"".join(b"k%d=k%d\n" % (k, k) for k in range(count))
+    lines = [b"k%d=k%d\n" % (k, k) for k in range(count)]
 
     def right(path, said):
         succeeded(setting, "check", path)
-        least = len(b"".join(b"k%d=k%d\n" % (k, k) for k in range(said.count(b"\n"))))
+        least = said.count(b"\n")
         status, store, line = answer(setting, ["get", path, "/store"])
         if status and (line != "sandbox: errno 44\n" or least):
             raise Wrong(line)
-        if not whole.startswith(store) or len(store) < least or (store and not store.endswith(b"\n")):
-            raise Wrong(f"{len(store)} bytes of the store, and {least} were synced")
+        if store not in (b"".join(lines[:least]), b"".join(lines[: least + 1])):
+            raise Wrong(f"{len(store)} bytes of the store, and {least} records were synced")
         if succeeded(setting, "get", path, "/other") != b"other":
             raise Wrong("another file changed")
 
-    return crashed(setting, "the key store", base, events, right), f"{count} records, {len(events)} events"
+    return Scene("key store", read(path), lambda path: ["run", "--volume", path, KEYS, "store", "fill", str(count)], right, f"{count} records")
 
 
 def pages(setting):
     """Pages over a journal, as a database writes them: each page is one write, so none is kept in half."""
     path = fresh(setting, "400", "16")
-    base = read(path)
     count, rounds = (2, 1) if setting.is_quick else (3, 2)
-    events = recorded(setting, path, ["run", "--volume", path, f"{TOP}/examples/c/pages.wasm", "file", str(count), str(rounds)])
 
     def right(path, _):
         succeeded(setting, "check", path)
@@ -181,7 +231,10 @@ def pages(setting):
             if name == "file" and any(it - {0, *(k + n for n in range(rounds + 1))} for k, it in enumerate(each)):
                 raise Wrong("a page of no round")
 
-    return crashed(setting, "pages", base, events, right), f"{count} pages in {rounds} rounds, {len(events)} events"
+    def words(path):
+        return ["run", "--volume", path, f"{TOP}/examples/c/pages.wasm", "file", str(count), str(rounds)]
+
+    return Scene("pages", read(path), words, right, f"{count} pages in {rounds} rounds")
 
 
 def put(setting):
@@ -190,8 +243,6 @@ def put(setting):
     old, new = bytes(range(256)) * 4, bytes(7 * k % 251 for k in range(2_000 if setting.is_quick else 31_000))
     succeeded(setting, "put", path, "/a", given=old)
     succeeded(setting, "put", path, "/other", given=b"other")
-    base = read(path)
-    events = recorded(setting, path, ["put", path, "/a"], new)
 
     def right(path, _):
         succeeded(setting, "check", path)
@@ -201,10 +252,11 @@ def put(setting):
         if succeeded(setting, "get", path, "/other") != b"other":
             raise Wrong("another file changed")
 
-    done = crashed(setting, "put", base, events, right)
-    if succeeded(setting, "get", path, "/a") != new:
-        raise Wrong("put has ended, and the file isn't there")
-    return done, f"{len(new)} bytes, {len(events)} events"
+    def ended(path, _):
+        if succeeded(setting, "get", path, "/a") != new:
+            raise Wrong("put has ended, and the file isn't there")
+
+    return Scene("put", read(path), lambda path: ["put", path, "/a"], right, f"{len(new)} bytes", new, ended)
 
 
 def formatted(setting):
@@ -212,10 +264,7 @@ def formatted(setting):
     path = fresh(setting, "202", "40")
     for k in range(14):
         succeeded(setting, "put", path, f"/{k}", given=b"old")
-    base, old = read(path), succeeded(setting, "ls", path, "/")
-    events = recorded(setting, path, ["format", path, "202", "16"])
-    if succeeded(setting, "ls", path, "/") or not old:
-        raise Wrong("a formatted volume isn't empty")
+    old = succeeded(setting, "ls", path, "/")
 
     def right(path, _):
         status, _, said = answer(setting, ["check", path])
@@ -224,7 +273,11 @@ def formatted(setting):
         if status or succeeded(setting, "ls", path, "/") not in (b"", old):
             raise Wrong(said or "another tree")
 
-    return crashed(setting, "format", base, events, right), f"{len(events)} events"
+    def ended(path, _):
+        if succeeded(setting, "ls", path, "/") or not old:
+            raise Wrong("a formatted volume isn't empty")
+
+    return Scene("format", read(path), lambda path: ["format", path, "202", "16"], right, "over a volume of 14 files", ended=ended)
 
 
 def upgraded(setting):
@@ -232,21 +285,19 @@ def upgraded(setting):
     path = fresh(setting)
     old = bytes(5 * k % 253 for k in range(31_000))
     succeeded(setting, "put", path, "/a", given=old)
-    base = read(path)
-    events = recorded(setting, path, ["upgrade", path])
 
     def right(path, _):
         line = succeeded(setting, "check", path)
         if not re.match(rb"version [12], entries 2 of 16, sectors 62 of 64\n", line) or succeeded(setting, "get", path, "/a") != old:
             raise Wrong(f"another tree: {line!r}")
 
-    return crashed(setting, "upgrade", base, events, right), f"{len(events)} events"
+    return Scene("upgrade", read(path), lambda path: ["upgrade", path], right, "a file of 31,000 bytes")
 
 
 def opened(setting):
     """A crash while an interrupted commit is installed: the tree is that of the commit."""
     path = fresh(setting)
-    events = recorded(setting, path, ["put", path, "/a"], b"new" * 300)
+    events = recorded(setting, path, ["put", path, "/a"], b"new" * 300).events
     headers = [k for k, it in enumerate(events) if it[0] == "write" and it[1] == 1 and it[2][:4] != bytes(4)]
     if not headers:
         raise Wrong("no commit was recorded")
@@ -258,14 +309,10 @@ def opened(setting):
     for event in events[headers[-1] + 1 :]:
         if event[0] == "write" and event[1] >= 122:
             it[512 * event[1] : 512 * event[1] + 512] = bytes(512)
-    base = bytes(it)
-    with open(path, "wb") as file:
-        file.write(base)
-    events = recorded(setting, path, ["check", path])
 
     def right(path, _):
         succeeded(setting, "check", path)
         if succeeded(setting, "get", path, "/a") != b"new" * 300:
             raise Wrong("the commit isn't there")
 
-    return crashed(setting, "opening", base, events, right), f"{len(events)} events"
+    return Scene("opening", bytes(it), lambda path: ["check", path], right, "the log of a commit")

@@ -1,15 +1,17 @@
 """What the limits cost: the time and the memory of each at its limit and at a quarter of it, and the answer one past it.
 
 A row holds the seconds of the processor and the mebibytes at a quarter of the limit and at the limit, so that one sees growth that
-isn't linear: more than eight times the time at four times the size, and over a second, is wrong.
+isn't linear. More than eight times the time at four times the size is wrong, and so are more than five times the memory; half a
+second and 64 MiB are left for what doesn't grow. The quick form takes a sixteenth of each limit, and judges neither.
 """
+import os
 import struct
 
 import wasm_binary
-from common import Wrong, measured
-from wasm_binary import I32, Body, Module, sized, u
+from common import Wrong, measured, succeeded
+from wasm_binary import I32, I64, Body, Module, sized, u
 
-END = (0x0B, ())
+LOOP, IF, END = (0x03, (-0x40,)), (0x04, (-0x40,)), (0x0B, ())
 EMPTY = -0x40
 GIB = 1 << 30
 
@@ -99,6 +101,69 @@ def constants(size):
     return module(start(*[(0x41, (k,)) for k in range(size)], *[(0x1A, ())] * size))
 
 
+def calls_of(name, takes, code, datas):
+    """A guest that calls one function of WASI, `fd_close` and `proc_exit`; its three locals are numbers."""
+    kinds = [([], []), (takes, [I32]), ([I32], [I32]), ([I32], [])]
+    it = Module(module(start()))
+    it.types, it.functions, it.exports, it.memories = kinds, [0], [(b"_start", 0, 3)], [(1, None)]
+    it.imports = [(b"wasi_snapshot_preview1", each, 0, kind) for each, kind in ((name, 1), (b"fd_close", 2), (b"proc_exit", 3))]
+    it.bodies = [Body([(3, 0x7F)], [*code, END])]
+    it.datas = [([(0x41, (at,)), END], content) for at, content in datas]
+    return it.bytes()
+
+
+def numbers(*values):
+    return [(0x41, (it,)) for it in values]
+
+
+# the errno of the call before ends the guest, where it isn't 0
+ENDED = [(0x22, (0,)), IF, (0x20, (0,)), (0x10, (2,)), END]
+
+
+def times(local, count, code):
+    """The code so many times, counted in a local from 0."""
+    turn = [(0x20, (local,)), *numbers(1), (0x6A, ()), (0x22, (local,)), *numbers(count), (0x49, ()), (0x0D, (0,))]
+    return [*numbers(0), (0x21, (local,)), LOOP, *code, *turn, END]
+
+
+# what a buffer takes of standard input
+READ = 200 * 16
+
+
+def buffers(name, descriptor):
+    """Two hundred calls with so many buffers of 16 bytes."""
+    def make(size):
+        code = times(1, 200, [*numbers(descriptor, 1024, size, 16), (0x10, (0,)), *ENDED])
+        return calls_of(name, [I32] * 4, code, [(1024, struct.pack("<II", 60_000, 16) * size)])
+
+    make.__name__ = name.decode()
+    return make
+
+
+OPEN_TAKES = [I32, I32, I32, I32, I32, I64, I64, I32, I32]
+
+
+def opened(length):
+    """Opens the file of a name of this length, which is made where it isn't there."""
+    return [*numbers(3, 0, 1024, length, 1), (0x42, (-1,)), (0x42, (0,)), *numbers(0, 16), (0x10, (0,)), *ENDED]
+
+
+def closed(descriptor):
+    return [*descriptor, (0x10, (1,)), *ENDED]
+
+
+def opens(size):
+    """So many descriptors at once beside the streams and `/`, two hundred times."""
+    close = closed([(0x20, (2,)), *numbers(4), (0x6A, ())])
+    code = times(1, 200, times(2, size, opened(1)) + times(2, size, close))
+    return calls_of(b"path_open", OPEN_TAKES, code, [(1024, b"f")])
+
+
+def names(size):
+    """A file with a name of so many bytes, opened twenty thousand times."""
+    return calls_of(b"path_open", OPEN_TAKES, times(1, 20_000, opened(size) + closed(numbers(4))), [(1024, b"n" * size)])
+
+
 def entry(name, parent=1, kind=4):
     return bytes((kind, len(name), 0, 0)) + struct.pack("<II", parent, 0) + name.ljust(500, b"\0")
 
@@ -132,6 +197,10 @@ MODULES = [
     ("functions", many_functions, 500_000, [], (0, ""), None, 2 * GIB),
     ("bytes of module, data", long_data, 1 << 26, [], (0, ""), (124, OVER), 2 * GIB),
     ("bytes of module, code", long_code, 1 << 26, [], (0, ""), (124, OVER), 6 * GIB),
+    ("buffers of a write", buffers(b"fd_write", 1), 1_024, FUEL, (0, ""), (28, ""), GIB),
+    ("buffers of a read", buffers(b"fd_read", 0), 1_024, FUEL, (0, ""), (28, ""), GIB),
+    ("opens", opens, 252, FUEL, (0, ""), (33, ""), GIB),
+    ("bytes of a name", names, 255, FUEL, (0, ""), (37, ""), GIB),
     ("pages", pages, 65_536, ["--pages", "65536"], (0, ""), (120, "sandbox: trap: out of bounds memory access"), 6 * GIB),
 ]
 VOLUMES = [
@@ -149,7 +218,8 @@ def one(setting, make, size, words, after, wanted, memory):
     path = f"{setting.room}/limit"
     with open(path, "wb") as it:
         it.write(make(size))
-    status, said, seconds, mebibytes = measured(setting, [*words, path, *after], memory=memory)
+    given = bytes(READ * size) if make.__name__ == "fd_read" else b""
+    status, said, seconds, mebibytes = measured(setting, [*words, path, *after], given, memory)
     if wanted and ((status, said) if not said.startswith("sandbox: fault 11") else (status, said[:17])) != wanted:
         raise Wrong(f"{make.__name__} of {size}: {(status, said)}")
     return seconds, mebibytes
@@ -163,19 +233,25 @@ def row(setting, name, make, limit, words, after, wanted, past, memory):
     if past and not setting.is_quick:
         one(setting, make, limit + 1, words, after, past, memory)
         tried += 1
-    if large[0] > max(1, 8 * small[0]):
-        raise Wrong(f"{name}: {small[0]:.2f} seconds at {limit // 4:,}, and {large[0]:.2f} at {limit:,}")
-    if not setting.is_quick:
-        print(f"  {name:28} {limit:11,} {small[0]:7.2f} {large[0]:7.2f} s {small[1]:7.0f} {large[1]:7.0f} MiB", flush=True)
+    judged(setting, name, limit, small, large)
     return tried
 
 
+def judged(setting, name, limit, small, large):
+    """Prints a row of the table; the quick form has none, and judges nothing that is measured."""
+    if setting.is_quick:
+        return
+    print(f"  {name:28} {limit:11,} {small[0]:7.2f} {large[0]:7.2f} s {small[1]:7.0f} {large[1]:7.0f} MiB", flush=True)
+    if large[0] > 8 * small[0] + 0.5 or large[1] > 5 * small[1] + 64:
+        raise Wrong(f"{name}: {small[0]:.2f} seconds and {small[1]:.0f} MiB at {limit // 4:,}, {large[0]:.2f} and {large[1]:.0f} at {limit:,}")
+
+
 def table_of_modules(setting):
-    return sum(row(setting, name, make, limit, ["run", *words], [], wanted, past, memory) for name, make, limit, words, wanted, past, memory in MODULES)
+    return sum(row(setting, name, make, limit, ["run", *words], [], *ends) for name, make, limit, words, *ends in MODULES)
 
 
 def table_of_volumes(setting):
-    return sum(row(setting, name, make, limit, words, after, wanted, None, GIB) for name, make, limit, words, after, wanted in VOLUMES)
+    return sum(row(setting, *it, None, GIB) for it in VOLUMES)
 
 
 def table_of_words(setting):
@@ -200,8 +276,41 @@ def table_of_words(setting):
     return len(rows)
 
 
+def table_of_files(setting):
+    """The longest file of a volume of version 2, and the largest volume."""
+    path, less, tried = f"{setting.room}/limit", 16 if setting.is_quick else 1, 0
+    file, volume = 8_483_840 // less, 65_536 // less
+    puts, gets, checks = [], [], []
+    for size in (file // 4, file, *([file + 1] if less == 1 else [])):
+        with open(path, "wb"):
+            pass
+        succeeded(setting, "format", path, "20000", "16")
+        succeeded(setting, "upgrade", path)
+        ends = (0, "") if size <= file else (124, "sandbox: errno 22")
+        puts.append(wanted("put of a file", measured(setting, ["put", path, "/a"], bytes(size), GIB), ends))
+        gets.append(wanted("get of it", measured(setting, ["get", path, "/a"], memory=GIB), (0, "")))
+        tried += 2
+    for size in (volume // 4, volume):
+        os.remove(path)
+        succeeded(setting, "format", path, str(size), "8192" if size > 8_400 else "16")
+        checks.append(wanted("check of sectors", measured(setting, ["check", path], memory=GIB), (0, "")))
+        tried += 1
+    wanted("format of more", measured(setting, ["format", path, "65537", "16"]), (124, "sandbox: fault 36"))
+    judged(setting, "bytes of a file, put", file, *puts[:2])
+    judged(setting, "bytes of a file, get", file, *gets[:2])
+    judged(setting, "sectors, check", volume, *checks)
+    return tried + 1
+
+
+def wanted(name, got, ends):
+    if got[:2] != ends:
+        raise Wrong(f"{name}: {got[:2]}")
+    return got[2:]
+
+
 def table(setting):
     """Each limit."""
     if not setting.is_quick:
         print(f"  {'limit':28} {'at':>11} quarter   whole   quarter   whole", flush=True)
-    return table_of_modules(setting) + table_of_volumes(setting) + table_of_words(setting), "at a quarter, at the limit and past it"
+    tables = table_of_modules, table_of_volumes, table_of_files, table_of_words
+    return sum(it(setting) for it in tables), "at a quarter, at the limit and past it"

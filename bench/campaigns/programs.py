@@ -297,7 +297,7 @@ def counted(path, module):
     """The end, the value and the units, as `wasm-interp` gives them."""
     with open(path, "wb") as it:
         it.write(counting(module).bytes())
-    done = subprocess.run(["wasm-interp", "--run-all-exports", "--dummy-import-func", path], capture_output=True, text=True, timeout=60)
+    done = subprocess.run(["wasm-interp", "--run-all-exports", "--dummy-import-func", path], capture_output=True, text=True, timeout=600)
     out = done.stdout + done.stderr
     units, value = re.search(r"units\(\) => i64:(\d+)", out), re.search(r"value\(\) => i64:(\d+)", out)
     end = re.search(r"_start\(\) =>(?: error: (.*))?", out)

@@ -158,8 +158,8 @@ def tree_of(image):
 
 
 def random_calls(setting):
-    """Random calls with their model, and all crash images of the run."""
-    count, most = (60, 2) if setting.is_quick else (1_000, 64)
+    """Random calls with their model, for all crash images of the run."""
+    count = 60 if setting.is_quick else 1_000
     chance = random.Random(setting.seed)
     calls, trees, answers, synced = [], [Tree()], [], [0]
     for _ in range(count):
@@ -171,20 +171,24 @@ def random_calls(setting):
         synced.append(len(trees) - 1 if call[0] == "s" else synced[-1])
     script = "".join(" ".join(it) + "\n" for it in calls).encode()
     path = crashes.fresh(setting, str(SECTORS), str(SLOTS))
-    base = crashes.read(path)
-    events = crashes.recorded(setting, path, ["run", "--volume", path, GUEST], script)
-    said = b"".join(it[1] for it in events if it[0] == "said").split()
-    if list(map(int, said)) != answers:
-        first = next(k for k, it in enumerate(answers) if k >= len(said) or int(said[k]) != it)
-        raise Wrong(f"call {first}, {' '.join(calls[first])}, answers {said[first : first + 1]} and not {answers[first]}; kept as {setting.keep('calls', script)}")
 
-    def right(path, said):
+    def right(path, said, more=1):
         succeeded(setting, "check", path)
         got, done = tree_of(crashes.read(path)), said.count(b"\n")
-        if not any(trees[k].entries == got for k in range(synced[done], min(done + 1, count) + 1)):
-            raise Wrong(f"the tree is none of those after {synced[done]} to {done + 1} calls")
+        if not any(trees[k].entries == got for k in range(synced[done], min(done + more, count) + 1)):
+            raise Wrong(f"the tree is none of those after {synced[done]} to {done + more} calls")
 
-    tried = crashes.crashed(setting, "random calls", base, events, right, most)
-    if tree_of(crashes.read(path)) != trees[-1].entries:
-        raise Wrong("the tree at the end is another")
-    return tried, f"{count} calls, {sum(it > 0 for it in answers)} refused, {len(events)} events"
+    def ended(path, trace):
+        said = list(map(int, trace.out.split()))
+        if said != answers:
+            first = next(k for k, it in enumerate(answers) if k >= len(said) or said[k] != it)
+            kept = setting.keep("calls", script)
+            raise Wrong(f"call {first}, {' '.join(calls[first])}, answers {said[first : first + 1]} and not {answers[first]}; kept as {kept}")
+        if tree_of(crashes.read(path)) != trees[-1].entries:
+            raise Wrong("the tree at the end is another")
+
+    refused = sum(it > 0 for it in answers)
+    words = lambda path: ["run", "--volume", path, GUEST]  # noqa: E731
+    scene = crashes.Scene("random calls", crashes.read(path), words, right, f"{count} calls, {refused} refused", script, ended)
+    scene.answers, scene.trees = answers, trees
+    return scene
