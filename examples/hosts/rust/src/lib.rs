@@ -2,7 +2,7 @@
 //!
 //! A [`Module`] is decoded and validated once. [`Module::open`] turns it into a [`Session`], and [`Session::close`] gives it
 //! back, so one module serves many sessions one after another; for several at once load it as often. What a guest reads is
-//! borrowed for as long as its session lives. Both types may move to another thread.
+//! borrowed for as long as its session lives. Both stay on the thread that made them; each thread can have its own.
 mod sys;
 
 use std::fmt;
@@ -73,9 +73,6 @@ pub struct Module<'a> {
     raw: *mut sys::OpaqueModule,
     bytes: PhantomData<&'a [u8]>,
 }
-
-// SAFETY: nothing is shared between modules, and a call has the whole module.
-unsafe impl Send for Module<'_> {}
 
 impl<'a> Module<'a> {
     /// Decodes and validates the module that the bytes spell.
@@ -155,9 +152,6 @@ pub struct Session<'a> {
     _kept: Kept,
     bytes: PhantomData<&'a [u8]>,
 }
-
-// SAFETY: nothing is shared between sessions, and a call has the whole session.
-unsafe impl Send for Session<'_> {}
 
 impl<'a> Session<'a> {
     /// Goes on for at most this many units, and tells how many were used since the session began.

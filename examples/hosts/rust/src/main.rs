@@ -42,14 +42,8 @@ fn keep(bytes: &[u8]) -> Result<(), Box<dyn Error>> {
     let mut volume = format_volume(1000, 16)?;
     for words in [&["keys", "store", "put", "k", "value"][..], &["keys", "store", "get", "k"]] {
         let mut session = Module::load(bytes)?.open(&supplies(words, b""), Some(&volume)).map_err(|it| it.0)?;
-        // a session may go to another thread
-        let (ended, used, said, left) = std::thread::scope(|scope| {
-            let work = scope.spawn(move || {
-                let (ended, used) = session.run(10_000_000).expect("a session");
-                (ended, used, session.output(1), session.finish().expect("a volume in memory"))
-            });
-            work.join().expect("the thread ends")
-        });
+        let (ended, used) = session.run(10_000_000)?;
+        let (said, left) = (session.output(1), session.finish()?);
         assert_eq!(ended, Pause::Exited(0));
         let said = if said.is_empty() { "nothing".into() } else { String::from_utf8(said)? };
         println!("keys {}: {used} units, says {}", words[2], said.trim_end());
