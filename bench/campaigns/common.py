@@ -1,6 +1,6 @@
 """What the campaigns of `bench/hostile` share: running the program, and what an answer of it may be."""
-import concurrent.futures
 import itertools
+import multiprocessing
 import os
 import re
 import resource
@@ -48,12 +48,24 @@ class Setting:
         return path
 
     def each(self, function, items):
-        """The function's answers of all items, some at a time; the first wrong answer ends it."""
-        items = iter(items)
-        with concurrent.futures.ThreadPoolExecutor(self.jobs) as pool:
+        """The function's answers of all items, in as many processes as run at once; the first wrong answer ends it.
+
+        Threads would wait for each other: half of the work is Python's. The processes know the function by being forked, so it may
+        be a closure; what it changes stays there.
+        """
+        global forked
+        forked, items = function, iter(items)
+        with multiprocessing.get_context("fork").Pool(self.jobs) as pool:
             # `map` takes all of what it is given at once
             while some := list(itertools.islice(items, 64 * self.jobs)):
-                yield from pool.map(function, some)
+                yield from pool.map(call_forked, some, 4)
+
+
+forked = None
+
+
+def call_forked(item):
+    return forked(item)
 
 
 def bounded(bytes_of_memory):

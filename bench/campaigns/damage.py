@@ -1,25 +1,19 @@
 """Modules and volumes with changed bytes: each answer comes in time, stands in the table, and writes nothing to what is refused."""
 import collections
-import itertools
 import os
 import random
 import struct
 import subprocess
-import threading
 
 from common import TOP, Wrong, answer, succeeded
 
 SMALL = ["examples/hi.wasm", "examples/c/three.wasm", "examples/c/outside.wasm", "bench/kernels/empty.small.wasm"]
 LARGE = ["examples/c/wc.wasm", "bench/kernels/checksums.small.wasm", "examples/rust/words.wasm", "examples/c/keys.wasm"]
-own = threading.local()
-numbers = itertools.count()
 
 
 def own_path(setting, name):
-    """A file of this thread."""
-    if not hasattr(own, "number"):
-        own.number = next(numbers)
-    return f"{setting.room}/{name}-{own.number}"
+    """A file of this process."""
+    return f"{setting.room}/{name}-{os.getpid()}"
 
 
 def content(name):

@@ -74,6 +74,8 @@ impl<'s, 't, D: Device, R: Read + Drop, W1: Write + Drop, W2: Write + Drop> Wasi
     /// calls, none of which takes memory.
     ///
     /// It is refused as `Setting` where the settings break a rule, and hands all back.
+    // Inlined into a session it would be taken apart into hundreds of pieces, which no one needs fast.
+    #[inline(never)]
     pub fn new(
         alloc: Global,
         parts: HostParts<'s, 't, D, R, W1, W2>,
@@ -171,6 +173,7 @@ impl<'s, 't, D: Device, R: Read, W1: Write, W2: Write> WasiHost<'s, 't, D, R, W1
     ///
     /// It is refused as `Preopen` where a path names no directory, and as `Device` where the volume
     /// has failed or fails; then none is opened.
+    #[inline(never)]
     pub fn preopen(&mut self) -> Result<(), HostFault>
         requires { (n : ℕ) → table_of self.old.descriptors n ≡ streams n }
         ensures opened { D.honest self.old.volume.device

@@ -41,6 +41,8 @@ impl<'a> Model for Machine<'a> {
 impl<'a> Machine<'a> {
     /// Instantiates the module (section 4.5.4) over the calls that the host links, with at most this many pages of memory.
     /// Room for 4,096 values and 256 functions at work is reserved. A refusal hands the module back.
+    // Inlined into a session it would be taken apart into hundreds of pieces, which no one needs fast.
+    #[inline(never)]
     pub fn new<H: Host>(
         alloc: Global,
         valid: Valid<'a>,
