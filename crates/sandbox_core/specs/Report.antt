@@ -8,7 +8,7 @@ use Rattle.wasm_interp.specs.Machine.{Represents, outcome_of}
 use Rattle.wasm_interp.specs.Promise.{HasItsUnit}
 use Rattle.wasm_steps.specs.Steps.{CallsOf}
 use Rattle.wasm_steps.specs.declared.pause.Pause.TheVariants.{Ended}
-use Rattle.wasi_calls.specs.Host.{HostState, HostCalls}
+use Rattle.wasi_calls.specs.Host.{HostState, HostCalls, stream_failed}
 use Rattle.sandbox_core.specs.declared.report.Report.{Report}
 use Rattle.sandbox_core.specs.Session.{SessionState, Commits, History, Follow, used_by}
 use Rattle.sandbox_core.specs.Runs.{RunsWithin, Passed}
@@ -37,6 +37,7 @@ module _ {D R W1 W2 : Type 0} (honest : D → Type 0) (disk : D → Disk) (secto
     pub used : report.used ≡ used_by last
     pub within : report.used ≤ fuel
     pub pages : report.pages ≡ length last.machine.memory / 65536
+    pub broken : report.broken ≡ stream_failed last.host
     -- the resumes that it was made of, one after another
     pub resumes : History (SessionState D R W1 W2)
     pub follow : Follow honest disk sectors_on failures remaining out_contents err_contents session resumes last

@@ -18,8 +18,10 @@ use wasm_interp::{Outcome, Pause};
 pub struct Report<D: Device, R, W1, W2> {
     pub outcome: Outcome,
     pub used: u64,
-    /// The pages that its memory had at the end, which are the most that it had: a memory never shrinks.
+    /// The pages that its memory had at the end.
     pub pages: u32,
+    /// Whether a read or a write of a stream has failed.
+    pub broken: bool,
     pub volume: Result<Volume<D>, Refused<D>>,
     pub input: R,
     pub out: W1,
@@ -60,6 +62,7 @@ where
     let (outcome, tally) = run_out(&mut session, fuel);
     let used = session.used();
     let pages = session.pages();
+    let broken = session.has_failed_stream();
     let Finished {
         volume,
         input,
@@ -70,6 +73,7 @@ where
         outcome,
         used,
         pages,
+        broken,
         volume,
         input,
         out,

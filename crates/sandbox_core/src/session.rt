@@ -71,6 +71,7 @@ where
     W1: Write + Drop,
     W2: Write + Drop,
 {
+    ghost use Rattle.wasi_calls.specs.Host.{stream_failed};
     ghost use Rattle.sandbox_core.specs.Session.{used_by, Opens, Shares, HandsBack, IsRefused, Resumes, Finishes};
 
     /// A session of the module, which has used nothing yet. The streams are the descriptors 0 to 2, and the preopened
@@ -146,7 +147,7 @@ where
         self.machine.used()
     }
 
-    /// How many pages of 65,536 bytes the guest's memory has. It never has fewer later on.
+    /// How many pages of 65,536 bytes the guest's memory has.
     pub fn pages(&self) -> u32
         ensures { result ≡ length self.now.machine.memory / 65536 }
     {
@@ -165,6 +166,13 @@ where
         ensures { result.now ≡ self.now.host.err.writer }
     {
         self.host.err()
+    }
+
+    /// Whether a read or a write of a stream has failed.
+    pub fn has_failed_stream(&self) -> bool
+        ensures { result ≡ stream_failed self.now.host }
+    {
+        self.host.has_failed_stream()
     }
 
     /// Commits all calls so far, and gives the volume back and the streams. Where the device fails, or had failed, the

@@ -1,5 +1,5 @@
 -- A host over a volume and streams: what callers see of it, the worlds that it shows, and what its calls say.
-use Rattle.std.specs.Prelude.{◌≡◌, ◌⊎◌, ℕ, IsTrue, true, List, [], ◌++◌, Option, Some, None}
+use Rattle.std.specs.Prelude.{◌≡◌, ◌⊎◌, ◌||◌, ℕ, Bool, IsTrue, true, List, [], ◌++◌, Option, Some, None}
 use Rattle.std.specs.Io.KnownBytes.{Consumes, Appends}
 use Rattle.vol_sector.specs.Disk.{Disk, Leaves}
 use Rattle.vol_tree.specs.Opened.{Opened, Keeps, ReflectsOr, geometry}
@@ -74,6 +74,10 @@ LeavesNone (Some xs) new = new ≡ Some []
 -- no bytes may follow the end of the input
 abbrev pub MayFollow : {D R W1 W2 : Type 0} → HostState D R W1 W2 → StreamBytes → Type 0
 MayFollow h others = h.input.ended ≡ true → others.input ≡ []
+
+-- a read or a write of a stream has failed
+abbrev pub stream_failed : {D R W1 W2 : Type 0} → HostState D R W1 W2 → Bool
+stream_failed h = (h.input.failed || h.out.failed) || h.err.failed
 
 -- What 29 of a call comes from has failed: the volume, or a stream that it reads or writes.
 abbrev pub HasFailed : {D R W1 W2 : Type 0} → HostCall → HostState D R W1 W2 → Type 0

@@ -68,6 +68,7 @@ impl<'s, 't, D: Device, R: Read + Drop, W1: Write + Drop, W2: Write + Drop> Wasi
     W1,
     W2,
 > {
+    ghost use Rattle.wasi_calls.specs.Host.{stream_failed};
     ghost use Rattle.wasi_calls.specs.Making.{IsNewHost, IsRefusedFor, parts_of};
 
     /// A host over these parts, whose streams are the descriptors 0 to 2. It has the room for all its
@@ -151,6 +152,14 @@ impl<'s, 't, D: Device, R: Read + Drop, W1: Write + Drop, W2: Write + Drop> Wasi
         ensures { result.now ≡ self.now.err.writer }
     {
         &self.inner.err.writer
+    }
+
+    /// Whether a read or a write of a stream has failed. It stays so.
+    pub fn has_failed_stream(&self) -> bool
+        ensures { result ≡ stream_failed self.now }
+    {
+        let inner = &self.inner;
+        inner.input.failed || inner.out.failed || inner.err.failed
     }
 
     /// What the host was made of, as it is now.

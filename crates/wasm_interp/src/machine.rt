@@ -80,7 +80,7 @@ impl<'a> Machine<'a> {
         self.state.used
     }
 
-    /// How many pages of 65,536 bytes the guest's memory has. It never has fewer later on.
+    /// How many pages of 65,536 bytes the guest's memory has.
     pub fn pages(&self) -> u32
         ensures { result ≡ length self.now.memory / 65536 }
     {

@@ -14,6 +14,7 @@ returns g c =
       used = c.used-used.ensures;
       within = omega (arith, c.used-used.ensures, c.run_out-outcome.ensures.within);
       pages = c.pages-pages.ensures;
+      broken = c.has_failed_stream-broken.ensures;
       resumes = ran.followed.0;
       follow = ran.followed.1;
       run = ran.run;
