@@ -1,0 +1,3 @@
+// Bulk memory, 16 bytes at once.
+#define LENGTH 16
+#include "copying.h"
