@@ -4,6 +4,7 @@
 mod activation;
 mod begin;
 mod fast;
+mod laws;
 mod least;
 mod loads;
 mod machine;
@@ -16,6 +17,7 @@ mod stores;
 mod tables;
 
 pub use activation::Activation;
+pub use laws::machines_show_their_stores;
 pub use machine::{Machine, RefusedInstance};
 pub use phase::Phase;
 pub use wasm_num::Trap;
