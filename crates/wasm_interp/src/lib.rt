@@ -4,6 +4,8 @@
 mod activation;
 mod begin;
 mod fast;
+mod growth;
+mod laws;
 mod least;
 mod loads;
 mod machine;
@@ -16,8 +18,10 @@ mod stores;
 mod tables;
 
 pub use activation::Activation;
+pub use laws::machines_show_their_stores;
 pub use machine::{Machine, RefusedInstance};
 pub use phase::Phase;
+pub use state::MOST_VALUES;
 pub use wasm_num::Trap;
 pub use wasm_steps::{Outcome, Pause};
 pub use wasm_store::{Answer, Errno, Host, HostCall, InstanceFault, Memory};

@@ -87,6 +87,16 @@ impl<'a> Machine<'a> {
         self.state.memory.pages()
     }
 
+    /// Sets how many values the guest's stack has at most, 8 bytes each: those of all functions at work, their locals among
+    /// them. Without this call they are `MOST_VALUES`. A step that would leave more is refused memory as if the host had none,
+    /// so that the run ends out of memory; so may be a call where as many are there. Fewer than 4,097, which find room anyway,
+    /// count as 4,097. Room that the stack has had is never taken back: set this before the run.
+    pub fn limit_values(&mut self, most: usize)
+        ensures { self.new ≡ self.old }
+    {
+        self.state.most_values = most;
+    }
+
     /// The module that `new` took.
     pub fn into_valid(self) -> Valid<'a>
         ensures { result ≡ self.entry.valid }

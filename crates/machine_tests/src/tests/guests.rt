@@ -6,8 +6,10 @@ ghost use Rattle.wasm_store.specs.declared.call.HostCall.TheVariants.{ProcExit};
 use super::loaded;
 use std::alloc::{AllocError, Global};
 use std::process::Abort;
-use wasm_interp::Outcome::{Exited, Trapped};
-use wasm_interp::{Answer, Errno, Host, HostCall, Machine, Memory, Outcome, Pause, Trap};
+use wasm_interp::Outcome::{Exited, OutOfMemory, Trapped};
+use wasm_interp::{
+    Answer, Errno, Host, HostCall, MOST_VALUES, Machine, Memory, Outcome, Pause, Trap,
+};
 use wasm_module::FuncType;
 
 /// Exits at a call of one argument, with that argument. A call of two is remembered, with the units used; it writes a
@@ -329,4 +331,44 @@ fn high_ending(alloc: Global) -> Option<Ending> {
 fn the_stack_grows(rt: HostRuntime) {
     let want = Some((Pause::Ended(Exited(0)), 8_402, (0, 0, 0)));
     assert!(rt; high_ending(rt.alloc()) == want);
+}
+
+/// The code of a guest whose function has 1,000 locals, needs three operands, counts in memory and calls itself until it
+/// has begun ten times. Each time it takes 11 units, and its call one more.
+const DEEP: &[u8] =
+    b"\x21\x01\x1F\x01\xE8\x07\x7F\x41\x00\x41\x00\x28\x02\x00\x41\x01\x6A\x36\x02\x00\x41\x00\x28\x02\x00\x41\x0A\x49\x04\x40\x10\x02\x0B\x0B";
+
+/// How that guest ends with this many values at most, and the units that it uses.
+fn deep_ending(alloc: Global, most: usize) -> Option<(Pause, u64)> {
+    let bytes = [FRONT, DEEP].concat(alloc).ok()?;
+    let valid = loaded(alloc, &bytes).ok()?;
+    let mut host = Recorder { seen: (0, 0, 0) };
+    let mut machine = Machine::new(alloc, valid, 4, &host).ok()?;
+    machine.limit_values(most);
+    let pause = paused(&mut machine, &mut host, 1_000, 1);
+    let used = machine.used();
+    drop(machine);
+    Some((pause?, used))
+}
+
+#[test]
+fn values_are_limited(rt: HostRuntime) {
+    for (most, outcome, used) in [
+        // the fifth call finds no room
+        (0, OutOfMemory, 48),
+        (4_999, OutOfMemory, 48),
+        // the first, the second and the third operand after it, and the sixth call
+        (5_000, OutOfMemory, 48),
+        (5_001, OutOfMemory, 49),
+        (5_002, OutOfMemory, 51),
+        (5_003, OutOfMemory, 60),
+        // the third operand after the tenth call
+        (10_002, OutOfMemory, 111),
+        (10_003, Exited(0), 119),
+        (MOST_VALUES, Exited(0), 119),
+        (usize::MAX, Exited(0), 119),
+    ] {
+        let want = Some((Pause::Ended(outcome), used));
+        assert!(rt; deep_ending(rt.alloc(), most) == want, "{most}");
+    }
 }

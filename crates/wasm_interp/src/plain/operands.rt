@@ -7,6 +7,7 @@ ghost use Rattle.wasm_steps.specs.Operators.{width, compare_test, unary_number, 
 ghost use Rattle.wasm_interp.specs.internal.Standing.{unwound};
 ghost use Rattle.wasm_interp.specs.internal.Plain.Performing.{Gives, HasOne, HasTwo, chosen};
 
+use crate::growth::reserve_within;
 use crate::plain::halt::Halt;
 use crate::plain::operators::{binary, compare, unary};
 use wasm_module::{BinaryOperator, Comparison, UnaryOperator, ValueType};
@@ -41,14 +42,14 @@ pub fn replace(values: &mut Vec<u64>, taken: usize, value: u64)
 }
 
 /// Puts a value on top, or changes nothing where memory is refused. There is always room for one more value.
-pub fn push(values: &mut Vec<u64>, value: u64) -> Result<(), Halt>
+pub fn push(values: &mut Vec<u64>, value: u64, most: usize) -> Result<(), Halt>
     requires { vec_len values.old < vec_capacity values.old }
     ensures pushed { OnOk result (reverse values.new.items ≡ value ∷ reverse values.old.items) }
     ensures full { IfErr result (λ h. (h ≡ Halt.Full) × (values.new.items ≡ values.old.items) × (vec_capacity values.new ≤ vec_len values.new + 1)) }
     ensures spare { vec_len values.new < vec_capacity values.new }
     ensures room { vec_capacity values.old ≤ vec_capacity values.new }
 {
-    if values.reserve(2).is_err() {
+    if !reserve_within(values, 2, most) {
         return Err(Halt::Full);
     }
     values.push_reserved(value);

@@ -7,6 +7,7 @@ ghost use Rattle.wasm_interp.specs.internal.Plain.Performing.{IsReady};
 ghost use Rattle.wasm_interp.specs.internal.Plain.FlatSteps.{BranchesIf, CanBranch, CanBranchIf, CanPick, FlatStep, IsReadyFor, Picks, TestsOne, Works};
 ghost use Rattle.wasm_interp.specs.internal.Running.{flat_of, Halts, Pushes, Stays};
 
+use crate::growth::reserve_within;
 use crate::plain::halt::Halt;
 use crate::plain::operands::{operand, pop, push, unwind};
 use crate::plain::work::work;
@@ -110,7 +111,7 @@ impl State {
         ensures pushes { Pushes self.old self.new result }
     {
         let value = self.values[self.current.locals + index as usize];
-        push(&mut self.values, value)?;
+        push(&mut self.values, value, self.most_values)?;
         self.go_on();
         Ok(())
     }
@@ -153,7 +154,7 @@ impl State {
         ensures pushes { Pushes self.old self.new result }
     {
         let value = self.globals.as_slice()[index as usize];
-        push(&mut self.values, value)?;
+        push(&mut self.values, value, self.most_values)?;
         self.go_on();
         Ok(())
     }
@@ -182,7 +183,11 @@ impl State {
         ensures pushed { OnOk result (FlatStep 0 Instruction.MemorySize [] (flat_of self.old) (flat_of self.new)) }
         ensures pushes { Pushes self.old self.new result }
     {
-        push(&mut self.values, u64::from(self.memory.pages()))?;
+        push(
+            &mut self.values,
+            u64::from(self.memory.pages()),
+            self.most_values,
+        )?;
         self.go_on();
         Ok(())
     }
@@ -252,10 +257,10 @@ impl State {
         ensures spare { vec_len self.new.values < vec_capacity self.new.values }
         ensures room { vec_capacity self.old.values ≤ vec_capacity self.new.values }
     {
-        match self.values.reserve(2) {
-            Ok(()) => Halt::Call(function),
-            Err(_) => Halt::Full,
+        if !reserve_within(&mut self.values, 2, self.most_values) {
+            return Halt::Full;
         }
+        Halt::Call(function)
     }
 
     /// Performs an instruction that works only on values and memory.
@@ -272,7 +277,13 @@ impl State {
         ensures spare { vec_len self.new.values < vec_capacity self.new.values }
         ensures room { vec_capacity self.old.values ≤ vec_capacity self.new.values }
     {
-        work(&mut self.values, &mut self.memory, instruction, limit)?;
+        work(
+            &mut self.values,
+            &mut self.memory,
+            instruction,
+            limit,
+            self.most_values,
+        )?;
         self.go_on();
         Ok(())
     }
