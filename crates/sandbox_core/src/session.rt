@@ -140,6 +140,14 @@ where
         self.machine.resume(&mut self.host, units)
     }
 
+    /// Sets how many values the guest's stack has at most, of eight bytes each: a step that would leave more is refused memory as
+    /// if the host had none. Fewer than 4,097 count as 4,097, and without this call they are 134,217,728. Set it before the run.
+    pub fn limit_values(&mut self, most: usize)
+        ensures { self.new ≡ self.old }
+    {
+        self.machine.limit_values(most)
+    }
+
     /// The units of fuel used so far.
     pub fn used(&self) -> u64
         ensures { result ≡ used_by self.now }
