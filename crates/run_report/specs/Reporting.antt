@@ -1,5 +1,5 @@
 -- The text of a report: lines of a key and a value, in a fixed order.
-use Rattle.std.specs.Prelude.{◌||◌, ℕ, Bool, true, false, not, List, [], ◌∷◌, ◌++◌, Option, Some, None, if◌then◌else◌, codes, decimal}
+use Rattle.std.specs.Prelude.{◌||◌, ℕ, Bool, true, false, not, [], ◌∷◌, ◌++◌, Option, Some, None, if◌then◌else◌, codes, decimal}
 use Rattle.std.specs.List.{concat}
 use Rattle.run_report.specs.declared.summary.Kept.{Kept}
 use Rattle.run_report.specs.declared.summary.Kept.TheVariants as kept
@@ -17,10 +17,10 @@ has_failed kept.None = false
 has_failed kept.Kept = false
 has_failed kept.Failed = true
 
--- The machine is to blame where a file, a device, a stream or memory before the guest ran failed; else the guest has
--- brought the end about.
+-- The machine is to blame where a file, a device or memory before the guest ran failed, where a read or a write of a stream
+-- failed, or an output couldn't be flushed; else the guest has brought the end about.
 abbrev pub blame_of : Summary → Text
-blame_of s = if is_machines s.end || (has_failed s.volume || not s.flushed) then codes "machine" else codes "guest"
+blame_of s = if is_machines s.end || (has_failed s.volume || (not s.flushed || s.broken)) then codes "machine" else codes "guest"
 
 -- a number, or nothing
 abbrev pub number_text : Option ℕ → Text

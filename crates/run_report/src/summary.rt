@@ -8,7 +8,7 @@ use crate::end::End;
 /// What became of the volume of a run.
 #[derive(Clone, Copy)]
 pub enum Kept {
-    /// The run names no volume, or ended before one was open.
+    /// The run names no volume, or ended before one was open, and no device failed.
     None,
     /// All of the guest's calls are on it.
     Kept,
@@ -38,6 +38,8 @@ pub struct Summary {
     pub volume: Kept,
     /// Whether no output refused to be flushed.
     pub flushed: bool,
+    /// Whether a read or a write of a stream failed.
+    pub broken: bool,
 }
 
 impl Kept {
@@ -54,12 +56,14 @@ impl Kept {
 }
 
 impl Summary {
-    /// Who is to blame for the end, or has brought it about where it is a good one: the machine where a file, a device, a
-    /// stream or memory before the guest ran failed; else the guest.
+    /// Who is to blame for the end, or has brought it about where it is a good one: the machine where a file, a device or
+    /// memory before the guest ran failed, where a read or a write of a stream failed, or an output couldn't be flushed;
+    /// else the guest.
     pub fn blame(&self) -> &'static str
         ensures { result.now ≡ blame_of self.now }
     {
-        if self.end.is_machines() || matches!(self.volume, Kept::Failed) || !self.flushed {
+        let stream_failed = !self.flushed || self.broken;
+        if self.end.is_machines() || matches!(self.volume, Kept::Failed) || stream_failed {
             "machine"
         } else {
             "guest"

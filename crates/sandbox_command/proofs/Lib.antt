@@ -12,3 +12,4 @@ mod Opened
 mod FreshVolume
 mod Began
 mod Refusals
+mod Performing

@@ -1,6 +1,6 @@
 -- What the program does: how it ends, and of which run, formatting or task its status tells
 -- (`README.md`, "The program").
-use Rattle.std.specs.Prelude.{◌≡◌, ◌≢◌, ◌⊎◌, ℕ, List, Option, Some, None, Result}
+use Rattle.std.specs.Prelude.{◌≡◌, ◌≢◌, ◌⊎◌, ℕ, true, List, Option, Some, None, Result}
 use Rattle.vol_sector.specs.Disk.{Disk, Leaves}
 use Rattle.vol_sector.specs.declared.fault.Refused.{Refused}
 use Rattle.vol_tree.specs.Opened.{Opened}
@@ -9,6 +9,7 @@ use Rattle.wasm_module.specs.declared.fault.LoadFault.TheVariants.{Memory}
 use Rattle.wasm_module.specs.declared.module.Module.{Module}
 use Rattle.wasm_module.specs.Module.{Spells}
 use Rattle.wasm_valid.specs.Validity.{IsValid}
+use Rattle.wasm_valid.specs.Refusal.{IsRefusal}
 use Rattle.wasi_calls.specs.declared.settings.Settings.{Settings}
 use Rattle.sandbox_core.specs.declared.fault.SessionFault.{SessionFault}
 use Rattle.sandbox_core.specs.Session.{given}
@@ -37,10 +38,12 @@ pub record NotSupplied (run : Run) (status : ℕ) (summary : Option Summary) : T
   pub ends : status ≡ session_status fault
   pub summary_is : summary ≡ Some (not_run run (session_reason fault) kept.None status)
 
--- The bytes are refused: where it isn't memory that was wanting, they spell no valid module.
+-- The bytes are refused: where it isn't memory that was wanting, they spell no valid module; with a fault of decoding, which
+-- isn't that a module is not valid either, they spell none.
 pub record NotLoaded (run : Run) (bytes : List ℕ) (status : ℕ) (summary : Option Summary) : Type 0 where
   pub fault : LoadFault
   pub refused : fault ≢ Memory → (m : Module) → Spells bytes m → IsValid m → ⊥
+  pub spells_none : ¬ IsRefusal fault → (m : Module) → Spells bytes m → ⊥
   pub ends : status ≡ load_status fault
   pub summary_is : summary ≡ Some (not_run run (reason.Module fault) kept.None status)
 
@@ -52,7 +55,8 @@ module _ {D R W1 W2 : Type 0} (is_honest : D → Type 0) (disk : D → Disk) (se
     pub why : IsRefusedFor is_honest disk sectors_on failures run.volume device refused
     pub device_is : left.device ≡ refused.device
     pub ends : left.status ≡ volume_status refused.fault
-    pub summary : left.summary ≡ Some (not_run run (reason.Volume refused.fault) (kept_where_refused run.volume refused.fault) left.status)
+    pub flushed : left.flushed ≡ true
+    pub summary : left.summary ≡ Some (not_run run (reason.Volume refused.fault) (kept_where_refused refused.fault) left.status)
     pub streams : IsSilent out_contents err_contents input out err left
 
   -- The volume was opened, and the module launched with it and with the settings that were asked for.
@@ -70,6 +74,7 @@ module _ {D R W1 W2 : Type 0} (is_honest : D → Type 0) (disk : D → Disk) (se
   -- Before a volume was opened: the device is as it was, and so are the input and the output.
   pub record IsUntouched (device : D) (input : R) (out : W1) (err : W2) (left : Executed D R W1 W2) : Type 0 where
     pub device_is : left.device ≡ device
+    pub flushed : left.flushed ≡ true
     pub streams : IsSilent out_contents err_contents input out err left
 
   -- The words are refused, or the bytes; or they spell a valid module, and then the volume is refused, or the module is

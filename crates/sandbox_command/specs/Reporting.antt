@@ -1,5 +1,6 @@
 -- What the report of a run says of it (`crates/run_report/specs`).
-use Rattle.std.specs.Prelude.{ℕ, List, Bool, true, Option, Some, None, Result, Ok, Err}
+use Rattle.std.specs.Prelude.{◌≡◌, ◌⊎◌, ℕ, List, Bool, true, false, Option, Some, None, Result, Ok, Err}
+use Rattle.std.specs.Io.KnownBytes.{Appends}
 use Rattle.std.specs.Borrow.{Bor}
 use Rattle.vol_sector.specs.declared.fault.VolumeFault.{VolumeFault}
 use Rattle.vol_sector.specs.declared.fault.VolumeFault.TheVariants as volume
@@ -18,6 +19,7 @@ use Rattle.run_report.specs.declared.fault.Fault.TheVariants as reason
 use Rattle.run_report.specs.declared.summary.Kept.{Kept}
 use Rattle.run_report.specs.declared.summary.Kept.TheVariants as kept
 use Rattle.run_report.specs.declared.summary.Summary.{Summary}
+use Rattle.run_report.specs.Reporting.{report_text}
 
 -- ---- a run that could not begin
 
@@ -43,27 +45,28 @@ not_run run fault became status = record {
   syncs = 0;
   volume = became;
   flushed = true;
+  broken = false;
 }
 
--- what became of the volume that could not be opened: its device failed, or it wasn't open at all
-abbrev pub kept_where_refused : Option (Bor Text) → VolumeFault → Kept
-kept_where_refused None f = kept.None
-kept_where_refused (Some file) volume.Device = kept.Failed
-kept_where_refused (Some file) f = kept.None
+-- What became of the volume that could not be opened: its device failed, or it wasn't open at all. Also where the run names
+-- no file, so that its device is one of its own.
+abbrev pub kept_where_refused : VolumeFault → Kept
+kept_where_refused volume.Device = kept.Failed
+kept_where_refused f = kept.None
 
 -- and of an open one whose module gets no session
 abbrev pub kept_where_not_begun : Option (Bor Text) → SessionFault → Kept
+kept_where_not_begun file opening.Device = kept.Failed
 kept_where_not_begun None f = kept.None
-kept_where_not_begun (Some file) opening.Device = kept.Failed
 kept_where_not_begun (Some file) f = kept.Kept
 
 -- ---- a run
 
 -- and of that of a guest that ran
 abbrev pub kept_after_run : {V R : Type 0} → Option (Bor Text) → Result V R → Kept
-kept_after_run None result = kept.None
+kept_after_run file (Err refused) = kept.Failed
+kept_after_run None (Ok v) = kept.None
 kept_after_run (Some file) (Ok v) = kept.Kept
-kept_after_run (Some file) (Err refused) = kept.Failed
 
 -- the bytes of a stream that is counted
 abbrev pub counted_bytes : {S : Type 0} → (S → Option (List ℕ)) → Counted S → Option (List ℕ)
@@ -78,8 +81,8 @@ module _ {D R W1 W2 : Type 0} where
   abbrev pub counting : HostParts D R W1 W2 → HostParts D (Counted R) (Counted W1) (Counted W2)
   counting parts = given parts.settings parts.volume (from_here parts.input) (from_here parts.out) (from_here parts.err)
 
-  -- How the run ended, the units that it used and its pages are those of its report; the calls and syncs are those of its resumes; the
-  -- bytes are those that its streams counted.
+  -- How the run ended, the units that it used, its pages and whether a stream failed are those of its report; the calls and syncs are
+  -- those of its resumes; the bytes are those that its streams counted.
   abbrev pub run_summary : Run → Report D (Counted R) (Counted W1) (Counted W2) → Tally → (status : ℕ) → (flushed : Bool) → Summary
   run_summary run report tally status flushed = record {
     end = Ran report.outcome;
@@ -94,4 +97,15 @@ module _ {D R W1 W2 : Type 0} where
     syncs = tally.syncs;
     volume = kept_after_run run.volume report.volume;
     flushed = flushed;
+    broken = report.broken;
   }
+
+-- ---- the report is printed
+
+-- A run ended so, and its report was to be printed into this file, if there is one. Where there is none, or nothing to be
+-- reported, the status stays. Else what the file had is followed by the report's text, or it couldn't be printed: 124.
+pub record IsTold {F : Type 0} (contents : F → Option (List ℕ)) (file : Option F) (ended : ℕ) (summary : Option Summary) (status : ℕ) (left : Option F) : Type 0 where
+  pub either : (status ≡ ended) ⊎ (status ≡ 124)
+  pub none : (file ≡ None) ⊎ (summary ≡ None) → status ≡ ended
+  pub printed : (f : F) (s : Summary) → file ≡ Some f → summary ≡ Some s
+      → (status ≡ 124) ⊎ ((status ≡ ended) × (g : F) × (left ≡ Some g) × Appends (contents f) (contents g) (report_text s))

@@ -1,11 +1,15 @@
 //! Commands on the files that they name.
 
-ghost use Rattle.std.specs.Prelude.{◌≡◌, ◌⊎◌, ◌≤◌};
+ghost use Rattle.std.specs.Prelude.{◌≡◌, ◌⊎◌, ◌↔◌, ◌≤◌, ℕ, Option, IfOk, Some, None};
 ghost use Rattle.std.specs.Process.{exit_status};
+ghost use Rattle.run_report.specs.declared.fault.Fault.TheVariants as reason;
+ghost use Rattle.run_report.specs.declared.summary.Kept.TheVariants as kept;
+ghost use Rattle.run_report.specs.declared.summary.Summary.{Summary as SummaryValue};
 ghost use Rattle.sandbox_words.specs.declared.request.Invocation.TheVariants as asked;
 ghost use Rattle.sandbox_command.specs.declared.program.Executed.{Executed};
 ghost use Rattle.sandbox_command.specs.Execution.{Executes};
-ghost use Rattle.sandbox_command.specs.Files.{IsAnswered, IsPerformed};
+ghost use Rattle.sandbox_command.specs.Reporting.{IsTold, not_run};
+ghost use Rattle.sandbox_command.specs.Files.{IsAnswered, IsExecutedOnFiles, IsPerformed, IsUnread};
 
 use crate::opening::FRESH_SECTORS;
 use crate::program;
@@ -81,7 +85,8 @@ fn answer_words<R: Read + Drop, W1: Write + Drop, W2: Write + Drop>(
 
 /// Executes the invocation on the files that it names: a module and its volume, a file that is made or
 /// lengthened for its sectors, or a volume. No contract says what a file holds. Where one can't be
-/// read or written the status is 124, or 122 for want of memory.
+/// read or written, or the report of a run can't be printed, the status is 124, or 122 for want of
+/// memory.
 pub fn perform<R: Read + Drop, W1: Write + Drop, W2: Write + Drop>(
     rt: &HostRuntime,
     invocation: &Invocation<'_>,
@@ -132,35 +137,61 @@ fn perform_run<R: Read + Drop, W1: Write + Drop, W2: Write + Drop>(
     ensures within { result ≤ 124 }
 {
     match made_report(rt, run) {
-        Ok(file) => told(file, run_on_files(rt, invocation, run, input, out, err)),
+        Ok(file) => run_and_tell(rt, file, invocation, run, input, out, err).0,
         Err(error) => refuse(&error, err),
     }
 }
 
-/// The file of a run's report, made or cut to nothing.
-fn made_report(rt: &HostRuntime, run: &Run<'_>) -> io::Result<Option<File>> {
+/// The file of a run's report, made or cut to nothing; none where none is asked for.
+fn made_report(rt: &HostRuntime, run: &Run<'_>) -> io::Result<Option<File>>
+    ensures { IfOk result (λ file. (run.now.report ≡ None) ↔ (file ≡ None)) }
+{
     match run.report {
         Some(path) => Ok(Some(File::create(rt, path)?)),
         None => Ok(None),
     }
 }
 
-/// Prints the report of a run into its file, and gives the status: that of the run, or 124 where the report can't be
-/// written.
-fn told<W: Write + Drop>(file: Option<File>, ended: Ended<W>) -> u8
-    ensures { (result ≡ ended.status) ⊎ (result ≡ 124) }
+/// Executes a run on the files that it names, and prints its report into this one. Gives the status, and the file.
+fn run_and_tell<F: Write + Drop, R: Read + Drop, W1: Write + Drop, W2: Write + Drop>(
+    rt: &HostRuntime,
+    file: Option<F>,
+    invocation: &Invocation<'_>,
+    run: &Run<'_>,
+    input: R,
+    out: W1,
+    err: W2,
+) -> (u8, Option<F>)
+    requires { invocation.now ≡ asked.Run run.now }
+    ensures tells { (ended : ℕ) × (summary : Option SummaryValue)
+        × (IsUnread run.now ended summary
+        ⊎ IsExecutedOnFiles R.remaining W1.contents W2.contents
+        invocation.now input out err ended summary)
+        × IsTold F.contents file ended summary result.0 result.1 }
+    ensures within { result.0 ≤ 124 }
+{
+    told(file, run_on_files(rt, invocation, run, input, out, err))
+}
+
+/// Prints the report of a run into its file, and gives the status, which is that of the run, or 124 where the report can't
+/// be printed; and the file.
+fn told<F: Write + Drop, W: Write + Drop>(file: Option<F>, ended: Ended<W>) -> (u8, Option<F>)
+    ensures { IsTold F.contents file ended.status ended.summary result.0 result.1 }
 {
     let Ended {
         status,
         summary,
         mut err,
     } = ended;
-    let (Some(mut file), Some(summary)) = (file, summary) else {
-        return status;
+    let Some(mut file) = file else {
+        return (status, None);
+    };
+    let Some(summary) = summary else {
+        return (status, Some(file));
     };
     match run_report::print(&mut file, &summary) {
-        Ok(()) => status,
-        Err(_) => program::refuse_file(&mut err),
+        Ok(()) => (status, Some(file)),
+        Err(_) => (program::refuse_file(&mut err), Some(file)),
     }
 }
 
@@ -174,8 +205,9 @@ fn run_on_files<R: Read + Drop, W1: Write + Drop, W2: Write + Drop>(
     err: W2,
 ) -> Ended<W2>
     requires { invocation.now ≡ asked.Run run.now }
-    ensures tells { IsPerformed R.remaining W1.contents W2.contents
-        invocation.now input out err result.status }
+    ensures tells { IsUnread run.now result.status result.summary
+        ⊎ IsExecutedOnFiles R.remaining W1.contents W2.contents
+        invocation.now input out err result.status result.summary }
     ensures within { result.status ≤ 124 }
 {
     let (module, random) = match read_files(rt, run) {
@@ -215,7 +247,8 @@ fn run_on_files<R: Read + Drop, W1: Write + Drop, W2: Write + Drop>(
 
 /// Refuses a run for want of memory before it begins.
 fn out_of_memory<W: Write + Drop>(run: &Run<'_>, mut err: W) -> Ended<W>
-    ensures { result.status ≡ 122 }
+    ensures status { result.status ≡ 122 }
+    ensures summary { result.summary ≡ Some (not_run run.now reason.Memory kept.None result.status) }
 {
     let status = program::out_of_memory(&mut err);
     let summary = Some(not_run(run, Fault::Memory, Kept::None, status));
@@ -228,7 +261,8 @@ fn out_of_memory<W: Write + Drop>(run: &Run<'_>, mut err: W) -> Ended<W>
 
 /// Refuses a run one of whose files can't be read.
 fn refused<W: Write + Drop>(run: &Run<'_>, error: &io::Error, mut err: W) -> Ended<W>
-    ensures { (result.status ≡ 122) ⊎ (result.status ≡ 124) }
+    ensures status { (result.status ≡ 122) ⊎ (result.status ≡ 124) }
+    ensures unread { IsUnread run.now result.status result.summary }
 {
     if error.kind() == ErrorKind::OutOfMemory {
         return out_of_memory(run, err);

@@ -1,6 +1,6 @@
 //! What the program does once the command line is read, and with which status it ends.
 
-ghost use Rattle.std.specs.Prelude.{◌≡◌, ◌⊎◌, ◌≤◌, Some, None};
+ghost use Rattle.std.specs.Prelude.{◌≡◌, ◌⊎◌, ◌≤◌, true, Some, None};
 ghost use Rattle.std.specs.Io.KnownBytes.{Keeps};
 ghost use Rattle.std.specs.IoError.{error_kind};
 ghost use Rattle.clap.specs.Values.{kind_of};
@@ -226,6 +226,7 @@ fn uncounted<D: Device, R, W1, W2>(
 ) -> (Report<D, R, W1, W2>, Moved)
     ensures outcome { result.0.outcome ≡ report.outcome }
     ensures used { (result.0.used ≡ report.used) × (result.0.pages ≡ report.pages) }
+    ensures broken { result.0.broken ≡ report.broken }
     ensures volume { result.0.volume ≡ report.volume }
     ensures input { (result.0.input ≡ report.input.stream) × (result.1.read ≡ report.input.count) }
     ensures out { (result.0.out ≡ report.out.stream) × (result.1.written ≡ report.out.count) }
@@ -235,6 +236,7 @@ fn uncounted<D: Device, R, W1, W2>(
         outcome,
         used,
         pages,
+        broken,
         volume,
         input,
         out,
@@ -249,6 +251,7 @@ fn uncounted<D: Device, R, W1, W2>(
         outcome,
         used,
         pages,
+        broken,
         volume,
         input: input.stream,
         out: out.stream,
@@ -272,6 +275,7 @@ fn reported<D: Device + Drop, R: Drop, W1: Write + Drop, W2: Write + Drop>(
 {
     let (plain, moved) = uncounted(counted);
     let (outcome, units, pages) = (plain.outcome, plain.used, plain.pages);
+    let broken = plain.broken;
     let volume = kept_after_run(run.volume, &plain.volume);
     let mut left = report(plain);
     left.summary = Some(Summary {
@@ -287,6 +291,7 @@ fn reported<D: Device + Drop, R: Drop, W1: Write + Drop, W2: Write + Drop>(
         syncs: tally.syncs,
         volume,
         flushed: left.flushed,
+        broken,
     });
     left
 }
@@ -298,6 +303,7 @@ fn not_begun<D: Device + Drop, R: Drop, W1: Drop, W2: Write + Drop>(
     refused: RefusedSession<'_, '_, '_, D, Counted<R>, Counted<W1>, Counted<W2>>,
 ) -> Executed<D, R, W1, W2>
     ensures ends { result.status ≡ session_status refused.entry.fault }
+    ensures flushed { result.flushed ≡ true }
     ensures summary { result.summary ≡ Some (not_run run.now (session_reason refused.entry.fault)
         (kept_where_not_begun run.now.volume refused.entry.fault) result.status) }
     ensures device { result.device ≡ refused.entry.parts.volume.device }
@@ -384,7 +390,7 @@ fn run_valid<D: Device + Drop, R: Read + Drop, W1: Write + Drop, W2: Write + Dro
         Err(Refused { device, fault }) => {
             drop(valid);
             let status = volume_refused(&mut err, fault);
-            let kept = kept_where_refused(run.volume, fault);
+            let kept = kept_where_refused(fault);
             return Executed {
                 status,
                 summary: Some(not_run(run, Fault::Volume(fault), kept, status)),

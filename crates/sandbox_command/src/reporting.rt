@@ -39,15 +39,16 @@ pub(crate) fn not_run(run: &Run<'_>, fault: Fault, volume: Kept, status: u8) -> 
         syncs: 0,
         volume,
         flushed: true,
+        broken: false,
     }
 }
 
 /// What became of the volume of a run that could not be opened.
-pub(crate) fn kept_where_refused(file: Option<&str>, fault: VolumeFault) -> Kept
-    ensures { result ≡ kept_where_refused file.entry fault }
+pub(crate) fn kept_where_refused(fault: VolumeFault) -> Kept
+    ensures { result ≡ kept_where_refused fault }
 {
-    match (file, fault) {
-        (Some(_), VolumeFault::Device) => Kept::Failed,
+    match fault {
+        VolumeFault::Device => Kept::Failed,
         _ => Kept::None,
     }
 }
@@ -57,8 +58,8 @@ pub(crate) fn kept_where_not_begun(file: Option<&str>, fault: SessionFault) -> K
     ensures { result ≡ kept_where_not_begun file.entry fault }
 {
     match (file, fault) {
+        (_, SessionFault::Device) => Kept::Failed,
         (None, _) => Kept::None,
-        (Some(_), SessionFault::Device) => Kept::Failed,
         (Some(_), _) => Kept::Kept,
     }
 }
@@ -68,8 +69,8 @@ pub(crate) fn kept_after_run<V, E>(file: Option<&str>, left: &Result<V, E>) -> K
     ensures { result ≡ kept_after_run file.entry left.now }
 {
     match (file, left) {
-        (None, _) => Kept::None,
+        (_, Err(_)) => Kept::Failed,
+        (None, Ok(_)) => Kept::None,
         (Some(_), Ok(_)) => Kept::Kept,
-        (Some(_), Err(_)) => Kept::Failed,
     }
 }

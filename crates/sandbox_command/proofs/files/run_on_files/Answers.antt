@@ -8,7 +8,7 @@ use Rattle.sandbox_command.proofs.files.run_on_files.Goals as goal
 pub returns-in-Ok-new-clause-tells : goal.returns-in-Ok-new-clause-tells
 returns-in-Ok-new-clause-tells g c =
     let tells = c.run_on.ensures.tells in
-    inr (inr (inl (
+    inr (inl (
       subst NamesNoVolume (sym c.requires) c.in_default.is,
       record {
         bytes = c.as_slice-module.result.now;
@@ -18,14 +18,15 @@ returns-in-Ok-new-clause-tells g c =
         left = tells.0;
         executes = tells.1;
         ends = tells.2;
+        summary_is = tells.3;
       },
-    )))
+    ))
 
 -- on those of a file
 pub returns-in-Ok-open-clause-tells : goal.returns-in-Ok-open-clause-tells
 returns-in-Ok-open-clause-tells g c =
     let tells = c.run_on-in-Ok-open.ensures.tells in
-    inr (inr (inr (
+    inr (inr (
       (λ none. none-some c.in-Some.file (sym (subst NamesNoVolume c.requires none) ∙ c.in-Some.is)),
       record {
         bytes = c.as_slice-module.result.now;
@@ -35,5 +36,6 @@ returns-in-Ok-open-clause-tells g c =
         left = tells.0;
         executes = tells.1;
         ends = tells.2;
+        summary_is = tells.3;
       },
-    )))
+    ))

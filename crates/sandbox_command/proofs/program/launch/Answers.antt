@@ -72,6 +72,7 @@ returns-in-Err g c =
       kept = back.volume;
       device = ended.device;
       ends = ended.ends;
+      flushed = ended.flushed;
       summary = ended.summary;
       streams = record {
         input_is = ended.input ∙ ap (λ (r : Counted g.row.R.Denot). r.stream) (back.input ∙ c.new-taken.ensures);

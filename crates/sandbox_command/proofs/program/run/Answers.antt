@@ -23,11 +23,13 @@ returns g c =
         record {
           fault = w.in-Err-load.fault;
           refused = w.in-Err-load.ensures.no;
+          spells_none = w.in-Err-load.ensures.refused;
           ends = ap (λ (p : ℕ × Fault). p.0) w.status-is ∙ w.load_refused.ensures.status;
           summary_is = ap Some (c.not_run.ensures ∙ ap (λ (f : Fault). not_run c.args.run.now f kept.None c.match-supplied.status.0) (ap (λ (p : ℕ × Fault). p.1) w.status-is));
         },
         record {
           device_is = refl;
+          flushed = refl;
           streams = record { input_is = refl; out_keeps = Keeps-refl (g.W1.Write.contents c.args.out); err_appends = subst at (sym w.err-is) w.load_refused.ensures.line };
         },
       ))
@@ -40,6 +42,7 @@ returns g c =
         },
         record {
           device_is = refl;
+          flushed = refl;
           streams = record { input_is = refl; out_keeps = Keeps-refl (g.W1.Write.contents c.args.out); err_appends = subst at (sym w.err-is) w.session_refused.ensures.line };
         },
       )

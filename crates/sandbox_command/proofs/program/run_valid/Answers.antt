@@ -15,6 +15,7 @@ returns-in-Err g c =
       why = c.in-Err.ensures.refused;
       device_is = refl;
       ends = c.volume_refused-status.ensures.status;
+      flushed = refl;
       summary = ap Some (c.not_run.ensures ∙ ap (λ (k : Kept). not_run c.args.run.now (reason.Volume c.in-Err.field-0.fault) k c.volume_refused-status.result) c.kept_where_refused-kept.ensures);
       streams = record { input_is = refl; out_keeps = Keeps-refl (g.W1.Write.contents c.args.out); err_appends = c.volume_refused-status.ensures.line };
     })
