@@ -4,6 +4,8 @@ ghost use Rattle.std.specs.Prelude.{◌≡◌, ◌⊎◌, ◌≤◌, true, Some,
 ghost use Rattle.std.specs.Io.KnownBytes.{Keeps};
 ghost use Rattle.std.specs.IoError.{error_kind};
 ghost use Rattle.clap.specs.Values.{kind_of};
+ghost use Rattle.sandbox_core.specs.Session.{used_by};
+ghost use Rattle.sandbox_core.specs.Report.{ReportsCounted};
 ghost use Rattle.sandbox_command.specs.Status.{status_of, EndsWith, load_status, session_status};
 ghost use Rattle.sandbox_command.specs.Status.{volume_status, words_status, command_line_status};
 ghost use Rattle.sandbox_command.specs.Status.{task_status};
@@ -338,6 +340,18 @@ fn not_begun<D: Device + Drop, R: Drop, W1: Drop, W2: Write + Drop>(
     }
 }
 
+/// Runs a session that has used nothing within the limits of a run.
+fn run_within<D: Device + Drop, R: Read + Drop, W1: Write + Drop, W2: Write + Drop>(
+    run: &Run<'_>,
+    mut session: Session<'_, '_, '_, D, R, W1, W2>,
+) -> (Report<D, R, W1, W2>, Tally)
+    requires { used_by session ≡ 0 }
+    ensures { ReportsCounted D.honest D.disk D.size D.failures R.remaining W1.contents W2.contents session.entry run.now.limits.fuel result.0 result.1 }
+{
+    session.limit_values(run.limits.values as usize);
+    run_counted(session, run.limits.fuel)
+}
+
 /// Runs a valid module with these settings on an open volume, whose device it gives back.
 fn launch<D: Device + Drop, R: Read + Drop, W1: Write + Drop, W2: Write + Drop>(
     alloc: Global,
@@ -360,7 +374,7 @@ fn launch<D: Device + Drop, R: Read + Drop, W1: Write + Drop, W2: Write + Drop>(
     let complaints = Counted::new(err);
     match Session::new(alloc, valid, settings, volume, taken, given, complaints) {
         Ok(session) => {
-            let (counted, tally) = run_counted(session, run.limits.fuel);
+            let (counted, tally) = run_within(run, session);
             reported(run, counted, tally)
         }
         Err(refused) => not_begun(run, refused),

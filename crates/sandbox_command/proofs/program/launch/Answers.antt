@@ -30,18 +30,18 @@ returns-in-Ok g c =
     let shares = subst (λ (p : HostParts g.row.D.Denot (Counted g.row.R.Denot) (Counted g.row.W1.Denot) (Counted g.row.W2.Denot)). Shares honest disk size failures p s) same c.in-Ok.ensures.shares in
     let i = opens.starts.instance in
     let first = first_configuration opens.starts.entered opens.starts.store in
-    let counted = c.run_counted-counted.ensures in
+    let counted = c.run_within-counted.ensures in
     let reports = counted.reports in
     let last = reports.last.host in
     let run = reports.run i first opens.starts.stands in
     let ended = c.reported.ensures in
-    let back = ended.device ∙ device_back honest disk size failures reports.volume.new c.run_counted-counted.result.0.volume reports.volume.handed_back in
+    let back = ended.device ∙ device_back honest disk size failures reports.volume.new c.run_within-counted.result.0.volume reports.volume.handed_back in
     inr (record {
       session = s;
       opens = opens;
       shares = shares;
-      report = c.run_counted-counted.result.0;
-      tally = c.run_counted-counted.result.1;
+      report = c.run_within-counted.result.0;
+      tally = c.run_within-counted.result.1;
       counted = counted;
       ends = ended.ends;
       summary = ended.summary;
@@ -51,7 +51,7 @@ returns-in-Ok g c =
       err = subst (λ (w : Counted g.row.W2.Denot). AppendsSome (errs w) (g.W2.Write.contents c.reported.result.err)) reports.err ended.err;
       over_paths = λ is. reach_moves honest disk size failures remaining outs errs i s.host last first run.last run.answers run.reach (shares.reads.kept.honest.0 is);
       crash = λ is lasts.
-          subst (λ (d : g.row.D.Denot). Leaves (disk parts.volume.device) (disk d) (StandsInRun honest disk size failures g.R.Read.remaining g.W1.Write.contents g.W2.Write.contents i s.host first c.args.run.now.limits.fuel c.run_counted-counted.result.0 last _ run))
+          subst (λ (d : g.row.D.Denot). Leaves (disk parts.volume.device) (disk d) (StandsInRun honest disk size failures g.R.Read.remaining g.W1.Write.contents g.W2.Write.contents i s.host first c.args.run.now.limits.fuel c.run_within-counted.result.0 last _ run))
           (sym back)
           (began (Host honest disk size failures g.R.Read.remaining g.W1.Write.contents g.W2.Write.contents) (HostCalls honest disk size failures g.R.Read.remaining g.W1.Write.contents g.W2.Write.contents) (λ h. disk h.volume.device) (λ h. h.volume.numbers) (λ h. h.volume.tree)
           i s.host last first run.last run.answers (disk parts.volume.device) (disk reports.volume.new.device) parts.volume.numbers parts.volume.tree run.reach (sym {b = parts.volume.numbers} shares.reads.kept.numbers) (sym {b = parts.volume.tree} (shares.reads.tree is))
