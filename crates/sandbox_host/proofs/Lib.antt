@@ -1,3 +1,4 @@
 pub mod AsBox
 pub mod Resuming
+pub mod Working
 pub mod WrittenItems
