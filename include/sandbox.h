@@ -26,9 +26,10 @@
  *   SANDBOX_DEVICE_FAILED; and what a call writes is as it was, but for `why` where a module is refused.
  *
  * THREADS
- *   Sessions and modules share nothing, so each thread can have its own at the same time. One stays on the thread that made
- *   it: that it may go to another isn't proved. Not from a signal handler, and not in the forked child of a process with
- *   threads. SANDBOX_STACK bytes of stack are enough.
+ *   Sessions and modules share nothing, so each thread can have its own at the same time. One may move to another thread
+ *   between two calls, which the host puts in order (by a lock, or a thread's start or end): never two calls at once on
+ *   one. Not from a signal handler, and not in the forked child of a process with threads. SANDBOX_STACK bytes of stack are
+ *   enough.
  *
  * VERSIONS
  *   SANDBOX_VERSION_NUMBER is 1,000,000 * major + 1,000 * minor + patch, and sandbox_version() what the archive has. From
@@ -171,14 +172,15 @@ size_t sandbox_output(sandbox_session **session, uint32_t descriptor, size_t fro
  * DEVICE_FAILED where the volume couldn't be committed: the session is finished then, too. A second call is MISUSE. */
 uint32_t sandbox_finish(sandbox_session **session);
 
-/* Copies the volume's sectors out, as far as there is room; answers how many it has. After sandbox_finish, else 0. */
+/* Copies the volume's sectors out, as far as there is room; answers how many it has. After sandbox_finish, else 0. Where
+ * that answered 0, they are the volume of a next session, with the guest's files as they were at the end. */
 size_t sandbox_volume_out(sandbox_session **session, uint8_t (*room)[512], size_t count);
 
 /* Discards all, also what isn't committed, and makes *session NULL. MISUSE where there is none. */
 uint32_t sandbox_close(sandbox_session **session);
 
 /* Discards a finished session, and its module becomes a loaded one in *module: MISUSE where there is one already, or the
- * session isn't finished. It asks for no memory. */
+ * session isn't finished. Nothing else is refused. */
 uint32_t sandbox_close_loaded(sandbox_session **session, sandbox_module **module);
 
 /* Discards a loaded module, and makes *module NULL. MISUSE where there is none. */

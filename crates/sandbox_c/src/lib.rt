@@ -218,6 +218,7 @@ pub extern "C" fn sandbox_unload(alloc: Global, module: &mut Handle) -> u32
 pub extern "C" fn sandbox_format(alloc: Global, sectors: &mut [[u8; 512]], slots: u32) -> u32
     ensures formatted { result ≡ 0 → StandsAs (image_of sectors.new) (fresh (length sectors.old) slots) (empty_tree slots) }
     ensures refused { result ≢ 0 → IsUnformatted (fresh (length sectors.old) slots) result × (sectors.new ≡ sectors.old) }
+    ensures kept { length sectors.new ≡ length sectors.old }
 {
     sandbox_host::format(alloc, sectors, slots)
 }

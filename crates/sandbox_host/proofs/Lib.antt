@@ -1,3 +1,5 @@
 pub mod AsBox
+pub mod Carrying
 pub mod Resuming
+pub mod Working
 pub mod WrittenItems

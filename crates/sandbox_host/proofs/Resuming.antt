@@ -6,12 +6,10 @@ use Rattle.sandbox_core.specs.Headline as headline
 use Rattle.sandbox_core.specs.Safety as safety
 use Rattle.sandbox_host.specs.declared.numbers.Told.{Told}
 use Rattle.sandbox_host.specs.declared.supplies.Supplies.{Supplies}
-use Rattle.sandbox_host.specs.declared.volumes.Origin.{Origin}
-use Rattle.sandbox_host.specs.declared.volumes.Origin.TheVariants.{Fresh, Sectors}
 use Rattle.sandbox_host.specs.Supplies.{settings_of}
-use Rattle.sandbox_host.specs.Host.{State, HostVolume, Parts, remaining, written, disk_of, IsHonest, size_of, failures_of}
-use Rattle.sandbox_host.specs.Volumes.{IsVolume, Works}
+use Rattle.sandbox_host.specs.Host.{State, Parts, remaining, written, disk_of, IsHonest, size_of, failures_of}
 use Rattle.sandbox_host.specs.Headline.{Resumed, HostUpholds, HostHeadline}
+use Rattle.sandbox_host.proofs.Working.{works_of}
 
 -- the pauses of the calls
 gathered : (m : Module) (supplies : Supplies) (s s' : State) (rs : List (Told × State)) → Resumed s rs s' → HostUpholds m supplies s rs s'
@@ -24,11 +22,6 @@ gathered m supplies s s' (r ∷ rs) is =
       tells = (one.tells, refl, more.tells);
       follow = ((min is.0.0 (2 ^ 64 - 1 - used_by s), one.resumes), more.follow);
     }
-
--- the volume of a guest works
-works_of : (origin : Origin) (v : HostVolume) → IsVolume origin v → Works v
-works_of Fresh v is = is.working
-works_of (Sectors sectors) v is = is.working
 
 pub host_headline : headline.Headline IsHonest disk_of size_of failures_of remaining written written
     → safety.TurnsAreSafe IsHonest disk_of size_of failures_of remaining written written → HostHeadline

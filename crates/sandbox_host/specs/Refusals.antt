@@ -8,6 +8,7 @@ use Rattle.wasm_module.specs.Module.{Spells}
 use Rattle.wasm_valid.specs.Validity.{IsValid}
 use Rattle.wasm_valid.specs.Refusal.{IsRefusal}
 use Rattle.sandbox_core.specs.declared.fault.SessionFault.{SessionFault}
+use Rattle.sandbox_core.specs.declared.fault.SessionFault.TheVariants.{Device}
 use Rattle.sandbox_core.specs.Session.{given, IsRefused}
 use Rattle.sandbox_host.specs.declared.numbers.Why.{Why}
 use Rattle.sandbox_host.specs.declared.supplies.Supplies.{Supplies}
@@ -35,7 +36,7 @@ pub record NoVolume (origin : Origin) (number : ℕ) : Type 0 where
   pub refuses : RefusesVolume origin fault
   pub tells : number ≡ volume_number fault
 
--- the session isn't made over the volume, for a reason with this number
+-- the session isn't made over the volume, for a reason with this number; a device in memory is none
 pub record NoSession (m : Module) (supplies : Supplies) (origin : Origin) (number : ℕ) : Type 0 where
   pub volume : HostVolume
   pub is_volume : IsVolume origin volume
@@ -43,6 +44,7 @@ pub record NoSession (m : Module) (supplies : Supplies) (origin : Origin) (numbe
   pub err : Bytes
   pub fault : SessionFault
   pub refuses : IsRefused IsHonest fault m (given (settings_of supplies) volume supplies.input out err)
+  pub no_device : fault ≢ Device
   pub tells : number ≡ session_number fault
 
 -- A session of the module doesn't begin: the volume is refused, then the session.

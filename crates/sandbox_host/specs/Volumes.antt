@@ -1,5 +1,5 @@
 -- The volume of a guest: a fresh one of 202 sectors and 16 slots, or that of sectors that a host hands in.
-use Rattle.std.specs.Prelude.{◌≡◌, ◌<◌, ◌==◌, ℕ, List, length, Option, Some, None, false, if◌then◌else◌}
+use Rattle.std.specs.Prelude.{◌≡◌, ◌≤◌, ◌<◌, ◌==◌, ℕ, List, length, Option, Some, None, false, if◌then◌else◌}
 use Rattle.vol_sector.specs.Disk.{Image}
 use Rattle.vol_sector.specs.Record.{image_of}
 use Rattle.vol_sector.specs.declared.fault.VolumeFault.{VolumeFault}
@@ -20,14 +20,16 @@ pub record Works (v : HostVolume) : Type 0 where
   pub works : v.failed ≡ false
   pub lasts : (c : Image) → (disk_of v.device).may_leave c → StandsAs c v.numbers v.tree
 
--- the empty volume
+-- the empty volume, on a device that has no sector more
 pub record IsNew (v : HostVolume) : Type 0 where
   pub numbers : v.numbers ≡ fresh 202 16
   pub tree : v.tree ≡ empty_tree 16
+  pub size : size_of v.device ≡ 202
   pub working : Works v
 
 -- what these sectors stand for, on a device that has as many
 pub record IsIn (sectors : List (List ℕ)) (v : HostVolume) : Type 0 where
+  pub few : length sectors ≤ 65536
   pub stands : StandsOn (length sectors) (image_of sectors) v.numbers v.tree
   pub size : size_of v.device ≡ length sectors
   pub working : Works v

@@ -54,7 +54,8 @@ impl Handle {
         let _before = mem::replace(self, Handle::of_parts(Parts::of(held)));
     }
 
-    fn empty(alloc: Global) -> Handle
+    /// One that has nothing, as C's NULL.
+    pub fn empty(alloc: Global) -> Handle
         ensures { result.held ≡ None }
     {
         Handle {
@@ -83,4 +84,16 @@ impl Handle {
             alloc,
         }
     }
+}
+
+// It has what it points to for itself alone.
+unsafe impl Send for Handle {}
+
+/// Says that a type may go to another thread.
+fn crosses<T: Send>() {}
+
+/// What a handle has may, and so may a handle: an `unsafe impl` alone proves nothing.
+pub(crate) fn handle_crosses() {
+    crosses::<Held>();
+    crosses::<Handle>();
 }

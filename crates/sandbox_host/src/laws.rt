@@ -1,9 +1,11 @@
 //! Laws of what a host calls, over definitions only.
 
 ghost use Rattle.sandbox_host.specs.Headline.{HostHeadline};
+ghost use Rattle.sandbox_host.specs.Carried.{IsCarried, IsCarriedOn};
 
 use sandbox_core::laws::{headline, turns_are_safe};
 use sandbox_device::RamDevice;
+use vol_tree::one_tree;
 
 /// Whatever is called on a session that was opened, the calls of `resume` are resumes of it, told by their numbers, and the
 /// headline of `sandbox_core` holds of them: the guest's steps are a run of the reduction rules over a tree of paths, each
@@ -14,4 +16,13 @@ pub fn host_headline()
 {
     headline::<RamDevice, &'static [u8], Vec<u8>, Vec<u8>>();
     turns_are_safe::<RamDevice, &'static [u8], Vec<u8>, Vec<u8>>();
+}
+
+/// Where `finish` answers 0, the sectors that it leaves are opened again as a volume with the same numbers and the tree at the
+/// end, and nothing but memory can be wanting. From the opening on that needs no premise, and there are as many as at first.
+pub fn volume_is_carried()
+    ensures at_the_end { IsCarried }
+    ensures from_the_opening { IsCarriedOn }
+{
+    one_tree();
 }

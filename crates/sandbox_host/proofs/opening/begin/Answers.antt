@@ -2,6 +2,7 @@ use Rattle.std.proofs.Common.{subst, inr}
 use Rattle.wasi_calls.specs.declared.settings.Settings.{Settings}
 use Rattle.sandbox_core.specs.Session.{given, IsRefused}
 use Rattle.sandbox_host.specs.Host.{State, Opens, Shares, IsHonest}
+use Rattle.sandbox_host.proofs.Working.{no_device}
 use Rattle.sandbox_host.proofs.opening.begin.Goals as goal
 
 -- the settings are those of the supplies
@@ -30,5 +31,6 @@ returns-in-Err-new-clause-refused c =
       err = c.new-err.result;
       fault = c.in-Err-new.field-0.fault;
       refuses = subst (λ (s : Settings). IsRefused IsHonest c.in-Err-new.field-0.fault c.args.valid (given s c.in-Ok.volume c.args.supplies.now.input c.new-out.result c.new-err.result)) c.settings-settings.ensures c.in-Err-new.ensures.refused;
+      no_device = no_device c.args.origin c.in-Ok.volume c.in-Err-new.field-0.parts.volume c.in-Err-new.field-0.fault c.in-Ok.ensures.opens c.in-Err-new.ensures.hands_back.volume;
       tells = c.session_number.ensures.number;
     })

@@ -19,5 +19,6 @@ returns-in-Ok-open-clause-opens c =
     record {
       numbers = found.0;
       tree = found.1;
+      size = opened.kept_ok.1 ∙ size;
       working = record { works = opened.working; lasts = opened.durable keeps_model };
     }

@@ -1,0 +1,110 @@
+-- The sectors that a finished session leaves are opened again.
+use Rattle.std.proofs.Common.{◌≡◌, ◌≤◌, ℕ, List, [], ◌∷◌, length, take, Result, Ok, Err, ⊎_elim, refl, ap, sym, subst, ◌∙◌, arith}
+use Rattle.vol_sector.specs.Disk.{Image}
+use Rattle.vol_sector.specs.Record.{image_of}
+use Rattle.vol_sector.specs.declared.fault.Refused.{Refused}
+use Rattle.vol_sector.specs.declared.fault.VolumeFault.{VolumeFault}
+use Rattle.vol_sector.specs.declared.fault.VolumeFault.TheVariants as fault
+use Rattle.vol_tree.specs.declared.superblock.Superblock.{Superblock}
+use Rattle.vol_tree.specs.Superblock.{version_number, IsNoVersion}
+use Rattle.vol_tree.specs.Tree.{Tree}
+use Rattle.vol_tree.specs.Stands.{StandsAs}
+use Rattle.vol_tree.specs.Opening.{StandsOn}
+use Rattle.vol_tree.proofs.OneTree.{version_is}
+use Rattle.sandbox_device.specs.declared.ram_device.RamDevice.{RamDevice}
+use Rattle.sandbox_host.specs.declared.numbers.Told.{Told}
+use Rattle.sandbox_host.specs.declared.held.Ended.{Ended}
+use Rattle.sandbox_host.specs.declared.volumes.Origin.{Origin}
+use Rattle.sandbox_host.specs.declared.volumes.Origin.TheVariants.{Fresh, Sectors}
+use Rattle.sandbox_host.specs.Host.{State, HostVolume, Commits, size_of}
+use Rattle.sandbox_host.specs.Volumes.{IsVolume, RefusesSectors}
+use Rattle.sandbox_host.specs.Sessions.{Finishes, device_of, commit_number}
+use Rattle.sandbox_host.specs.Headline.{Resumed}
+use Rattle.sandbox_host.specs.Carried.{OpensAgain, Fits, IsCarried, IsCarriedOn}
+
+-- an image stands for at most one tree
+abbrev pub OneTree : Type 0
+OneTree = (image : Image) (v w : Superblock) (T U : Tree) → StandsAs image v T → StandsAs image w U → (v ≡ w) × (T ≡ U)
+
+-- ---- sectors that stand for a tree are refused only for memory
+
+known_version : (v : Superblock) → IsNoVersion (version_number v.version) → ⊥
+known_version v unknown = absurd (grind arith)
+
+only_memory : (sectors : List (List ℕ)) (numbers : Superblock) (tree : Tree) → StandsOn (length sectors) (image_of sectors) numbers tree → length sectors ≤ 65536
+    → (f : VolumeFault) → RefusesSectors sectors f → f ≡ fault.Memory
+only_memory sectors numbers tree on few fault.NotAVolume none =
+    absurd (⊎_elim (λ short. omega (arith, short, on.room, on.stands.ranges.least)) (λ other. other (ap (take 8) on.stands.front)) none)
+only_memory sectors numbers tree on few fault.Version wrong =
+    absurd (known_version numbers (subst IsNoVersion (version_is (image_of sectors 0) numbers on.stands.front) wrong.version))
+only_memory sectors numbers tree on few fault.Damaged wrong = absurd (wrong.none numbers tree on)
+only_memory sectors numbers tree on few fault.Device wrong = absurd wrong
+only_memory sectors numbers tree on few fault.TooSmall wrong = absurd wrong
+only_memory sectors numbers tree on few fault.Upgraded wrong = absurd wrong
+only_memory sectors numbers tree on few fault.Geometry many = absurd (omega (arith, many, few))
+only_memory sectors numbers tree on few fault.Memory _ = refl
+
+opens_again : OneTree → (sectors : List (List ℕ)) (numbers : Superblock) (tree : Tree) → StandsAs (image_of sectors) numbers tree → numbers.sectors ≤ length sectors → length sectors ≤ 65536
+    → OpensAgain sectors numbers tree
+opens_again one sectors numbers tree stands room few = record {
+  same = λ v is. one (image_of sectors) v.numbers numbers v.tree tree is.stands.stands stands;
+  only_memory = only_memory sectors numbers tree (record { stands = stands; room = room }) few;
+}
+
+-- ---- what a commit that succeeded leaves
+
+record Leaves (v : HostVolume) (device : RamDevice) : Type 0 where
+  stands : StandsAs (image_of device.sectors) v.numbers v.tree
+  size : length device.sectors ≡ size_of v.device
+
+leaves : (v : HostVolume) (result : Result HostVolume (Refused RamDevice)) (device : RamDevice) → Commits v result → device ≡ device_of result → 0 ≡ commit_number result → Leaves v device
+leaves v (Ok w) device commits is told =
+    let last : RamDevice = commits.new.device in
+    let same : device ≡ last = is ∙ ap (λ (x : HostVolume). x.device) commits.handed_back in
+    record {
+      stands = subst (λ (d : RamDevice). StandsAs (image_of d.sectors) v.numbers v.tree) (sym same) (commits.durable tt refl (image_of last.sectors) refl);
+      size = ap (λ (d : RamDevice). length d.sectors) same ∙ commits.kept.size;
+    }
+leaves v (Err r) device commits is told = absurd (omega (arith, told))
+
+left_by : (s : State) (e : Ended) → Finishes s e 0 → Leaves s.host.volume e.device
+left_by s e ends = leaves s.host.volume ends.volume e.device ends.commits ends.device ends.number_told
+
+pub carried : OneTree → IsCarried
+carried one s e fits ends =
+    let left = left_by s e ends in
+    opens_again one e.device.sectors s.host.volume.numbers s.host.volume.tree left.stands (omega (arith, left.size, fits.room)) (omega (arith, left.size, fits.few))
+
+-- ---- from the opening on
+
+record Same (old new : HostVolume) : Type 0 where
+  numbers : new.numbers ≡ old.numbers
+  size : size_of new.device ≡ size_of old.device
+
+resumed_same : (s s' : State) (rs : List (Told × State)) → Resumed s rs s' → Same s.host.volume s'.host.volume
+resumed_same s s' [] is = record {
+  numbers = ap (λ (t : State). t.host.volume.numbers) is;
+  size = ap (λ (t : State). size_of t.host.volume.device) is;
+}
+resumed_same s s' (r ∷ rs) is =
+    let more = resumed_same r.1 s' rs is.1 in
+    record { numbers = more.numbers ∙ is.0.1.resumes.numbers; size = more.size ∙ is.0.1.resumes.size }
+
+fits_at_first : (origin : Origin) (v : HostVolume) → IsVolume origin v → Fits v
+fits_at_first Fresh v is = record { room = omega (arith, is.size, ap (λ (n : Superblock). n.sectors) is.numbers); few = omega (arith, is.size) }
+fits_at_first (Sectors sectors) v is = record { room = omega (arith, is.size, is.stands.room); few = omega (arith, is.size, is.few) }
+
+fits_then : (old new : HostVolume) → Same old new → Fits old → Fits new
+fits_then old new same fits = record {
+  room = omega (arith, same.size, ap (λ (n : Superblock). n.sectors) same.numbers, fits.room);
+  few = omega (arith, same.size, fits.few);
+}
+
+pub carried_on : OneTree → IsCarriedOn
+carried_on one m supplies origin s s' rs e begins resumed ends =
+    let first : HostVolume = begins.volume in
+    let last : HostVolume = s'.host.volume in
+    let resumes = resumed_same s s' rs resumed in
+    let same : Same first last = record { numbers = resumes.numbers ∙ begins.shares.reads.kept.numbers; size = resumes.size ∙ begins.shares.reads.kept.size } in
+    let again = carried one s' e (fits_then first last same (fits_at_first origin first begins.is_volume)) ends in
+    ((left_by s' e ends).size ∙ same.size, subst (λ (n : Superblock). OpensAgain e.device.sectors n last.tree) same.numbers again)

@@ -1,0 +1,196 @@
+//! What a host in C calls: why a module is refused, a session behind its handle, misuse, and texts.
+
+use super::sessions::assert_none;
+use sandbox_host::{
+    Handle, MISUSE, OK, Supplies, Told, VolumeSource, Why, check, close, finish, open, output,
+    resume, text, volume_out,
+};
+use std::alloc::Global;
+use std::process::Abort;
+use std::test::Fail;
+use wasm_tests::HELLO;
+
+/// `HELLO`, which a session keeps.
+static HI: [u8; 168] = HELLO;
+
+/// What a guest is given that asks for nothing.
+static SUPPLIES: Supplies<'static> = Supplies {
+    args: &[],
+    env: &[],
+    preopens: &[],
+    moment: 0,
+    random: b"",
+    pages: 1,
+    input: b"",
+};
+
+/// An empty volume.
+static FRESH: VolumeSource<'static> = VolumeSource {
+    kind: 0,
+    sectors: &[],
+};
+
+/// Modules, the number that each is refused with, and at which byte.
+static REFUSED: [(&[u8], u32, u32); 12] = [
+    (b"\x01", 1, 1),
+    (b"\0asn\x01\0\0\0", 2, 0),
+    (b"\0asm\x02\0\0\0", 3, 4),
+    // a size of five bytes whose last has an unused bit
+    (b"\0asm\x01\0\0\0\x01\x80\x80\x80\x80\x10", 4, 9),
+    // types twice
+    (b"\0asm\x01\0\0\0\x01\x01\0\x01\x01\0", 5, 11),
+    // a section that is too long by a byte
+    (b"\0asm\x01\0\0\0\x05\x04\x01\0\x01\0", 6, 8),
+    // section 13
+    (b"\0asm\x01\0\0\0\x01\x01\0\x0D\x01\0", 7, 11),
+    (b"\0asm\x01\0\0\0\0\x02\x01\xFF", 8, 11),
+    // a function without a body
+    (b"\0asm\x01\0\0\0\x01\x04\x01\x60\0\0\x03\x02\x01\0", 9, 18),
+    // a parameter f32
+    (b"\0asm\x01\0\0\0\x01\x05\x01\x60\x01\x7D\0", 10, 13),
+    // a table of 1,000,001 elements
+    (b"\0asm\x01\0\0\0\x04\x06\x01\x70\0\xC1\x84\x3D", 11, 13),
+    // a memory of 65,537 pages
+    (b"\0asm\x01\0\0\0\x05\x05\x01\0\x81\x80\x04", 12, 10),
+];
+
+/// Whether a module is answered with this number, and told with it and this offset.
+fn is_refused(alloc: Global, module: &[u8], fault: u32, offset: u32) -> bool {
+    let mut why = Why {
+        fault: 0,
+        offset: 0,
+    };
+    check(alloc, module, &mut why) == fault && why == Why { fault, offset }
+}
+
+/// The first row of a module that isn't refused as it says.
+fn wrong_refusal(alloc: Global) -> Option<usize> {
+    for (i, (module, fault, offset)) in REFUSED.iter().enumerate() {
+        if !is_refused(alloc, module, *fault, *offset) {
+            return Some(i);
+        }
+    }
+    None
+}
+
+#[test]
+fn tells_why_a_module_is_refused(rt: HostRuntime) {
+    assert_none(&rt, wrong_refusal(rt.alloc()));
+    assert!(rt; is_refused(rt.alloc(), &HI, 0, 0));
+}
+
+/// A session of `HI` over a volume, and what the call answered.
+fn opened(alloc: Global, volume: &VolumeSource<'_>) -> (Handle, u32) {
+    let mut session = Handle::empty(alloc);
+    let mut why = Why {
+        fault: 0,
+        offset: 0,
+    };
+    let answer = open(alloc, &mut session, &HI, &SUPPLIES, volume, &mut why);
+    (session, answer)
+}
+
+/// What is told of a session.
+fn told(kind: u32, call: u32, used: u64) -> Told {
+    Told {
+        kind,
+        code: 0,
+        call,
+        used,
+    }
+}
+
+/// Units by which a session is resumed, and the kind, the call and the units that are told then: twice that the units are
+/// used up (5), then that fd_write (16) was answered (4), then that the guest exited (0).
+static TURNS: [(u64, u32, u32, u64); 5] = [
+    (0, 5, 0, 0),
+    (4, 5, 0, 4),
+    (8, 4, 16, 5),
+    (3, 0, 0, 8),
+    (1, 0, 0, 8),
+];
+
+/// The first row that a session isn't told by.
+fn wrong_turn(alloc: Global, session: &mut Handle) -> Option<usize> {
+    let mut found = told(9, 9, 9);
+    for (i, (units, kind, call, used)) in TURNS.iter().enumerate() {
+        let answer = resume(alloc, session, *units, &mut found);
+        if answer != OK || found != told(*kind, *call, *used) {
+            return Some(i);
+        }
+    }
+    None
+}
+
+/// Whether the guest has written this to descriptor 1 from a byte on, and three bytes in all.
+fn has_written(alloc: Global, session: &mut Handle, from: usize, shown: &[u8]) -> bool {
+    let mut room = [b'.'; 4];
+    output(alloc, session, 1, from, &mut room) == 3 && room.as_slice() == shown
+}
+
+#[test]
+fn goes_through_a_session(rt: HostRuntime) -> Result<(), Fail> {
+    let alloc = rt.alloc();
+    let (mut session, answer) = opened(alloc, &FRESH);
+    assert!(rt; answer == OK);
+    assert_none(&rt, wrong_turn(alloc, &mut session));
+    assert!(rt; has_written(alloc, &mut session, 0, b"hi\n."));
+    let mut sectors = vec![in alloc; [0; 512]; 202]?;
+    assert!(rt; volume_out(alloc, &mut session, &mut sectors) == 0);
+    assert!(rt; finish(alloc, &mut session) == OK);
+    assert!(rt; has_written(alloc, &mut session, 1, b"i\n.."));
+    assert!(rt; volume_out(alloc, &mut session, &mut sectors) == 202);
+    assert!(rt; close(alloc, &mut session) == OK);
+    // the sectors are the volume of the next session
+    let volume = VolumeSource {
+        kind: 1,
+        sectors: &sectors,
+    };
+    let (mut next, answer) = opened(alloc, &volume);
+    assert!(rt; answer == OK && close(alloc, &mut next) == OK);
+    Ok(())
+}
+
+#[test]
+fn answers_misuse(rt: HostRuntime) {
+    let alloc = rt.alloc();
+    let mut found = told(9, 9, 9);
+    let mut none = Handle::empty(alloc);
+    assert!(rt; resume(alloc, &mut none, 1, &mut found) == MISUSE && found == told(9, 9, 9));
+    assert!(rt; finish(alloc, &mut none) == MISUSE && close(alloc, &mut none) == MISUSE);
+    let unknown = VolumeSource {
+        kind: 2,
+        sectors: &[],
+    };
+    let (_, answer) = opened(alloc, &unknown);
+    assert!(rt; answer == MISUSE);
+}
+
+/// The texts of the traps, by their numbers, and none past the last.
+static TRAPS: [&[u8]; 9] = [
+    b"unreachable",
+    b"integer divide by zero",
+    b"integer overflow",
+    b"out of bounds memory access",
+    b"undefined element",
+    b"uninitialized element",
+    b"indirect call type mismatch",
+    b"call stack exhausted",
+    b"",
+];
+
+/// The first trap whose text is another.
+fn wrong_text() -> Option<usize> {
+    for (i, want) in TRAPS.iter().enumerate() {
+        let mut room = [0; 32];
+        if text(1, i as u32, &mut room) != want.len() || !room.starts_with(want) {
+            return Some(i);
+        }
+    }
+    None
+}
+
+#[test]
+fn gives_the_texts_of_traps(rt: HostRuntime) {
+    assert_none(&rt, wrong_text());
+}
