@@ -67,8 +67,8 @@ words_rule = record (new_rule (codes "WORD")) {
 -- `run`, with what a guest may use
 unfoldable pub limited_app : App
 limited_app =
-    with_rule (with_rule (with_rule (new_app (codes "run")) (text_rule (codes "volume")))
-    (number_rule (codes "fuel") u64_numbers)) (number_rule (codes "pages") u32_numbers)
+    with_rule (with_rule (with_rule (with_rule (new_app (codes "run")) (text_rule (codes "volume")))
+    (number_rule (codes "fuel") u64_numbers)) (number_rule (codes "pages") u32_numbers)) (number_rule (codes "values") u32_numbers)
 
 -- and with what it is given
 unfoldable pub supplied_app : App
@@ -145,6 +145,7 @@ text_in o = option_map (λ t. t.now) o
 pub record AsksRun (rows : List Row) (run : Run) : Type 0 where
   pub fuel : run.limits.fuel ≡ number_or 1000000000 64 (codes "fuel") rows
   pub pages : run.limits.pages ≡ number_or 1024 32 (codes "pages") rows
+  pub values : run.limits.values ≡ number_or 134217728 32 (codes "values") rows
   pub volume : text_in run.volume ≡ first_of (codes "volume") rows
   pub dirs : texts run.dirs.items ≡ texts_of (codes "dir") rows
   pub env : texts run.env.items ≡ texts_of (codes "env") rows

@@ -7,6 +7,8 @@ pub struct Limits {
     pub fuel: u64,
     /// Pages of 65,536 bytes that memory may have at most.
     pub pages: u32,
+    /// Values of 8 bytes that its stack may have at most; 4,096 are always allowed.
+    pub values: u32,
 }
 
 /// `sandbox run`: a module, what it may use, and what it is given.

@@ -45,6 +45,9 @@ const FUEL: u64 = 1_000_000_000;
 /// Pages that memory may have where the command line says nothing of them.
 const PAGES: u32 = 1_024;
 
+/// Values that the guest's stack may have where the command line says nothing of them.
+const VALUES: u32 = 134_217_728;
+
 /// A command with what help says of it.
 fn described<'a>(command: Command<'a>, about: &'a str) -> Command<'a>
     ensures shape { app_of result ≡ app_of command.entry }
@@ -168,8 +171,14 @@ fn limited_command<'a>(alloc: Global) -> Result<Command<'a>, AllocError>
         clap::value_parser!(u32),
         "Most pages of memory, each of 65536 bytes [default: 1024]",
     );
+    let values = number_option(
+        alloc,
+        "values",
+        clap::value_parser!(u32),
+        "Most values of its stack, each of 8 bytes; 4096 at least [default: 134217728]",
+    );
     let command = with_argument(Ok(described(Command::new(alloc, "run"), about)), volume);
-    with_argument(with_argument(command, fuel), pages)
+    with_argument(with_argument(with_argument(command, fuel), pages), values)
 }
 
 /// `run`, also with the options of what a guest is given.
@@ -380,6 +389,7 @@ fn run_given<'a>(alloc: Global, matches: &ArgMatches<'a>) -> Result<Run<'a>, All
         limits: Limits {
             fuel: long_number(matches, "fuel").unwrap_or(FUEL),
             pages: number(matches, "pages").unwrap_or(PAGES),
+            values: number(matches, "values").unwrap_or(VALUES),
         },
         volume: option_text(matches, "volume"),
         dirs: texts(alloc, matches, "dir")?,

@@ -6,10 +6,11 @@ pub returns : goal.returns
 returns c = record {
   fuel = c.unwrap_or.ensures ∙ ap (λ (o : Option ℕ). unwrap_or o 1000000000) c.long_number.ensures;
   pages = c.unwrap_or-2.ensures ∙ ap (λ (o : Option ℕ). unwrap_or o 1024) c.number.ensures;
+  values = c.unwrap_or-3.ensures ∙ ap (λ (o : Option ℕ). unwrap_or o 134217728) c.number-2.ensures;
   volume = c.option_text.ensures;
   dirs = c.in_ok-texts.ensures;
   env = c.in_ok-texts-2.ensures;
-  moment = c.unwrap_or-3.ensures ∙ ap (λ (o : Option ℕ). unwrap_or o 0) c.long_number-2.ensures;
+  moment = c.unwrap_or-4.ensures ∙ ap (λ (o : Option ℕ). unwrap_or o 0) c.long_number-2.ensures;
   random = c.option_text-2.ensures;
   name = c.option_text-3.ensures;
   report = c.option_text-4.ensures;
