@@ -2,7 +2,7 @@
 //!
 //! A [`Module`] is decoded and validated once. [`Module::open`] turns it into a [`Session`], and [`Session::close`] gives it
 //! back, so one module serves many sessions one after another; for several at once load it as often. What a guest reads is
-//! borrowed for as long as its session lives. Both stay on the thread that made them; each thread can have its own.
+//! borrowed for as long as its session lives. Both may go to another thread; each thread can have its own.
 mod sys;
 
 use std::fmt;
@@ -108,6 +108,10 @@ impl Drop for Module<'_> {
         unsafe { sys::sandbox_unload(&mut self.raw) };
     }
 }
+
+// SAFETY: it owns what it points to, or borrows bytes that any thread may read, and the library lets it move between two calls.
+// Each call takes it alone, so it isn't `Sync`.
+unsafe impl Send for Module<'_> {}
 
 /// The arrays that a session reads as long as it lives.
 struct Kept {
@@ -215,6 +219,9 @@ impl<'a> Session<'a> {
         module
     }
 }
+
+// SAFETY: as for `Module`; the arrays in `_kept` move with it, and what they lead to is borrowed.
+unsafe impl Send for Session<'_> {}
 
 impl Drop for Session<'_> {
     fn drop(&mut self) {

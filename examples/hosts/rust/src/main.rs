@@ -1,6 +1,7 @@
 //! The same as `../c/host.c`, from Rust: `cargo run --release`.
 use sandbox_host::{format as format_volume, Module, Pause, Supplies};
 use std::error::Error;
+use std::thread;
 
 const RUNS: usize = 1000;
 
@@ -42,7 +43,9 @@ fn keep(bytes: &[u8]) -> Result<(), Box<dyn Error>> {
     let mut volume = format_volume(1000, 16)?;
     for words in [&["keys", "store", "put", "k", "value"][..], &["keys", "store", "get", "k"]] {
         let mut session = Module::load(bytes)?.open(&supplies(words, b""), Some(&volume)).map_err(|it| it.0)?;
-        let (ended, used) = session.run(10_000_000)?;
+        // A session may go to another thread.
+        let (ran, mut session) = thread::scope(|scope| scope.spawn(move || (session.run(10_000_000), session)).join()).expect("no panic");
+        let (ended, used) = ran?;
         let (said, left) = (session.output(1), session.finish()?);
         assert_eq!(ended, Pause::Exited(0));
         let said = if said.is_empty() { "nothing".into() } else { String::from_utf8(said)? };
