@@ -190,6 +190,7 @@ MODULES = [
     ("locals of a function", locals_of, 50_000, [], (0, ""), (124, OVER), GIB),
     ("frames of 50,000 locals", wide_frames, 1_000, FUEL, (0, ""), None, 2 * GIB),
     ("the same, out of memory", wide_frames, 60_000, FUEL, (122, "sandbox: out of memory"), None, GIB),
+    ("the same, past --values", wide_frames, 1_000, [*FUEL, "--values", "10000000"], (122, "sandbox: out of memory"), None, 2 * GIB),
     ("elements of a table", elements, 1_000_000, [], (0, ""), (124, OVER), GIB),
     ("labels of a br_table", labels, 1_000_000, [], (0, ""), None, 2 * GIB),
     ("blocks one in the other", blocks, 500_000, [], (0, ""), None, 2 * GIB),
