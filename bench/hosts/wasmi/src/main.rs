@@ -1,4 +1,7 @@
 //! A session of a module with wasmi: from the bytes, and of a module that is compiled once.
+mod pieces;
+
+use pieces::gather;
 use std::time::Instant;
 use wasmi::*;
 
@@ -8,18 +11,7 @@ fn linker(engine: &Engine) -> Linker<Host> {
     let mut linker = Linker::new(engine);
     linker.func_wrap("wasi_snapshot_preview1", "fd_write", |mut caller: Caller<'_, Host>, _fd: i32, iovs: i32, count: i32, written: i32| -> i32 {
         let memory = caller.get_export("memory").unwrap().into_memory().unwrap();
-        let mut sum = 0u32;
-        for i in 0..count {
-            let mut pair = [0u8; 8];
-            memory.read(&caller, (iovs + 8 * i) as usize, &mut pair).unwrap();
-            let at = u32::from_le_bytes(pair[..4].try_into().unwrap()) as usize;
-            let len = u32::from_le_bytes(pair[4..].try_into().unwrap()) as usize;
-            let (bytes, host) = memory.data_and_store_mut(&mut caller);
-            host.out.extend_from_slice(&bytes[at..at + len]);
-            sum += len as u32;
-        }
-        memory.write(&mut caller, written as usize, &sum.to_le_bytes()).unwrap();
-        0
+        gather(&mut caller, memory, (iovs, count, written), |host| &mut host.out)
     }).unwrap();
     linker.func_wrap("wasi_snapshot_preview1", "proc_exit", |mut caller: Caller<'_, Host>, code: i32| -> Result<(), Error> {
         caller.data_mut().exit = Some(code);

@@ -1,4 +1,8 @@
 //! Runs a kernel with wasmi and prints what it wrote. Where a second word is `--fuel`, wasmi counts fuel.
+#[path = "../pieces.rs"]
+mod pieces;
+
+use pieces::gather;
 use std::io::Write;
 use wasmi::*;
 
@@ -13,18 +17,7 @@ struct Host {
 
 fn fd_write(mut caller: Caller<'_, Host>, _fd: i32, pieces: i32, count: i32, written: i32) -> i32 {
     let memory = caller.data().memory.unwrap();
-    let mut sum = 0u32;
-    for i in 0..count {
-        let mut pair = [0u8; 8];
-        memory.read(&caller, (pieces + 8 * i) as usize, &mut pair).unwrap();
-        let at = u32::from_le_bytes(pair[..4].try_into().unwrap()) as usize;
-        let len = u32::from_le_bytes(pair[4..].try_into().unwrap()) as usize;
-        let (bytes, host) = memory.data_and_store_mut(&mut caller);
-        host.out.extend_from_slice(&bytes[at..at + len]);
-        sum += len as u32;
-    }
-    memory.write(&mut caller, written as usize, &sum.to_le_bytes()).unwrap();
-    0
+    gather(&mut caller, memory, (pieces, count, written), |host| &mut host.out)
 }
 
 /// No clock is read: the time is 0, as that of `sandbox` without `--moment`. So the call itself is what takes time.
