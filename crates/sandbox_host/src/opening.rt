@@ -84,7 +84,10 @@ fn keep(alloc: Global, handle: &mut Handle, held: Held) -> u32
             handle.put(held);
             OK
         }
-        Err(_) => OUT_OF_MEMORY,
+        Err(failed) => {
+            drop(failed.value);
+            OUT_OF_MEMORY
+        }
     }
 }
 
