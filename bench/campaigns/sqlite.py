@@ -100,15 +100,15 @@ def each_journal(setting, tries):
 
 def writes(setting):
     """Crash images of the guest's run."""
-    most = 2 if setting.is_quick else 4096
+    most = 2 if setting.is_quick else 256
     return each_journal(setting, lambda database: crashes.crashed(setting, database.scene(setting), most)[0])
 
 
 def operations(setting):
-    """Writes and syncs of the volume fail in the guest's run."""
+    """Every fifth write or sync of the volume fails in the guest's run: of both each kind of error."""
     def tries(database):
         it = failing.Failing(setting, database.scene, told)
-        turns = failing.places(setting, len(it.at))
+        turns = failing.places(setting, len(it.at))[:: 1 if setting.is_quick else 5]
         sum(setting.each(it.one, turns))
         return len(turns)
 
