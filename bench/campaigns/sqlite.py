@@ -6,6 +6,7 @@ were said.
 """
 import crashes
 import failing
+import steps
 from common import Wrong, answer, succeeded, written
 
 # The journal's mode, `synchronous`, and how many of the last transactions that were said may be lost. By deleting the journal SQLite
@@ -57,8 +58,7 @@ class Database:
 
     def done(self, volume):
         """How many transactions are in the volume. The same files have the same answer, so the guest is asked once."""
-        names = [line.split(b" ", 2)[2].decode() for line in succeeded(self.setting, "ls", volume, "/").splitlines()]
-        files = tuple((it, succeeded(self.setting, "get", volume, f"/{it}")) for it in names)
+        files = tuple(steps.tree_of(crashes.read(volume)).items())
         if files not in self.known:
             found = self.asked(volume, QUESTION)
             if found not in self.states:
@@ -73,7 +73,7 @@ class Database:
             raise Wrong(f"{done} transactions, and {committed} were said to be committed")
 
     def scene(self, setting):
-        path = crashes.fresh(setting, "260", "16")
+        path = crashes.fresh(setting, str(steps.SECTORS), str(steps.SLOTS))
         self.asked(path, LAYOUT.encode())
         text = f"pragma synchronous={self.synchronous}; pragma journal_mode={self.journal};\n"
         text += "".join(transaction(n + 1) for n in range(self.count))
