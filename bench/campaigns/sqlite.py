@@ -100,7 +100,7 @@ def each_journal(setting, tries):
 
 def writes(setting):
     """Crash images of the guest's run."""
-    most = 2 if setting.is_quick else 256
+    most = 2 if setting.is_quick else 1024
     return each_journal(setting, lambda database: crashes.crashed(setting, database.scene(setting), most)[0])
 
 
