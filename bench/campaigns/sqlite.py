@@ -33,12 +33,16 @@ def rows_after(n):
     return "ok\n" + "".join(rows)
 
 
+def transactions(setting):
+    return 2 if setting.is_quick else 10
+
+
 class Database:
     """A database on a volume, with one kind of journal."""
 
     def __init__(self, setting, journal, synchronous, lost):
         self.setting, self.journal, self.synchronous, self.lost = setting, journal, synchronous, lost
-        self.count = 2 if setting.is_quick else 10
+        self.count = transactions(setting)
         # of the same bytes in each run
         self.random = written(f"{setting.room}/random", bytes(4096))
         self.states = {rows_after(n): n for n in range(self.count + 1)}
@@ -95,7 +99,8 @@ def each_journal(setting, tries):
             tried[", ".join(it[:2])] = tries(database)
         except Wrong as wrong:
             raise Wrong(f"journal {it[0]}, {it[1]}: {wrong}") from None
-    return sum(tried.values()), "; ".join(f"{name} {count:,}" for name, count in tried.items())
+    text = "; ".join(f"{name} {count:,}" for name, count in tried.items())
+    return sum(tried.values()), f"{transactions(setting)} transactions; {text}"
 
 
 def writes(setting):
