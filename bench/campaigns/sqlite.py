@@ -33,16 +33,12 @@ def rows_after(n):
     return "ok\n" + "".join(rows)
 
 
-def transactions(setting):
-    return 2 if setting.is_quick else 10
-
-
 class Database:
     """A database on a volume, with one kind of journal."""
 
     def __init__(self, setting, journal, synchronous, lost):
         self.setting, self.journal, self.synchronous, self.lost = setting, journal, synchronous, lost
-        self.count = transactions(setting)
+        self.name, self.count = f"{journal}, {synchronous}", 2 if setting.is_quick else 10
         # of the same bytes in each run
         self.random = written(f"{setting.room}/random", bytes(4096))
         self.states = {rows_after(n): n for n in range(self.count + 1)}
@@ -81,8 +77,7 @@ class Database:
         self.asked(path, LAYOUT.encode())
         text = f"pragma synchronous={self.synchronous}; pragma journal_mode={self.journal};\n"
         text += "".join(transaction(n + 1) for n in range(self.count))
-        name = f"{self.journal}, {self.synchronous}"
-        return crashes.Scene(name, crashes.read(path), self.words, self.right, f"{self.count} transactions", text.encode())
+        return crashes.Scene(self.name, crashes.read(path), self.words, self.right, f"{self.count} transactions", text.encode())
 
 
 def told(trace, place):
@@ -92,15 +87,10 @@ def told(trace, place):
 
 def each_journal(setting, tries):
     """A row: what is tried with each journal, and how often."""
-    tried = {}
-    for it in JOURNALS:
-        database = Database(setting, *it)
-        try:
-            tried[", ".join(it[:2])] = tries(database)
-        except Wrong as wrong:
-            raise Wrong(f"journal {it[0]}, {it[1]}: {wrong}") from None
+    databases = [Database(setting, *it) for it in JOURNALS]
+    tried = {it.name: tries(it) for it in databases}
     text = "; ".join(f"{name} {count:,}" for name, count in tried.items())
-    return sum(tried.values()), f"{transactions(setting)} transactions; {text}"
+    return sum(tried.values()), f"{databases[0].count} transactions; {text}"
 
 
 def writes(setting):
@@ -114,7 +104,6 @@ def operations(setting):
     def tries(database):
         it = failing.Failing(setting, database.scene, told)
         turns = failing.places(setting, len(it.at))[:: 1 if setting.is_quick else 5]
-        sum(setting.each(it.one, turns))
-        return len(turns)
+        return sum(1 for _ in setting.each(it.one, turns))
 
     return each_journal(setting, tries)
