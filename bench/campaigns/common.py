@@ -33,11 +33,14 @@ class Wrong(Exception):
 
 
 class Setting:
-    """The program, a folder for files, how much is asked for, the seed, and how many processes run at once."""
+    """The program, a folder for files, how much is asked for, the seed, how many processes run at once, and SQLite's module or nothing.
 
-    def __init__(self, program, room, is_quick, seed, jobs):
-        self.program, self.room, self.is_quick, self.seed, self.jobs = program, room, is_quick, seed, jobs
-        self.kept = f"{TOP}/out/hostile"
+    What was measured at a limit is left in `limits`.
+    """
+
+    def __init__(self, program, room, is_quick, seed, jobs, sqlite=None):
+        self.program, self.room, self.is_quick, self.seed, self.jobs, self.sqlite = program, room, is_quick, seed, jobs, sqlite
+        self.kept, self.limits = f"{TOP}/out/hostile", []
 
     def keep(self, name, content):
         """Keeps a file that shows a wrong answer, and gives its path."""

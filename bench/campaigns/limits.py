@@ -243,6 +243,7 @@ def judged(setting, name, limit, small, large):
     if setting.is_quick:
         return
     print(f"  {name:28} {limit:11,} {small[0]:7.2f} {large[0]:7.2f} s {small[1]:7.0f} {large[1]:7.0f} MiB", flush=True)
+    setting.limits.append((name, f"{limit:,}", f"{small[0]:.2f}", f"{large[0]:.2f}", f"{small[1]:,.0f}", f"{large[1]:,.0f}"))
     if large[0] > 8 * small[0] + 0.5 or large[1] > 5 * small[1] + 64:
         raise Wrong(f"{name}: {small[0]:.2f} seconds and {small[1]:.0f} MiB at {limit // 4:,}, {large[0]:.2f} and {large[1]:.0f} at {limit:,}")
 
