@@ -78,12 +78,20 @@ where
         × StandsOn (D.size device) (D.disk device).seen volume.numbers volume.tree
         × StoppedAnywhere D.honest D.disk D.size D.failures R.remaining W1.contents W2.contents volume t.session t.first t.second) }
 {
-    let Ok(volume) = Volume::open(alloc, device) else {
-        drop((input, out, err));
-        return None;
+    let volume = match Volume::open(alloc, device) {
+        Ok(volume) => volume,
+        Err(refused) => {
+            drop(refused);
+            drop(valid);
+            drop((input, out, err));
+            return None;
+        }
     };
     match resumed_twice(alloc, valid, settings, volume, input, out, err, units) {
         Ok(twice) => Some(twice),
-        Err(_) => None,
+        Err(refused) => {
+            drop(refused);
+            None
+        }
     }
 }
