@@ -1,14 +1,16 @@
 -- The steps of a change of the tree.
-use Rattle.std.proofs.Common.{◌≡◌, ◌⊎◌, ⊎_elim, inl, inr, ℕ, Result, Ok, Err, IsErrAnd, false, refl, sym, ◌∙◌, ap, subst}
+use Rattle.std.proofs.Common.{◌≡◌, ◌⊎◌, ⊎_elim, inl, inr, ℕ, IsSome, Result, Ok, Err, IsErrAnd, false, refl, sym, ◌∙◌, ap, subst}
+use Rattle.std.proofs.lemmas.Bool.{false≢true}
 use Rattle.vol_sector.specs.Disk.{Disk, Leaves}
+use Rattle.vol_log.proofs.Moments.{leaves_same}
 use Rattle.vol_tree.specs.declared.errno.Errno.{Errno}
 use Rattle.vol_tree.specs.declared.errno.Errno.TheVariants as errno
 use Rattle.vol_tree.specs.declared.superblock.Superblock.{Superblock}
-use Rattle.vol_tree.specs.Tree.{Tree, Name, Directory}
+use Rattle.vol_tree.specs.Tree.{Tree, Name, Directory, entry}
 use Rattle.vol_tree.specs.Calls.{created, with_unit}
-use Rattle.vol_tree.specs.Opened.{Opened, Answers, Keeps, ReflectsOr, is_io}
+use Rattle.vol_tree.specs.Opened.{Opened, Answers, IsSerial, Keeps, ReflectsOr, is_io}
 use Rattle.path_walk.specs.Paths.{◌>>=◌}
-use Rattle.path_walk.specs.Walk.{Asked}
+use Rattle.path_walk.specs.Walk.{Asked, IsEntryOf}
 use Rattle.sandbox_words.specs.declared.request.Change.{Change}
 use Rattle.sandbox_command.specs.declared.failure.Failure.{Failure}
 use Rattle.sandbox_command.specs.declared.failure.Failure.TheVariants as failure
@@ -52,6 +54,28 @@ module _ {D : Type 0} (honest : D → Type 0) (disk : D → Disk) (size failures
     answer = λ h. (asked.tree h, unit_refused (m a.tree) e (why h));
     crash = λ h. leaves_more (disk a.device) (disk b.device) (λ c. ⊥) (ReflectsOr (disk a.device) a.numbers a.tree) (λ c none. absurd none) (asked.crash h);
     kept = asked.kept;
+  }
+
+  -- nothing was asked yet
+  pub asked_nothing : (a : Opened D) → a.failed ≡ false → Asked honest disk size failures a a false
+  asked_nothing a working = record {
+    tree = λ h. refl;
+    crash = λ h. leaves_same (disk a.device) (λ c. ⊥);
+    kept = record {
+      numbers = refl;
+      failed = working;
+      failures = λ ok. refl;
+      idle = λ failed. absurd (false≢true (sym working ∙ failed));
+      honest = (λ h. h, λ h. h);
+      size = refl;
+    };
+  }
+
+  -- an entry is one still
+  pub entry_kept : (a b : Opened D) (s : ℕ) → Asked honest disk size failures a b false → IsEntryOf honest a s → IsEntryOf honest b s
+  entry_kept a b s asked is = record {
+    number = subst (λ (v : Superblock). IsSerial v s) (sym asked.kept.numbers) is.number;
+    used = λ h. let before = asked.kept.honest.1 h in subst (λ (T : Tree). IsSome (entry T s)) (sym (asked.tree before)) (is.used before);
   }
 
   -- the same where it goes on as an error

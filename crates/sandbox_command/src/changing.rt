@@ -50,15 +50,18 @@ fn remove<D: Device>(volume: &mut Volume<D>, path: &str) -> Result<(), Errno>
     ensures { Changed D.honest D.disk D.size D.failures (λ T. entry_removed T path.now)
         volume.old volume.new result }
 {
-    match entry_named(volume, path)? {
-        (directory, true) => volume.rmdir(directory),
-        (file, false) => volume.unlink(file),
+    let (serial, is_directory) = entry_named(volume, path)?;
+    if is_directory {
+        volume.rmdir(serial)
+    } else {
+        volume.unlink(serial)
     }
 }
 
 /// Refuses an entry the place of the root, which is never empty; the root itself doesn't move.
 fn replace_root<D: Device>(volume: &mut Volume<D>, source: u32) -> Result<(), Errno>
-    requires { IsEntryOf D.honest volume.old source }
+    requires working { IsWorking volume.old }
+    requires source { IsEntryOf D.honest volume.old source }
     ensures { Changed D.honest D.disk D.size D.failures
         (λ T. renamed T source (parent_at T 1) (name_at T 1)) volume.old volume.new result }
 {
@@ -75,6 +78,7 @@ fn replace_root<D: Device>(volume: &mut Volume<D>, source: u32) -> Result<(), Er
 
 /// Gives an entry the place and the name of another one, which goes.
 fn move_onto<D: Device>(volume: &mut Volume<D>, source: u32, target: u32) -> Result<(), Errno>
+    requires working { IsWorking volume.old }
     requires source { IsEntryOf D.honest volume.old source }
     requires target { IsEntryOf D.honest volume.old target }
     ensures { Changed D.honest D.disk D.size D.failures
@@ -121,9 +125,10 @@ fn move_to<D: Device>(
     target: Reached<'_>,
     wants_dir: bool,
 ) -> Result<(), Errno>
+    requires working { IsWorking volume.old }
     requires source { IsEntryOf D.honest volume.old source }
-    requires reached { IsReached D.honest volume.old target.entry }
-    requires place { D.honest volume.old.device → IsPlace volume.old.tree (reached_as target.entry) }
+    requires reached { IsReached D.honest volume.old target }
+    requires place { D.honest volume.old.device → IsPlace volume.old.tree (reached_as target) }
     ensures { Changed D.honest D.disk D.size D.failures
         (λ T. moved_to T source (reached_as target.entry, wants_dir)) volume.old volume.new result }
 {

@@ -31,20 +31,20 @@ create_dir-requires-clause-directory g c h =
     missing_in c.args.volume.now.tree c.reached.new.volume.tree c.args.path.now (reached_as c.in_ok-found.found) _ c.in-Missing.parent c.in-Missing.name.now
     (asked.tree before) (c.in_ok-found.ensures.answer before) (ap reached_as c.in-Missing.is)
 
-pub returns-in_err-create_dir : goal.returns-in_err-create_dir
-returns-in_err-create_dir g c =
+pub returns-in_err-create_dir-in-Missing : goal.returns-in_err-create_dir-in-Missing
+returns-in_err-create_dir-in-Missing g c =
     let v = c.args.volume.now in
     let mid = c.reached.new.volume in
     let new = c.create_dir.new.self in
-    let r = c.from_residual-in_err-create_dir.result in
+    let r = c.from_residual-in_err-create_dir-in-Missing.result in
     let place = λ (T : Tree). created T c.in-Missing.parent c.in-Missing.name.now Directory >>= λ made. Ok made.0 in
     means g.D.Device.honest g.D.Device.disk g.D.Device.size g.D.Device.failures place (λ T. directory_made T c.args.path.now) v new r
     (λ h. made_missing v.tree c.args.path.now (reached_as c.in_ok-found.found) _ c.in-Missing.parent c.in-Missing.name.now (c.in_ok-found.ensures.answer h) (ap reached_as c.in-Missing.is))
     (asked_first g.D.Device.honest g.D.Device.disk g.D.Device.size g.D.Device.failures place v mid new r c.in_ok-found.ensures.asked
-    (created_err g.D.Device.honest g.D.Device.disk g.D.Device.size g.D.Device.failures c.in-Missing.parent c.in-Missing.name.now mid new c.in_err-create_dir.field-0.0 r c.in_err-create_dir.ensures.answer c.in_err-create_dir.ensures.crash c.in_err-create_dir.ensures.kept c.from_residual-in_err-create_dir.ensures.1))
+    (created_err g.D.Device.honest g.D.Device.disk g.D.Device.size g.D.Device.failures c.in-Missing.parent c.in-Missing.name.now mid new c.in_err-create_dir-in-Missing.field-0.0 r c.in_err-create_dir-in-Missing.ensures.answer c.in_err-create_dir-in-Missing.ensures.crash c.in_err-create_dir-in-Missing.ensures.kept c.from_residual-in_err-create_dir-in-Missing.ensures.1))
 
-pub returns-in-Missing : goal.returns-in-Missing
-returns-in-Missing g c =
+pub returns-in_ok-create_dir-in-Missing : goal.returns-in_ok-create_dir-in-Missing
+returns-in_ok-create_dir-in-Missing g c =
     let v = c.args.volume.now in
     let mid = c.reached.new.volume in
     let new = c.create_dir.new.self in
@@ -52,4 +52,4 @@ returns-in-Missing g c =
     means g.D.Device.honest g.D.Device.disk g.D.Device.size g.D.Device.failures place (λ T. directory_made T c.args.path.now) v new (Ok tt)
     (λ h. made_missing v.tree c.args.path.now (reached_as c.in_ok-found.found) _ c.in-Missing.parent c.in-Missing.name.now (c.in_ok-found.ensures.answer h) (ap reached_as c.in-Missing.is))
     (asked_first g.D.Device.honest g.D.Device.disk g.D.Device.size g.D.Device.failures place v mid new (Ok tt) c.in_ok-found.ensures.asked
-    (created_ok g.D.Device.honest g.D.Device.disk g.D.Device.size g.D.Device.failures c.in-Missing.parent c.in-Missing.name.now mid new c.in_ok-create_dir.field-0 c.in_ok-create_dir.ensures.answer c.in_ok-create_dir.ensures.crash c.in_ok-create_dir.ensures.kept))
+    (created_ok g.D.Device.honest g.D.Device.disk g.D.Device.size g.D.Device.failures c.in-Missing.parent c.in-Missing.name.now mid new c.in_ok-create_dir-in-Missing.field-0 c.in_ok-create_dir-in-Missing.ensures.answer c.in_ok-create_dir-in-Missing.ensures.crash c.in_ok-create_dir-in-Missing.ensures.kept))
