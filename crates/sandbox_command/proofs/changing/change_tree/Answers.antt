@@ -1,4 +1,3 @@
-use Rattle.vol_sector.specs.Disk.{Disk}
 use Rattle.sandbox_command.proofs.Changed.{change_left, change_refused, sync_left, sync_refused, synced}
 use Rattle.sandbox_command.proofs.changing.change_tree.Goals as goal
 

@@ -1,5 +1,4 @@
-use Rattle.std.proofs.Common.{◌≡◌, ℕ, Result, Ok, ap, subst, sym, inl}
-use Rattle.vol_tree.specs.declared.errno.Errno.{Errno}
+use Rattle.std.proofs.Common.{Ok, ap, inl}
 use Rattle.vol_tree.specs.declared.errno.Errno.TheVariants as errno
 use Rattle.vol_tree.specs.Tree.{Tree, Directory}
 use Rattle.vol_tree.specs.Calls.{created}

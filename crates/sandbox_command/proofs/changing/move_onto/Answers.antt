@@ -1,4 +1,4 @@
-use Rattle.std.proofs.Common.{◌≡◌, ◌==◌, ℕ, take, ap, sym, ◌∙◌}
+use Rattle.std.proofs.Common.{◌==◌, ℕ, take, ap, sym, ◌∙◌}
 use Rattle.std.proofs.lemmas.Bool.{cond-false, ne_eqb}
 use Rattle.vol_tree.specs.Calls.{renamed}
 use Rattle.wasi_calls.specs.Paths.{name_at, parent_at}

@@ -1,4 +1,4 @@
-use Rattle.std.proofs.Common.{◌≡◌, ap, sym, subst}
+use Rattle.std.proofs.Common.{ap, sym, subst}
 use Rattle.vol_tree.specs.Calls.{renamed}
 use Rattle.path_walk.specs.Paths.{Missing}
 use Rattle.path_walk.specs.Walk.{IsReached, reached_as}

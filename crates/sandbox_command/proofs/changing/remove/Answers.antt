@@ -1,4 +1,4 @@
-use Rattle.std.proofs.Common.{◌≡◌, ℕ, Bool, Result, Ok, ap, ◌∙◌}
+use Rattle.std.proofs.Common.{ℕ, Bool, Result, Ok, ap, ◌∙◌}
 use Rattle.vol_tree.specs.declared.errno.Errno.{Errno}
 use Rattle.vol_tree.specs.Calls.{directory_removed, unlinked}
 use Rattle.sandbox_command.specs.Changes.{entry_removed}

@@ -1,4 +1,4 @@
-use Rattle.std.proofs.Common.{◌≡◌, Bool, Result, Err, if◌then◌else◌, inl, ap, sym, ◌∙◌}
+use Rattle.std.proofs.Common.{Bool, Result, Err, if◌then◌else◌, inl, ap, sym, ◌∙◌}
 use Rattle.vol_tree.specs.declared.errno.Errno.{Errno}
 use Rattle.vol_tree.specs.declared.errno.Errno.TheVariants as errno
 use Rattle.vol_tree.specs.Tree.{Tree}
