@@ -6,9 +6,9 @@ use Rattle.vol_sector.specs.Disk.{Disk}
 use Rattle.vol_tree.specs.declared.superblock.Superblock.{Superblock}
 use Rattle.vol_tree.specs.Tree.{Tree}
 use Rattle.sandbox_words.specs.declared.request.Task.{Task}
-use Rattle.sandbox_words.specs.declared.request.Task.TheVariants.{List as Ls, Get, Put, Check, Upgrade}
+use Rattle.sandbox_words.specs.declared.request.Task.TheVariants.{List as Ls, Get, Put, Check, Upgrade, Stat, Change as Changing}
 use Rattle.sandbox_command.specs.declared.failure.Failure.{Failure}
-use Rattle.sandbox_command.specs.Tasks.{printed_file, printed_listing, summary}
+use Rattle.sandbox_command.specs.Tasks.{printed_facts, printed_file, printed_listing, summary}
 use Rattle.sandbox_command.specs.Doing.{Does, Performs, WasDone, WasRefused}
 use Rattle.sandbox_command.proofs.Printed.{prints_kept}
 
@@ -19,6 +19,8 @@ does_kept (Get path) v T given unread a b c U done does kept = (prints_kept (pri
 does_kept (Put path) v T given unread a b c U done does kept = does
 does_kept Check v T given unread a b c U done does kept = (prints_kept (Ok (summary v T)) a b c done does.0 kept, does.1)
 does_kept Upgrade v T given unread a b c U done does kept = does
+does_kept (Stat path) v T given unread a b c U done does kept = (prints_kept (printed_facts T path.now) a b c done does.0 kept, does.1)
+does_kept (Changing change) v T given unread a b c U done does kept = does
 
 module _ {D : Type 0} (is_honest : D → Type 0) (disk : D → Disk) (size failures : D → ℕ) (task : Task) (device : D) (given unread before printed after : Option (List ℕ)) (left : D) (done : Result (Unit {0}) Failure) where
   pub performs_flushed : Performs is_honest disk size failures task device given unread before printed left done → Keeps printed after

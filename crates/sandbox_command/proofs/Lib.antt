@@ -13,3 +13,6 @@ mod FreshVolume
 mod Began
 mod Refusals
 mod Performing
+mod Meant
+mod Changed
+mod Described

@@ -7,7 +7,7 @@ use Rattle.vol_tree.specs.declared.superblock.Superblock.{Superblock}
 use Rattle.vol_tree.specs.Tree.{Tree}
 use Rattle.vol_tree.specs.Opening.{NoVolumeOn, HasNoVersion, IsDamaged}
 use Rattle.sandbox_words.specs.declared.request.Task.{Task}
-use Rattle.sandbox_words.specs.declared.request.Task.TheVariants.{List as Ls, Get, Put, Check, Upgrade}
+use Rattle.sandbox_words.specs.declared.request.Task.TheVariants.{List as Ls, Get, Put, Check, Upgrade, Stat, Change as Changing}
 use Rattle.sandbox_command.specs.Doing.{IsPartOf, RefusedBy}
 
 -- a task that hasn't begun leaves the tree
@@ -17,6 +17,8 @@ whole_is_part (Get path) v T given = refl
 whole_is_part (Put path) v T given = inl refl
 whole_is_part Check v T given = refl
 whole_is_part Upgrade v T given = refl
+whole_is_part (Stat path) v T given = refl
+whole_is_part (Changing change) v T given = inl refl
 
 -- each refusal has its rule
 pub refused_by : (f : VolumeFault) (size : ℕ) (seen : Image) → (f ≡ fault.NotAVolume → NoVolumeOn size seen) → (f ≡ fault.Version → HasNoVersion size seen) → (f ≡ fault.Damaged → IsDamaged size seen)

@@ -12,11 +12,12 @@ use Rattle.vol_tree.specs.Stands.{StandsAs}
 use Rattle.vol_tree.specs.Opened.{raised}
 use Rattle.vol_tree.specs.Opening.{StandsOn, HoldsOn, NoVolumeOn, HasNoVersion, IsDamaged}
 use Rattle.sandbox_words.specs.declared.request.Task.{Task}
-use Rattle.sandbox_words.specs.declared.request.Task.TheVariants.{List as Ls, Get, Put, Check, Upgrade}
+use Rattle.sandbox_words.specs.declared.request.Task.TheVariants.{List as Ls, Get, Put, Check, Upgrade, Stat, Change as Changing}
 use Rattle.sandbox_command.specs.declared.failure.Failure.{Failure}
 use Rattle.sandbox_command.specs.declared.failure.Failure.TheVariants.{Volume}
 use Rattle.sandbox_command.specs.Blame.{blames_device}
-use Rattle.sandbox_command.specs.Tasks.{IsPartOfPut, Prints, Puts, ReflectsAny, printed_file, printed_listing, summary}
+use Rattle.sandbox_command.specs.Tasks.{IsPartOfPut, Prints, Puts, ReflectsAny, printed_facts, printed_file, printed_listing, summary}
+use Rattle.sandbox_command.specs.Changes.{Changes, IsPartOfChange}
 
 -- An upgrade is refused with 35 for version 2, and else only with 33.
 pub record Upgrades (v : Superblock) (done : Result (Unit {0}) Failure) : Type 0 where
@@ -31,6 +32,8 @@ Does (Get path) v T given unread before after U done = Prints (printed_file T pa
 Does (Put path) v T given unread before after U done = Puts v T path.now given unread U done
 Does Check v T given unread before after U done = Prints (Ok (summary v T)) before after done × (U ≡ T)
 Does Upgrade v T given unread before after U done = Upgrades v done × (U ≡ T)
+Does (Stat path) v T given unread before after U done = Prints (printed_facts T path.now) before after done × (U ≡ T)
+Does (Changing change) v T given unread before after U done = Changes T change U done
 
 -- the trees that a stop inside a task may leave
 abbrev pub IsPartOf : Task → Superblock → Tree → Option (List ℕ) → Tree → Type 0
@@ -39,6 +42,8 @@ IsPartOf (Get path) v T given U = U ≡ T
 IsPartOf (Put path) v T given U = IsPartOfPut v T path.now given U
 IsPartOf Check v T given U = U ≡ T
 IsPartOf Upgrade v T given U = U ≡ T
+IsPartOf (Stat path) v T given U = U ≡ T
+IsPartOf (Changing change) v T given U = IsPartOfChange T change U
 
 -- a stop inside an upgrade may also leave the tree with version 2
 abbrev pub IsRaised : Task → Superblock → Tree → Image → Type 0
@@ -47,6 +52,8 @@ IsRaised (Get path) v T c = ⊥
 IsRaised (Put path) v T c = ⊥
 IsRaised Check v T c = ⊥
 IsRaised Upgrade v T c = StandsAs c (raised v) T
+IsRaised (Stat path) v T c = ⊥
+IsRaised (Changing change) v T c = ⊥
 
 -- what each crash leaves where a task that changes a volume ended with success
 abbrev pub Lasts : Task → Superblock → Tree → (Image → Type 0) → Type 0
@@ -55,6 +62,8 @@ Lasts (Get path) v U may_leave = Unit {0}
 Lasts (Put path) v U may_leave = (c : Image) → may_leave c → StandsAs c v U
 Lasts Check v U may_leave = Unit {0}
 Lasts Upgrade v U may_leave = (c : Image) → may_leave c → StandsAs c (raised v) U
+Lasts (Stat path) v U may_leave = Unit {0}
+Lasts (Changing change) v U may_leave = (c : Image) → may_leave c → StandsAs c v U
 
 -- the tasks that print nothing
 abbrev pub PrintsNothing : Task → Type 0
@@ -63,6 +72,8 @@ PrintsNothing (Get path) = ⊥
 PrintsNothing (Put path) = Unit {0}
 PrintsNothing Check = ⊥
 PrintsNothing Upgrade = Unit {0}
+PrintsNothing (Stat path) = ⊥
+PrintsNothing (Changing change) = Unit {0}
 
 -- the tasks that read nothing of the input
 abbrev pub ReadsNothing : Task → Type 0
@@ -71,6 +82,8 @@ ReadsNothing (Get path) = Unit {0}
 ReadsNothing (Put path) = ⊥
 ReadsNothing Check = Unit {0}
 ReadsNothing Upgrade = Unit {0}
+ReadsNothing (Stat path) = Unit {0}
+ReadsNothing (Changing change) = Unit {0}
 
 -- the first sector, or the log's header, is that of no volume on a device with this many sectors
 abbrev pub HoldsNothing : ℕ → Image → Type 0

@@ -4,6 +4,7 @@ pub mod Blame
 pub mod Formatting
 pub mod Streams
 pub mod Tasks
+pub mod Changes
 pub mod Doing
 pub mod Supplies
 pub mod Volumes

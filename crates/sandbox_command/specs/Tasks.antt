@@ -1,13 +1,14 @@
 -- What a task on a volume prints, and which tree it leaves (`README.md`, "The program").
 use Rattle.std.specs.Prelude.{◌≡◌, ◌⊎◌, ◌==◌, ℕ, Bool, List, [], ◌∷◌, ◌++◌, Option, None, Some, Result, Ok, Err, if◌then◌else◌, codes, decimal, false, true}
 use Rattle.std.specs.List.{concat, flat_map}
+use Rattle.std.specs.Option.{option_map_or}
 use Rattle.std.specs.Io.KnownBytes.{Appends, Consumes, IsAtEnd, Keeps}
 use Rattle.vol_sector.specs.Disk.{Image, Disk}
 use Rattle.vol_tree.specs.declared.superblock.Superblock.{Superblock}
 use Rattle.vol_tree.specs.declared.errno.Errno.{Errno}
 use Rattle.vol_tree.specs.declared.errno.Errno.TheVariants as errno
 use Rattle.vol_tree.specs.Superblock.{version_number}
-use Rattle.vol_tree.specs.Tree.{Tree, Node, Directory, File, Entry}
+use Rattle.vol_tree.specs.Tree.{Tree, Node, Directory, File, Entry, entry}
 use Rattle.vol_tree.specs.Space.{Geometry, space, size_of}
 use Rattle.vol_tree.specs.Stats.{entries_of}
 use Rattle.vol_tree.specs.Stands.{StandsAs}
@@ -71,6 +72,18 @@ summary v T = concat
     ∷ codes ", entries " ∷ decimal (entries_of T) ∷ codes " of " ∷ decimal v.slots
     ∷ codes ", sectors " ∷ decimal (space T) ∷ codes " of " ∷ decimal (data_sectors v) ∷ codes "\n" ∷ [])
 
+abbrev pub word_of : Node → Text
+word_of Directory = codes "directory"
+word_of (File bytes) = codes "file"
+
+-- what an entry is: a directory or a file, its size, its serial
+unfoldable pub facts_of : ℕ → Entry → Text
+facts_of serial e = concat
+    (codes "kind:" ∷ word_of e.node ∷ codes "\nsize:" ∷ decimal (size_of e.node) ∷ codes "\nserial:" ∷ decimal serial ∷ codes "\n" ∷ [])
+
+abbrev pub facts_at : Tree → ℕ → Text
+facts_at T serial = option_map_or (facts_of serial) (entry T serial) []
+
 -- ---- what a task ends with
 
 abbrev pub printed_listing : Tree → Text → Result Text Errno
@@ -78,6 +91,9 @@ printed_listing T path = directory_named T path >>= λ serial. Ok (listing T ser
 
 abbrev pub printed_file : Tree → Text → Result Text Errno
 printed_file T path = file_named T path >>= λ serial. Ok (bytes_at T serial)
+
+abbrev pub printed_facts : Tree → Text → Result Text Errno
+printed_facts T path = serial_named T path >>= λ serial. Ok (facts_at T serial)
 
 -- a beginning of what is meant was printed, and nothing where an errno is meant
 abbrev pub PrintsPart : Result Text Errno → Option (List ℕ) → Option (List ℕ) → Type 0

@@ -3,3 +3,4 @@ pub mod Lines
 pub mod Filling
 pub mod Working
 pub mod Supplies
+pub mod Changing

@@ -2,6 +2,7 @@
 //! is done, and with which status it ends.
 #![tactic(auto)]
 
+mod changing;
 mod failure;
 mod files;
 mod formatting;
@@ -20,4 +21,4 @@ pub use opening::FRESH_SECTORS;
 pub use program::{Executed, execute, refuse_command_line, refuse_words};
 pub use run_report::{Summary, print as print_report};
 pub use sandbox_device::{FileDevice, RamDevice};
-pub use sandbox_words::{Invocation, Limits, Run, Task, invocation};
+pub use sandbox_words::{Change, Invocation, Limits, Run, Task, invocation};

@@ -10,8 +10,9 @@ ghost use Rattle.sandbox_command.specs.Doing.{Does, IsPartOf, Lasts, Performs, I
 ghost use Rattle.sandbox_command.specs.Doing.{PrintsNothing, ReadsNothing};
 ghost use Rattle.sandbox_command.specs.internal.Working.{IsWorking};
 
+use crate::changing::change_tree;
 use crate::failure::Failure;
-use crate::printing::{check, get, list};
+use crate::printing::{check, describe, get, list};
 use crate::putting::put;
 use sandbox_words::Task;
 use std::alloc::Global;
@@ -63,6 +64,8 @@ fn done_with<D: Device, R: Read, W: Write>(
         Task::Put { path } => put(volume, path, input),
         Task::Check => check(volume, out),
         Task::Upgrade => Ok(volume.upgrade()?),
+        Task::Stat { path } => describe(volume, path, out),
+        Task::Change(change) => change_tree(volume, change),
     }
 }
 

@@ -33,7 +33,7 @@ pub(crate) fn reached<'p, D: Device>(
 }
 
 /// The serial of the entry that a path reaches; where it isn't there, 44.
-fn serial_named<D: Device>(volume: &mut Volume<D>, path: &str) -> Result<u32, Errno>
+pub(crate) fn serial_named<D: Device>(volume: &mut Volume<D>, path: &str) -> Result<u32, Errno>
     requires { IsWorking volume.old }
     ensures answer { D.honest volume.old.device
         → Answered (serial_named volume.old.tree path.now) result }
@@ -47,12 +47,17 @@ fn serial_named<D: Device>(volume: &mut Volume<D>, path: &str) -> Result<u32, Er
 }
 
 /// The entry that a path reaches, and whether it is a directory.
-fn entry_named<D: Device>(volume: &mut Volume<D>, path: &str) -> Result<(u32, bool), Errno>
+pub(crate) fn entry_named<D: Device>(
+    volume: &mut Volume<D>,
+    path: &str,
+) -> Result<(u32, bool), Errno>
     requires { IsWorking volume.old }
     ensures answer { D.honest volume.old.device
         → Answered (entry_named volume.old.tree path.now) result }
     ensures asked { Asked D.honest D.disk D.size D.failures volume.old volume.new (is_io result) }
     ensures entry { IfOk result (λ r. IsEntryOf D.honest volume.new r.0) }
+    ensures kind { D.honest volume.old.device
+        → IfOk result (λ r. r.1 ≡ directory_at volume.new.tree r.0) }
 {
     let serial = serial_named(volume, path)?;
     let is_directory = is_directory(volume, serial)?;

@@ -14,7 +14,9 @@ use Rattle.clap.specs.Simple.{on_top}
 use Rattle.clap.specs.Words.{App, Row, Rule, all_of, first_of, new_app, new_rule, one_of, with_rule, with_subcommand}
 use Rattle.sandbox_words.specs.declared.request.Run.{Run}
 use Rattle.sandbox_words.specs.declared.request.Task.{Task}
-use Rattle.sandbox_words.specs.declared.request.Task.TheVariants.{List as Ls, Get, Put, Check, Upgrade}
+use Rattle.sandbox_words.specs.declared.request.Task.TheVariants.{List as Ls, Get, Put, Check, Upgrade, Stat, Change as Changing}
+use Rattle.sandbox_words.specs.declared.request.Change.{Change}
+use Rattle.sandbox_words.specs.declared.request.Change.TheVariants.{MakeDirectory, Move, Remove}
 use Rattle.sandbox_words.specs.declared.request.Invocation.{Invocation}
 use Rattle.sandbox_words.specs.declared.request.Invocation.TheVariants as asked
 use Rattle.sandbox_words.specs.Request.{Text, texts}
@@ -92,6 +94,10 @@ file_app name = with_rule (new_app name) (word_rule (codes "FILE"))
 abbrev pub path_app : Text → App
 path_app name = with_rule (file_app name) (word_rule (codes "PATH"))
 
+-- `mv`, with the path that an entry has and the one that it gets
+abbrev pub move_app : App
+move_app = with_rule (with_rule (file_app (codes "mv")) (word_rule (codes "FROM"))) (word_rule (codes "TO"))
+
 abbrev pub format_app : App
 format_app =
     with_rule (with_rule (with_rule (file_app (codes "format")) (number_word_rule (codes "SECTORS")))
@@ -105,8 +111,10 @@ faults_app = on_top (λ s. record s { arg_required_else_help = true }) (new_app 
 unfoldable pub program : App
 program =
     with_subcommand (with_subcommand (with_subcommand (with_subcommand (with_subcommand (with_subcommand (with_subcommand (with_subcommand
+    (with_subcommand (with_subcommand (with_subcommand (with_subcommand
     (on_top (λ s. record s { subcommand_required = true; has_version = true }) (new_app (codes "sandbox")))
     run_app.top) format_app.top) (path_app (codes "ls")).top) (path_app (codes "get")).top) (path_app (codes "put")).top)
+    (path_app (codes "mkdir")).top) move_app.top) (path_app (codes "rm")).top) (path_app (codes "stat")).top)
     (file_app (codes "check")).top) (file_app (codes "upgrade")).top) faults_app.top
 
 -- ---- what is asked for
@@ -156,6 +164,12 @@ pub record AsksRun (rows : List Row) (run : Run) : Type 0 where
   pub module_word : run.module.now ≡ word_of (codes "MODULE") rows
   pub words : texts run.words.items ≡ texts_of (codes "WORD") rows
 
+-- the command of this name is this change
+abbrev pub AsksChange : Text → List Row → Change → Type 0
+AsksChange name rows (MakeDirectory path) = (name ≡ codes "mkdir") × (path.now ≡ word_of (codes "PATH") rows)
+AsksChange name rows (Move from to) = (name ≡ codes "mv") × (from.now ≡ word_of (codes "FROM") rows) × (to.now ≡ word_of (codes "TO") rows)
+AsksChange name rows (Remove path) = (name ≡ codes "rm") × (path.now ≡ word_of (codes "PATH") rows)
+
 -- the command of this name is this task
 abbrev pub AsksTask : Text → List Row → Task → Type 0
 AsksTask name rows (Ls path) = (name ≡ codes "ls") × (path.now ≡ word_of (codes "PATH") rows)
@@ -163,10 +177,16 @@ AsksTask name rows (Get path) = (name ≡ codes "get") × (path.now ≡ word_of 
 AsksTask name rows (Put path) = (name ≡ codes "put") × (path.now ≡ word_of (codes "PATH") rows)
 AsksTask name rows Check = name ≡ codes "check"
 AsksTask name rows Upgrade = name ≡ codes "upgrade"
+AsksTask name rows (Stat path) = (name ≡ codes "stat") × (path.now ≡ word_of (codes "PATH") rows)
+AsksTask name rows (Changing change) = AsksChange name rows change
+
+-- the commands that are changes
+abbrev pub change_names : List Text
+change_names = codes "mkdir" ∷ codes "mv" ∷ codes "rm" ∷ []
 
 -- the commands that are tasks
 abbrev pub task_names : List Text
-task_names = codes "ls" ∷ codes "get" ∷ codes "put" ∷ codes "check" ∷ codes "upgrade" ∷ []
+task_names = codes "ls" ∷ codes "get" ∷ codes "put" ∷ codes "check" ∷ codes "upgrade" ∷ codes "stat" ∷ change_names
 
 -- What the command of this name is asked for by what was found for its arguments. It is `run` where it is no other.
 abbrev pub AsksFor : Text → List Row → Invocation → Type 0

@@ -40,7 +40,7 @@ module's file.
 Memory that is refused has no number: its line is \"sandbox: out of memory\", and
 its status 122.
 
-Errnos: what a guest's calls answer, and of ls, get and put a line
+Errnos: what a guest's calls answer, and of a command on a path a line
 \"sandbox: errno N\" with status 124.
 
   0         success

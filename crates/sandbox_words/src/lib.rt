@@ -5,5 +5,5 @@ mod faults;
 mod request;
 mod words;
 
-pub use request::{Invocation, Limits, Run, Task};
+pub use request::{Change, Invocation, Limits, Run, Task};
 pub use words::invocation;

@@ -36,6 +36,17 @@ pub struct Run<'a> {
     pub words: Vec<&'a str>,
 }
 
+/// What is changed in the tree of a volume.
+#[derive(Clone, Copy, Debug)]
+pub enum Change<'a> {
+    /// Make the directory of this path.
+    MakeDirectory { path: &'a str },
+    /// Give the entry of one path the place and the name that the other one has.
+    Move { from: &'a str, to: &'a str },
+    /// Take away the file, or the empty directory, of this path.
+    Remove { path: &'a str },
+}
+
 /// What is done with the volume in a file.
 #[derive(Clone, Copy, Debug)]
 pub enum Task<'a> {
@@ -49,6 +60,10 @@ pub enum Task<'a> {
     Check,
     /// Make it a volume of version 2.
     Upgrade,
+    /// Print what the entry of this path is.
+    Stat { path: &'a str },
+    /// Change its tree, and make that last.
+    Change(Change<'a>),
 }
 
 /// What a command line asks for.

@@ -6,14 +6,14 @@ ghost use Rattle.std.specs.Prelude.{◌≡◌, ◌↔◌, IfOk, IsTrue, IsOkAnd,
 ghost use Rattle.clap.specs.Words.{AddsArg, AddsSubcommand, FailsBy, app_of, fault_of, first_of, found_of, one_of, rows_of, rule_of, subcommand_of};
 ghost use Rattle.clap.specs.declared.builder.command.Command.TheViews.{out-Command as fields_of};
 ghost use Rattle.sandbox_words.specs.Request.{texts};
-ghost use Rattle.sandbox_words.specs.CommandLine.{AsksFor, AsksRun, AsksTask, number_of, number_rule, number_word_rule};
-ghost use Rattle.sandbox_words.specs.CommandLine.{flag_rule, task_names, text_rule, texts_rule, word_rule, words_rule};
+ghost use Rattle.sandbox_words.specs.CommandLine.{AsksChange, AsksFor, AsksRun, AsksTask, number_of, number_rule, number_word_rule};
+ghost use Rattle.sandbox_words.specs.CommandLine.{change_names, flag_rule, task_names, text_rule, texts_rule, word_rule, words_rule};
 ghost use Rattle.sandbox_words.specs.CommandLine.{IsFlagged, text_in, texts_of, word_of};
-ghost use Rattle.sandbox_words.specs.CommandLine.{file_app, path_app, format_app, faults_app, program};
+ghost use Rattle.sandbox_words.specs.CommandLine.{file_app, path_app, move_app, format_app, faults_app, program};
 ghost use Rattle.sandbox_words.specs.CommandLine.{limited_app, named_app, run_app, supplied_app};
 
 use crate::faults::MEANINGS;
-use crate::request::{Invocation, Limits, Run, Task};
+use crate::request::{Change, Invocation, Limits, Run, Task};
 use clap::builder::ValueParser;
 use clap::{Arg, ArgAction, ArgMatches, Command, Error};
 use std::alloc::{AllocError, Global};
@@ -37,7 +37,8 @@ Examples:
   sandbox run --volume disk.img --dir /=/home --env LANG=C edit.wasm notes.txt
   sandbox run --report end.txt --fuel 5000000 hello.wasm < input > output
   sandbox format disk.img 2048 64
-  sandbox put disk.img /notes.txt < notes.txt";
+  sandbox mkdir disk.img /home
+  sandbox put disk.img /home/notes.txt < notes.txt";
 
 /// Fuel where the command line says nothing of it, in units.
 const FUEL: u64 = 1_000_000_000;
@@ -257,6 +258,16 @@ fn path_command<'a>(alloc: Global, name: &'a str, about: &'a str) -> Result<Comm
     file_command(alloc, name, about)?.arg(word(alloc, "PATH", "The path, which begins with /"))
 }
 
+/// `mv`, with its arguments.
+fn move_command<'a>(alloc: Global) -> Result<Command<'a>, AllocError>
+    ensures { IfOk result (λ c. (app_of c ≡ move_app) × ((fields_of c).has_globals ≡ false)) }
+{
+    let about = "Give an entry another place or name; a file or an empty directory there goes";
+    file_command(alloc, "mv", about)?
+        .arg(word(alloc, "FROM", "The path of the entry, which begins with /"))?
+        .arg(word(alloc, "TO", "The path that it gets, which begins with /"))
+}
+
 /// `format`, with its arguments.
 fn format_command<'a>(alloc: Global) -> Result<Command<'a>, AllocError>
     ensures { IfOk result (λ c. (app_of c ≡ format_app) × ((fields_of c).has_globals ≡ false)) }
@@ -326,6 +337,17 @@ fn command<'a>(alloc: Global) -> Result<Command<'a>, AllocError>
     let program = with_command(program, get);
     let put = path_command(alloc, "put", "Put standard input into a file");
     let program = with_command(program, put);
+    let make = path_command(alloc, "mkdir", "Make a directory");
+    let program = with_command(program, make);
+    let program = with_command(program, move_command(alloc));
+    let remove = path_command(alloc, "rm", "Remove a file, or an empty directory");
+    let program = with_command(program, remove);
+    let stat = path_command(
+        alloc,
+        "stat",
+        "Print the kind, the size and the serial of an entry",
+    );
+    let program = with_command(program, stat);
     let check = file_command(alloc, "check", "Print how much of a volume is used");
     let program = with_command(program, check);
     let upgrade = file_command(alloc, "upgrade", "Make a volume one of version 2");
@@ -403,6 +425,22 @@ fn run_given<'a>(alloc: Global, matches: &ArgMatches<'a>) -> Result<Run<'a>, All
     })
 }
 
+/// What the command of this name changes in a volume; none where it is no such command.
+fn change_given<'a>(name: &str, matches: &ArgMatches<'a>) -> Option<Change<'a>>
+    ensures { MatchOption result (Contains change_names name.now → ⊥)
+        (AsksChange name.now (rows_of (found_of matches.now))) }
+{
+    let path = text(matches, "PATH");
+    let from = text(matches, "FROM");
+    let to = text(matches, "TO");
+    match name {
+        "mkdir" => Some(Change::MakeDirectory { path }),
+        "mv" => Some(Change::Move { from, to }),
+        "rm" => Some(Change::Remove { path }),
+        _ => None,
+    }
+}
+
 /// What the command of this name does with a volume; none where it is no such command.
 fn task_given<'a>(name: &str, matches: &ArgMatches<'a>) -> Option<Task<'a>>
     ensures { MatchOption result (Contains task_names name.now → ⊥)
@@ -415,7 +453,11 @@ fn task_given<'a>(name: &str, matches: &ArgMatches<'a>) -> Option<Task<'a>>
         "put" => Some(Task::Put { path }),
         "check" => Some(Task::Check),
         "upgrade" => Some(Task::Upgrade),
-        _ => None,
+        "stat" => Some(Task::Stat { path }),
+        _ => match change_given(name, matches) {
+            Some(change) => Some(Task::Change(change)),
+            None => None,
+        },
     }
 }
 

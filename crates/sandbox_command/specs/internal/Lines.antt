@@ -11,3 +11,10 @@ mark_of_kind kinds.File = codes "f "
 
 unfoldable pub stat_line : Stat → List ℕ
 stat_line s = concat (mark_of_kind s.kind ∷ decimal s.size ∷ codes " " ∷ take s.name_length s.name ∷ codes "\n" ∷ [])
+
+abbrev pub word_of_kind : Kind → List ℕ
+word_of_kind kinds.Directory = codes "directory"
+word_of_kind kinds.File = codes "file"
+
+unfoldable pub stat_facts : ℕ → Stat → List ℕ
+stat_facts serial s = concat (codes "kind:" ∷ word_of_kind s.kind ∷ codes "\nsize:" ∷ decimal s.size ∷ codes "\nserial:" ∷ decimal serial ∷ codes "\n" ∷ [])

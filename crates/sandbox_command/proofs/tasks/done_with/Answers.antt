@@ -3,6 +3,7 @@ use Rattle.std.proofs.lemmas.Grind.{common_steps}
 use Rattle.vol_sector.specs.Disk.{Leaves, counted}
 use Rattle.sandbox_words.specs.declared.request.Task.{Task}
 use Rattle.sandbox_command.specs.Tasks.{ReflectsAny, IsPartOfPut}
+use Rattle.sandbox_command.specs.Changes.{IsPartOfChange}
 use Rattle.sandbox_command.specs.Doing.{IsPartOf, IsRaised}
 use Rattle.sandbox_command.proofs.Beginning.{leaves_more}
 use Rattle.sandbox_command.proofs.tasks.done_with.Goals as goal
@@ -14,6 +15,17 @@ returns-in-Put-clause-crash g c h =
     subst (λ (t : Task). Leaves (g.D.Device.disk v.device) (g.D.Device.disk c.put.new.volume.device)
     (λ m. ReflectsAny (g.D.Device.disk v.device) v.numbers (IsPartOf t v.numbers v.tree (g.R.Read.remaining c.args.input.now)) m ⊎ IsRaised t v.numbers v.tree m)) (sym c.in-Put.is)
     (leaves_more (g.D.Device.disk v.device) (g.D.Device.disk c.put.new.volume.device) (ReflectsAny (g.D.Device.disk v.device) v.numbers these) (λ m. ReflectsAny (g.D.Device.disk v.device) v.numbers these m ⊎ ⊥) (λ m p. inl p) (c.put.ensures.crash h))
+
+pub returns-in-Change-clause-crash : goal.returns-in-Change-clause-crash
+returns-in-Change-clause-crash g c h =
+    let v = c.args.volume.now in
+    let these = IsPartOfChange v.tree c.in-Change.change in
+    subst (λ (t : Task). Leaves (g.D.Device.disk v.device) (g.D.Device.disk c.change_tree.new.volume.device)
+    (λ m. ReflectsAny (g.D.Device.disk v.device) v.numbers (IsPartOf t v.numbers v.tree (g.R.Read.remaining c.args.input.now)) m ⊎ IsRaised t v.numbers v.tree m)) (sym c.in-Change.is)
+    (leaves_more (g.D.Device.disk v.device) (g.D.Device.disk c.change_tree.new.volume.device) (ReflectsAny (g.D.Device.disk v.device) v.numbers these) (λ m. ReflectsAny (g.D.Device.disk v.device) v.numbers these m ⊎ ⊥) (λ m p. inl p) (c.change_tree.ensures.crash h))
+
+pub returns-in-Stat-clause-crash : goal.returns-in-Stat-clause-crash
+returns-in-Stat-clause-crash c = grind (arith, common_steps)
 
 pub returns-in-Check-clause-crash : goal.returns-in-Check-clause-crash
 returns-in-Check-clause-crash c = grind (arith, common_steps)

@@ -20,6 +20,10 @@ returns c =
     let three = with_command_has _ _ _ _ _ c.with_command-program-3.ensures two c.path_command-list.ensures in
     let four = with_command_has _ _ _ _ _ c.with_command-program-4.ensures three c.path_command-get.ensures in
     let five = with_command_has _ _ _ _ _ c.with_command-program-5.ensures four c.path_command-put.ensures in
-    let six = with_command_has _ _ _ _ _ c.with_command-program-6.ensures five c.file_command-check.ensures in
-    let seven = with_command_has _ _ _ _ _ c.with_command-program-7.ensures six c.file_command-upgrade.ensures in
-    with_command_has c.with_command-program-7.result (Ok c.faults_command.result) c.with_command.result _ faults_app c.with_command.ensures seven c.faults_command.ensures
+    let six = with_command_has _ _ _ _ _ c.with_command-program-6.ensures five c.path_command-make.ensures in
+    let seven = with_command_has _ _ _ _ _ c.with_command-program-7.ensures six c.move_command.ensures in
+    let eight = with_command_has _ _ _ _ _ c.with_command-program-8.ensures seven c.path_command-remove.ensures in
+    let nine = with_command_has _ _ _ _ _ c.with_command-program-9.ensures eight c.path_command-stat.ensures in
+    let ten = with_command_has _ _ _ _ _ c.with_command-program-10.ensures nine c.file_command-check.ensures in
+    let eleven = with_command_has _ _ _ _ _ c.with_command-program-11.ensures ten c.file_command-upgrade.ensures in
+    with_command_has c.with_command-program-11.result (Ok c.faults_command.result) c.with_command.result _ faults_app c.with_command.ensures eleven c.faults_command.ensures
