@@ -25,7 +25,7 @@ pub struct Summary {
     /// The units of fuel that were used, of `fuel`.
     pub units: u64,
     pub fuel: u64,
-    /// The most pages of 65,536 bytes that the guest's memory had.
+    /// The pages of 65,536 bytes that the guest's memory has at the end.
     pub pages: u32,
     /// The bytes of standard input that the guest took.
     pub read: u64,
