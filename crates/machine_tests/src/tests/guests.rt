@@ -253,11 +253,7 @@ fn whole_memory(rt: HostRuntime) {
                 OUTSIDE,
                 4,
             ),
-            (
-                b"\x41\x00\x41\x00\x41\x7F\xFC\x0A\x00\x00\x0B",
-                OUTSIDE,
-                4,
-            ),
+            (b"\x41\x00\x41\x00\x41\x7F\xFC\x0A\x00\x00\x0B", OUTSIDE, 4),
             (
                 b"\x41\xFF\xFF\x03\x41\x00\x41\x02\xFC\x0B\x00\x0B",
                 OUTSIDE,
