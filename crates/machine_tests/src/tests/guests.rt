@@ -220,9 +220,42 @@ fn whole_memory(rt: HostRuntime) {
                 Exited(0x0302_0101),
                 10,
             ),
+            // the bytes 2, 3 and 4 go one place down
+            (
+                b"\x41\x00\x41\x81\x84\x8C\x20\x36\x02\x00\x41\x00\x41\x01\x41\x03\xFC\x0A\x00\x00\x41\x00\x28\x02\x00\x10\x00\x0B",
+                Exited(0x0404_0302),
+                10,
+            ),
+            // nothing right at the end, and one place further on
+            (
+                b"\x41\x80\x80\x04\x41\x80\x80\x04\x41\x00\xFC\x0A\x00\x00\x41\x07\x10\x00\x0B",
+                Exited(7),
+                6,
+            ),
+            (
+                b"\x41\x81\x80\x04\x41\x00\x41\x00\xFC\x0A\x00\x00\x0B",
+                OUTSIDE,
+                4,
+            ),
+            (
+                b"\x41\x81\x80\x04\x41\x00\x41\x00\xFC\x0B\x00\x0B",
+                OUTSIDE,
+                4,
+            ),
             // past the end
             (
                 b"\x41\x80\x80\x04\x41\x00\x41\x01\xFC\x0A\x00\x00\x0B",
+                OUTSIDE,
+                4,
+            ),
+            (
+                b"\x41\x00\x41\xFF\xFF\x03\x41\x02\xFC\x0A\x00\x00\x0B",
+                OUTSIDE,
+                4,
+            ),
+            (b"\x41\x00\x41\x00\x41\x7F\xFC\x0A\x00\x00\x0B", OUTSIDE, 4),
+            (
+                b"\x41\xFF\xFF\x03\x41\x00\x41\x02\xFC\x0B\x00\x0B",
                 OUTSIDE,
                 4,
             ),
@@ -282,6 +315,21 @@ fn units_one_by_one(rt: HostRuntime) {
             (1, 4, (Pause::Spent, 4, UNSEEN)),
             (1, 5, (Pause::Ended(Exited(0xffff_fffe)), 5, UNSEEN)),
             (1, 9, (Pause::Ended(Exited(0xffff_fffe)), 5, UNSEEN)),
+        ],
+    );
+    // 7 fills four bytes, two of them go up by two, and the lowest is read
+    assert_resumes(
+        &rt,
+        rt.alloc(),
+        b"\x41\x00\x41\x07\x41\x04\xFC\x0B\x00\x41\x02\x41\x00\x41\x02\xFC\x0A\x00\x00\x41\x00\x2D\x00\x00\x10\x00\x0B",
+        &[
+            (1, 3, (Pause::Spent, 3, UNSEEN)),
+            (1, 4, (Pause::Spent, 4, UNSEEN)),
+            (7, 1, (Pause::Spent, 7, UNSEEN)),
+            (8, 1, (Pause::Spent, 8, UNSEEN)),
+            (5, 2, (Pause::Spent, 10, UNSEEN)),
+            (1, 11, (Pause::Ended(Exited(7)), 11, UNSEEN)),
+            (1_000, 1, (Pause::Ended(Exited(7)), 11, UNSEEN)),
         ],
     );
     assert_resumes(
