@@ -20,7 +20,7 @@ use Rattle.sandbox_core.specs.declared.fault.SessionFault.{SessionFault}
 use Rattle.sandbox_core.specs.declared.fault.SessionFault.TheVariants.{Setting, Instance as NoInstance, Device, Preopen, Memory}
 use Rattle.sandbox_core.specs.Session.{IsHandedBack, KeepsVolume, given}
 use Rattle.sandbox_words.specs.Request.{Text}
-use Rattle.sandbox_command.specs.Volumes.{IsOpenFor, LeftByOpening}
+use Rattle.volume_tasks.specs.Volumes.{IsOpenFor, LeftByOpening}
 use Rattle.sandbox_command.specs.declared.program.Executed.{Executed}
 use Rattle.sandbox_words.specs.declared.request.Run.{Run}
 use Rattle.run_report.specs.declared.counted.Counted.{Counted}

@@ -17,18 +17,18 @@ use Rattle.sandbox_words.specs.declared.request.Run.{Run}
 use Rattle.sandbox_words.specs.declared.request.Invocation.{Invocation}
 use Rattle.sandbox_words.specs.declared.request.Invocation.TheVariants as asked
 use Rattle.sandbox_words.specs.Request.{Text}
-use Rattle.sandbox_command.specs.declared.failure.Failure.{Failure}
+use Rattle.volume_tasks.specs.declared.failure.Failure.{Failure}
 use Rattle.run_report.specs.declared.fault.Fault.TheVariants as reason
 use Rattle.run_report.specs.declared.summary.Kept.TheVariants as kept
 use Rattle.run_report.specs.declared.summary.Summary.{Summary}
-use Rattle.sandbox_command.specs.Formatting.{FormatsAs}
+use Rattle.volume_tasks.specs.Formatting.{FormatsAs}
 use Rattle.sandbox_command.specs.Reporting.{kept_where_refused, not_run, session_reason}
-use Rattle.sandbox_command.specs.Doing.{Performs}
+use Rattle.volume_tasks.specs.Doing.{Performs}
 use Rattle.sandbox_command.specs.declared.program.Executed.{Executed}
 use Rattle.sandbox_command.specs.Status.{load_status, session_status, volume_status, task_status}
 use Rattle.sandbox_command.specs.Streams.{AppendsSome, IsSilent}
 use Rattle.sandbox_command.specs.Supplies.{AreSettings, IsUncut, directories_of}
-use Rattle.sandbox_command.specs.Volumes.{IsOpenFor, IsRefusedFor, LeftByOpening}
+use Rattle.volume_tasks.specs.Volumes.{IsOpenFor, IsRefusedFor, LeftByOpening}
 use Rattle.sandbox_command.specs.Running.{Launches, LeftByRun}
 
 -- A directory's word has no `=`, or memory was refused.

@@ -12,8 +12,8 @@ use Rattle.sandbox_core.specs.declared.fault.SessionFault.{SessionFault}
 use Rattle.sandbox_core.specs.declared.fault.SessionFault.TheVariants as opening
 use Rattle.vol_sector.specs.declared.fault.VolumeFault.{VolumeFault}
 use Rattle.vol_sector.specs.declared.fault.VolumeFault.TheVariants as volume
-use Rattle.sandbox_command.specs.declared.failure.Failure.{Failure}
-use Rattle.sandbox_command.specs.declared.failure.Failure.TheVariants.{Volume}
+use Rattle.volume_tasks.specs.declared.failure.Failure.{Failure}
+use Rattle.volume_tasks.specs.declared.failure.Failure.TheVariants.{Volume}
 
 -- the guest's own status, where it isn't greater than 119
 abbrev pub status_of : Outcome → ℕ

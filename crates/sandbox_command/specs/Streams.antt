@@ -1,14 +1,7 @@
 -- What an execution does with its streams (`README.md`, "The program").
-use Rattle.std.specs.Prelude.{◌≡◌, ℕ, List, ◌++◌, Option}
+use Rattle.std.specs.Prelude.{◌≡◌, ℕ, List, Option}
 use Rattle.std.specs.Io.KnownBytes.{Appends, Keeps}
 use Rattle.sandbox_command.specs.declared.program.Executed.{Executed}
-
--- known bytes grow by a beginning of the text
-pub record AppendsPart (before after : Option (List ℕ)) (text : List ℕ) : Type 0 where
-  pub part : List ℕ
-  pub rest : List ℕ
-  pub parts : text ≡ part ++ rest
-  pub appended : Appends before after part
 
 -- Known bytes stay, and some may follow. (What follows are lines of the program's own, which is only tested.)
 abbrev pub AppendsSome : Option (List ℕ) → Option (List ℕ) → Type 0

@@ -1,6 +1,1 @@
-pub mod Reaching
-pub mod Lines
-pub mod Filling
-pub mod Working
 pub mod Supplies
-pub mod Changing

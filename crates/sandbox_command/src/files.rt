@@ -11,7 +11,6 @@ ghost use Rattle.sandbox_command.specs.Execution.{Executes};
 ghost use Rattle.sandbox_command.specs.Reporting.{IsTold, not_run};
 ghost use Rattle.sandbox_command.specs.Files.{IsAnswered, IsExecutedOnFiles, IsPerformed, IsUnread};
 
-use crate::opening::FRESH_SECTORS;
 use crate::program;
 use crate::reporting::not_run;
 use run_report::{Fault, Kept, Summary};
@@ -23,6 +22,7 @@ use std::io::{ErrorKind, Read, Write};
 use std::process::ExitCode;
 use std::{env, io};
 use vol_sector::Device;
+use volume_tasks::FRESH_SECTORS;
 
 /// How many bytes of a module's file are read at most: one more than a module may have.
 const MODULE_READ: u64 = 67_108_865;

@@ -15,15 +15,11 @@ ghost use Rattle.sandbox_command.specs.Running.{Launches, device_of};
 ghost use Rattle.sandbox_command.specs.internal.Supplies.{AreSupplies};
 ghost use Rattle.sandbox_command.specs.Execution.{NoVolume, OnVolume, Runs, Executes};
 
-use crate::failure::Failure;
-use crate::formatting::format_as;
-use crate::opening::open_for_run;
 use crate::output::tell;
 use crate::reporting::{
     kept_after_run, kept_where_not_begun, kept_where_refused, not_run, session_reason,
 };
 use crate::supplies::{Supplies, settings, supplied};
-use crate::tasks::perform;
 use run_report::{Counted, End, Fault, Kept, Summary};
 use sandbox_core::{
     HostParts, LoadFault, Outcome, RefusedSession, Report, Session, SessionFault, Tally, Valid,
@@ -34,6 +30,7 @@ use std::alloc::Global;
 use std::io;
 use std::io::{Read, Write};
 use vol_sector::{Device, Refused, VolumeFault};
+use volume_tasks::{Failure, format_as, open_for_run, perform};
 
 /// The status where a guest's own one is greater than `GREATEST`.
 const OTHER_EXIT: u8 = 119;

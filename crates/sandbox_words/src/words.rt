@@ -255,7 +255,10 @@ fn path_command<'a>(alloc: Global, name: &'a str, about: &'a str) -> Result<Comm
     ensures { IfOk result (λ c. (app_of c ≡ path_app name.entry.now)
         × ((fields_of c).has_globals ≡ false)) }
 {
-    file_command(alloc, name, about)?.arg(word(alloc, "PATH", "The path, which begins with /"))
+    with_argument(
+        file_command(alloc, name, about),
+        word(alloc, "PATH", "The path, which begins with /"),
+    )
 }
 
 /// `mv`, with its arguments.
@@ -263,9 +266,9 @@ fn move_command<'a>(alloc: Global) -> Result<Command<'a>, AllocError>
     ensures { IfOk result (λ c. (app_of c ≡ move_app) × ((fields_of c).has_globals ≡ false)) }
 {
     let about = "Give an entry another place or name; a file or an empty directory there goes";
-    file_command(alloc, "mv", about)?
-        .arg(word(alloc, "FROM", "The path of the entry, which begins with /"))?
-        .arg(word(alloc, "TO", "The path that it gets, which begins with /"))
+    let from = word(alloc, "FROM", "The path of the entry, which begins with /");
+    let to = word(alloc, "TO", "The path that it gets, which begins with /");
+    with_argument(with_argument(file_command(alloc, "mv", about), from), to)
 }
 
 /// `format`, with its arguments.
@@ -273,18 +276,19 @@ fn format_command<'a>(alloc: Global) -> Result<Command<'a>, AllocError>
     ensures { IfOk result (λ c. (app_of c ≡ format_app) × ((fields_of c).has_globals ≡ false)) }
 {
     let about = "Make a file an empty volume; it is made, or lengthened, where that is needed";
-    file_command(alloc, "format", about)?
-        .arg(number_word(alloc, "SECTORS", "Sectors of 512 bytes, 137 to 65536"))?
-        .arg(number_word(
-            alloc,
-            "SLOTS",
-            "Slots for entries, 1 to 8192 and fewer than SECTORS - 122",
-        ))?
-        .arg(flag_option(
-            alloc,
-            "large",
-            "Make it one of version 2, whose files have up to 8483840 bytes instead of 95232",
-        ))
+    let sectors = number_word(alloc, "SECTORS", "Sectors of 512 bytes, 137 to 65536");
+    let slots = number_word(
+        alloc,
+        "SLOTS",
+        "Slots for entries, 1 to 8192 and fewer than SECTORS - 122",
+    );
+    let large = flag_option(
+        alloc,
+        "large",
+        "Make it one of version 2, whose files have up to 8483840 bytes instead of 95232",
+    );
+    let command = with_argument(file_command(alloc, "format", about), sectors);
+    with_argument(with_argument(command, slots), large)
 }
 
 /// `faults`, which prints its help and does nothing else.

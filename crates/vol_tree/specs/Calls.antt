@@ -27,6 +27,13 @@ bytes_of (File bytes) = bytes
 abbrev pub bytes_at : Tree → ℕ → List ℕ
 bytes_at T serial = option_map_or (λ e. bytes_of e.node) (entry T serial) []
 
+-- where an entry stands: its directory, and its name there
+abbrev pub parent_at : Tree → ℕ → ℕ
+parent_at T serial = option_map_or (λ e. e.parent) (entry T serial) 0
+
+abbrev pub name_at : Tree → ℕ → Name
+name_at T serial = option_map_or (λ e. e.name) (entry T serial) []
+
 -- the same tree with other bytes in one file
 abbrev pub with_bytes : Tree → ℕ → List ℕ → Tree
 with_bytes T file bytes = option_map_or (λ e. changed T file (Some (record e { node = File bytes }))) (entry T file) T

@@ -1,8 +1,8 @@
 use Rattle.std.proofs.Common.{sym, subst}
 use Rattle.sandbox_words.specs.declared.request.Invocation.{Invocation}
-use Rattle.sandbox_command.specs.Doing.{Performs}
+use Rattle.volume_tasks.specs.Doing.{Performs}
 use Rattle.sandbox_command.specs.Execution.{Executes}
-use Rattle.sandbox_command.proofs.Flushed.{performs_flushed}
+use Rattle.volume_tasks.proofs.Flushed.{performs_flushed}
 use Rattle.sandbox_command.proofs.program.execute.Goals as goal
 
 -- the task was done, and then the output flushed

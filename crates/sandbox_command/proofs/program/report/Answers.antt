@@ -1,7 +1,7 @@
 use Rattle.std.proofs.Common.{sym, subst, rules, arith}
 use Rattle.std.proofs.lemmas.Grind.{common_steps}
 use Rattle.sandbox_command.specs.Streams.{AppendsSome}
-use Rattle.sandbox_command.proofs.Handed.{lines_kept, lines_then}
+use Rattle.sandbox_command.proofs.Lines.{lines_kept, lines_then}
 use Rattle.sandbox_command.proofs.program.report.Goals as goal
 use Rattle.sandbox_command.proofs.program.report.Goals.{then-is_ok, else-is_ok, in-Ok, in-Ok-2, in-Err}
 

@@ -1,0 +1,17 @@
+-- What crates above cite.
+pub mod Handed
+mod Printed
+pub mod Flushed
+mod Asking
+mod Listing
+mod Texts
+mod Pieces
+mod Filled
+mod Beginning
+mod Missing
+mod Opened
+mod FreshVolume
+mod Refusals
+mod Meant
+mod Changed
+mod Described

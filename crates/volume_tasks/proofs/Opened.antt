@@ -1,0 +1,31 @@
+-- Opening a volume for a task.
+use Rattle.std.proofs.Common.{◌≡◌, ◌⊎◌, ⊎_elim, inl, ℕ, List, Option, refl, sym, subst}
+use Rattle.vol_sector.specs.Disk.{Image}
+use Rattle.vol_sector.specs.declared.fault.VolumeFault.{VolumeFault}
+use Rattle.vol_sector.specs.declared.fault.VolumeFault.TheVariants as fault
+use Rattle.vol_tree.specs.declared.superblock.Superblock.{Superblock}
+use Rattle.vol_tree.specs.Tree.{Tree}
+use Rattle.vol_tree.specs.Opening.{NoVolumeOn, HasNoVersion, IsDamaged}
+use Rattle.sandbox_words.specs.declared.request.Task.{Task}
+use Rattle.sandbox_words.specs.declared.request.Task.TheVariants.{List as Ls, Get, Put, Check, Upgrade, Stat, Change as Changing}
+use Rattle.volume_tasks.specs.Doing.{IsPartOf, RefusedBy}
+
+-- a task that hasn't begun leaves the tree
+pub whole_is_part : (task : Task) (v : Superblock) (T : Tree) (given : Option (List ℕ)) → IsPartOf task v T given T
+whole_is_part (Ls path) v T given = refl
+whole_is_part (Get path) v T given = refl
+whole_is_part (Put path) v T given = inl refl
+whole_is_part Check v T given = refl
+whole_is_part Upgrade v T given = refl
+whole_is_part (Stat path) v T given = refl
+whole_is_part (Changing change) v T given = inl refl
+
+-- each refusal has its rule
+pub refused_by : (f : VolumeFault) (size : ℕ) (seen : Image) → (f ≡ fault.NotAVolume → NoVolumeOn size seen) → (f ≡ fault.Version → HasNoVersion size seen) → (f ≡ fault.Damaged → IsDamaged size seen)
+    → (f ≡ fault.NotAVolume) ⊎ ((f ≡ fault.Version) ⊎ ((f ≡ fault.Damaged) ⊎ ((f ≡ fault.Device) ⊎ (f ≡ fault.Memory)))) → RefusedBy f size seen
+refused_by f size seen none version damaged named =
+    let at = λ (x : VolumeFault) (is : f ≡ x) (why : RefusedBy x size seen). subst (λ (y : VolumeFault). RefusedBy y size seen) (sym is) why in
+    ⊎_elim (λ is. at fault.NotAVolume is (none is))
+    (λ rest. ⊎_elim (λ is. at fault.Version is (version is))
+    (λ rest. ⊎_elim (λ is. at fault.Damaged is (damaged is))
+    (λ rest. ⊎_elim (λ is. at fault.Device is tt) (λ is. at fault.Memory is tt) rest) rest) rest) named

@@ -1,0 +1,26 @@
+use Rattle.std.proofs.Common.{◌≡◌, ◌&&◌, not, false, sym, arith}
+use Rattle.std.proofs.lemmas.Grind.{common_steps}
+use Rattle.vol_tree.specs.Calls.{renamed}
+use Rattle.path_walk.specs.Paths.{Missing}
+use Rattle.volume_tasks.specs.Changes.{moved_to}
+use Rattle.volume_tasks.proofs.Changed.{asked_first, means}
+use Rattle.volume_tasks.proofs.Meant.{into_done}
+use Rattle.volume_tasks.proofs.changing.move_into.Goals.{else-wants_dir-via-then-wants_dir+else-not-is_directory, else-wants_dir-via-else-wants_dir}
+use Rattle.volume_tasks.proofs.changing.move_into.Goals as goal
+
+pub returns : goal.returns
+returns g c =
+    let v = c.args.volume.now in
+    let s = c.args.source in
+    let name = c.args.name.now in
+    let wants = c.args.wants_dir in
+    let d = c.in_ok-is_directory.is_directory in
+    let call = c.rename.ensures in
+    let may : (wants && not d) ≡ false = elim c.else-wants_dir.branch [
+      | else-wants_dir-via-then-wants_dir+else-not-is_directory w ↦ grind (arith, common_steps)
+      | else-wants_dir-via-else-wants_dir w ↦ grind (arith, common_steps)
+    ] in
+    means g.D.Device.honest g.D.Device.disk g.D.Device.size g.D.Device.failures (λ T. renamed T s c.args.parent name) (λ T. moved_to T s (Missing c.args.parent name, wants)) v c.rename.new.self c.rename.result
+    (λ h. into_done v.tree s c.args.parent name wants d (sym (c.in_ok-is_directory.ensures.answer h)) may)
+    (asked_first g.D.Device.honest g.D.Device.disk g.D.Device.size g.D.Device.failures (λ T. renamed T s c.args.parent name) v c.is_directory.new.volume c.rename.new.self c.rename.result c.in_ok-is_directory.ensures.asked
+    (record { answer = call.answer; crash = call.crash; kept = call.kept }))

@@ -1,0 +1,19 @@
+use Rattle.std.proofs.Common.{Option, IfErr, sym, subst, rules}
+use Rattle.std.specs.Borrow.{Bor}
+use Rattle.sandbox_words.specs.Request.{Text}
+use Rattle.volume_tasks.specs.Volumes.{IsRefusedFor}
+use Rattle.volume_tasks.proofs.FreshVolume.{refused_open}
+use Rattle.volume_tasks.proofs.opening.open_for_run.Goals as goal
+
+-- the file's volume was refused
+pub returns-in-Some-clause-refused : goal.returns-in-Some-clause-refused
+returns-in-Some-clause-refused g c =
+    let told = c.open.ensures in
+    subst (λ (file : Option (Bor Text)). IfErr c.open.result (IsRefusedFor g.D.Device.honest g.D.Device.disk g.D.Device.size g.D.Device.failures file c.args.device)) (sym c.in-Some.is)
+    (refused_open g.D.Device.honest g.D.Device.disk g.D.Device.size g.D.Device.failures c.args.device c.open.result told.not_a_volume told.version told.damaged told.faults_named told.crash_err told.unwritten told.installs told.kept_err)
+
+pub returns-in-None-clause-opens : goal.returns-in-None-clause-opens
+returns-in-None-clause-opens g c = search rules
+
+pub returns-in-None-clause-refused : goal.returns-in-None-clause-refused
+returns-in-None-clause-refused g c = search rules

@@ -1,0 +1,18 @@
+use Rattle.std.proofs.Common.{arith}
+use Rattle.std.proofs.lemmas.Grind.{common_steps}
+use Rattle.vol_tree.specs.Calls.{bytes_at}
+use Rattle.volume_tasks.specs.Tasks.{file_named}
+use Rattle.volume_tasks.proofs.Printed.{walk_refused}
+use Rattle.volume_tasks.proofs.printing.get.Goals as goal
+
+pub returns-clause-asked : goal.returns-clause-asked
+returns-clause-asked c = grind (arith, common_steps)
+
+pub returns-clause-prints : goal.returns-clause-prints
+returns-clause-prints c = grind (arith, common_steps)
+
+-- the path names no file
+pub returns-in_err-file-clause-prints : goal.returns-in_err-file-clause-prints
+returns-in_err-file-clause-prints g c h =
+    walk_refused (file_named c.args.volume.now.tree c.args.path.now) (bytes_at c.args.volume.now.tree) (g.W.Write.contents c.args.out.now) c.in_err-file.field-0.0 c.from_residual.result
+    (c.in_err-file.ensures.answer h) c.from_residual.ensures.1

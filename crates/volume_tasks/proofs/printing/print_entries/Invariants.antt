@@ -1,0 +1,19 @@
+use Rattle.std.proofs.Common.{◌≡◌, ◌-◌, ◌++◌, ℕ, List, drop, false}
+use Rattle.std.specs.List.{flat_map}
+use Rattle.std.specs.Io.KnownBytes.{Appends}
+use Rattle.path_walk.specs.Walk.{Asked}
+use Rattle.volume_tasks.specs.Tasks.{line_in, listing}
+use Rattle.volume_tasks.proofs.printing.print_entries.Given as goal
+use Rattle.volume_tasks.specs.internal.Working.{IsWorking}
+
+-- the lines so far are those up to the last entry
+abbrev pub invariant-loop-serial : goal.invariant-loop-serial
+invariant-loop-serial g l = record {
+  working : IsWorking l.volume;
+  asked : Asked g.D.Device.honest g.D.Device.disk g.D.Device.size g.D.Device.failures l.initial.volume l.volume false;
+  printed : g.D.Device.honest l.initial.volume.device → (text : List ℕ) × Appends (g.W.Write.contents l.initial.out) (g.W.Write.contents l.out) text
+      × (listing l.initial.volume.tree l.directory ≡ text ++ flat_map (line_in l.directory) (drop l.last l.initial.volume.tree));
+}
+
+abbrev pub decreases-loop-serial : goal.decreases-loop-serial
+decreases-loop-serial g l = l.volume.numbers.slots - l.last

@@ -1,0 +1,40 @@
+use Rattle.std.proofs.Common.{◌⊎◌, inl, Bool, ap, sym, subst, arith}
+use Rattle.std.proofs.lemmas.Grind.{common_steps}
+use Rattle.vol_sector.specs.Disk.{Leaves, counted}
+use Rattle.sandbox_words.specs.declared.request.Task.{Task}
+use Rattle.volume_tasks.specs.Tasks.{ReflectsAny, IsPartOfPut}
+use Rattle.volume_tasks.specs.Changes.{IsPartOfChange}
+use Rattle.volume_tasks.specs.Doing.{IsPartOf, IsRaised}
+use Rattle.volume_tasks.proofs.Beginning.{leaves_more}
+use Rattle.volume_tasks.proofs.tasks.done_with.Goals as goal
+
+pub returns-in-Put-clause-crash : goal.returns-in-Put-clause-crash
+returns-in-Put-clause-crash g c h =
+    let v = c.args.volume.now in
+    let these = IsPartOfPut v.numbers v.tree c.in-Put.path.now (g.R.Read.remaining c.args.input.now) in
+    subst (λ (t : Task). Leaves (g.D.Device.disk v.device) (g.D.Device.disk c.put.new.volume.device)
+    (λ m. ReflectsAny (g.D.Device.disk v.device) v.numbers (IsPartOf t v.numbers v.tree (g.R.Read.remaining c.args.input.now)) m ⊎ IsRaised t v.numbers v.tree m)) (sym c.in-Put.is)
+    (leaves_more (g.D.Device.disk v.device) (g.D.Device.disk c.put.new.volume.device) (ReflectsAny (g.D.Device.disk v.device) v.numbers these) (λ m. ReflectsAny (g.D.Device.disk v.device) v.numbers these m ⊎ ⊥) (λ m p. inl p) (c.put.ensures.crash h))
+
+pub returns-in-Change-clause-crash : goal.returns-in-Change-clause-crash
+returns-in-Change-clause-crash g c h =
+    let v = c.args.volume.now in
+    let these = IsPartOfChange v.tree c.in-Change.change in
+    subst (λ (t : Task). Leaves (g.D.Device.disk v.device) (g.D.Device.disk c.change_tree.new.volume.device)
+    (λ m. ReflectsAny (g.D.Device.disk v.device) v.numbers (IsPartOf t v.numbers v.tree (g.R.Read.remaining c.args.input.now)) m ⊎ IsRaised t v.numbers v.tree m)) (sym c.in-Change.is)
+    (leaves_more (g.D.Device.disk v.device) (g.D.Device.disk c.change_tree.new.volume.device) (ReflectsAny (g.D.Device.disk v.device) v.numbers these) (λ m. ReflectsAny (g.D.Device.disk v.device) v.numbers these m ⊎ ⊥) (λ m p. inl p) (c.change_tree.ensures.crash h))
+
+pub returns-in-Stat-clause-crash : goal.returns-in-Stat-clause-crash
+returns-in-Stat-clause-crash c = grind (arith, common_steps)
+
+pub returns-in-Check-clause-crash : goal.returns-in-Check-clause-crash
+returns-in-Check-clause-crash c = grind (arith, common_steps)
+
+pub returns-in-Get-clause-crash : goal.returns-in-Get-clause-crash
+returns-in-Get-clause-crash c = grind (arith, common_steps)
+
+pub returns-in-List-clause-crash : goal.returns-in-List-clause-crash
+returns-in-List-clause-crash c = grind (arith, common_steps)
+
+pub returns-in-Check-clause-failures : goal.returns-in-Check-clause-failures
+returns-in-Check-clause-failures g c = ap (λ (b : Bool). counted b (g.D.Device.failures c.args.volume.now.device)) (sym c.check.ensures.asks_nothing)

@@ -1,0 +1,9 @@
+-- What public contracts cite, in reading order; `internal` serves private contracts and proofs.
+pub mod Blame
+pub mod Formatting
+pub mod Streams
+pub mod Tasks
+pub mod Changes
+pub mod Doing
+pub mod Volumes
+pub mod internal

@@ -1,0 +1,19 @@
+//! Tasks on the volume of a device: what the commands list, print, put, change, check, upgrade and
+//! format, and the volume of a run.
+#![tactic(auto)]
+
+mod changing;
+mod failure;
+mod formatting;
+mod opening;
+mod output;
+mod printing;
+mod putting;
+mod tasks;
+mod volume_path;
+
+pub use failure::Failure;
+pub use formatting::format_as;
+pub use opening::{FRESH_SECTORS, open_for_run};
+pub use output::print_all;
+pub use tasks::perform;

@@ -1,0 +1,91 @@
+//! What is done with the volume on a device.
+
+ghost use Rattle.std.specs.Prelude.{◌⊎◌, ◌≡◌, ◌↔◌, OnOk};
+ghost use Rattle.std.specs.Io.KnownBytes.{Keeps};
+ghost use Rattle.vol_sector.specs.Disk.{Leaves, counted};
+ghost use Rattle.volume_tasks.specs.Blame.{blames_device};
+ghost use Rattle.volume_tasks.specs.Tasks.{ReflectsAny};
+ghost use Rattle.volume_tasks.specs.Formatting.{Formats};
+ghost use Rattle.volume_tasks.specs.Doing.{Does, IsPartOf, Lasts, Performs, IsRaised};
+ghost use Rattle.volume_tasks.specs.Doing.{PrintsNothing, ReadsNothing};
+ghost use Rattle.volume_tasks.specs.internal.Working.{IsWorking};
+
+use crate::changing::change_tree;
+use crate::failure::Failure;
+use crate::printing::{check, describe, get, list};
+use crate::putting::put;
+use sandbox_words::Task;
+use std::alloc::Global;
+use std::io::{Read, Write};
+use vol_sector::{Device, Refused};
+use vol_tree::Volume;
+
+/// Makes the first sectors of a device an empty volume with these numbers of sectors and of slots
+/// for entries, and gives the device back.
+pub(crate) fn format<D: Device>(device: D, sectors: u32, slots: u32) -> (Result<(), Failure>, D)
+    ensures { Formats D.honest D.disk D.size D.failures device sectors slots result.1 result.0 }
+{
+    match Volume::format(device, sectors, slots) {
+        Ok(device) => (Ok(()), device),
+        Err(Refused { fault, device }) => (Err(Failure::Volume(fault)), device),
+    }
+}
+
+/// Does a task with an open volume.
+fn done_with<D: Device, R: Read, W: Write>(
+    volume: &mut Volume<D>,
+    task: Task<'_>,
+    input: &mut R,
+    out: &mut W,
+) -> Result<(), Failure>
+    requires { IsWorking volume.old }
+    ensures does { D.honest volume.old.device
+        → Does task.entry volume.old.numbers volume.old.tree (R.remaining input.old)
+        (R.remaining input.new) (W.contents out.old) (W.contents out.new) volume.new.tree result }
+    ensures crash { D.honest volume.old.device
+        → Leaves (D.disk volume.old.device) (D.disk volume.new.device)
+        (λ c. ReflectsAny (D.disk volume.old.device) volume.old.numbers
+        (IsPartOf task.entry volume.old.numbers volume.old.tree (R.remaining input.old)) c
+        ⊎ IsRaised task.entry volume.old.numbers volume.old.tree c) }
+    ensures lasts { D.honest volume.old.device → OnOk result
+        (Lasts task.entry volume.old.numbers volume.new.tree (D.disk volume.new.device).may_leave) }
+    ensures honest { D.honest volume.old.device ↔ D.honest volume.new.device }
+    ensures size { D.size volume.new.device ≡ D.size volume.old.device }
+    ensures failures { D.failures volume.new.device
+        ≡ counted (blames_device result) (D.failures volume.old.device) }
+    ensures reads_nothing { ReadsNothing task.entry
+        → R.remaining input.new ≡ R.remaining input.old }
+    ensures prints_nothing { PrintsNothing task.entry
+        → Keeps (W.contents out.old) (W.contents out.new) }
+{
+    match task {
+        Task::List { path } => list(volume, path, out),
+        Task::Get { path } => get(volume, path, out),
+        Task::Put { path } => put(volume, path, input),
+        Task::Check => check(volume, out),
+        Task::Upgrade => Ok(volume.upgrade()?),
+        Task::Stat { path } => describe(volume, path, out),
+        Task::Change(change) => change_tree(volume, change),
+    }
+}
+
+/// Opens the volume of a device, does a task with it, and gives the device back. What isn't
+/// committed when it ends is given up.
+pub fn perform<D: Device, R: Read, W: Write>(
+    alloc: Global,
+    device: D,
+    task: Task<'_>,
+    input: &mut R,
+    out: &mut W,
+) -> (Result<(), Failure>, D)
+    ensures { Performs D.honest D.disk D.size D.failures task.entry device (R.remaining input.old)
+        (R.remaining input.new) (W.contents out.old) (W.contents out.new) result.1 result.0 }
+{
+    match Volume::open(alloc, device) {
+        Ok(mut volume) => {
+            let done = done_with(&mut volume, task, input, out);
+            (done, volume.into_device())
+        }
+        Err(Refused { device, fault }) => (Err(Failure::Volume(fault)), device),
+    }
+}
