@@ -1,4 +1,4 @@
-use Rattle.std.proofs.Common.{Ok, ap, inl}
+use Rattle.std.proofs.Common.{Ok, ap, inl, subst}
 use Rattle.vol_tree.specs.declared.errno.Errno.TheVariants as errno
 use Rattle.vol_tree.specs.Tree.{Tree, Directory}
 use Rattle.vol_tree.specs.Calls.{created}
@@ -9,6 +9,8 @@ use Rattle.volume_tasks.specs.Changes.{directory_in, directory_made}
 use Rattle.volume_tasks.proofs.Changed.{asked_first, created_err, created_ok, means, refused, refused_on}
 use Rattle.volume_tasks.proofs.Meant.{made_found, made_missing, stops}
 use Rattle.volume_tasks.proofs.Missing.{missing_in}
+use Rattle.path_walk.specs.declared.walking.Reached.{Reached}
+use Rattle.path_walk.specs.Walk.{IsReached}
 use Rattle.volume_tasks.proofs.changing.make_directory.Goals as goal
 
 pub returns-in_err-found : goal.returns-in_err-found
@@ -52,3 +54,7 @@ returns-in_ok-create_dir-in-Missing g c =
     (λ h. made_missing v.tree c.args.path.now (reached_as c.in_ok-found.found) _ c.in-Missing.parent c.in-Missing.name.now (c.in_ok-found.ensures.answer h) (ap reached_as c.in-Missing.is))
     (asked_first g.D.Device.honest g.D.Device.disk g.D.Device.size g.D.Device.failures place v mid new (Ok tt) c.in_ok-found.ensures.asked
     (created_ok g.D.Device.honest g.D.Device.disk g.D.Device.size g.D.Device.failures c.in-Missing.parent c.in-Missing.name.now mid new c.in_ok-create_dir-in-Missing.field-0 c.in_ok-create_dir-in-Missing.ensures.answer c.in_ok-create_dir-in-Missing.ensures.crash c.in_ok-create_dir-in-Missing.ensures.kept))
+
+pub create_dir-requires-clause-name : goal.create_dir-requires-clause-name
+create_dir-requires-clause-name g c =
+    (subst (λ (r : Reached). IsReached g.D.Device.honest c.reached.new.volume r) c.in-Missing.is c.in_ok-found.ensures.reached).1

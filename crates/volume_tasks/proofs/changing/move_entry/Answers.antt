@@ -1,13 +1,13 @@
 use Rattle.std.proofs.Common.{◌≡◌, ◌⊎◌, Bool, Err, ap, sym, subst, inl, ◌∙◌, false}
 use Rattle.vol_tree.specs.declared.errno.Errno.TheVariants as errno
 use Rattle.vol_tree.specs.Tree.{Tree}
-use Rattle.path_walk.specs.Paths.{Reached}
+use Rattle.path_walk.specs.Paths.{Reached, ◌>>=◌}
 use Rattle.path_walk.specs.Walk.{IsReached, reached_as}
 use Rattle.path_walk.proofs.Chaining.{asked_then}
-use Rattle.volume_tasks.specs.Tasks.{reached}
+use Rattle.volume_tasks.specs.Tasks.{reached, entry_found}
 use Rattle.volume_tasks.specs.Changes.{entry_moved, moved_to}
 use Rattle.volume_tasks.proofs.Changed.{asked_first, entry_kept, means, refused, refused_on}
-use Rattle.volume_tasks.proofs.Meant.{moved_found, moved_missing, moved_stops}
+use Rattle.volume_tasks.proofs.Meant.{moved_found, moved_missing, moved_stops, stops}
 use Rattle.volume_tasks.proofs.Missing.{missing_in}
 use Rattle.volume_tasks.proofs.changing.move_entry.Goals as goal
 
@@ -55,3 +55,10 @@ move_to-requires-clause-place g c h parent name missing =
     let before = second.asked.kept.honest.1 h in
     missing_in c.reached.new.volume.tree c.reached-2.new.volume.tree c.args.to.now (reached_as c.in_ok-target.target) c.in_ok-target.wants_dir parent name
     (second.asked.tree before) (second.answer before) missing
+
+-- the first path is refused
+pub returns-in_err-source : goal.returns-in_err-source
+returns-in_err-source g c =
+    let T = c.args.volume.now.tree in
+    refused_on g.D.Device.honest g.D.Device.disk g.D.Device.size g.D.Device.failures (λ T. entry_moved T c.args.from.now c.args.to.now) c.args.volume.now c.reached.new.volume c.in_err-source.field-0.0 c.from_residual.result
+    c.in_err-source.ensures.asked (λ h. stops (reached T c.args.from.now) (λ source. reached T c.args.to.now >>= λ target. entry_found source >>= λ serial. moved_to T serial target) c.in_err-source.field-0.0 (c.in_err-source.ensures.answer h)) c.from_residual.ensures.1

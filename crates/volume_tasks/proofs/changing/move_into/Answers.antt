@@ -1,9 +1,9 @@
-use Rattle.std.proofs.Common.{◌≡◌, ◌&&◌, not, false, sym, arith}
+use Rattle.std.proofs.Common.{◌≡◌, ◌&&◌, not, false, sym, arith, inr}
 use Rattle.std.proofs.lemmas.Grind.{common_steps}
 use Rattle.vol_tree.specs.Calls.{renamed}
 use Rattle.path_walk.specs.Paths.{Missing}
 use Rattle.volume_tasks.specs.Changes.{moved_to}
-use Rattle.volume_tasks.proofs.Changed.{asked_first, means}
+use Rattle.volume_tasks.proofs.Changed.{asked_first, means, refused_on}
 use Rattle.volume_tasks.proofs.Meant.{into_done}
 use Rattle.volume_tasks.proofs.changing.move_into.Goals.{else-wants_dir-via-then-wants_dir+else-not-is_directory, else-wants_dir-via-else-wants_dir}
 use Rattle.volume_tasks.proofs.changing.move_into.Goals as goal
@@ -24,3 +24,9 @@ returns g c =
     (λ h. into_done v.tree s c.args.parent name wants d (sym (c.in_ok-is_directory.ensures.answer h)) may)
     (asked_first g.D.Device.honest g.D.Device.disk g.D.Device.size g.D.Device.failures (λ T. renamed T s c.args.parent name) v c.is_directory.new.volume c.rename.new.self c.rename.result c.in_ok-is_directory.ensures.asked
     (record { answer = call.answer; crash = call.crash; kept = call.kept }))
+
+-- the device failed
+pub returns-in_err-is_directory : goal.returns-in_err-is_directory
+returns-in_err-is_directory g c =
+    refused_on g.D.Device.honest g.D.Device.disk g.D.Device.size g.D.Device.failures (λ T. moved_to T c.args.source (Missing c.args.parent c.args.name.now, c.args.wants_dir)) c.args.volume.now c.is_directory.new.volume c.in_err-is_directory.field-0.0 c.from_residual.result
+    c.in_err-is_directory.ensures.asked (λ h. inr (c.in_err-is_directory.ensures.answer h)) c.from_residual.ensures.1

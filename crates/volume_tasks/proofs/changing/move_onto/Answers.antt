@@ -1,4 +1,4 @@
-use Rattle.std.proofs.Common.{◌==◌, ℕ, take, ap, sym, ◌∙◌}
+use Rattle.std.proofs.Common.{◌==◌, ℕ, take, ap, refl, sym, ◌∙◌}
 use Rattle.std.proofs.lemmas.Bool.{cond-false, ne_eqb}
 use Rattle.vol_tree.specs.Calls.{renamed, name_at, parent_at}
 use Rattle.volume_tasks.proofs.Changed.{asked_first, means}
@@ -29,3 +29,6 @@ returns g c =
     (asked_first g.D.Device.honest g.D.Device.disk g.D.Device.size g.D.Device.failures (λ T. renamed T s stat.parent (take c.from.result stat.name)) v c.stat.new.self c.rename.new.self c.rename.result
     (record { tree = λ h. (told.answer h).1; crash = told.crash; kept = told.kept })
     (record { answer = call.answer; crash = call.crash; kept = call.kept }))
+
+pub rename-requires-clause-name : goal.rename-requires-clause-name
+rename-requires-clause-name g c = c.if-not-is_name.ensures.0 refl

@@ -1,9 +1,11 @@
-use Rattle.std.proofs.Common.{ℕ, Bool, Result, Ok, ap, ◌∙◌}
+use Rattle.std.proofs.Common.{ℕ, Bool, Result, Ok, ap, ◌∙◌, if◌then◌else◌}
 use Rattle.vol_tree.specs.declared.errno.Errno.{Errno}
 use Rattle.vol_tree.specs.Calls.{directory_removed, unlinked}
 use Rattle.volume_tasks.specs.Changes.{entry_removed}
-use Rattle.volume_tasks.proofs.Changed.{asked_first, means}
-use Rattle.volume_tasks.proofs.Meant.{removed_directory, removed_file}
+use Rattle.volume_tasks.proofs.Changed.{asked_first, means, refused_on}
+use Rattle.volume_tasks.proofs.Meant.{removed_directory, removed_file, stops}
+use Rattle.volume_tasks.specs.Tasks.{entry_named}
+use Rattle.vol_tree.specs.Tree.{Tree}
 use Rattle.volume_tasks.proofs.changing.remove.Goals as goal
 
 pub returns-then-is_directory : goal.returns-then-is_directory
@@ -27,3 +29,10 @@ returns-else-is_directory g c =
     (λ h. removed_file v.tree c.args.path.now s (c.in_ok-serial.ensures.answer h ∙ ap named c.if-is_directory.false))
     (asked_first g.D.Device.honest g.D.Device.disk g.D.Device.size g.D.Device.failures (λ T. Ok (unlinked T s)) v c.entry_named.new.volume c.unlink.new.self c.unlink.result c.in_ok-serial.ensures.asked
     (record { answer = call.answer; crash = call.crash; kept = call.kept }))
+
+-- the path names nothing
+pub returns-in_err-serial : goal.returns-in_err-serial
+returns-in_err-serial g c =
+    let next = λ (e : ℕ × Bool). let r : Result Tree Errno = if e.1 then directory_removed c.args.volume.now.tree e.0 else Ok (unlinked c.args.volume.now.tree e.0) in r in
+    refused_on g.D.Device.honest g.D.Device.disk g.D.Device.size g.D.Device.failures (λ T. entry_removed T c.args.path.now) c.args.volume.now c.entry_named.new.volume c.in_err-serial.field-0.0 c.from_residual.result
+    c.in_err-serial.ensures.asked (λ h. stops (entry_named c.args.volume.now.tree c.args.path.now) next c.in_err-serial.field-0.0 (c.in_err-serial.ensures.answer h)) c.from_residual.ensures.1

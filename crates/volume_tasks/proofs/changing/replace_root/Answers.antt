@@ -1,9 +1,9 @@
-use Rattle.std.proofs.Common.{Bool, Result, Err, if◌then◌else◌, inl, ap, sym, ◌∙◌}
+use Rattle.std.proofs.Common.{Bool, Result, Err, if◌then◌else◌, inl, ap, sym, ◌∙◌, inr}
 use Rattle.vol_tree.specs.declared.errno.Errno.{Errno}
 use Rattle.vol_tree.specs.declared.errno.Errno.TheVariants as errno
 use Rattle.vol_tree.specs.Tree.{Tree}
 use Rattle.vol_tree.specs.Calls.{renamed, name_at, parent_at}
-use Rattle.volume_tasks.proofs.Changed.{asked_nothing, refused}
+use Rattle.volume_tasks.proofs.Changed.{asked_nothing, refused, refused_on}
 use Rattle.volume_tasks.proofs.Meant.{root_stays, root_taken}
 use Rattle.volume_tasks.proofs.changing.replace_root.Goals as goal
 
@@ -29,3 +29,9 @@ returns-else-branch g c =
     refused g.D.Device.honest g.D.Device.disk g.D.Device.size g.D.Device.failures (λ T. renamed T c.args.source (parent_at T 1) (name_at T 1)) v c.is_directory.new.volume errno.IsDirectory c.in_ok-is_directory.ensures.asked
     (λ h. inl (root_taken v.tree c.args.source (c.is_a_tree.ensures.tree h) (c.requires.source.used h) c.if-source-eq-ROOT.false
     ∙ ap chosen (sym (c.in_ok-is_directory.ensures.answer h) ∙ c.if-branch.false)))
+
+-- the device failed
+pub returns-in_err-is_directory : goal.returns-in_err-is_directory
+returns-in_err-is_directory g c =
+    refused_on g.D.Device.honest g.D.Device.disk g.D.Device.size g.D.Device.failures (λ T. renamed T c.args.source (parent_at T 1) (name_at T 1)) c.args.volume.now c.is_directory.new.volume c.in_err-is_directory.field-0.0 c.from_residual.result
+    c.in_err-is_directory.ensures.asked (λ h. inr (c.in_err-is_directory.ensures.answer h)) c.from_residual.ensures.1

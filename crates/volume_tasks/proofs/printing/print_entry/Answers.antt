@@ -35,3 +35,13 @@ pub returns-in_err-write_all-2-clause-part : goal.returns-in_err-write_all-2-cla
 returns-in_err-write_all-2-clause-part g c =
     let out = g.W.Write.contents c.args.out.now in
     on_err c.from_residual-in_err-write_all-2.result _ (part_none out out (stat_line c.args.stat.now) (Keeps-refl out))
+
+pub returns-in_err-write_all-clause-part : goal.returns-in_err-write_all-clause-part
+returns-in_err-write_all-clause-part g c =
+    let out = g.W.Write.contents c.args.out.now in
+    on_err _ _ (part_none out out (stat_line c.args.stat.now) (Keeps-refl out))
+
+pub returns-in_err-write-clause-part : goal.returns-in_err-write-clause-part
+returns-in_err-write-clause-part g c =
+    let out = g.W.Write.contents c.args.out.now in
+    on_err _ _ (part_none out out (stat_line c.args.stat.now) (Keeps-refl out))

@@ -10,6 +10,7 @@ use Rattle.volume_tasks.specs.Tasks.{HasBeginning}
 use Rattle.volume_tasks.proofs.Asking.{keeps_then, works_after}
 use Rattle.volume_tasks.proofs.Beginning.{any_then}
 use Rattle.volume_tasks.proofs.Filled.{consumed_begins, file_there, fill_refused, piece_written}
+use Rattle.volume_tasks.proofs.Filled.{fill_stopped}
 use Rattle.volume_tasks.proofs.putting.write_input.Goals as goal
 
 pub returns-in_err-write-clause-fills : goal.returns-in_err-write-clause-fills
@@ -93,3 +94,10 @@ loop-preserved g c =
 
 pub returns-then-count-lt-PIECE-clause-kept : goal.returns-then-count-lt-PIECE-clause-kept
 returns-then-count-lt-PIECE-clause-kept c = grind (arith, common_steps)
+
+pub returns-in_err-count-clause-fills : goal.returns-in_err-count-clause-fills
+returns-in_err-count-clause-fills g c h =
+    let so_far = c.loop.invariant.filled h in
+    let before = g.R.Read.remaining c.args.input.now in
+    fill_stopped (geometry c.args.volume.now.numbers) c.args.volume.now.tree c.loop.volume.tree c.args.file before (g.R.Read.remaining c.read_piece.new.input) c.from_residual.result
+    (so_far.0, consumed_begins before (g.R.Read.remaining c.loop.input) so_far.0 so_far.1, so_far.2) c.from_residual.ensures.1

@@ -5,7 +5,7 @@ use Rattle.sandbox_words.specs.declared.request.Task.{Task}
 use Rattle.volume_tasks.specs.Tasks.{ReflectsAny, IsPartOfPut}
 use Rattle.volume_tasks.specs.Changes.{IsPartOfChange}
 use Rattle.volume_tasks.specs.Doing.{IsPartOf, IsRaised}
-use Rattle.volume_tasks.proofs.Beginning.{leaves_more}
+use Rattle.volume_tasks.proofs.Beginning.{leaves_more, upgrade_any}
 use Rattle.volume_tasks.proofs.tasks.done_with.Goals as goal
 
 pub returns-in-Put-clause-crash : goal.returns-in-Put-clause-crash
@@ -38,3 +38,19 @@ returns-in-List-clause-crash c = grind (arith, common_steps)
 
 pub returns-in-Check-clause-failures : goal.returns-in-Check-clause-failures
 returns-in-Check-clause-failures g c = ap (λ (b : Bool). counted b (g.D.Device.failures c.args.volume.now.device)) (sym c.check.ensures.asks_nothing)
+
+pub returns-in_err-upgrade-in-Upgrade-clause-crash : goal.returns-in_err-upgrade-in-Upgrade-clause-crash
+returns-in_err-upgrade-in-Upgrade-clause-crash g c h =
+    let v = c.args.volume.now in
+    let disk = g.D.Device.disk in
+    subst (λ (t : Task). Leaves (disk v.device) (disk c.upgrade.new.self.device)
+    (λ m. ReflectsAny (disk v.device) v.numbers (IsPartOf t v.numbers v.tree (g.R.Read.remaining c.args.input.now)) m ⊎ IsRaised t v.numbers v.tree m)) (sym c.in-Upgrade.is)
+    (upgrade_any (disk v.device) (disk c.upgrade.new.self.device) v.numbers v.tree (c.upgrade.ensures.crash h))
+
+pub returns-in_ok-upgrade-in-Upgrade-clause-crash : goal.returns-in_ok-upgrade-in-Upgrade-clause-crash
+returns-in_ok-upgrade-in-Upgrade-clause-crash g c h =
+    let v = c.args.volume.now in
+    let disk = g.D.Device.disk in
+    subst (λ (t : Task). Leaves (disk v.device) (disk c.upgrade.new.self.device)
+    (λ m. ReflectsAny (disk v.device) v.numbers (IsPartOf t v.numbers v.tree (g.R.Read.remaining c.args.input.now)) m ⊎ IsRaised t v.numbers v.tree m)) (sym c.in-Upgrade.is)
+    (upgrade_any (disk v.device) (disk c.upgrade.new.self.device) v.numbers v.tree (c.upgrade.ensures.crash h))
