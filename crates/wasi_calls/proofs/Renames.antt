@@ -5,7 +5,7 @@ use Rattle.std.proofs.lemmas.Bool.{cases_eq, cases_Bool, cond-true, cond-false, 
 use Rattle.vol_tree.specs.declared.errno.Errno.{Errno}
 use Rattle.vol_tree.specs.declared.errno.Errno.TheVariants as errno
 use Rattle.vol_tree.specs.Tree.{Tree, Name, Entry as TreeEntry, entry, IsTree, is_empty, lookup}
-use Rattle.vol_tree.specs.Calls.{directory_at, is_within, renamed, moved, moved_onto, with_unit}
+use Rattle.vol_tree.specs.Calls.{directory_at, is_within, renamed, moved, moved_onto, with_unit, parent_at, name_at}
 use Rattle.vol_tree.specs.Numbers.{number_of}
 use Rattle.vol_tree.specs.Opened.{Opened, Answers, Keeps, geometry, is_io}
 use Rattle.vol_tree.proofs.Trees.{empty_childless, is_directory_at}
@@ -14,7 +14,7 @@ use Rattle.path_walk.specs.Paths.{Reached, Found, Missing}
 use Rattle.wasi_fd.specs.Table.{Table}
 use Rattle.wasi_calls.specs.World.{World, held_open}
 use Rattle.wasi_calls.specs.Checks.{Checked, and_then, guard, tree_call, numbered}
-use Rattle.wasi_calls.specs.Paths.{rename_to, parent_at, name_at}
+use Rattle.wasi_calls.specs.Paths.{rename_to}
 use Rattle.wasi_calls.specs.declared.renaming.Facts.{Facts}
 use Rattle.wasi_calls.specs.internal.Serving.{with_volume}
 use Rattle.wasi_calls.specs.internal.Asking.{StopsNext}

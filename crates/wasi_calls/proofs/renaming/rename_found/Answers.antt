@@ -1,12 +1,12 @@
 use Rattle.std.proofs.Common.{ℕ, refl, sym, subst, arith, ◌∙◌}
 use Rattle.std.proofs.lemmas.Grind.{common_steps}
 use Rattle.vol_tree.specs.Tree.{Tree}
-use Rattle.vol_tree.specs.Calls.{renamed}
+use Rattle.vol_tree.specs.Calls.{renamed, parent_at, name_at}
 use Rattle.path_walk.specs.Paths.{Found}
 use Rattle.wasi_fd.specs.Table.{table_of}
 use Rattle.wasi_calls.proofs.Causes.{asked_29}
 use Rattle.wasi_calls.specs.World.{World, held_open}
-use Rattle.wasi_calls.specs.Paths.{rename_to, parent_at, name_at}
+use Rattle.wasi_calls.specs.Paths.{rename_to}
 use Rattle.wasi_calls.specs.internal.Asking.{StopsNext}
 use Rattle.wasi_calls.proofs.Volumes.{steps_after, steps}
 use Rattle.wasi_calls.proofs.Asking.{asked_works}
