@@ -7,6 +7,7 @@ mod edges_64;
 mod guests;
 mod instances;
 mod memories;
+mod modules;
 mod operators;
 mod stores;
 

@@ -8,7 +8,7 @@ use sandbox_host::{
 use std::alloc::Global;
 use std::process::Abort;
 use std::test::Fail;
-use wasm_tests::HELLO;
+use machine_tests::HELLO;
 
 /// `HELLO`, which a session keeps.
 static HI: [u8; 168] = HELLO;

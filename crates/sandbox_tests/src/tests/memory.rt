@@ -11,7 +11,7 @@ use std::alloc::Global;
 use std::process::Abort;
 use std::test::Fail;
 use vol_sector::{Device, MemoryDevice, Refused, VolumeFault};
-use wasm_tests::HELLO;
+use machine_tests::HELLO;
 
 /// More than any guest here uses.
 const FUEL: u64 = 1_000_000;

@@ -9,7 +9,7 @@ use std::alloc::Global;
 use std::io::{ErrorKind, Read, Write};
 use std::process::Abort;
 use vol_sector::{Device, FlakyDevice, FuseDevice, MemoryDevice};
-use wasm_tests::HELLO;
+use machine_tests::HELLO;
 
 fn settings<'a, 't>(
     args: &'a [&'t [u8]],

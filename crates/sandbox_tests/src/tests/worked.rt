@@ -4,7 +4,7 @@ use super::sessions::{PLAIN, formatted};
 use super::writer::Bounded;
 use crate::worked::resumed_twice_on;
 use sandbox_core::{Errno, HostCall, Outcome, Pause, load};
-use wasm_tests::HELLO;
+use machine_tests::HELLO;
 
 static HI: [u8; 168] = HELLO;
 

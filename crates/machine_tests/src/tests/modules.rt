@@ -1,4 +1,4 @@
-//! What no contract says: which fault bytes are refused with, and where, and answers that were known from outside.
+//! Which fault a module's bytes are refused with, and where.
 
 mod bytes;
 mod decoded;
