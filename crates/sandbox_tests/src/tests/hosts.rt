@@ -1,6 +1,7 @@
 //! What a host in C calls: why a module is refused, a session behind its handle, misuse, and texts.
 
 use super::sessions::assert_none;
+use machine_tests::HELLO;
 use sandbox_host::{
     Handle, MISUSE, OK, Supplies, Told, VolumeSource, Why, check, close, finish, open, output,
     resume, text, volume_out,
@@ -8,7 +9,6 @@ use sandbox_host::{
 use std::alloc::Global;
 use std::process::Abort;
 use std::test::Fail;
-use machine_tests::HELLO;
 
 /// `HELLO`, which a session keeps.
 static HI: [u8; 168] = HELLO;

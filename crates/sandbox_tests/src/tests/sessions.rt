@@ -1,6 +1,7 @@
 //! Settings, and sessions of one program.
 
 use super::writer::Bounded;
+use machine_tests::HELLO;
 use sandbox_core::{
     Errno, Finished, HostCall, HostParts, InstanceFault, Outcome, Pause, Preopen, RefusedSession,
     Report, Session, SessionFault, Settings, Valid, Volume, load, run,
@@ -9,7 +10,6 @@ use std::alloc::Global;
 use std::io::{ErrorKind, Read, Write};
 use std::process::Abort;
 use vol_sector::{Device, FlakyDevice, FuseDevice, MemoryDevice};
-use machine_tests::HELLO;
 
 fn settings<'a, 't>(
     args: &'a [&'t [u8]],
