@@ -1,6 +1,7 @@
 pub mod Powers
 pub mod Laws
 pub mod Exits
+pub mod Words
 pub mod ModuleOf
 pub mod Numbers
 pub mod Combine

@@ -3,7 +3,7 @@ use Rattle.std.proofs.Common.{◌≡◌, ◌∙◌, ℕ, List, [], Option, Some,
 use Rattle.wasm_module.specs.declared.module.Module.{Module}
 use Rattle.wasm_module.specs.Module.{module_of}
 use Rattle.wasm_module.specs.internal.TypesReading.{func_type_at, limits_at, table_at}
-use Rattle.wasm_module.specs.internal.ModuleReading.{import_at, global_at, export_at, elements_at, body_at, data_at, Held, sections_of, sections_at, module_and_count, list_at, code_parts_at, link_parts_at, storage_parts_at, Parts, parts_at}
+use Rattle.wasm_module.specs.internal.ModuleReading.{import_at, global_at, export_at, elements_at, body_at, data_at, Held, sections_of, sections_at, module_and_count, list_at, code_parts_at, start_parts_at, link_parts_at, storage_parts_at, Parts, parts_at}
 use Rattle.wasm_module.specs.internal.Reading.{◌>>=◌, Reader, then_at, map_at, u32_at, vector_at, whole, customs_at, section_at}
 use Rattle.wasm_module.proofs.Laws.{some_is}
 
@@ -71,7 +71,7 @@ parts_of p = (p.0, (unwrap_or p.1.0 [], (unwrap_or p.1.1.0 [], (unwrap_or p.1.1.
 
 -- the parts are what the sections hold
 parts_are : Sees parts_of held_at parts_at
-unfolding parts_at storage_parts_at link_parts_at code_parts_at
+unfolding parts_at storage_parts_at link_parts_at start_parts_at code_parts_at
 parts_are =
     both (kept customs_at) (
     both (list 1 func_type_at) (
