@@ -7,6 +7,7 @@ pub mod Numbers
 pub mod Combine
 pub mod Loop
 pub mod Operands
+pub mod Opcodes
 pub mod Texts
 pub mod Steps
 pub mod TypeLaws

@@ -2,7 +2,7 @@
 
 ghost use Rattle.std.specs.Prelude.{◌≡◌, ◌≢◌, ℕ, List, IfOk, IfErr};
 ghost use Rattle.wasm_module.specs.Module.{Spells};
-ghost use Rattle.wasm_module.specs.internal.ModuleReading.{word_at, preamble_at, list_at, code_parts_at, start_parts_at, link_parts_at, storage_parts_at, sections_at, is_counted, counts_agree, module_and_count, module_from};
+ghost use Rattle.wasm_module.specs.internal.ModuleReading.{word_at, preamble_at, list_at, code_parts_at, start_parts_at, link_parts_at, storage_parts_at, sections_at, decoded_of, is_counted, counts_agree, module_and_count, module_from};
 ghost use Rattle.wasm_module.specs.internal.Reading.{Gives, Allows, map_at, then_at};
 ghost use Rattle.wasm_module.specs.internal.TypesReading.{table_at};
 ghost use Rattle.wasm_module.specs.declared.module.Module.{Module as ModuleValue};
@@ -11,7 +11,9 @@ use crate::cursor::{Cursor, Decode};
 use crate::fault::LoadFault;
 use crate::items::Items;
 use crate::limits;
-use crate::module::{Body, DataSegment, ElementSegment, Export, GlobalEntry, Limits, Module};
+use crate::module::{
+    Body, DataSegment, ElementSegment, Export, FuncType, GlobalEntry, Import, Limits, Module,
+};
 use crate::parts::Tables;
 use std::alloc::Global;
 
@@ -172,17 +174,15 @@ fn storage_parts<'a>(alloc: Global, cursor: &mut Cursor<'a>) -> Result<StoragePa
     })
 }
 
-/// The sections in their order: the module, and how many data segments it says that it has.
-fn sections<'a>(
-    alloc: Global,
-    cursor: &mut Cursor<'a>,
-) -> Result<(Module<'a>, Option<u32>), LoadFault>
-    ensures { Gives (λ x. (x, cursor.new)) result (map_at module_and_count sections_at cursor.old) }
+/// The module of these parts, and how many data segments it says that it has.
+fn assembled<'a>(
+    types: Items<FuncType>,
+    imports: Items<Import<'a>>,
+    functions: Items<u32>,
+    storage: StorageParts<'a>,
+) -> (Module<'a>, Option<u32>)
+    ensures { result ≡ decoded_of (tt, (types, (imports.entry, (functions, (storage.entry.tables, (storage.entry.memories, (storage.entry.globals, (storage.entry.link.exports, (storage.entry.link.rest.start, (storage.entry.link.rest.element_segments, (storage.entry.link.rest.code.data_count, (storage.entry.link.rest.code.bodies, storage.entry.link.rest.code.data_segments)))))))))))) }
 {
-    cursor.customs()?;
-    let types = list(alloc, cursor, 1)?;
-    let (imports, functions) = two_lists(alloc, cursor, (2, 3))?;
-    let storage = storage_parts(alloc, cursor)?;
     let link = storage.link;
     let rest = link.rest;
     let code = rest.code;
@@ -199,7 +199,21 @@ fn sections<'a>(
         bodies: code.bodies,
         data_segments: code.data_segments,
     };
-    Ok((decoded, code.data_count))
+    (decoded, code.data_count)
+}
+
+/// The sections in their order: the module, and how many data segments it says that it has.
+fn sections<'a>(
+    alloc: Global,
+    cursor: &mut Cursor<'a>,
+) -> Result<(Module<'a>, Option<u32>), LoadFault>
+    ensures { Gives (λ x. (x, cursor.new)) result (map_at module_and_count sections_at cursor.old) }
+{
+    cursor.customs()?;
+    let types = list(alloc, cursor, 1)?;
+    let (imports, functions) = two_lists(alloc, cursor, (2, 3))?;
+    let storage = storage_parts(alloc, cursor)?;
+    Ok(assembled(types, imports, functions, storage))
 }
 
 /// Why no section can begin here, where all that may follow have been looked for.

@@ -170,6 +170,25 @@ storage_parts_at = then_at (list_at 4 table_at) (then_at (list_at 5 limits_at) (
 abbrev pub Parts : Type 0
 Parts = Unit {0} × (List FuncType × (List Import × (List ℕ × StorageParts)))
 
+-- the module of these parts, and how many data segments they say that it has
+abbrev pub decoded_of : Parts → Module × Option ℕ
+decoded_of p = (
+  record {
+    types = p.1.0;
+    imports = p.1.1.0;
+    functions = p.1.1.1.0;
+    tables = p.1.1.1.1.0;
+    memories = p.1.1.1.1.1.0;
+    globals = p.1.1.1.1.1.1.0;
+    exports = p.1.1.1.1.1.1.1.0;
+    start = p.1.1.1.1.1.1.1.1.0;
+    element_segments = p.1.1.1.1.1.1.1.1.1.0;
+    bodies = p.1.1.1.1.1.1.1.1.1.1.1.0;
+    data_segments = p.1.1.1.1.1.1.1.1.1.1.1.1;
+  },
+  p.1.1.1.1.1.1.1.1.1.1.0,
+)
+
 unfoldable pub parts_at : Reader Parts
 parts_at = then_at customs_at (then_at (list_at 1 func_type_at) (then_at (list_at 2 import_at) (then_at (list_at 3 u32_at) storage_parts_at)))
 

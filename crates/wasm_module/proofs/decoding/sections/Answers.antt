@@ -23,6 +23,6 @@ returns-in_err-storage c = handed_on _ _ c.from_residual-in_err-storage.result _
 
 pub returns : goal.returns
 unfolding parts_at
-returns c = parts_read c.args.cursor.now _
+returns c = rw c.assembled.ensures (parts_read c.args.cursor.now _
     (tt, (c.in_ok-types.types, (c.in_ok-imports.imports, (c.in_ok-imports.functions, (c.in_ok-storage.storage.tables, (c.in_ok-storage.storage.memories, (c.in_ok-storage.storage.globals, (c.in_ok-storage.storage.link.exports, (c.in_ok-storage.storage.link.rest.start, (c.in_ok-storage.storage.link.rest.element_segments, (c.in_ok-storage.storage.link.rest.code.data_count, (c.in_ok-storage.storage.link.rest.code.bodies, c.in_ok-storage.storage.link.rest.code.data_segments))))))))))))
-    (rw (c.in_ok-customs.ensures, c.in_ok-types.ensures, grouped_some (list_at 2 import_at) (list_at 3 u32_at) storage_parts_at c.list.new.cursor _ _ _ c.in_ok-imports.ensures, c.in_ok-storage.ensures) refl)
+    (rw (c.in_ok-customs.ensures, c.in_ok-types.ensures, grouped_some (list_at 2 import_at) (list_at 3 u32_at) storage_parts_at c.list.new.cursor _ _ _ c.in_ok-imports.ensures, c.in_ok-storage.ensures) refl))
