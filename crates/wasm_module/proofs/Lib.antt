@@ -1,11 +1,13 @@
 pub mod Powers
 pub mod Laws
 pub mod Exits
+pub mod Words
 pub mod ModuleOf
 pub mod Numbers
 pub mod Combine
 pub mod Loop
 pub mod Operands
+pub mod Opcodes
 pub mod Texts
 pub mod Steps
 pub mod TypeLaws

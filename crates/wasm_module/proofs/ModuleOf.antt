@@ -1,9 +1,8 @@
 -- The module of sections, by its parts.
 use Rattle.std.proofs.Common.{◌≡◌, ◌∙◌, ℕ, List, [], Option, Some, None, unwrap_or, refl, sym, ap}
-use Rattle.wasm_module.specs.declared.module.Module.{Module}
 use Rattle.wasm_module.specs.Module.{module_of}
 use Rattle.wasm_module.specs.internal.TypesReading.{func_type_at, limits_at, table_at}
-use Rattle.wasm_module.specs.internal.ModuleReading.{import_at, global_at, export_at, elements_at, body_at, data_at, Held, sections_of, sections_at, module_and_count, list_at, code_parts_at, link_parts_at, storage_parts_at, Parts, parts_at}
+use Rattle.wasm_module.specs.internal.ModuleReading.{import_at, global_at, export_at, elements_at, body_at, data_at, Held, sections_of, sections_at, module_and_count, list_at, code_parts_at, start_parts_at, link_parts_at, storage_parts_at, Parts, parts_at, decoded_of}
 use Rattle.wasm_module.specs.internal.Reading.{◌>>=◌, Reader, then_at, map_at, u32_at, vector_at, whole, customs_at, section_at}
 use Rattle.wasm_module.proofs.Laws.{some_is}
 
@@ -71,7 +70,7 @@ parts_of p = (p.0, (unwrap_or p.1.0 [], (unwrap_or p.1.1.0 [], (unwrap_or p.1.1.
 
 -- the parts are what the sections hold
 parts_are : Sees parts_of held_at parts_at
-unfolding parts_at storage_parts_at link_parts_at code_parts_at
+unfolding parts_at storage_parts_at link_parts_at start_parts_at code_parts_at
 parts_are =
     both (kept customs_at) (
     both (list 1 func_type_at) (
@@ -86,25 +85,6 @@ parts_are =
     both (kept (section_at 12 (whole u32_at))) (
     both (list 10 body_at)
     (list 11 data_at))))))))))))
-
--- the module of these parts, and how many data segments they say that it has
-abbrev decoded_of : Parts → Module × Option ℕ
-decoded_of p = (
-  record {
-    types = p.1.0;
-    imports = p.1.1.0;
-    functions = p.1.1.1.0;
-    tables = p.1.1.1.1.0;
-    memories = p.1.1.1.1.1.0;
-    globals = p.1.1.1.1.1.1.0;
-    exports = p.1.1.1.1.1.1.1.0;
-    start = p.1.1.1.1.1.1.1.1.0;
-    element_segments = p.1.1.1.1.1.1.1.1.1.0;
-    bodies = p.1.1.1.1.1.1.1.1.1.1.1.0;
-    data_segments = p.1.1.1.1.1.1.1.1.1.1.1.1;
-  },
-  p.1.1.1.1.1.1.1.1.1.1.0,
-)
 
 -- where the parts are read, their module is
 pub parts_read : (bytes rest : List ℕ) (q : Parts) → parts_at bytes ≡ Some (q, rest) → map_at module_and_count sections_at bytes ≡ Some (decoded_of q, rest)

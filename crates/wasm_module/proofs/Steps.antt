@@ -4,7 +4,7 @@ use Rattle.std.proofs.lemmas.List.{append-nil}
 use Rattle.wasm_module.specs.declared.instruction.Instruction.{Instruction}
 use Rattle.wasm_module.specs.declared.open_blocks.OpenBlock.{OpenBlock}
 use Rattle.wasm_module.specs.internal.Reading.{◌>>=◌, Reader, begins, next_at, sized_at, custom_of, customs_from, many_at}
-use Rattle.wasm_module.specs.internal.CodeReading.{instruction_at, after_instruction, code_from}
+use Rattle.wasm_module.specs.internal.CodeReading.{instruction_at, after_instruction, one_more_at, code_from}
 use Rattle.wasm_module.proofs.Loop.{with_front}
 
 -- one turn of the loop over custom sections
@@ -27,18 +27,25 @@ by_test : (front : List Instruction) (b : Bool) (o : Instruction) (rest : List �
 by_test front true o rest read = refl
 by_test front false o rest read = regroup front o read
 
+-- the code ends with the instruction that was read, or goes on
+abbrev after_one : ℕ → Option ((List Instruction × List OpenBlock) × List ℕ) → Option (List Instruction × List ℕ)
+after_one n read = read >>= λ s. cond (eqb (length s.0.1) 0) (Some (s.0.0, s.1)) (with_front s.0.0 (code_from n s.0.1 s.1))
+
+-- the code and the open blocks with an instruction more
+abbrev with_one : List Instruction → Instruction → List ℕ → Option (List OpenBlock) → Option ((List Instruction × List OpenBlock) × List ℕ)
+with_one front o rest fs = fs >>= λ gs. Some ((front ++ o ∷ [], gs), rest)
+
 -- what is read before, an instruction, and what is still to be read
-pub code_more : (front : List Instruction) (count i : ℕ) (fs : List OpenBlock) (bytes : List ℕ) → i < count
-    → with_front front (code_from (count - i) fs bytes) ≡ (instruction_at bytes >>= λ o. after_instruction o.0 fs >>= λ gs. cond (eqb (length gs) 0) (Some (front ++ o.0 ∷ [], o.1)) (with_front (front ++ o.0 ∷ []) (code_from (count - (i + 1)) gs o.1)))
-unfolding code_from
+pub code_more : (front : List Instruction) (count i : ℕ) (fs : List OpenBlock) (bytes : List ℕ) → i < count → with_front front (code_from (count - i) fs bytes) ≡ after_one (count - (i + 1)) (one_more_at front fs bytes)
+unfolding code_from one_more_at
 code_more front count i fs bytes lt =
     let k : count - i ≡ suc (count - (i + 1)) = omega arith in
     rw k (by_op (instruction_at bytes)) where
-      by_frames : (o : Instruction) (rest : List ℕ) (gs : Option (List OpenBlock)) → with_front front (gs >>= λ gs. cond (eqb (length gs) 0) (Some (o ∷ [], rest)) (code_from (count - (i + 1)) gs rest >>= λ os. Some (o ∷ os.0, os.1))) ≡ (gs >>= λ gs. cond (eqb (length gs) 0) (Some (front ++ o ∷ [], rest)) (with_front (front ++ o ∷ []) (code_from (count - (i + 1)) gs rest)))
+      by_frames : (o : Instruction) (rest : List ℕ) (gs : Option (List OpenBlock)) → with_front front (gs >>= λ gs. cond (eqb (length gs) 0) (Some (o ∷ [], rest)) (code_from (count - (i + 1)) gs rest >>= λ os. Some (o ∷ os.0, os.1))) ≡ after_one (count - (i + 1)) (with_one front o rest gs)
       by_frames o rest None = refl
       by_frames o rest (Some gs) = by_test front (eqb (length gs) 0) o rest (code_from (count - (i + 1)) gs rest)
 
-      by_op : (read : Option (Instruction × List ℕ)) → with_front front (read >>= λ o. after_instruction o.0 fs >>= λ gs. cond (eqb (length gs) 0) (Some (o.0 ∷ [], o.1)) (code_from (count - (i + 1)) gs o.1 >>= λ os. Some (o.0 ∷ os.0, os.1))) ≡ (read >>= λ o. after_instruction o.0 fs >>= λ gs. cond (eqb (length gs) 0) (Some (front ++ o.0 ∷ [], o.1)) (with_front (front ++ o.0 ∷ []) (code_from (count - (i + 1)) gs o.1)))
+      by_op : (read : Option (Instruction × List ℕ)) → with_front front (read >>= λ o. after_instruction o.0 fs >>= λ gs. cond (eqb (length gs) 0) (Some (o.0 ∷ [], o.1)) (code_from (count - (i + 1)) gs o.1 >>= λ os. Some (o.0 ∷ os.0, os.1))) ≡ after_one (count - (i + 1)) (read >>= λ o. with_one front o.0 o.1 (after_instruction o.0 fs))
       by_op None = refl
       by_op (Some o) = by_frames o.0 o.1 (after_instruction o.0 fs)
 
@@ -64,13 +71,9 @@ pub many_done : {X : Type 0} (a : Reader X) (front : List X) (count i : ℕ) (by
 unfolding many_at
 many_done {X} a front count i bytes le = let k : count - i ≡ 0 = omega arith in rw k (ap (λ (ns : List X). Some (ns, bytes)) (append-nil front))
 
--- where no instruction can be read, no code can
-pub code_no_op : (front : List Instruction) (count i : ℕ) (fs : List OpenBlock) (bytes : List ℕ) (total : Option (List Instruction × List ℕ)) → i < count → instruction_at bytes ≡ None → with_front front (code_from (count - i) fs bytes) ≡ total → total ≡ None
-code_no_op front count i fs bytes total lt none so_far = sym so_far ∙ code_more front count i fs bytes lt ∙ rw none refl
-
--- where an instruction closes what is not open, no code can be read
-pub code_no_step : (front : List Instruction) (count i : ℕ) (fs : List OpenBlock) (bytes : List ℕ) (o : Instruction) (rest : List ℕ) (total : Option (List Instruction × List ℕ)) → i < count → instruction_at bytes ≡ Some (o, rest) → after_instruction o fs ≡ None → with_front front (code_from (count - i) fs bytes) ≡ total → total ≡ None
-code_no_step front count i fs bytes o rest total lt is none so_far = sym so_far ∙ code_more front count i fs bytes lt ∙ rw (is, none) refl
+-- where no instruction can be read, or it closes what is not open, no code can
+pub code_no_more : (front : List Instruction) (count i : ℕ) (fs : List OpenBlock) (bytes : List ℕ) (total : Option (List Instruction × List ℕ)) → i < count → one_more_at front fs bytes ≡ None → with_front front (code_from (count - i) fs bytes) ≡ total → total ≡ None
+code_no_more front count i fs bytes total lt none so_far = sym so_far ∙ code_more front count i fs bytes lt ∙ rw none refl
 
 -- nothing was read before
 front_none : {X : Type 0} (read : Option (List X × List ℕ)) → with_front [] read ≡ read
@@ -92,15 +95,15 @@ many_goes_on a front more count i bytes x rest total lt is pushed so_far =
     rw pushed (sym turn ∙ so_far)
 
 -- an instruction more is read, and blocks are still open
-pub code_goes_on : (front more : List Instruction) (count i : ℕ) (fs gs : List OpenBlock) (bytes : List ℕ) (o : Instruction) (rest : List ℕ) (total : Option (List Instruction × List ℕ)) → i < count → instruction_at bytes ≡ Some (o, rest) → after_instruction o fs ≡ Some gs → false ≡ eqb (length gs) 0 → more ≡ front ++ o ∷ []
+pub code_goes_on : (front more : List Instruction) (count i : ℕ) (fs gs : List OpenBlock) (bytes rest : List ℕ) (total : Option (List Instruction × List ℕ)) → i < count → one_more_at front fs bytes ≡ Some ((more, gs), rest) → false ≡ eqb (length gs) 0
     → with_front front (code_from (count - i) fs bytes) ≡ total → with_front more (code_from (count - (i + 1)) gs rest) ≡ total
-code_goes_on front more count i fs gs bytes o rest total lt is goes more_open pushed so_far =
-    let turn : with_front front (code_from (count - i) fs bytes) ≡ with_front (front ++ o ∷ []) (code_from (count - (i + 1)) gs rest) = code_more front count i fs bytes lt ∙ rw (is, goes, ← more_open) refl in
-    rw pushed (sym turn ∙ so_far)
+code_goes_on front more count i fs gs bytes rest total lt is more_open so_far =
+    let turn : with_front front (code_from (count - i) fs bytes) ≡ with_front more (code_from (count - (i + 1)) gs rest) = code_more front count i fs bytes lt ∙ rw (is, ← more_open) refl in
+    sym turn ∙ so_far
 
 -- an instruction closes the last open block
-pub code_closes : (front : List Instruction) (count i : ℕ) (fs gs : List OpenBlock) (bytes : List ℕ) (o : Instruction) (rest : List ℕ) (total : Option (List Instruction × List ℕ)) → i < count → instruction_at bytes ≡ Some (o, rest) → after_instruction o fs ≡ Some gs → true ≡ eqb (length gs) 0 → with_front front (code_from (count - i) fs bytes) ≡ total → total ≡ Some (front ++ o ∷ [], rest)
-code_closes front count i fs gs bytes o rest total lt is goes closed so_far = sym so_far ∙ code_more front count i fs bytes lt ∙ rw (is, goes, ← closed) refl
+pub code_closes : (front more : List Instruction) (count i : ℕ) (fs gs : List OpenBlock) (bytes rest : List ℕ) (total : Option (List Instruction × List ℕ)) → i < count → one_more_at front fs bytes ≡ Some ((more, gs), rest) → true ≡ eqb (length gs) 0 → with_front front (code_from (count - i) fs bytes) ≡ total → total ≡ Some (more, rest)
+code_closes front more count i fs gs bytes rest total lt is closed so_far = sym so_far ∙ code_more front count i fs bytes lt ∙ rw (is, ← closed) refl
 
 -- the bytes end while blocks are open
 pub code_breaks_off : (front : List Instruction) (count i : ℕ) (fs : List OpenBlock) (bytes : List ℕ) (total : Option (List Instruction × List ℕ)) → count ≤ i → with_front front (code_from (count - i) fs bytes) ≡ total → total ≡ None

@@ -1,7 +1,7 @@
 //! What instructions are read from (section 5.4).
 
 ghost use Rattle.std.specs.Prelude.{◌≡◌};
-ghost use Rattle.wasm_module.specs.internal.CodeReading.{bulk_after, bulk_at, comparison_of, control_after, binary_operator_of, load_after, load_with, numeric_of, store_after, store_with, unary_of, variable_after, variable_with};
+ghost use Rattle.wasm_module.specs.internal.CodeReading.{binary_operator_of, block_with, branch_table_at, branch_with, bulk_after, bulk_at, call_indirect_at, compared, comparison_of, control_after, load_after, load_with, numeric_of, operated, store_after, store_with, unary_instruction, variable_after, variable_with};
 ghost use Rattle.wasm_module.specs.internal.Reading.{Gives};
 
 use crate::cursor::{Cursor, Decode};
@@ -10,6 +10,7 @@ use crate::instruction::{
     BinaryOperator, BlockType, BranchTable, Comparison, Instruction, MemArg, UnaryOperator,
     ValueType,
 };
+use crate::items::Items;
 use std::alloc::Global;
 
 /// Why this byte is no opcode: those of floating point are known, and refused.
@@ -66,25 +67,39 @@ fn binary_operator(number: u8) -> Option<BinaryOperator>
     }
 }
 
-/// The operator on one integer of this opcode.
+/// The instruction on one integer of this opcode.
 #[tactic(auto, unfolding(crate::specs::internal::CodeReading::unary_of))]
-fn unary_operator(byte: u8) -> Option<(ValueType, UnaryOperator)>
-    ensures { result ≡ unary_of byte }
+fn unary(byte: u8) -> Option<Instruction>
+    ensures { result ≡ unary_instruction byte }
 {
     match byte {
-        0x67 => Some((ValueType::I32, UnaryOperator::Clz)),
-        0x68 => Some((ValueType::I32, UnaryOperator::Ctz)),
-        0x69 => Some((ValueType::I32, UnaryOperator::Popcnt)),
-        0x79 => Some((ValueType::I64, UnaryOperator::Clz)),
-        0x7A => Some((ValueType::I64, UnaryOperator::Ctz)),
-        0x7B => Some((ValueType::I64, UnaryOperator::Popcnt)),
-        0xC0 => Some((ValueType::I32, UnaryOperator::Extend8S)),
-        0xC1 => Some((ValueType::I32, UnaryOperator::Extend16S)),
-        0xC2 => Some((ValueType::I64, UnaryOperator::Extend8S)),
-        0xC3 => Some((ValueType::I64, UnaryOperator::Extend16S)),
-        0xC4 => Some((ValueType::I64, UnaryOperator::Extend32S)),
+        0x67 => Some(Instruction::Unary(ValueType::I32, UnaryOperator::Clz)),
+        0x68 => Some(Instruction::Unary(ValueType::I32, UnaryOperator::Ctz)),
+        0x69 => Some(Instruction::Unary(ValueType::I32, UnaryOperator::Popcnt)),
+        0x79 => Some(Instruction::Unary(ValueType::I64, UnaryOperator::Clz)),
+        0x7A => Some(Instruction::Unary(ValueType::I64, UnaryOperator::Ctz)),
+        0x7B => Some(Instruction::Unary(ValueType::I64, UnaryOperator::Popcnt)),
+        0xC0 => Some(Instruction::Unary(ValueType::I32, UnaryOperator::Extend8S)),
+        0xC1 => Some(Instruction::Unary(ValueType::I32, UnaryOperator::Extend16S)),
+        0xC2 => Some(Instruction::Unary(ValueType::I64, UnaryOperator::Extend8S)),
+        0xC3 => Some(Instruction::Unary(ValueType::I64, UnaryOperator::Extend16S)),
+        0xC4 => Some(Instruction::Unary(ValueType::I64, UnaryOperator::Extend32S)),
         _ => None,
     }
+}
+
+/// The comparison of this number, of integers of this type.
+fn compared(value_type: ValueType, number: u8) -> Option<Instruction>
+    ensures { result ≡ compared value_type number }
+{
+    Some(Instruction::Compare(value_type, comparison(number)?))
+}
+
+/// The operator of this number, on two integers of this type.
+fn operated(value_type: ValueType, number: u8) -> Option<Instruction>
+    ensures { result ≡ operated value_type number }
+{
+    Some(Instruction::Binary(value_type, binary_operator(number)?))
 }
 
 /// The instruction of this opcode on numbers, which has nothing after it.
@@ -98,15 +113,52 @@ fn numeric(byte: u8) -> Option<Instruction>
         0xA7 => Some(Instruction::I32WrapI64),
         0xAC => Some(Instruction::I64ExtendI32S),
         0xAD => Some(Instruction::I64ExtendI32U),
-        0x46..=0x4F => Some(Instruction::Compare(ValueType::I32, comparison(byte - 0x46)?)),
-        0x51..=0x5A => Some(Instruction::Compare(ValueType::I64, comparison(byte - 0x51)?)),
-        0x6A..=0x78 => Some(Instruction::Binary(ValueType::I32, binary_operator(byte - 0x6A)?)),
-        0x7C..=0x8A => Some(Instruction::Binary(ValueType::I64, binary_operator(byte - 0x7C)?)),
-        _ => {
-            let (value_type, operator) = unary_operator(byte)?;
-            Some(Instruction::Unary(value_type, operator))
-        }
+        0x46..=0x4F => compared(ValueType::I32, byte - 0x46),
+        0x51..=0x5A => compared(ValueType::I64, byte - 0x51),
+        0x6A..=0x78 => operated(ValueType::I32, byte - 0x6A),
+        0x7C..=0x8A => operated(ValueType::I64, byte - 0x7C),
+        _ => unary(byte),
     }
+}
+
+/// The beginning of a block with this opcode and type.
+#[tactic(auto, unfolding(crate::specs::internal::CodeReading::block_with))]
+fn block_with(byte: u8, offset: u32, block_type: BlockType) -> Result<Instruction, LoadFault>
+    ensures { Gives (λ i. i) result (block_with byte block_type) }
+{
+    match byte {
+        0x02 => Ok(Instruction::Block(block_type)),
+        0x03 => Ok(Instruction::Loop(block_type)),
+        0x04 => Ok(Instruction::If(block_type)),
+        _ => Err(unknown(byte, offset)),
+    }
+}
+
+/// The branch of this opcode, to this label.
+#[tactic(auto, unfolding(crate::specs::internal::CodeReading::branch_with))]
+fn branch_with(byte: u8, offset: u32, label: u32) -> Result<Instruction, LoadFault>
+    ensures { Gives (λ i. i) result (branch_with byte label) }
+{
+    match byte {
+        0x0C => Ok(Instruction::Br(label)),
+        0x0D => Ok(Instruction::BrIf(label)),
+        _ => Err(unknown(byte, offset)),
+    }
+}
+
+fn branch_table(alloc: Global, cursor: &mut Cursor<'_>) -> Result<Instruction, LoadFault>
+    ensures { Gives (λ x. (x, cursor.new)) result (branch_table_at cursor.old) }
+{
+    let (labels, default): (Items<u32>, u32) = Decode::decode(alloc, cursor)?;
+    Ok(Instruction::BrTable(BranchTable::new(alloc, labels, default)?))
+}
+
+fn call_indirect(cursor: &mut Cursor<'_>) -> Result<Instruction, LoadFault>
+    ensures { Gives (λ x. (x, cursor.new)) result (call_indirect_at cursor.old) }
+{
+    let index = cursor.u32()?;
+    cursor.zero()?;
+    Ok(Instruction::CallIndirect(index))
 }
 
 /// What follows an opcode of the control instructions (section 5.4.1).
@@ -122,25 +174,14 @@ fn control(
     match byte {
         0x00 => Ok(Instruction::Unreachable),
         0x01 => Ok(Instruction::Nop),
-        0x02 => Ok(Instruction::Block(BlockType::decode(alloc, cursor)?)),
-        0x03 => Ok(Instruction::Loop(BlockType::decode(alloc, cursor)?)),
-        0x04 => Ok(Instruction::If(BlockType::decode(alloc, cursor)?)),
+        0x02..=0x04 => block_with(byte, offset, BlockType::decode(alloc, cursor)?),
         0x05 => Ok(Instruction::Else),
         0x0B => Ok(Instruction::End),
-        0x0C => Ok(Instruction::Br(cursor.u32()?)),
-        0x0D => Ok(Instruction::BrIf(cursor.u32()?)),
-        0x0E => {
-            let labels = cursor.vector(alloc)?;
-            let default = cursor.u32()?;
-            Ok(Instruction::BrTable(BranchTable::new(alloc, labels, default)?))
-        }
+        0x0C..=0x0D => branch_with(byte, offset, cursor.u32()?),
+        0x0E => branch_table(alloc, cursor),
         0x0F => Ok(Instruction::Return),
         0x10 => Ok(Instruction::Call(cursor.u32()?)),
-        0x11 => {
-            let index = cursor.u32()?;
-            cursor.zero()?;
-            Ok(Instruction::CallIndirect(index))
-        }
+        0x11 => call_indirect(cursor),
         _ => Err(unknown(byte, offset)),
     }
 }

@@ -1,14 +1,14 @@
 //! A place in the bytes of a module.
 
 ghost use Rattle.std.specs.Prelude.{◌≡◌, ◌==◌, ◌^◌, ◌<◌, ◌≤◌, [], length, IfOk, MatchResult};
-ghost use Rattle.wasm_module.specs.internal.CodeReading.{s32_at, s64_at, code_at};
+ghost use Rattle.wasm_module.specs.internal.CodeReading.{s32_at, s64_at, one_more_at, code_at};
 ghost use Rattle.wasm_module.specs.internal.Reading.{Gives, Reader, byte_at, u32_at, next_at, begins, many_at, vector_at, piece_at, whole, sized_at, raw_of, text_of, name_at, custom_of, customs_at, section_at};
 
 use crate::fault::LoadFault;
 use crate::instruction::Instruction;
 use crate::items::{Bytes, Items, Name};
 use crate::number::{Sign, Span, number};
-use crate::open_blocks::{OpenBlock, OpenBlocks};
+use crate::open_blocks::OpenBlocks;
 use std::alloc::Global;
 use std::marker::Model;
 
@@ -34,6 +34,37 @@ pub trait Decode<'a>: Drop {
     /// The value at the cursor, which goes past it.
     fn decode(alloc: Global, cursor: &mut Cursor<'a>) -> Result<Self, LoadFault>
         ensures { Gives (λ x. (x, cursor.new)) result (at cursor.old) };
+}
+
+// One after the other. A value that is read piece by piece is dropped at each later exit; read in
+// one call it has one.
+impl<'a, A: Decode<'a>, B: Decode<'a>> Decode<'a> for (A, B) {
+    ghost use Rattle.wasm_module.specs.internal.Reading.{then_at};
+
+    ghost at = { then_at A.at B.at };
+
+    fn decode(alloc: Global, cursor: &mut Cursor<'a>) -> Result<(A, B), LoadFault> {
+        let first = A::decode(alloc, cursor)?;
+        let second = B::decode(alloc, cursor)?;
+        Ok((first, second))
+    }
+}
+
+impl<'a> Decode<'a> for Name<'a> {
+    ghost at = { name_at };
+
+    fn decode(_alloc: Global, cursor: &mut Cursor<'a>) -> Result<Name<'a>, LoadFault> {
+        cursor.name()
+    }
+}
+
+/// Bytes after their count.
+impl<'a> Decode<'a> for Bytes<'a> {
+    ghost at = { sized_at raw_of };
+
+    fn decode(_alloc: Global, cursor: &mut Cursor<'a>) -> Result<Bytes<'a>, LoadFault> {
+        Ok(cursor.sized_piece()?.bytes())
+    }
 }
 
 impl<'a> Cursor<'a> {
@@ -180,6 +211,15 @@ impl<'a> Cursor<'a> {
         Ok(Cursor { rest: front, end })
     }
 
+    /// The next bytes, by themselves, after their count.
+    #[tactic(auto, unfolding(crate::specs::internal::Reading::sized_at, crate::specs::internal::Reading::raw_of))]
+    pub fn sized_piece(&mut self) -> Result<Cursor<'a>, LoadFault>
+        ensures { Gives (λ x. (x, self.new)) result (sized_at raw_of self.old) }
+    {
+        let size = self.u32()?;
+        self.piece(size)
+    }
+
     #[tactic(auto, unfolding(crate::specs::internal::Reading::vector_at))]
     pub fn vector<T: Decode<'a>>(&mut self, alloc: Global) -> Result<Items<T>, LoadFault>
         ensures { Gives (λ x. (x, self.new)) result (vector_at T.at self.old) }
@@ -231,24 +271,13 @@ impl<'a> Cursor<'a> {
     }
 
     /// A value after its size, in the part that begins at this offset.
-    #[tactic(auto, unfolding(crate::specs::internal::Reading::sized_at))]
     pub fn sized<T: Decode<'a>>(&mut self, alloc: Global, part: u32) -> Result<T, LoadFault>
         ensures { Gives (λ x. (x, self.new)) result (sized_at (whole T.at) self.old) }
     {
-        let size = self.u32()?;
-        match self.piece(size)?.whole(alloc, part) {
+        match self.sized_piece()?.whole(alloc, part) {
             Ok(value) => Ok(value),
             Err(fault) => Err(fault.inside(part)),
         }
-    }
-
-    /// Bytes after their count.
-    #[tactic(auto, unfolding(crate::specs::internal::Reading::sized_at, crate::specs::internal::Reading::raw_of))]
-    pub fn sized_bytes(&mut self) -> Result<Bytes<'a>, LoadFault>
-        ensures { Gives (λ x. (x, self.new)) result (sized_at raw_of self.old) }
-    {
-        let size = self.u32()?;
-        Ok(self.piece(size)?.bytes())
     }
 
     /// All of the bytes, as a name.
@@ -264,12 +293,11 @@ impl<'a> Cursor<'a> {
         }
     }
 
-    #[tactic(auto, unfolding(crate::specs::internal::Reading::sized_at, crate::specs::internal::Reading::name_at))]
-    pub fn name(&mut self) -> Result<Name<'a>, LoadFault>
+    #[tactic(auto, unfolding(crate::specs::internal::Reading::name_at))]
+    fn name(&mut self) -> Result<Name<'a>, LoadFault>
         ensures { Gives (λ x. (x, self.new)) result (name_at self.old) }
     {
-        let size = self.u32()?;
-        self.piece(size)?.text()
+        self.sized_piece()?.text()
     }
 
     /// The content of the custom section that begins at this offset: its name is read, and
@@ -284,12 +312,10 @@ impl<'a> Cursor<'a> {
         }
     }
 
-    #[tactic(auto, unfolding(crate::specs::internal::Reading::sized_at))]
     fn custom(&mut self, section: u32) -> Result<(), LoadFault>
         ensures { Gives (λ x. (x, self.new)) result (sized_at custom_of self.old) }
     {
-        let size = self.u32()?;
-        self.piece(size)?.custom_content(section)
+        self.sized_piece()?.custom_content(section)
     }
 
     /// Goes past the custom sections at the front.
@@ -323,21 +349,34 @@ impl<'a> Cursor<'a> {
         Ok(Some(value))
     }
 
+    /// One instruction more of a code with open blocks.
+    #[tactic(auto, unfolding(crate::specs::internal::CodeReading::one_more_at))]
+    fn one_more(
+        &mut self,
+        alloc: Global,
+        code: &mut Vec<Instruction>,
+        blocks: &mut OpenBlocks,
+    ) -> Result<(), LoadFault>
+        ensures { Gives (λ _. ((code.new.items, blocks.new), self.new)) result (one_more_at code.old.items blocks.old self.old) }
+    {
+        let offset = self.offset();
+        let instruction = Instruction::decode(alloc, self)?;
+        blocks.step(&instruction, offset)?;
+        code.push(instruction)?;
+        Ok(())
+    }
+
     /// Instructions up to the one that closes the expression (section 5.4.6).
-    #[tactic(auto, using(crate::proofs::Steps::code_more, crate::proofs::Steps::code_done), unfolding(crate::specs::internal::CodeReading::code_at))]
+    #[tactic(auto, unfolding(crate::specs::internal::CodeReading::code_at))]
     pub fn code(&mut self, alloc: Global) -> Result<Items<Instruction>, LoadFault>
         ensures { Gives (λ x. (x, self.new)) result (code_at self.old) }
     {
         let begin = self.offset();
+        let mut blocks = OpenBlocks::one(alloc)?;
         let mut code = Vec::new(alloc);
-        let mut open = OpenBlocks::new(alloc);
-        open.push(OpenBlock::Plain)?;
         for _ in 0..self.len() {
-            let offset = self.offset();
-            let instruction = Instruction::decode(alloc, self)?;
-            open.step(&instruction, offset)?;
-            code.push(instruction)?;
-            if open.is_empty() {
+            self.one_more(alloc, &mut code, &mut blocks)?;
+            if blocks.is_empty() {
                 return Ok(Items::from_vec(code, begin));
             }
         }

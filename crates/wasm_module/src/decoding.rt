@@ -2,8 +2,8 @@
 
 ghost use Rattle.std.specs.Prelude.{◌≡◌, ◌≢◌, ℕ, List, IfOk, IfErr};
 ghost use Rattle.wasm_module.specs.Module.{Spells};
-ghost use Rattle.wasm_module.specs.internal.ModuleReading.{preamble_at, list_at, code_parts_at, link_parts_at, storage_parts_at, sections_at, is_counted, counts_agree, module_and_count, module_from};
-ghost use Rattle.wasm_module.specs.internal.Reading.{Gives, Allows, map_at};
+ghost use Rattle.wasm_module.specs.internal.ModuleReading.{word_at, preamble_at, list_at, code_parts_at, start_parts_at, link_parts_at, storage_parts_at, sections_at, decoded_of, is_counted, counts_agree, module_and_count, module_from};
+ghost use Rattle.wasm_module.specs.internal.Reading.{Gives, Allows, map_at, then_at};
 ghost use Rattle.wasm_module.specs.internal.TypesReading.{table_at};
 ghost use Rattle.wasm_module.specs.declared.module.Module.{Module as ModuleValue};
 
@@ -11,7 +11,9 @@ use crate::cursor::{Cursor, Decode};
 use crate::fault::LoadFault;
 use crate::items::Items;
 use crate::limits;
-use crate::module::{Body, DataSegment, ElementSegment, Export, GlobalEntry, Limits, Module};
+use crate::module::{
+    Body, DataSegment, ElementSegment, Export, FuncType, GlobalEntry, Import, Limits, Module,
+};
 use crate::parts::Tables;
 use std::alloc::Global;
 
@@ -21,7 +23,17 @@ const MOST_BYTES: u32 = 67_108_864;
 /// The greatest id of a section.
 const LAST_SECTION: u8 = 12;
 
-#[tactic(auto, unfolding(crate::specs::internal::ModuleReading::preamble_at))]
+/// Four bytes, which have to be these.
+#[tactic(auto, unfolding(crate::specs::internal::ModuleReading::word_at))]
+fn word(cursor: &mut Cursor<'_>, bytes: (u8, u8, u8, u8), fault: LoadFault) -> Result<(), LoadFault>
+    ensures { Gives (λ x. (x, cursor.new)) result (word_at bytes.0 bytes.1 bytes.2 bytes.3 cursor.old) }
+{
+    cursor.expect(bytes.0, fault)?;
+    cursor.expect(bytes.1, fault)?;
+    cursor.expect(bytes.2, fault)?;
+    cursor.expect(bytes.3, fault)
+}
+
 fn preamble(cursor: &mut Cursor<'_>) -> Result<(), LoadFault>
     ensures { Gives (λ x. (x, cursor.new)) result (preamble_at cursor.old) }
 {
@@ -38,14 +50,8 @@ fn preamble(cursor: &mut Cursor<'_>) -> Result<(), LoadFault>
     } else {
         LoadFault::BadVersion { offset: 4 }
     };
-    cursor.expect(0x00, magic)?;
-    cursor.expect(0x61, magic)?;
-    cursor.expect(0x73, magic)?;
-    cursor.expect(0x6D, magic)?;
-    cursor.expect(0x01, version)?;
-    cursor.expect(0x00, version)?;
-    cursor.expect(0x00, version)?;
-    cursor.expect(0x00, version)
+    word(cursor, (0x00, 0x61, 0x73, 0x6D), magic)?;
+    word(cursor, (0x01, 0x00, 0x00, 0x00), version)
 }
 
 /// A section that is a list; one that is absent is empty.
@@ -60,6 +66,19 @@ fn list<'a, T: Decode<'a>>(
         Some(items) => Ok(items),
         None => Ok(Items::new(alloc)),
     }
+}
+
+/// Two such sections, one after the other.
+fn two_lists<'a, A: Decode<'a>, B: Decode<'a>>(
+    alloc: Global,
+    cursor: &mut Cursor<'a>,
+    ids: (u8, u8),
+) -> Result<(Items<A>, Items<B>), LoadFault>
+    ensures { Gives (λ x. (x, cursor.new)) result (then_at (list_at ids.0 A.at) (list_at ids.1 B.at) cursor.old) }
+{
+    let first = list(alloc, cursor, ids.0)?;
+    let second = list(alloc, cursor, ids.1)?;
+    Ok((first, second))
 }
 
 fn tables(alloc: Global, cursor: &mut Cursor<'_>) -> Result<Items<Limits>, LoadFault>
@@ -80,13 +99,19 @@ struct CodeParts<'a> {
     data_segments: Items<DataSegment<'a>>,
 }
 
+/// What the sections from the start function on hold.
+#[derive(Drop)]
+struct StartParts<'a> {
+    start: Option<u32>,
+    element_segments: Items<ElementSegment>,
+    code: CodeParts<'a>,
+}
+
 /// What the sections from the exports on hold.
 #[derive(Drop)]
 struct LinkParts<'a> {
     exports: Items<Export<'a>>,
-    start: Option<u32>,
-    element_segments: Items<ElementSegment>,
-    code: CodeParts<'a>,
+    rest: StartParts<'a>,
 }
 
 /// What the sections from the tables on hold.
@@ -98,15 +123,15 @@ struct StorageParts<'a> {
     link: LinkParts<'a>,
 }
 
-// Four functions read the sections: where one can't be read, what was read before it is let go,
-// and in a single function that would be eleven lists at thirteen exits.
+// Several functions read the sections, two lists at a time where they can: where one can't be read,
+// what was read before it is let go, and in one function that would be eleven lists at thirteen
+// exits.
 
 fn code_parts<'a>(alloc: Global, cursor: &mut Cursor<'a>) -> Result<CodeParts<'a>, LoadFault>
     ensures { Gives (λ x. ((x.data_count, (x.bodies, x.data_segments)), cursor.new)) result (code_parts_at cursor.old) }
 {
     let data_count = cursor.section(alloc, 12)?;
-    let bodies = list(alloc, cursor, 10)?;
-    let data_segments = list(alloc, cursor, 11)?;
+    let (bodies, data_segments) = two_lists(alloc, cursor, (10, 11))?;
     Ok(CodeParts {
         data_count,
         bodies,
@@ -114,27 +139,32 @@ fn code_parts<'a>(alloc: Global, cursor: &mut Cursor<'a>) -> Result<CodeParts<'a
     })
 }
 
-fn link_parts<'a>(alloc: Global, cursor: &mut Cursor<'a>) -> Result<LinkParts<'a>, LoadFault>
-    ensures { Gives (λ x. ((x.exports, (x.start, (x.element_segments, (x.code.data_count, (x.code.bodies, x.code.data_segments))))), cursor.new)) result (link_parts_at cursor.old) }
+fn start_parts<'a>(alloc: Global, cursor: &mut Cursor<'a>) -> Result<StartParts<'a>, LoadFault>
+    ensures { Gives (λ x. ((x.start, (x.element_segments, (x.code.data_count, (x.code.bodies, x.code.data_segments)))), cursor.new)) result (start_parts_at cursor.old) }
 {
-    let exports = list(alloc, cursor, 7)?;
     let start = cursor.section(alloc, 8)?;
     let element_segments = list(alloc, cursor, 9)?;
     let code = code_parts(alloc, cursor)?;
-    Ok(LinkParts {
-        exports,
+    Ok(StartParts {
         start,
         element_segments,
         code,
     })
 }
 
+fn link_parts<'a>(alloc: Global, cursor: &mut Cursor<'a>) -> Result<LinkParts<'a>, LoadFault>
+    ensures { Gives (λ x. ((x.exports, (x.rest.start, (x.rest.element_segments, (x.rest.code.data_count, (x.rest.code.bodies, x.rest.code.data_segments))))), cursor.new)) result (link_parts_at cursor.old) }
+{
+    let exports = list(alloc, cursor, 7)?;
+    let rest = start_parts(alloc, cursor)?;
+    Ok(LinkParts { exports, rest })
+}
+
 fn storage_parts<'a>(alloc: Global, cursor: &mut Cursor<'a>) -> Result<StorageParts<'a>, LoadFault>
-    ensures { Gives (λ x. ((x.tables, (x.memories, (x.globals, (x.link.exports, (x.link.start, (x.link.element_segments, (x.link.code.data_count, (x.link.code.bodies, x.link.code.data_segments)))))))), cursor.new)) result (storage_parts_at cursor.old) }
+    ensures { Gives (λ x. ((x.tables, (x.memories, (x.globals, (x.link.exports, (x.link.rest.start, (x.link.rest.element_segments, (x.link.rest.code.data_count, (x.link.rest.code.bodies, x.link.rest.code.data_segments)))))))), cursor.new)) result (storage_parts_at cursor.old) }
 {
     let tables = tables(alloc, cursor)?;
-    let memories = list(alloc, cursor, 5)?;
-    let globals = list(alloc, cursor, 6)?;
+    let (memories, globals) = two_lists(alloc, cursor, (5, 6))?;
     let link = link_parts(alloc, cursor)?;
     Ok(StorageParts {
         tables,
@@ -142,6 +172,34 @@ fn storage_parts<'a>(alloc: Global, cursor: &mut Cursor<'a>) -> Result<StoragePa
         globals,
         link,
     })
+}
+
+/// The module of these parts, and how many data segments it says that it has.
+fn assembled<'a>(
+    types: Items<FuncType>,
+    imports: Items<Import<'a>>,
+    functions: Items<u32>,
+    storage: StorageParts<'a>,
+) -> (Module<'a>, Option<u32>)
+    ensures { result ≡ decoded_of (tt, (types, (imports.entry, (functions, (storage.entry.tables, (storage.entry.memories, (storage.entry.globals, (storage.entry.link.exports, (storage.entry.link.rest.start, (storage.entry.link.rest.element_segments, (storage.entry.link.rest.code.data_count, (storage.entry.link.rest.code.bodies, storage.entry.link.rest.code.data_segments)))))))))))) }
+{
+    let link = storage.link;
+    let rest = link.rest;
+    let code = rest.code;
+    let decoded = Module {
+        types,
+        imports,
+        functions,
+        tables: storage.tables,
+        memories: storage.memories,
+        globals: storage.globals,
+        exports: link.exports,
+        start: rest.start,
+        element_segments: rest.element_segments,
+        bodies: code.bodies,
+        data_segments: code.data_segments,
+    };
+    (decoded, code.data_count)
 }
 
 /// The sections in their order: the module, and how many data segments it says that it has.
@@ -153,25 +211,9 @@ fn sections<'a>(
 {
     cursor.customs()?;
     let types = list(alloc, cursor, 1)?;
-    let imports = list(alloc, cursor, 2)?;
-    let functions = list(alloc, cursor, 3)?;
+    let (imports, functions) = two_lists(alloc, cursor, (2, 3))?;
     let storage = storage_parts(alloc, cursor)?;
-    let link = storage.link;
-    let code = link.code;
-    let decoded = Module {
-        types,
-        imports,
-        functions,
-        tables: storage.tables,
-        memories: storage.memories,
-        globals: storage.globals,
-        exports: link.exports,
-        start: link.start,
-        element_segments: link.element_segments,
-        bodies: code.bodies,
-        data_segments: code.data_segments,
-    };
-    Ok((decoded, code.data_count))
+    Ok(assembled(types, imports, functions, storage))
 }
 
 /// Why no section can begin here, where all that may follow have been looked for.

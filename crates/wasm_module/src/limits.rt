@@ -56,8 +56,8 @@ pub fn fits_profile(types: &[FuncType], functions: &[u32], bodies: &[Body<'_>]) 
 /// Where the type index of the function at this position stands.
 fn index_offset(input: &[u8], functions: &Items<u32>, position: usize) -> Result<u32, LoadFault> {
     let mut cursor = Cursor::at(input, functions.offset());
-    cursor.u32()?;
-    for _ in 0..position {
+    // The count, and the indices before it.
+    for _ in 0..=position {
         cursor.u32()?;
     }
     Ok(cursor.offset())
@@ -66,17 +66,17 @@ fn index_offset(input: &[u8], functions: &Items<u32>, position: usize) -> Result
 /// Where the count of the first group stands with which there are too many locals.
 fn group_offset(body: &Body<'_>, params: u64) -> Result<u32, LoadFault> {
     let mut cursor = Cursor::of(&body.bytes);
-    let groups = cursor.u32()?;
+    cursor.u32()?;
     let mut count = params;
-    for _ in 0..groups {
-        let offset = cursor.offset();
-        count = count.saturating_add(u64::from(cursor.u32()?));
+    for group in body.locals.as_slice() {
+        count = count.saturating_add(u64::from(group.count));
         if count > MOST_LOCALS {
-            return Ok(offset);
+            break;
         }
+        cursor.u32()?;
         cursor.byte()?;
     }
-    Ok(body.bytes.offset())
+    Ok(cursor.offset())
 }
 
 /// Where the number stands with which a function has too many parameters and locals.

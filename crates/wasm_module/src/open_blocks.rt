@@ -33,14 +33,15 @@ impl Model for OpenBlocks {
 }
 
 impl OpenBlocks {
-    ghost use Rattle.std.specs.Prelude.{◌≡◌, [], ◌∷◌, length, ◌==◌, OnOk, MatchOption};
+    ghost use Rattle.std.specs.Prelude.{◌≡◌, [], ◌∷◌, length, ◌==◌, IfOk, OnOk, MatchOption};
 
-    pub fn new(alloc: Global) -> OpenBlocks
-        ensures { result ≡ [] }
+    /// An expression is open, and no block in it.
+    pub fn one(alloc: Global) -> Result<OpenBlocks, AllocError>
+        ensures { IfOk result (λ blocks. blocks ≡ OpenBlock.Plain ∷ []) }
     {
-        OpenBlocks {
-            blocks: Vec::new(alloc),
-        }
+        let mut blocks = Vec::new(alloc);
+        blocks.push(OpenBlock::Plain)?;
+        Ok(OpenBlocks { blocks })
     }
 
     pub fn is_empty(&self) -> bool
@@ -54,6 +55,14 @@ impl OpenBlocks {
     {
         self.blocks.push(block)?;
         Ok(())
+    }
+
+    /// Opens a block, and one inside it.
+    fn push_both(&mut self, outer: OpenBlock, inner: OpenBlock) -> Result<(), AllocError>
+        ensures { OnOk result (self.new ≡ inner ∷ (outer ∷ self.old)) }
+    {
+        self.push(outer)?;
+        self.push(inner)
     }
 
     pub fn pop(&mut self) -> Option<OpenBlock>
@@ -72,13 +81,9 @@ impl OpenBlocks {
         };
         match instruction {
             Instruction::Block(_) | Instruction::Loop(_) => {
-                self.push(block)?;
-                self.push(OpenBlock::Plain)?;
+                self.push_both(block, OpenBlock::Plain)?;
             }
-            Instruction::If(_) => {
-                self.push(block)?;
-                self.push(OpenBlock::Conditional)?;
-            }
+            Instruction::If(_) => self.push_both(block, OpenBlock::Conditional)?,
             Instruction::Else => {
                 if block != OpenBlock::Conditional {
                     return Err(LoadFault::BadByte { offset });

@@ -1,13 +1,14 @@
 //! What the parts of a module are read from (sections 5.3 to 5.5).
 
+ghost use Rattle.wasm_module.specs.internal.CodeReading.{code_at};
 ghost use Rattle.wasm_module.specs.internal.ModuleReading.{body_of};
 ghost use Rattle.wasm_module.specs.internal.Reading.{Gives, many_at};
 ghost use Rattle.wasm_module.specs.internal.TypesReading.{value_type_of, table_at, mutability_at};
 
 use crate::cursor::{Cursor, Decode};
 use crate::fault::LoadFault;
-use crate::instruction::{BlockType, ValueType};
-use crate::items::Items;
+use crate::instruction::{BlockType, Instruction, ValueType};
+use crate::items::{Bytes, Items};
 use crate::module::{
     Body, DataSegment, ElementSegment, Export, ExportKind, FuncType, GlobalEntry, GlobalType,
     Import, ImportKind, Limits, Locals,
@@ -65,8 +66,7 @@ impl<'a> Decode<'a> for FuncType {
     fn decode(alloc: Global, cursor: &mut Cursor<'a>) -> Result<FuncType, LoadFault> {
         let offset = cursor.offset();
         cursor.expect(0x60, LoadFault::BadByte { offset })?;
-        let params = cursor.vector(alloc)?;
-        let results = cursor.vector(alloc)?;
+        let (params, results) = Decode::decode(alloc, cursor)?;
         Ok(FuncType { params, results })
     }
 }
@@ -77,7 +77,7 @@ impl<'a> Decode<'a> for Limits {
     ghost at = { limits_at };
 
     #[tactic(auto, unfolding(crate::specs::internal::TypesReading::limits_at, crate::specs::internal::TypesReading::bounds_after))]
-    fn decode(_alloc: Global, cursor: &mut Cursor<'a>) -> Result<Limits, LoadFault> {
+    fn decode(alloc: Global, cursor: &mut Cursor<'a>) -> Result<Limits, LoadFault> {
         let offset = cursor.offset();
         match cursor.byte()? {
             0x00 => {
@@ -85,8 +85,7 @@ impl<'a> Decode<'a> for Limits {
                 Ok(Limits { min, max: None })
             }
             0x01 => {
-                let min = cursor.u32()?;
-                let max = cursor.u32()?;
+                let (min, max) = Decode::decode(alloc, cursor)?;
                 Ok(Limits {
                     min,
                     max: Some(max),
@@ -153,15 +152,18 @@ impl<'a> Decode<'a> for Tables {
     }
 }
 
-#[tactic(auto, unfolding(crate::specs::internal::TypesReading::mutability_at))]
-fn mutability(cursor: &mut Cursor<'_>) -> Result<bool, LoadFault>
-    ensures { Gives (λ x. (x, cursor.new)) result (mutability_at cursor.old) }
-{
-    let offset = cursor.offset();
-    match cursor.byte()? {
-        0x00 => Ok(false),
-        0x01 => Ok(true),
-        _ => Err(LoadFault::BadByte { offset }),
+/// Whether a global may change.
+impl<'a> Decode<'a> for bool {
+    ghost at = { mutability_at };
+
+    #[tactic(auto, unfolding(crate::specs::internal::TypesReading::mutability_at))]
+    fn decode(_alloc: Global, cursor: &mut Cursor<'a>) -> Result<bool, LoadFault> {
+        let offset = cursor.offset();
+        match cursor.byte()? {
+            0x00 => Ok(false),
+            0x01 => Ok(true),
+            _ => Err(LoadFault::BadByte { offset }),
+        }
     }
 }
 
@@ -172,8 +174,7 @@ impl<'a> Decode<'a> for GlobalType {
 
     #[tactic(auto, unfolding(crate::specs::internal::TypesReading::global_type_at))]
     fn decode(alloc: Global, cursor: &mut Cursor<'a>) -> Result<GlobalType, LoadFault> {
-        let value_type = ValueType::decode(alloc, cursor)?;
-        let mutable = mutability(cursor)?;
+        let (value_type, mutable) = Decode::decode(alloc, cursor)?;
         Ok(GlobalType {
             value_type,
             mutable,
@@ -198,6 +199,30 @@ impl<'a, T: Decode<'a>> Decode<'a> for Items<T> {
 
     fn decode(alloc: Global, cursor: &mut Cursor<'a>) -> Result<Items<T>, LoadFault> {
         cursor.vector(alloc)
+    }
+}
+
+/// Instructions with the one that closes them, where a plain list is a vector of the format.
+#[derive(Drop)]
+struct Expression {
+    code: Items<Instruction>,
+}
+
+impl Model for Expression {
+    ghost use Rattle.std.specs.Prelude.{List};
+    ghost use Rattle.wasm_module.specs.declared.instruction.Instruction.{Instruction};
+
+    ghost Value = { List Instruction };
+
+    ghost view = { λ e. e.code };
+}
+
+impl<'a> Decode<'a> for Expression {
+    ghost at = { code_at };
+
+    fn decode(alloc: Global, cursor: &mut Cursor<'a>) -> Result<Expression, LoadFault> {
+        let code = cursor.code(alloc)?;
+        Ok(Expression { code })
     }
 }
 
@@ -226,9 +251,7 @@ impl<'a> Decode<'a> for Import<'a> {
 
     #[tactic(auto, unfolding(crate::specs::internal::ModuleReading::import_at))]
     fn decode(alloc: Global, cursor: &mut Cursor<'a>) -> Result<Import<'a>, LoadFault> {
-        let module_name = cursor.name()?;
-        let name = cursor.name()?;
-        let kind = ImportKind::decode(alloc, cursor)?;
+        let (module_name, (name, kind)) = Decode::decode(alloc, cursor)?;
         Ok(Import {
             module_name,
             name,
@@ -244,9 +267,11 @@ impl<'a> Decode<'a> for GlobalEntry {
 
     #[tactic(auto, unfolding(crate::specs::internal::ModuleReading::global_at))]
     fn decode(alloc: Global, cursor: &mut Cursor<'a>) -> Result<GlobalEntry, LoadFault> {
-        let global_type = GlobalType::decode(alloc, cursor)?;
-        let init = cursor.code(alloc)?;
-        Ok(GlobalEntry { global_type, init })
+        let (global_type, init): (GlobalType, Expression) = Decode::decode(alloc, cursor)?;
+        Ok(GlobalEntry {
+            global_type,
+            init: init.code,
+        })
     }
 }
 
@@ -258,12 +283,16 @@ impl<'a> Decode<'a> for ExportKind {
     #[tactic(auto, unfolding(crate::specs::internal::ModuleReading::export_kind_at, crate::specs::internal::ModuleReading::export_after))]
     fn decode(_alloc: Global, cursor: &mut Cursor<'a>) -> Result<ExportKind, LoadFault> {
         let offset = cursor.offset();
-        match cursor.byte()? {
-            0x00 => Ok(ExportKind::Function(cursor.u32()?)),
-            0x01 => Ok(ExportKind::Table(cursor.u32()?)),
-            0x02 => Ok(ExportKind::Memory(cursor.u32()?)),
-            0x03 => Ok(ExportKind::Global(cursor.u32()?)),
-            _ => Err(LoadFault::BadByte { offset }),
+        let byte = cursor.byte()?;
+        if byte > 0x03 {
+            return Err(LoadFault::BadByte { offset });
+        }
+        let index = cursor.u32()?;
+        match byte {
+            0x00 => Ok(ExportKind::Function(index)),
+            0x01 => Ok(ExportKind::Table(index)),
+            0x02 => Ok(ExportKind::Memory(index)),
+            _ => Ok(ExportKind::Global(index)),
         }
     }
 }
@@ -275,8 +304,7 @@ impl<'a> Decode<'a> for Export<'a> {
 
     #[tactic(auto, unfolding(crate::specs::internal::ModuleReading::export_at))]
     fn decode(alloc: Global, cursor: &mut Cursor<'a>) -> Result<Export<'a>, LoadFault> {
-        let name = cursor.name()?;
-        let kind = ExportKind::decode(alloc, cursor)?;
+        let (name, kind) = Decode::decode(alloc, cursor)?;
         Ok(Export { name, kind })
     }
 }
@@ -288,12 +316,12 @@ impl<'a> Decode<'a> for ElementSegment {
 
     #[tactic(auto, unfolding(crate::specs::internal::ModuleReading::elements_at))]
     fn decode(alloc: Global, cursor: &mut Cursor<'a>) -> Result<ElementSegment, LoadFault> {
-        let table = cursor.u32()?;
-        let offset = cursor.code(alloc)?;
-        let functions = cursor.vector(alloc)?;
+        let (table, (offset, functions)): (u32, (Expression, Items<u32>)) = Decode::decode(
+            alloc, cursor,
+        )?;
         Ok(ElementSegment {
             table,
-            offset,
+            offset: offset.code,
             functions,
         })
     }
@@ -306,27 +334,22 @@ impl<'a> Decode<'a> for Locals {
 
     #[tactic(auto, unfolding(crate::specs::internal::ModuleReading::locals_at))]
     fn decode(alloc: Global, cursor: &mut Cursor<'a>) -> Result<Locals, LoadFault> {
-        let count = cursor.u32()?;
-        let value_type = ValueType::decode(alloc, cursor)?;
+        let (count, value_type) = Decode::decode(alloc, cursor)?;
         Ok(Locals { count, value_type })
     }
 }
 
 /// A function's body, which fills the bytes; its size stands at this offset.
 #[tactic(auto, unfolding(crate::specs::internal::ModuleReading::body_of))]
-fn body<'a>(alloc: Global, mut cursor: Cursor<'a>, size: u32) -> Result<Body<'a>, LoadFault>
+fn body<'a>(alloc: Global, cursor: Cursor<'a>, size: u32) -> Result<Body<'a>, LoadFault>
     ensures { Gives (λ b. b) result (body_of cursor.entry) }
 {
     let bytes = cursor.bytes();
-    let locals = cursor.vector(alloc)?;
-    let code = cursor.code(alloc)?;
-    if !cursor.is_empty() {
-        return Err(LoadFault::SectionSize { offset: size });
-    }
+    let (locals, code): (Items<Locals>, Expression) = cursor.whole(alloc, size)?;
     Ok(Body {
         bytes,
         locals,
-        code,
+        code: code.code,
     })
 }
 
@@ -335,11 +358,10 @@ impl<'a> Decode<'a> for Body<'a> {
 
     ghost at = { body_at };
 
-    #[tactic(auto, unfolding(crate::specs::internal::ModuleReading::body_at, crate::specs::internal::Reading::sized_at))]
+    #[tactic(auto, unfolding(crate::specs::internal::ModuleReading::body_at))]
     fn decode(alloc: Global, cursor: &mut Cursor<'a>) -> Result<Body<'a>, LoadFault> {
         let offset = cursor.offset();
-        let size = cursor.u32()?;
-        match body(alloc, cursor.piece(size)?, offset) {
+        match body(alloc, cursor.sized_piece()?, offset) {
             Ok(body) => Ok(body),
             Err(fault) => Err(fault.inside(offset)),
         }
@@ -353,12 +375,12 @@ impl<'a> Decode<'a> for DataSegment<'a> {
 
     #[tactic(auto, unfolding(crate::specs::internal::ModuleReading::data_at))]
     fn decode(alloc: Global, cursor: &mut Cursor<'a>) -> Result<DataSegment<'a>, LoadFault> {
-        let memory = cursor.u32()?;
-        let offset = cursor.code(alloc)?;
-        let bytes = cursor.sized_bytes()?;
+        let (memory, (offset, bytes)): (u32, (Expression, Bytes<'a>)) = Decode::decode(
+            alloc, cursor,
+        )?;
         Ok(DataSegment {
             memory,
-            offset,
+            offset: offset.code,
             bytes,
         })
     }

@@ -1,12 +1,15 @@
 -- What was made is an instance, or there is a reason why it wasn't.
-use Rattle.std.proofs.Common.{◌≡◌, ℕ, ◌*◌, ◌≤◌, List, [], ◌∷◌, ◌++◌, replicate, None, refl, sym, ap, ◌∙◌, subst}
+use Rattle.std.proofs.Common.{◌≡◌, ℕ, ◌*◌, ◌≤◌, List, [], ◌∷◌, ◌++◌, replicate, None, Result, Ok, Err, IfOk, IfErr, refl, sym, ap, subst}
+use Rattle.std.specs.Result.{IsErrAnd}
 use Rattle.std.specs.Option.{option_to_list}
 use Rattle.wasm_module.specs.declared.module.Module.{Module}
 use Rattle.wasm_valid.specs.Validity.{IsValid}
 use Rattle.wasm_store.specs.declared.instantiation.Instantiated.{Instantiated}
+use Rattle.wasm_store.specs.declared.fault.InstanceFault.{InstanceFault}
+use Rattle.wasm_store.specs.declared.fault.InstanceFault.TheVariants as faults
 use Rattle.wasm_store.specs.Values.{Val, numbers}
-use Rattle.wasm_store.specs.Instantiation.{LinksOf, IsStart, minimum, page_limit, ElementsInside, DataInside, with_elements, with_data}
-use Rattle.wasm_store.specs.internal.Finding.{AreFound, HaveFirst}
+use Rattle.wasm_store.specs.Instantiation.{LinksOf, IsStart, CanStart, minimum, page_limit, ElementsInside, DataInside, with_elements, with_data, RefusedFor}
+use Rattle.wasm_store.specs.internal.Finding.{AreFound, HaveFirst, NotStored}
 use Rattle.wasm_store.specs.Instantiating.{IsInstantiated}
 use Rattle.wasm_store.proofs.Functions.{own_callees}
 
@@ -61,24 +64,19 @@ made links pages m r v p =
       main = refl;
     }
 
--- The same, with what the code calls these numbers and lists.
-pub made_from : (links : LinksOf) (pages : ℕ) (m : Module) (r : Instantiated) (initial size : ℕ) (first second third fourth : List ℕ)
-    → IsValid m → AreFound links m r.calls.items → IsStart m r.main → initial ≡ minimum m.memories → size ≡ minimum m.tables → initial ≤ pages → HaveFirst m r.globals
-    → first ≡ r.globals → ((vs : List Val) → numbers vs ≡ first → ElementsInside vs size m.element_segments)
-    → second ≡ r.globals → ((vs : List Val) → numbers vs ≡ second → DataInside vs (initial * 65536) m.data_segments)
-    → third ≡ r.globals → ((vs : List Val) → numbers vs ≡ third → r.memory ≡ with_data vs (replicate (initial * 65536) 0) m.data_segments)
-    → fourth ≡ r.globals → ((vs : List Val) → numbers vs ≡ fourth → r.table ≡ with_elements vs (replicate size None) m.element_segments)
-    → r.page_limit ≡ page_limit pages m.memories → r.start ≡ m.start → IsInstantiated links pages m r
-made_from links pages m r initial size first second third fourth v found is_start i s within have e1 elements e2 «data» e3 memory e4 table limit start =
-    made links pages m r v (record {
-      found = found;
-      is_start = is_start;
-      within_limit = subst (λ y. y ≤ pages) i within;
-      first = have;
-      elements_inside = λ vs n. subst (λ y. ElementsInside vs y m.element_segments) s (elements vs (n ∙ sym e1));
-      data_inside = λ vs n. subst (λ y. DataInside vs (y * 65536) m.data_segments) i («data» vs (n ∙ sym e2));
-      limit = limit;
-      table = λ vs n. table vs (n ∙ sym e4) ∙ ap (λ y. with_elements vs (replicate y None) m.element_segments) s;
-      memory = λ vs n. memory vs (n ∙ sym e3) ∙ ap (λ y. with_data vs (replicate (y * 65536) 0) m.data_segments) i;
-      start = start;
-    })
+-- where a segment is outside, there is no instance for that reason
+refused_for : (links : LinksOf) (pages : ℕ) (m : Module) (e : InstanceFault) → CanStart links m → minimum m.memories ≤ pages → NotStored m e → RefusedFor links pages m e
+refused_for links pages m faults.ElementOutOfBounds can within h = (can, within, h)
+refused_for links pages m faults.DataOutOfBounds can within h = (can, within, h)
+refused_for links pages m faults.Memory can within h = tt
+refused_for links pages m e can within h = absurd h
+
+-- the reason is handed on
+pub not_stored : (links : LinksOf) (pages : ℕ) (m : Module) (r : Result Instantiated InstanceFault) (e : InstanceFault) → IsErrAnd r (λ d. d ≡ e) → CanStart links m → minimum m.memories ≤ pages → NotStored m e → IfErr r (λ d. RefusedFor links pages m d)
+not_stored links pages m (Ok x) e is can within h = absurd is
+not_stored links pages m (Err d) e is can within h = subst (λ (f : InstanceFault). RefusedFor links pages m f) (sym is) (refused_for links pages m e can within h)
+
+-- an error says nothing of what is made
+pub none_made : (P : Instantiated → Type 0) (r : Result Instantiated InstanceFault) (e : InstanceFault) → IsErrAnd r (λ d. d ≡ e) → IfOk r P
+none_made P (Ok x) e is = absurd is
+none_made P (Err d) e is = tt

@@ -4,30 +4,54 @@ ghost use Rattle.std.specs.Prelude.{◌≡◌};
 ghost use Rattle.wasm_store.specs.declared.fault.InstanceFault.TheVariants.{Memory};
 
 use std::alloc::{AllocError, AllocFailed};
-use thiserror::Error;
+use std::error::Error;
+use std::fmt;
 
 /// Why a valid module can't be instantiated.
-#[derive(Clone, Copy, Debug, PartialEq, Eq, Error)]
+#[derive(Clone, Copy, PartialEq, Eq)]
 pub enum InstanceFault {
     /// An import is no function, or the host has no such call.
-    #[error("fault 13")]
     Import,
     /// No function `_start` of type `[] -> []` is exported.
-    #[error("fault 14")]
     NoStart,
     /// A data segment passes the end of memory.
-    #[error("fault 20")]
     DataOutOfBounds,
     /// An element segment passes the end of the table.
-    #[error("fault 21")]
     ElementOutOfBounds,
     /// Memory begins with more pages than the limit.
-    #[error("fault 22")]
     PageLimit,
     /// Memory was refused.
-    #[error("out of memory")]
     Memory,
 }
+
+impl InstanceFault {
+    fn text(self) -> &'static str {
+        match self {
+            InstanceFault::Import => "fault 13",
+            InstanceFault::NoStart => "fault 14",
+            InstanceFault::DataOutOfBounds => "fault 20",
+            InstanceFault::ElementOutOfBounds => "fault 21",
+            InstanceFault::PageLimit => "fault 22",
+            InstanceFault::Memory => "out of memory",
+        }
+    }
+}
+
+// By hand, since derived ones write each variant by itself.
+
+impl fmt::Display for InstanceFault {
+    fn fmt<W: fmt::Write>(&self, f: &mut fmt::Formatter<W>) -> fmt::Result {
+        f.write_str(self.text())
+    }
+}
+
+impl fmt::Debug for InstanceFault {
+    fn fmt<W: fmt::Write>(&self, f: &mut fmt::Formatter<W>) -> fmt::Result {
+        fmt::Display::fmt(self, f)
+    }
+}
+
+impl Error for InstanceFault {}
 
 impl From<AllocError> for InstanceFault {
     ghost from_gives = { λ _ e. e ≡ Memory };

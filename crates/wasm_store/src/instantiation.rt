@@ -6,7 +6,7 @@ ghost use Rattle.wasm_module.specs.declared.instruction.Instruction.{Instruction
 ghost use Rattle.wasm_valid.specs.Validity.{IsValid, functions_of, ExportFits};
 ghost use Rattle.wasm_store.specs.Values.{Val, numbers};
 ghost use Rattle.wasm_store.specs.Instantiation.{IsStart, AreFirst, minimum, page_limit as limit_of, segment_start, ElementsInside, ElementsOutside, DataInside, DataOutside, with_elements, with_data, RefusedFor};
-ghost use Rattle.wasm_store.specs.internal.Finding.{ImportsFunctions, HasType, StartsAt, AreFound, NotFound, HaveFirst};
+ghost use Rattle.wasm_store.specs.internal.Finding.{ImportsFunctions, HasType, StartsAt, AreFound, NotFound, HaveFirst, AreStored, NotStored};
 ghost use Rattle.wasm_store.specs.Instantiating.{IsInstantiated};
 
 use crate::call::HostCall;
@@ -60,6 +60,34 @@ pub fn instantiate<H: Host>(
     if pages < initial_pages {
         return Err(InstanceFault::PageLimit);
     }
+    let stores = first_stores(alloc, guest, initial_pages)?;
+    Ok(Instantiated {
+        calls,
+        memory: stores.memory,
+        page_limit: page_limit(memories, pages),
+        table: stores.table,
+        globals: stores.globals,
+        start: guest.start,
+        main,
+    })
+}
+
+/// What an instance keeps beside its calls.
+#[derive(Drop)]
+struct Stores {
+    globals: Globals,
+    memory: Memory,
+    table: Table,
+}
+
+/// The globals, the memory of this many pages and the table of a module, with the segments in them.
+fn first_stores(alloc: Global, guest: &Module, initial_pages: u32) -> Result<Stores, InstanceFault>
+    requires valid { IsValid guest.now }
+    requires functions { ImportsFunctions guest.now }
+    requires initial { initial_pages ≡ minimum guest.now.memories }
+    ensures stored { IfOk result (λ s. AreStored guest.now s.memory s.table s.globals) }
+    ensures refused { IfErr result (λ e. NotStored guest.now e) }
+{
     let globals = first_globals(alloc, guest)?;
     let table_size = minimum(guest.tables.as_slice());
     if !elements_fit(guest, globals.as_slice(), table_size as usize) {
@@ -69,14 +97,12 @@ pub fn instantiate<H: Host>(
     if !data_fits(guest, globals.as_slice(), memory_size) {
         return Err(InstanceFault::DataOutOfBounds);
     }
-    Ok(Instantiated {
-        calls,
-        memory: first_memory(alloc, guest, globals.as_slice(), initial_pages)?,
-        page_limit: page_limit(memories, pages),
-        table: first_table(alloc, guest, globals.as_slice(), table_size)?,
+    let memory = first_memory(alloc, guest, globals.as_slice(), initial_pages)?;
+    let table = first_table(alloc, guest, globals.as_slice(), table_size)?;
+    Ok(Stores {
         globals,
-        start: guest.start,
-        main,
+        memory,
+        table,
     })
 }
 

@@ -3,6 +3,7 @@ pub mod Apart
 pub mod Contexts
 pub mod Refusals
 pub mod Parts
+pub mod OfKind
 pub mod EachBody
 pub mod EachOne
 pub mod Assembled

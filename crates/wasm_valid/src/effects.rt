@@ -1,7 +1,7 @@
 //! What an instruction of fixed type takes from the stack and leaves there (section 3.3).
 
 ghost use Rattle.std.specs.Prelude.{◌≡◌};
-ghost use Rattle.wasm_valid.specs.internal.Effects.{effect, access, load, store, access_of, is_operator, numeric_effect};
+ghost use Rattle.wasm_valid.specs.internal.Effects.{effect, access, load, store, load_of, store_of, range_of, access_of, is_operator, numeric_effect};
 
 use wasm_module::{BlockType, Instruction, MemArg, UnaryOperator, ValueType};
 
@@ -72,12 +72,13 @@ fn unaligned(takes: Takes, gives: BlockType) -> Option<Access>
     })
 }
 
-/// An instruction on memory (section 3.3.4); None for any other.
-pub fn on_memory(instruction: &Instruction) -> Option<Access>
-    ensures { result ≡ access_of instruction.now }
+// Three functions tell the instructions on memory apart, since a match costs its proof the square of
+// its arms.
+
+/// A load; None for any other instruction.
+fn loaded(instruction: &Instruction) -> Option<Access>
+    ensures { result ≡ load_of instruction.now }
 {
-    let three = Takes::Three(ValueType::I32, ValueType::I32, ValueType::I32);
-    let address = BlockType::Value(ValueType::I32);
     match instruction {
         Instruction::I32Load(arg) => load(*arg, 2, ValueType::I32),
         Instruction::I64Load(arg) => load(*arg, 3, ValueType::I64),
@@ -91,6 +92,15 @@ pub fn on_memory(instruction: &Instruction) -> Option<Access>
         Instruction::I64Load16U(arg) => load(*arg, 1, ValueType::I64),
         Instruction::I64Load32S(arg) => load(*arg, 2, ValueType::I64),
         Instruction::I64Load32U(arg) => load(*arg, 2, ValueType::I64),
+        _ => None,
+    }
+}
+
+/// A store; None for any other instruction.
+fn stored(instruction: &Instruction) -> Option<Access>
+    ensures { result ≡ store_of instruction.now }
+{
+    match instruction {
         Instruction::I32Store(arg) => store(*arg, 2, ValueType::I32),
         Instruction::I64Store(arg) => store(*arg, 3, ValueType::I64),
         Instruction::I32Store8(arg) => store(*arg, 0, ValueType::I32),
@@ -98,12 +108,36 @@ pub fn on_memory(instruction: &Instruction) -> Option<Access>
         Instruction::I64Store8(arg) => store(*arg, 0, ValueType::I64),
         Instruction::I64Store16(arg) => store(*arg, 1, ValueType::I64),
         Instruction::I64Store32(arg) => store(*arg, 2, ValueType::I64),
+        _ => None,
+    }
+}
+
+/// An instruction on the whole memory or on a range of it; None for any other.
+fn ranged(instruction: &Instruction) -> Option<Access>
+    ensures { result ≡ range_of instruction.now }
+{
+    let three = Takes::Three(ValueType::I32, ValueType::I32, ValueType::I32);
+    let address = BlockType::Value(ValueType::I32);
+    match instruction {
         Instruction::MemorySize => unaligned(Takes::Nothing, address),
         Instruction::MemoryGrow => unaligned(Takes::One(ValueType::I32), address),
         Instruction::MemoryCopy => unaligned(three, BlockType::Empty),
         Instruction::MemoryFill => unaligned(three, BlockType::Empty),
         _ => None,
     }
+}
+
+/// An instruction on memory (section 3.3.4); None for any other.
+pub fn on_memory(instruction: &Instruction) -> Option<Access>
+    ensures { result ≡ access_of instruction.now }
+{
+    if let Some(access) = loaded(instruction) {
+        return Some(access);
+    }
+    if let Some(access) = stored(instruction) {
+        return Some(access);
+    }
+    ranged(instruction)
 }
 
 /// Whether there is such an operator on this type.

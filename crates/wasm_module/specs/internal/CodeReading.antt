@@ -1,8 +1,9 @@
 -- How instructions are read.
-use Rattle.std.specs.Prelude.{ℕ, zero, suc, ◌-◌, List, [], ◌∷◌, length, Option, Some, None, Bool, ◌&&◌, nat_lt, nat_le, ◌==◌, if◌then◌else◌}
+use Rattle.std.specs.Prelude.{ℕ, zero, suc, ◌-◌, List, [], ◌∷◌, ◌++◌, length, Option, Some, None, Bool, ◌&&◌, nat_lt, nat_le, ◌==◌, if◌then◌else◌}
 use Rattle.wasm_module.specs.declared.number.Sign.TheVariants.{Signed}
 use Rattle.wasm_module.specs.declared.instruction.ValueType.{ValueType}
 use Rattle.wasm_module.specs.declared.instruction.ValueType.TheVariants.{I32, I64}
+use Rattle.wasm_module.specs.declared.instruction.BlockType.{BlockType}
 use Rattle.wasm_module.specs.declared.instruction.MemArg.{MemArg}
 use Rattle.wasm_module.specs.declared.instruction.Comparison.{Comparison}
 use Rattle.wasm_module.specs.declared.instruction.Comparison.TheVariants as comparison
@@ -85,6 +86,9 @@ compared t n = comparison_of n >>= λ o. Some (op.Compare t o)
 abbrev pub operated : ValueType → ℕ → Option Instruction
 operated t n = binary_operator_of n >>= λ o. Some (op.Binary t o)
 
+abbrev pub unary_instruction : ℕ → Option Instruction
+unary_instruction b = unary_of b >>= λ p. Some (op.Unary p.0 p.1)
+
 -- the instruction of this opcode that has nothing after it, of those on numbers
 unfoldable pub numeric_of : ℕ → Option Instruction
 numeric_of b =
@@ -97,12 +101,18 @@ numeric_of b =
     if is_between 0x51 0x5A b then compared I64 (b - 0x51) else (
     if is_between 0x6A 0x78 b then operated I32 (b - 0x6A) else (
     if is_between 0x7C 0x8A b then operated I64 (b - 0x7C) else (
-    unary_of b >>= λ p. Some (op.Unary p.0 p.1))))))))))
+    unary_instruction b)))))))))
 
 unfoldable pub numeric_after : ℕ → Reader Instruction
 numeric_after b rest = numeric_of b >>= λ i. Some (i, rest)
 
 -- ---- the others, by their opcodes
+
+abbrev pub branch_table_at : Reader Instruction
+branch_table_at = map_at op.BrTable (then_at (vector_at u32_at) u32_at)
+
+abbrev pub call_indirect_at : Reader Instruction
+call_indirect_at = map_at (λ p. op.CallIndirect p.0) (then_at u32_at (byte_at 0x00))
 
 unfoldable pub control_after : ℕ → Reader Instruction
 control_after b =
@@ -115,10 +125,10 @@ control_after b =
     if b == 0x0B then (λ rest. Some (op.End, rest)) else (
     if b == 0x0C then map_at op.Br u32_at else (
     if b == 0x0D then map_at op.BrIf u32_at else (
-    if b == 0x0E then map_at op.BrTable (then_at (vector_at u32_at) u32_at) else (
+    if b == 0x0E then branch_table_at else (
     if b == 0x0F then (λ rest. Some (op.Return, rest)) else (
     if b == 0x10 then map_at op.Call u32_at else (
-    if b == 0x11 then map_at (λ p. op.CallIndirect p.0) (then_at u32_at (byte_at 0x00)) else (
+    if b == 0x11 then call_indirect_at else (
     (λ rest. None))))))))))))))
 
 unfoldable pub variable_after : ℕ → Reader Instruction
@@ -160,6 +170,21 @@ store_after b =
     if b == 0x3F then map_at (λ x. op.MemorySize) (byte_at 0x00) else (
     if b == 0x40 then map_at (λ x. op.MemoryGrow) (byte_at 0x00) else (
     (λ rest. None))))))))))
+
+-- the beginning of a block with this opcode, with its type
+unfoldable pub block_with : ℕ → BlockType → Option Instruction
+block_with b t =
+    if b == 0x02 then Some (op.Block t) else (
+    if b == 0x03 then Some (op.Loop t) else (
+    if b == 0x04 then Some (op.If t) else (
+    None)))
+
+-- the branch of this opcode, with its label
+unfoldable pub branch_with : ℕ → ℕ → Option Instruction
+branch_with b n =
+    if b == 0x0C then Some (op.Br n) else (
+    if b == 0x0D then Some (op.BrIf n) else (
+    None))
 
 -- the instruction on a variable of this opcode, with its index
 unfoldable pub variable_with : ℕ → ℕ → Option Instruction
@@ -241,6 +266,10 @@ unfoldable pub code_from : ℕ → List OpenBlock → Reader (List Instruction)
 code_from zero fs bytes = None
 code_from (suc n) fs bytes = instruction_at bytes >>= λ i. after_instruction i.0 fs >>= λ gs.
     if length gs == 0 then Some (i.0 ∷ [], i.1) else (code_from n gs i.1 >>= λ is. Some (i.0 ∷ is.0, is.1))
+
+-- one instruction more after these, with these blocks open: the code and the open blocks with it
+unfoldable pub one_more_at : List Instruction → List OpenBlock → Reader (List Instruction × List OpenBlock)
+one_more_at front fs bytes = instruction_at bytes >>= λ i. after_instruction i.0 fs >>= λ gs. Some ((front ++ i.0 ∷ [], gs), i.1)
 
 unfoldable pub code_at : Reader (List Instruction)
 code_at bytes = code_from (length bytes) (Plain ∷ []) bytes

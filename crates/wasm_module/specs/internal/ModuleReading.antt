@@ -68,6 +68,10 @@ data_at = map_at (λ p. record { memory = p.0; offset = p.1.0; bytes = p.1.1 }) 
 
 -- ---- the module
 
+-- four bytes
+unfoldable pub word_at : ℕ → ℕ → ℕ → ℕ → Reader (Unit {0})
+word_at a b c d bytes = byte_at a bytes >>= λ x. byte_at b x.1 >>= λ y. byte_at c y.1 >>= λ z. byte_at d z.1
+
 unfoldable pub preamble_at : Reader (Unit {0})
 preamble_at bytes =
     byte_at 0x00 bytes >>= λ a. byte_at 0x61 a.1 >>= λ b. byte_at 0x73 b.1 >>= λ c. byte_at 0x6D c.1 >>= λ d.
@@ -141,12 +145,19 @@ CodeParts = Option ℕ × (List Body × List DataSegment)
 unfoldable pub code_parts_at : Reader CodeParts
 code_parts_at = then_at (section_at 12 (whole u32_at)) (then_at (list_at 10 body_at) (list_at 11 data_at))
 
+-- what the sections from the start function on hold
+abbrev pub StartParts : Type 0
+StartParts = Option ℕ × (List ElementSegment × CodeParts)
+
+unfoldable pub start_parts_at : Reader StartParts
+start_parts_at = then_at (section_at 8 (whole u32_at)) (then_at (list_at 9 elements_at) code_parts_at)
+
 -- what the sections from the exports on hold
 abbrev pub LinkParts : Type 0
-LinkParts = List Export × (Option ℕ × (List ElementSegment × CodeParts))
+LinkParts = List Export × StartParts
 
 unfoldable pub link_parts_at : Reader LinkParts
-link_parts_at = then_at (list_at 7 export_at) (then_at (section_at 8 (whole u32_at)) (then_at (list_at 9 elements_at) code_parts_at))
+link_parts_at = then_at (list_at 7 export_at) start_parts_at
 
 -- what the sections from the tables on hold
 abbrev pub StorageParts : Type 0
@@ -158,6 +169,25 @@ storage_parts_at = then_at (list_at 4 table_at) (then_at (list_at 5 limits_at) (
 -- what all sections hold
 abbrev pub Parts : Type 0
 Parts = Unit {0} × (List FuncType × (List Import × (List ℕ × StorageParts)))
+
+-- the module of these parts, and how many data segments they say that it has
+abbrev pub decoded_of : Parts → Module × Option ℕ
+decoded_of p = (
+  record {
+    types = p.1.0;
+    imports = p.1.1.0;
+    functions = p.1.1.1.0;
+    tables = p.1.1.1.1.0;
+    memories = p.1.1.1.1.1.0;
+    globals = p.1.1.1.1.1.1.0;
+    exports = p.1.1.1.1.1.1.1.0;
+    start = p.1.1.1.1.1.1.1.1.0;
+    element_segments = p.1.1.1.1.1.1.1.1.1.0;
+    bodies = p.1.1.1.1.1.1.1.1.1.1.1.0;
+    data_segments = p.1.1.1.1.1.1.1.1.1.1.1.1;
+  },
+  p.1.1.1.1.1.1.1.1.1.1.0,
+)
 
 unfoldable pub parts_at : Reader Parts
 parts_at = then_at customs_at (then_at (list_at 1 func_type_at) (then_at (list_at 2 import_at) (then_at (list_at 3 u32_at) storage_parts_at)))

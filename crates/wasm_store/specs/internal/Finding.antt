@@ -1,5 +1,5 @@
 -- What the steps of instantiation find (section 4.5.4).
-use Rattle.std.specs.Prelude.{◌≡◌, ℕ, ◌⊎◌, List, [], Some, slice_get, codes}
+use Rattle.std.specs.Prelude.{◌≡◌, ℕ, ◌*◌, ◌⊎◌, List, [], Option, Some, None, replicate, slice_get, codes}
 use Rattle.std.specs.List.{AllByRecursion}
 use Rattle.wasm_module.specs.declared.module.FuncType.{FuncType}
 use Rattle.wasm_module.specs.declared.module.ImportKind.{ImportKind}
@@ -13,7 +13,7 @@ use Rattle.wasm_store.specs.declared.fault.InstanceFault.{InstanceFault}
 use Rattle.wasm_store.specs.declared.fault.InstanceFault.TheVariants as faults
 use Rattle.wasm_store.specs.Values.{Val, IsInType, numbers}
 use Rattle.wasm_store.specs.Instances.{Callee}
-use Rattle.wasm_store.specs.Instantiation.{LinksOf, AreLinked, SomeUnlinked, AreFirst}
+use Rattle.wasm_store.specs.Instantiation.{LinksOf, AreLinked, SomeUnlinked, AreFirst, minimum, ElementsInside, ElementsOutside, DataInside, DataOutside, with_elements, with_data}
 use Rattle.wasm_store.specs.Instantiating.{AreCallees}
 
 -- only functions are imported
@@ -59,3 +59,20 @@ pub record HaveFirst (m : Module) (globals : List ℕ) : Type 0 where
   pub are_first : AreFirst m.globals values
   pub numbers_are : numbers values ≡ globals
   pub in_range : AllByRecursion IsInType values
+
+-- what the memory, the table and the globals begin with
+pub record AreStored (m : Module) (memory : List ℕ) (table : List (Option ℕ)) (globals : List ℕ) : Type 0 where
+  pub first : HaveFirst m globals
+  pub elements_inside : (vs : List Val) → numbers vs ≡ globals → ElementsInside vs (minimum m.tables) m.element_segments
+  pub data_inside : (vs : List Val) → numbers vs ≡ globals → DataInside vs (minimum m.memories * 65536) m.data_segments
+  pub memory_is : (vs : List Val) → numbers vs ≡ globals → memory ≡ with_data vs (replicate (minimum m.memories * 65536) 0) m.data_segments
+  pub table_is : (vs : List Val) → numbers vs ≡ globals → table ≡ with_elements vs (replicate (minimum m.tables) None) m.element_segments
+
+-- a segment is outside, or memory was refused
+abbrev pub NotStored : Module → InstanceFault → Type 0
+NotStored m faults.ElementOutOfBounds = (gs : List Val) × AreFirst m.globals gs × ElementsOutside gs (minimum m.tables) m.element_segments
+NotStored m faults.DataOutOfBounds =
+    (gs : List Val) × AreFirst m.globals gs × ElementsInside gs (minimum m.tables) m.element_segments
+    × DataOutside gs (minimum m.memories * 65536) m.data_segments
+NotStored m faults.Memory = Unit {0}
+NotStored m e = ⊥

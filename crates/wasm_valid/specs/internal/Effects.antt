@@ -40,32 +40,49 @@ load m most t = access m.align most (One I32) (Value t)
 abbrev pub store : MemArg → ℕ → ValueType → Access
 store m most t = access m.align most (Two t I32) Empty
 
--- instructions on memory; the alignment of one that has none is 1 byte
+-- the loads
+abbrev pub load_of : Instruction → Option Access
+load_of (op.I32Load m) = Some (load m 2 I32)
+load_of (op.I64Load m) = Some (load m 3 I64)
+load_of (op.I32Load8S m) = Some (load m 0 I32)
+load_of (op.I32Load8U m) = Some (load m 0 I32)
+load_of (op.I32Load16S m) = Some (load m 1 I32)
+load_of (op.I32Load16U m) = Some (load m 1 I32)
+load_of (op.I64Load8S m) = Some (load m 0 I64)
+load_of (op.I64Load8U m) = Some (load m 0 I64)
+load_of (op.I64Load16S m) = Some (load m 1 I64)
+load_of (op.I64Load16U m) = Some (load m 1 I64)
+load_of (op.I64Load32S m) = Some (load m 2 I64)
+load_of (op.I64Load32U m) = Some (load m 2 I64)
+load_of i = None
+
+-- the stores
+abbrev pub store_of : Instruction → Option Access
+store_of (op.I32Store m) = Some (store m 2 I32)
+store_of (op.I64Store m) = Some (store m 3 I64)
+store_of (op.I32Store8 m) = Some (store m 0 I32)
+store_of (op.I32Store16 m) = Some (store m 1 I32)
+store_of (op.I64Store8 m) = Some (store m 0 I64)
+store_of (op.I64Store16 m) = Some (store m 1 I64)
+store_of (op.I64Store32 m) = Some (store m 2 I64)
+store_of i = None
+
+-- the other instructions on memory, whose alignment is 1 byte
+abbrev pub range_of : Instruction → Option Access
+range_of op.MemorySize = Some (access 0 0 Nothing (Value I32))
+range_of op.MemoryGrow = Some (access 0 0 (One I32) (Value I32))
+range_of op.MemoryCopy = Some (access 0 0 (Three I32 I32 I32) Empty)
+range_of op.MemoryFill = Some (access 0 0 (Three I32 I32 I32) Empty)
+range_of i = None
+
+-- the first of two, where it is there
+abbrev pub or_else : Option Access → Option Access → Option Access
+or_else None other = other
+or_else (Some a) other = Some a
+
+-- instructions on memory
 abbrev pub access_of : Instruction → Option Access
-access_of (op.I32Load m) = Some (load m 2 I32)
-access_of (op.I64Load m) = Some (load m 3 I64)
-access_of (op.I32Load8S m) = Some (load m 0 I32)
-access_of (op.I32Load8U m) = Some (load m 0 I32)
-access_of (op.I32Load16S m) = Some (load m 1 I32)
-access_of (op.I32Load16U m) = Some (load m 1 I32)
-access_of (op.I64Load8S m) = Some (load m 0 I64)
-access_of (op.I64Load8U m) = Some (load m 0 I64)
-access_of (op.I64Load16S m) = Some (load m 1 I64)
-access_of (op.I64Load16U m) = Some (load m 1 I64)
-access_of (op.I64Load32S m) = Some (load m 2 I64)
-access_of (op.I64Load32U m) = Some (load m 2 I64)
-access_of (op.I32Store m) = Some (store m 2 I32)
-access_of (op.I64Store m) = Some (store m 3 I64)
-access_of (op.I32Store8 m) = Some (store m 0 I32)
-access_of (op.I32Store16 m) = Some (store m 1 I32)
-access_of (op.I64Store8 m) = Some (store m 0 I64)
-access_of (op.I64Store16 m) = Some (store m 1 I64)
-access_of (op.I64Store32 m) = Some (store m 2 I64)
-access_of op.MemorySize = Some (access 0 0 Nothing (Value I32))
-access_of op.MemoryGrow = Some (access 0 0 (One I32) (Value I32))
-access_of op.MemoryCopy = Some (access 0 0 (Three I32 I32 I32) Empty)
-access_of op.MemoryFill = Some (access 0 0 (Three I32 I32 I32) Empty)
-access_of i = None
+access_of i = or_else (load_of i) (or_else (store_of i) (range_of i))
 
 -- extend32_s is only of i64
 abbrev pub is_operator : ValueType → UnaryOperator → Bool

@@ -11,10 +11,6 @@ pub returns-in_err-bodies : goal.returns-in_err-bodies
 unfolding code_parts_at
 returns-in_err-bodies c = handed_on _ _ c.from_residual-in_err-bodies.result _ c.from_residual-in_err-bodies.ensures.1 (λ other. rw (c.in_ok-data_count.ensures, c.in_err-bodies.ensures other) refl)
 
-pub returns-in_err-data_segments : goal.returns-in_err-data_segments
-unfolding code_parts_at
-returns-in_err-data_segments c = handed_on _ _ c.from_residual-in_err-data_segments.result _ c.from_residual-in_err-data_segments.ensures.1 (λ other. rw (c.in_ok-data_count.ensures, c.in_ok-bodies.ensures, c.in_err-data_segments.ensures other) refl)
-
 pub returns : goal.returns
 unfolding code_parts_at
-returns c = rw (c.in_ok-data_count.ensures, c.in_ok-bodies.ensures, c.in_ok-data_segments.ensures) refl
+returns c = rw (c.in_ok-data_count.ensures, c.in_ok-bodies.ensures) refl

@@ -7,18 +7,10 @@ pub returns-in_err-exports : goal.returns-in_err-exports
 unfolding link_parts_at
 returns-in_err-exports c = handed_on _ _ c.from_residual.result _ c.from_residual.ensures.1 (λ other. rw (c.in_err-exports.ensures other) refl)
 
-pub returns-in_err-start : goal.returns-in_err-start
+pub returns-in_err-rest : goal.returns-in_err-rest
 unfolding link_parts_at
-returns-in_err-start c = handed_on _ _ c.from_residual-in_err-start.result _ c.from_residual-in_err-start.ensures.1 (λ other. rw (c.in_ok-exports.ensures, c.in_err-start.ensures other) refl)
-
-pub returns-in_err-element_segments : goal.returns-in_err-element_segments
-unfolding link_parts_at
-returns-in_err-element_segments c = handed_on _ _ c.from_residual-in_err-element_segments.result _ c.from_residual-in_err-element_segments.ensures.1 (λ other. rw (c.in_ok-exports.ensures, c.in_ok-start.ensures, c.in_err-element_segments.ensures other) refl)
-
-pub returns-in_err-code : goal.returns-in_err-code
-unfolding link_parts_at
-returns-in_err-code c = handed_on _ _ c.from_residual-in_err-code.result _ c.from_residual-in_err-code.ensures.1 (λ other. rw (c.in_ok-exports.ensures, c.in_ok-start.ensures, c.in_ok-element_segments.ensures, c.in_err-code.ensures other) refl)
+returns-in_err-rest c = handed_on _ _ c.from_residual-in_err-rest.result _ c.from_residual-in_err-rest.ensures.1 (λ other. rw (c.in_ok-exports.ensures, c.in_err-rest.ensures other) refl)
 
 pub returns : goal.returns
 unfolding link_parts_at
-returns c = rw (c.in_ok-exports.ensures, c.in_ok-start.ensures, c.in_ok-element_segments.ensures, c.in_ok-code.ensures) refl
+returns c = rw (c.in_ok-exports.ensures, c.in_ok-rest.ensures) refl

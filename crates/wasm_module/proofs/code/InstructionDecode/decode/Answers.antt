@@ -1,6 +1,7 @@
-use Rattle.std.proofs.Common.{refl}
+use Rattle.std.proofs.Common.{refl, rules}
 use Rattle.wasm_module.specs.internal.CodeReading.{instruction_at, instruction_after}
 use Rattle.wasm_module.proofs.Exits.{handed_on}
+use Rattle.wasm_module.proofs.Opcodes.{control_read, variable_read, load_read, store_read, numeric_read}
 use Rattle.wasm_module.proofs.code.InstructionDecode.decode.Goals as goal
 
 pub returns-in_err-byte : goal.returns-in_err-byte
@@ -26,3 +27,23 @@ returns-in_ok-s64-in-66 c = rw (c.in_ok-byte.ensures, c.in-66.is, c.in_ok-s64-in
 pub returns-in-252 : goal.returns-in-252
 unfolding instruction_at instruction_after
 returns-in-252 c = rw (c.in_ok-byte.ensures, c.in-252.is) c.bulk.ensures
+
+pub returns-in-0-to-17 : goal.returns-in-0-to-17
+unfolding instruction_at
+returns-in-0-to-17 c = rw (c.in_ok-byte.ensures, control_read c.in_ok-byte.byte _ (search rules)) c.control.ensures
+
+pub returns-in-18-to-39 : goal.returns-in-18-to-39
+unfolding instruction_at
+returns-in-18-to-39 c = rw (c.in_ok-byte.ensures, variable_read c.in_ok-byte.byte _ (search rules) (search rules)) c.variable.ensures
+
+pub returns-in-40-to-53 : goal.returns-in-40-to-53
+unfolding instruction_at
+returns-in-40-to-53 c = rw (c.in_ok-byte.ensures, load_read c.in_ok-byte.byte _ (search rules) (search rules)) c.load.ensures
+
+pub returns-in-54-to-64 : goal.returns-in-54-to-64
+unfolding instruction_at
+returns-in-54-to-64 c = rw (c.in_ok-byte.ensures, store_read c.in_ok-byte.byte _ (search rules) (search rules)) c.store.ensures
+
+pub returns-in-Some : goal.returns-in-Some
+unfolding instruction_at
+returns-in-Some c = rw (c.in_ok-byte.ensures) (numeric_read c.in_ok-byte.byte _ _ (search rules) (search rules) (search rules) (search rules) (search rules))

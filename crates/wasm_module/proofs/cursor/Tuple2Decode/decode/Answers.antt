@@ -1,0 +1,5 @@
+use Rattle.std.proofs.Common.{refl}
+use Rattle.wasm_module.proofs.cursor.Tuple2Decode.decode.Goals as goal
+
+pub returns : goal.returns
+returns g c = rw (c.in_ok-first.ensures, c.in_ok-second.ensures) refl
