@@ -1,5 +1,6 @@
 pub mod AsBox
 pub mod Carrying
+pub mod Closed
 pub mod Resuming
 pub mod Working
 pub mod WrittenItems

@@ -56,7 +56,9 @@ fn unloaded(held: Held) -> (Held, u32)
                 err,
             },
         ) => {
-            drop((device, out, err));
+            drop(device);
+            drop(out);
+            drop(err);
             (Held::Loaded(valid), OK)
         }
         other => (other, MISUSE),

@@ -1,6 +1,7 @@
 //! What a handle has.
 
 ghost use Rattle.std.specs.Prelude.{◌≡◌, length};
+ghost use Rattle.sandbox_host.specs.Sessions.{stream};
 
 use crate::showing::show_sectors;
 use sandbox_core::{Session, Valid};
@@ -17,6 +18,17 @@ pub struct Ended {
     pub device: RamDevice,
     pub out: Vec<u8>,
     pub err: Vec<u8>,
+}
+
+/// Of what was written to descriptor 1 and to 2, that of this descriptor.
+fn stream<'a>(out: &'a Vec<u8>, err: &'a Vec<u8>, descriptor: u32) -> &'a [u8]
+    ensures { result.now ≡ stream out.now err.now descriptor }
+{
+    match descriptor {
+        1 => out.as_slice(),
+        2 => err.as_slice(),
+        _ => &[],
+    }
 }
 
 /// What a handle has. It is let go as a whole, so that its destructor is proved once.
@@ -54,10 +66,8 @@ impl Held {
         ensures { result.now ≡ output_of self.now descriptor }
     {
         match self {
-            Held::Running(session) if descriptor == 1 => session.out().as_slice(),
-            Held::Running(session) if descriptor == 2 => session.err().as_slice(),
-            Held::Finished(ended) if descriptor == 1 => ended.out.as_slice(),
-            Held::Finished(ended) if descriptor == 2 => ended.err.as_slice(),
+            Held::Running(session) => stream(session.out(), session.err(), descriptor),
+            Held::Finished(ended) => stream(&ended.out, &ended.err, descriptor),
             _ => &[],
         }
     }

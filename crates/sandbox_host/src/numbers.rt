@@ -27,7 +27,7 @@ pub const VERSION: u32 = 5_000;
 
 /// Why a module is refused: 1 to 12 with the byte's offset, or 40.
 #[repr(C)]
-#[derive(Clone, Copy, Debug, PartialEq, Eq)]
+#[derive(Clone, Copy, PartialEq, Eq)]
 pub struct Why {
     pub fault: u32,
     pub offset: u32,
@@ -35,7 +35,7 @@ pub struct Why {
 
 /// Why a session came back.
 #[repr(C)]
-#[derive(Clone, Copy, Debug, PartialEq, Eq)]
+#[derive(Clone, Copy, PartialEq, Eq)]
 pub struct Told {
     /// 0 its guest exited, 1 it trapped, 2 the fuel is used up, 3 memory was refused; 4 a call was answered, 5 the units are
     /// used up.

@@ -158,19 +158,26 @@ fn text_at<'t>(table: &[&'t str], number: u32) -> &'t str
     }
 }
 
+/// The text of a number: of an answer (0), of a trap (1), or of an errno (2).
+fn text_of(kind: u32, number: u32) -> &'static str
+    ensures { result.now ≡ text_of kind number }
+{
+    match kind {
+        0 if number == MISUSE => MISUSED,
+        0 => text_at(&FAULTS, number),
+        1 => text_at(&TRAPS, number),
+        2 => text_at(&ERRNOS, number),
+        _ => "",
+    }
+}
+
 /// Copies the text of a number as far as there is room, and says how long it is: of an answer (0), of a trap (1), or of an
 /// errno (2). What has no text has an empty one.
 pub fn text(kind: u32, number: u32, room: &mut [u8]) -> usize
     ensures length { result ≡ length (text_of kind number) }
     ensures shown { IsShown (text_of kind number) room.old room.new }
 {
-    let text = match kind {
-        0 if number == MISUSE => MISUSED,
-        0 => text_at(&FAULTS, number),
-        1 => text_at(&TRAPS, number),
-        2 => text_at(&ERRNOS, number),
-        _ => "",
-    };
+    let text = text_of(kind, number);
     show(text.as_bytes(), room);
     text.len()
 }
