@@ -40,3 +40,6 @@ returns-in-Err-clause-io g c = λ is. absurd (no_text_io ReachedValue c.args.tex
 
 pub returns-in-Ok-clause-io : goal.returns-in-Ok-clause-io
 returns-in-Ok-clause-io g c = walk_io {honest = g.D.Device.honest} {sectors_on = g.D.Device.size} {failures = g.D.Device.failures} (stays_inside 0 (components_of c.in-Ok.path)) c.args.volume.now c.walk.new.volume c.walk.result c.walk.ensures.kept c.walk.ensures.outside
+
+pub walk-requires : goal.walk-requires
+walk-requires g c = record { directory = c.requires }

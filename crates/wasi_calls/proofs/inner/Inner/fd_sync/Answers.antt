@@ -13,3 +13,6 @@ returns-clause-serves g c = λ m used.
     call.FdSync used c.args.arguments.now _ s c.sync.new.volume m m _ refl c.sync.ensures.io c.requires c.sync.ensures.step
     (λ w i. fd_sync w (sym c.word-fd.ensures i) (2 ^ 4))
     (λ h b. c.sync.ensures.answered h (world_of (state_of s) b) m refl refl)
+
+pub returns-clause-durable : goal.returns-clause-durable
+returns-clause-durable g c = c.sync.ensures.durable
