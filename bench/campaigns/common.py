@@ -18,13 +18,17 @@ TRAPS = (
     "unreachable|integer divide by zero|integer overflow|out of bounds memory access|undefined element|uninitialized element|"
     "indirect call type mismatch|call stack exhausted"
 )
+STREAMS = (
+    "no tar header|wrong checksum|its size is no number|it has 4 GiB or more|it is a (link|device|pipe)|its type is not known|"
+    "its extended header is malformed|its extended header has more than 1 MiB|the stream ends too early"
+)
 LINES = {
     119: r"sandbox: exit \d+",
     120: f"sandbox: trap: ({TRAPS})",
     121: "sandbox: out of fuel",
     122: "sandbox: out of memory",
     123: "sandbox: fault 33",
-    124: r"sandbox: (fault (\d|1[0-6]|2[0-2]|3[0-6]|41)( at \d+)?|errno \d+)",
+    124: rf"sandbox: (fault (\d|1[0-6]|2[0-2]|3[0-6]|41)( at \d+)?|errno \d+|(.*: )?({STREAMS}|errno \d+|fault 41))",
 }
 
 

@@ -2,8 +2,8 @@
 called while a file of the host is opened and read, and reads and writes of the standard streams.
 
 What has to hold is by `docs/USING.md` and `docs/VOLUME.md`. A write or a sync that fails: the guest is answered errno 29 there and in
-all later calls on the volume, no further write or sync is tried, and the run ends with `sandbox: fault 33` and 123; `put` ends with
-errno 29; opening, `format` and `upgrade` with fault 33. The volume, as it stands and as a crash would leave it, opens, and holds a
+all later calls on the volume, no further write or sync is tried, and the run ends with `sandbox: fault 33` and 123; `put`, `import` and
+`rm -r` end with errno 29; opening, `format` and `upgrade` with fault 33. The volume, as it stands and as a crash would leave it, opens, and holds a
 first part of the calls that were answered, with all that was synced. A file of the host that can't be opened, locked or read is fault
 41, and is left as it was. A stream that fails is answered 29 and the volume keeps all calls; in `ls`, `get`, `check` and `put` it is
 fault 41.
@@ -13,6 +13,7 @@ import re
 
 import crashes
 import steps
+import trees
 from common import Wrong, copied, succeeded, written
 from damage import own_path
 
@@ -79,6 +80,13 @@ def of_put(trace, place):
     return (trace.status, trace.said) == (FAULT if place == "opening" else ERRNO)
 
 
+def of_import(trace, place):
+    """The line may name the member at hand."""
+    if place == "opening":
+        return (trace.status, trace.said) == FAULT
+    return trace.status == 124 and re.fullmatch(r"sandbox: (\S+: )?errno 29\n", trace.said)
+
+
 def of_command(trace, _):
     return (trace.status, trace.said) == FAULT
 
@@ -91,6 +99,8 @@ SCENES = [
     (crashes.key_store, of_guest),
     (crashes.pages, of_guest),
     (crashes.put, of_put),
+    (trees.imported, of_import),
+    (trees.removed, of_put),
     (crashes.formatted, of_command),
     (crashes.upgraded, of_command),
     (crashes.opened, of_command),
@@ -208,7 +218,8 @@ def files(setting):
 
 def standard_streams(setting):
     """Each write to standard output and each read of standard input fails."""
-    return output_of_guest(setting) + output_of_commands(setting) + input_of_put(setting), "answered 29 or fault 41; all calls are kept"
+    inputs = sum(input_of(setting, make) for make in (crashes.put, trees.imported))
+    return output_of_guest(setting) + output_of_commands(setting) + inputs, "answered 29 or fault 41; all calls are kept"
 
 
 def output_of_guest(setting):
@@ -255,17 +266,18 @@ def output_of_commands(setting):
     return tried
 
 
-def input_of_put(setting):
-    """`put` whose input fails: the old file, or a beginning of the new one."""
-    scene = crashes.put(setting)
+def input_of(setting, make):
+    """`put` or `import` whose input fails: what was there, or a beginning of what is new."""
+    scene = make(setting)
     path = copied(written(f"{setting.room}/begun", scene.base), f"{setting.room}/recorded")
     numbers = crashes.recorded(setting, path, scene.words(path), scene.given).inputs
-    wanted(numbers, "put reads nothing")
-    for k, number in enumerate(numbers):
+    wanted(numbers, f"{scene.name} reads nothing")
+    turns = list(places(setting, len(numbers)))
+    for k in turns:
         error = STREAM_ERRORS[k % 3]
         written(path, scene.base)
-        trace = crashes.traced(setting, path, scene.words(path), scene.given, inject("read", number, error))
-        told = f"put, input number {k + 1} with {error}: status {trace.status}, {trace.said!r}"
-        wanted((trace.status, trace.said) == (124, "sandbox: fault 41\n"), told)
+        trace = crashes.traced(setting, path, scene.words(path), scene.given, inject("read", numbers[k], error))
+        told = f"{scene.name}, input number {k + 1} with {error}: status {trace.status}, {trace.said!r}"
+        wanted(trace.status == 124 and re.fullmatch(r"sandbox: (\S+: )?fault 41\n", trace.said), told)
         scene.right(path, b"")
-    return len(numbers)
+    return len(turns)

@@ -131,13 +131,13 @@ def drawn(chance, tree):
     return [kind] if kind == "s" else [kind, path]
 
 
-def tree_of(image):
+def tree_of(image, slots=SLOTS):
     """The tree of a volume whose log is empty."""
     def sector(number):
         return image[512 * number : 512 * number + 512]
 
     found = {}
-    for slot in range(SLOTS):
+    for slot in range(slots):
         it = sector(122 + slot)
         if it[0]:
             found[slot + 1] = it
