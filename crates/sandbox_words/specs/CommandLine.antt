@@ -122,12 +122,15 @@ format_app = app_with (codes "format") (word_rule (codes "FILE") ∷ number_word
 abbrev pub faults_app : App
 faults_app = on_top (λ s. record s { arg_required_else_help = true }) (new_app (codes "faults"))
 
+-- its commands, but for `faults`
+unfoldable pub table_apps : List App
+table_apps = run_app ∷ inspect_app ∷ format_app ∷ path_app (codes "ls") ∷ path_app (codes "get") ∷ path_app (codes "put")
+    ∷ path_app (codes "import") ∷ path_app (codes "export") ∷ path_app (codes "mkdir") ∷ move_app ∷ remove_app ∷ path_app (codes "stat")
+    ∷ file_app (codes "check") ∷ file_app (codes "upgrade") ∷ []
+
 -- the program: one of its subcommands has to be there, and it tells its version
 unfoldable pub program : App
-program = with_apps (on_top (λ s. record s { subcommand_required = true; has_version = true }) (new_app (codes "sandbox")))
-    (run_app ∷ inspect_app ∷ format_app ∷ path_app (codes "ls") ∷ path_app (codes "get") ∷ path_app (codes "put")
-    ∷ path_app (codes "import") ∷ path_app (codes "export") ∷ path_app (codes "mkdir") ∷ move_app ∷ remove_app ∷ path_app (codes "stat")
-    ∷ file_app (codes "check") ∷ file_app (codes "upgrade") ∷ faults_app ∷ [])
+program = with_subcommand (with_apps (on_top (λ s. record s { subcommand_required = true; has_version = true }) (new_app (codes "sandbox"))) table_apps) faults_app.top
 
 -- ---- what is asked for
 

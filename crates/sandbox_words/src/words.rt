@@ -9,8 +9,9 @@ ghost use Rattle.sandbox_words.specs.Request.{texts};
 ghost use Rattle.sandbox_words.specs.CommandLine.{AsksChange, AsksFor, AsksRun, AsksTask, number_of, number_rule, number_word_rule};
 ghost use Rattle.sandbox_words.specs.CommandLine.{change_names, flag_rule, task_names, text_rule, texts_rule, word_rule, words_rule};
 ghost use Rattle.sandbox_words.specs.CommandLine.{IsFlagged, text_in, texts_of, word_of};
-ghost use Rattle.sandbox_words.specs.CommandLine.{faults_app, program};
+ghost use Rattle.sandbox_words.specs.CommandLine.{faults_app, program, table_apps};
 ghost use Rattle.sandbox_words.specs.internal.Table.{AddsArguments, AddsSubcommands, app_for, rule_for};
+ghost use Rattle.sandbox_words.specs.internal.Given.{AsksRunOf};
 
 use crate::faults::MEANINGS;
 use crate::request::{Change, Invocation, Limits, Run, Task};
@@ -198,6 +199,14 @@ fn faults_command<'a>(alloc: Global) -> Command<'a>
         .arg_required_else_help(true)
 }
 
+/// A command with the subcommands of the table. (Nothing else stands in it, since each function that names the table is
+/// expensive to check.)
+fn with_table<'a>(alloc: Global, command: Command<'a>) -> Result<Command<'a>, AllocError>
+    ensures { IfOk result (AddsSubcommands command.entry table_apps) }
+{
+    with_subcommands(alloc, command, &COMMANDS)
+}
+
 /// The program, of whose commands one has to be there.
 fn command<'a>(alloc: Global) -> Result<Command<'a>, AllocError>
     ensures { IfOk result (λ c. (app_of c ≡ program) × ((fields_of c).has_globals ≡ false)) }
@@ -207,7 +216,7 @@ fn command<'a>(alloc: Global) -> Result<Command<'a>, AllocError>
     let program = Command::new(alloc, "sandbox")
         .version(VERSION)
         .subcommand_required(true);
-    with_subcommands(alloc, described(program, about), &COMMANDS)?.subcommand(faults_command(alloc))
+    with_table(alloc, described(program, about))?.subcommand(faults_command(alloc))
 }
 
 /// The text of an argument, or the empty one.
@@ -258,21 +267,27 @@ fn long_number(matches: &ArgMatches<'_>, id: &str) -> Option<u64>
     matches.get_one::<u64>(id)
 }
 
-/// What `run` is asked for by what was found for its arguments.
-fn run_given<'a>(alloc: Global, matches: &ArgMatches<'a>) -> Result<Run<'a>, AllocError>
-    ensures { IfOk result (AsksRun (rows_of (found_of matches.now))) }
+/// What `run` is asked for, with these lists of texts. (So that no list is alive while another may be refused.)
+fn run_with<'a>(
+    matches: &ArgMatches<'a>,
+    dirs: Vec<&'a str>,
+    env: Vec<&'a str>,
+    words: Vec<&'a str>,
+) -> Run<'a>
+    ensures { AsksRunOf (rows_of (found_of matches.now)) dirs.entry.items env.entry.items words.entry.items result }
 {
-    Ok(Run {
-        limits: Limits {
-            fuel: long_number(matches, "fuel").unwrap_or(FUEL),
-            pages: number(matches, "pages").unwrap_or(PAGES),
-            values: number(matches, "values").unwrap_or(VALUES),
-        },
+    let limits = Limits {
+        fuel: long_number(matches, "fuel").unwrap_or(FUEL),
+        pages: number(matches, "pages").unwrap_or(PAGES),
+        values: number(matches, "values").unwrap_or(VALUES),
+    };
+    Run {
+        limits,
         volume: option_text(matches, "volume"),
         image: option_text(matches, "image"),
         volume_out: option_text(matches, "volume-out"),
-        dirs: texts(alloc, matches, "dir")?,
-        env: texts(alloc, matches, "env")?,
+        dirs,
+        env,
         moment: long_number(matches, "moment").unwrap_or(0),
         random: option_text(matches, "random"),
         seed: long_number(matches, "seed"),
@@ -283,8 +298,18 @@ fn run_given<'a>(alloc: Global, matches: &ArgMatches<'a>) -> Result<Run<'a>, All
         report: option_text(matches, "report"),
         tests: option_text(matches, "tests"),
         module: text(matches, "MODULE"),
-        words: texts(alloc, matches, "WORD")?,
-    })
+        words,
+    }
+}
+
+/// What `run` is asked for by what was found for its arguments.
+fn run_given<'a>(alloc: Global, matches: &ArgMatches<'a>) -> Result<Run<'a>, AllocError>
+    ensures { IfOk result (AsksRun (rows_of (found_of matches.now))) }
+{
+    let dirs = texts(alloc, matches, "dir")?;
+    let env = texts(alloc, matches, "env")?;
+    let words = texts(alloc, matches, "WORD")?;
+    Ok(run_with(matches, dirs, env, words))
 }
 
 /// What the command of this name changes in a volume; none where it is no such command.
