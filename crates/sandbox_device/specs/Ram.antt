@@ -1,11 +1,16 @@
 -- A disk in memory: each write lasts at once (`docs/VOLUME.md`, "The device").
 use Rattle.std.specs.Prelude.{◌≡◌, ◌⊎◌, ◌-◌, ℕ, List, [], ◌∷◌, length, take}
+use Rattle.std.specs.List.{flat_map}
 use Rattle.vol_sector.specs.Disk.{Image, Disk}
 use Rattle.vol_sector.specs.Record.{image_of}
 
 -- the bytes of each sector
 abbrev pub Sectors : Type 0
 Sectors = List (List ℕ)
+
+-- the bytes of all of them, one sector after the other
+abbrev pub bytes_of : Sectors → List ℕ
+bytes_of sectors = flat_map (λ sector. sector) sectors
 
 -- one of these
 abbrev pub IsOneOf : List Sectors → Image → Type 0

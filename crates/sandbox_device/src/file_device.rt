@@ -55,6 +55,14 @@ fn read_sectors(alloc: Global, file: &File, count: u32) -> io::Result<Sectors>
     Ok(sectors)
 }
 
+/// The whole sectors of a file, 65,536 at most.
+pub(crate) fn whole_sectors(alloc: Global, file: &File) -> io::Result<Sectors>
+    ensures { IfOk result (λ s. length s ≤ 65536) }
+{
+    let count = (file.metadata()?.len() / SECTOR).min(u64::from(MOST_SECTORS));
+    read_sectors(alloc, file, count as u32)
+}
+
 impl FileDevice {
     ghost use Rattle.std.specs.Prelude.{◌∷◌, []};
 
@@ -107,8 +115,7 @@ impl FileDevice {
     fn read_from(alloc: Global, file: File) -> io::Result<FileDevice>
         ensures unused { IfOk result (λ d. d.failures ≡ 0) }
     {
-        let count = (file.metadata()?.len() / SECTOR).min(u64::from(MOST_SECTORS));
-        let sectors = read_sectors(alloc, &file, count as u32)?;
+        let sectors = whole_sectors(alloc, &file)?;
         Ok(FileDevice {
             file,
             sectors,

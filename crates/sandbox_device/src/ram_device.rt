@@ -1,13 +1,19 @@
 //! A device in memory.
 
-ghost use Rattle.std.specs.Prelude.{◌≡◌, ◌<◌, ◌≤◌, IfOk, length, refl, replicate};
+ghost use Rattle.std.specs.Prelude.{◌≡◌, ◌<◌, ◌≤◌, IfOk, OnOk, length, refl, replicate};
+ghost use Rattle.std.specs.Io.KnownBytes.{Appends};
 ghost use Rattle.vol_sector.specs.Record.{image_of};
-ghost use Rattle.sandbox_device.specs.Ram.{held};
+ghost use Rattle.sandbox_device.specs.Ram.{bytes_of, held};
 ghost use Rattle.sandbox_device.specs.internal.RamLaws.{now_is_since, now_is_all};
 
+use crate::file_device::whole_sectors;
 use crate::past::Past;
 use crate::sectors::Sectors;
 use std::alloc::{AllocError, Global};
+use std::fs::File;
+use std::io;
+use std::io::Write;
+use std::rt::Files;
 use vol_sector::{Device, DeviceFault};
 
 /// Sectors in memory. No operation fails, and each write lasts at once. It keeps no record. The room for all is
@@ -41,6 +47,34 @@ impl RamDevice {
             sectors: Sectors::of(alloc, sectors)?,
             past: Past::new(),
         })
+    }
+
+    /// A device of a file's whole sectors, 65,536 at most. The file is opened to read only, and read once; nothing is
+    /// written to it. It fails where there is no such file, where it can't be read, where it is a directory, where
+    /// another process has locked it to write, and where memory is refused.
+    pub fn read<R: Files<File = File>>(
+        alloc: Global,
+        files: &R,
+        path: &str,
+    ) -> io::Result<RamDevice>
+        ensures { IfOk result (λ d. length d.sectors ≤ 65536) }
+    {
+        let file = File::open(files, path)?;
+        file.try_lock_shared()?;
+        Ok(RamDevice {
+            sectors: whole_sectors(alloc, &file)?,
+            past: Past::new(),
+        })
+    }
+
+    /// Writes the bytes of all its sectors, one after the other.
+    pub fn write_to<W: Write>(&self, out: &mut W) -> io::Result<()>
+        ensures { OnOk result (Appends (W.contents out.old) (W.contents out.new) (bytes_of self.now.sectors)) }
+    {
+        for n in 0..self.sectors.len() as u32 {
+            out.write_all(&self.sectors.get(n))?;
+        }
+        Ok(())
     }
 
     /// The bytes of a sector.

@@ -1,6 +1,6 @@
 -- What the getters of clap read, by the rows of its model.
-use Rattle.std.proofs.Common.{◌≡◌, ◌∙◌, ◌^◌, ◌&&◌, ◌||◌, ap₂, ℕ, Bool, true, false, List, [], ◌∷◌, length, Option, Some, None, Result, Ok, Err, refl, sym, ap, nat_lt, lt-ltb, ltb-true, true≢false}
-use Rattle.std.specs.Prelude.{IfOk, IsOkAnd, option_and_then}
+use Rattle.std.proofs.Common.{◌≡◌, ◌∙◌, ◌^◌, ◌&&◌, ◌||◌, ℕ, Bool, true, false, List, [], ◌∷◌, length, Option, Some, None, Result, Ok, Err, refl, sym, ap, nat_lt, lt-ltb, ltb-true, true≢false}
+use Rattle.std.specs.Prelude.{option_and_then}
 use Rattle.std.specs.List.{list_all}
 use Rattle.std.specs.Char.{digit_value}
 use Rattle.std.specs.Str.Parse.{AllDigits, IsNumeral, ParsesUnsigned, digits_value, without_leading_plus}
@@ -11,7 +11,8 @@ use Rattle.clap.specs.declared.builder.command.Command.{Command}
 use Rattle.clap.specs.declared.builder.command.Command.TheViews.{out-Command as fields_of}
 use Rattle.clap.proofs.OnLiterals.{clap_on_literals}
 use Rattle.sandbox_words.specs.Request.{Text}
-use Rattle.sandbox_words.specs.CommandLine.{is_numeral, limited_app, named_app, number_of, program, run_app, supplied_app}
+use Rattle.sandbox_words.specs.internal.Table.{AddsSubcommands}
+use Rattle.sandbox_words.specs.CommandLine.{is_numeral, number_of, program, run_app, table_apps, with_apps, with_rules}
 
 -- ---- numbers
 
@@ -70,51 +71,50 @@ option_reads {E} gives bits (Some t) r parses none value = go r (value t refl)
 
 -- ---- the command
 
--- one more argument
-pub argument_added : (old : Command) (a : Arg) (new : Command) (app : App) (r : Rule) → AddsArg old a new
-    → (app_of old ≡ app) × ((fields_of old).has_globals ≡ false) → (rule_of a ≡ r) × (a.global ≡ false)
-    → (app_of new ≡ with_rule app r) × ((fields_of new).has_globals ≡ false)
-argument_added old a new app r added (is, local) (rule, own) = (
-  added.shape own ∙ ap₂ with_rule is rule,
-  added.globals ∙ ap₂ (λ x y. x || y) local own,
-)
-
--- one more subcommand
-pub subcommand_added : (old sub new : Command) (app : App) (leaf : App) → AddsSubcommand old sub new
-    → (app_of old ≡ app) × ((fields_of old).has_globals ≡ false) → (app_of sub ≡ leaf) × ((fields_of sub).has_globals ≡ false)
-    → (app_of new ≡ with_subcommand app leaf.top) × ((fields_of new).has_globals ≡ false)
-subcommand_added old sub new app leaf added (is, local) (sub_is, own) = (
-  added.shape own ∙ ap₂ with_subcommand is (ap (λ (a : App). a.top) sub_is),
-  added.globals ∙ ap₂ (λ x y. x || y) local own,
-)
-
 -- a command of which clap's model says this
 abbrev pub Has : Command → App → Type 0
 Has c app = (app_of c ≡ app) × ((fields_of c).has_globals ≡ false)
 
--- the same of commands that may not have been made
-pub with_argument_has : {E : Type 0} (old : Result Command E) (a : Arg) (new : Result Command E) (app : App) (r : Rule) → IfOk new (λ c. IsOkAnd old (λ d. AddsArg d a c))
-    → IfOk old (λ d. Has d app) → (rule_of a ≡ r) × (a.global ≡ false) → IfOk new (λ c. Has c (with_rule app r))
-with_argument_has (Ok d) a (Ok c) app r added stood own = argument_added d a c app r added stood own
-with_argument_has (Err e) a (Ok c) app r added stood own = elim added [ ]
-with_argument_has old a (Err e) app r added stood own = tt
+-- one more argument, where the others are still to come
+pub argument_added : (old new : Command) (a : Arg) (app : App) (r : Rule) (rest : List Rule) → AddsArg old a new → (rule_of a ≡ r) × (a.global ≡ false)
+    → (with_rules (app_of old) (r ∷ rest) ≡ app) → (with_rules (app_of new) rest ≡ app) × ((fields_of new).has_globals ≡ (fields_of old).has_globals)
+argument_added old new a app r rest added (rule, own) still = (
+  ap (λ c. with_rules c rest) (added.shape own ∙ ap (with_rule (app_of old)) rule) ∙ still,
+  added.globals ∙ ap (λ b. (fields_of old).has_globals || b) own ∙ or_false (fields_of old).has_globals,
+)
+  where
+    or_false : (b : Bool) → b || false ≡ b
+    or_false true = refl
+    or_false false = refl
 
-pub with_command_has : {E : Type 0} (old sub new : Result Command E) (app : App) (leaf : App) → IfOk new (λ c. IsOkAnd old (λ p. IsOkAnd sub (λ s. AddsSubcommand p s c)))
-    → IfOk old (λ p. Has p app) → IfOk sub (λ s. Has s leaf) → IfOk new (λ c. Has c (with_subcommand app leaf.top))
-with_command_has (Ok p) (Ok s) (Ok c) app leaf added stood made = subcommand_added p s c app leaf added stood made
-with_command_has (Ok p) (Err e) (Ok c) app leaf added stood made = elim added [ ]
-with_command_has (Err e) sub (Ok c) app leaf added stood made = elim added [ ]
-with_command_has old sub (Err e) app leaf added stood made = tt
+-- one more subcommand, where the others are still to come
+pub subcommand_added : (old new sub : Command) (app leaf : App) (rest : List App) → AddsSubcommand old sub new → Has sub leaf
+    → (with_apps (app_of old) (leaf ∷ rest) ≡ app) → (with_apps (app_of new) rest ≡ app) × ((fields_of new).has_globals ≡ (fields_of old).has_globals)
+subcommand_added old new sub app leaf rest added (is, own) still = (
+  ap (λ c. with_apps c rest) (added.shape own ∙ ap (λ (a : App). with_subcommand (app_of old) a.top) is) ∙ still,
+  added.globals ∙ ap (λ b. (fields_of old).has_globals || b) own ∙ or_false (fields_of old).has_globals,
+)
+  where
+    or_false : (b : Bool) → b || false ≡ b
+    or_false true = refl
+    or_false false = refl
+
+-- the last subcommand of the program, after those of the table
+pub program_made : (first made faults new : Command) (top leaf : App) (apps : List App) → (app_of first ≡ top) × ((fields_of first).has_globals ≡ false)
+    → AddsSubcommands first apps made → Has faults leaf → AddsSubcommand made faults new → Has new (with_subcommand (with_apps top apps) leaf.top)
+program_made first made faults new top leaf apps (is, local) table last added =
+    let one = subcommand_added made new faults _ leaf [] added last refl in
+    (one.0 ∙ ap (λ (a : App). with_subcommand a leaf.top) (table.shape ∙ ap (λ (a : App). with_apps a apps) is), one.1 ∙ (table.globals ∙ local))
 
 -- the program's command is one of which clap's model says all
 pub program_is_simple : is_simple program ≡ true
-unfolding program run_app named_app supplied_app limited_app clap_on_literals
+unfolding program table_apps run_app clap_on_literals
 program_is_simple = refl
 
 pub program_is_free : is_simple_and_free program ≡ true
-unfolding program run_app named_app supplied_app limited_app clap_on_literals
+unfolding program table_apps run_app clap_on_literals
 program_is_free = refl
 
 pub subcommand_is_required : program.top.subcommand_required ≡ true
-unfolding program
+unfolding program table_apps
 subcommand_is_required = refl

@@ -1,7 +1,7 @@
 -- The command line: the command that clap is told of, and what its matches ask for. The words are those of clap's own
 -- model: an `App` is a command with its subcommands, a `Rule` an argument, and a `Row` what was found for one
 -- (`README.md`, "The program").
-use Rattle.std.specs.Prelude.{◌≡◌, ◌≢◌, ◌↔◌, IsTrue, ◌&&◌, ◌^◌, ℕ, Bool, true, List, [], ◌∷◌, length, pos, Option, Some, None, unwrap_or, option_and_then, option_map, if◌then◌else◌, nat_lt, codes}
+use Rattle.std.specs.Prelude.{◌≡◌, ◌↔◌, IsTrue, ◌&&◌, ◌^◌, ℕ, Bool, true, List, [], ◌∷◌, length, pos, Option, Some, None, unwrap_or, option_and_then, option_map, if◌then◌else◌, nat_lt, codes}
 use Rattle.std.specs.Borrow.{Bor}
 use Rattle.std.specs.List.{Contains, list_all}
 use Rattle.std.specs.Char.{digit_value}
@@ -16,7 +16,7 @@ use Rattle.sandbox_words.specs.declared.request.Run.{Run}
 use Rattle.sandbox_words.specs.declared.request.Task.{Task}
 use Rattle.sandbox_words.specs.declared.request.Task.TheVariants.{List as Ls, Get, Put, Check, Upgrade, Stat, Change as Changing}
 use Rattle.sandbox_words.specs.declared.request.Change.{Change}
-use Rattle.sandbox_words.specs.declared.request.Change.TheVariants.{MakeDirectory, Move, Remove}
+use Rattle.sandbox_words.specs.declared.request.Change.TheVariants.{MakeDirectory, Move, Remove, RemoveAll}
 use Rattle.sandbox_words.specs.declared.request.Invocation.{Invocation}
 use Rattle.sandbox_words.specs.declared.request.Invocation.TheVariants as asked
 use Rattle.sandbox_words.specs.Request.{Text, texts}
@@ -51,6 +51,10 @@ texts_rule name = record (new_rule name) { long = Some name; action = Some Appen
 abbrev pub flag_rule : Text → Rule
 flag_rule name = record (new_rule name) { long = Some name; action = Some SetTrue }
 
+-- `--name` or the letter of this code behind one `-`
+abbrev pub short_flag_rule : Text → ℕ → Rule
+short_flag_rule name letter = record (flag_rule name) { short = Some letter }
+
 -- a word that has to be there
 abbrev pub word_rule : Text → Rule
 word_rule name = record (new_rule name) { action = Some Set; required = true }
@@ -59,63 +63,74 @@ word_rule name = record (new_rule name) { action = Some Set; required = true }
 abbrev pub number_word_rule : Text → Rule
 number_word_rule name = record (word_rule name) { parser = Some u32_numbers }
 
--- `WORD`, as often as it comes
-abbrev pub words_rule : Rule
-words_rule = record (new_rule (codes "WORD")) {
+-- a word, as often as it comes
+abbrev pub words_rule : Text → Rule
+words_rule name = record (new_rule name) {
   action = Some Append;
   range = Some (record { start_inclusive = 0; end_inclusive = usize_max });
 }
 
--- `run`, with what a guest may use
-unfoldable pub limited_app : App
-limited_app =
-    with_rule (with_rule (with_rule (with_rule (new_app (codes "run")) (text_rule (codes "volume")))
-    (number_rule (codes "fuel") u64_numbers)) (number_rule (codes "pages") u32_numbers)) (number_rule (codes "values") u32_numbers)
+-- a command with these arguments more
+abbrev pub with_rules : App → List Rule → App
+with_rules app [] = app
+with_rules app (rule ∷ rest) = with_rules (with_rule app rule) rest
 
--- and with what it is given
-unfoldable pub supplied_app : App
-supplied_app =
-    with_rule (with_rule (with_rule (with_rule limited_app (texts_rule (codes "dir"))) (texts_rule (codes "env")))
-    (number_rule (codes "moment") u64_numbers)) (text_rule (codes "random"))
+-- a command with these arguments, and nothing else
+abbrev pub app_with : Text → List Rule → App
+app_with name rules = with_rules (new_app name) rules
 
--- and with what it is called, and where it is reported
-unfoldable pub named_app : App
-named_app = with_rule (with_rule supplied_app (text_rule (codes "name"))) (text_rule (codes "report"))
+-- a command with these subcommands more
+abbrev pub with_apps : App → List App → App
+with_apps app [] = app
+with_apps app (sub ∷ rest) = with_apps (with_subcommand app sub.top) rest
 
--- and with its words
+-- `run`, with what a guest may use and is given, and where it is reported
 unfoldable pub run_app : App
-run_app = with_rule (with_rule named_app (word_rule (codes "MODULE"))) words_rule
+run_app = app_with (codes "run") (text_rule (codes "volume") ∷ text_rule (codes "image") ∷ text_rule (codes "volume-out")
+    ∷ number_rule (codes "fuel") u64_numbers ∷ number_rule (codes "pages") u32_numbers ∷ number_rule (codes "values") u32_numbers
+    ∷ texts_rule (codes "dir") ∷ texts_rule (codes "env") ∷ number_rule (codes "moment") u64_numbers
+    ∷ text_rule (codes "random") ∷ number_rule (codes "seed") u64_numbers
+    ∷ text_rule (codes "stdin") ∷ text_rule (codes "stdout") ∷ text_rule (codes "stderr")
+    ∷ text_rule (codes "name") ∷ text_rule (codes "report") ∷ text_rule (codes "tests")
+    ∷ word_rule (codes "MODULE") ∷ words_rule (codes "WORD") ∷ [])
+
+-- `inspect`, of a module
+abbrev pub inspect_app : App
+inspect_app = app_with (codes "inspect") (word_rule (codes "MODULE") ∷ [])
 
 -- a command on the volume in a file
 abbrev pub file_app : Text → App
-file_app name = with_rule (new_app name) (word_rule (codes "FILE"))
+file_app name = app_with name (word_rule (codes "FILE") ∷ [])
 
 -- and on what a path in it names
 abbrev pub path_app : Text → App
-path_app name = with_rule (file_app name) (word_rule (codes "PATH"))
+path_app name = app_with name (word_rule (codes "FILE") ∷ word_rule (codes "PATH") ∷ [])
+
+-- `rm`, of a whole tree with `-r`
+abbrev pub remove_app : App
+remove_app = app_with (codes "rm") (word_rule (codes "FILE") ∷ word_rule (codes "PATH") ∷ short_flag_rule (codes "recursive") 114 ∷ [])
 
 -- `mv`, with the path that an entry has and the one that it gets
 abbrev pub move_app : App
-move_app = with_rule (with_rule (file_app (codes "mv")) (word_rule (codes "FROM"))) (word_rule (codes "TO"))
+move_app = app_with (codes "mv") (word_rule (codes "FILE") ∷ word_rule (codes "FROM") ∷ word_rule (codes "TO") ∷ [])
 
 abbrev pub format_app : App
-format_app =
-    with_rule (with_rule (with_rule (file_app (codes "format")) (number_word_rule (codes "SECTORS")))
-    (number_word_rule (codes "SLOTS"))) (flag_rule (codes "large"))
+format_app = app_with (codes "format") (word_rule (codes "FILE") ∷ number_word_rule (codes "SECTORS") ∷ number_word_rule (codes "SLOTS")
+    ∷ flag_rule (codes "large") ∷ [])
 
 -- `faults`, which has no word, and without one prints its help
 abbrev pub faults_app : App
 faults_app = on_top (λ s. record s { arg_required_else_help = true }) (new_app (codes "faults"))
 
+-- its commands, but for `faults`
+unfoldable pub table_apps : List App
+table_apps = run_app ∷ inspect_app ∷ format_app ∷ path_app (codes "ls") ∷ path_app (codes "get") ∷ path_app (codes "put")
+    ∷ path_app (codes "import") ∷ path_app (codes "export") ∷ path_app (codes "mkdir") ∷ move_app ∷ remove_app ∷ path_app (codes "stat")
+    ∷ file_app (codes "check") ∷ file_app (codes "upgrade") ∷ []
+
 -- the program: one of its subcommands has to be there, and it tells its version
 unfoldable pub program : App
-program =
-    with_subcommand (with_subcommand (with_subcommand (with_subcommand (with_subcommand (with_subcommand (with_subcommand (with_subcommand
-    (with_subcommand (with_subcommand (with_subcommand (with_subcommand
-    (on_top (λ s. record s { subcommand_required = true; has_version = true }) (new_app (codes "sandbox")))
-    run_app.top) format_app.top) (path_app (codes "ls")).top) (path_app (codes "get")).top) (path_app (codes "put")).top)
-    (path_app (codes "mkdir")).top) move_app.top) (path_app (codes "rm")).top) (path_app (codes "stat")).top)
-    (file_app (codes "check")).top) (file_app (codes "upgrade")).top) faults_app.top
+program = with_subcommand (with_apps (on_top (λ s. record s { subcommand_required = true; has_version = true }) (new_app (codes "sandbox"))) table_apps) faults_app.top
 
 -- ---- what is asked for
 
@@ -129,9 +144,13 @@ number_of bits text =
     let digits = without_leading_plus text in
     if is_numeral digits && nat_lt (digits_value 10 digits) (2 ^ bits) then Some (digits_value 10 digits) else None
 
+-- the number of an option, if it is there
+abbrev pub number_in : ℕ → Text → List Row → Option ℕ
+number_in bits id rows = option_and_then (number_of bits) (one_of id rows)
+
 -- the number of an option, or this default
 abbrev pub number_or : ℕ → ℕ → Text → List Row → ℕ
-number_or default bits id rows = unwrap_or (option_and_then (number_of bits) (one_of id rows)) default
+number_or default bits id rows = unwrap_or (number_in bits id rows) default
 
 -- the word of an argument, or the empty one
 abbrev pub word_of : Text → List Row → Text
@@ -155,12 +174,19 @@ pub record AsksRun (rows : List Row) (run : Run) : Type 0 where
   pub pages : run.limits.pages ≡ number_or 1024 32 (codes "pages") rows
   pub values : run.limits.values ≡ number_or 134217728 32 (codes "values") rows
   pub volume : text_in run.volume ≡ first_of (codes "volume") rows
+  pub image : text_in run.image ≡ first_of (codes "image") rows
+  pub volume_out : text_in run.volume_out ≡ first_of (codes "volume-out") rows
   pub dirs : texts run.dirs.items ≡ texts_of (codes "dir") rows
   pub env : texts run.env.items ≡ texts_of (codes "env") rows
   pub moment : run.moment ≡ number_or 0 64 (codes "moment") rows
   pub random : text_in run.random ≡ first_of (codes "random") rows
+  pub seed : run.seed ≡ number_in 64 (codes "seed") rows
+  pub stdin : text_in run.stdin ≡ first_of (codes "stdin") rows
+  pub stdout : text_in run.stdout ≡ first_of (codes "stdout") rows
+  pub stderr : text_in run.stderr ≡ first_of (codes "stderr") rows
   pub name : text_in run.name ≡ first_of (codes "name") rows
   pub report : text_in run.report ≡ first_of (codes "report") rows
+  pub tests : text_in run.tests ≡ first_of (codes "tests") rows
   pub module_word : run.module.now ≡ word_of (codes "MODULE") rows
   pub words : texts run.words.items ≡ texts_of (codes "WORD") rows
 
@@ -168,7 +194,8 @@ pub record AsksRun (rows : List Row) (run : Run) : Type 0 where
 abbrev pub AsksChange : Text → List Row → Change → Type 0
 AsksChange name rows (MakeDirectory path) = (name ≡ codes "mkdir") × (path.now ≡ word_of (codes "PATH") rows)
 AsksChange name rows (Move from to) = (name ≡ codes "mv") × (from.now ≡ word_of (codes "FROM") rows) × (to.now ≡ word_of (codes "TO") rows)
-AsksChange name rows (Remove path) = (name ≡ codes "rm") × (path.now ≡ word_of (codes "PATH") rows)
+AsksChange name rows (Remove path) = (name ≡ codes "rm") × (path.now ≡ word_of (codes "PATH") rows) × (IsFlagged (codes "recursive") rows → ⊥)
+AsksChange name rows (RemoveAll path) = (name ≡ codes "rm") × (path.now ≡ word_of (codes "PATH") rows) × IsFlagged (codes "recursive") rows
 
 -- the command of this name is this task
 abbrev pub AsksTask : Text → List Row → Task → Type 0
@@ -188,10 +215,17 @@ change_names = codes "mkdir" ∷ codes "mv" ∷ codes "rm" ∷ []
 abbrev pub task_names : List Text
 task_names = codes "ls" ∷ codes "get" ∷ codes "put" ∷ codes "check" ∷ codes "upgrade" ∷ codes "stat" ∷ change_names
 
+-- the commands that are not `run`
+abbrev pub other_names : List Text
+other_names = codes "format" ∷ codes "import" ∷ codes "export" ∷ codes "inspect" ∷ task_names
+
 -- What the command of this name is asked for by what was found for its arguments. It is `run` where it is no other.
 abbrev pub AsksFor : Text → List Row → Invocation → Type 0
-AsksFor name rows (asked.Run run) = (name ≢ codes "format") × (Contains task_names name → ⊥) × AsksRun rows run
+AsksFor name rows (asked.Run run) = (Contains other_names name → ⊥) × AsksRun rows run
 AsksFor name rows (asked.Format file sectors slots large) = (name ≡ codes "format") × (file.now ≡ word_of (codes "FILE") rows)
     × (sectors ≡ number_or 0 32 (codes "SECTORS") rows) × (slots ≡ number_or 0 32 (codes "SLOTS") rows)
     × (IsTrue large ↔ IsFlagged (codes "large") rows)
 AsksFor name rows (asked.Volume file task) = (file.now ≡ word_of (codes "FILE") rows) × AsksTask name rows task
+AsksFor name rows (asked.Import file path) = (name ≡ codes "import") × (file.now ≡ word_of (codes "FILE") rows) × (path.now ≡ word_of (codes "PATH") rows)
+AsksFor name rows (asked.Export file path) = (name ≡ codes "export") × (file.now ≡ word_of (codes "FILE") rows) × (path.now ≡ word_of (codes "PATH") rows)
+AsksFor name rows (asked.Inspect «module») = (name ≡ codes "inspect") × («module».now ≡ word_of (codes "MODULE") rows)

@@ -3,6 +3,7 @@
 
 mod faults;
 mod request;
+mod table;
 mod words;
 
 pub use request::{Change, Invocation, Limits, Run, Task};

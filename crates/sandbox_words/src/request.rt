@@ -15,8 +15,13 @@ pub struct Limits {
 #[derive(Drop)]
 pub struct Run<'a> {
     pub limits: Limits,
-    /// The file of its volume; where there is none, it gets an empty volume, which is given up.
+    /// The file of its volume; where there is none, and no image, it gets an empty volume, which is
+    /// discarded.
     pub volume: Option<&'a str>,
+    /// The file whose volume it begins with; the file is only read.
+    pub image: Option<&'a str>,
+    /// The file that gets the volume as a run on an image leaves it.
+    pub volume_out: Option<&'a str>,
     /// Its directories, each as `GUEST=PATH`: the name that the guest knows it by, and its path in
     /// the volume. Where there is none, it gets the root as `/`.
     pub dirs: Vec<&'a str>,
@@ -26,10 +31,20 @@ pub struct Run<'a> {
     pub moment: u64,
     /// The file of its random bytes; where there is none, it gets none.
     pub random: Option<&'a str>,
+    /// The seed of its random bytes, where they come from a generator.
+    pub seed: Option<u64>,
+    /// The file that it reads as its standard input; where there is none, it gets the program's.
+    pub stdin: Option<&'a str>,
+    /// The file that gets its standard output; where there is none, the program's own gets it.
+    pub stdout: Option<&'a str>,
+    /// The file that gets its standard error; where there is none, the program's own gets it.
+    pub stderr: Option<&'a str>,
     /// The guest's argument 0; where there is none, it gets the word that names the module.
     pub name: Option<&'a str>,
     /// The file of its report, which says how it ended and what it used.
     pub report: Option<&'a str>,
+    /// The file of a list of tests that the module is run on.
+    pub tests: Option<&'a str>,
     /// The module's file.
     pub module: &'a str,
     /// The guest's further arguments.
@@ -45,6 +60,8 @@ pub enum Change<'a> {
     Move { from: &'a str, to: &'a str },
     /// Take away the file, or the empty directory, of this path.
     Remove { path: &'a str },
+    /// Take away the file, or the directory with all that is in it, of this path.
+    RemoveAll { path: &'a str },
 }
 
 /// What is done with the volume in a file.
@@ -83,5 +100,19 @@ pub enum Invocation<'a> {
     Volume {
         file: &'a str,
         task: Task<'a>,
+    },
+    /// Put the tar archive on the input into the directory of this path, in the volume in a file.
+    Import {
+        file: &'a str,
+        path: &'a str,
+    },
+    /// Print the directory of this path, in the volume in a file, as a tar archive.
+    Export {
+        file: &'a str,
+        path: &'a str,
+    },
+    /// Print what a module needs and offers, or why it is refused.
+    Inspect {
+        module: &'a str,
     },
 }

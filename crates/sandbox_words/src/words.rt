@@ -3,17 +3,19 @@
 ghost use Rattle.std.specs.Option.{MatchOption};
 ghost use Rattle.std.specs.List.{Contains};
 ghost use Rattle.std.specs.Prelude.{◌≡◌, ◌↔◌, IfOk, IsTrue, IsOkAnd, IsSomeAnd, Some, None, false, map, string_bytes, option_and_then};
-ghost use Rattle.clap.specs.Words.{AddsArg, AddsSubcommand, FailsBy, app_of, fault_of, first_of, found_of, one_of, rows_of, rule_of, subcommand_of};
+ghost use Rattle.clap.specs.Words.{FailsBy, app_of, fault_of, first_of, found_of, one_of, rows_of, rule_of, subcommand_of};
 ghost use Rattle.clap.specs.declared.builder.command.Command.TheViews.{out-Command as fields_of};
 ghost use Rattle.sandbox_words.specs.Request.{texts};
 ghost use Rattle.sandbox_words.specs.CommandLine.{AsksChange, AsksFor, AsksRun, AsksTask, number_of, number_rule, number_word_rule};
 ghost use Rattle.sandbox_words.specs.CommandLine.{change_names, flag_rule, task_names, text_rule, texts_rule, word_rule, words_rule};
 ghost use Rattle.sandbox_words.specs.CommandLine.{IsFlagged, text_in, texts_of, word_of};
-ghost use Rattle.sandbox_words.specs.CommandLine.{file_app, path_app, move_app, format_app, faults_app, program};
-ghost use Rattle.sandbox_words.specs.CommandLine.{limited_app, named_app, run_app, supplied_app};
+ghost use Rattle.sandbox_words.specs.CommandLine.{faults_app, program, table_apps};
+ghost use Rattle.sandbox_words.specs.internal.Table.{AddsArguments, AddsSubcommands, app_for, rule_for};
+ghost use Rattle.sandbox_words.specs.internal.Given.{AsksRunOf};
 
 use crate::faults::MEANINGS;
 use crate::request::{Change, Invocation, Limits, Run, Task};
+use crate::table::{Argument, COMMANDS, Subcommand, Takes};
 use clap::builder::ValueParser;
 use clap::{Arg, ArgAction, ArgMatches, Command, Error};
 use std::alloc::{AllocError, Global};
@@ -123,172 +125,68 @@ fn number_word<'a>(alloc: Global, name: &'a str, help: &'a str) -> Arg<'a>
     word(alloc, name, help).value_parser(clap::value_parser!(u32))
 }
 
-/// The words after the module.
-fn further_words<'a>(alloc: Global) -> Arg<'a>
-    ensures { (rule_of result ≡ words_rule) × (result.global ≡ false) }
+/// A word, any number of times.
+fn further_words<'a>(alloc: Global, name: &'a str, help: &'a str) -> Arg<'a>
+    ensures { (rule_of result ≡ words_rule name.entry.now) × (result.global ≡ false) }
 {
-    Arg::new(alloc, "WORD")
+    Arg::new(alloc, name)
         .num_args(0..)
         .action(ArgAction::Append)
-        .help("Further arguments of the guest; -- comes before one that begins with -")
+        .help(help)
 }
 
-/// A command with one argument more, where it could be made. (So that no caller leaves by `?` in between.)
-fn with_argument<'a>(
-    command: Result<Command<'a>, AllocError>,
-    argument: Arg<'a>,
-) -> Result<Command<'a>, AllocError>
-    ensures { IfOk result (λ c. IsOkAnd command.entry (λ d. AddsArg d argument.entry c)) }
+/// An argument of the table.
+fn argument<'a>(alloc: Global, row: &'static Argument) -> Arg<'a>
+    ensures { (rule_of result ≡ rule_for row.now) × (result.global ≡ false) }
 {
-    match command {
-        Ok(command) => command.arg(argument),
-        Err(error) => {
-            drop(argument);
-            Err(error)
-        }
+    let (name, help) = (row.name, row.help);
+    match row.takes {
+        Takes::Text(value) => text_option(alloc, name, value, help),
+        Takes::Texts(value) => texts_option(alloc, name, value, help),
+        Takes::Long => number_option(alloc, name, clap::value_parser!(u64), help),
+        Takes::Number => number_option(alloc, name, clap::value_parser!(u32), help),
+        Takes::Flag => flag_option(alloc, name, help),
+        Takes::ShortFlag(letter) => flag_option(alloc, name, help).short(letter),
+        Takes::Word => word(alloc, name, help),
+        Takes::NumberWord => number_word(alloc, name, help),
+        Takes::Words => further_words(alloc, name, help),
     }
 }
 
-/// `run`, with the options of what a guest may use.
-fn limited_command<'a>(alloc: Global) -> Result<Command<'a>, AllocError>
-    ensures { IfOk result (λ c. (app_of c ≡ limited_app) × ((fields_of c).has_globals ≡ false)) }
+/// A command with these arguments more.
+fn with_arguments<'a>(
+    alloc: Global,
+    mut command: Command<'a>,
+    rows: &'static [Argument],
+) -> Result<Command<'a>, AllocError>
+    ensures { IfOk result (AddsArguments command.entry (map rule_for rows.now)) }
 {
-    let about = "Run the _start of a WebAssembly module, until it ends or its fuel is used up";
-    let volume = text_option(
-        alloc,
-        "volume",
-        "FILE",
-        "The file of its volume [default: an empty volume, which is given up]",
-    );
-    let fuel = number_option(
-        alloc,
-        "fuel",
-        clap::value_parser!(u64),
-        "Units of fuel, one for each plain instruction [default: 1000000000]",
-    );
-    let pages = number_option(
-        alloc,
-        "pages",
-        clap::value_parser!(u32),
-        "Most pages of memory, each of 65536 bytes [default: 1024]",
-    );
-    let values = number_option(
-        alloc,
-        "values",
-        clap::value_parser!(u32),
-        "Most values of its stack, each of 8 bytes; 4096 at least [default: 134217728]",
-    );
-    let command = with_argument(Ok(described(Command::new(alloc, "run"), about)), volume);
-    with_argument(with_argument(with_argument(command, fuel), pages), values)
+    for row in rows {
+        command = command.arg(argument(alloc, row))?;
+    }
+    Ok(command)
 }
 
-/// `run`, also with the options of what a guest is given.
-fn supplied_command<'a>(alloc: Global) -> Result<Command<'a>, AllocError>
-    ensures { IfOk result (λ c. (app_of c ≡ supplied_app) × ((fields_of c).has_globals ≡ false)) }
+/// A command of the table.
+fn subcommand<'a>(alloc: Global, row: &'static Subcommand) -> Result<Command<'a>, AllocError>
+    ensures { IfOk result (λ c. (app_of c ≡ app_for row.now) × ((fields_of c).has_globals ≡ false)) }
 {
-    let directory = texts_option(
-        alloc,
-        "dir",
-        "GUEST=PATH",
-        "A directory of the volume and its name for the guest, as often as wanted [default: /=/]",
-    );
-    let variable = texts_option(
-        alloc,
-        "env",
-        "NAME=VALUE",
-        "A text of its environment, as often as wanted",
-    );
-    let moment = number_option(
-        alloc,
-        "moment",
-        clap::value_parser!(u64),
-        "Its time of day, in nanoseconds since 1970-01-01 00:00:00 UTC [default: 0]",
-    );
-    let random = text_option(
-        alloc,
-        "random",
-        "FILE",
-        "The file of its random bytes [default: none]",
-    );
-    let command = with_argument(with_argument(limited_command(alloc), directory), variable);
-    with_argument(with_argument(command, moment), random)
+    let command = described(Command::new(alloc, row.name), row.about);
+    with_arguments(alloc, command, row.arguments)
 }
 
-/// `run`, also with the options of what it is called and where it is reported.
-fn named_command<'a>(alloc: Global) -> Result<Command<'a>, AllocError>
-    ensures { IfOk result (λ c. (app_of c ≡ named_app) × ((fields_of c).has_globals ≡ false)) }
+/// A command with these subcommands more.
+fn with_subcommands<'a>(
+    alloc: Global,
+    mut command: Command<'a>,
+    rows: &'static [Subcommand],
+) -> Result<Command<'a>, AllocError>
+    ensures { IfOk result (AddsSubcommands command.entry (map app_for rows.now)) }
 {
-    let name = text_option(
-        alloc,
-        "name",
-        "WORD",
-        "Its argument 0 [default: the word MODULE]",
-    );
-    let report = text_option(
-        alloc,
-        "report",
-        "FILE",
-        "The file to be made with what it used and how it ended, a line key:value each",
-    );
-    with_argument(with_argument(supplied_command(alloc), name), report)
-}
-
-/// `run`, with its arguments.
-fn run_command<'a>(alloc: Global) -> Result<Command<'a>, AllocError>
-    ensures { IfOk result (λ c. (app_of c ≡ run_app) × ((fields_of c).has_globals ≡ false)) }
-{
-    let module = "The module's file; the guest gets this word as argument 0, without --name";
-    let command = with_argument(named_command(alloc), word(alloc, "MODULE", module));
-    with_argument(command, further_words(alloc))
-}
-
-/// A command on the volume in a file.
-fn file_command<'a>(alloc: Global, name: &'a str, about: &'a str) -> Result<Command<'a>, AllocError>
-    ensures { IfOk result (λ c. (app_of c ≡ file_app name.entry.now)
-        × ((fields_of c).has_globals ≡ false)) }
-{
-    described(Command::new(alloc, name), about).arg(word(alloc, "FILE", "The volume's file"))
-}
-
-/// A command on what a path in a volume names.
-fn path_command<'a>(alloc: Global, name: &'a str, about: &'a str) -> Result<Command<'a>, AllocError>
-    ensures { IfOk result (λ c. (app_of c ≡ path_app name.entry.now)
-        × ((fields_of c).has_globals ≡ false)) }
-{
-    with_argument(
-        file_command(alloc, name, about),
-        word(alloc, "PATH", "The path, which begins with /"),
-    )
-}
-
-/// `mv`, with its arguments.
-fn move_command<'a>(alloc: Global) -> Result<Command<'a>, AllocError>
-    ensures { IfOk result (λ c. (app_of c ≡ move_app) × ((fields_of c).has_globals ≡ false)) }
-{
-    let about = "Give an entry another place or name; a file or an empty directory there goes";
-    let from = word(alloc, "FROM", "The path of the entry, which begins with /");
-    let to = word(alloc, "TO", "The path that it gets, which begins with /");
-    with_argument(with_argument(file_command(alloc, "mv", about), from), to)
-}
-
-/// `format`, with its arguments.
-fn format_command<'a>(alloc: Global) -> Result<Command<'a>, AllocError>
-    ensures { IfOk result (λ c. (app_of c ≡ format_app) × ((fields_of c).has_globals ≡ false)) }
-{
-    let about = "Make a file an empty volume; it is made, or lengthened, where that is needed";
-    let sectors = number_word(alloc, "SECTORS", "Sectors of 512 bytes, 137 to 65536");
-    let slots = number_word(
-        alloc,
-        "SLOTS",
-        "Slots for entries, 1 to 8192 and fewer than SECTORS - 122",
-    );
-    let large = flag_option(
-        alloc,
-        "large",
-        "Make it one of version 2, whose files have up to 8483840 bytes instead of 95232",
-    );
-    let command = with_argument(file_command(alloc, "format", about), sectors);
-    with_argument(with_argument(command, slots), large)
+    for row in rows {
+        command = command.subcommand(subcommand(alloc, row)?)?;
+    }
+    Ok(command)
 }
 
 /// `faults`, which prints its help and does nothing else.
@@ -301,62 +199,24 @@ fn faults_command<'a>(alloc: Global) -> Command<'a>
         .arg_required_else_help(true)
 }
 
-/// A command with one subcommand more, where both could be made.
-fn with_command<'a>(
-    program: Result<Command<'a>, AllocError>,
-    subcommand: Result<Command<'a>, AllocError>,
-) -> Result<Command<'a>, AllocError>
-    ensures { IfOk result (λ c. IsOkAnd program.entry (λ p. IsOkAnd subcommand.entry (λ s. AddsSubcommand p s c))) }
+/// A command with the subcommands of the table. (Nothing else stands in it, since each function that names the table is
+/// expensive to check.)
+fn with_table<'a>(alloc: Global, command: Command<'a>) -> Result<Command<'a>, AllocError>
+    ensures { IfOk result (AddsSubcommands command.entry table_apps) }
 {
-    let program = match program {
-        Ok(program) => program,
-        Err(error) => {
-            drop(subcommand);
-            return Err(error);
-        }
-    };
-    match subcommand {
-        Ok(subcommand) => program.subcommand(subcommand),
-        Err(error) => {
-            drop(program);
-            Err(error)
-        }
-    }
+    with_subcommands(alloc, command, &COMMANDS)
 }
 
 /// The program, of whose commands one has to be there.
 fn command<'a>(alloc: Global) -> Result<Command<'a>, AllocError>
     ensures { IfOk result (λ c. (app_of c ≡ program) × ((fields_of c).has_globals ≡ false)) }
 {
+    let about =
+        "Runs command-line WebAssembly programs with exact fuel, and keeps volumes of files";
     let program = Command::new(alloc, "sandbox")
         .version(VERSION)
         .subcommand_required(true);
-    let about =
-        "Runs command-line WebAssembly programs with exact fuel, and keeps volumes of files";
-    let program = with_command(Ok(described(program, about)), run_command(alloc));
-    let program = with_command(program, format_command(alloc));
-    let list = path_command(alloc, "ls", "Print the entries of a directory");
-    let program = with_command(program, list);
-    let get = path_command(alloc, "get", "Print a file");
-    let program = with_command(program, get);
-    let put = path_command(alloc, "put", "Put standard input into a file");
-    let program = with_command(program, put);
-    let make = path_command(alloc, "mkdir", "Make a directory");
-    let program = with_command(program, make);
-    let program = with_command(program, move_command(alloc));
-    let remove = path_command(alloc, "rm", "Remove a file, or an empty directory");
-    let program = with_command(program, remove);
-    let stat = path_command(
-        alloc,
-        "stat",
-        "Print the kind, the size and the serial of an entry",
-    );
-    let program = with_command(program, stat);
-    let check = file_command(alloc, "check", "Print how much of a volume is used");
-    let program = with_command(program, check);
-    let upgrade = file_command(alloc, "upgrade", "Make a volume one of version 2");
-    let program = with_command(program, upgrade);
-    with_command(program, Ok(faults_command(alloc)))
+    with_table(alloc, described(program, about))?.subcommand(faults_command(alloc))
 }
 
 /// The text of an argument, or the empty one.
@@ -407,26 +267,49 @@ fn long_number(matches: &ArgMatches<'_>, id: &str) -> Option<u64>
     matches.get_one::<u64>(id)
 }
 
+/// What `run` is asked for, with these lists of texts. (So that no list is alive while another may be refused.)
+fn run_with<'a>(
+    matches: &ArgMatches<'a>,
+    dirs: Vec<&'a str>,
+    env: Vec<&'a str>,
+    words: Vec<&'a str>,
+) -> Run<'a>
+    ensures { AsksRunOf (rows_of (found_of matches.now)) dirs.entry.items env.entry.items words.entry.items result }
+{
+    let limits = Limits {
+        fuel: long_number(matches, "fuel").unwrap_or(FUEL),
+        pages: number(matches, "pages").unwrap_or(PAGES),
+        values: number(matches, "values").unwrap_or(VALUES),
+    };
+    Run {
+        limits,
+        volume: option_text(matches, "volume"),
+        image: option_text(matches, "image"),
+        volume_out: option_text(matches, "volume-out"),
+        dirs,
+        env,
+        moment: long_number(matches, "moment").unwrap_or(0),
+        random: option_text(matches, "random"),
+        seed: long_number(matches, "seed"),
+        stdin: option_text(matches, "stdin"),
+        stdout: option_text(matches, "stdout"),
+        stderr: option_text(matches, "stderr"),
+        name: option_text(matches, "name"),
+        report: option_text(matches, "report"),
+        tests: option_text(matches, "tests"),
+        module: text(matches, "MODULE"),
+        words,
+    }
+}
+
 /// What `run` is asked for by what was found for its arguments.
 fn run_given<'a>(alloc: Global, matches: &ArgMatches<'a>) -> Result<Run<'a>, AllocError>
     ensures { IfOk result (AsksRun (rows_of (found_of matches.now))) }
 {
-    Ok(Run {
-        limits: Limits {
-            fuel: long_number(matches, "fuel").unwrap_or(FUEL),
-            pages: number(matches, "pages").unwrap_or(PAGES),
-            values: number(matches, "values").unwrap_or(VALUES),
-        },
-        volume: option_text(matches, "volume"),
-        dirs: texts(alloc, matches, "dir")?,
-        env: texts(alloc, matches, "env")?,
-        moment: long_number(matches, "moment").unwrap_or(0),
-        random: option_text(matches, "random"),
-        name: option_text(matches, "name"),
-        report: option_text(matches, "report"),
-        module: text(matches, "MODULE"),
-        words: texts(alloc, matches, "WORD")?,
-    })
+    let dirs = texts(alloc, matches, "dir")?;
+    let env = texts(alloc, matches, "env")?;
+    let words = texts(alloc, matches, "WORD")?;
+    Ok(run_with(matches, dirs, env, words))
 }
 
 /// What the command of this name changes in a volume; none where it is no such command.
@@ -440,6 +323,7 @@ fn change_given<'a>(name: &str, matches: &ArgMatches<'a>) -> Option<Change<'a>>
     match name {
         "mkdir" => Some(Change::MakeDirectory { path }),
         "mv" => Some(Change::Move { from, to }),
+        "rm" if is_flagged(matches, "recursive") => Some(Change::RemoveAll { path }),
         "rm" => Some(Change::Remove { path }),
         _ => None,
     }
@@ -474,17 +358,22 @@ fn asked<'a>(
     ensures { IfOk result (AsksFor name.now (rows_of (found_of matches.now))) }
 {
     let file = text(matches, "FILE");
-    if name == "format" {
-        return Ok(Invocation::Format {
+    let path = text(matches, "PATH");
+    let module = text(matches, "MODULE");
+    match name {
+        "format" => Ok(Invocation::Format {
             file,
             sectors: number(matches, "SECTORS").unwrap_or(0),
             slots: number(matches, "SLOTS").unwrap_or(0),
             large: is_flagged(matches, "large"),
-        });
-    }
-    match task_given(name, matches) {
-        Some(task) => Ok(Invocation::Volume { file, task }),
-        None => Ok(Invocation::Run(run_given(alloc, matches)?)),
+        }),
+        "import" => Ok(Invocation::Import { file, path }),
+        "export" => Ok(Invocation::Export { file, path }),
+        "inspect" => Ok(Invocation::Inspect { module }),
+        _ => match task_given(name, matches) {
+            Some(task) => Ok(Invocation::Volume { file, task }),
+            None => Ok(Invocation::Run(run_given(alloc, matches)?)),
+        },
     }
 }
 

@@ -1,19 +1,4 @@
-use Rattle.std.proofs.Common.{◌∙◌, ℕ, Option, ap, unwrap_or}
 use Rattle.sandbox_words.proofs.words.run_given.Goals as goal
 
--- each getter reads what the rows have
 pub returns : goal.returns
-returns c = record {
-  fuel = c.unwrap_or.ensures ∙ ap (λ (o : Option ℕ). unwrap_or o 1000000000) c.long_number.ensures;
-  pages = c.unwrap_or-2.ensures ∙ ap (λ (o : Option ℕ). unwrap_or o 1024) c.number.ensures;
-  values = c.unwrap_or-3.ensures ∙ ap (λ (o : Option ℕ). unwrap_or o 134217728) c.number-2.ensures;
-  volume = c.option_text.ensures;
-  dirs = c.in_ok-texts.ensures;
-  env = c.in_ok-texts-2.ensures;
-  moment = c.unwrap_or-4.ensures ∙ ap (λ (o : Option ℕ). unwrap_or o 0) c.long_number-2.ensures;
-  random = c.option_text-2.ensures;
-  name = c.option_text-3.ensures;
-  report = c.option_text-4.ensures;
-  module_word = c.text.ensures;
-  words = c.in_ok-texts-3.ensures;
-}
+returns c = c.run_with.ensures c.in_ok-dirs.ensures c.in_ok-env.ensures c.in_ok-words.ensures

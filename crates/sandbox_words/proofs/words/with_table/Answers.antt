@@ -1,0 +1,7 @@
+use Rattle.sandbox_words.specs.CommandLine.{run_app, table_apps}
+use Rattle.sandbox_words.proofs.words.with_table.Goals as goal
+
+-- the rows of the table spell these commands
+pub returns : goal.returns
+unfolding table_apps run_app
+returns c = c.with_subcommands.ensures

@@ -1,0 +1,39 @@
+-- What clap's model says of the rows of the table (`src/table.rt`).
+use Rattle.std.specs.Prelude.{◌≡◌, List, map}
+use Rattle.clap.specs.Words.{App, Rule, app_of}
+use Rattle.clap.specs.declared.builder.command.Command.{Command}
+use Rattle.clap.specs.declared.builder.command.Command.TheViews.{out-Command as fields_of}
+use Rattle.sandbox_words.specs.declared.table.Takes.TheVariants as takes
+use Rattle.sandbox_words.specs.declared.table.Takes.{Takes}
+use Rattle.sandbox_words.specs.declared.table.Argument.{Argument}
+use Rattle.sandbox_words.specs.declared.table.Subcommand.{Subcommand}
+use Rattle.sandbox_words.specs.Request.{Text}
+use Rattle.sandbox_words.specs.CommandLine.{app_with, flag_rule, number_rule, number_word_rule, short_flag_rule, text_rule, texts_rule, u32_numbers, u64_numbers, with_apps, with_rules, word_rule, words_rule}
+
+-- the argument of this name that takes this
+abbrev pub rule_that : Text → Takes → Rule
+rule_that name (takes.Text value) = text_rule name
+rule_that name (takes.Texts value) = texts_rule name
+rule_that name takes.Long = number_rule name u64_numbers
+rule_that name takes.Number = number_rule name u32_numbers
+rule_that name takes.Flag = flag_rule name
+rule_that name (takes.ShortFlag letter) = short_flag_rule name letter
+rule_that name takes.Word = word_rule name
+rule_that name takes.NumberWord = number_word_rule name
+rule_that name takes.Words = words_rule name
+
+abbrev pub rule_for : Argument → Rule
+rule_for argument = rule_that argument.name.now argument.takes
+
+abbrev pub app_for : Subcommand → App
+app_for row = app_with row.name.now (map rule_for row.arguments.now)
+
+-- the new command is the old one with these arguments more
+pub record AddsArguments (old : Command) (rules : List Rule) (new : Command) : Type 0 where
+  pub shape : app_of new ≡ with_rules (app_of old) rules
+  pub globals : (fields_of new).has_globals ≡ (fields_of old).has_globals
+
+-- and with these subcommands more
+pub record AddsSubcommands (old : Command) (apps : List App) (new : Command) : Type 0 where
+  pub shape : app_of new ≡ with_apps (app_of old) apps
+  pub globals : (fields_of new).has_globals ≡ (fields_of old).has_globals
