@@ -16,7 +16,7 @@ use Rattle.sandbox_words.specs.declared.request.Run.{Run}
 use Rattle.sandbox_words.specs.declared.request.Task.{Task}
 use Rattle.sandbox_words.specs.declared.request.Task.TheVariants.{List as Ls, Get, Put, Check, Upgrade, Stat, Change as Changing}
 use Rattle.sandbox_words.specs.declared.request.Change.{Change}
-use Rattle.sandbox_words.specs.declared.request.Change.TheVariants.{MakeDirectory, Move, Remove}
+use Rattle.sandbox_words.specs.declared.request.Change.TheVariants.{MakeDirectory, Move, Remove, RemoveAll}
 use Rattle.sandbox_words.specs.declared.request.Invocation.{Invocation}
 use Rattle.sandbox_words.specs.declared.request.Invocation.TheVariants as asked
 use Rattle.sandbox_words.specs.Request.{Text, texts}
@@ -169,6 +169,7 @@ abbrev pub AsksChange : Text → List Row → Change → Type 0
 AsksChange name rows (MakeDirectory path) = (name ≡ codes "mkdir") × (path.now ≡ word_of (codes "PATH") rows)
 AsksChange name rows (Move from to) = (name ≡ codes "mv") × (from.now ≡ word_of (codes "FROM") rows) × (to.now ≡ word_of (codes "TO") rows)
 AsksChange name rows (Remove path) = (name ≡ codes "rm") × (path.now ≡ word_of (codes "PATH") rows)
+AsksChange name rows (RemoveAll path) = ⊥
 
 -- the command of this name is this task
 abbrev pub AsksTask : Text → List Row → Task → Type 0

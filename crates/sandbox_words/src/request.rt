@@ -45,6 +45,8 @@ pub enum Change<'a> {
     Move { from: &'a str, to: &'a str },
     /// Take away the file, or the empty directory, of this path.
     Remove { path: &'a str },
+    /// Take away the entry of this path, and all below it.
+    RemoveAll { path: &'a str },
 }
 
 /// What is done with the volume in a file.
