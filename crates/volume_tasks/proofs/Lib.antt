@@ -15,3 +15,6 @@ mod Refusals
 mod Meant
 mod Changed
 mod Described
+mod WaysDown
+mod Thinned
+mod Removed

@@ -9,6 +9,7 @@ mod opening;
 mod output;
 mod printing;
 mod putting;
+mod removing;
 mod tasks;
 mod volume_path;
 
