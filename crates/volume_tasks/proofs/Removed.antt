@@ -51,12 +51,6 @@ module _ {D : Type 0} (honest : D → Type 0) (disk : D → Disk) (size failures
       made (Ok x) is = inr (with_ok (m a.tree) b.tree is)
       made (Err e) is = tt
 
-  -- one that is refused before it begins
-  pub applied_refused : (m : Meaning) (P : Tree → Tree → Type 0) (a b : Opened D) (e : Errno) (r : Result (Unit {0}) Errno) → P a.tree a.tree → Asked honest disk size failures a b (is_io {X = Unit {0}} (Err e))
-      → (honest a.device → (m a.tree ≡ Err e) ⊎ (e ≡ errno.Io)) → IsErrAnd r (λ f. f ≡ e) → Applied honest disk size failures m P a b r
-  applied_refused m P a b e (Ok x) same asked why err = absurd err
-  applied_refused m P a b e (Err f) same asked why err = applies m P a b (Err f) same (λ h. tt) (refused_on honest disk size failures m a b e (Err f) asked why err)
-
   -- one after others that only asked, where the same is said otherwise
   pub applied_after : (m n : Meaning) (P Q : Tree → Tree → Type 0) (a b c : Opened D) (r : Result (Unit {0}) Errno) → Asked honest disk size failures a b false → (honest a.device → m a.tree ≡ n a.tree)
       → (honest a.device → (U : Tree) → P a.tree U → Q a.tree U) → Applied honest disk size failures m P b c r → Applied honest disk size failures n Q a c r
@@ -86,9 +80,6 @@ module _ {D : Type 0} (honest : D → Type 0) (disk : D → Disk) (size failures
 -- ---- the tree of a path
 
 module _ (T : Tree) (path : List ℕ) where
-  pub removal_root : (top : ℕ) → serial_named T path ≡ Ok top → top ≡ 1 → tree_removed T path ≡ Err errno.Invalid
-  removal_root top is root = ap (λ (r : Result ℕ Errno). r >>= (λ serial. if serial == 1 then Err errno.Invalid else Ok serial) >>= λ top. Ok (without T top)) (is ∙ ap Ok root)
-
   pub removal_top : (top : ℕ) → serial_named T path ≡ Ok top → top ≢ 1 → top_named T path ≡ Ok top
   removal_top top is other =
       ap (λ (r : Result ℕ Errno). let next : Result ℕ Errno = r >>= (λ serial. if serial == 1 then Err errno.Invalid else Ok serial) in next) is
@@ -96,11 +87,6 @@ module _ (T : Tree) (path : List ℕ) where
 
   pub removal_is : (top : ℕ) → top_named T path ≡ Ok top → Ok (without T top) ≡ tree_removed T path
   removal_is top is = sym (ap (λ (r : Result ℕ Errno). let next : Result Tree Errno = r >>= λ top. Ok (without T top) in next) is)
-
-  pub removal_refused : (e : Errno) → (serial_named T path ≡ Err e) ⊎ (e ≡ errno.Io) → (tree_removed T path ≡ Err e) ⊎ (e ≡ errno.Io)
-  removal_refused e why = ⊎_elim
-      (λ is. inl (ap (λ (r : Result ℕ Errno). let next : Result Tree Errno = r >>= (λ serial. if serial == 1 then Err errno.Invalid else Ok serial) >>= λ top. Ok (without T top) in next) is))
-      (λ io. inr io) why
 
 -- ---- one turn of a removal
 
