@@ -18,3 +18,5 @@ mod Described
 mod WaysDown
 mod Thinned
 mod Removed
+mod RemovedMap
+mod Brought

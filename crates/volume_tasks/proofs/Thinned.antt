@@ -28,6 +28,10 @@ get_or-kept_from n k goes [] i at = sym (if_none (goes k) None refl)
 get_or-kept_from n k goes (e ∷ T) zero at = ap (λ (m : ℕ). if goes m then None else e) (let same : n ≡ k = omega arith in same)
 get_or-kept_from n k goes (e ∷ T) (suc i) at = get_or-kept_from (suc n) k goes T i (omega arith)
 
+pub entry-without : (T : Tree) (top s : ℕ) → entry (without T top) s ≡ (if is_within (length T) T top s then None else entry T s)
+entry-without T top zero = sym (if_none (is_within (length T) T top zero) None refl)
+entry-without T top (suc i) = get_or-kept_from 1 (suc i) (is_within (length T) T top) T i (omega arith)
+
 length-changed : (T : Tree) (s : ℕ) (o : Option Entry) → length (changed T s o) ≡ length T
 length-changed T zero o = refl
 length-changed T (suc slot) o = length-set T slot o
@@ -148,7 +152,7 @@ module _ (T : Tree) (top : ℕ) (U : Tree) (thin : IsThinned T top U) where
     pub whole_gone : changed U top None ≡ without T top
     whole_gone = ext_get_or None (changed U top None) (without T top)
         (length-changed U top None ∙ (thin.slots ∙ sym (length-kept_from 1 (is_within (length T) T top) T)))
-        (λ i low. each (suc i) ∙ sym (get_or-kept_from 1 (suc i) (is_within (length T) T top) T i (omega arith)))
+        (λ i low. each (suc i) ∙ sym (entry-without T top (suc i)))
 
 -- ---- the state of a removal
 
