@@ -1,6 +1,6 @@
 -- The steps of a change that takes several calls of the volume.
-use Rattle.std.proofs.Common.{◌≡◌, ◌≢◌, ◌⊎◌, ⊎_elim, inl, inr, ◌==◌, ◌+◌, ℕ, Bool, false, IsSome, List, Option, None, Some, Result, Ok, Err, OnOk, IsErrAnd, if◌then◌else◌, refl, sym, ◌∙◌, ap, subst}
-use Rattle.std.proofs.lemmas.Bool.{cond-true, cond-false, eq-eqb, ne_eqb}
+use Rattle.std.proofs.Common.{◌≡◌, ◌≢◌, ◌⊎◌, ⊎_elim, inl, inr, ◌==◌, ◌+◌, ℕ, Bool, false, IsSome, List, None, Result, Ok, Err, OnOk, IsErrAnd, if◌then◌else◌, refl, sym, ◌∙◌, ap, subst}
+use Rattle.std.proofs.lemmas.Bool.{cond-false, ne_eqb}
 use Rattle.vol_sector.specs.Disk.{Disk, Leaves}
 use Rattle.vol_tree.specs.declared.errno.Errno.{Errno}
 use Rattle.vol_tree.specs.declared.errno.Errno.TheVariants as errno
@@ -10,11 +10,10 @@ use Rattle.vol_tree.specs.Opened.{Opened, Answers, Keeps, ReflectsOr, is_io}
 use Rattle.path_walk.specs.Paths.{◌>>=◌}
 use Rattle.path_walk.specs.Walk.{Asked}
 use Rattle.volume_tasks.specs.Tasks.{ReflectsAny, serial_named}
-use Rattle.volume_tasks.specs.Changes.{IsPartOfRemoval, IsThinned, top_named, tree_removed, without}
+use Rattle.volume_tasks.specs.Changes.{IsThinned, top_named, tree_removed, without}
 use Rattle.volume_tasks.specs.internal.Changing.{Applied, AnswersOrStops, Changed, IsLeafBelow}
 use Rattle.volume_tasks.proofs.Asking.{keeps_then}
 use Rattle.volume_tasks.proofs.Beginning.{any_after, any_same, any_then, leaves_more}
-use Rattle.volume_tasks.proofs.Changed.{refused_on}
 use Rattle.volume_tasks.proofs.Filled.{with_err, with_ok}
 use Rattle.volume_tasks.proofs.Thinned.{IsAmid, amid_last, amid_next, leaf_gone, next_used}
 

@@ -1,8 +1,8 @@
 -- A tree from which entries at or below one are taken, a leaf at a time.
-use Rattle.std.proofs.Common.{is_some, ◌≡◌, ◌≢◌, ◌⊎◌, ⊎_elim, ℕ, zero, suc, ◌+◌, ◌≤◌, ◌<◌, Bool, true, false, List, [], ◌∷◌, ◌++◌, length, get_or, set, Option, Some, None, IsSome, if◌then◌else◌, inl, inr, refl, sym, ◌∙◌, ap, subst, arith, length-set, ext_get_or}
+use Rattle.std.proofs.Common.{is_some, ◌≡◌, ◌≢◌, ⊎_elim, ℕ, zero, suc, ◌+◌, ◌≤◌, Bool, true, false, List, [], ◌∷◌, ◌++◌, length, get_or, set, Option, Some, None, IsSome, if◌then◌else◌, inl, inr, refl, sym, ◌∙◌, ap, subst, arith, length-set, ext_get_or}
 use Rattle.std.proofs.lemmas.Option.{same_Some, none-some}
 use Rattle.std.proofs.lemmas.Bool.{cases_Bool, cases_eq, cond-true, cond-false, false≢true}
-use Rattle.vol_tree.specs.Tree.{Tree, Path, Entry, entry, changed, Leads, IsTree, IsDirectory, root}
+use Rattle.vol_tree.specs.Tree.{Tree, Path, Entry, entry, changed, Leads, IsTree, root}
 use Rattle.std.specs.Option.{option_map_or}
 use Rattle.vol_tree.specs.Calls.{is_within, parent_at}
 use Rattle.vol_tree.specs.PathLaws.{IsBelow}

@@ -1,10 +1,10 @@
 -- A way down from an entry to one in which nothing stands.
-use Rattle.std.proofs.Common.{is_some, ◌≡◌, ◌⊎◌, ℕ, zero, suc, ◌+◌, ◌≤◌, ◌<◌, Bool, true, false, ◌||◌, not, List, [], ◌∷◌, ◌++◌, length, get_or, Option, Some, None, IsSome, inl, inr, refl, sym, ◌∙◌, ap, subst, arith, length-append, eqb}
+use Rattle.std.proofs.Common.{◌≡◌, ℕ, zero, suc, ◌+◌, ◌≤◌, Bool, true, false, ◌||◌, not, [], ◌∷◌, ◌++◌, length, get_or, Option, Some, None, IsSome, inl, inr, refl, sym, ◌∙◌, ap, subst, arith, length-append, eqb}
 use Rattle.std.specs.Option.{option_map_or}
 use Rattle.std.specs.List.{list_any}
 use Rattle.std.proofs.lemmas.Option.{same_Some, none-some}
 use Rattle.std.proofs.lemmas.Bool.{cases_Bool, cond-true, cond-false, eqb-true, false≢true, or_cases}
-use Rattle.vol_tree.specs.Tree.{Tree, Path, Entry, entry, is_in, is_empty, least_from, Leads, IsAt, IsTree}
+use Rattle.vol_tree.specs.Tree.{Tree, Path, Entry, entry, is_in, least_from, Leads, IsTree}
 use Rattle.vol_tree.specs.Calls.{is_within, next_child}
 use Rattle.vol_tree.proofs.Entries.{leads_on, one_path}
 use Rattle.vol_tree.proofs.Within.{within_below}

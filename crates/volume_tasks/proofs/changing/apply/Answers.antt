@@ -1,5 +1,4 @@
 use Rattle.std.proofs.Common.{sym, subst}
-use Rattle.vol_tree.specs.Tree.{Tree}
 use Rattle.sandbox_words.specs.declared.request.Change.{Change}
 use Rattle.volume_tasks.specs.Changes.{IsPartOfChange, directory_made, entry_moved, entry_removed, meant}
 use Rattle.volume_tasks.specs.internal.Changing.{Applied}
