@@ -16,10 +16,10 @@ use Rattle.volume_tasks.specs.declared.failure.Failure.{Failure}
 use Rattle.volume_tasks.specs.declared.failure.Failure.TheVariants as failure
 use Rattle.volume_tasks.specs.Tasks.{ReflectsAny}
 use Rattle.volume_tasks.specs.Changes.{Changes, IsPartOfChange, meant}
-use Rattle.volume_tasks.specs.internal.Changing.{Changed}
+use Rattle.volume_tasks.specs.internal.Changing.{AnswersOrStops, Changed}
 use Rattle.volume_tasks.proofs.Asking.{keeps_then}
-use Rattle.volume_tasks.proofs.Beginning.{any_same, any_then, leaves_more, quiet_or}
-use Rattle.volume_tasks.proofs.Filled.{synced_not, with_err, with_ok}
+use Rattle.volume_tasks.proofs.Beginning.{any_then, leaves_more, quiet_or}
+use Rattle.volume_tasks.proofs.Filled.{synced_not, with_ok}
 
 abbrev Meaning : Type 0
 Meaning = Tree → Result Tree Errno
@@ -109,26 +109,22 @@ module _ {D : Type 0} (honest : D → Type 0) (disk : D → Disk) (size failures
 
 -- ---- and then a sync
 
--- a change that is refused leaves the tree
-pub change_refused : (T : Tree) (change : Change) (U : Tree) (e : Errno) (r : Result (Unit {0}) Failure) → Answers (with_unit (meant T change)) T U (Err e) → IsErrAnd r (λ f. f ≡ failure.Tree e) → Changes T change U r
-change_refused T change U e (Ok x) why err = absurd err
-change_refused T change U e (Err f) why err =
-    subst (λ (f : Failure). Changes T change U (Err f)) (sym err)
-    (⊎_elim (λ is. inl (with_err (meant T change) e is, why.0)) (λ io. inr (io, inl why.0)) why.1)
+-- a change that is refused leaves the tree, or the device stopped it
+pub change_refused : (T : Tree) (change : Change) (U : Tree) (e : Errno) (r : Result (Unit {0}) Failure) → AnswersOrStops (meant T change) T U (Err e) → IsPartOfChange T change U → IsErrAnd r (λ f. f ≡ failure.Tree e) → Changes T change U r
+change_refused T change U e (Ok x) why part err = absurd err
+change_refused T change U e (Err f) why part err =
+    subst (λ (f : Failure). Changes T change U (Err f)) (sym err) (⊎_elim (λ is. inl is) (λ io. inr (io, part)) why)
 
--- a sync that is refused leaves the tree that is meant
-pub sync_refused : (T : Tree) (change : Change) (M U : Tree) (e : Errno) (r : Result (Unit {0}) Failure) → with_unit (meant T change) ≡ Ok (M, tt) → Answers (with_unit (Ok M)) M U (Err e) → IsErrAnd r (λ f. f ≡ failure.Tree e) → Changes T change U r
-sync_refused T change M U e (Ok x) is why err = absurd err
-sync_refused T change M U e (Err f) is why err =
+-- a sync that is refused leaves the tree that was made
+pub sync_refused : (T : Tree) (change : Change) (M U : Tree) (e : Errno) (r : Result (Unit {0}) Failure) → IsPartOfChange T change M → Answers (with_unit (Ok M)) M U (Err e) → IsErrAnd r (λ f. f ≡ failure.Tree e) → Changes T change U r
+sync_refused T change M U e (Ok x) part why err = absurd err
+sync_refused T change M U e (Err f) part why err =
     subst (λ (f : Failure). Changes T change U (Err f)) (sym err)
-    (inr (synced_not M e why.1, inr (with_ok (meant T change) M is ∙ ap Ok (sym why.0))))
+    (inr (synced_not M e why.1, subst (λ (V : Tree). IsPartOfChange T change V) (sym why.0) part))
 
-pub synced : (T : Tree) (change : Change) (M U : Tree) → with_unit (meant T change) ≡ Ok (M, tt) → with_unit (Ok M) ≡ Ok (U, tt) → meant T change ≡ Ok U
-synced T change M U is same = with_ok (meant T change) M is ∙ with_ok (Ok M) U same
+pub synced : (T : Tree) (change : Change) (M U : Tree) → meant T change ≡ Ok M → with_unit (Ok M) ≡ Ok (U, tt) → meant T change ≡ Ok U
+synced T change M U is same = is ∙ with_ok (Ok M) U same
 
 module _ (a b : Disk) (v : Superblock) (T : Tree) (change : Change) where
-  pub change_left : Leaves a b (ReflectsOr a v T) → Leaves a b (ReflectsAny a v (IsPartOfChange T change))
-  change_left first = any_then a v (IsPartOfChange T change) a b v T refl (inl refl) (any_same a v (IsPartOfChange T change)) first
-
-  pub sync_left : (d : Disk) (w : Superblock) (M : Tree) → w ≡ v → with_unit (meant T change) ≡ Ok (M, tt) → Leaves a b (ReflectsOr a v T) → Leaves b d (ReflectsOr b w M) → Leaves a d (ReflectsAny a v (IsPartOfChange T change))
-  sync_left d w M numbers is first next = any_then a v (IsPartOfChange T change) b d w M numbers (inr (with_ok (meant T change) M is)) (change_left first) next
+  pub sync_left : (d : Disk) (w : Superblock) (M : Tree) → w ≡ v → IsPartOfChange T change M → Leaves a b (ReflectsAny a v (IsPartOfChange T change)) → Leaves b d (ReflectsOr b w M) → Leaves a d (ReflectsAny a v (IsPartOfChange T change))
+  sync_left d w M numbers part first next = any_then a v (IsPartOfChange T change) b d w M numbers part first next

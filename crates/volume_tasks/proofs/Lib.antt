@@ -15,3 +15,8 @@ mod Refusals
 mod Meant
 mod Changed
 mod Described
+mod WaysDown
+mod Thinned
+mod Removed
+mod RemovedMap
+mod Brought

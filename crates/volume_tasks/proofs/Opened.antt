@@ -8,9 +8,19 @@ use Rattle.vol_tree.specs.Tree.{Tree}
 use Rattle.vol_tree.specs.Opening.{NoVolumeOn, HasNoVersion, IsDamaged}
 use Rattle.sandbox_words.specs.declared.request.Task.{Task}
 use Rattle.sandbox_words.specs.declared.request.Task.TheVariants.{List as Ls, Get, Put, Check, Upgrade, Stat, Change as Changing}
+use Rattle.sandbox_words.specs.declared.request.Change.{Change}
+use Rattle.sandbox_words.specs.declared.request.Change.TheVariants.{MakeDirectory, Move, Remove, RemoveAll}
+use Rattle.volume_tasks.specs.Changes.{IsPartOfChange}
 use Rattle.volume_tasks.specs.Doing.{IsPartOf, RefusedBy}
 
--- a task that hasn't begun leaves the tree
+-- a change that hasn't begun leaves the tree
+pub none_is_part : (change : Change) (T : Tree) → IsPartOfChange T change T
+none_is_part (MakeDirectory path) T = inl refl
+none_is_part (Move from to) T = inl refl
+none_is_part (Remove path) T = inl refl
+none_is_part (RemoveAll path) T = inl refl
+
+-- and so does a task
 pub whole_is_part : (task : Task) (v : Superblock) (T : Tree) (given : Option (List ℕ)) → IsPartOf task v T given T
 whole_is_part (Ls path) v T given = refl
 whole_is_part (Get path) v T given = refl
@@ -18,7 +28,7 @@ whole_is_part (Put path) v T given = inl refl
 whole_is_part Check v T given = refl
 whole_is_part Upgrade v T given = refl
 whole_is_part (Stat path) v T given = refl
-whole_is_part (Changing change) v T given = inl refl
+whole_is_part (Changing change) v T given = none_is_part change T
 
 -- each refusal has its rule
 pub refused_by : (f : VolumeFault) (size : ℕ) (seen : Image) → (f ≡ fault.NotAVolume → NoVolumeOn size seen) → (f ≡ fault.Version → HasNoVersion size seen) → (f ≡ fault.Damaged → IsDamaged size seen)

@@ -4,6 +4,8 @@ pub mod Formatting
 pub mod Streams
 pub mod Tasks
 pub mod Changes
+pub mod Laws
 pub mod Doing
 pub mod Volumes
+pub mod Importing
 pub mod internal

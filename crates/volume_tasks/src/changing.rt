@@ -1,4 +1,4 @@
-//! Changing the tree of a volume: a directory is made, an entry moved, a file or an empty directory removed.
+//! Changing the tree of a volume: a directory is made, an entry moved, a file, an empty directory or a whole tree removed.
 
 ghost use Rattle.std.specs.Prelude.{OnOk};
 ghost use Rattle.vol_sector.specs.Disk.{Image, Leaves};
@@ -13,10 +13,11 @@ ghost use Rattle.volume_tasks.specs.Tasks.{ReflectsAny};
 ghost use Rattle.volume_tasks.specs.Changes.{Changes, IsPartOfChange, directory_made};
 ghost use Rattle.volume_tasks.specs.Changes.{entry_moved, entry_removed, meant, moved_to};
 ghost use Rattle.volume_tasks.specs.Blame.{blames_device};
-ghost use Rattle.volume_tasks.specs.internal.Changing.{Changed, IsPlace};
+ghost use Rattle.volume_tasks.specs.internal.Changing.{Applied, Changed, IsPlace};
 ghost use Rattle.volume_tasks.specs.internal.Working.{IsWorking};
 
 use crate::failure::Failure;
+use crate::removing::remove_all;
 use crate::volume_path::{entry_named, reached};
 use path_walk::{Reached, is_directory};
 use sandbox_words::Change;
@@ -155,18 +156,19 @@ fn move_entry<D: Device>(volume: &mut Volume<D>, from: &str, to: &str) -> Result
 /// Does a change, which a sync makes last.
 fn apply<D: Device>(volume: &mut Volume<D>, change: Change<'_>) -> Result<(), Errno>
     requires { IsWorking volume.old }
-    ensures { Changed D.honest D.disk D.size D.failures (λ T. meant T change.entry)
-        volume.old volume.new result }
+    ensures { Applied D.honest D.disk D.size D.failures (λ T. meant T change.entry)
+        (λ T. IsPartOfChange T change.entry) volume.old volume.new result }
 {
     match change {
         Change::MakeDirectory { path } => make_directory(volume, path),
         Change::Move { from, to } => move_entry(volume, from, to),
         Change::Remove { path } => remove(volume, path),
+        Change::RemoveAll { path } => remove_all(volume, path),
     }
 }
 
 /// Changes the tree, and makes that last. Where it is refused, the tree is as it was; where the device fails, it is so
-/// or changed.
+/// or changed, or a part of the entries to be removed is gone.
 pub(crate) fn change_tree<D: Device>(
     volume: &mut Volume<D>,
     change: Change<'_>,

@@ -5,15 +5,20 @@
 mod changing;
 mod failure;
 mod formatting;
+mod importing;
+mod laws;
 mod opening;
 mod output;
 mod printing;
 mod putting;
+mod removing;
 mod tasks;
 mod volume_path;
 
 pub use failure::Failure;
 pub use formatting::format_as;
+pub use importing::{ImportFailure, import_into};
+pub use laws::removed_tree_takes_all_below;
 pub use opening::{FRESH_SECTORS, open_for_run};
 pub use output::print_all;
 pub use tasks::perform;

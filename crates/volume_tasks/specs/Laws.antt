@@ -1,0 +1,10 @@
+-- What the removal of a tree does to the map from paths (`crates/vol_tree/specs/PathLaws.antt`).
+use Rattle.std.specs.Prelude.{◌↔◌, ℕ, IsSome}
+use Rattle.vol_tree.specs.Tree.{Tree, Path, Node, IsTree, entry}
+use Rattle.vol_tree.specs.PathLaws.{IsBelow, Maps}
+use Rattle.volume_tasks.specs.Changes.{without}
+
+-- The paths of the entry and of all below it are taken away, and nothing else changes.
+abbrev pub TreeRemovedMap : Type 0
+TreeRemovedMap = (T : Tree) (top : ℕ) → IsTree T → IsSome (entry T top)
+    → (path : Path) (serial : ℕ) (node : Node) → Maps (without T top) path serial node ↔ (Maps T path serial node × (IsBelow T top serial → ⊥))
