@@ -57,7 +57,7 @@ module _ {D R W1 W2 : Type 0} (honest : D → Type 0) (disk : D → Disk) (secto
       → HostCalls honest disk sectors_on failures remaining out_contents err_contents (state_of old) m used call.ProcExit args (state_of old) m (exit status)
   ends old m used args status set_up is =
       record {
-        row = λ h. (nothing, streams_rest honest disk sectors_on failures remaining out_contents err_contents old old.volume old.descriptors old.settings, λ others last. (ap exit is, ap (λ (b : StreamBytes). world_of (state_of old) b) (same_after others), refl));
+        row = λ h. (nothing, streams_rest honest disk sectors_on failures remaining out_contents err_contents old old.volume old.descriptors old.settings old.generator, λ others last. (ap exit is, ap (λ (b : StreamBytes). world_of (state_of old) b) (same_after others), refl));
         volume = volume_rests honest disk sectors_on failures old.volume;
         settings = refl;
         io = λ e told. absurd (value_exit e status (sym told));

@@ -10,6 +10,7 @@ use Rattle.wasi_fd.specs.declared.descriptor.Opened.{Opened}
 use Rattle.wasi_calls.specs.declared.checks.Takes.TheVariants as takes
 use Rattle.wasi_calls.specs.World.{World}
 use Rattle.wasi_calls.specs.Checks.{Checked, Done, guard, get, of_kind, has, only_files, opened, range}
+use Rattle.wasi_calls.specs.Random.{has_left}
 use Rattle.wasi_calls.specs.Supplies.{sizes_get, texts_get, clock_res_get, clock_time_get, random_get, ended_bytes}
 use Rattle.wasi_calls.specs.Descriptors.{fd_close, fd_fdstat_get, fd_prestat_get, fd_prestat_dir_name, fd_tell, guest_name}
 use Rattle.wasi_calls.specs.Calls.{row, word, reaches_volume, Answers}
@@ -34,7 +35,7 @@ time_never : (w : World) (m : List ℕ) (units id result : ℕ) → clock_time_g
 time_never w m units id result = never_after (guard (nat_le id 1) 28) _ (guards _ 28 refl) (λ _ _. never_after (range m result 8) _ (range_never m result 8) (λ _ _. ends_never _))
 
 random_never : (w : World) (m : List ℕ) (buffer len : ℕ) → random_get w m buffer len ≢ Err 29
-random_never w m buffer len = never_after (range m buffer len) _ (range_never m buffer len) (λ _ _. never_after (guard (nat_le len (length w.random)) 6) _ (guards _ 6 refl) (λ _ _. ends_never _))
+random_never w m buffer len = never_after (range m buffer len) _ (range_never m buffer len) (λ _ _. never_after (guard (has_left len w.random) 6) _ (guards _ 6 refl) (λ _ _. ends_never _))
 
 close_never : (w : World) (fd : ℕ) → fd_close w fd ≢ Err 29
 close_never w fd = never_after (get w fd) _ (get_never w fd) (λ _ _. ends_never _)

@@ -12,6 +12,7 @@ use Rattle.wasi_fd.specs.declared.descriptor.Descriptor.{Descriptor}
 use Rattle.wasi_fd.specs.declared.descriptor.Descriptor.TheVariants.{Stream, Entry}
 use Rattle.wasi_fd.specs.declared.descriptor.Opened.{Opened as OpenedEntry}
 use Rattle.wasi_fd.specs.Table.{Table, streams}
+use Rattle.wasi_calls.specs.Random.{listed}
 use Rattle.wasi_calls.specs.World.{World}
 use Rattle.wasi_calls.specs.Checks.{Checked, Refusals, and_then, get, of_kind, descriptor, entry_at, range, only_directories, only_files, has, opened}
 use Rattle.wasi_calls.specs.internal.Seeking.{seekable}
@@ -36,7 +37,7 @@ some_world table = record {
   input = [];
   output = [];
   errors = [];
-  random = [];
+  random = listed [];
   given = record { args = []; env = []; moment = 0 };
   volume_failed = false;
   input_failed = false;

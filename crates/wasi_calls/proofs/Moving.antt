@@ -46,7 +46,7 @@ module _ {D R W1 W2 : Type 0} (honest : D → Type 0) (disk : D → Disk) (secto
         set_up = moved_set_up old v d h step entries;
         row = λ known. (
           nothing,
-          streams_rest honest disk sectors_on failures remaining out_contents err_contents old v d old.settings,
+          streams_rest honest disk sectors_on failures remaining out_contents err_contents old v d old.settings old.generator,
           λ others end. subst (λ (b' : StreamBytes). Answered (λ w. row c w m used args) (world_of (state_of old) others) m (world_of (state_of new) b') m' e) (sym (same_after others))
               (subst (λ (x : World → Checked Done). Answered x (world_of (state_of old) others) m (world_of (state_of new) others) m' e) (sym same_run) (answers (known reaches) others)),
         );
@@ -77,7 +77,7 @@ module _ {D R W1 W2 : Type 0} (honest : D → Type 0) (disk : D → Disk) (secto
         row = λ known. (
           nothing,
           subst (λ (s : HostState D R W1 W2). StreamsMove remaining out_contents err_contents (state_of old) s nothing) (sym state)
-              (streams_rest honest disk sectors_on failures remaining out_contents err_contents old new.volume new.descriptors old.settings),
+              (streams_rest honest disk sectors_on failures remaining out_contents err_contents old new.volume new.descriptors old.settings old.generator),
           λ others end. subst (λ (b' : StreamBytes). Answered (λ w. row c w m used args) (world_of (state_of old) others) m (world_of (state_of new) b') m' e) (sym (same_after others))
               (subst (λ (s : HostState D R W1 W2). Answered (λ w. row c w m used args) (world_of (state_of old) others) m (world_of s others) m' e) (sym state) (answers known others)),
         );

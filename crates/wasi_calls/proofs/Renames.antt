@@ -12,6 +12,7 @@ use Rattle.vol_tree.proofs.Trees.{empty_childless, is_directory_at}
 use Rattle.wasm_store.specs.declared.call.Errno.{Errno as Number}
 use Rattle.path_walk.specs.Paths.{Reached, Found, Missing}
 use Rattle.wasi_fd.specs.Table.{Table}
+use Rattle.wasi_calls.specs.Random.{listed}
 use Rattle.wasi_calls.specs.World.{World, held_open}
 use Rattle.wasi_calls.specs.Checks.{Checked, and_then, guard, tree_call, numbered}
 use Rattle.wasi_calls.specs.Paths.{rename_to}
@@ -137,7 +138,7 @@ world_with v table = record {
   input = [];
   output = [];
   errors = [];
-  random = [];
+  random = listed [];
   given = record { args = []; env = []; moment = 0 };
   volume_failed = v.failed;
   input_failed = false;

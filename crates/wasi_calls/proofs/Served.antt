@@ -8,6 +8,7 @@ use Rattle.wasi_calls.specs.declared.streams.Output.{Output}
 use Rattle.vol_sector.specs.Disk.{Disk, counted}
 use Rattle.vol_tree.specs.declared.superblock.Superblock.{Superblock}
 use Rattle.vol_tree.specs.Opened.{Opened, IsSerial}
+use Rattle.rand_chacha.specs.ChaCha.{ChaCha}
 use Rattle.wasi_fd.specs.declared.descriptor.Descriptor.TheVariants.{Entry}
 use Rattle.wasi_fd.specs.declared.descriptor.Opened.{Opened as OpenedEntry}
 use Rattle.wasi_fd.specs.declared.table.Descriptors.{Descriptors}
@@ -72,9 +73,9 @@ module _ {D : Type 0} (honest : D → Type 0) (disk : D → Disk) (sectors_on fa
 module _ {D R W1 W2 : Type 0} (honest : D → Type 0) (disk : D → Disk) (sectors_on failures : D → ℕ)
     (remaining : R → Option (List ℕ)) (out_contents : W1 → Option (List ℕ)) (err_contents : W2 → Option (List ℕ)) where
   -- the streams are not touched
-  pub streams_rest : (old : Inner D R W1 W2) (v : Opened D) (d : Descriptors) (s : Settings)
-      → StreamsMove remaining out_contents err_contents (state_of old) (state_of (record old { volume = v; descriptors = d; settings = s })) nothing
-  streams_rest old v d s = record {
+  pub streams_rest : (old : Inner D R W1 W2) (v : Opened D) (d : Descriptors) (s : Settings) (g : Option ChaCha)
+      → StreamsMove remaining out_contents err_contents (state_of old) (state_of (record old { volume = v; descriptors = d; settings = s; generator = g })) nothing
+  streams_rest old v d s g = record {
     input = Consumes-nil (remaining old.input.reader);
     output = Appends-nil (out_contents old.out.writer);
     errors = Appends-nil (err_contents old.err.writer);
@@ -82,9 +83,9 @@ module _ {D R W1 W2 : Type 0} (honest : D → Type 0) (disk : D → Disk) (secto
     end = λ is. inl is;
   }
 
-  pub still_set_up : (old : Inner D R W1 W2) (d : Descriptors) (s : Settings) → IsSetUp remaining old → settings_fit s ≡ true
-      → NoMoreEntries (table_of old.descriptors) (table_of d) → IsSetUp remaining (record old { descriptors = d; settings = s })
-  still_set_up old d s h fits entries = record {
+  pub still_set_up : (old : Inner D R W1 W2) (d : Descriptors) (s : Settings) (g : Option ChaCha) → IsSetUp remaining old → settings_fit s ≡ true
+      → NoMoreEntries (table_of old.descriptors) (table_of d) → IsSetUp remaining (record old { descriptors = d; settings = s; generator = g })
+  still_set_up old d s g h fits entries = record {
     settings = fits;
     buffers = h.buffers;
     piece = h.piece;
@@ -93,20 +94,20 @@ module _ {D R W1 W2 : Type 0} (honest : D → Type 0) (disk : D → Disk) (secto
   }
 
   -- The call's row, `r` by the values that the code has.
-  pub serves_plain : (c : HostCall) (used : ℕ) (args : List ℕ) (r : StreamBytes → Checked Done) (old : Inner D R W1 W2) (d : Descriptors) (s : Settings) (m m' : List ℕ) (e : ℕ)
+  pub serves_supplied : (c : HostCall) (used : ℕ) (args : List ℕ) (r : StreamBytes → Checked Done) (old : Inner D R W1 W2) (d : Descriptors) (s : Settings) (g : Option ChaCha) (m m' : List ℕ) (e : ℕ)
       → ((o : OpenedEntry) → reaches_volume c (λ _. Some (Entry o)) args ≡ false)
       → IsSetUp remaining old → settings_fit s ≡ true → s ≡ record old.settings { random = s.random } → NoMoreEntries (table_of old.descriptors) (table_of d)
       → ((b : StreamBytes) → row c (world_of (state_of old) b) m used args ≡ r b)
-      → ((b : StreamBytes) → Answers (r b) (world_of (state_of old) b) m (world_of (state_of (record old { descriptors = d; settings = s })) b) m' e)
-      → Serves honest disk sectors_on failures remaining out_contents err_contents c used args old m (record old { descriptors = d; settings = s }) m' e
-  serves_plain c used args r old d s m m' e plain h fits kept entries same answers =
-      let new : Inner D R W1 W2 = record old { descriptors = d; settings = s } in
+      → ((b : StreamBytes) → Answers (r b) (world_of (state_of old) b) m (world_of (state_of (record old { descriptors = d; settings = s; generator = g })) b) m' e)
+      → Serves honest disk sectors_on failures remaining out_contents err_contents c used args old m (record old { descriptors = d; settings = s; generator = g }) m' e
+  serves_supplied c used args r old d s g m m' e plain h fits kept entries same answers =
+      let new : Inner D R W1 W2 = record old { descriptors = d; settings = s; generator = g } in
       let b : StreamBytes = nothing in
       record {
-        set_up = still_set_up old d s h fits entries;
+        set_up = still_set_up old d s g h fits entries;
         row = λ _. (
           nothing,
-          streams_rest old old.volume d s,
+          streams_rest old old.volume d s g,
           λ others end. subst (λ (b' : StreamBytes). Answered (λ w. row c w m used args) (world_of (state_of old) others) m (world_of (state_of new) b') m' e) (sym (same_after others))
               (by_row (subst (λ (x : Checked Done). Answers x (world_of (state_of old) others) m (world_of (state_of new) others) m' e) (sym (same others)) (answers others))),
         );
@@ -115,6 +116,16 @@ module _ {D R W1 W2 : Type 0} (honest : D → Type 0) (disk : D → Disk) (secto
         io = λ is. answers_never (r b) (world_of (state_of old) b) m (world_of (state_of new) b) m' e (answers b)
             (subst (λ (x : Checked Done). x ≢ Err 29) (same b) (plain_never c (world_of (state_of old) b) m used args plain)) is;
       }
+
+  -- the same where no generator is asked
+  pub serves_plain : (c : HostCall) (used : ℕ) (args : List ℕ) (r : StreamBytes → Checked Done) (old : Inner D R W1 W2) (d : Descriptors) (s : Settings) (m m' : List ℕ) (e : ℕ)
+      → ((o : OpenedEntry) → reaches_volume c (λ _. Some (Entry o)) args ≡ false)
+      → IsSetUp remaining old → settings_fit s ≡ true → s ≡ record old.settings { random = s.random } → NoMoreEntries (table_of old.descriptors) (table_of d)
+      → ((b : StreamBytes) → row c (world_of (state_of old) b) m used args ≡ r b)
+      → ((b : StreamBytes) → Answers (r b) (world_of (state_of old) b) m (world_of (state_of (record old { descriptors = d; settings = s })) b) m' e)
+      → Serves honest disk sectors_on failures remaining out_contents err_contents c used args old m (record old { descriptors = d; settings = s }) m' e
+  serves_plain c used args r old d s m m' e plain h fits kept entries same answers =
+      serves_supplied c used args r old d s old.generator m m' e plain h fits kept entries same answers
 
   -- A call that changes only the volume.
   pub serves_volume : (c : HostCall) (used : ℕ) (args : List ℕ) (r : World → Checked Done) (old : Inner D R W1 W2) (v : Opened D) (m m' : List ℕ) (e : ℕ)
@@ -137,7 +148,7 @@ module _ {D R W1 W2 : Type 0} (honest : D → Type 0) (disk : D → Disk) (secto
         set_up = set_up;
         row = λ known. (
           nothing,
-          streams_rest old v old.descriptors old.settings,
+          streams_rest old v old.descriptors old.settings old.generator,
           λ others end. subst (λ (b' : StreamBytes). Answered (λ w. row c w m used args) (world_of (state_of old) others) m (world_of (state_of new) b') m' e) (sym (same_after others))
               (subst (λ (x : World → Checked Done). Answered x (world_of (state_of old) others) m (world_of (state_of new) others) m' e) (sym same_run) (answers (known reaches) others)),
         );
@@ -207,7 +218,7 @@ module _ {D R W1 W2 : Type 0} (honest : D → Type 0) (disk : D → Disk) (secto
         set_up = record { settings = h.settings; buffers = h.buffers; piece = h.piece; ended = h.ended; serials = serials };
         row = λ known. (
           nothing,
-          streams_rest honest disk sectors_on failures remaining out_contents err_contents old v d old.settings,
+          streams_rest honest disk sectors_on failures remaining out_contents err_contents old v d old.settings old.generator,
           λ others end. subst (λ (b' : StreamBytes). Answered (λ w. row c w m used args) (world_of (state_of old) others) m (world_of (state_of new) b') m' e) (sym (same_after others))
               (subst (λ (x : World → Checked Done). Answered x (world_of (state_of old) others) m (world_of (state_of new) others) m' e) (sym same_run) (answers (known reaches) others)),
         );

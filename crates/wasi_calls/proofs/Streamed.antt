@@ -71,7 +71,7 @@ module _ {D R W1 W2 : Type 0} (honest : D → Type 0) (disk : D → Disk) (secto
         row = λ _. (
           nothing,
           subst (λ (s : HostState D R W1 W2). StreamsMove remaining out_contents err_contents (state_of old) s nothing) (sym still)
-              (streams_rest honest disk sectors_on failures remaining out_contents err_contents old old.volume old.descriptors old.settings),
+              (streams_rest honest disk sectors_on failures remaining out_contents err_contents old old.volume old.descriptors old.settings old.generator),
           λ others end.
               let w = world_of (state_of old) others in
               by_row (answers_refused (out_run w) w m (world_of (state_of new) (after_moving nothing others)) m' 29
@@ -192,7 +192,7 @@ module _ {D R W1 W2 : Type 0} (honest : D → Type 0) (disk : D → Disk) (secto
         row = λ _. (
           nothing,
           subst (λ (s : HostState D R W1 W2). StreamsMove remaining out_contents err_contents (state_of old) s nothing) (sym still)
-              (streams_rest honest disk sectors_on failures remaining out_contents err_contents old old.volume old.descriptors old.settings),
+              (streams_rest honest disk sectors_on failures remaining out_contents err_contents old old.volume old.descriptors old.settings old.generator),
           λ others end.
               let w = world_of (state_of old) others in
               by_row (answers_refused (err_run w) w m (world_of (state_of new) (after_moving nothing others)) m' 29

@@ -3,6 +3,7 @@ use Rattle.std.specs.Prelude.{◌≡◌, ◌⊎◌, ◌||◌, ℕ, Bool, IsTrue,
 use Rattle.std.specs.Io.KnownBytes.{Consumes, Appends}
 use Rattle.vol_sector.specs.Disk.{Disk, Leaves}
 use Rattle.vol_tree.specs.Opened.{Opened, Keeps, ReflectsOr, geometry}
+use Rattle.rand_chacha.specs.ChaCha.{ChaCha}
 use Rattle.wasi_fd.specs.declared.table.Descriptors.{Descriptors}
 use Rattle.wasi_fd.specs.Table.{table_of}
 use Rattle.wasm_store.specs.declared.call.HostCall.{HostCall}
@@ -14,11 +15,13 @@ use Rattle.wasi_calls.specs.declared.streams.Input.{Input}
 use Rattle.wasi_calls.specs.declared.streams.Output.{Output}
 use Rattle.wasi_calls.specs.declared.settings.Settings.{Settings}
 use Rattle.wasi_calls.specs.Texts.{texts_of}
+use Rattle.wasi_calls.specs.Random.{supply}
 use Rattle.wasi_calls.specs.World.{Given, World}
 use Rattle.wasi_calls.specs.Calls.{Calls, reaches_volume}
 use Rattle.wasi_calls.specs.Moments.{IsSynced}
 
--- what callers see of a host: the random bytes of its settings are those that are left
+-- What callers see of a host: the random bytes of its settings are those that are left. One that is seeded has a generator,
+-- and takes none of these.
 pub record HostState (D R W1 W2 : Type 0) : Type 0 where
   pub volume : Opened D
   pub descriptors : Descriptors
@@ -26,6 +29,7 @@ pub record HostState (D R W1 W2 : Type 0) : Type 0 where
   pub out : Output W1
   pub err : Output W2
   pub settings : Settings
+  pub generator : Option ChaCha
 
 -- bytes of the streams: of the input those that are not read yet, and of the outputs those that were written
 pub record StreamBytes : Type 0 where
@@ -46,7 +50,7 @@ world_of h b = record {
   input_ended = h.input.ended;
   output = b.output;
   errors = b.errors;
-  random = h.settings.random.now;
+  random = supply h.generator h.settings.random.now;
   given = given_of h.settings;
   volume_failed = h.volume.failed;
   input_failed = h.input.failed;

@@ -5,6 +5,7 @@ ghost use Rattle.std.specs.Prelude.{◌≡◌};
 use crate::settings::Settings;
 use crate::streams::{Input, Output};
 use crate::wasi_host::HostParts;
+use rand_chacha::ChaCha20Rng;
 use vol_sector::Device;
 use vol_tree::{Span, Volume};
 use wasi_fd::Descriptors;
@@ -19,6 +20,8 @@ pub(crate) struct Inner<'s, 't, D: Device, R, W1, W2> {
     pub err: Output<W2>,
     /// The random bytes are those that are left.
     pub settings: Settings<'s, 't>,
+    /// What random bytes come from where the host is seeded.
+    pub generator: Option<ChaCha20Rng>,
     /// Room for the buffers of a call.
     pub buffers: Vec<Span>,
     /// Room for the bytes of a call.
@@ -40,6 +43,7 @@ impl<'s, 't, D: Device, R: Drop, W1: Drop, W2: Drop> Inner<'s, 't, D, R, W1, W2>
             out,
             err,
             settings,
+            generator: _,
             buffers: _,
             piece: _,
         } = self;

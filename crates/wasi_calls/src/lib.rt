@@ -42,6 +42,7 @@ pub use host::VolumeHost;
 pub use laws::{
     confined, confined_host, host_calls_are_rows, host_calls_keep_moments, kept, pauses,
 };
+pub use linking::call_of;
 pub use settings::{Preopen, Settings};
 pub use streams::{Input, Output};
 pub use wasi_host::{HostParts, RefusedHost, WasiHost};

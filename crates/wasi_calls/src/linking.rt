@@ -168,7 +168,7 @@ fn has_type(call: HostCall, func_type: &FuncType) -> bool
 
 /// The call of this module name, name and type: a listed one where it has its type, and for any other
 /// name with one i32 result a call that answers that there is none such.
-pub(crate) fn call_of(module_name: &str, name: &str, func_type: &FuncType) -> Option<HostCall>
+pub fn call_of(module_name: &str, name: &str, func_type: &FuncType) -> Option<HostCall>
     ensures { result ≡ link module_name.now name.now func_type.now }
 {
     if module_name != MODULE_NAME {

@@ -31,7 +31,8 @@ impl<'s, 't, D: Device, R: Read, W1: Write, W2: Write> Inner<'s, 't, D, R, W1, W
         ensures { (used : _) → Serves D.honest D.disk D.size D.failures R.remaining W1.contents W2.contents call.RandomGet used arguments.now self.old memory.old self.new memory.new (errno_of result) }
     {
         let (buffer, len) = (word(arguments, 0), word(arguments, 1));
-        supplies::random_get(&mut self.settings.random, memory, buffer, len)
+        let left = &mut self.settings.random;
+        supplies::random_get(&mut self.generator, left, memory, buffer, len)
     }
 
     /// `fd_close(fd)`.

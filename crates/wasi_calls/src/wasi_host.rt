@@ -10,6 +10,8 @@ use crate::inner::Inner;
 use crate::linking;
 use crate::settings::Settings;
 use crate::streams::{Input, Output};
+use rand_chacha::ChaCha20Rng;
+use rand_core::SeedableRng;
 use std::alloc::Global;
 use std::io::{Read, Write};
 use std::marker::Model;
@@ -134,6 +136,7 @@ impl<'s, 't, D: Device, R: Read + Drop, W1: Write + Drop, W2: Write + Drop> Wasi
                     failed: false,
                 },
                 settings,
+                generator: None,
                 buffers,
                 piece,
             },
@@ -172,9 +175,10 @@ impl<'s, 't, D: Device, R: Read + Drop, W1: Write + Drop, W2: Write + Drop> Wasi
 }
 
 impl<'s, 't, D: Device, R: Read, W1: Write, W2: Write> WasiHost<'s, 't, D, R, W1, W2> {
-    ghost use Rattle.std.specs.Prelude.{ℕ, OnOk, OnErr};
+    ghost use Rattle.std.specs.Prelude.{ℕ, OnOk, OnErr, Some};
     ghost use Rattle.wasi_fd.specs.Table.{table_of, streams};
     ghost use Rattle.path_walk.specs.Walk.{Asked};
+    ghost use Rattle.wasi_calls.specs.Random.{seeded};
     ghost use Rattle.wasi_calls.specs.Making.{HasPreopens, IsRefusedPreopen, HasNoMore, KeepsStreams, is_device};
 
     /// Opens the preopened directories of the settings, in order from 3 on. Each path begins with a
@@ -193,6 +197,14 @@ impl<'s, 't, D: Device, R: Read, W1: Write, W2: Write> WasiHost<'s, 't, D, R, W1
         ensures streams { KeepsStreams self.old self.new }
     {
         self.inner.preopen()
+    }
+
+    /// From now on random bytes have no end: they are those of `ChaCha20Rng::seed_from_u64(seed)`, and each `random_get`
+    /// is one `fill_bytes` of as many bytes. The same seed gives the same bytes again. None of the settings' are taken.
+    pub fn seed(&mut self, seed: u64)
+        ensures { self.new ≡ record self.old { generator = Some (seeded seed) } }
+    {
+        self.inner.generator = Some(ChaCha20Rng::seed_from_u64(seed));
     }
 }
 

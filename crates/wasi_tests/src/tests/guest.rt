@@ -214,6 +214,18 @@ pub fn assert_fed(
     }
 }
 
+/// Does the steps in turn over a fresh volume, with random bytes from this seed.
+pub fn assert_seeded(rt: &impl Abort, alloc: Global, seed: u64, steps: &[Step<'_>]) {
+    match fresh(alloc, PLAIN, Feeding::new(&[]), Taking::all(alloc)) {
+        Some(mut guest) => {
+            guest.seed(seed);
+            assert_steps(rt, alloc, &mut guest, steps);
+            drop(guest);
+        }
+        None => panic!(rt; "no host"),
+    }
+}
+
 /// The same without input.
 pub fn assert_with(rt: &impl Abort, alloc: Global, settings: Settings<'_, '_>, steps: &[Step<'_>]) {
     assert_fed(rt, alloc, settings, Feeding::new(&[]), steps);

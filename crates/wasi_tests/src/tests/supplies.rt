@@ -1,7 +1,7 @@
 //! What a guest is given: texts, the time, random bytes.
 
 use super::guest::Step::{Call, Has, Put};
-use super::guest::{PLAIN, assert_plain, assert_with};
+use super::guest::{PLAIN, assert_plain, assert_seeded, assert_with};
 use wasi_calls::Settings;
 use wasm_store::HostCall::{
     ArgsGet, ArgsSizesGet, ClockResGet, ClockTimeGet, EnvironGet, EnvironSizesGet, RandomGet,
@@ -58,6 +58,38 @@ fn random_bytes_are_those_handed_in(rt: HostRuntime) {
             Has(200, b"\xCC\xBB\0"),
         ],
     );
+}
+
+/// The first bytes are from the documents: PCG32 as `rand_core` describes `seed_from_u64`, and ChaCha20 by RFC 8439. The
+/// first 16 of seed 42 are `78 48 B5 D7 11 BC 98 83 99 63 17 A3 F9 C9 02 69`.
+#[test]
+fn a_seed_gives_its_bytes(rt: HostRuntime) {
+    let steps = [
+        Call(RandomGet, &[200, 6], 0),
+        Has(200, b"\x78\x48\xB5\xD7\x11\xBC\0\0"),
+        // none is taken where the range is no part of memory
+        Call(RandomGet, &[65_536, 1], 21),
+        Call(RandomGet, &[200, 0], 0),
+        // what the second word had over is dropped
+        Call(RandomGet, &[200, 5], 0),
+        Has(200, b"\x99\x63\x17\xA3\xF9\xBC\0\0"),
+    ];
+    assert_seeded(&rt, rt.alloc(), 42, &steps);
+}
+
+#[test]
+fn seeds_differ_and_repeat(rt: HostRuntime) {
+    let of_one = [
+        Call(RandomGet, &[200, 8], 0),
+        Has(200, b"\x9A\x37\x44\x50\x45\x60\x63\x9E"),
+    ];
+    assert_seeded(&rt, rt.alloc(), 1, &of_one);
+    assert_seeded(&rt, rt.alloc(), 1, &of_one);
+    let of_none = [
+        Call(RandomGet, &[200, 8], 0),
+        Has(200, b"\xB2\xF7\xF5\x81\xD6\xDE\x3C\x06"),
+    ];
+    assert_seeded(&rt, rt.alloc(), 0, &of_none);
 }
 
 #[test]
