@@ -8,4 +8,5 @@ pub mod Laws
 pub mod Doing
 pub mod Volumes
 pub mod Importing
+pub mod Exporting
 pub mod internal

@@ -3,6 +3,7 @@
 #![tactic(auto)]
 
 mod changing;
+mod exporting;
 mod failure;
 mod formatting;
 mod importing;
@@ -15,6 +16,7 @@ mod removing;
 mod tasks;
 mod volume_path;
 
+pub use exporting::{ExportFailure, export_from};
 pub use failure::Failure;
 pub use formatting::format_as;
 pub use importing::{ImportFailure, import_into};

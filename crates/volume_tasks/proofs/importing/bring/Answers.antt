@@ -5,3 +5,8 @@ pub returns-clause-crash : goal.returns-clause-crash
 returns-clause-crash g c =
     part_left g.D.Device.honest g.D.Device.disk g.D.Device.size g.D.Device.failures c.args.volume.now c.directory_named.new.volume c.import.new.volume c.args.path.now c.in_ok-directory.directory (g.R.Read.remaining c.args.input.now)
     c.in_ok-directory.ensures.asked c.in_ok-directory.ensures.answer c.in_ok-import.ensures.crash
+
+pub returns-in_err-import-clause-crash : goal.returns-in_err-import-clause-crash
+returns-in_err-import-clause-crash g c =
+    part_left g.D.Device.honest g.D.Device.disk g.D.Device.size g.D.Device.failures c.args.volume.now c.directory_named.new.volume c.import.new.volume c.args.path.now c.in_ok-directory.directory (g.R.Read.remaining c.args.input.now)
+    c.in_ok-directory.ensures.asked c.in_ok-directory.ensures.answer c.in_err-import.ensures.crash

@@ -1,0 +1,80 @@
+//! A directory of the volume on a device printed as a tar stream.
+
+ghost use Rattle.std.specs.Prelude.{◌≡◌};
+ghost use Rattle.path_walk.specs.Walk.{Asked};
+ghost use Rattle.volume_tasks.specs.declared.exporting.ExportFailure.TheVariants.{Path, Stopped};
+ghost use Rattle.volume_tasks.specs.Exporting.{PerformsExport, PrintsDirectory, blames_export};
+ghost use Rattle.volume_tasks.specs.internal.Working.{IsWorking};
+
+use crate::volume_path::directory_named;
+use std::alloc::Global;
+use std::io::Write;
+use vol_sector::{Device, Refused, VolumeFault};
+use vol_tree::{Errno, Volume};
+use volume_archive::{Why, export};
+
+/// Why an export from the volume of a device ends without success.
+#[derive(Clone, Copy)]
+pub enum ExportFailure {
+    /// The volume is refused, or the device failed as it was opened.
+    Volume(VolumeFault),
+    /// The path names no directory, or the device failed as it was looked for.
+    Path(Errno),
+    /// A beginning of the stream is printed, and this is why no more.
+    Stopped(Why),
+}
+
+impl From<Errno> for ExportFailure {
+    ghost from_gives = { λ errno f. f ≡ Path errno };
+
+    fn from(errno: Errno) -> Self {
+        ExportFailure::Path(errno)
+    }
+}
+
+impl From<Why> for ExportFailure {
+    ghost from_gives = { λ why f. f ≡ Stopped why };
+
+    fn from(why: Why) -> Self {
+        ExportFailure::Stopped(why)
+    }
+}
+
+/// Prints all entries below the directory of a path as members of a tar stream, and its end.
+fn print_directory<D: Device, W: Write>(
+    alloc: Global,
+    volume: &mut Volume<D>,
+    path: &str,
+    out: &mut W,
+) -> Result<(), ExportFailure>
+    requires { IsWorking volume.old }
+    ensures asked { Asked D.honest D.disk D.size D.failures volume.old volume.new
+        (blames_export result) }
+    ensures prints { D.honest volume.old.device → PrintsDirectory volume.old.tree path.now
+        (W.contents out.old) (W.contents out.new) result }
+{
+    let directory = directory_named(volume, path)?;
+    export(alloc, volume, directory, out)?;
+    Ok(())
+}
+
+/// Opens the volume of a device, prints all entries below the directory of a path as members of a
+/// tar stream with its end, and gives the device back. Where it is refused, a beginning of the
+/// stream may be printed.
+pub fn export_from<D: Device, W: Write>(
+    alloc: Global,
+    device: D,
+    path: &str,
+    out: &mut W,
+) -> (Result<(), ExportFailure>, D)
+    ensures { PerformsExport D.honest D.disk D.size D.failures path.now device
+        (W.contents out.old) (W.contents out.new) result.1 result.0 }
+{
+    match Volume::open(alloc, device) {
+        Ok(mut volume) => {
+            let done = print_directory(alloc, &mut volume, path, out);
+            (done, volume.into_device())
+        }
+        Err(Refused { device, fault }) => (Err(ExportFailure::Volume(fault)), device),
+    }
+}
