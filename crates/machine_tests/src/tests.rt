@@ -10,6 +10,7 @@ mod memories;
 mod modules;
 mod operators;
 mod stores;
+mod surveys;
 
 use std::alloc::Global;
 use wasm_module::{LoadFault, decode};

@@ -1,5 +1,5 @@
 -- Sessions: a machine, and the host that answers its calls (`docs/ARCHITECTURE.md`, "The way of the bytes").
-use Rattle.std.specs.Prelude.{◌≡◌, ◌≢◌, ◌==◌, ◌&&◌, ℕ, true, false, Bool, List, [], ◌∷◌, map, Option, None, Result, Ok, Err}
+use Rattle.std.specs.Prelude.{◌≡◌, ◌≢◌, ◌==◌, ◌&&◌, ℕ, true, false, Bool, List, [], ◌∷◌, map, Option, Some, None, Result, Ok, Err}
 use Rattle.vol_sector.specs.Disk.{Image, Disk, Leaves}
 use Rattle.vol_sector.specs.declared.fault.Refused.{Refused}
 use Rattle.vol_sector.specs.declared.fault.VolumeFault.TheVariants as fault
@@ -18,6 +18,7 @@ use Rattle.wasi_calls.specs.declared.settings.Settings.{Settings}
 use Rattle.wasi_calls.specs.declared.wasi_host.HostParts.{HostParts}
 use Rattle.wasi_calls.specs.Settings.{settings_fit}
 use Rattle.wasi_calls.specs.Links.{link}
+use Rattle.wasi_calls.specs.Random.{seeded}
 use Rattle.wasi_calls.specs.Host.{HostState, HostCalls}
 use Rattle.path_walk.specs.Walk.{Asked}
 use Rattle.wasi_calls.specs.Making.{HasPreopens, preopens_of}
@@ -39,6 +40,10 @@ IsInstantiable m pages = (machine : Snapshot) × Starts link pages m machine
 module _ {D R W1 W2 : Type 0} where
   abbrev pub used_by : SessionState D R W1 W2 → ℕ
   used_by s = s.machine.used
+
+  -- the same session, whose random bytes are those of a seed from now on
+  abbrev pub seeded_by : ℕ → SessionState D R W1 W2 → SessionState D R W1 W2
+  seeded_by seed s = record s { host = record s.host { generator = Some (seeded seed) } }
 
   -- what a session is made of beside its module
   abbrev pub given : Settings → Opened D → R → W1 → W2 → HostParts D R W1 W2

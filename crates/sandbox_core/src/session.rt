@@ -1,6 +1,6 @@
 //! Sessions of a guest.
 
-ghost use Rattle.std.specs.Prelude.{◌≡◌, ◌+◌, ◌^◌, ◌<◌, ◌/◌, IfOk, IfErr, length};
+ghost use Rattle.std.specs.Prelude.{◌≡◌, ◌+◌, ◌^◌, ◌<◌, ◌/◌, IfOk, IfErr, None, length};
 ghost use Rattle.sandbox_core.specs.Session.{given, Commits};
 
 use crate::fault::{SessionFault, of_host, of_instance};
@@ -72,7 +72,7 @@ where
     W2: Write + Drop,
 {
     ghost use Rattle.wasi_calls.specs.Host.{stream_failed};
-    ghost use Rattle.sandbox_core.specs.Session.{used_by, Opens, Shares, HandsBack, IsRefused, Resumes, Finishes};
+    ghost use Rattle.sandbox_core.specs.Session.{used_by, seeded_by, Opens, Shares, HandsBack, IsRefused, Resumes, Finishes};
 
     /// A session of the module, which has used nothing yet. The streams are the descriptors 0 to 2, and the preopened
     /// directories of the settings those from 3 on.
@@ -89,6 +89,7 @@ where
         err: W2,
     ) -> Result<Session<'a, 's, 't, D, R, W1, W2>, RefusedSession<'a, 's, 't, D, R, W1, W2>>
         ensures opens { IfOk result (Opens valid.entry (given settings.entry volume input out err)) }
+        ensures unseeded { IfOk result (λ s. s.host.generator ≡ None) }
         ensures shares { IfOk result (Shares D.honest D.disk D.size D.failures (given settings.entry volume input out err)) }
         ensures hands_back { IfErr result (HandsBack D.honest D.disk D.size D.failures valid.entry (given settings.entry volume input out err)) }
         ensures refused { IfErr result (λ r. IsRefused D.honest r.fault valid.entry (given settings.entry volume input out err)) }
@@ -146,6 +147,14 @@ where
         ensures { self.new ≡ self.old }
     {
         self.machine.limit_values(most)
+    }
+
+    /// From now on the guest gets random bytes without end: those of `ChaCha20Rng::seed_from_u64(seed)`, one `fill_bytes` for
+    /// each `random_get`, and none of the settings'. The same seed gives the same bytes again. Set it before the run.
+    pub fn seed(&mut self, seed: u64)
+        ensures { self.new ≡ seeded_by seed self.old }
+    {
+        self.host.seed(seed)
     }
 
     /// The units of fuel used so far.

@@ -1,0 +1,13 @@
+use Rattle.std.proofs.Common.{ℕ, List, ◌++◌, ap, ◌∙◌}
+use Rattle.module_survey.specs.Survey.{survey_of}
+use Rattle.module_survey.proofs.surveying.text_of.Goals as goal
+
+pub returns-in_ok-added-in-Ok : goal.returns-in_ok-added-in-Ok
+returns-in_ok-added-in-Ok g c =
+    let links = g.L.Links.links in
+    let found = c.in-Ok.ensures.found in (
+      c.in-Ok.valid,
+      found.0,
+      found.1,
+      c.in_ok-added-in-Ok.ensures ∙ ap (λ (t : List ℕ). t ++ survey_of links c.module.result.now) c.new-text.ensures.items ∙ ap (survey_of links) c.module.ensures.value,
+    )

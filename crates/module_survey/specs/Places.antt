@@ -1,0 +1,82 @@
+-- Where in a module's bytes functions stand, and what they are called; also in bytes that spell no module.
+use Rattle.std.specs.Prelude.{◌≡◌, ℕ, zero, suc, ◌+◌, ◌-◌, ◌==◌, ◌&&◌, nat_le, nat_lt, Bool, true, false, List, [], ◌∷◌, length, take, drop, Option, Some, None, if◌then◌else◌, codes, bytes_eq}
+use Rattle.std.specs.List.{filter_map}
+use Rattle.std.specs.Option.{option_map_or}
+use Rattle.wasm_module.specs.declared.module.Module.{Module}
+use Rattle.wasm_module.specs.Module.{Spells}
+use Rattle.wasm_module.specs.internal.Reading.{◌>>=◌, next_at, u32_at, sized_at, raw_of}
+use Rattle.wasm_valid.specs.Validity.{kinds_of, imported_function}
+use Rattle.module_survey.specs.declared.sections.Wanted.{Wanted}
+use Rattle.module_survey.specs.declared.sections.Wanted.TheVariants.{Code, AfterImports, Names, FunctionNames}
+
+-- ---- sections (section 5.5.2), whatever they hold
+
+-- a section among some bytes, which are `from` its id on: its content, and the bytes after it
+pub record Section : Type 0 where
+  pub from : List ℕ
+  pub id : ℕ
+  pub content : List ℕ
+  pub rest : List ℕ
+
+-- the one that the bytes begin with
+abbrev pub section_of : List ℕ → Option Section
+section_of bytes = next_at bytes >>= λ b. sized_at raw_of b.1 >>= λ s. Some (record { from = bytes; id = b.0; content = s.0; rest = s.1 })
+
+-- the content of a custom section that has this name
+abbrev pub is_named : List ℕ → List ℕ → Bool
+is_named name content = option_map_or (λ n. bytes_eq n.0 name) (sized_at raw_of content) false
+
+-- which sections are looked for; function names stand in a subsection of the custom section `name`
+abbrev pub is_wanted : Wanted → Section → Bool
+is_wanted Code s = s.id == 10
+is_wanted AfterImports s = nat_lt 2 s.id
+is_wanted Names s = s.id == 0 && is_named (codes "name") s.content
+is_wanted FunctionNames s = s.id == 1
+
+-- the first of so many that is wanted
+abbrev pub find_section : Wanted → ℕ → List ℕ → Option Section
+find_section wanted zero bytes = None
+find_section wanted (suc n) bytes = section_of bytes >>= λ s. if is_wanted wanted s then Some s else find_section wanted n s.rest
+
+-- the first that is wanted; sections begin after the preamble's eight bytes
+abbrev pub module_section : Wanted → List ℕ → Option Section
+module_section wanted bytes = find_section wanted (length bytes) (drop 8 bytes)
+
+-- ---- functions
+
+-- Of so many entries of the code section (section 5.5.13), each of which is a size and a body, the one that holds a byte, with
+-- so many bytes from it to their end; counted from this index on.
+abbrev pub holding_entry : ℕ → ℕ → ℕ → List ℕ → Option ℕ
+holding_entry zero index left entries = None
+holding_entry (suc n) index left entries = sized_at raw_of entries >>= λ e.
+    if nat_lt (length e.1) left && nat_le left (length entries) then Some index else holding_entry n (index + 1) left e.1
+
+-- the module's own function, counted from 0, whose entry holds the byte at this offset
+abbrev pub own_function_at : List ℕ → ℕ → Option ℕ
+own_function_at bytes offset = module_section Code bytes >>= λ s. u32_at s.content >>= λ n.
+    holding_entry n.0 0 (length bytes - length s.rest - offset) n.1
+
+-- the bytes up to the end of the imports, which are a module by themselves where they are read
+abbrev pub up_to_imports : List ℕ → List ℕ
+up_to_imports bytes = option_map_or (λ s. take (length bytes - length s.from) bytes) (module_section AfterImports bytes) bytes
+
+abbrev pub imported_functions : Module → ℕ
+imported_functions m = length (filter_map imported_function (kinds_of m.imports))
+
+-- The function that holds the byte at this offset, counted as the standard does, the imported ones first; or there is none,
+-- or its imports can't be read.
+abbrev pub IsFunctionAt : List ℕ → ℕ → Option ℕ → Type 0
+IsFunctionAt bytes offset (Some f) = (m : Module) × Spells (up_to_imports bytes) m × (k : ℕ) × (own_function_at bytes offset ≡ Some k) × (f ≡ imported_functions m + k)
+IsFunctionAt bytes offset None = (m : Module) → Spells (up_to_imports bytes) m → own_function_at bytes offset ≡ None
+
+-- ---- names
+
+-- the first name of this index among so many pairs of an index and a name
+abbrev pub name_among : ℕ → ℕ → List ℕ → Option (List ℕ)
+name_among zero index bytes = None
+name_among (suc n) index bytes = u32_at bytes >>= λ i. sized_at raw_of i.1 >>= λ name. if i.0 == index then Some name.0 else name_among n index name.1
+
+-- a function's name in the custom section `name` (appendix "Custom Sections"): a name map in its subsection 1
+abbrev pub function_name : List ℕ → ℕ → Option (List ℕ)
+function_name bytes index = module_section Names bytes >>= λ s. sized_at raw_of s.content >>= λ n.
+    find_section FunctionNames (length n.1) n.1 >>= λ f. u32_at f.content >>= λ count. name_among count.0 index count.1

@@ -1,0 +1,22 @@
+-- What is printed on a writer.
+use Rattle.std.specs.Prelude.{◌≡◌, ℕ, ◌⊎◌, List, ◌++◌, Option, Result}
+use Rattle.std.specs.Io.KnownBytes.{Appends, Keeps}
+use Rattle.wasm_module.specs.declared.fault.LoadFault.{LoadFault}
+use Rattle.wasm_store.specs.Instantiation.{LinksOf}
+use Rattle.module_survey.specs.Refusal.{IsSurvey}
+
+-- known bytes grow by a beginning of the text
+pub record AppendsPart (before after : Option (List ℕ)) (text : List ℕ) : Type 0 where
+  pub part : List ℕ
+  pub rest : List ℕ
+  pub parts : text ≡ part ++ rest
+  pub appended : Appends before after part
+
+-- all that is told of the bytes was printed
+abbrev pub Tells : LinksOf → List ℕ → Option (List ℕ) → Option (List ℕ) → Result (Unit {0}) LoadFault → Type 0
+Tells links bytes before after outcome = (text : List ℕ) × IsSurvey links bytes outcome text × Appends before after text
+
+-- nothing was printed, since memory was refused; or a beginning of what is told
+abbrev pub Begins : LinksOf → List ℕ → Option (List ℕ) → Option (List ℕ) → Type 0
+Begins links bytes before after = Keeps before after
+    ⊎ ((outcome : Result (Unit {0}) LoadFault) × (text : List ℕ) × IsSurvey links bytes outcome text × AppendsPart before after text)

@@ -1,0 +1,44 @@
+-- What is told of bytes that are refused.
+use Rattle.std.specs.Prelude.{◌≡◌, ◌≢◌, ℕ, List, [], ◌∷◌, ◌++◌, Option, Some, None, Result, Ok, Err, codes}
+use Rattle.std.specs.List.{concat}
+use Rattle.std.specs.Option.{option_map_or}
+use Rattle.wasm_module.specs.declared.fault.LoadFault.{LoadFault}
+use Rattle.wasm_module.specs.declared.fault.LoadFault.TheVariants.{Memory}
+use Rattle.wasm_module.specs.declared.module.Module.{Module}
+use Rattle.wasm_module.specs.Module.{Spells}
+use Rattle.wasm_valid.specs.Validity.{IsValid}
+use Rattle.wasm_valid.specs.Refusal.{IsRefusal}
+use Rattle.wasm_store.specs.Instantiation.{LinksOf}
+use Rattle.run_report.specs.Faults.{load_number, load_offset, load_text}
+use Rattle.module_survey.specs.Words.{Text, name_text, number_text}
+use Rattle.module_survey.specs.Survey.{survey_of}
+use Rattle.module_survey.specs.Places.{IsFunctionAt, function_name}
+
+-- the function's name, where there is a function and it has one
+abbrev pub name_of : List ℕ → Option ℕ → List ℕ
+name_of bytes None = []
+name_of bytes (Some f) = option_map_or (λ name. name) (function_name bytes f) []
+
+abbrev pub fault_lines : LoadFault → Option ℕ → Text
+fault_lines fault f = concat (codes "loads:no\nfault:" ∷ number_text (load_number fault) ∷ codes "\ntext:" ∷ load_text fault
+    ∷ codes "\noffset:" ∷ number_text (load_offset fault) ∷ codes "\nfunction:" ∷ number_text f ∷ codes "\nname:" ∷ [])
+
+-- the fault, where it is, and the function that it lies in
+abbrev pub refusal_text : List ℕ → LoadFault → Option ℕ → Text
+refusal_text bytes fault f = fault_lines fault f ++ (name_text (name_of bytes f) ++ codes "\n")
+
+-- The bytes spell no valid module; with a fault of decoding they spell none at all.
+pub record IsRefusedFor (bytes : List ℕ) (fault : LoadFault) : Type 0 where
+  pub fault_is : fault ≢ Memory
+  pub not_valid : (m : Module) → Spells bytes m → IsValid m → ⊥
+  pub spells_none : ¬ IsRefusal fault → (m : Module) → Spells bytes m → ⊥
+
+-- the function that a fault lies in, where it has an offset
+abbrev pub LiesIn : List ℕ → Option ℕ → Option ℕ → Type 0
+LiesIn bytes None f = f ≡ None
+LiesIn bytes (Some offset) f = IsFunctionAt bytes offset f
+
+-- what is told of bytes: of a valid module what it is, else why they are refused
+abbrev pub IsSurvey : LinksOf → List ℕ → Result (Unit {0}) LoadFault → Text → Type 0
+IsSurvey links bytes (Ok u) text = (m : Module) × Spells bytes m × IsValid m × (text ≡ survey_of links m)
+IsSurvey links bytes (Err fault) text = IsRefusedFor bytes fault × (f : Option ℕ) × LiesIn bytes (load_offset fault) f × (text ≡ refusal_text bytes fault f)

@@ -1,0 +1,15 @@
+//! What a module is, told as lines `key:value`: its imports and exports, or why it is refused, and in which function.
+#![tactic(auto)]
+
+mod functions;
+mod links;
+mod listing;
+mod places;
+mod printing;
+mod refusal;
+mod sections;
+mod surveying;
+mod words;
+
+pub use links::Links;
+pub use surveying::survey;

@@ -1,0 +1,75 @@
+//! What is told of bytes that are refused.
+
+ghost use Rattle.std.specs.Prelude.{◌≡◌, ◌++◌, ℕ, Option, IfOk, OnOk};
+ghost use Rattle.run_report.specs.Faults.{load_offset};
+ghost use Rattle.module_survey.specs.Refusal.{fault_lines, LiesIn, name_of, refusal_text};
+
+use crate::places::{function_at, function_name};
+use crate::words::{Number, add_name};
+use run_report::Fault;
+use std::alloc::Global;
+use std::io;
+use std::io::Write;
+use wasm_module::LoadFault;
+
+/// The function's name, where there is a function and it has one.
+fn name_of(bytes: &[u8], function: Option<u64>) -> &[u8]
+    ensures { result.now ≡ name_of bytes.now function }
+{
+    match function {
+        Some(index) => match function_name(bytes, index) {
+            Some(name) => name,
+            None => &[],
+        },
+        None => &[],
+    }
+}
+
+/// The function that a fault at this offset lies in.
+fn function_of(alloc: Global, bytes: &[u8], offset: Option<u32>) -> io::Result<Option<u64>>
+    ensures { IfOk result (LiesIn bytes.now offset) }
+{
+    match offset {
+        Some(offset) => function_at(alloc, bytes, offset),
+        None => Ok(None),
+    }
+}
+
+fn wide(number: Option<u32>) -> Option<u64>
+    ensures { result ≡ number }
+{
+    match number {
+        Some(number) => Some(u64::from(number)),
+        None => None,
+    }
+}
+
+fn add_fault_lines(text: &mut Vec<u8>, fault: LoadFault, function: Option<u64>) -> io::Result<()>
+    ensures { OnOk result (text.new.items ≡ text.old.items ++ fault_lines fault function) }
+{
+    let reason = Fault::Module(fault);
+    write!(
+        text,
+        "loads:no\nfault:{}\ntext:{}\noffset:{}\nfunction:{}\nname:",
+        Number(wide(reason.number())),
+        reason.text(),
+        Number(wide(reason.offset())),
+        Number(function)
+    )
+}
+
+/// Adds why the bytes are refused.
+pub(crate) fn add_refusal(
+    alloc: Global,
+    text: &mut Vec<u8>,
+    bytes: &[u8],
+    fault: LoadFault,
+) -> io::Result<()>
+    ensures { OnOk result ((f : Option ℕ) × LiesIn bytes.now (load_offset fault) f
+        × (text.new.items ≡ text.old.items ++ refusal_text bytes.now fault f)) }
+{
+    let function = function_of(alloc, bytes, Fault::Module(fault).offset())?;
+    add_fault_lines(text, fault, function)?;
+    add_name(text, name_of(bytes, function))?;
+    text.write_all(b"\n")
+}

@@ -1,0 +1,72 @@
+//! What is told of a module's bytes.
+
+ghost use Rattle.std.specs.Prelude.{◌≡◌, ◌≢◌, IfOk, IfErr, OnErr};
+ghost use Rattle.wasm_module.specs.Module.{Spells};
+ghost use Rattle.wasm_valid.specs.Validity.{IsValid};
+ghost use Rattle.module_survey.specs.Refusal.{IsRefusedFor, IsSurvey};
+ghost use Rattle.module_survey.specs.Printing.{Begins, Tells};
+
+use crate::links::Links;
+use crate::listing::add_survey;
+use crate::printing::print_all;
+use crate::refusal::add_refusal;
+use std::alloc::Global;
+use std::io;
+use std::io::{Error, ErrorKind, Write};
+use wasm_module::{LoadFault, decode, one_module};
+use wasm_valid::{Valid, validate};
+
+/// Decodes the module that the bytes spell, and validates it.
+fn load(alloc: Global, bytes: &[u8]) -> Result<Valid<'_>, LoadFault>
+    ensures found { IfOk result (λ v. Spells bytes.now v × IsValid v) }
+    ensures refused { IfErr result (λ e. e ≢ LoadFault.Memory → IsRefusedFor bytes.now e) }
+{
+    let decoded = decode(alloc, bytes)?;
+    one_module(); // a law for the contract: what is found not valid is all that the bytes spell
+    validate(alloc, decoded)
+}
+
+/// What is told of the bytes, and whether they are refused.
+fn text_of<L: Links>(
+    alloc: Global,
+    links: &L,
+    bytes: &[u8],
+) -> io::Result<(Vec<u8>, Result<(), LoadFault>)>
+    ensures { IfOk result (λ told. IsSurvey L.links bytes.now told.1 told.0.items) }
+{
+    let mut text = Vec::new(alloc);
+    match load(alloc, bytes) {
+        Ok(valid) => {
+            let added = add_survey(alloc, &mut text, links, valid.module());
+            drop(valid);
+            added?;
+            Ok((text, Ok(())))
+        }
+        Err(LoadFault::Memory) => Err(Error::from(ErrorKind::OutOfMemory)),
+        Err(fault) => {
+            add_refusal(alloc, &mut text, bytes, fault)?;
+            Ok((text, Err(fault)))
+        }
+    }
+}
+
+/// Prints what the bytes are: of a valid module its imports, exports and sizes, else why they are refused, and in which
+/// function. The answer says which.
+///
+/// # Errors
+///
+/// `OutOfMemory` where memory was refused, and nothing is printed then; else what the writer refused with, after a beginning
+/// of the text.
+pub fn survey<L: Links, W: Write>(
+    alloc: Global,
+    links: &L,
+    bytes: &[u8],
+    out: &mut W,
+) -> io::Result<Result<(), LoadFault>>
+    ensures tells { IfOk result (Tells L.links bytes.now (W.contents out.old) (W.contents out.new)) }
+    ensures begins { OnErr result (Begins L.links bytes.now (W.contents out.old) (W.contents out.new)) }
+{
+    let (text, outcome) = text_of(alloc, links, bytes)?;
+    print_all(out, text.as_slice())?;
+    Ok(outcome)
+}
