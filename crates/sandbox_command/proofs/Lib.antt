@@ -1,3 +1,4 @@
 mod Lines
+mod Spoken
 mod Began
 mod Performing

@@ -22,7 +22,7 @@ use Rattle.run_report.specs.declared.fault.Fault.TheVariants as reason
 use Rattle.run_report.specs.declared.summary.Kept.TheVariants as kept
 use Rattle.run_report.specs.declared.summary.Summary.{Summary}
 use Rattle.volume_tasks.specs.Formatting.{FormatsAs}
-use Rattle.sandbox_command.specs.Reporting.{kept_where_refused, not_run, session_reason}
+use Rattle.sandbox_command.specs.Reporting.{kept_where_refused, not_run, session_reason, volume_of}
 use Rattle.volume_tasks.specs.Doing.{Performs}
 use Rattle.sandbox_command.specs.declared.program.Executed.{Executed}
 use Rattle.sandbox_command.specs.Status.{load_status, session_status, volume_status, task_status}
@@ -50,50 +50,61 @@ pub record NotLoaded (run : Run) (bytes : List ℕ) (status : ℕ) (summary : Op
 module _ {D R W1 W2 : Type 0} (is_honest : D → Type 0) (disk : D → Disk) (sectors_on failures : D → ℕ)
     (remaining : R → Option (List ℕ)) (out_contents : W1 → Option (List ℕ)) (err_contents : W2 → Option (List ℕ)) where
   -- The volume is refused.
-  pub record NoVolume (run : Run) (device : D) (input : R) (out : W1) (err : W2) (left : Executed D R W1 W2) : Type 0 where
+  pub record NoVolume (Follows : Option (List ℕ) → Option (List ℕ) → Type 0) (run : Run) (device : D) (input : R) (out : W1) (err : W2) (left : Executed D R W1 W2) : Type 0 where
     pub refused : Refused D
-    pub why : IsRefusedFor is_honest disk sectors_on failures run.volume device refused
+    pub why : IsRefusedFor is_honest disk sectors_on failures (volume_of run) device refused
     pub device_is : left.device ≡ refused.device
     pub ends : left.status ≡ volume_status refused.fault
     pub flushed : left.flushed ≡ true
     pub summary : left.summary ≡ Some (not_run run (reason.Volume refused.fault) (kept_where_refused refused.fault) left.status)
-    pub streams : IsSilent out_contents err_contents input out err left
+    pub streams : IsSilent out_contents err_contents Follows input out err left
 
   -- The volume was opened, and the module launched with it and with the settings that were asked for.
-  pub record OnVolume (run : Run) (m : Module) (random : Text) (device : D) (input : R) (out : W1) (err : W2) (left : Executed D R W1 W2) : Type 0 where
+  pub record OnVolume (Follows : Option (List ℕ) → Option (List ℕ) → Type 0) (run : Run) (m : Module) (random : Text) (device : D) (input : R) (out : W1) (err : W2) (left : Executed D R W1 W2) : Type 0 where
     pub volume : Opened D
-    pub opened : IsOpenFor is_honest disk sectors_on failures run.volume device volume
+    pub opened : IsOpenFor is_honest disk sectors_on failures (volume_of run) device volume
     pub settings : Settings
     pub are_settings : AreSettings run random settings
-    pub launched : Launches is_honest disk sectors_on failures remaining out_contents err_contents m run (given settings volume input out err) left
+    pub launched : Launches is_honest disk sectors_on failures remaining out_contents err_contents Follows m run (given settings volume input out err) left
     -- At any moment a crash leaves what it could leave before, what opening leaves, or the tree of a host that the run comes by.
     pub crash : is_honest device → Leaves (disk device) (disk left.device)
-        (λ c. LeftByOpening is_honest disk sectors_on failures run.volume volume c ⊎ LeftByRun is_honest disk sectors_on failures remaining out_contents err_contents m run (given settings volume input out err) left launched c)
+        (λ c. LeftByOpening is_honest disk sectors_on failures (volume_of run) volume c ⊎ LeftByRun is_honest disk sectors_on failures remaining out_contents err_contents Follows m run (given settings volume input out err) left launched c)
     pub honest : is_honest device → is_honest left.device
 
   -- Before a volume was opened: the device is as it was, and so are the input and the output.
-  pub record IsUntouched (device : D) (input : R) (out : W1) (err : W2) (left : Executed D R W1 W2) : Type 0 where
+  pub record IsUntouched (Follows : Option (List ℕ) → Option (List ℕ) → Type 0) (device : D) (input : R) (out : W1) (err : W2) (left : Executed D R W1 W2) : Type 0 where
     pub device_is : left.device ≡ device
     pub flushed : left.flushed ≡ true
-    pub streams : IsSilent out_contents err_contents input out err left
+    pub streams : IsSilent out_contents err_contents Follows input out err left
+
+  -- Refused as a wrong setting, before anything is done.
+  abbrev pub IsPutOff : D → R → W1 → W2 → Executed D R W1 W2 → Type 0
+  IsPutOff device input out err left = (left.status ≡ 124) × (left.summary ≡ None) × IsUntouched AppendsSome device input out err left
 
   -- The words are refused, or the bytes; or they spell a valid module, and then the volume is refused, or the module is
   -- launched.
-  abbrev pub Runs : Run → List ℕ → Text → D → R → W1 → W2 → Executed D R W1 W2 → Type 0
-  Runs run bytes random device input out err left =
-      (NotSupplied run left.status left.summary × IsUntouched device input out err left)
-      ⊎ ((NotLoaded run bytes left.status left.summary × IsUntouched device input out err left)
+  abbrev pub Runs : (Option (List ℕ) → Option (List ℕ) → Type 0) → Run → List ℕ → Text → D → R → W1 → W2 → Executed D R W1 W2 → Type 0
+  Runs Follows run bytes random device input out err left =
+      (NotSupplied run left.status left.summary × IsUntouched Follows device input out err left)
+      ⊎ ((NotLoaded run bytes left.status left.summary × IsUntouched Follows device input out err left)
       ⊎ ((m : Module) × Spells bytes m × IsValid m
-      × (NoVolume run device input out err left ⊎ OnVolume run m random device input out err left)))
+      × (NoVolume Follows run device input out err left ⊎ OnVolume Follows run m random device input out err left)))
 
-  -- A module runs on the volume of a device; a device is formatted; a task is done with the volume on a device. Then the
-  -- output is flushed, which keeps what it has.
-  abbrev pub Executes : Invocation → List ℕ → Text → D → R → W1 → W2 → Executed D R W1 W2 → Type 0
-  Executes (asked.Run run) bytes random device input out err left = Runs run bytes random device input out err left
-  Executes (asked.Format file sectors slots large) bytes random device input out err left =
+  -- A module runs on the volume of a device, and the side of errors is followed as is said; a device is formatted; a task is
+  -- done with the volume on a device. Then the output is flushed, which keeps what it has.
+  abbrev pub ExecutesSo : (Option (List ℕ) → Option (List ℕ) → Type 0) → Invocation → List ℕ → Text → D → R → W1 → W2 → Executed D R W1 W2 → Type 0
+  ExecutesSo Follows (asked.Run run) bytes random device input out err left = Runs Follows run bytes random device input out err left
+  ExecutesSo Follows (asked.Format file sectors slots large) bytes random device input out err left =
       (done : Result (Unit {0}) Failure) × FormatsAs large is_honest disk sectors_on failures device sectors slots left.device done
-      × (left.status ≡ task_status done left.flushed) × (left.summary ≡ None) × IsSilent out_contents err_contents input out err left
-  Executes (asked.Volume file task) bytes random device input out err left =
+      × (left.status ≡ task_status done left.flushed) × (left.summary ≡ None) × IsSilent out_contents err_contents AppendsSome input out err left
+  ExecutesSo Follows (asked.Volume file task) bytes random device input out err left =
       (done : Result (Unit {0}) Failure)
       × Performs is_honest disk sectors_on failures task device (remaining input) (remaining left.input) (out_contents out) (out_contents left.out) left.device done
       × (left.status ≡ task_status done left.flushed) × (left.summary ≡ None) × AppendsSome (err_contents err) (err_contents left.err)
+  ExecutesSo Follows (asked.Import file path) bytes random device input out err left = IsPutOff device input out err left
+  ExecutesSo Follows (asked.Export file path) bytes random device input out err left = IsPutOff device input out err left
+  ExecutesSo Follows (asked.Inspect «module») bytes random device input out err left = IsPutOff device input out err left
+
+  -- where the program's own lines follow on the side of errors
+  abbrev pub Executes : Invocation → List ℕ → Text → D → R → W1 → W2 → Executed D R W1 W2 → Type 0
+  Executes invocation bytes random device input out err left = ExecutesSo AppendsSome invocation bytes random device input out err left

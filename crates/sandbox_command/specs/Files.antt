@@ -1,5 +1,7 @@
 -- What is done on the files that a command line names (`README.md`, "The program"). No contract says what a file holds.
-use Rattle.std.specs.Prelude.{◌≡◌, ◌⊎◌, ◌≤◌, ℕ, List, Option, Some, None, IsSomeAnd, length, min, replicate}
+use Rattle.std.specs.Prelude.{◌≡◌, ◌⊎◌, ◌≤◌, ℕ, List, Option, Some, None, IsSome, IsSomeAnd, length, min, option_map, replicate}
+use Rattle.std.specs.Borrow.{Bor}
+use Rattle.std.specs.Io.KnownBytes.{Keeps}
 use Rattle.std.specs.declared.io.ErrorKind.{ErrorKind as InputKind}
 use Rattle.clap.specs.declared.error.kind.ErrorKind.{ErrorKind as LineKind}
 use Rattle.clap.specs.Words.{subcommand_of}
@@ -17,8 +19,11 @@ use Rattle.sandbox_words.specs.declared.request.Invocation.TheVariants as asked
 use Rattle.sandbox_words.specs.Request.{Text}
 use Rattle.sandbox_words.specs.CommandLine.{AsksFor, program}
 use Rattle.sandbox_command.specs.declared.program.Executed.{Executed}
-use Rattle.sandbox_command.specs.Execution.{Executes}
+use Rattle.sandbox_command.specs.Execution.{ExecutesSo}
 use Rattle.sandbox_command.specs.Reporting.{not_run}
+use Rattle.sandbox_command.specs.declared.streams.Source.{Source}
+use Rattle.sandbox_command.specs.declared.streams.Sink.{Sink}
+use Rattle.sandbox_command.specs.Sources.{AreStreams, sink_contents, source_remaining}
 use Rattle.sandbox_command.specs.Status.{command_line_status, words_status}
 
 -- what is known of the disk of a device in memory, and of one in a file
@@ -28,17 +33,22 @@ memory_disk d = held d.sectors d.past.images
 abbrev pub file_disk : FileDevice → Disk
 file_disk d = kept d.sectors d.moments.unsynced d.moments.times
 
--- a run that names no file for its volume
+-- A run whose files for its volume don't go together: an image beside a volume of its own, or a file that its volume is to be
+-- handed out into without an image.
+abbrev pub Clashes : Invocation → Type 0
+Clashes (asked.Run run) = (IsSome run.image × IsSome run.volume) ⊎ (IsSome run.volume_out × (run.image ≡ None))
+Clashes _ = ⊥
+
+-- a run whose volume is in memory, since it names no file for one
 abbrev pub NamesNoVolume : Invocation → Type 0
 NamesNoVolume (asked.Run run) = run.volume ≡ None
-NamesNoVolume (asked.Format file sectors slots large) = ⊥
-NamesNoVolume (asked.Volume file task) = ⊥
+NamesNoVolume _ = ⊥
 
--- what asks for no report: a run that names no file for one, and all that is no run
-abbrev pub AsksNoReport : Invocation → Type 0
-AsksNoReport (asked.Run run) = run.report ≡ None
-AsksNoReport (asked.Format file sectors slots large) = Unit {0}
-AsksNoReport (asked.Volume file task) = Unit {0}
+-- what prints nothing into a file after it has ended: a run that names none for its report and none for its volume, and all
+-- that is no run
+abbrev pub AsksNothingAfter : Invocation → Type 0
+AsksNothingAfter (asked.Run run) = (run.report ≡ None) × (run.volume_out ≡ None)
+AsksNothingAfter _ = Unit {0}
 
 -- A run whose files can't be read, or for which memory was wanting before it was executed, with what its report says.
 abbrev pub IsUnread : Run → (status : ℕ) → Option Summary → Type 0
@@ -46,46 +56,79 @@ IsUnread run status summary =
     ((status ≡ 122) × (summary ≡ Some (not_run run reason.Memory became.None status)))
     ⊎ ((status ≡ 124) × (summary ≡ Some (not_run run reason.File became.None status)))
 
--- a device of 202 sectors of zeros
-abbrev pub IsNewInMemory : RamDevice → Type 0
-IsNewInMemory device = device.sectors ≡ replicate 202 (replicate 512 0)
+-- the sectors of an image, 65,536 at most; without one 202 of zeros
+abbrev pub IsImage : Option (Bor Text) → List (List ℕ) → Type 0
+IsImage None sectors = sectors ≡ replicate 202 (replicate 512 0)
+IsImage (Some file) sectors = length sectors ≤ 65536
+
+-- the device in memory that a run begins with
+abbrev pub IsNewInMemory : Invocation → RamDevice → Type 0
+IsNewInMemory (asked.Run run) device = IsImage run.image device.sectors
+IsNewInMemory _ device = ⊥
 
 -- A device on which no operation failed yet. What is to be formatted is lengthened to its sectors first, or to 65,536.
 abbrev pub IsNewInFile : Invocation → FileDevice → Type 0
-IsNewInFile (asked.Run run) device = device.failures ≡ 0
 IsNewInFile (asked.Format file sectors slots large) device = (device.failures ≡ 0) × (min sectors 65536 ≤ length device.sectors)
-IsNewInFile (asked.Volume file task) device = device.failures ≡ 0
+IsNewInFile _ device = device.failures ≡ 0
+
+-- the report of a run whose volume couldn't be handed out
+abbrev pub lost : Summary → Summary
+lost summary = record summary { status = 124; volume = became.Failed }
+
+-- What follows the end of a run: nothing, or its volume was handed out; or, where that is asked for, it couldn't be: 124.
+abbrev pub IsHandedOut : Run → (before : ℕ) → Option Summary → (status : ℕ) → Option Summary → Type 0
+IsHandedOut run before said status summary =
+    ((status ≡ before) × (summary ≡ said)) ⊎ (IsSome run.volume_out × (status ≡ 124) × (summary ≡ option_map lost said))
 
 module _ {D R W1 W2 : Type 0} (is_honest : D → Type 0) (disk : D → Disk) (sectors_on failures : D → ℕ)
     (remaining : R → Option (List ℕ)) (out_contents : W1 → Option (List ℕ)) (err_contents : W2 → Option (List ℕ)) where
-  -- The invocation was executed on a device that is new, with some bytes of the module's file and of that of the random
-  -- bytes, and this is its status, and what the report of a run says.
+  -- The invocation was executed on a device that is new, with these streams and with some bytes of the module's file and of
+  -- that of the random bytes, and this is its status, and what the report of a run says. The lines of a run don't follow on
+  -- the side of its errors.
   pub record IsExecuted (is_new : D → Type 0) (invocation : Invocation) (input : R) (out : W1) (err : W2) (status : ℕ) (summary : Option Summary) : Type 0 where
     pub bytes : List ℕ
     pub random : Text
     pub device : D
     pub new : is_new device
     pub left : Executed D R W1 W2
-    pub executes : Executes is_honest disk sectors_on failures remaining out_contents err_contents invocation bytes random device input out err left
+    pub executes : ExecutesSo is_honest disk sectors_on failures remaining out_contents err_contents Keeps invocation bytes random device input out err left
     pub ends : status ≡ left.status
     pub summary_is : summary ≡ left.summary
 
 module _ {R W1 W2 : Type 0} (remaining : R → Option (List ℕ)) (out_contents : W1 → Option (List ℕ)) (err_contents : W2 → Option (List ℕ)) where
-  -- The invocation was executed: where it names no volume, on sectors in memory, and else on those of a file.
+  -- The invocation was executed with these streams: where it names no volume, on sectors in memory, and else on those of a file.
+  abbrev pub IsExecutedOn : Invocation → Source R → Sink W1 → Sink W2 → (status : ℕ) → Option Summary → Type 0
+  IsExecutedOn invocation read written complained status summary =
+      (NamesNoVolume invocation × IsExecuted (λ d. Unit {0}) memory_disk (λ d. length d.sectors) (λ d. 0)
+      (source_remaining remaining) (sink_contents out_contents) (sink_contents err_contents)
+      (IsNewInMemory invocation) invocation read written complained status summary)
+      ⊎ ((NamesNoVolume invocation → ⊥) × IsExecuted (λ d. KeepsItsModel d.file) file_disk (λ d. length d.sectors) (λ d. d.failures)
+      (source_remaining remaining) (sink_contents out_contents) (sink_contents err_contents)
+      (IsNewInFile invocation) invocation read written complained status summary)
+
+  -- The invocation was executed with the streams that were given, but where a run names files for them.
   abbrev pub IsExecutedOnFiles : Invocation → R → W1 → W2 → (status : ℕ) → Option Summary → Type 0
   IsExecutedOnFiles invocation input out err status summary =
-      (NamesNoVolume invocation × IsExecuted (λ d. Unit {0}) memory_disk (λ d. length d.sectors) (λ d. 0) remaining out_contents err_contents
-      IsNewInMemory invocation input out err status summary)
-      ⊎ ((NamesNoVolume invocation → ⊥) × IsExecuted (λ d. KeepsItsModel d.file) file_disk (λ d. length d.sectors) (λ d. d.failures) remaining out_contents err_contents
-      (IsNewInFile invocation) invocation input out err status summary)
+      (read : Source R) × (written : Sink W1) × (complained : Sink W2) × AreStreams invocation input out err read written complained
+      × IsExecutedOn invocation read written complained status summary
 
-  -- A file or memory is refused before anything is executed. Or the invocation was executed, and this is its status. Or it
-  -- asks for a report, was executed, and the report couldn't be printed.
+  -- A run couldn't read its files; or it was executed with these streams, and its volume handed out or not.
+  abbrev pub HasEndedOn : Invocation → Run → Source R → Sink W1 → Sink W2 → (status : ℕ) → Option Summary → Type 0
+  HasEndedOn invocation run read written complained status summary = IsUnread run status summary
+      ⊎ ((before : ℕ) × (said : Option Summary) × IsExecutedOn invocation read written complained before said × IsHandedOut run before said status summary)
+
+  -- the same with the streams that were given, but where it names files for them
+  abbrev pub HasEnded : Invocation → Run → R → W1 → W2 → (status : ℕ) → Option Summary → Type 0
+  HasEnded invocation run input out err status summary = IsUnread run status summary
+      ⊎ ((before : ℕ) × (said : Option Summary) × IsExecutedOnFiles invocation input out err before said × IsHandedOut run before said status summary)
+
+  -- A file or memory is refused before anything is executed, or what is asked for doesn't go together. Or the invocation was
+  -- executed, and this is its status. Or it asks for a report or for its volume, was executed, and that couldn't be printed.
   abbrev pub IsPerformed : Invocation → R → W1 → W2 → ℕ → Type 0
   IsPerformed invocation input out err status =
       (status ≡ 122) ⊎ ((status ≡ 124)
       ⊎ (((summary : Option Summary) × IsExecutedOnFiles invocation input out err status summary)
-      ⊎ ((AsksNoReport invocation → ⊥) × (status ≡ 124) × (ended : ℕ) × (summary : Option Summary) × IsExecutedOnFiles invocation input out err ended summary)))
+      ⊎ ((AsksNothingAfter invocation → ⊥) × (status ≡ 124) × (ended : ℕ) × (summary : Option Summary) × IsExecutedOnFiles invocation input out err ended summary)))
 
   -- The words can't be read, or the command line is refused. Or what some words ask for is performed.
   abbrev pub IsAnswered : R → W1 → W2 → ℕ → Type 0

@@ -2,6 +2,7 @@
 use Rattle.std.specs.Prelude.{◌≡◌, ◌⊎◌, ℕ, List, Bool, true, false, Option, Some, None, Result, Ok, Err}
 use Rattle.std.specs.Io.KnownBytes.{Appends}
 use Rattle.std.specs.Borrow.{Bor}
+use Rattle.std.specs.Option.{option_or}
 use Rattle.vol_sector.specs.declared.fault.VolumeFault.{VolumeFault}
 use Rattle.vol_sector.specs.declared.fault.VolumeFault.TheVariants as volume
 use Rattle.wasi_calls.specs.declared.wasi_host.HostParts.{HostParts}
@@ -20,6 +21,16 @@ use Rattle.run_report.specs.declared.summary.Kept.{Kept}
 use Rattle.run_report.specs.declared.summary.Kept.TheVariants as kept
 use Rattle.run_report.specs.declared.summary.Summary.{Summary}
 use Rattle.run_report.specs.Reporting.{report_text}
+
+-- ---- the volume of a run
+
+-- the file that a run finds its volume in, its own or an image; where there is none, it begins with an empty one
+abbrev pub volume_of : Run → Option (Bor Text)
+volume_of run = option_or run.volume run.image
+
+-- the file that its volume stays in, its own or one that it is handed out into
+abbrev pub kept_in : Run → Option (Bor Text)
+kept_in run = option_or run.volume run.volume_out
 
 -- ---- a run that could not begin
 
@@ -95,7 +106,7 @@ module _ {D R W1 W2 : Type 0} where
     complained = report.err.count;
     calls = tally.calls;
     syncs = tally.syncs;
-    volume = kept_after_run run.volume report.volume;
+    volume = kept_after_run (kept_in run) report.volume;
     flushed = flushed;
     broken = report.broken;
   }

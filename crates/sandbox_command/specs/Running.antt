@@ -23,7 +23,7 @@ use Rattle.sandbox_words.specs.declared.request.Run.{Run}
 use Rattle.run_report.specs.declared.counted.Counted.{Counted}
 use Rattle.sandbox_command.specs.declared.program.Executed.{Executed}
 use Rattle.sandbox_command.specs.Status.{EndsWith, session_status}
-use Rattle.sandbox_command.specs.Streams.{AppendsSome, IsSilent}
+use Rattle.sandbox_command.specs.Streams.{IsSilent}
 use Rattle.sandbox_command.specs.Reporting.{counted_bytes, counting, kept_where_not_begun, not_run, run_summary, session_reason}
 
 -- the device of a volume that is handed back, or the device itself
@@ -41,7 +41,7 @@ module _ {D R W1 W2 : Type 0} (is_honest : D → Type 0) (disk : D → Disk) (se
   HostCalls = Calls is_honest disk sectors_on failures (counted_bytes remaining) (counted_bytes out_contents) (counted_bytes err_contents)
 
   -- The module gets no session, and nothing but reads was done with the volume.
-  pub record NotOpened (m : Module) (run : Run) (parts : HostParts D R W1 W2) (left : Executed D R W1 W2) : Type 0 where
+  pub record NotOpened (Follows : Option (List ℕ) → Option (List ℕ) → Type 0) (m : Module) (run : Run) (parts : HostParts D R W1 W2) (left : Executed D R W1 W2) : Type 0 where
     pub fault : SessionFault
     pub refused : IsRefused is_honest fault m (counting parts)
     pub volume : Opened D
@@ -50,14 +50,14 @@ module _ {D R W1 W2 : Type 0} (is_honest : D → Type 0) (disk : D → Disk) (se
     pub ends : left.status ≡ session_status fault
     pub flushed : left.flushed ≡ true
     pub summary : left.summary ≡ Some (not_run run (session_reason fault) (kept_where_not_begun run.volume fault) left.status)
-    pub streams : IsSilent out_contents err_contents parts.input parts.out parts.err left
+    pub streams : IsSilent out_contents err_contents Follows parts.input parts.out parts.err left
 
   -- the hosts that a run from a session comes by, whose trees a crash may leave, under the volume's numbers
   abbrev pub StandsInRun : (i : Instance) (h : Host) (c : Configuration) (fuel : ℕ) (report : Report D (Counted R) (Counted W1) (Counted W2)) (last : Host) (used : ℕ) → RunsWithin Host HostCalls i h c fuel last report.outcome used → Image → Type 0
   StandsInRun i h c fuel report last used run image = (host : Host) × ComesBy Host HostCalls i h c run.answers last run.last host × StandsAs image h.volume.numbers host.volume.tree
 
   -- A session ran from the module's first configuration, with this fuel.
-  pub record Ran (m : Module) (run : Run) (parts : HostParts D R W1 W2) (left : Executed D R W1 W2) : Type 0 where
+  pub record Ran (Follows : Option (List ℕ) → Option (List ℕ) → Type 0) (m : Module) (run : Run) (parts : HostParts D R W1 W2) (left : Executed D R W1 W2) : Type 0 where
     pub session : SessionState D (Counted R) (Counted W1) (Counted W2)
     pub opens : Opens m (counting parts) session
     pub shares : Shares is_honest disk sectors_on failures (counting parts) session
@@ -68,10 +68,10 @@ module _ {D R W1 W2 : Type 0} (is_honest : D → Type 0) (disk : D → Disk) (se
     pub summary : left.summary ≡ Some (run_summary run report tally left.status left.flushed)
     pub device : left.device ≡ device_of report.volume
     -- The streams are those of the run's last host. The output has what the guest wrote there and nothing else; what it
-    -- wrote on the side of errors stays, and some bytes may follow.
+    -- wrote on the side of errors is followed as is said.
     pub input : left.input ≡ counted.reports.last.host.input.reader.stream
     pub out : Keeps (out_contents counted.reports.last.host.out.writer.stream) (out_contents left.out)
-    pub err : AppendsSome (err_contents counted.reports.last.host.err.writer.stream) (err_contents left.err)
+    pub err : Follows (err_contents counted.reports.last.host.err.writer.stream) (err_contents left.err)
     -- The streams moved by some bytes, each that tells its bytes by those that it told. Whatever others they have, this is a
     -- run over a tree of paths.
     pub over_paths : is_honest parts.volume.device → let first = first_configuration opens.starts.entered opens.starts.store in
@@ -86,13 +86,13 @@ module _ {D R W1 W2 : Type 0} (is_honest : D → Type 0) (disk : D → Disk) (se
         (counted.reports.run opens.starts.instance first opens.starts.stands))
 
   -- a valid module gets no session, or runs
-  abbrev pub Launches : Module → Run → HostParts D R W1 W2 → Executed D R W1 W2 → Type 0
-  Launches m run parts left = NotOpened m run parts left ⊎ Ran m run parts left
+  abbrev pub Launches : (Option (List ℕ) → Option (List ℕ) → Type 0) → Module → Run → HostParts D R W1 W2 → Executed D R W1 W2 → Type 0
+  Launches Follows m run parts left = NotOpened Follows m run parts left ⊎ Ran Follows m run parts left
 
   -- what a stop after the volume was opened may leave: the tree of a host that the run comes by
-  abbrev pub LeftByRun : (m : Module) (run : Run) (parts : HostParts D R W1 W2) (left : Executed D R W1 W2) → Launches m run parts left → Image → Type 0
-  LeftByRun m run parts left (inl refused) image = ⊥
-  LeftByRun m run parts left (inr r) image =
+  abbrev pub LeftByRun : (Follows : Option (List ℕ) → Option (List ℕ) → Type 0) (m : Module) (run : Run) (parts : HostParts D R W1 W2) (left : Executed D R W1 W2) → Launches Follows m run parts left → Image → Type 0
+  LeftByRun Follows m run parts left (inl refused) image = ⊥
+  LeftByRun Follows m run parts left (inr r) image =
       let first = first_configuration r.opens.starts.entered r.opens.starts.store in
       StandsInRun r.opens.starts.instance r.session.host first run.limits.fuel r.report r.counted.reports.last.host _
       (r.counted.reports.run r.opens.starts.instance first r.opens.starts.stands) image

@@ -1,1 +1,2 @@
 pub mod Supplies
+pub mod Redirected

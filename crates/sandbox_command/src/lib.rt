@@ -6,6 +6,8 @@ mod files;
 mod output;
 mod program;
 mod reporting;
+mod runs;
+mod streams;
 mod supplies;
 
 pub use files::{exit_code, perform};
@@ -13,4 +15,5 @@ pub use program::{Executed, execute, refuse_command_line, refuse_words};
 pub use run_report::{Summary, print as print_report};
 pub use sandbox_device::{FileDevice, RamDevice};
 pub use sandbox_words::{Change, Invocation, Limits, Run, Task, invocation};
+pub use streams::{Sink, Source};
 pub use volume_tasks::FRESH_SECTORS;

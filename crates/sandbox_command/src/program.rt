@@ -15,7 +15,7 @@ ghost use Rattle.sandbox_command.specs.Running.{Launches, device_of};
 ghost use Rattle.sandbox_command.specs.internal.Supplies.{AreSupplies};
 ghost use Rattle.sandbox_command.specs.Execution.{NoVolume, OnVolume, Runs, Executes};
 
-use crate::output::tell;
+use crate::output::{GREATEST, NOT_COMMITTED, tell, tell_after, tell_fault, tell_outcome};
 use crate::reporting::{
     kept_after_run, kept_where_not_begun, kept_where_refused, not_run, session_reason,
 };
@@ -35,15 +35,11 @@ use volume_tasks::{Failure, format_as, open_for_run, perform};
 /// The status where a guest's own one is greater than `GREATEST`.
 const OTHER_EXIT: u8 = 119;
 
-const GREATEST: u32 = 119;
-
 const TRAPPED: u8 = 120;
 
 const OUT_OF_FUEL: u8 = 121;
 
 const OUT_OF_MEMORY: u8 = 122;
-
-const NOT_COMMITTED: u8 = 123;
 
 const FAULT: u8 = 124;
 
@@ -64,49 +60,34 @@ pub struct Executed<D, R, W1, W2> {
     pub err: W2,
 }
 
-/// Prints a fault's line, and gives its status.
-fn load_refused<W: Write>(err: &mut W, fault: LoadFault) -> u8
-    ensures status { result ≡ load_status fault }
-    ensures line { AppendsSome (W.contents err.old) (W.contents err.new) }
+/// The status of a module that is refused.
+fn load_status(fault: LoadFault) -> u8
+    ensures { result ≡ load_status fault }
 {
-    tell(err, fault);
     match fault {
         LoadFault::Memory => OUT_OF_MEMORY,
         _ => FAULT,
     }
 }
 
-/// Prints a fault's line, and gives its status.
-fn session_refused<W: Write>(err: &mut W, fault: SessionFault) -> u8
-    ensures status { result ≡ session_status fault }
-    ensures line { AppendsSome (W.contents err.old) (W.contents err.new) }
+/// The status of a run that gets no session.
+fn session_status(fault: SessionFault) -> u8
+    ensures { result ≡ session_status fault }
 {
-    tell(err, fault);
     match fault {
         SessionFault::Memory => OUT_OF_MEMORY,
         _ => FAULT,
     }
 }
 
-/// Prints the line of a volume that is refused, and gives its status.
-fn volume_refused<W: Write>(err: &mut W, fault: VolumeFault) -> u8
-    ensures status { result ≡ volume_status fault }
-    ensures line { AppendsSome (W.contents err.old) (W.contents err.new) }
+/// The status of a run whose volume is refused.
+fn volume_status(fault: VolumeFault) -> u8
+    ensures { result ≡ volume_status fault }
 {
-    tell(err, fault);
     match fault {
         VolumeFault::Memory => OUT_OF_MEMORY,
         _ => FAULT,
     }
-}
-
-/// Prints the line of a volume whose device failed before all was committed, and gives its status.
-fn not_committed<W: Write>(err: &mut W) -> u8
-    ensures status { result ≡ 123 }
-    ensures line { AppendsSome (W.contents err.old) (W.contents err.new) }
-{
-    tell(err, "fault 33");
-    NOT_COMMITTED
 }
 
 /// Prints the line of words that can't be read, one that isn't UTF-8 among them, and gives the
@@ -151,31 +132,44 @@ pub fn refuse_file<W: Write>(err: &mut W) -> u8
     FAULT
 }
 
-/// Prints the line of an outcome, where it has one, and gives its status.
-fn ended<W: Write>(err: &mut W, outcome: Outcome) -> u8
-    ensures status { result ≡ status_of outcome }
+/// Prints the line of a wrong setting, and gives its status.
+pub fn refuse_setting<W: Write>(err: &mut W) -> u8
+    ensures status { result ≡ 124 }
     ensures line { AppendsSome (W.contents err.old) (W.contents err.new) }
+{
+    tell(err, "fault 15");
+    FAULT
+}
+
+/// The status of an outcome.
+fn outcome_status(outcome: Outcome) -> u8
+    ensures { result ≡ status_of outcome }
 {
     match outcome {
         Outcome::Exited(status) if status <= GREATEST => (status & 0xff) as u8,
-        Outcome::Exited(status) => {
-            tell(err, format_args!("exit {status}"));
-            OTHER_EXIT
-        }
-        Outcome::Trapped(trap) => {
-            tell(err, format_args!("trap: {trap}"));
-            TRAPPED
-        }
-        Outcome::OutOfFuel => {
-            tell(err, "out of fuel");
-            OUT_OF_FUEL
-        }
-        Outcome::OutOfMemory => out_of_memory(err),
+        Outcome::Exited(_) => OTHER_EXIT,
+        Outcome::Trapped(_) => TRAPPED,
+        Outcome::OutOfFuel => OUT_OF_FUEL,
+        Outcome::OutOfMemory => OUT_OF_MEMORY,
     }
 }
 
-/// Ends a run: its outcome's line and status, but where its calls couldn't be committed or the guest's
-/// output can't be flushed. Gives the device of the volume and the streams back.
+/// Prints the lines of a run that ended so: why it could not begin; or the outcome's line, if it has one, and behind it
+/// that its calls couldn't be committed or its output not be flushed.
+pub(crate) fn tell_end<W: Write>(err: &mut W, summary: &Summary)
+    ensures { AppendsSome (W.contents err.old) (W.contents err.new) }
+{
+    match summary.end {
+        End::Refused(fault) => tell_fault(err, fault),
+        End::Ran(outcome) => {
+            tell_outcome(err, outcome);
+            tell_after(err, summary.status, summary.flushed);
+        }
+    }
+}
+
+/// Ends a run: its outcome's status, but where its calls couldn't be committed or the guest's output can't be flushed.
+/// Gives the device of the volume and the streams back.
 fn report<D: Device + Drop, R: Drop, W1: Write + Drop, W2: Write + Drop>(
     report: Report<D, R, W1, W2>,
 ) -> Executed<D, R, W1, W2>
@@ -183,7 +177,7 @@ fn report<D: Device + Drop, R: Drop, W1: Write + Drop, W2: Write + Drop>(
     ensures device { result.device ≡ device_of report.volume }
     ensures input { result.input ≡ report.input }
     ensures out { Keeps (W1.contents report.out) (W1.contents result.out) }
-    ensures err { AppendsSome (W2.contents report.err) (W2.contents result.err) }
+    ensures err { Keeps (W2.contents report.err) (W2.contents result.err) }
 {
     let Report {
         outcome,
@@ -193,12 +187,12 @@ fn report<D: Device + Drop, R: Drop, W1: Write + Drop, W2: Write + Drop>(
         mut err,
         ..
     } = report;
-    let status = ended(&mut err, outcome);
+    let status = outcome_status(outcome);
     let flushed = out.flush().is_ok() && err.flush().is_ok();
     let (status, device) = match volume {
         Ok(volume) if flushed => (status, volume.into_device()),
-        Ok(volume) => (refuse_file(&mut err), volume.into_device()),
-        Err(Refused { device, .. }) => (not_committed(&mut err), device),
+        Ok(volume) => (FAULT, volume.into_device()),
+        Err(Refused { device, .. }) => (NOT_COMMITTED, device),
     };
     Executed {
         status,
@@ -270,12 +264,12 @@ fn reported<D: Device + Drop, R: Drop, W1: Write + Drop, W2: Write + Drop>(
     ensures device { result.device ≡ device_of counted.volume }
     ensures input { result.input ≡ counted.input.stream }
     ensures out { Keeps (W1.contents counted.out.stream) (W1.contents result.out) }
-    ensures err { AppendsSome (W2.contents counted.err.stream) (W2.contents result.err) }
+    ensures err { Keeps (W2.contents counted.err.stream) (W2.contents result.err) }
 {
     let (plain, moved) = uncounted(counted);
     let (outcome, units, pages) = (plain.outcome, plain.used, plain.pages);
     let broken = plain.broken;
-    let volume = kept_after_run(run.volume, &plain.volume);
+    let volume = kept_after_run(run.volume.or(run.volume_out), &plain.volume);
     let mut left = report(plain);
     left.summary = Some(Summary {
         end: End::Ran(outcome),
@@ -295,9 +289,8 @@ fn reported<D: Device + Drop, R: Drop, W1: Write + Drop, W2: Write + Drop>(
     left
 }
 
-/// Ends a run that could not begin: its fault's line and status. Gives the device of the volume and
-/// the streams back.
-fn not_begun<D: Device + Drop, R: Drop, W1: Drop, W2: Write + Drop>(
+/// Ends a run that could not begin: its fault's status. Gives the device of the volume and the streams back.
+fn not_begun<D: Device + Drop, R: Drop, W1: Drop, W2: Drop>(
     run: &Run<'_>,
     refused: RefusedSession<'_, '_, '_, D, Counted<R>, Counted<W1>, Counted<W2>>,
 ) -> Executed<D, R, W1, W2>
@@ -308,7 +301,7 @@ fn not_begun<D: Device + Drop, R: Drop, W1: Drop, W2: Write + Drop>(
     ensures device { result.device ≡ refused.entry.parts.volume.device }
     ensures input { result.input ≡ refused.entry.parts.input.stream }
     ensures out { result.out ≡ refused.entry.parts.out.stream }
-    ensures err { AppendsSome (W2.contents refused.entry.parts.err.stream) (W2.contents result.err) }
+    ensures err { result.err ≡ refused.entry.parts.err.stream }
 {
     let RefusedSession {
         valid,
@@ -323,8 +316,7 @@ fn not_begun<D: Device + Drop, R: Drop, W1: Drop, W2: Write + Drop>(
         err,
         ..
     } = parts;
-    let mut err = err.stream;
-    let status = session_refused(&mut err, fault);
+    let status = session_status(fault);
     let kept = kept_where_not_begun(run.volume, fault);
     Executed {
         status,
@@ -333,7 +325,7 @@ fn not_begun<D: Device + Drop, R: Drop, W1: Drop, W2: Write + Drop>(
         device: volume.into_device(),
         input: input.stream,
         out: out.stream,
-        err,
+        err: err.stream,
     }
 }
 
@@ -356,7 +348,7 @@ fn launch<D: Device + Drop, R: Read + Drop, W1: Write + Drop, W2: Write + Drop>(
     valid: Valid<'_>,
     parts: HostParts<'_, '_, D, R, W1, W2>,
 ) -> Executed<D, R, W1, W2>
-    ensures { Launches D.honest D.disk D.size D.failures R.remaining W1.contents W2.contents
+    ensures { Launches D.honest D.disk D.size D.failures R.remaining W1.contents W2.contents Keeps
         valid.entry run.now parts.entry result }
 {
     let HostParts {
@@ -388,19 +380,19 @@ fn run_valid<D: Device + Drop, R: Read + Drop, W1: Write + Drop, W2: Write + Dro
     device: D,
     input: R,
     out: W1,
-    mut err: W2,
+    err: W2,
 ) -> Executed<D, R, W1, W2>
     requires { AreSupplies run.now supplies.now }
-    ensures { NoVolume D.honest D.disk D.size D.failures R.remaining W1.contents W2.contents
+    ensures { NoVolume D.honest D.disk D.size D.failures R.remaining W1.contents W2.contents Keeps
         run.now device input out err result
-        ⊎ OnVolume D.honest D.disk D.size D.failures R.remaining W1.contents W2.contents
+        ⊎ OnVolume D.honest D.disk D.size D.failures R.remaining W1.contents W2.contents Keeps
         run.now valid.entry random.now device input out err result }
 {
-    let volume = match open_for_run(alloc, run.volume, device) {
+    let volume = match open_for_run(alloc, run.volume.or(run.image), device) {
         Ok(volume) => volume,
         Err(Refused { device, fault }) => {
             drop(valid);
-            let status = volume_refused(&mut err, fault);
+            let status = volume_status(fault);
             let kept = kept_where_refused(fault);
             return Executed {
                 status,
@@ -423,8 +415,9 @@ fn run_valid<D: Device + Drop, R: Read + Drop, W1: Write + Drop, W2: Write + Dro
     launch(alloc, run, valid, parts)
 }
 
-/// Runs a module on the volume of a device, with random bytes, and gives the device back.
-fn run<D: Device + Drop, R: Read + Drop, W1: Write + Drop, W2: Write + Drop>(
+/// Runs a module on the volume of a device, with random bytes, and gives the device back. It prints no line of the
+/// program's own: `tell_end` prints those of a run, to whom they are meant for.
+pub(crate) fn run<D: Device + Drop, R: Read + Drop, W1: Write + Drop, W2: Write + Drop>(
     alloc: Global,
     run: &Run<'_>,
     module: &[u8],
@@ -432,9 +425,9 @@ fn run<D: Device + Drop, R: Read + Drop, W1: Write + Drop, W2: Write + Drop>(
     device: D,
     input: R,
     out: W1,
-    mut err: W2,
+    err: W2,
 ) -> Executed<D, R, W1, W2>
-    ensures { Runs D.honest D.disk D.size D.failures R.remaining W1.contents W2.contents
+    ensures { Runs D.honest D.disk D.size D.failures R.remaining W1.contents W2.contents Keeps
         run.now «module».now random.now device input out err result }
 {
     let (status, fault) = match supplied(alloc, run) {
@@ -444,9 +437,9 @@ fn run<D: Device + Drop, R: Read + Drop, W1: Write + Drop, W2: Write + Drop>(
                     alloc, run, valid, &supplies, random, device, input, out, err,
                 );
             }
-            Err(fault) => (load_refused(&mut err, fault), Fault::Module(fault)),
+            Err(fault) => (load_status(fault), Fault::Module(fault)),
         },
-        Err(fault) => (session_refused(&mut err, fault), session_reason(fault)),
+        Err(fault) => (session_status(fault), session_reason(fault)),
     };
     Executed {
         status,
@@ -496,6 +489,53 @@ fn task_ended<D: Drop, R: Drop, W1: Write + Drop, W2: Write + Drop>(
     }
 }
 
+/// Runs a module as `run` does, and prints the lines of how it ended where the guest's own errors go.
+fn run_and_tell<D: Device + Drop, R: Read + Drop, W1: Write + Drop, W2: Write + Drop>(
+    alloc: Global,
+    it: &Run<'_>,
+    module: &[u8],
+    random: &[u8],
+    device: D,
+    input: R,
+    out: W1,
+    err: W2,
+) -> Executed<D, R, W1, W2>
+    ensures tells { Runs D.honest D.disk D.size D.failures R.remaining W1.contents W2.contents AppendsSome
+        it.now «module».now random.now device input out err result }
+    ensures within { result.status ≤ 124 }
+{
+    let mut left = run(alloc, it, module, random, device, input, out, err);
+    if let Some(summary) = left.summary {
+        tell_end(&mut left.err, &summary);
+    }
+    left
+}
+
+/// Refuses what isn't done yet, as a wrong setting.
+fn put_off<D: Drop, R: Drop, W1: Drop, W2: Write + Drop>(
+    device: D,
+    input: R,
+    out: W1,
+    mut err: W2,
+) -> Executed<D, R, W1, W2>
+    ensures status { (result.status ≡ 124) × (result.summary ≡ None) × (result.flushed ≡ true) }
+    ensures device { result.device ≡ device }
+    ensures input { result.input ≡ input }
+    ensures out { result.out ≡ out }
+    ensures err { AppendsSome (W2.contents err) (W2.contents result.err) }
+{
+    let status = refuse_setting(&mut err);
+    Executed {
+        status,
+        summary: None,
+        flushed: true,
+        device,
+        input,
+        out,
+        err,
+    }
+}
+
 /// Does what the command line asks, on the bytes of the module's file and of the random bytes' and on
 /// the device, and gives the exit status, the device and the streams. Without a volume's file a run
 /// makes the device an empty volume; the other commands have no use of the bytes. The guest reads
@@ -515,7 +555,7 @@ pub fn execute<D: Device + Drop, R: Read + Drop, W1: Write + Drop, W2: Write + D
     ensures within { result.status ≤ 124 }
 {
     match invocation {
-        Invocation::Run(it) => run(alloc, it, module, random, device, input, out, err),
+        Invocation::Run(it) => run_and_tell(alloc, it, module, random, device, input, out, err),
         Invocation::Format {
             sectors,
             slots,
@@ -528,6 +568,10 @@ pub fn execute<D: Device + Drop, R: Read + Drop, W1: Write + Drop, W2: Write + D
         Invocation::Volume { task, .. } => {
             let (done, device) = perform(alloc, device, *task, &mut input, &mut out);
             task_ended(done, device, input, out, err)
+        }
+        // wired later
+        Invocation::Import { .. } | Invocation::Export { .. } | Invocation::Inspect { .. } => {
+            put_off(device, input, out, err)
         }
     }
 }

@@ -1,7 +1,12 @@
-use Rattle.std.proofs.Common.{◌≡◌, ◌≤◌, Result, Ok, IfOk, inl, inr, refl, sym, ◌∙◌, subst, length, min}
+use Rattle.std.proofs.Common.{◌≡◌, ◌≤◌, Result, Ok, IfOk, [], inl, inr, refl, sym, ◌∙◌, subst, length, min}
 use Rattle.sandbox_device.specs.declared.file_device.FileDevice.{FileDevice}
+use Rattle.sandbox_device.specs.File.{KeepsItsModel}
 use Rattle.sandbox_words.specs.declared.request.Invocation.{Invocation}
-use Rattle.sandbox_command.specs.Files.{IsNewInFile, NamesNoVolume}
+use Rattle.sandbox_command.specs.declared.streams.Source.TheVariants as source
+use Rattle.sandbox_command.specs.declared.streams.Sink.TheVariants as sink
+use Rattle.sandbox_command.specs.Files.{IsNewInFile, file_disk}
+use Rattle.sandbox_command.specs.Sources.{sink_contents, source_remaining}
+use Rattle.sandbox_command.proofs.Performing.{IsNoRun, no_volume, so_too, streams_given}
 use Rattle.sandbox_command.proofs.files.perform.Goals as goal
 use Rattle.sandbox_command.proofs.files.perform.Goals.{in-Format, in-Volume}
 
@@ -13,29 +18,41 @@ pub returns-in-Ok-clause-tells : goal.returns-in-Ok-clause-tells
 returns-in-Ok-clause-tells g c =
     let tells = c.status_on.ensures.tells in
     let device = c.in-Ok.device in
+    let invocation = c.args.invocation.now in
+    let no_run : IsNoRun invocation = elim c.match-invocation.branch [
+      | in-Format w ↦ subst IsNoRun (sym w.in-Format.is) tt
+      | in-Volume w ↦ subst IsNoRun (sym w.in-Volume.is) tt
+    ] in
+    let input = source.Given c.args.input in
+    let out = sink.Given c.args.out in
+    let err = sink.Given c.args.err in
     inr (inr (inl (
       tells.0.summary,
-      inr (
-        elim c.match-invocation.branch [
-          | in-Format w ↦ λ none. subst NamesNoVolume w.in-Format.is none
-          | in-Volume w ↦ λ none. subst NamesNoVolume w.in-Volume.is none
-        ],
-        record {
-          bytes = _;
-          random = _;
-          device = device;
-          new = elim c.match-invocation.branch [
-            | in-Format w ↦ subst (λ (i : Invocation). IsNewInFile i device) (sym w.in-Format.is) (
-              of_ok w.make-opened.result device (λ d. d.failures ≡ 0) (sym w.opened-is ∙ c.in-Ok.is) w.make-opened.ensures.unused,
-              of_ok w.make-opened.result device (λ d. min w.in-Format.sectors 65536 ≤ length d.sectors) (sym w.opened-is ∙ c.in-Ok.is) w.make-opened.ensures.enough,
-            )
-            | in-Volume w ↦ subst (λ (i : Invocation). IsNewInFile i device) (sym w.in-Volume.is)
-                (of_ok w.open-opened.result device (λ d. d.failures ≡ 0) (sym w.opened-is ∙ c.in-Ok.is) w.open-opened.ensures.unused)
-          ];
-          left = tells.0;
-          executes = tells.1;
-          ends = tells.2;
-          summary_is = refl;
-        },
+      (
+        input,
+        out,
+        err,
+        streams_given invocation c.args.input c.args.out c.args.err no_run,
+        inr (
+          no_volume invocation no_run,
+          record {
+            bytes = [];
+            random = [];
+            device = device;
+            new = elim c.match-invocation.branch [
+              | in-Format w ↦ subst (λ (i : Invocation). IsNewInFile i device) (sym w.in-Format.is) (
+                of_ok w.make-opened.result device (λ d. d.failures ≡ 0) (sym w.opened-is ∙ c.in-Ok.is) w.make-opened.ensures.unused,
+                of_ok w.make-opened.result device (λ d. min w.in-Format.sectors 65536 ≤ length d.sectors) (sym w.opened-is ∙ c.in-Ok.is) w.make-opened.ensures.enough,
+              )
+              | in-Volume w ↦ subst (λ (i : Invocation). IsNewInFile i device) (sym w.in-Volume.is)
+                  (of_ok w.open-opened.result device (λ d. d.failures ≡ 0) (sym w.opened-is ∙ c.in-Ok.is) w.open-opened.ensures.unused)
+            ];
+            left = tells.0;
+            executes = so_too (λ d. KeepsItsModel d.file) file_disk (λ d. length d.sectors) (λ d. d.failures) (source_remaining g.R.Read.remaining) (sink_contents g.W1.Write.contents) (sink_contents g.W2.Write.contents)
+                invocation [] [] device input out err tells.0 no_run tells.1;
+            ends = tells.2;
+            summary_is = refl;
+          },
+        ),
       ),
     )))

@@ -9,7 +9,6 @@ use Rattle.sandbox_core.proofs.Headline.{reach_moves}
 use Rattle.run_report.specs.declared.counted.Counted.{Counted}
 use Rattle.sandbox_command.specs.Reporting.{counted_bytes}
 use Rattle.sandbox_command.specs.Running.{Host, HostCalls, StandsInRun}
-use Rattle.sandbox_command.specs.Streams.{AppendsSome}
 use Rattle.sandbox_command.proofs.Began.{began, counting_from, device_back}
 use Rattle.sandbox_command.proofs.program.launch.Goals as goal
 
@@ -48,7 +47,7 @@ returns-in-Ok g c =
       device = ended.device;
       input = ended.input ∙ ap (λ (r : Counted g.row.R.Denot). r.stream) reports.input;
       out = subst (λ (w : Counted g.row.W1.Denot). Keeps (outs w) (g.W1.Write.contents c.reported.result.out)) reports.out ended.out;
-      err = subst (λ (w : Counted g.row.W2.Denot). AppendsSome (errs w) (g.W2.Write.contents c.reported.result.err)) reports.err ended.err;
+      err = subst (λ (w : Counted g.row.W2.Denot). Keeps (errs w) (g.W2.Write.contents c.reported.result.err)) reports.err ended.err;
       over_paths = λ is. reach_moves honest disk size failures remaining outs errs i s.host last first run.last run.answers run.reach (shares.reads.kept.honest.0 is);
       crash = λ is lasts.
           subst (λ (d : g.row.D.Denot). Leaves (disk parts.volume.device) (disk d) (StandsInRun honest disk size failures g.R.Read.remaining g.W1.Write.contents g.W2.Write.contents i s.host first c.args.run.now.limits.fuel c.run_within-counted.result.0 last _ run))
@@ -78,6 +77,7 @@ returns-in-Err g c =
         input_is = ended.input ∙ ap (λ (r : Counted g.row.R.Denot). r.stream) (back.input ∙ c.new-taken.ensures);
         out_keeps = subst (λ (w : g.row.W1.Denot). Keeps (g.W1.Write.contents parts.out) (g.W1.Write.contents w))
             (sym (ended.out ∙ ap (λ (w : Counted g.row.W1.Denot). w.stream) (back.out ∙ c.new-given.ensures))) (Keeps-refl (g.W1.Write.contents parts.out));
-        err_appends = subst (λ (w : Counted g.row.W2.Denot). AppendsSome (g.W2.Write.contents w.stream) (g.W2.Write.contents c.not_begun.result.err)) (back.err ∙ c.new-complaints.ensures) ended.err;
+        err_follows = subst (λ (w : g.row.W2.Denot). Keeps (g.W2.Write.contents parts.err) (g.W2.Write.contents w))
+            (sym (ended.err ∙ ap (λ (w : Counted g.row.W2.Denot). w.stream) (back.err ∙ c.new-complaints.ensures))) (Keeps-refl (g.W2.Write.contents parts.err));
       };
     })

@@ -1,0 +1,16 @@
+use Rattle.sandbox_command.proofs.Performing.{has_ended, sink_named, source_named}
+use Rattle.sandbox_command.proofs.runs.run_on_files.Goals as goal
+
+-- with the streams that were given, or those of its files
+pub returns-in-Ok-stream_files-clause-tells : goal.returns-in-Ok-stream_files-clause-tells
+returns-in-Ok-stream_files-clause-tells g c =
+    let run = c.args.run.now in
+    let files = c.in-Ok-stream_files.files in
+    let named = c.in-Ok-stream_files.ensures in
+    let streams = c.streams_of.ensures in
+    has_ended g.R.Read.remaining g.W1.Write.contents g.W2.Write.contents c.args.invocation.now run c.args.input c.args.out c.args.err c.requires
+    c.streams_of.result.input c.streams_of.result.out c.streams_of.result.err
+    (source_named run.stdin files.stdin c.args.input c.streams_of.result.input named.stdin streams.input)
+    (sink_named run.stdout files.stdout c.args.out c.streams_of.result.out named.stdout streams.out)
+    (sink_named run.stderr files.stderr c.args.err c.streams_of.result.err named.stderr streams.err)
+    _ _ c.run_with.ensures.tells

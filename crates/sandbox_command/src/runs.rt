@@ -1,0 +1,479 @@
+//! Runs on the files that they name.
+
+ghost use Rattle.std.specs.Prelude.{◌≡◌, ◌⊎◌, ◌↔◌, ◌≤◌, ℕ, Option, IfOk, Some, None, option_map};
+ghost use Rattle.std.specs.Io.KnownBytes.{Keeps};
+ghost use Rattle.run_report.specs.declared.fault.Fault.TheVariants as reason;
+ghost use Rattle.run_report.specs.declared.summary.Kept.TheVariants as kept;
+ghost use Rattle.run_report.specs.declared.summary.Summary.{Summary as SummaryValue};
+ghost use Rattle.sandbox_words.specs.declared.request.Invocation.TheVariants as asked;
+ghost use Rattle.sandbox_command.specs.declared.program.Executed.{Executed as ExecutedValue};
+ghost use Rattle.sandbox_command.specs.declared.streams.Source.{Source as SourceValue};
+ghost use Rattle.sandbox_command.specs.declared.streams.Sink.{Sink as SinkValue};
+ghost use Rattle.sandbox_command.specs.Execution.{Runs};
+ghost use Rattle.sandbox_command.specs.Reporting.{IsTold, not_run};
+ghost use Rattle.sandbox_command.specs.Sources.{IsSink, IsSource, sink_contents, source_remaining};
+ghost use Rattle.sandbox_command.specs.Files.{HasEnded, HasEndedOn, IsHandedOut, IsImage, IsPerformed, IsUnread, lost};
+ghost use Rattle.sandbox_command.specs.internal.Redirected.{AreRedirected};
+
+use crate::files::refuse;
+use crate::program;
+use crate::program::Executed;
+use crate::reporting::not_run;
+use crate::streams::{Sink, Source};
+use run_report::{End, Fault, Kept, Summary};
+use sandbox_device::{FileDevice, RamDevice};
+use sandbox_words::{Invocation, Run};
+use std::alloc::Global;
+use std::fs::File;
+use std::io;
+use std::io::{ErrorKind, Read, Write};
+use vol_sector::Device;
+use volume_tasks::FRESH_SECTORS;
+
+/// How many bytes of a module's file are read at most: one more than a module may have.
+const MODULE_READ: u64 = 67_108_865;
+
+/// How many random bytes are read at most, so that a file with no end gives some, too.
+const RANDOM_READ: u64 = 67_108_864;
+
+/// How a run ended: its status, what its report says, and where the program's own lines go.
+#[derive(Drop)]
+struct Ended<W> {
+    status: u8,
+    summary: Option<Summary>,
+    err: W,
+}
+
+/// The files of a run's streams.
+#[derive(Drop)]
+struct Redirected {
+    stdin: Option<File>,
+    stdout: Option<File>,
+    stderr: Option<File>,
+}
+
+/// The streams of a run, and where the program's own lines go if not to its errors.
+#[derive(Drop)]
+struct Streams<R, W1, W2> {
+    input: Source<R>,
+    out: Sink<W1>,
+    err: Sink<W2>,
+    lines: Option<W2>,
+}
+
+/// Makes the file of a run's report, executes the run, and reports how it ended.
+pub(crate) fn perform_run<R: Read + Drop, W1: Write + Drop, W2: Write + Drop>(
+    rt: &HostRuntime,
+    invocation: &Invocation<'_>,
+    run: &Run<'_>,
+    input: R,
+    out: W1,
+    err: W2,
+) -> u8
+    requires { invocation.now ≡ asked.Run run.now }
+    ensures tells { IsPerformed R.remaining W1.contents W2.contents
+        invocation.now input out err result }
+    ensures within { result ≤ 124 }
+{
+    match made_file(rt, run.report) {
+        Ok(file) => run_and_report(rt, file, invocation, run, input, out, err).0,
+        Err(error) => refuse(&error, err),
+    }
+}
+
+/// A file, made or cut to nothing; none where none is named.
+fn made_file(rt: &HostRuntime, path: Option<&str>) -> io::Result<Option<File>>
+    ensures { IfOk result (λ file. (path.entry ≡ None) ↔ (file ≡ None)) }
+{
+    match path {
+        Some(path) => Ok(Some(File::create(rt, path)?)),
+        None => Ok(None),
+    }
+}
+
+/// A file to be read; none where none is named.
+fn opened_file(rt: &HostRuntime, path: Option<&str>) -> io::Result<Option<File>>
+    ensures { IfOk result (λ file. (path.entry ≡ None) ↔ (file ≡ None)) }
+{
+    match path {
+        Some(path) => Ok(Some(File::open(rt, path)?)),
+        None => Ok(None),
+    }
+}
+
+/// Executes a run on the files that it names, and prints its report into this one. Gives the status, and the file.
+fn run_and_report<F: Write + Drop, R: Read + Drop, W1: Write + Drop, W2: Write + Drop>(
+    rt: &HostRuntime,
+    file: Option<F>,
+    invocation: &Invocation<'_>,
+    run: &Run<'_>,
+    input: R,
+    out: W1,
+    err: W2,
+) -> (u8, Option<F>)
+    requires { invocation.now ≡ asked.Run run.now }
+    ensures tells { (ended : ℕ) × (summary : Option SummaryValue)
+        × HasEnded R.remaining W1.contents W2.contents invocation.now run.now input out err ended summary
+        × IsTold F.contents file ended summary result.0 result.1 }
+    ensures within { result.0 ≤ 124 }
+{
+    told(file, run_on_files(rt, invocation, run, input, out, err))
+}
+
+/// Prints the report of a run into its file, and gives the status, which is that of the run, or 124 where the report can't
+/// be printed; and the file.
+fn told<F: Write + Drop, W: Write + Drop>(file: Option<F>, ended: Ended<W>) -> (u8, Option<F>)
+    ensures { IsTold F.contents file ended.status ended.summary result.0 result.1 }
+{
+    let Ended {
+        status,
+        summary,
+        mut err,
+    } = ended;
+    let Some(mut file) = file else {
+        return (status, None);
+    };
+    let Some(summary) = summary else {
+        return (status, Some(file));
+    };
+    match run_report::print(&mut file, &summary) {
+        Ok(()) => (status, Some(file)),
+        Err(_) => (program::refuse_file(&mut err), Some(file)),
+    }
+}
+
+/// Executes a run on the bytes of its files, on the files of its streams and on its volume.
+fn run_on_files<R: Read + Drop, W1: Write + Drop, W2: Write + Drop>(
+    rt: &HostRuntime,
+    invocation: &Invocation<'_>,
+    run: &Run<'_>,
+    input: R,
+    out: W1,
+    err: W2,
+) -> Ended<Sink<W2>>
+    requires { invocation.now ≡ asked.Run run.now }
+    ensures tells { HasEnded R.remaining W1.contents W2.contents invocation.now run.now
+        input out err result.status result.summary }
+    ensures within { result.status ≤ 124 }
+{
+    let (module, random) = match read_files(rt, run) {
+        Ok(bytes) => bytes,
+        Err(error) => return refused(run, &error, Sink::Given(err)),
+    };
+    match stream_files(rt, run) {
+        Ok(files) => run_with(
+            rt,
+            invocation,
+            run,
+            module.as_slice(),
+            random.as_slice(),
+            streams_of(files, input, out, err),
+        ),
+        Err(error) => refused(run, &error, Sink::Given(err)),
+    }
+}
+
+/// The files of a run's streams: that of its input is opened, the others are made or cut to nothing.
+fn stream_files(rt: &HostRuntime, run: &Run<'_>) -> io::Result<Redirected>
+    ensures { IfOk result (AreRedirected run.now) }
+{
+    Ok(Redirected {
+        stdin: opened_file(rt, run.stdin)?,
+        stdout: made_file(rt, run.stdout)?,
+        stderr: made_file(rt, run.stderr)?,
+    })
+}
+
+/// The streams of a run, each a file where there is one.
+fn streams_of<R: Drop, W1: Drop, W2>(
+    files: Redirected,
+    input: R,
+    out: W1,
+    err: W2,
+) -> Streams<R, W1, W2>
+    ensures input { IsSource files.stdin input result.input }
+    ensures out { IsSink files.stdout out result.out }
+    ensures err { IsSink files.stderr err result.err }
+{
+    let Redirected {
+        stdin,
+        stdout,
+        stderr,
+    } = files;
+    let (err, lines) = match stderr {
+        Some(file) => (Sink::Made(file), Some(err)),
+        None => (Sink::Given(err), None),
+    };
+    Streams {
+        input: source_of(stdin, input),
+        out: sink_of(stdout, out),
+        err,
+        lines,
+    }
+}
+
+/// A file to be read, or the stream that was given.
+fn source_of<R: Drop>(file: Option<File>, input: R) -> Source<R>
+    ensures { IsSource file input result }
+{
+    match file {
+        Some(file) => Source::Opened(file),
+        None => Source::Given(input),
+    }
+}
+
+/// A file to be written, or the stream that was given.
+fn sink_of<W: Drop>(file: Option<File>, out: W) -> Sink<W>
+    ensures { IsSink file out result }
+{
+    match file {
+        Some(file) => Sink::Made(file),
+        None => Sink::Given(out),
+    }
+}
+
+/// Executes a run on its volume, in a file or in memory.
+fn run_with<R: Read + Drop, W1: Write + Drop, W2: Write + Drop>(
+    rt: &HostRuntime,
+    invocation: &Invocation<'_>,
+    run: &Run<'_>,
+    module: &[u8],
+    random: &[u8],
+    streams: Streams<R, W1, W2>,
+) -> Ended<Sink<W2>>
+    requires { invocation.now ≡ asked.Run run.now }
+    ensures tells { HasEndedOn R.remaining W1.contents W2.contents invocation.now run.now
+        streams.input streams.out streams.err result.status result.summary }
+    ensures within { result.status ≤ 124 }
+{
+    match run.volume {
+        Some(file) => run_in_file(rt, invocation, run, file, module, random, streams),
+        None => run_in_memory(rt, invocation, run, module, random, streams),
+    }
+}
+
+/// Executes a run on the file of its volume.
+fn run_in_file<R: Read + Drop, W1: Write + Drop, W2: Write + Drop>(
+    rt: &HostRuntime,
+    invocation: &Invocation<'_>,
+    run: &Run<'_>,
+    file: &str,
+    module: &[u8],
+    random: &[u8],
+    streams: Streams<R, W1, W2>,
+) -> Ended<Sink<W2>>
+    requires { (invocation.now ≡ asked.Run run.now) × (run.now.volume ≡ Some file) }
+    ensures tells { HasEndedOn R.remaining W1.contents W2.contents invocation.now run.now
+        streams.input streams.out streams.err result.status result.summary }
+    ensures within { result.status ≤ 124 }
+{
+    match FileDevice::open(rt.alloc(), rt, file) {
+        Ok(device) => run_on(rt.alloc(), run, module, random, device, streams).0,
+        Err(error) => refused(run, &error, lines_of(streams)),
+    }
+}
+
+/// Executes a run on a volume in memory, and hands the volume out where that is asked for.
+fn run_in_memory<R: Read + Drop, W1: Write + Drop, W2: Write + Drop>(
+    rt: &HostRuntime,
+    invocation: &Invocation<'_>,
+    run: &Run<'_>,
+    module: &[u8],
+    random: &[u8],
+    streams: Streams<R, W1, W2>,
+) -> Ended<Sink<W2>>
+    requires { (invocation.now ≡ asked.Run run.now) × (run.now.volume ≡ None) }
+    ensures tells { HasEndedOn R.remaining W1.contents W2.contents invocation.now run.now
+        streams.input streams.out streams.err result.status result.summary }
+    ensures within { result.status ≤ 124 }
+{
+    match memory_of(rt, run) {
+        Ok(device) => {
+            let (ended, device) = run_on(rt.alloc(), run, module, random, device, streams);
+            handed_out(rt, run, &device, ended)
+        }
+        Err(error) => refused(run, &error, lines_of(streams)),
+    }
+}
+
+/// The sectors in memory that a run begins with: those of its image, or new ones.
+fn memory_of(rt: &HostRuntime, run: &Run<'_>) -> io::Result<RamDevice>
+    ensures { IfOk result (λ device. IsImage run.now.image device.sectors) }
+{
+    match run.image {
+        Some(file) => RamDevice::read(rt.alloc(), rt, file),
+        None => Ok(RamDevice::new(rt.alloc(), FRESH_SECTORS)?),
+    }
+}
+
+/// Where the program's own lines go.
+fn lines_of<R: Drop, W1: Drop, W2: Drop>(streams: Streams<R, W1, W2>) -> Sink<W2> {
+    let Streams { err, lines, .. } = streams;
+    match lines {
+        Some(lines) => Sink::Given(lines),
+        None => err,
+    }
+}
+
+/// Refuses a run for want of memory before it begins.
+fn out_of_memory<W: Write + Drop>(run: &Run<'_>, mut err: W) -> Ended<W>
+    ensures status { result.status ≡ 122 }
+    ensures summary { result.summary ≡ Some (not_run run.now reason.Memory kept.None result.status) }
+{
+    let status = program::out_of_memory(&mut err);
+    let summary = Some(not_run(run, Fault::Memory, Kept::None, status));
+    Ended {
+        status,
+        summary,
+        err,
+    }
+}
+
+/// Refuses a run one of whose files can't be read or made.
+fn refused<W: Write + Drop>(run: &Run<'_>, error: &io::Error, mut err: W) -> Ended<W>
+    ensures status { (result.status ≡ 122) ⊎ (result.status ≡ 124) }
+    ensures unread { IsUnread run.now result.status result.summary }
+{
+    if error.kind() == ErrorKind::OutOfMemory {
+        return out_of_memory(run, err);
+    }
+    let status = program::refuse_file(&mut err);
+    let summary = Some(not_run(run, Fault::File, Kept::None, status));
+    Ended {
+        status,
+        summary,
+        err,
+    }
+}
+
+/// Executes a run on a device, prints its lines, and gives how it ended and the device.
+fn run_on<D: Device + Drop, R: Read + Drop, W1: Write + Drop, W2: Write + Drop>(
+    alloc: Global,
+    run: &Run<'_>,
+    module: &[u8],
+    random: &[u8],
+    device: D,
+    streams: Streams<R, W1, W2>,
+) -> (Ended<Sink<W2>>, D)
+    ensures tells { (left : ExecutedValue D (SourceValue R) (SinkValue W1) (SinkValue W2))
+        × Runs D.honest D.disk D.size D.failures (source_remaining R.remaining) (sink_contents W1.contents)
+        (sink_contents W2.contents) Keeps run.now «module».now random.now device
+        streams.input streams.out streams.err left
+        × (result.0.status ≡ left.status) × (result.0.summary ≡ left.summary)
+        × (result.1 ≡ left.device) }
+    ensures within { result.0.status ≤ 124 }
+{
+    let Streams {
+        input,
+        out,
+        err,
+        lines,
+    } = streams;
+    let left = program::run(alloc, run, module, random, device, input, out, err);
+    let Executed {
+        status,
+        summary,
+        device,
+        err,
+        ..
+    } = left;
+    let err = match lines {
+        Some(lines) => Sink::Given(lines),
+        None => err,
+    };
+    let ended = Ended {
+        status,
+        summary,
+        err,
+    };
+    (spoken(ended), device)
+}
+
+/// Prints the lines of a run that ended so.
+fn spoken<W: Write + Drop>(mut ended: Ended<W>) -> Ended<W>
+    ensures { (result.status ≡ ended.status) × (result.summary ≡ ended.summary) }
+{
+    if let Some(summary) = ended.summary {
+        program::tell_end(&mut ended.err, &summary);
+    }
+    ended
+}
+
+/// Writes the volume of a run that began, as it has ended, into the file that is asked for.
+fn handed_out<W: Write + Drop>(
+    rt: &HostRuntime,
+    run: &Run<'_>,
+    device: &RamDevice,
+    ended: Ended<W>,
+) -> Ended<W>
+    ensures { IsHandedOut run.now ended.status ended.summary result.status result.summary }
+{
+    let Some(path) = run.volume_out else {
+        return ended;
+    };
+    if !has_begun(&ended) {
+        return ended;
+    }
+    match write_out(rt, path, device) {
+        Ok(()) => ended,
+        Err(_) => not_kept(ended),
+    }
+}
+
+/// Writes the sectors of a device into a file, which is made or cut to nothing, and makes that last.
+fn write_out(rt: &HostRuntime, path: &str, device: &RamDevice) -> io::Result<()> {
+    let mut file = File::create(rt, path)?;
+    device.write_to(&mut file)?;
+    file.sync_all()
+}
+
+/// Whether a guest ran.
+fn has_begun<W>(ended: &Ended<W>) -> bool {
+    match &ended.summary {
+        Some(summary) => matches!(summary.end, End::Ran(_)),
+        None => false,
+    }
+}
+
+/// Ends a run whose volume can't be handed out.
+fn not_kept<W: Write + Drop>(ended: Ended<W>) -> Ended<W>
+    ensures { (result.status ≡ 124) × (result.summary ≡ option_map lost ended.summary) }
+{
+    let Ended {
+        summary,
+        mut err,
+        ..
+    } = ended;
+    let status = program::refuse_file(&mut err);
+    let summary = match summary {
+        Some(summary) => Some(Summary {
+            status,
+            volume: Kept::Failed,
+            ..summary
+        }),
+        None => None,
+    };
+    Ended {
+        status,
+        summary,
+        err,
+    }
+}
+
+/// The bytes of the module's file, and of the random bytes' where the run names one.
+fn read_files(rt: &HostRuntime, run: &Run<'_>) -> io::Result<(Vec<u8>, Vec<u8>)> {
+    let module = read_file(rt, run.module, MODULE_READ)?;
+    let random = match run.random {
+        Some(file) => read_file(rt, file, RANDOM_READ)?,
+        None => Vec::new(rt.alloc()),
+    };
+    Ok((module, random))
+}
+
+/// The bytes of a file, or this many of them where it has more. That a module has too many is then for
+/// the decoder to say.
+fn read_file(rt: &HostRuntime, path: &str, most: u64) -> io::Result<Vec<u8>> {
+    let mut bytes = Vec::new(rt.alloc());
+    File::open(rt, path)?.take(most).read_to_end(&mut bytes)?;
+    Ok(bytes)
+}
