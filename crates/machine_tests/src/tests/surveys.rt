@@ -28,27 +28,52 @@ impl Links for TwoCalls {
 /// The parts of a module's bytes, and what is told of them.
 type Row<'a> = (&'a [&'a [u8]], &'a [u8]);
 
+/// A byte in place of an instruction of `HELLO`, bytes after it, and what is told of them.
+type Changed<'a> = (u8, &'a [u8], &'a [u8]);
+
 /// A custom section `name`: the module is `m`, function 0 is `put`, and function 2 is `say hi`.
 const NAMES: &[u8] = b"\x00\x19\x04name\x00\x02\x01m\x01\x0E\x02\x00\x03put\x02\x06say hi";
 
-/// What is told of these bytes, one part after another.
-fn told(alloc: Global, parts: &[&[u8]]) -> Option<Vec<u8>> {
-    let bytes = parts.concat(alloc).ok()?;
+/// What is told of these bytes.
+fn told(alloc: Global, bytes: &[u8]) -> Option<Vec<u8>> {
     let mut text = Vec::new(alloc);
-    let _ = survey(alloc, &TwoCalls, &bytes, &mut text).ok()?;
+    let _ = survey(alloc, &TwoCalls, bytes, &mut text).ok()?;
     Some(text)
 }
 
-fn is_told(alloc: Global, row: &Row<'_>) -> bool {
-    match told(alloc, row.0) {
-        Some(text) => text.as_slice() == row.1,
+/// What is told of these parts, one after another.
+fn told_of_parts(alloc: Global, parts: &[&[u8]]) -> Option<Vec<u8>> {
+    let bytes = parts.concat(alloc).ok()?;
+    told(alloc, &bytes)
+}
+
+/// What is told of `HELLO` with this byte in place of the instruction at `DROP`, and these bytes after it.
+fn told_of_changed(alloc: Global, opcode: u8, names: &[u8]) -> Option<Vec<u8>> {
+    let mut bytes = Vec::from_array(alloc, HELLO).ok()?;
+    bytes[DROP] = opcode;
+    bytes.extend_from_slice(names).ok()?;
+    told(alloc, &bytes)
+}
+
+fn is_text(told: Option<Vec<u8>>, text: &[u8]) -> bool {
+    match told {
+        Some(told) => told.as_slice() == text,
         None => false,
     }
 }
 
 fn assert_told(rt: &impl Abort, alloc: Global, rows: &[Row<'_>]) {
     for (i, row) in rows.iter().enumerate() {
-        assert!(rt; is_told(alloc, row), "row {i}");
+        assert!(rt; is_text(told_of_parts(alloc, row.0), row.1), "row {i}");
+    }
+}
+
+fn assert_changed(rt: &impl Abort, alloc: Global, rows: &[Changed<'_>]) {
+    for (i, row) in rows.iter().enumerate() {
+        assert!(rt;
+            is_text(told_of_changed(alloc, row.0, row.1), row.2),
+            "row {i}"
+        );
     }
 }
 
@@ -90,8 +115,6 @@ const TWO_FUNCTIONS: &[u8] =
 
 #[test]
 fn modules_that_are_refused(rt: HostRuntime) {
-    let (front, back) = HELLO.split_at(DROP);
-    let back = &back[1..];
     assert_told(
         &rt,
         rt.alloc(),
@@ -104,27 +127,41 @@ fn modules_that_are_refused(rt: HostRuntime) {
                 &[b"\0asm\x01\0\0\0\x01\x05\x01\x60\x01\x7D\x00", NAMES],
                 b"loads:no\nfault:10\ntext:a type or an instruction of floating point\noffset:13\nfunction:\nname:\n",
             ),
+            (
+                &[b"\0asm\x01\0\0\0", TWO_FUNCTIONS, NAMES],
+                b"loads:no\nfault:7\ntext:a byte that has no meaning where it stands\noffset:27\nfunction:1\nname:\n",
+            ),
+        ],
+    );
+}
+
+#[test]
+fn functions_are_named(rt: HostRuntime) {
+    assert_changed(
+        &rt,
+        rt.alloc(),
+        &[
             // `f32.add`, with its function's name, without one, and where the names are cut off
             (
-                &[front, &[0x92], back, NAMES],
+                0x92,
+                NAMES,
                 b"loads:no\nfault:10\ntext:a type or an instruction of floating point\noffset:143\nfunction:2\nname:say\\20hi\n",
             ),
             (
-                &[front, &[0x92], back],
+                0x92,
+                b"",
                 b"loads:no\nfault:10\ntext:a type or an instruction of floating point\noffset:143\nfunction:2\nname:\n",
             ),
             (
-                &[front, &[0x92], back, b"\x00\x08\x04name\x01\x7F\x01"],
+                0x92,
+                b"\x00\x08\x04name\x01\x7F\x01",
                 b"loads:no\nfault:10\ntext:a type or an instruction of floating point\noffset:143\nfunction:2\nname:\n",
             ),
             // `select` without its operands: the module is decoded and not valid
             (
-                &[front, &[0x1B], back, NAMES],
+                0x1B,
+                NAMES,
                 b"loads:no\nfault:12\ntext:the module is not valid\noffset:143\nfunction:2\nname:say\\20hi\n",
-            ),
-            (
-                &[b"\0asm\x01\0\0\0", TWO_FUNCTIONS, NAMES],
-                b"loads:no\nfault:7\ntext:a byte that has no meaning where it stands\noffset:27\nfunction:1\nname:\n",
             ),
         ],
     );
