@@ -133,7 +133,7 @@ pub fn refuse_file<W: Write>(err: &mut W) -> u8
 }
 
 /// Prints the line of a wrong setting, and gives its status.
-pub fn refuse_setting<W: Write>(err: &mut W) -> u8
+pub(crate) fn refuse_setting<W: Write>(err: &mut W) -> u8
     ensures status { result ≡ 124 }
     ensures line { AppendsSome (W.contents err.old) (W.contents err.new) }
 {
@@ -416,7 +416,7 @@ fn run_valid<D: Device + Drop, R: Read + Drop, W1: Write + Drop, W2: Write + Dro
 }
 
 /// Runs a module on the volume of a device, with random bytes, and gives the device back. It prints no line of the
-/// program's own: `tell_end` prints those of a run, to whom they are meant for.
+/// program's own: `tell_end` does that, where the caller wants them.
 pub(crate) fn run<D: Device + Drop, R: Read + Drop, W1: Write + Drop, W2: Write + Drop>(
     alloc: Global,
     run: &Run<'_>,
@@ -537,8 +537,8 @@ fn put_off<D: Drop, R: Drop, W1: Drop, W2: Write + Drop>(
 }
 
 /// Does what the command line asks, on the bytes of the module's file and of the random bytes' and on
-/// the device, and gives the exit status, the device and the streams. Without a volume's file a run
-/// makes the device an empty volume; the other commands have no use of the bytes. The guest reads
+/// the device, and gives the exit status, the device and the streams. With neither a volume's file nor an
+/// image a run makes the device an empty volume; the other commands have no use of the bytes. The guest reads
 /// `input` and writes `out` and `err`; the program's own line goes to `err`.
 pub fn execute<D: Device + Drop, R: Read + Drop, W1: Write + Drop, W2: Write + Drop>(
     alloc: Global,
