@@ -1,5 +1,7 @@
 -- What is printed on a writer.
 use Rattle.std.specs.Prelude.{◌≡◌, ℕ, ◌⊎◌, List, ◌++◌, Option, Result}
+use Rattle.std.specs.declared.io.ErrorKind.{ErrorKind}
+use Rattle.std.specs.declared.io.ErrorKind.TheVariants.{OutOfMemory}
 use Rattle.std.specs.Io.KnownBytes.{Appends, Keeps}
 use Rattle.wasm_module.specs.declared.fault.LoadFault.{LoadFault}
 use Rattle.wasm_store.specs.Instantiation.{LinksOf}
@@ -16,7 +18,7 @@ pub record AppendsPart (before after : Option (List ℕ)) (text : List ℕ) : Ty
 abbrev pub Tells : LinksOf → List ℕ → Option (List ℕ) → Option (List ℕ) → Result (Unit {0}) LoadFault → Type 0
 Tells links bytes before after outcome = (text : List ℕ) × IsSurvey links bytes outcome text × Appends before after text
 
--- nothing was printed, since memory was refused; or a beginning of what is told
-abbrev pub Begins : LinksOf → List ℕ → Option (List ℕ) → Option (List ℕ) → Type 0
-Begins links bytes before after = Keeps before after
+-- memory was refused, and nothing was printed; or a beginning of what is told was
+abbrev pub Begins : LinksOf → List ℕ → Option (List ℕ) → Option (List ℕ) → ErrorKind → Type 0
+Begins links bytes before after kind = ((kind ≡ OutOfMemory) × Keeps before after)
     ⊎ ((outcome : Result (Unit {0}) LoadFault) × (text : List ℕ) × IsSurvey links bytes outcome text × AppendsPart before after text)

@@ -1,6 +1,7 @@
 //! What is told of a module's bytes.
 
-ghost use Rattle.std.specs.Prelude.{◌≡◌, ◌≢◌, IfOk, IfErr, OnErr};
+ghost use Rattle.std.specs.Prelude.{◌≡◌, ◌≢◌, IfOk, IfErr};
+ghost use Rattle.std.specs.IoError.{error_kind};
 ghost use Rattle.wasm_module.specs.Module.{Spells};
 ghost use Rattle.wasm_valid.specs.Validity.{IsValid};
 ghost use Rattle.module_survey.specs.Refusal.{IsRefusedFor, IsSurvey};
@@ -50,6 +51,21 @@ fn text_of<L: Links>(
     }
 }
 
+/// The same, where any failure is that memory was refused.
+fn text_in_memory<L: Links>(
+    alloc: Global,
+    links: &L,
+    bytes: &[u8],
+) -> io::Result<(Vec<u8>, Result<(), LoadFault>)>
+    ensures told { IfOk result (λ told. IsSurvey L.links bytes.now told.1 told.0.items) }
+    ensures memory { IfErr result (λ e. error_kind e ≡ ErrorKind.OutOfMemory) }
+{
+    match text_of(alloc, links, bytes) {
+        Ok(told) => Ok(told),
+        Err(_) => Err(Error::from(ErrorKind::OutOfMemory)),
+    }
+}
+
 /// Prints what the bytes are: of a valid module its imports, exports and sizes, else why they are refused, and in which
 /// function. The answer says which.
 ///
@@ -64,9 +80,13 @@ pub fn survey<L: Links, W: Write>(
     out: &mut W,
 ) -> io::Result<Result<(), LoadFault>>
     ensures tells { IfOk result (Tells L.links bytes.now (W.contents out.old) (W.contents out.new)) }
-    ensures begins { OnErr result (Begins L.links bytes.now (W.contents out.old) (W.contents out.new)) }
+    ensures begins { IfErr result (λ e. Begins L.links bytes.now (W.contents out.old) (W.contents out.new) (error_kind e)) }
 {
-    let (text, outcome) = text_of(alloc, links, bytes)?;
-    print_all(out, text.as_slice())?;
-    Ok(outcome)
+    match text_in_memory(alloc, links, bytes) {
+        Ok((text, outcome)) => match print_all(out, text.as_slice()) {
+            Ok(()) => Ok(outcome),
+            Err(error) => Err(error),
+        },
+        Err(error) => Err(error),
+    }
 }
