@@ -1,5 +1,5 @@
 -- What a run of a module on an open volume says (`README.md`, "The program").
-use Rattle.std.specs.Prelude.{◌≡◌, ◌⊎◌, ℕ, true, List, Option, Some, Result, Ok, Err}
+use Rattle.std.specs.Prelude.{◌≡◌, ◌⊎◌, ℕ, true, List, Option, Some, option_map, Result, Ok, Err}
 use Rattle.std.proofs.Common.{inl, inr}
 use Rattle.std.specs.Io.KnownBytes.{Keeps}
 use Rattle.vol_sector.specs.Disk.{Image, Disk, Leaves}
@@ -10,6 +10,7 @@ use Rattle.wasm_module.specs.declared.module.Module.{Module}
 use Rattle.wasm_steps.specs.Configuration.{Instance, Configuration, first_configuration}
 use Rattle.wasm_steps.specs.Steps.{CallsOf, Reach}
 use Rattle.wasi_calls.specs.declared.wasi_host.HostParts.{HostParts}
+use Rattle.wasi_calls.specs.Random.{seeded}
 use Rattle.wasi_calls.specs.World.{World}
 use Rattle.wasi_calls.specs.Calls as world
 use Rattle.wasi_calls.specs.Host.{HostState, StreamBytes, StreamsMove, MayFollow, before_moving, after_moving, world_of}
@@ -61,6 +62,8 @@ module _ {D R W1 W2 : Type 0} (is_honest : D → Type 0) (disk : D → Disk) (se
     pub session : SessionState D (Counted R) (Counted W1) (Counted W2)
     pub opens : Opens m (counting parts) session
     pub shares : Shares is_honest disk sectors_on failures (counting parts) session
+    -- its random bytes are those of a generator exactly where the words name a seed
+    pub generator : session.host.generator ≡ option_map seeded run.seed
     pub report : Report D (Counted R) (Counted W1) (Counted W2)
     pub tally : Tally
     pub counted : ReportsCounted is_honest disk sectors_on failures (counted_bytes remaining) (counted_bytes out_contents) (counted_bytes err_contents) session run.limits.fuel report tally

@@ -1,0 +1,62 @@
+//! What a module is, printed.
+
+ghost use Rattle.std.specs.Prelude.{◌≡◌, None};
+ghost use Rattle.sandbox_command.specs.Inspecting.{Inspects};
+ghost use Rattle.sandbox_command.specs.Streams.{AppendsSome};
+
+use crate::program::{Executed, FAULT, out_of_memory, refuse_file};
+use module_survey::{Links, survey};
+use std::alloc::Global;
+use std::io::{ErrorKind, Write};
+use wasi_calls::call_of;
+use wasm_module::FuncType;
+use wasm_store::HostCall;
+
+/// The calls that a guest is given.
+struct Served;
+
+impl Links for Served {
+    ghost use Rattle.wasi_calls.specs.Links.{link};
+
+    ghost links = { link };
+
+    fn link(&self, module_name: &str, name: &str, func_type: &FuncType) -> Option<HostCall> {
+        call_of(module_name, name, func_type)
+    }
+}
+
+/// Prints what the bytes of a module are, or why they are refused, and gives the status with the device and the streams.
+/// A refusal has no line of its own: it stands on the output.
+pub(crate) fn inspect<D: Drop, R: Drop, W1: Write + Drop, W2: Write + Drop>(
+    alloc: Global,
+    bytes: &[u8],
+    device: D,
+    input: R,
+    mut out: W1,
+    mut err: W2,
+) -> Executed<D, R, W1, W2>
+    ensures tells { Inspects bytes.now (W1.contents out) (W1.contents result.out) result.flushed result.status }
+    ensures summary { result.summary ≡ None }
+    ensures device { result.device ≡ device }
+    ensures input { result.input ≡ input }
+    ensures err { AppendsSome (W2.contents err) (W2.contents result.err) }
+{
+    let surveyed = survey(alloc, &Served, bytes, &mut out);
+    let flushed = out.flush().is_ok();
+    let status = match surveyed {
+        Ok(_) if !flushed => refuse_file(&mut err),
+        Ok(Ok(())) => 0,
+        Ok(Err(_)) => FAULT,
+        Err(error) if error.kind() == ErrorKind::OutOfMemory => out_of_memory(&mut err),
+        Err(_) => refuse_file(&mut err),
+    };
+    Executed {
+        status,
+        summary: None,
+        flushed,
+        device,
+        input,
+        out,
+        err,
+    }
+}
