@@ -3,7 +3,7 @@ use Rattle.std.proofs.Common.{◌≡◌, ℕ, Option, None, Some, ap, sym, subst
 use Rattle.vol_sector.specs.Disk.{Disk}
 use Rattle.wasm_module.specs.declared.module.Module.{Module}
 use Rattle.wasi_calls.specs.declared.wasi_host.HostParts.{HostParts}
-use Rattle.sandbox_core.specs.Session.{Opens, SessionState, Shares, seeded_by}
+use Rattle.sandbox_core.specs.Session.{Opens, OpensWith, SessionState, Shares, seeded_by}
 use Rattle.sandbox_command.specs.internal.Seeds.{with_seed}
 
 module _ {D R W1 W2 : Type 0} where
@@ -13,8 +13,8 @@ module _ {D R W1 W2 : Type 0} where
   pub no_seed : (seed : Option ℕ) (old : SessionState D R W1 W2) → seed ≡ None → old.host.generator ≡ None → old ≡ with_seed seed old
   no_seed seed old is none = subst (λ (o : Option ℕ). old ≡ with_seed o old) (sym is) (ap (λ g. record old { host = record old.host { generator = g } }) none)
 
-  pub opens_seeded : (m : Module) (parts : HostParts D R W1 W2) (s : SessionState D R W1 W2) (seed : Option ℕ) → Opens m parts s → Opens m parts (with_seed seed s)
-  opens_seeded m parts s seed o = record { fits = o.fits; starts = o.starts; input = o.input; out = o.out; err = o.err; settings = o.settings }
+  pub opens_seeded : (m : Module) (parts : HostParts D R W1 W2) (s : SessionState D R W1 W2) (seed : Option ℕ) → Opens m parts s → OpensWith seed m parts (with_seed seed s)
+  opens_seeded m parts s seed o = record { fits = o.fits; starts = o.starts; input = o.input; out = o.out; err = o.err; settings = o.settings; supply = refl }
 
   pub shares_seeded : (is_honest : D → Type 0) (disk : D → Disk) (sectors_on failures : D → ℕ) (parts : HostParts D R W1 W2) (s : SessionState D R W1 W2) (seed : Option ℕ)
       → Shares is_honest disk sectors_on failures parts s → Shares is_honest disk sectors_on failures parts (with_seed seed s)

@@ -46,7 +46,6 @@ module _ {D R W1 W2 : Type 0} (is_honest : D → Type 0) (disk : D → Disk) (se
     session = r.session;
     opens = r.opens;
     shares = r.shares;
-    generator = r.generator;
     report = r.report;
     tally = r.tally;
     counted = r.counted;

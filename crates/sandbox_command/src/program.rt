@@ -135,7 +135,7 @@ pub fn refuse_file<W: Write>(err: &mut W) -> u8
 }
 
 /// Prints the line of a wrong setting, and gives its status.
-pub fn refuse_setting<W: Write>(err: &mut W) -> u8
+pub(crate) fn refuse_setting<W: Write>(err: &mut W) -> u8
     ensures status { result ≡ 124 }
     ensures line { AppendsSome (W.contents err.old) (W.contents err.new) }
 {
@@ -432,7 +432,7 @@ fn run_valid<D: Device + Drop, R: Read + Drop, W1: Write + Drop, W2: Write + Dro
 }
 
 /// Runs a module on the volume of a device, with random bytes, and gives the device back. It prints no line of the
-/// program's own: `tell_end` prints those of a run, to whom they are meant for.
+/// program's own: `tell_end` does that, where the caller wants them.
 pub(crate) fn run<D: Device + Drop, R: Read + Drop, W1: Write + Drop, W2: Write + Drop>(
     alloc: Global,
     run: &Run<'_>,
@@ -491,9 +491,9 @@ fn run_and_tell<D: Device + Drop, R: Read + Drop, W1: Write + Drop, W2: Write + 
 }
 
 /// Does what the command line asks, on the bytes of the module's file and of the random bytes' and on
-/// the device, and gives the exit status, the device and the streams. Without a volume's file a run
-/// makes the device an empty volume. Inspecting has no use of the device, and only it and a run have
-/// one of the bytes. The guest reads `input` and writes `out` and `err`; the program's own line goes
+/// the device, and gives the exit status, the device and the streams. With neither a volume's file nor an
+/// image a run makes the device an empty volume. Inspecting has no use of the device, and only it and a run
+/// have one of the bytes. The guest reads `input` and writes `out` and `err`; the program's own line goes
 /// to `err`.
 pub fn execute<D: Device + Drop, R: Read + Drop, W1: Write + Drop, W2: Write + Drop>(
     alloc: Global,

@@ -41,10 +41,10 @@ use Rattle.wasi_calls.specs.Host.{HostState, HostCalls, StreamBytes, LeavesNone,
 use Rattle.wasi_calls.proofs.Served.{nothing}
 use Rattle.std.specs.Io.KnownBytes.{Consumes, Appends}
 use Rattle.std.proofs.KnownBytes.{Consumes-nil, Consumes-trans, Appends-nil, Appends-trans}
-use Rattle.sandbox_core.specs.Session.{SessionState, Opens, Shares, History, Follow, is_synced, pauses_of}
+use Rattle.sandbox_core.specs.Session.{SessionState, OpensWith, Shares, History, Follow, is_synced, pauses_of, seeded_by}
 use Rattle.sandbox_core.proofs.Reaching.{resumes_compose}
 use Rattle.sandbox_core.specs.Runs.{ResumesFollow, answered}
-use Rattle.sandbox_core.specs.Headline.{TellAll, Upholds, Headline, turns_of}
+use Rattle.sandbox_core.specs.Headline.{TellAll, Upholds, Headline, SeededHeadline, turns_of}
 
 -- ---- a run over a host is one over a tree of paths
 
@@ -349,9 +349,9 @@ module _ {D R W1 W2 : Type 0} (honest : D → Type 0) (disk : D → Disk) (secto
                 omega (arith, place.1, slice_get_within there.directories place.0 (Entry o) place.2, dirs.0, few_preopens parts.settings fits);
           }
 
-      upholds : (m : Module) (trees : List Tree) (from : ℕ) (s' : S) (rs : History S) → Opens m parts s → IsSafe (λ (v : Opened D). disk v.device) (λ v. v.numbers) (λ v. v.tree) parts.volume trees from
+      upholds : (seed : Option ℕ) (m : Module) (trees : List Tree) (from : ℕ) (s' : S) (rs : History S) → OpensWith seed m parts s → IsSafe (λ (v : Opened D). disk v.device) (λ v. v.numbers) (λ v. v.tree) parts.volume trees from
           → Follows s rs s' → Upholds honest disk sectors_on failures remaining out_contents err_contents m parts.settings.pages trees from s rs s'
-      upholds m trees from s' rs opens before follow =
+      upholds seed m trees from s' rs opens before follow =
           let first = opens.starts in
           let run = resumes_compose Host Calls first.instance (pauses_of rs) s.host s'.host s.machine s'.machine (first_configuration first.entered first.store) first.stands (follows rs s s' follow)
           (first.instantiates.used ∙ sym first.used) in
@@ -380,4 +380,12 @@ module _ {D R W1 W2 : Type 0} (honest : D → Type 0) (disk : D → Disk) (secto
   pub headline : ((d : D) (t : ℕ) (image : Image) → honest d → t ≤ (disk d).operation_count → (disk d).may_leave image → (disk d).left_since t image)
       → ((d : D) (image : Image) → honest d → (disk d).left_since (disk d).operation_count image → (disk d).may_leave image)
       → Headline honest disk sectors_on failures remaining out_contents err_contents
-  headline now only m parts trees from s s' rs opens shares is before follow = upholds now only parts s shares is m trees from s' rs opens before follow
+  headline now only m parts trees from s s' rs opens shares is before follow = upholds now only parts s shares is None m trees from s' rs opens before follow
+
+  -- being seeded changes nothing that the headline asks of a session
+  pub headline_seeded : ((d : D) (t : ℕ) (image : Image) → honest d → t ≤ (disk d).operation_count → (disk d).may_leave image → (disk d).left_since t image)
+      → ((d : D) (image : Image) → honest d → (disk d).left_since (disk d).operation_count image → (disk d).may_leave image)
+      → SeededHeadline honest disk sectors_on failures remaining out_contents err_contents
+  headline_seeded now only seed m parts trees from s s' rs opens shares is before follow =
+      upholds now only parts (seeded_by seed s) (record { is_tree = shares.is_tree; reads = shares.reads; preopens = shares.preopens }) is (Some seed) m trees from s' rs
+      (record { fits = opens.fits; starts = opens.starts; input = opens.input; out = opens.out; err = opens.err; settings = opens.settings; supply = refl }) before follow

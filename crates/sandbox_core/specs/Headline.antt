@@ -17,7 +17,7 @@ use Rattle.wasi_calls.specs.Calls as world
 use Rattle.wasi_calls.specs.Host.{HostState, HostCalls, StreamBytes, StreamsMove, MayFollow, before_moving, after_moving, Shows, world_of}
 use Rattle.wasi_calls.specs.Moments.{Turn, IsSafe, AllKept}
 use Rattle.wasi_calls.specs.Confined.{IsConfined, named_by}
-use Rattle.sandbox_core.specs.Session.{SessionState, Opens, Shares, History, pauses_of, is_synced, Follow, used_by}
+use Rattle.sandbox_core.specs.Session.{SessionState, Opens, Shares, History, pauses_of, is_synced, Follow, used_by, seeded_by}
 use Rattle.sandbox_core.specs.Runs.{answered, LastStopsAt}
 
 module _ {D R W1 W2 : Type 0} where
@@ -70,3 +70,11 @@ module _ {D R W1 W2 : Type 0} (honest : D → Type 0) (disk : D → Disk) (secto
       → Opens m parts s → Shares honest disk sectors_on failures parts s → honest parts.volume.device
       → IsSafe (λ (v : Opened D). disk v.device) (λ v. v.numbers) (λ v. v.tree) parts.volume trees from
       → Follow honest disk sectors_on failures remaining out_contents err_contents s rs s' → Upholds m parts.settings.pages trees from s rs s'
+
+  -- The same of a session that was seeded before its first resume.
+  abbrev pub SeededHeadline : Type 0
+  SeededHeadline = (seed : ℕ) (m : Module) (parts : HostParts D R W1 W2) (trees : List Tree) (from : ℕ) (s s' : SessionState D R W1 W2) (rs : History (SessionState D R W1 W2))
+      → Opens m parts s → Shares honest disk sectors_on failures parts s → honest parts.volume.device
+      → IsSafe (λ (v : Opened D). disk v.device) (λ v. v.numbers) (λ v. v.tree) parts.volume trees from
+      → Follow honest disk sectors_on failures remaining out_contents err_contents (seeded_by seed s) rs s'
+      → Upholds m parts.settings.pages trees from (seeded_by seed s) rs s'

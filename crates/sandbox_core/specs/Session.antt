@@ -1,5 +1,6 @@
 -- Sessions: a machine, and the host that answers its calls (`docs/ARCHITECTURE.md`, "The way of the bytes").
 use Rattle.std.specs.Prelude.{◌≡◌, ◌≢◌, ◌==◌, ◌&&◌, ℕ, true, false, Bool, List, [], ◌∷◌, map, Option, Some, None, Result, Ok, Err}
+use Rattle.std.specs.Option.{option_map}
 use Rattle.vol_sector.specs.Disk.{Image, Disk, Leaves}
 use Rattle.vol_sector.specs.declared.fault.Refused.{Refused}
 use Rattle.vol_sector.specs.declared.fault.VolumeFault.TheVariants as fault
@@ -49,14 +50,20 @@ module _ {D R W1 W2 : Type 0} where
   abbrev pub given : Settings → Opened D → R → W1 → W2 → HostParts D R W1 W2
   given settings volume input out err = record { settings = settings; volume = volume; input = input; out = out; err = err }
 
-  -- The settings fit, the machine stands for the module's first configuration, and no stream has failed.
-  pub record Opens (m : Module) (parts : HostParts D R W1 W2) (s : SessionState D R W1 W2) : Type 0 where
+  -- The settings fit, the machine stands for the module's first configuration, no stream has failed, and random bytes come
+  -- from this seed; where there is none, from the settings.
+  pub record OpensWith (seed : Option ℕ) (m : Module) (parts : HostParts D R W1 W2) (s : SessionState D R W1 W2) : Type 0 where
     pub fits : settings_fit parts.settings ≡ true
     pub starts : Starts link parts.settings.pages m s.machine
     pub input : s.host.input ≡ record { reader = parts.input; failed = false; ended = false }
     pub out : s.host.out ≡ record { writer = parts.out; failed = false }
     pub err : s.host.err ≡ record { writer = parts.err; failed = false }
     pub settings : s.host.settings ≡ parts.settings
+    pub supply : s.host.generator ≡ option_map seeded seed
+
+  -- as a new session does
+  abbrev pub Opens : Module → HostParts D R W1 W2 → SessionState D R W1 W2 → Type 0
+  Opens m parts s = OpensWith None m parts s
 
 module _ {D : Type 0} (honest : D → Type 0) (disk : D → Disk) (sectors_on failures : D → ℕ) where
   -- Nothing was done with the volume before its directories were asked for.

@@ -1,6 +1,6 @@
 //! Laws of runs, over definitions only.
 
-ghost use Rattle.sandbox_core.specs.Headline.{Headline};
+ghost use Rattle.sandbox_core.specs.Headline.{Headline, SeededHeadline};
 ghost use Rattle.sandbox_core.specs.Runs.{PausesCompose, ResumesCompose};
 ghost use Rattle.sandbox_core.specs.Safety.{TurnsAreSafe};
 
@@ -26,4 +26,9 @@ pub fn turns_are_safe<D: Device, R: Read, W1: Write, W2: Write>()
 /// of its calls, with all up to the last sync that was answered, and what is outside its directories stays.
 pub fn headline<D: Device, R: Read, W1: Write, W2: Write>()
     ensures { Headline D.honest D.disk D.size D.failures R.remaining W1.contents W2.contents }
+{}
+
+/// The headline of a session that `Session::seed` gave random bytes before its first resume.
+pub fn headline_seeded<D: Device, R: Read, W1: Write, W2: Write>()
+    ensures { SeededHeadline D.honest D.disk D.size D.failures R.remaining W1.contents W2.contents }
 {}

@@ -1,6 +1,6 @@
 //! Sessions of a guest.
 
-ghost use Rattle.std.specs.Prelude.{◌≡◌, ◌+◌, ◌^◌, ◌<◌, ◌/◌, IfOk, IfErr, None, length};
+ghost use Rattle.std.specs.Prelude.{◌≡◌, ◌+◌, ◌^◌, ◌<◌, ◌/◌, IfOk, IfErr, length};
 ghost use Rattle.sandbox_core.specs.Session.{given, Commits};
 
 use crate::fault::{SessionFault, of_host, of_instance};
@@ -89,7 +89,6 @@ where
         err: W2,
     ) -> Result<Session<'a, 's, 't, D, R, W1, W2>, RefusedSession<'a, 's, 't, D, R, W1, W2>>
         ensures opens { IfOk result (Opens valid.entry (given settings.entry volume input out err)) }
-        ensures unseeded { IfOk result (λ s. s.host.generator ≡ None) }
         ensures shares { IfOk result (Shares D.honest D.disk D.size D.failures (given settings.entry volume input out err)) }
         ensures hands_back { IfErr result (HandsBack D.honest D.disk D.size D.failures valid.entry (given settings.entry volume input out err)) }
         ensures refused { IfErr result (λ r. IsRefused D.honest r.fault valid.entry (given settings.entry volume input out err)) }

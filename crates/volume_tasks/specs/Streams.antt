@@ -1,10 +1,2 @@
--- What is printed on a writer (`README.md`, "Printing").
-use Rattle.std.specs.Prelude.{◌≡◌, ℕ, List, ◌++◌, Option}
-use Rattle.std.specs.Io.KnownBytes.{Appends}
-
--- known bytes grow by a beginning of the text
-pub record AppendsPart (before after : Option (List ℕ)) (text : List ℕ) : Type 0 where
-  pub part : List ℕ
-  pub rest : List ℕ
-  pub parts : text ≡ part ++ rest
-  pub appended : Appends before after part
+-- What is printed on a writer: known bytes grow by a beginning of the text (`crates/volume_archive/specs/Export.antt`).
+pub use Rattle.volume_archive.specs.Export.{AppendsPart}

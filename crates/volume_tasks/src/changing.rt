@@ -18,15 +18,12 @@ ghost use Rattle.volume_tasks.specs.internal.Working.{IsWorking};
 
 use crate::failure::Failure;
 use crate::removing::remove_all;
-use crate::volume_path::{entry_named, reached};
+use crate::volume_path::{ROOT, entry_named, reached};
 use path_walk::{Reached, is_directory};
 use sandbox_words::Change;
 use vol_inode::is_name;
 use vol_sector::Device;
 use vol_tree::{Errno, Volume};
-
-/// The serial of the root.
-const ROOT: u32 = 1;
 
 /// Makes the directory that a path misses; one that is there is refused with 20.
 fn make_directory<D: Device>(volume: &mut Volume<D>, path: &str) -> Result<(), Errno>

@@ -22,5 +22,5 @@ pub use formatting::format_as;
 pub use importing::{ImportFailure, import_into};
 pub use laws::removed_tree_takes_all_below;
 pub use opening::{FRESH_SECTORS, open_for_run};
-pub use output::print_all;
 pub use tasks::perform;
+pub use volume_archive::print_all;

@@ -11,13 +11,10 @@ ghost use Rattle.volume_tasks.specs.internal.Changing.{Applied, IsLeafBelow};
 ghost use Rattle.volume_tasks.specs.internal.Working.{IsWorking};
 
 use crate::printing::next_entry;
-use crate::volume_path::serial_named;
+use crate::volume_path::{ROOT, serial_named};
 use vol_inode::Kind;
 use vol_sector::Device;
 use vol_tree::{Errno, Volume};
-
-/// The serial of the root.
-const ROOT: u32 = 1;
 
 /// An entry in which nothing stands: this one or one below it.
 fn leaf_below<D: Device>(volume: &mut Volume<D>, from: u32) -> Result<u32, Errno>

@@ -13,6 +13,9 @@ use path_walk::{Reached, is_directory, walk_from_root};
 use vol_sector::Device;
 use vol_tree::{Errno, Volume};
 
+/// The serial of the root.
+pub(crate) const ROOT: u32 = 1;
+
 /// What a path reaches, and whether it wants a directory. One that doesn't begin with a slash is
 /// refused with 28; of the rest all is said by `Path::read` and `walk`, and an empty rest is the
 /// root.

@@ -1,5 +1,4 @@
 -- What is borrowed, by its bytes.
-use Rattle.std.specs.Prelude.{ℕ, List}
 use Rattle.module_survey.specs.Places.{Section as Found}
 use Rattle.module_survey.specs.declared.sections.Section.{Section}
 

@@ -1,4 +1,4 @@
-use Rattle.std.proofs.Common.{inl, inr, refl, sym, ◌∙◌, ap, subst}
+use Rattle.std.proofs.Common.{inl, inr, sym, ◌∙◌, ap, subst}
 use Rattle.std.specs.Io.KnownBytes.{Keeps}
 use Rattle.std.proofs.KnownBytes.{Keeps-refl}
 use Rattle.vol_sector.specs.Disk.{Leaves}
@@ -45,7 +45,6 @@ returns-in-Ok g c =
       session = s;
       opens = opens;
       shares = shares;
-      generator = refl;
       report = c.run_within-counted.result.0;
       tally = c.run_within-counted.result.1;
       counted = counted;

@@ -48,6 +48,7 @@ returns-in-Ok-preopen-clause-opens g c =
       out = kept.out ∙ made.out;
       err = kept.err ∙ made.err;
       settings = kept.settings ∙ made.settings;
+      supply = kept.generator ∙ made.generator;
     }
 
 pub returns-in-Err-new-clause-refused : goal.returns-in-Err-new-clause-refused
