@@ -1,5 +1,5 @@
 -- A session with the random bytes of a seed is what it was but for them.
-use Rattle.std.proofs.Common.{◌≡◌, ℕ, Option, None, Some, ap, sym, subst}
+use Rattle.std.proofs.Common.{◌≡◌, ℕ, Option, None, Some, refl, ap, sym, subst}
 use Rattle.vol_sector.specs.Disk.{Disk}
 use Rattle.wasm_module.specs.declared.module.Module.{Module}
 use Rattle.wasi_calls.specs.declared.wasi_host.HostParts.{HostParts}

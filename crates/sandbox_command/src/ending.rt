@@ -97,13 +97,7 @@ pub(crate) fn ended<
     R: Drop,
     W1: Write + Drop,
     W2: Write + Drop,
->(
-    done: Result<X, F>,
-    device: D,
-    input: R,
-    mut out: W1,
-    mut err: W2,
-) -> Executed<D, R, W1, W2>
+>(done: Result<X, F>, device: D, input: R, mut out: W1, mut err: W2) -> Executed<D, R, W1, W2>
     ensures status { result.status ≡ ended_status F.fails_with done result.flushed }
     ensures summary { result.summary ≡ None }
     ensures device { result.device ≡ device }

@@ -349,7 +349,7 @@ fn run_within<D: Device + Drop, R: Read + Drop, W1: Write + Drop, W2: Write + Dr
     run: &Run<'_>,
     mut session: Session<'_, '_, '_, D, R, W1, W2>,
 ) -> (Report<D, R, W1, W2>, Tally)
-    requires { (used_by session ≡ 0) × (session.entry.host.generator ≡ None) }
+    requires { (used_by session ≡ 0) × (session.host.generator ≡ None) }
     ensures { ReportsCounted D.honest D.disk D.size D.failures R.remaining W1.contents W2.contents (with_seed run.now.seed session.entry) run.now.limits.fuel result.0 result.1 }
 {
     session.limit_values(run.limits.values as usize);

@@ -30,9 +30,9 @@ returns-in-Ok g c =
     let s = with_seed seed began_with in
     let same = counting_from parts c.new-taken.result c.new-given.result c.new-complaints.result c.new-taken.ensures c.new-given.ensures c.new-complaints.ensures in
     let opens = opens_seeded c.args.valid (counting parts) began_with seed
-        (subst (λ (p : HostParts g.row.D.Denot (Counted g.row.R.Denot) (Counted g.row.W1.Denot) (Counted g.row.W2.Denot)). Opens c.args.valid p began_with) same c.in-Ok.ensures.opens) in
+    (subst (λ (p : HostParts g.row.D.Denot (Counted g.row.R.Denot) (Counted g.row.W1.Denot) (Counted g.row.W2.Denot)). Opens c.args.valid p began_with) same c.in-Ok.ensures.opens) in
     let shares = shares_seeded honest disk size failures (counting parts) began_with seed
-        (subst (λ (p : HostParts g.row.D.Denot (Counted g.row.R.Denot) (Counted g.row.W1.Denot) (Counted g.row.W2.Denot)). Shares honest disk size failures p began_with) same c.in-Ok.ensures.shares) in
+    (subst (λ (p : HostParts g.row.D.Denot (Counted g.row.R.Denot) (Counted g.row.W1.Denot) (Counted g.row.W2.Denot)). Shares honest disk size failures p began_with) same c.in-Ok.ensures.shares) in
     let i = opens.starts.instance in
     let first = first_configuration opens.starts.entered opens.starts.store in
     let counted = c.run_within-counted.ensures in
