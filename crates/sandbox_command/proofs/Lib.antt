@@ -2,3 +2,5 @@ mod Lines
 mod Spoken
 mod Began
 mod Performing
+mod AfterFlush
+mod Seeding

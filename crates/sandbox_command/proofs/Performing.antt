@@ -4,6 +4,7 @@ use Rattle.std.specs.Io.KnownBytes.{Keeps}
 use Rattle.std.proofs.lemmas.Option.{none-some}
 use Rattle.vol_sector.specs.Disk.{Disk}
 use Rattle.run_report.specs.declared.summary.Summary.{Summary}
+use Rattle.sandbox_device.specs.declared.ram_device.RamDevice.{RamDevice}
 use Rattle.sandbox_words.specs.Request.{Text}
 use Rattle.sandbox_words.specs.declared.request.Run.{Run}
 use Rattle.sandbox_words.specs.declared.request.Invocation.{Invocation}
@@ -15,7 +16,8 @@ use Rattle.sandbox_command.specs.declared.streams.Sink.{Sink}
 use Rattle.sandbox_command.specs.declared.streams.Sink.TheVariants as sink
 use Rattle.sandbox_command.specs.Execution.{Executes, ExecutesSo, Runs}
 use Rattle.sandbox_command.specs.Sources.{AreStreams, IsSink, IsSource}
-use Rattle.sandbox_command.specs.Files.{AsksNothingAfter, HasEnded, HasEndedOn, IsExecuted, IsExecutedOnFiles, IsPerformed, NamesNoVolume}
+use Rattle.sandbox_command.specs.Files.{AsksNothingAfter, HasEnded, HasEndedOn, IsExecuted, IsExecutedOnFiles, IsNewInMemory, IsPerformed, NamesNoVolume}
+use Rattle.sandbox_command.specs.internal.Inspecting.{IsInspecting}
 
 -- ---- what is no run
 
@@ -23,13 +25,36 @@ abbrev pub IsNoRun : Invocation → Type 0
 IsNoRun (asked.Run run) = ⊥
 IsNoRun _ = Unit {0}
 
-pub no_volume : (i : Invocation) → IsNoRun i → NamesNoVolume i → ⊥
-no_volume (asked.Run run) other names = other
-no_volume (asked.Format file sectors slots large) other names = names
-no_volume (asked.Volume file task) other names = names
-no_volume (asked.Import file path) other names = names
-no_volume (asked.Export file path) other names = names
-no_volume (asked.Inspect it) other names = names
+-- of these, what is done on a file
+abbrev pub IsInFile : Invocation → Type 0
+IsInFile (asked.Run run) = ⊥
+IsInFile (asked.Inspect it) = ⊥
+IsInFile _ = Unit {0}
+
+pub no_run : (i : Invocation) → IsInFile i → IsNoRun i
+no_run (asked.Run run) file = file
+no_run (asked.Format name sectors slots large) file = tt
+no_run (asked.Volume name task) file = tt
+no_run (asked.Import name path) file = tt
+no_run (asked.Export name path) file = tt
+no_run (asked.Inspect it) file = tt
+
+pub no_volume : (i : Invocation) → IsInFile i → NamesNoVolume i → ⊥
+no_volume (asked.Run run) file names = file
+no_volume (asked.Format name sectors slots large) file names = names
+no_volume (asked.Volume name task) file names = names
+no_volume (asked.Import name path) file names = names
+no_volume (asked.Export name path) file names = names
+no_volume (asked.Inspect it) file names = file
+
+-- and what isn't
+pub inspecting : (i : Invocation) (device : RamDevice) → IsInspecting i → IsNoRun i × NamesNoVolume i × IsNewInMemory i device
+inspecting (asked.Run run) device is = absurd is
+inspecting (asked.Format name sectors slots large) device is = absurd is
+inspecting (asked.Volume name task) device is = absurd is
+inspecting (asked.Import name path) device is = absurd is
+inspecting (asked.Export name path) device is = absurd is
+inspecting (asked.Inspect it) device is = (tt, tt, tt)
 
 pub streams_given : {R W1 W2 : Type 0} (i : Invocation) (input : R) (out : W1) (err : W2) → IsNoRun i → AreStreams i input out err (source.Given input) (sink.Given out) (sink.Given err)
 streams_given (asked.Run run) input out err other = absurd other

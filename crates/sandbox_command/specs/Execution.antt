@@ -1,6 +1,7 @@
 -- What the program does: how it ends, and of which run, formatting or task its status tells
 -- (`README.md`, "The program").
 use Rattle.std.specs.Prelude.{◌≡◌, ◌≢◌, ◌⊎◌, ℕ, true, List, Option, Some, None, Result}
+use Rattle.std.specs.Io.KnownBytes.{Keeps}
 use Rattle.vol_sector.specs.Disk.{Disk, Leaves}
 use Rattle.vol_sector.specs.declared.fault.Refused.{Refused}
 use Rattle.vol_tree.specs.Opened.{Opened}
@@ -18,6 +19,10 @@ use Rattle.sandbox_words.specs.declared.request.Invocation.{Invocation}
 use Rattle.sandbox_words.specs.declared.request.Invocation.TheVariants as asked
 use Rattle.sandbox_words.specs.Request.{Text}
 use Rattle.volume_tasks.specs.declared.failure.Failure.{Failure}
+use Rattle.volume_tasks.specs.declared.importing.ImportFailure.{ImportFailure}
+use Rattle.volume_tasks.specs.declared.exporting.ExportFailure.{ExportFailure}
+use Rattle.volume_tasks.specs.Importing.{PerformsImport}
+use Rattle.volume_tasks.specs.Exporting.{PerformsExport}
 use Rattle.run_report.specs.declared.fault.Fault.TheVariants as reason
 use Rattle.run_report.specs.declared.summary.Kept.TheVariants as kept
 use Rattle.run_report.specs.declared.summary.Summary.{Summary}
@@ -25,7 +30,8 @@ use Rattle.volume_tasks.specs.Formatting.{FormatsAs}
 use Rattle.sandbox_command.specs.Reporting.{kept_where_refused, not_run, session_reason, volume_of}
 use Rattle.volume_tasks.specs.Doing.{Performs}
 use Rattle.sandbox_command.specs.declared.program.Executed.{Executed}
-use Rattle.sandbox_command.specs.Status.{load_status, session_status, volume_status, task_status}
+use Rattle.sandbox_command.specs.Inspecting.{Inspects}
+use Rattle.sandbox_command.specs.Status.{ended_status, export_status, failure_status, import_status, load_status, session_status, volume_status}
 use Rattle.sandbox_command.specs.Streams.{AppendsSome, IsSilent}
 use Rattle.sandbox_command.specs.Supplies.{AreSettings, IsUncut, directories_of}
 use Rattle.volume_tasks.specs.Volumes.{IsOpenFor, IsRefusedFor, LeftByOpening}
@@ -77,10 +83,6 @@ module _ {D R W1 W2 : Type 0} (is_honest : D → Type 0) (disk : D → Disk) (se
     pub flushed : left.flushed ≡ true
     pub streams : IsSilent out_contents err_contents Follows input out err left
 
-  -- Refused as a wrong setting, before anything is done.
-  abbrev pub IsPutOff : D → R → W1 → W2 → Executed D R W1 W2 → Type 0
-  IsPutOff device input out err left = (left.status ≡ 124) × (left.summary ≡ None) × IsUntouched AppendsSome device input out err left
-
   -- The words are refused, or the bytes; or they spell a valid module, and then the volume is refused, or the module is
   -- launched.
   abbrev pub Runs : (Option (List ℕ) → Option (List ℕ) → Type 0) → Run → List ℕ → Text → D → R → W1 → W2 → Executed D R W1 W2 → Type 0
@@ -91,19 +93,30 @@ module _ {D R W1 W2 : Type 0} (is_honest : D → Type 0) (disk : D → Disk) (se
       × (NoVolume Follows run device input out err left ⊎ OnVolume Follows run m random device input out err left)))
 
   -- A module runs on the volume of a device, and the side of errors is followed as is said; a device is formatted; a task is
-  -- done with the volume on a device. Then the output is flushed, which keeps what it has.
+  -- done with the volume on a device, a tar stream brought into it, or one of its directories printed as one; the lines that
+  -- tell what a module is are printed. Then the output is flushed, which keeps what it has.
   abbrev pub ExecutesSo : (Option (List ℕ) → Option (List ℕ) → Type 0) → Invocation → List ℕ → Text → D → R → W1 → W2 → Executed D R W1 W2 → Type 0
   ExecutesSo Follows (asked.Run run) bytes random device input out err left = Runs Follows run bytes random device input out err left
   ExecutesSo Follows (asked.Format file sectors slots large) bytes random device input out err left =
       (done : Result (Unit {0}) Failure) × FormatsAs large is_honest disk sectors_on failures device sectors slots left.device done
-      × (left.status ≡ task_status done left.flushed) × (left.summary ≡ None) × IsSilent out_contents err_contents AppendsSome input out err left
+      × (left.status ≡ ended_status failure_status done left.flushed) × (left.summary ≡ None) × IsSilent out_contents err_contents AppendsSome input out err left
   ExecutesSo Follows (asked.Volume file task) bytes random device input out err left =
       (done : Result (Unit {0}) Failure)
       × Performs is_honest disk sectors_on failures task device (remaining input) (remaining left.input) (out_contents out) (out_contents left.out) left.device done
-      × (left.status ≡ task_status done left.flushed) × (left.summary ≡ None) × AppendsSome (err_contents err) (err_contents left.err)
-  ExecutesSo Follows (asked.Import file path) bytes random device input out err left = IsPutOff device input out err left
-  ExecutesSo Follows (asked.Export file path) bytes random device input out err left = IsPutOff device input out err left
-  ExecutesSo Follows (asked.Inspect «module») bytes random device input out err left = IsPutOff device input out err left
+      × (left.status ≡ ended_status failure_status done left.flushed) × (left.summary ≡ None) × AppendsSome (err_contents err) (err_contents left.err)
+  ExecutesSo Follows (asked.Import file path) bytes random device input out err left =
+      (done : Result ℕ ImportFailure)
+      × PerformsImport is_honest disk sectors_on failures path.now device (remaining input) (remaining left.input) left.device done
+      × (left.status ≡ ended_status import_status done left.flushed) × (left.summary ≡ None)
+      × Keeps (out_contents out) (out_contents left.out) × AppendsSome (err_contents err) (err_contents left.err)
+  ExecutesSo Follows (asked.Export file path) bytes random device input out err left =
+      (done : Result (Unit {0}) ExportFailure)
+      × PerformsExport is_honest disk sectors_on failures path.now device (out_contents out) (out_contents left.out) left.device done
+      × (left.status ≡ ended_status export_status done left.flushed) × (left.summary ≡ None)
+      × (left.input ≡ input) × AppendsSome (err_contents err) (err_contents left.err)
+  ExecutesSo Follows (asked.Inspect «module») bytes random device input out err left =
+      Inspects bytes (out_contents out) (out_contents left.out) left.flushed left.status × (left.summary ≡ None)
+      × (left.device ≡ device) × (left.input ≡ input) × AppendsSome (err_contents err) (err_contents left.err)
 
   -- where the program's own lines follow on the side of errors
   abbrev pub Executes : Invocation → List ℕ → Text → D → R → W1 → W2 → Executed D R W1 W2 → Type 0

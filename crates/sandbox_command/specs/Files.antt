@@ -33,15 +33,16 @@ memory_disk d = held d.sectors d.past.images
 abbrev pub file_disk : FileDevice → Disk
 file_disk d = kept d.sectors d.moments.unsynced d.moments.times
 
--- A run whose files for its volume don't go together: an image beside a volume of its own, or a file that its volume is to be
--- handed out into without an image.
+-- A run whose options don't go together: an image beside a volume of its own, a file that its volume is to be handed out
+-- into without an image, or a seed beside random bytes.
 abbrev pub Clashes : Invocation → Type 0
-Clashes (asked.Run run) = (IsSome run.image × IsSome run.volume) ⊎ (IsSome run.volume_out × (run.image ≡ None))
+Clashes (asked.Run run) = (IsSome run.image × IsSome run.volume) ⊎ ((IsSome run.volume_out × (run.image ≡ None)) ⊎ (IsSome run.seed × IsSome run.random))
 Clashes _ = ⊥
 
--- a run whose volume is in memory, since it names no file for one
+-- a run whose volume is in memory, since it names no file for one; and inspecting a module, which has no use of one
 abbrev pub NamesNoVolume : Invocation → Type 0
 NamesNoVolume (asked.Run run) = run.volume ≡ None
+NamesNoVolume (asked.Inspect «module») = Unit {0}
 NamesNoVolume _ = ⊥
 
 -- what prints nothing into a file after it has ended: a run that names none for its report and none for its volume, and all
@@ -61,9 +62,10 @@ abbrev pub IsImage : Option (Bor Text) → List (List ℕ) → Type 0
 IsImage None sectors = sectors ≡ replicate 202 (replicate 512 0)
 IsImage (Some file) sectors = length sectors ≤ 65536
 
--- the device in memory that a run begins with
+-- the device in memory that a run begins with, or any where there is no use of it
 abbrev pub IsNewInMemory : Invocation → RamDevice → Type 0
 IsNewInMemory (asked.Run run) device = IsImage run.image device.sectors
+IsNewInMemory (asked.Inspect «module») device = Unit {0}
 IsNewInMemory _ device = ⊥
 
 -- A device on which no operation failed yet. What is to be formatted is lengthened to its sectors first, or to 65,536.

@@ -5,6 +5,7 @@ pub mod Sources
 pub mod Supplies
 pub mod Reporting
 pub mod Running
+pub mod Inspecting
 pub mod Execution
 pub mod Files
 pub mod internal

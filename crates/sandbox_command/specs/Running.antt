@@ -15,7 +15,7 @@ use Rattle.wasi_calls.specs.Calls as world
 use Rattle.wasi_calls.specs.Host.{HostState, StreamBytes, StreamsMove, MayFollow, before_moving, after_moving, world_of}
 use Rattle.sandbox_core.specs.declared.fault.SessionFault.{SessionFault}
 use Rattle.sandbox_core.specs.declared.report.Report.{Report}
-use Rattle.sandbox_core.specs.Session.{SessionState, Opens, Shares, IsRefused, KeepsVolume}
+use Rattle.sandbox_core.specs.Session.{SessionState, OpensWith, Shares, IsRefused, KeepsVolume}
 use Rattle.sandbox_core.specs.Runs.{ComesBy, RunsWithin}
 use Rattle.sandbox_core.specs.declared.tally.Tally.{Tally}
 use Rattle.sandbox_core.specs.Report.{Calls, ReportsCounted}
@@ -56,10 +56,11 @@ module _ {D R W1 W2 : Type 0} (is_honest : D → Type 0) (disk : D → Disk) (se
   abbrev pub StandsInRun : (i : Instance) (h : Host) (c : Configuration) (fuel : ℕ) (report : Report D (Counted R) (Counted W1) (Counted W2)) (last : Host) (used : ℕ) → RunsWithin Host HostCalls i h c fuel last report.outcome used → Image → Type 0
   StandsInRun i h c fuel report last used run image = (host : Host) × ComesBy Host HostCalls i h c run.answers last run.last host × StandsAs image h.volume.numbers host.volume.tree
 
-  -- A session ran from the module's first configuration, with this fuel.
+  -- A session ran from the module's first configuration, with this fuel. Its random bytes are those of a seed exactly where
+  -- the words name one.
   pub record Ran (Follows : Option (List ℕ) → Option (List ℕ) → Type 0) (m : Module) (run : Run) (parts : HostParts D R W1 W2) (left : Executed D R W1 W2) : Type 0 where
     pub session : SessionState D (Counted R) (Counted W1) (Counted W2)
-    pub opens : Opens m (counting parts) session
+    pub opens : OpensWith run.seed m (counting parts) session
     pub shares : Shares is_honest disk sectors_on failures (counting parts) session
     pub report : Report D (Counted R) (Counted W1) (Counted W2)
     pub tally : Tally

@@ -12,7 +12,13 @@ use Rattle.sandbox_core.specs.declared.fault.SessionFault.{SessionFault}
 use Rattle.sandbox_core.specs.declared.fault.SessionFault.TheVariants as opening
 use Rattle.vol_sector.specs.declared.fault.VolumeFault.{VolumeFault}
 use Rattle.vol_sector.specs.declared.fault.VolumeFault.TheVariants as volume
+use Rattle.volume_archive.specs.declared.reasons.Why.{Why}
+use Rattle.volume_archive.specs.declared.reasons.Why.TheVariants as why
 use Rattle.volume_tasks.specs.declared.failure.Failure.{Failure}
+use Rattle.volume_tasks.specs.declared.importing.ImportFailure.{ImportFailure}
+use Rattle.volume_tasks.specs.declared.importing.ImportFailure.TheVariants as importing
+use Rattle.volume_tasks.specs.declared.exporting.ExportFailure.{ExportFailure}
+use Rattle.volume_tasks.specs.declared.exporting.ExportFailure.TheVariants as exporting
 use Rattle.volume_tasks.specs.declared.failure.Failure.TheVariants.{Volume}
 
 -- the guest's own status, where it isn't greater than 119
@@ -56,7 +62,24 @@ abbrev pub failure_status : Failure → ℕ
 failure_status (Volume volume.Memory) = 122
 failure_status f = 124
 
--- The status after a task: 0 where it was done, or 124 where then the output couldn't be flushed; else its failure's.
-abbrev pub task_status : Result (Unit {0}) Failure → (flushed : Bool) → ℕ
-task_status (Ok x) flushed = if flushed then 0 else 124
-task_status (Err f) flushed = failure_status f
+-- of a member that isn't taken, or of a directory that isn't printed
+abbrev pub why_status : Why → ℕ
+why_status why.Memory = 122
+why_status w = 124
+
+-- of an import
+abbrev pub import_status : ImportFailure → ℕ
+import_status (importing.Volume fault) = failure_status (Volume fault)
+import_status (importing.Path e) = 124
+import_status (importing.Halted halted) = why_status halted.refusal.why
+
+-- of an export
+abbrev pub export_status : ExportFailure → ℕ
+export_status (exporting.Volume fault) = failure_status (Volume fault)
+export_status (exporting.Path e) = 124
+export_status (exporting.Stopped w) = why_status w
+
+-- The status after what is no run: 0 where it was done, or 124 where then the output couldn't be flushed; else its failure's.
+abbrev pub ended_status : {X E : Type 0} → (E → ℕ) → Result X E → (flushed : Bool) → ℕ
+ended_status failed (Ok x) flushed = if flushed then 0 else 124
+ended_status failed (Err e) flushed = failed e

@@ -1,2 +1,4 @@
 pub mod Supplies
 pub mod Redirected
+pub mod Seeds
+pub mod Inspecting

@@ -10,12 +10,13 @@ ghost use Rattle.sandbox_command.specs.declared.streams.Sink.{Sink as SinkValue}
 ghost use Rattle.sandbox_command.specs.declared.streams.Sink.TheVariants as sink;
 ghost use Rattle.sandbox_command.specs.Sources.{sink_contents, source_remaining};
 ghost use Rattle.sandbox_command.specs.Files.{Clashes, IsAnswered, IsPerformed};
+ghost use Rattle.sandbox_command.specs.internal.Inspecting.{IsInspecting};
 
 use crate::program;
-use crate::runs::perform_run;
+use crate::runs::{perform_run, read_module};
 use crate::streams::{Sink, Source};
-use sandbox_device::FileDevice;
-use sandbox_words::{Change, Invocation, Task, invocation};
+use sandbox_device::{FileDevice, RamDevice};
+use sandbox_words::{Invocation, invocation};
 use std::alloc::Global;
 use std::io::{ErrorKind, Read, Write};
 use std::process::ExitCode;
@@ -78,7 +79,7 @@ fn answer_words<R: Read + Drop, W1: Write + Drop, W2: Write + Drop>(
 /// Executes the invocation on the files that it names: a module, its volume and its streams, a file that is made or
 /// lengthened for its sectors, or a volume. No contract says what a file holds. Where one can't be
 /// read or written, or the report of a run can't be printed, or its volume not be handed out, the status is 124, or 122
-/// for want of memory. Files of a run that don't go together are refused before one is opened.
+/// for want of memory. Options of a run that don't go together are refused before a file is opened.
 pub fn perform<R: Read + Drop, W1: Write + Drop, W2: Write + Drop>(
     rt: &HostRuntime,
     invocation: &Invocation<'_>,
@@ -102,20 +103,21 @@ pub fn perform<R: Read + Drop, W1: Write + Drop, W2: Write + Drop>(
             file,
             *sectors,
         ),
-        Invocation::Volume { file, .. } => FileDevice::open(rt.alloc(), rt, file),
-        // wired later
-        Invocation::Import { .. } | Invocation::Export { .. } | Invocation::Inspect { .. } => {
-            return program::refuse_setting(&mut err);
+        Invocation::Inspect { module } => {
+            return inspect_file(rt, invocation, module, input, out, err);
         }
+        Invocation::Volume { file, .. } => FileDevice::open(rt.alloc(), rt, file),
+        Invocation::Import { file, .. } => FileDevice::open(rt.alloc(), rt, file),
+        Invocation::Export { file, .. } => FileDevice::open(rt.alloc(), rt, file),
     };
     match opened {
-        Ok(device) => status_on(rt.alloc(), invocation, device, input, out, err),
+        Ok(device) => status_on(rt.alloc(), invocation, b"", device, input, out, err),
         Err(error) => refuse(&error, err),
     }
 }
 
-/// Whether a run names files for its volume that don't go together: an image beside a volume, or what its volume is to be
-/// handed out into without an image.
+/// Whether a run has options that don't go together: an image beside a volume, what its volume is to be handed out into
+/// without an image, or a seed beside random bytes.
 fn clashes(invocation: &Invocation<'_>) -> bool
     ensures { IsTrue result ↔ Clashes invocation.now }
 {
@@ -123,6 +125,7 @@ fn clashes(invocation: &Invocation<'_>) -> bool
         Invocation::Run(run) => {
             (run.image.is_some() && run.volume.is_some())
                 || (run.volume_out.is_some() && run.image.is_none())
+                || (run.seed.is_some() && run.random.is_some())
         }
         _ => false,
     }
@@ -132,13 +135,36 @@ fn clashes(invocation: &Invocation<'_>) -> bool
 fn is_put_off(invocation: &Invocation<'_>) -> bool {
     match invocation {
         // wired later
-        Invocation::Run(run) => run.seed.is_some() || run.tests.is_some(),
-        // wired later
-        Invocation::Volume {
-            task: Task::Change(Change::RemoveAll { .. }),
-            ..
-        } => true,
+        Invocation::Run(run) => run.tests.is_some(),
         _ => false,
+    }
+}
+
+/// The bytes of a module's file, and a device, which inspecting them has no use of.
+fn module_of(rt: &HostRuntime, path: &str) -> io::Result<(Vec<u8>, RamDevice)> {
+    Ok((read_module(rt, path)?, RamDevice::new(rt.alloc(), 0)?))
+}
+
+/// Tells what the module in a file is.
+fn inspect_file<R: Read + Drop, W1: Write + Drop, W2: Write + Drop>(
+    rt: &HostRuntime,
+    invocation: &Invocation<'_>,
+    path: &str,
+    input: R,
+    out: W1,
+    err: W2,
+) -> u8
+    requires { IsInspecting invocation.now }
+    ensures tells { IsPerformed R.remaining W1.contents W2.contents
+        invocation.now input out err result }
+    ensures within { result ≤ 124 }
+{
+    match module_of(rt, path) {
+        Ok((module, device)) => {
+            let bytes = module.as_slice();
+            status_on(rt.alloc(), invocation, bytes, device, input, out, err)
+        }
+        Err(error) => refuse(&error, err),
     }
 }
 
@@ -156,6 +182,7 @@ pub(crate) fn refuse<W: Write + Drop>(error: &io::Error, mut err: W) -> u8
 fn status_on<D: Device + Drop, R: Read + Drop, W1: Write + Drop, W2: Write + Drop>(
     alloc: Global,
     invocation: &Invocation<'_>,
+    module: &[u8],
     device: D,
     input: R,
     out: W1,
@@ -163,10 +190,10 @@ fn status_on<D: Device + Drop, R: Read + Drop, W1: Write + Drop, W2: Write + Dro
 ) -> u8
     ensures tells { (left : Executed D (SourceValue R) (SinkValue W1) (SinkValue W2))
         × Executes D.honest D.disk D.size D.failures (source_remaining R.remaining)
-        (sink_contents W1.contents) (sink_contents W2.contents) invocation.now [] [] device
+        (sink_contents W1.contents) (sink_contents W2.contents) invocation.now «module».now [] device
         (source.Given input) (sink.Given out) (sink.Given err) left × (result ≡ left.status) }
     ensures within { result ≤ 124 }
 {
     let (input, out, err) = (Source::Given(input), Sink::Given(out), Sink::Given(err));
-    program::execute(alloc, invocation, b"", b"", device, input, out, err).status
+    program::execute(alloc, invocation, module, b"", device, input, out, err).status
 }

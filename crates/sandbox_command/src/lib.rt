@@ -2,7 +2,9 @@
 //! is done, and with which status it ends.
 #![tactic(auto)]
 
+mod ending;
 mod files;
+mod inspecting;
 mod output;
 mod program;
 mod reporting;

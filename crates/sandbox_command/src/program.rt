@@ -8,13 +8,15 @@ ghost use Rattle.sandbox_core.specs.Session.{used_by};
 ghost use Rattle.sandbox_core.specs.Report.{ReportsCounted};
 ghost use Rattle.sandbox_command.specs.Status.{status_of, EndsWith, load_status, session_status};
 ghost use Rattle.sandbox_command.specs.Status.{volume_status, words_status, command_line_status};
-ghost use Rattle.sandbox_command.specs.Status.{task_status};
 ghost use Rattle.sandbox_command.specs.Streams.{AppendsSome, IsSilent};
 ghost use Rattle.sandbox_command.specs.Reporting.{kept_where_not_begun, not_run, run_summary, session_reason};
 ghost use Rattle.sandbox_command.specs.Running.{Launches, device_of};
+ghost use Rattle.sandbox_command.specs.internal.Seeds.{with_seed};
 ghost use Rattle.sandbox_command.specs.internal.Supplies.{AreSupplies};
 ghost use Rattle.sandbox_command.specs.Execution.{NoVolume, OnVolume, Runs, Executes};
 
+use crate::ending::ended;
+use crate::inspecting::inspect;
 use crate::output::{GREATEST, NOT_COMMITTED, tell, tell_after, tell_fault, tell_outcome};
 use crate::reporting::{
     kept_after_run, kept_where_not_begun, kept_where_refused, not_run, session_reason,
@@ -30,7 +32,7 @@ use std::alloc::Global;
 use std::io;
 use std::io::{Read, Write};
 use vol_sector::{Device, Refused, VolumeFault};
-use volume_tasks::{Failure, format_as, open_for_run, perform};
+use volume_tasks::{export_from, format_as, import_into, open_for_run, perform};
 
 /// The status where a guest's own one is greater than `GREATEST`.
 const OTHER_EXIT: u8 = 119;
@@ -41,7 +43,7 @@ const OUT_OF_FUEL: u8 = 121;
 
 const OUT_OF_MEMORY: u8 = 122;
 
-const FAULT: u8 = 124;
+pub(crate) const FAULT: u8 = 124;
 
 /// The status where the command line is refused, or help or the version is asked for.
 const REFUSED: u8 = 125;
@@ -329,15 +331,29 @@ fn not_begun<D: Device + Drop, R: Drop, W1: Drop, W2: Drop>(
     }
 }
 
-/// Runs a session that has used nothing within the limits of a run.
+/// Gives a session the random bytes of a seed, where the words of a run name one.
+fn seed<D: Device + Drop, R: Read + Drop, W1: Write + Drop, W2: Write + Drop>(
+    run: &Run<'_>,
+    session: &mut Session<'_, '_, '_, D, R, W1, W2>,
+)
+    requires { session.old.host.generator ≡ None }
+    ensures { session.new ≡ with_seed run.now.seed session.old }
+{
+    if let Some(seed) = run.seed {
+        session.seed(seed);
+    }
+}
+
+/// Runs a session that has used nothing within the limits of a run, with the random bytes of its seed.
 fn run_within<D: Device + Drop, R: Read + Drop, W1: Write + Drop, W2: Write + Drop>(
     run: &Run<'_>,
     mut session: Session<'_, '_, '_, D, R, W1, W2>,
 ) -> (Report<D, R, W1, W2>, Tally)
-    requires { used_by session ≡ 0 }
-    ensures { ReportsCounted D.honest D.disk D.size D.failures R.remaining W1.contents W2.contents session.entry run.now.limits.fuel result.0 result.1 }
+    requires { (used_by session ≡ 0) × (session.host.generator ≡ None) }
+    ensures { ReportsCounted D.honest D.disk D.size D.failures R.remaining W1.contents W2.contents (with_seed run.now.seed session.entry) run.now.limits.fuel result.0 result.1 }
 {
     session.limit_values(run.limits.values as usize);
+    seed(run, &mut session);
     run_counted(session, run.limits.fuel)
 }
 
@@ -452,43 +468,6 @@ pub(crate) fn run<D: Device + Drop, R: Read + Drop, W1: Write + Drop, W2: Write 
     }
 }
 
-/// Ends a task on a volume, or formatting: flushes the output, prints a failure's line, and gives the status with the
-/// device and the streams.
-fn task_ended<D: Drop, R: Drop, W1: Write + Drop, W2: Write + Drop>(
-    done: Result<(), Failure>,
-    device: D,
-    input: R,
-    mut out: W1,
-    mut err: W2,
-) -> Executed<D, R, W1, W2>
-    ensures status { result.status ≡ task_status done result.flushed }
-    ensures summary { result.summary ≡ None }
-    ensures device { result.device ≡ device }
-    ensures input { result.input ≡ input }
-    ensures out { Keeps (W1.contents out) (W1.contents result.out) }
-    ensures err { AppendsSome (W2.contents err) (W2.contents result.err) }
-{
-    let flushed = out.flush().is_ok();
-    let status = match done {
-        Ok(()) if flushed => 0,
-        Ok(()) => refuse_file(&mut err),
-        Err(Failure::Volume(VolumeFault::Memory)) => out_of_memory(&mut err),
-        Err(failure) => {
-            tell(&mut err, failure);
-            FAULT
-        }
-    };
-    Executed {
-        status,
-        summary: None,
-        flushed,
-        device,
-        input,
-        out,
-        err,
-    }
-}
-
 /// Runs a module as `run` does, and prints the lines of how it ended where the guest's own errors go.
 fn run_and_tell<D: Device + Drop, R: Read + Drop, W1: Write + Drop, W2: Write + Drop>(
     alloc: Global,
@@ -511,35 +490,11 @@ fn run_and_tell<D: Device + Drop, R: Read + Drop, W1: Write + Drop, W2: Write + 
     left
 }
 
-/// Refuses what isn't done yet, as a wrong setting.
-fn put_off<D: Drop, R: Drop, W1: Drop, W2: Write + Drop>(
-    device: D,
-    input: R,
-    out: W1,
-    mut err: W2,
-) -> Executed<D, R, W1, W2>
-    ensures status { (result.status ≡ 124) × (result.summary ≡ None) × (result.flushed ≡ true) }
-    ensures device { result.device ≡ device }
-    ensures input { result.input ≡ input }
-    ensures out { result.out ≡ out }
-    ensures err { AppendsSome (W2.contents err) (W2.contents result.err) }
-{
-    let status = refuse_setting(&mut err);
-    Executed {
-        status,
-        summary: None,
-        flushed: true,
-        device,
-        input,
-        out,
-        err,
-    }
-}
-
 /// Does what the command line asks, on the bytes of the module's file and of the random bytes' and on
 /// the device, and gives the exit status, the device and the streams. With neither a volume's file nor an
-/// image a run makes the device an empty volume; the other commands have no use of the bytes. The guest reads
-/// `input` and writes `out` and `err`; the program's own line goes to `err`.
+/// image a run makes the device an empty volume. Inspecting has no use of the device, and only it and a run
+/// have one of the bytes. The guest reads `input` and writes `out` and `err`; the program's own line goes
+/// to `err`.
 pub fn execute<D: Device + Drop, R: Read + Drop, W1: Write + Drop, W2: Write + Drop>(
     alloc: Global,
     invocation: &Invocation<'_>,
@@ -563,15 +518,20 @@ pub fn execute<D: Device + Drop, R: Read + Drop, W1: Write + Drop, W2: Write + D
             ..
         } => {
             let (done, device) = format_as(alloc, device, *sectors, *slots, *large);
-            task_ended(done, device, input, out, err)
+            ended(done, device, input, out, err)
         }
         Invocation::Volume { task, .. } => {
             let (done, device) = perform(alloc, device, *task, &mut input, &mut out);
-            task_ended(done, device, input, out, err)
+            ended(done, device, input, out, err)
         }
-        // wired later
-        Invocation::Import { .. } | Invocation::Export { .. } | Invocation::Inspect { .. } => {
-            put_off(device, input, out, err)
+        Invocation::Import { path, .. } => {
+            let (done, device) = import_into(alloc, device, path, &mut input);
+            ended(done, device, input, out, err)
         }
+        Invocation::Export { path, .. } => {
+            let (done, device) = export_from(alloc, device, path, &mut out);
+            ended(done, device, input, out, err)
+        }
+        Invocation::Inspect { .. } => inspect(alloc, module, device, input, out, err),
     }
 }

@@ -462,12 +462,17 @@ fn not_kept<W: Write + Drop>(ended: Ended<W>) -> Ended<W>
 
 /// The bytes of the module's file, and of the random bytes' where the run names one.
 fn read_files(rt: &HostRuntime, run: &Run<'_>) -> io::Result<(Vec<u8>, Vec<u8>)> {
-    let module = read_file(rt, run.module, MODULE_READ)?;
+    let module = read_module(rt, run.module)?;
     let random = match run.random {
         Some(file) => read_file(rt, file, RANDOM_READ)?,
         None => Vec::new(rt.alloc()),
     };
     Ok((module, random))
+}
+
+/// The bytes of a module's file, or too many where it has too many.
+pub(crate) fn read_module(rt: &HostRuntime, path: &str) -> io::Result<Vec<u8>> {
+    read_file(rt, path, MODULE_READ)
 }
 
 /// The bytes of a file, or this many of them where it has more. That a module has too many is then for

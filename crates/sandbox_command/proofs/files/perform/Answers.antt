@@ -6,9 +6,9 @@ use Rattle.sandbox_command.specs.declared.streams.Source.TheVariants as source
 use Rattle.sandbox_command.specs.declared.streams.Sink.TheVariants as sink
 use Rattle.sandbox_command.specs.Files.{IsNewInFile, file_disk}
 use Rattle.sandbox_command.specs.Sources.{sink_contents, source_remaining}
-use Rattle.sandbox_command.proofs.Performing.{IsNoRun, no_volume, so_too, streams_given}
+use Rattle.sandbox_command.proofs.Performing.{IsInFile, IsNoRun, no_run, no_volume, so_too, streams_given}
 use Rattle.sandbox_command.proofs.files.perform.Goals as goal
-use Rattle.sandbox_command.proofs.files.perform.Goals.{in-Format, in-Volume}
+use Rattle.sandbox_command.proofs.files.perform.Goals.{in-Format, in-Volume, in-Import, in-Export}
 
 -- of an opened file
 of_ok : {E : Type 0} (r : Result FileDevice E) (device : FileDevice) (P : FileDevice → Type 0) → r ≡ Ok device → IfOk r P → P device
@@ -19,10 +19,13 @@ returns-in-Ok-clause-tells g c =
     let tells = c.status_on.ensures.tells in
     let device = c.in-Ok.device in
     let invocation = c.args.invocation.now in
-    let no_run : IsNoRun invocation = elim c.match-invocation.branch [
-      | in-Format w ↦ subst IsNoRun (sym w.in-Format.is) tt
-      | in-Volume w ↦ subst IsNoRun (sym w.in-Volume.is) tt
+    let in_file : IsInFile invocation = elim c.match-invocation.branch [
+      | in-Format w ↦ subst IsInFile (sym w.in-Format.is) tt
+      | in-Volume w ↦ subst IsInFile (sym w.in-Volume.is) tt
+      | in-Import w ↦ subst IsInFile (sym w.in-Import.is) tt
+      | in-Export w ↦ subst IsInFile (sym w.in-Export.is) tt
     ] in
+    let other = no_run invocation in_file in
     let input = source.Given c.args.input in
     let out = sink.Given c.args.out in
     let err = sink.Given c.args.err in
@@ -32,9 +35,9 @@ returns-in-Ok-clause-tells g c =
         input,
         out,
         err,
-        streams_given invocation c.args.input c.args.out c.args.err no_run,
+        streams_given invocation c.args.input c.args.out c.args.err other,
         inr (
-          no_volume invocation no_run,
+          no_volume invocation in_file,
           record {
             bytes = [];
             random = [];
@@ -46,10 +49,14 @@ returns-in-Ok-clause-tells g c =
               )
               | in-Volume w ↦ subst (λ (i : Invocation). IsNewInFile i device) (sym w.in-Volume.is)
                   (of_ok w.open-opened.result device (λ d. d.failures ≡ 0) (sym w.opened-is ∙ c.in-Ok.is) w.open-opened.ensures.unused)
+              | in-Import w ↦ subst (λ (i : Invocation). IsNewInFile i device) (sym w.in-Import.is)
+                  (of_ok w.open-opened-in-Import.result device (λ d. d.failures ≡ 0) (sym w.opened-is ∙ c.in-Ok.is) w.open-opened-in-Import.ensures.unused)
+              | in-Export w ↦ subst (λ (i : Invocation). IsNewInFile i device) (sym w.in-Export.is)
+                  (of_ok w.open-opened-in-Export.result device (λ d. d.failures ≡ 0) (sym w.opened-is ∙ c.in-Ok.is) w.open-opened-in-Export.ensures.unused)
             ];
             left = tells.0;
             executes = so_too (λ d. KeepsItsModel d.file) file_disk (λ d. length d.sectors) (λ d. d.failures) (source_remaining g.R.Read.remaining) (sink_contents g.W1.Write.contents) (sink_contents g.W2.Write.contents)
-                invocation [] [] device input out err tells.0 no_run tells.1;
+                invocation [] [] device input out err tells.0 other tells.1;
             ends = tells.2;
             summary_is = refl;
           },

@@ -1,8 +1,10 @@
 use Rattle.std.proofs.Common.{sym, subst}
 use Rattle.sandbox_words.specs.declared.request.Invocation.{Invocation}
 use Rattle.volume_tasks.specs.Doing.{Performs}
+use Rattle.volume_tasks.specs.Exporting.{PerformsExport}
 use Rattle.sandbox_command.specs.Execution.{Executes}
 use Rattle.volume_tasks.proofs.Flushed.{performs_flushed}
+use Rattle.sandbox_command.proofs.AfterFlush.{export_flushed}
 use Rattle.sandbox_command.proofs.program.execute.Goals as goal
 
 -- the task was done, and then the output flushed
@@ -16,11 +18,28 @@ returns-in-Volume-clause-tells g c =
     let outs = g.W1.Write.contents in
     let task = c.in-Volume.task in
     let done = c.perform-done.result.0 in
-    let left = c.task_ended-in-Volume.result in
-    let ended = c.task_ended-in-Volume.ensures in
+    let left = c.ended-in-Volume.result in
+    let ended = c.ended-in-Volume.ensures in
     let flushed = performs_flushed honest disk size failures task c.args.device (remaining c.args.input) (remaining c.perform-done.new.input) (outs c.args.out) (outs c.perform-done.new.out) (outs left.out)
     c.perform-done.result.1 done c.perform-done.ensures ended.out in
     let at_input = subst (λ (r : g.row.R.Denot). Performs honest disk size failures task c.args.device (remaining c.args.input) (remaining r) (outs c.args.out) (outs left.out) c.perform-done.result.1 done) (sym ended.input) flushed in
     let performs = subst (λ (d : g.row.D.Denot). Performs honest disk size failures task c.args.device (remaining c.args.input) (remaining left.input) (outs c.args.out) (outs left.out) d done) (sym ended.device) at_input in
     subst (λ (i : Invocation). Executes honest disk size failures remaining outs g.W2.Write.contents i c.args.module.now c.args.random.now c.args.device c.args.input c.args.out c.args.err left) (sym c.in-Volume.is)
     (done, performs, ended.status, ended.summary, ended.err)
+
+-- the directory was printed, and then the output flushed
+pub returns-in-Export-clause-tells : goal.returns-in-Export-clause-tells
+returns-in-Export-clause-tells g c =
+    let honest = g.D.Device.honest in
+    let disk = g.D.Device.disk in
+    let size = g.D.Device.size in
+    let failures = g.D.Device.failures in
+    let outs = g.W1.Write.contents in
+    let path = c.in-Export.path.now in
+    let done = c.export_from-done.result.0 in
+    let left = c.ended-in-Export.result in
+    let ended = c.ended-in-Export.ensures in
+    let flushed = export_flushed honest disk size failures path c.args.device (outs c.args.out) (outs c.export_from-done.new.out) (outs left.out) c.export_from-done.result.1 done ended.out c.export_from-done.ensures in
+    let performs = subst (λ (d : g.row.D.Denot). PerformsExport honest disk size failures path c.args.device (outs c.args.out) (outs left.out) d done) (sym ended.device) flushed in
+    subst (λ (i : Invocation). Executes honest disk size failures g.R.Read.remaining outs g.W2.Write.contents i c.args.module.now c.args.random.now c.args.device c.args.input c.args.out c.args.err left) (sym c.in-Export.is)
+    (done, performs, ended.status, ended.summary, ended.input, ended.err)

@@ -7,9 +7,11 @@ use Rattle.wasi_calls.specs.declared.wasi_host.HostParts.{HostParts}
 use Rattle.sandbox_core.specs.Session.{IsRefused, Opens, Shares}
 use Rattle.sandbox_core.proofs.Headline.{reach_moves}
 use Rattle.run_report.specs.declared.counted.Counted.{Counted}
-use Rattle.sandbox_command.specs.Reporting.{counted_bytes}
+use Rattle.sandbox_command.specs.Reporting.{counted_bytes, counting}
+use Rattle.sandbox_command.specs.internal.Seeds.{with_seed}
 use Rattle.sandbox_command.specs.Running.{Host, HostCalls, StandsInRun}
 use Rattle.sandbox_command.proofs.Began.{began, counting_from, device_back}
+use Rattle.sandbox_command.proofs.Seeding.{opens_seeded, shares_seeded}
 use Rattle.sandbox_command.proofs.program.launch.Goals as goal
 
 -- the session ran
@@ -23,10 +25,14 @@ returns-in-Ok g c =
     let outs = counted_bytes g.W1.Write.contents in
     let errs = counted_bytes g.W2.Write.contents in
     let parts = c.args.parts in
-    let s = c.in-Ok.session in
+    let began_with = c.in-Ok.session in
+    let seed = c.args.run.now.seed in
+    let s = with_seed seed began_with in
     let same = counting_from parts c.new-taken.result c.new-given.result c.new-complaints.result c.new-taken.ensures c.new-given.ensures c.new-complaints.ensures in
-    let opens = subst (λ (p : HostParts g.row.D.Denot (Counted g.row.R.Denot) (Counted g.row.W1.Denot) (Counted g.row.W2.Denot)). Opens c.args.valid p s) same c.in-Ok.ensures.opens in
-    let shares = subst (λ (p : HostParts g.row.D.Denot (Counted g.row.R.Denot) (Counted g.row.W1.Denot) (Counted g.row.W2.Denot)). Shares honest disk size failures p s) same c.in-Ok.ensures.shares in
+    let opens = opens_seeded c.args.valid (counting parts) began_with seed
+    (subst (λ (p : HostParts g.row.D.Denot (Counted g.row.R.Denot) (Counted g.row.W1.Denot) (Counted g.row.W2.Denot)). Opens c.args.valid p began_with) same c.in-Ok.ensures.opens) in
+    let shares = shares_seeded honest disk size failures (counting parts) began_with seed
+    (subst (λ (p : HostParts g.row.D.Denot (Counted g.row.R.Denot) (Counted g.row.W1.Denot) (Counted g.row.W2.Denot)). Shares honest disk size failures p began_with) same c.in-Ok.ensures.shares) in
     let i = opens.starts.instance in
     let first = first_configuration opens.starts.entered opens.starts.store in
     let counted = c.run_within-counted.ensures in

@@ -1,7 +1,16 @@
-use Rattle.std.proofs.Common.{subst}
+use Rattle.std.proofs.Common.{◌∙◌, ap, subst}
 use Rattle.sandbox_core.specs.Report.{ReportsCounted}
+use Rattle.sandbox_core.specs.Session.{used_by}
+use Rattle.sandbox_command.specs.internal.Seeds.{with_seed}
 use Rattle.sandbox_command.proofs.program.run_within.Goals as goal
+
+pub run_counted-requires : goal.run_counted-requires
+run_counted-requires g c = ap (λ s. used_by s) (c.seed.ensures ∙ ap (λ s. with_seed c.args.run.now.seed s) c.limit_values.ensures) ∙ c.requires.0
+
+pub seed-requires : goal.seed-requires
+seed-requires g c = ap (λ s. s.host.generator) c.limit_values.ensures ∙ c.requires.1
 
 -- the limit on values changes nothing that callers see of the session
 pub returns : goal.returns
-returns g c = subst (λ s. ReportsCounted g.D.Device.honest g.D.Device.disk g.D.Device.size g.D.Device.failures g.R.Read.remaining g.W1.Write.contents g.W2.Write.contents s c.args.run.now.limits.fuel c.run_counted.result.0 c.run_counted.result.1) c.limit_values.ensures c.run_counted.ensures
+returns g c = subst (λ s. ReportsCounted g.D.Device.honest g.D.Device.disk g.D.Device.size g.D.Device.failures g.R.Read.remaining g.W1.Write.contents g.W2.Write.contents s c.args.run.now.limits.fuel c.run_counted.result.0 c.run_counted.result.1)
+    (c.seed.ensures ∙ ap (λ s. with_seed c.args.run.now.seed s) c.limit_values.ensures) c.run_counted.ensures

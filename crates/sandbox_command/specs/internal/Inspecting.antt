@@ -1,0 +1,7 @@
+-- What asks for a module to be inspected.
+use Rattle.sandbox_words.specs.declared.request.Invocation.{Invocation}
+use Rattle.sandbox_words.specs.declared.request.Invocation.TheVariants as asked
+
+abbrev pub IsInspecting : Invocation → Type 0
+IsInspecting (asked.Inspect «module») = Unit {0}
+IsInspecting _ = ⊥

@@ -1,0 +1,8 @@
+-- A session with the random bytes of a seed.
+use Rattle.std.specs.Prelude.{ℕ, Option, option_map}
+use Rattle.wasi_calls.specs.Random.{seeded}
+use Rattle.sandbox_core.specs.Session.{SessionState}
+
+-- the same session, whose random bytes are those of a generator where there is a seed
+abbrev pub with_seed : {D R W1 W2 : Type 0} → Option ℕ → SessionState D R W1 W2 → SessionState D R W1 W2
+with_seed seed s = record s { host = record s.host { generator = option_map seeded seed } }

@@ -1,0 +1,76 @@
+//! What a module is, printed.
+
+ghost use Rattle.std.specs.Prelude.{◌≡◌, ◌⊎◌, IfOk, None, OnErr};
+ghost use Rattle.sandbox_command.specs.Inspecting.{Inspects, survey_status};
+ghost use Rattle.sandbox_command.specs.Streams.{AppendsSome};
+
+use crate::program::{Executed, FAULT, out_of_memory, refuse_file};
+use module_survey::{Links, survey};
+use std::alloc::Global;
+use std::io;
+use std::io::{ErrorKind, Write};
+use wasi_calls::call_of;
+use wasm_module::{FuncType, LoadFault};
+use wasm_store::HostCall;
+
+/// The calls that a guest is given.
+struct Served;
+
+impl Links for Served {
+    ghost use Rattle.wasi_calls.specs.Links.{link};
+
+    ghost links = { link };
+
+    fn link(&self, module_name: &str, name: &str, func_type: &FuncType) -> Option<HostCall> {
+        call_of(module_name, name, func_type)
+    }
+}
+
+/// Prints the line of memory or of an output that is refused, and gives the status. A module that is refused has no line of
+/// its own: it stands on the output.
+fn survey_ended<W: Write>(
+    surveyed: io::Result<Result<(), LoadFault>>,
+    flushed: bool,
+    err: &mut W,
+) -> u8
+    ensures told { IfOk surveyed (λ outcome. result ≡ survey_status outcome flushed) }
+    ensures refused { OnErr surveyed ((result ≡ 122) ⊎ (result ≡ 124)) }
+    ensures line { AppendsSome (W.contents err.old) (W.contents err.new) }
+{
+    match surveyed {
+        Ok(_) if !flushed => refuse_file(err),
+        Ok(Ok(())) => 0,
+        Ok(Err(_)) => FAULT,
+        Err(error) if error.kind() == ErrorKind::OutOfMemory => out_of_memory(err),
+        Err(_) => refuse_file(err),
+    }
+}
+
+/// Prints what the bytes of a module are, or why they are refused, and gives the status with the device and the streams.
+pub(crate) fn inspect<D: Drop, R: Drop, W1: Write + Drop, W2: Write + Drop>(
+    alloc: Global,
+    bytes: &[u8],
+    device: D,
+    input: R,
+    mut out: W1,
+    mut err: W2,
+) -> Executed<D, R, W1, W2>
+    ensures tells { Inspects bytes.now (W1.contents out) (W1.contents result.out) result.flushed result.status }
+    ensures summary { result.summary ≡ None }
+    ensures device { result.device ≡ device }
+    ensures input { result.input ≡ input }
+    ensures err { AppendsSome (W2.contents err) (W2.contents result.err) }
+{
+    let surveyed = survey(alloc, &Served, bytes, &mut out);
+    let flushed = out.flush().is_ok();
+    let status = survey_ended(surveyed, flushed, &mut err);
+    Executed {
+        status,
+        summary: None,
+        flushed,
+        device,
+        input,
+        out,
+        err,
+    }
+}
