@@ -20,7 +20,7 @@ use std::alloc::Global;
 /// The version of the archive.
 #[unsafe(no_mangle)]
 pub extern "C" fn sandbox_version() -> u32
-    ensures { result ≡ 5001 }
+    ensures { result ≡ 6000 }
 {
     sandbox_host::VERSION
 }
