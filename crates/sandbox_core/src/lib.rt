@@ -10,7 +10,7 @@ mod tally;
 
 pub use fault::SessionFault;
 pub use loading::load;
-pub use report::{Report, run, run_counted};
+pub use report::{Report, run, run_counted, run_counted_with_module};
 pub use session::{Finished, RefusedSession, Session};
 pub use tally::Tally;
 pub use vol_sector::Refused;

@@ -11,6 +11,7 @@ use std::io::{Read, Write};
 use vol_sector::{Device, Refused};
 use vol_tree::Volume;
 use wasm_interp::{Outcome, Pause};
+use wasm_valid::Valid;
 
 /// How a run ended, the units of fuel that it used, and what it left: the volume, or its device where it failed, and the
 /// streams.
@@ -48,7 +49,7 @@ where
 
 /// The same, and how many host calls were answered.
 pub fn run_counted<D, R, W1, W2>(
-    mut session: Session<'_, '_, '_, D, R, W1, W2>,
+    session: Session<'_, '_, '_, D, R, W1, W2>,
     fuel: u64,
 ) -> (Report<D, R, W1, W2>, Tally)
 where
@@ -59,16 +60,36 @@ where
     requires { used_by session ≡ 0 }
     ensures { ReportsCounted D.honest D.disk D.size D.failures R.remaining W1.contents W2.contents session.entry fuel result.0 result.1 }
 {
+    let (valid, report, tally) = run_counted_with_module(session, fuel);
+    drop(valid);
+    (report, tally)
+}
+
+/// The same, and gives the module back too, which another session can be made of: it was decoded and validated once.
+pub fn run_counted_with_module<'a, D, R, W1, W2>(
+    mut session: Session<'a, '_, '_, D, R, W1, W2>,
+    fuel: u64,
+) -> (Valid<'a>, Report<D, R, W1, W2>, Tally)
+where
+    D: Device + Drop,
+    R: Read + Drop,
+    W1: Write + Drop,
+    W2: Write + Drop,
+    requires { used_by session ≡ 0 }
+    ensures module { result.0 ≡ session.entry.machine.valid }
+    ensures counted { ReportsCounted D.honest D.disk D.size D.failures R.remaining W1.contents W2.contents session.entry fuel result.1 result.2 }
+{
     let (outcome, tally) = run_out(&mut session, fuel);
     let used = session.used();
     let pages = session.pages();
     let broken = session.has_failed_stream();
+    let (valid, finished) = session.finish_with_module();
     let Finished {
         volume,
         input,
         out,
         err,
-    } = session.finish();
+    } = finished;
     let report = Report {
         outcome,
         used,
@@ -79,7 +100,7 @@ where
         out,
         err,
     };
-    (report, tally)
+    (valid, report, tally)
 }
 
 /// Resumes a session until it ends, or the fuel is used and the next step takes a unit.
@@ -94,6 +115,7 @@ where
     W2: Write + Drop,
     requires { used_by session.old ≤ fuel }
     ensures within { used_by session.new ≤ fuel }
+    ensures module { session.new.machine.valid ≡ session.old.machine.valid }
     ensures run { RunsTo D.honest D.disk D.size D.failures R.remaining W1.contents W2.contents session.old fuel session.new result.0 result.1 }
 {
     let mut tally = Tally { calls: 0, syncs: 0 };

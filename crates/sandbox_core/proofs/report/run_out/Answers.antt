@@ -8,6 +8,7 @@ use Rattle.sandbox_core.proofs.report.run_out.Goals as goal
 pub running-init : goal.running-init
 running-init g c = record {
   within = c.requires;
+  same = refl;
   going = λ running. running;
   size = refl;
   followed = ([], refl, record { calls = refl; syncs = refl });
@@ -24,6 +25,7 @@ running-preserved g c =
     let new = c.resume.new.self in
     record {
       within = let rise = c.in-Called.ensures.run.units_rise in omega (arith, rise, c.used.ensures, c.running.invariant.within);
+      same = c.in-Called.ensures.run.module_is ∙ c.running.invariant.same;
       going = λ running. c.in-Called.ensures.run.end_is;
       size = c.in-Called.ensures.size ∙ c.running.invariant.size;
       followed = followed_on g.D.Device.honest g.D.Device.disk g.D.Device.size g.D.Device.failures g.R.Read.remaining g.W1.Write.contents g.W2.Write.contents first old new _ _ _ _ c.running.invariant.followed c.in-Called.ensures c.with-tally.ensures;
@@ -57,3 +59,9 @@ returns-in-Ended-clause-run g c =
     (λ h. g.D.Device.honest h.volume.device) first.host old.host new.host
     first.machine old.machine new.machine _ c.args.fuel c.in-Ended.outcome c.running.invariant.so_far c.in-Ended.ensures.run (omega (arith, c.used.ensures, c.running.invariant.within)) c.in-Ended.ensures.numbers c.in-Ended.ensures.honest_after c.in-Ended.ensures.crash in
     record { honest_after = ran.0; followed = followed_to_end g.D.Device.honest g.D.Device.disk g.D.Device.size g.D.Device.failures g.R.Read.remaining g.W1.Write.contents g.W2.Write.contents first old new _ _ _ c.running.invariant.followed c.in-Ended.ensures refl refl; numbers = c.in-Ended.ensures.numbers ∙ c.running.invariant.so_far.numbered; size = c.in-Ended.ensures.size ∙ c.running.invariant.size; run = ran.1.0; unit = λ running. ran.1.2 (c.running.invariant.going running); crash = ran.1.1 }
+
+pub returns-in-Spent-clause-module : goal.returns-in-Spent-clause-module
+returns-in-Spent-clause-module g c = c.in-Spent.ensures.run.module_is ∙ c.running.invariant.same
+
+pub returns-in-Ended-clause-module : goal.returns-in-Ended-clause-module
+returns-in-Ended-clause-module g c = c.in-Ended.ensures.run.module_is ∙ c.running.invariant.same

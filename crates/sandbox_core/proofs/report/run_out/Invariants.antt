@@ -8,6 +8,7 @@ use Rattle.sandbox_core.proofs.report.run_out.Given as goal
 abbrev pub invariant-running : goal.invariant-running
 invariant-running g l = record {
   within : l.session.machine.used ≤ l.fuel;
+  same : l.session.machine.valid ≡ l.initial.session.machine.valid;
   going : outcome_of l.initial.session.machine ≡ None → outcome_of l.session.machine ≡ None;
   size : g.D.Device.size l.session.host.volume.device ≡ g.D.Device.size l.initial.session.host.volume.device;
   followed : Followed g.D.Device.honest g.D.Device.disk g.D.Device.size g.D.Device.failures g.R.Read.remaining g.W1.Write.contents g.W2.Write.contents l.initial.session l.session l.tally;

@@ -1,14 +1,14 @@
-use Rattle.std.proofs.Common.{arith}
+use Rattle.std.proofs.Common.{arith, ◌∙◌}
 use Rattle.sandbox_core.specs.Report.{Calls, Reports, disk_of, numbers_of, tree_of}
 use Rattle.sandbox_core.proofs.Reaching.{commit_after}
-use Rattle.sandbox_core.proofs.report.run_counted.Goals as goal
+use Rattle.sandbox_core.proofs.report.run_counted_with_module.Goals as goal
 
 -- the report has what the run and the commit left
-pub returns : goal.returns
-returns g c =
+pub returns-clause-counted : goal.returns-clause-counted
+returns-clause-counted g c =
     let last = c.run_out-outcome.new.session in
     let ran = c.run_out-outcome.ensures.run in
-    let finishes = c.finish-volume.ensures in
+    let finishes = c.finish_with_module-valid.ensures.finishes in
     let reports : Reports g.D.Device.honest g.D.Device.disk g.D.Device.size g.D.Device.failures g.R.Read.remaining g.W1.Write.contents g.W2.Write.contents c.args.session c.args.fuel _ = record {
       last = last;
       used = c.used-used.ensures;
@@ -32,3 +32,7 @@ returns g c =
       err = finishes.err;
     } in
     record { reports = reports; tallies = ran.followed.2 }
+
+-- the run kept its module
+pub returns-clause-module : goal.returns-clause-module
+returns-clause-module g c = c.finish_with_module-valid.ensures.module ∙ c.run_out-outcome.ensures.module
