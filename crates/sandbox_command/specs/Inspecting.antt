@@ -1,5 +1,7 @@
 -- What inspecting a module prints, and how it ends (`crates/module_survey/specs`).
 use Rattle.std.specs.Prelude.{◌≡◌, ◌⊎◌, ℕ, List, Bool, Option, Result, Ok, Err, if◌then◌else◌}
+use Rattle.std.specs.declared.io.ErrorKind.{ErrorKind}
+use Rattle.std.specs.declared.io.ErrorKind.TheVariants.{OutOfMemory}
 use Rattle.wasm_module.specs.declared.fault.LoadFault.{LoadFault}
 use Rattle.wasi_calls.specs.Links.{link}
 use Rattle.module_survey.specs.Printing.{Begins, Tells}
@@ -9,9 +11,14 @@ abbrev pub survey_status : Result (Unit {0}) LoadFault → (flushed : Bool) → 
 survey_status (Ok x) flushed = if flushed then 0 else 124
 survey_status (Err fault) flushed = 124
 
+-- where memory or the output is refused
+abbrev pub refused_status : ErrorKind → ℕ
+refused_status OutOfMemory = 122
+refused_status k = 124
+
 -- All that is told of the bytes was printed, with the calls that a guest is given. Or memory or the output was refused, after
 -- a beginning of it.
 abbrev pub Inspects : List ℕ → Option (List ℕ) → Option (List ℕ) → (flushed : Bool) → ℕ → Type 0
 Inspects bytes before after flushed status =
     ((outcome : Result (Unit {0}) LoadFault) × Tells link bytes before after outcome × (status ≡ survey_status outcome flushed))
-    ⊎ (((status ≡ 122) ⊎ (status ≡ 124)) × Begins link bytes before after)
+    ⊎ ((kind : ErrorKind) × (status ≡ refused_status kind) × Begins link bytes before after kind)

@@ -1,7 +1,8 @@
 //! What a module is, printed.
 
-ghost use Rattle.std.specs.Prelude.{◌≡◌, ◌⊎◌, IfOk, None, OnErr};
-ghost use Rattle.sandbox_command.specs.Inspecting.{Inspects, survey_status};
+ghost use Rattle.std.specs.Prelude.{◌≡◌, IfErr, IfOk, None};
+ghost use Rattle.std.specs.IoError.{error_kind};
+ghost use Rattle.sandbox_command.specs.Inspecting.{Inspects, refused_status, survey_status};
 ghost use Rattle.sandbox_command.specs.Streams.{AppendsSome};
 
 use crate::program::{Executed, FAULT, out_of_memory, refuse_file};
@@ -26,6 +27,17 @@ impl Links for Served {
     }
 }
 
+/// Prints the line of memory or of an output that is refused, and gives the status.
+fn refuse_survey<W: Write>(err: &mut W, error: &io::Error) -> u8
+    ensures status { result ≡ refused_status (error_kind error.now) }
+    ensures line { AppendsSome (W.contents err.old) (W.contents err.new) }
+{
+    if error.kind() == ErrorKind::OutOfMemory {
+        return out_of_memory(err);
+    }
+    refuse_file(err)
+}
+
 /// Prints the line of memory or of an output that is refused, and gives the status. A module that is refused has no line of
 /// its own: it stands on the output.
 fn survey_ended<W: Write>(
@@ -34,15 +46,14 @@ fn survey_ended<W: Write>(
     err: &mut W,
 ) -> u8
     ensures told { IfOk surveyed (λ outcome. result ≡ survey_status outcome flushed) }
-    ensures refused { OnErr surveyed ((result ≡ 122) ⊎ (result ≡ 124)) }
+    ensures refused { IfErr surveyed (λ e. result ≡ refused_status (error_kind e)) }
     ensures line { AppendsSome (W.contents err.old) (W.contents err.new) }
 {
     match surveyed {
         Ok(_) if !flushed => refuse_file(err),
         Ok(Ok(())) => 0,
         Ok(Err(_)) => FAULT,
-        Err(error) if error.kind() == ErrorKind::OutOfMemory => out_of_memory(err),
-        Err(_) => refuse_file(err),
+        Err(error) => refuse_survey(err, &error),
     }
 }
 
