@@ -17,6 +17,7 @@ use Rattle.sandbox_command.specs.declared.streams.Sink.TheVariants as sink
 use Rattle.sandbox_command.specs.Execution.{Executes, ExecutesSo, Runs}
 use Rattle.sandbox_command.specs.Sources.{AreStreams, IsSink, IsSource}
 use Rattle.sandbox_command.specs.Files.{AsksNothingAfter, HasEnded, HasEndedOn, IsExecuted, IsExecutedOnFiles, IsNewInMemory, IsPerformed, NamesNoVolume}
+use Rattle.sandbox_command.specs.Testing.{HasTested}
 use Rattle.sandbox_command.specs.internal.Inspecting.{IsInspecting}
 
 -- ---- what is no run
@@ -123,7 +124,7 @@ module _ {R W1 W2 : Type 0} (remaining : R → Option (List ℕ)) (outs : W1 →
   so_ended ended status summary is same (inr (before, said, was, inl (own, told))) =
       inr (inr (inl (said, subst (λ (n : ℕ). IsExecutedOnFiles remaining outs errs invocation input out err n said) (sym (same ∙ own)) was)))
   so_ended ended status summary is same (inr (before, said, was, inr (named, fault, lost))) =
-      inr (inr (inr ((λ asks_nothing. some_named run.volume_out named ((subst AsksNothingAfter is asks_nothing).1)), same ∙ fault, before, said, was)))
+      inr (inr (inr (inl ((λ asks_nothing. some_named run.volume_out named ((subst AsksNothingAfter is asks_nothing).1)), same ∙ fault, before, said, was))))
     where
       some_named : {A : Type 0} (o : Option A) → IsSome o → o ≡ None → ⊥
       some_named {A = A} o named none = let bad : IsSome {T = A} None = subst IsSome none named in true≢false (sym bad)
@@ -131,7 +132,7 @@ module _ {R W1 W2 : Type 0} (remaining : R → Option (List ℕ)) (outs : W1 →
   -- its report couldn't be printed
   unprinted : (ended status : ℕ) (summary : Option Summary) → status ≡ 124 → (AsksNothingAfter invocation → ⊥) → HasEnded remaining outs errs invocation run input out err ended summary → IsPerformed remaining outs errs invocation input out err status
   unprinted ended status summary fault asks (inl unread) = inr (inl fault)
-  unprinted ended status summary fault asks (inr (before, said, was, handed)) = inr (inr (inr (asks, fault, before, said, was)))
+  unprinted ended status summary fault asks (inr (before, said, was, handed)) = inr (inr (inr (inl (asks, fault, before, said, was))))
 
   pub performed : {F : Type 0} (file : Option F) (ended status : ℕ) (summary : Option Summary) → invocation ≡ asked.Run run → (run.report ≡ None) ↔ (file ≡ None)
       → ((file ≡ None) ⊎ (summary ≡ None) → status ≡ ended) → (status ≡ ended) ⊎ (status ≡ 124) → HasEnded remaining outs errs invocation run input out err ended summary → IsPerformed remaining outs errs invocation input out err status
@@ -139,3 +140,10 @@ module _ {R W1 W2 : Type 0} (remaining : R → Option (List ℕ)) (outs : W1 →
   performed (Some f) ended status summary same no_file none (inl own) ends = so_ended ended status summary same own ends
   performed (Some f) ended status summary same no_file none (inr fault) ends =
       unprinted ended status summary fault (λ asks_nothing. none-some f (sym (no_file.0 ((subst AsksNothingAfter same asks_nothing).0)))) ends
+
+  -- ---- a list of tests
+
+  pub tests_performed : (status : ℕ) → invocation ≡ asked.Run run → (status ≡ 122) ⊎ ((status ≡ 124) ⊎ ((status ≡ 0) × HasTested (asked.Run run))) → IsPerformed remaining outs errs invocation input out err status
+  tests_performed status same (inl memory) = inl memory
+  tests_performed status same (inr (inl fault)) = inr (inl fault)
+  tests_performed status same (inr (inr (zero, tested))) = inr (inr (inr (inr (zero, subst HasTested (sym same) tested))))

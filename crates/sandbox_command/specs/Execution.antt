@@ -77,6 +77,10 @@ module _ {D R W1 W2 : Type 0} (is_honest : D → Type 0) (disk : D → Disk) (se
         (λ c. LeftByOpening is_honest disk sectors_on failures (volume_of run) volume c ⊎ LeftByRun is_honest disk sectors_on failures remaining out_contents err_contents Follows m run (given settings volume input out err) left launched c)
     pub honest : is_honest device → is_honest left.device
 
+  -- the volume is refused, or the module is launched with it
+  abbrev pub RunsOn : (Option (List ℕ) → Option (List ℕ) → Type 0) → Run → Module → Text → D → R → W1 → W2 → Executed D R W1 W2 → Type 0
+  RunsOn Follows run m random device input out err left = NoVolume Follows run device input out err left ⊎ OnVolume Follows run m random device input out err left
+
   -- Before a volume was opened: the device is as it was, and so are the input and the output.
   pub record IsUntouched (Follows : Option (List ℕ) → Option (List ℕ) → Type 0) (device : D) (input : R) (out : W1) (err : W2) (left : Executed D R W1 W2) : Type 0 where
     pub device_is : left.device ≡ device
@@ -89,8 +93,7 @@ module _ {D R W1 W2 : Type 0} (is_honest : D → Type 0) (disk : D → Disk) (se
   Runs Follows run bytes random device input out err left =
       (NotSupplied run left.status left.summary × IsUntouched Follows device input out err left)
       ⊎ ((NotLoaded run bytes left.status left.summary × IsUntouched Follows device input out err left)
-      ⊎ ((m : Module) × Spells bytes m × IsValid m
-      × (NoVolume Follows run device input out err left ⊎ OnVolume Follows run m random device input out err left)))
+      ⊎ ((m : Module) × Spells bytes m × IsValid m × RunsOn Follows run m random device input out err left))
 
   -- A module runs on the volume of a device, and the side of errors is followed as is said; a device is formatted; a task is
   -- done with the volume on a device, a tar stream brought into it, or one of its directories printed as one; the lines that

@@ -25,18 +25,22 @@ use Rattle.sandbox_command.specs.declared.streams.Source.{Source}
 use Rattle.sandbox_command.specs.declared.streams.Sink.{Sink}
 use Rattle.sandbox_command.specs.Sources.{AreStreams, sink_contents, source_remaining}
 use Rattle.sandbox_command.specs.Status.{command_line_status, words_status}
+use Rattle.sandbox_command.specs.Testing.{HasTested}
+pub use Rattle.sandbox_command.specs.Beginning.{IsImage, IsUnread, memory_disk}
 
--- what is known of the disk of a device in memory, and of one in a file
-abbrev pub memory_disk : RamDevice → Disk
-memory_disk d = held d.sectors d.past.images
-
+-- what is known of the disk of a device in a file
 abbrev pub file_disk : FileDevice → Disk
 file_disk d = kept d.sectors d.moments.unsynced d.moments.times
 
+-- what each run of a list of tests has of its own, or can't have
+abbrev pub IsForOneRun : Run → Type 0
+IsForOneRun run = IsSome run.stdin ⊎ (IsSome run.stdout ⊎ (IsSome run.stderr ⊎ (IsSome run.report ⊎ (IsSome run.volume ⊎ IsSome run.volume_out))))
+
 -- A run whose options don't go together: an image beside a volume of its own, a file that its volume is to be handed out
--- into without an image, or a seed beside random bytes.
+-- into without an image, a seed beside random bytes, or a list of tests beside what is for one run.
 abbrev pub Clashes : Invocation → Type 0
-Clashes (asked.Run run) = (IsSome run.image × IsSome run.volume) ⊎ ((IsSome run.volume_out × (run.image ≡ None)) ⊎ (IsSome run.seed × IsSome run.random))
+Clashes (asked.Run run) = (IsSome run.image × IsSome run.volume) ⊎ ((IsSome run.volume_out × (run.image ≡ None)) ⊎ ((IsSome run.seed × IsSome run.random)
+    ⊎ (IsSome run.tests × IsForOneRun run)))
 Clashes _ = ⊥
 
 -- a run whose volume is in memory, since it names no file for one; and inspecting a module, which has no use of one
@@ -50,17 +54,6 @@ NamesNoVolume _ = ⊥
 abbrev pub AsksNothingAfter : Invocation → Type 0
 AsksNothingAfter (asked.Run run) = (run.report ≡ None) × (run.volume_out ≡ None)
 AsksNothingAfter _ = Unit {0}
-
--- A run whose files can't be read, or for which memory was wanting before it was executed, with what its report says.
-abbrev pub IsUnread : Run → (status : ℕ) → Option Summary → Type 0
-IsUnread run status summary =
-    ((status ≡ 122) × (summary ≡ Some (not_run run reason.Memory became.None status)))
-    ⊎ ((status ≡ 124) × (summary ≡ Some (not_run run reason.File became.None status)))
-
--- the sectors of an image, 65,536 at most; without one 202 of zeros
-abbrev pub IsImage : Option (Bor Text) → List (List ℕ) → Type 0
-IsImage None sectors = sectors ≡ replicate 202 (replicate 512 0)
-IsImage (Some file) sectors = length sectors ≤ 65536
 
 -- the device in memory that a run begins with, or any where there is no use of it
 abbrev pub IsNewInMemory : Invocation → RamDevice → Type 0
@@ -126,11 +119,13 @@ module _ {R W1 W2 : Type 0} (remaining : R → Option (List ℕ)) (out_contents 
 
   -- A file or memory is refused before anything is executed, or what is asked for doesn't go together. Or the invocation was
   -- executed, and this is its status. Or it asks for a report or for its volume, was executed, and that couldn't be printed.
+  -- Or it names a list of tests, and each was run.
   abbrev pub IsPerformed : Invocation → R → W1 → W2 → ℕ → Type 0
   IsPerformed invocation input out err status =
       (status ≡ 122) ⊎ ((status ≡ 124)
       ⊎ (((summary : Option Summary) × IsExecutedOnFiles invocation input out err status summary)
-      ⊎ ((AsksNothingAfter invocation → ⊥) × (status ≡ 124) × (ended : ℕ) × (summary : Option Summary) × IsExecutedOnFiles invocation input out err ended summary)))
+      ⊎ (((AsksNothingAfter invocation → ⊥) × (status ≡ 124) × (ended : ℕ) × (summary : Option Summary) × IsExecutedOnFiles invocation input out err ended summary)
+      ⊎ ((status ≡ 0) × HasTested invocation))))
 
   -- The words can't be read, or the command line is refused. Or what some words ask for is performed.
   abbrev pub IsAnswered : R → W1 → W2 → ℕ → Type 0

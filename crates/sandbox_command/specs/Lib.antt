@@ -7,5 +7,7 @@ pub mod Reporting
 pub mod Running
 pub mod Inspecting
 pub mod Execution
+pub mod Beginning
+pub mod Testing
 pub mod Files
 pub mod internal

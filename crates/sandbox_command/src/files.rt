@@ -9,14 +9,14 @@ ghost use Rattle.sandbox_command.specs.declared.streams.Source.TheVariants as so
 ghost use Rattle.sandbox_command.specs.declared.streams.Sink.{Sink as SinkValue};
 ghost use Rattle.sandbox_command.specs.declared.streams.Sink.TheVariants as sink;
 ghost use Rattle.sandbox_command.specs.Sources.{sink_contents, source_remaining};
-ghost use Rattle.sandbox_command.specs.Files.{Clashes, IsAnswered, IsPerformed};
+ghost use Rattle.sandbox_command.specs.Files.{Clashes, IsAnswered, IsForOneRun, IsPerformed};
 ghost use Rattle.sandbox_command.specs.internal.Inspecting.{IsInspecting};
 
 use crate::program;
 use crate::runs::{perform_run, read_module};
 use crate::streams::{Sink, Source};
 use sandbox_device::{FileDevice, RamDevice};
-use sandbox_words::{Invocation, invocation};
+use sandbox_words::{Invocation, Run, invocation};
 use std::alloc::Global;
 use std::io::{ErrorKind, Read, Write};
 use std::process::ExitCode;
@@ -76,8 +76,8 @@ fn answer_words<R: Read + Drop, W1: Write + Drop, W2: Write + Drop>(
     }
 }
 
-/// Executes the invocation on the files that it names: a module, its volume and its streams, a file that is made or
-/// lengthened for its sectors, or a volume. No contract says what a file holds. Where one can't be
+/// Executes the invocation on the files that it names: a module, its volume and its streams, a module and a list of tests
+/// that it is run on, a file that is made or lengthened for its sectors, or a volume. No contract says what a file holds. Where one can't be
 /// read or written, or the report of a run can't be printed, or its volume not be handed out, the status is 124, or 122
 /// for want of memory. Options of a run that don't go together are refused before a file is opened.
 pub fn perform<R: Read + Drop, W1: Write + Drop, W2: Write + Drop>(
@@ -92,7 +92,7 @@ pub fn perform<R: Read + Drop, W1: Write + Drop, W2: Write + Drop>(
     ensures refuses { Clashes invocation.now → result ≡ 124 }
     ensures within { result ≤ 124 }
 {
-    if clashes(invocation) || is_put_off(invocation) {
+    if clashes(invocation) {
         return program::refuse_setting(&mut err);
     }
     let opened = match invocation {
@@ -116,8 +116,20 @@ pub fn perform<R: Read + Drop, W1: Write + Drop, W2: Write + Drop>(
     }
 }
 
+/// Whether a run has what is for one run alone: files of its streams or of its report, or a volume that stays.
+fn is_for_one_run(run: &Run<'_>) -> bool
+    ensures { IsTrue result ↔ IsForOneRun run.now }
+{
+    run.stdin.is_some()
+        || run.stdout.is_some()
+        || run.stderr.is_some()
+        || run.report.is_some()
+        || run.volume.is_some()
+        || run.volume_out.is_some()
+}
+
 /// Whether a run has options that don't go together: an image beside a volume, what its volume is to be handed out into
-/// without an image, or a seed beside random bytes.
+/// without an image, a seed beside random bytes, or a list of tests beside what is for one run.
 fn clashes(invocation: &Invocation<'_>) -> bool
     ensures { IsTrue result ↔ Clashes invocation.now }
 {
@@ -126,16 +138,8 @@ fn clashes(invocation: &Invocation<'_>) -> bool
             (run.image.is_some() && run.volume.is_some())
                 || (run.volume_out.is_some() && run.image.is_none())
                 || (run.seed.is_some() && run.random.is_some())
+                || (run.tests.is_some() && is_for_one_run(run))
         }
-        _ => false,
-    }
-}
-
-/// Whether it is something that isn't done yet.
-fn is_put_off(invocation: &Invocation<'_>) -> bool {
-    match invocation {
-        // wired later
-        Invocation::Run(run) => run.tests.is_some(),
         _ => false,
     }
 }

@@ -11,6 +11,7 @@ mod reporting;
 mod runs;
 mod streams;
 mod supplies;
+mod testing;
 
 pub use files::{exit_code, perform};
 pub use program::{Executed, execute, refuse_command_line, refuse_words};

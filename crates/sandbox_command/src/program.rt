@@ -13,7 +13,7 @@ ghost use Rattle.sandbox_command.specs.Reporting.{kept_where_not_begun, not_run,
 ghost use Rattle.sandbox_command.specs.Running.{Launches, device_of};
 ghost use Rattle.sandbox_command.specs.internal.Seeds.{with_seed};
 ghost use Rattle.sandbox_command.specs.internal.Supplies.{AreSupplies};
-ghost use Rattle.sandbox_command.specs.Execution.{NoVolume, OnVolume, Runs, Executes};
+ghost use Rattle.sandbox_command.specs.Execution.{RunsOn, Runs, Executes};
 
 use crate::ending::ended;
 use crate::inspecting::inspect;
@@ -25,7 +25,7 @@ use crate::supplies::{Supplies, settings, supplied};
 use run_report::{Counted, End, Fault, Kept, Summary};
 use sandbox_core::{
     HostParts, LoadFault, Outcome, RefusedSession, Report, Session, SessionFault, Tally, Valid,
-    run_counted,
+    run_counted_with_module,
 };
 use sandbox_words::{Invocation, Run};
 use std::alloc::Global;
@@ -41,7 +41,7 @@ const TRAPPED: u8 = 120;
 
 const OUT_OF_FUEL: u8 = 121;
 
-const OUT_OF_MEMORY: u8 = 122;
+pub(crate) const OUT_OF_MEMORY: u8 = 122;
 
 pub(crate) const FAULT: u8 = 124;
 
@@ -63,7 +63,7 @@ pub struct Executed<D, R, W1, W2> {
 }
 
 /// The status of a module that is refused.
-fn load_status(fault: LoadFault) -> u8
+pub(crate) fn load_status(fault: LoadFault) -> u8
     ensures { result ≡ load_status fault }
 {
     match fault {
@@ -73,7 +73,7 @@ fn load_status(fault: LoadFault) -> u8
 }
 
 /// The status of a run that gets no session.
-fn session_status(fault: SessionFault) -> u8
+pub(crate) fn session_status(fault: SessionFault) -> u8
     ensures { result ≡ session_status fault }
 {
     match fault {
@@ -291,26 +291,26 @@ fn reported<D: Device + Drop, R: Drop, W1: Write + Drop, W2: Write + Drop>(
     left
 }
 
-/// Ends a run that could not begin: its fault's status. Gives the device of the volume and the streams back.
-fn not_begun<D: Device + Drop, R: Drop, W1: Drop, W2: Drop>(
+/// Ends a run that could not begin: its fault's status. Gives the module, the device of the volume and the streams back.
+fn not_begun<'a, D: Device + Drop, R: Drop, W1: Drop, W2: Drop>(
     run: &Run<'_>,
-    refused: RefusedSession<'_, '_, '_, D, Counted<R>, Counted<W1>, Counted<W2>>,
-) -> Executed<D, R, W1, W2>
-    ensures ends { result.status ≡ session_status refused.entry.fault }
-    ensures flushed { result.flushed ≡ true }
-    ensures summary { result.summary ≡ Some (not_run run.now (session_reason refused.entry.fault)
-        (kept_where_not_begun run.now.volume refused.entry.fault) result.status) }
-    ensures device { result.device ≡ refused.entry.parts.volume.device }
-    ensures input { result.input ≡ refused.entry.parts.input.stream }
-    ensures out { result.out ≡ refused.entry.parts.out.stream }
-    ensures err { result.err ≡ refused.entry.parts.err.stream }
+    refused: RefusedSession<'a, '_, '_, D, Counted<R>, Counted<W1>, Counted<W2>>,
+) -> (Valid<'a>, Executed<D, R, W1, W2>)
+    ensures module { result.0 ≡ refused.entry.valid }
+    ensures ends { result.1.status ≡ session_status refused.entry.fault }
+    ensures flushed { result.1.flushed ≡ true }
+    ensures summary { result.1.summary ≡ Some (not_run run.now (session_reason refused.entry.fault)
+        (kept_where_not_begun run.now.volume refused.entry.fault) result.1.status) }
+    ensures device { result.1.device ≡ refused.entry.parts.volume.device }
+    ensures input { result.1.input ≡ refused.entry.parts.input.stream }
+    ensures out { result.1.out ≡ refused.entry.parts.out.stream }
+    ensures err { result.1.err ≡ refused.entry.parts.err.stream }
 {
     let RefusedSession {
         valid,
         parts,
         fault,
     } = refused;
-    drop(valid);
     let HostParts {
         volume,
         input,
@@ -320,7 +320,7 @@ fn not_begun<D: Device + Drop, R: Drop, W1: Drop, W2: Drop>(
     } = parts;
     let status = session_status(fault);
     let kept = kept_where_not_begun(run.volume, fault);
-    Executed {
+    let left = Executed {
         status,
         summary: Some(not_run(run, session_reason(fault), kept, status)),
         flushed: true,
@@ -328,7 +328,8 @@ fn not_begun<D: Device + Drop, R: Drop, W1: Drop, W2: Drop>(
         input: input.stream,
         out: out.stream,
         err: err.stream,
-    }
+    };
+    (valid, left)
 }
 
 /// Gives a session the random bytes of a seed, where the words of a run name one.
@@ -344,28 +345,30 @@ fn seed<D: Device + Drop, R: Read + Drop, W1: Write + Drop, W2: Write + Drop>(
     }
 }
 
-/// Runs a session that has used nothing within the limits of a run, with the random bytes of its seed.
-fn run_within<D: Device + Drop, R: Read + Drop, W1: Write + Drop, W2: Write + Drop>(
+/// Runs a session that has used nothing within the limits of a run, with the random bytes of its seed. Gives its module back.
+fn run_within<'a, D: Device + Drop, R: Read + Drop, W1: Write + Drop, W2: Write + Drop>(
     run: &Run<'_>,
-    mut session: Session<'_, '_, '_, D, R, W1, W2>,
-) -> (Report<D, R, W1, W2>, Tally)
+    mut session: Session<'a, '_, '_, D, R, W1, W2>,
+) -> (Valid<'a>, Report<D, R, W1, W2>, Tally)
     requires { (used_by session ≡ 0) × (session.host.generator ≡ None) }
-    ensures { ReportsCounted D.honest D.disk D.size D.failures R.remaining W1.contents W2.contents (with_seed run.now.seed session.entry) run.now.limits.fuel result.0 result.1 }
+    ensures module { result.0 ≡ session.entry.machine.valid }
+    ensures counted { ReportsCounted D.honest D.disk D.size D.failures R.remaining W1.contents W2.contents (with_seed run.now.seed session.entry) run.now.limits.fuel result.1 result.2 }
 {
     session.limit_values(run.limits.values as usize);
     seed(run, &mut session);
-    run_counted(session, run.limits.fuel)
+    run_counted_with_module(session, run.limits.fuel)
 }
 
-/// Runs a valid module with these settings on an open volume, whose device it gives back.
-fn launch<D: Device + Drop, R: Read + Drop, W1: Write + Drop, W2: Write + Drop>(
+/// Runs a valid module with these settings on an open volume. Gives the module and the volume's device back.
+fn launch<'a, D: Device + Drop, R: Read + Drop, W1: Write + Drop, W2: Write + Drop>(
     alloc: Global,
     run: &Run<'_>,
-    valid: Valid<'_>,
+    valid: Valid<'a>,
     parts: HostParts<'_, '_, D, R, W1, W2>,
-) -> Executed<D, R, W1, W2>
-    ensures { Launches D.honest D.disk D.size D.failures R.remaining W1.contents W2.contents Keeps
-        valid.entry run.now parts.entry result }
+) -> (Valid<'a>, Executed<D, R, W1, W2>)
+    ensures module { result.0 ≡ valid.entry }
+    ensures launches { Launches D.honest D.disk D.size D.failures R.remaining W1.contents W2.contents Keeps
+        valid.entry run.now parts.entry result.1 }
 {
     let HostParts {
         settings,
@@ -379,38 +382,36 @@ fn launch<D: Device + Drop, R: Read + Drop, W1: Write + Drop, W2: Write + Drop>(
     let complaints = Counted::new(err);
     match Session::new(alloc, valid, settings, volume, taken, given, complaints) {
         Ok(session) => {
-            let (counted, tally) = run_within(run, session);
-            reported(run, counted, tally)
+            let (valid, counted, tally) = run_within(run, session);
+            (valid, reported(run, counted, tally))
         }
         Err(refused) => not_begun(run, refused),
     }
 }
 
-/// Runs a valid module on the volume of a device, with random bytes, and gives the device back.
-fn run_valid<D: Device + Drop, R: Read + Drop, W1: Write + Drop, W2: Write + Drop>(
+/// Runs a valid module on the volume of a device, with random bytes, and gives the module and the device back.
+pub(crate) fn run_valid<'a, D: Device + Drop, R: Read + Drop, W1: Write + Drop, W2: Write + Drop>(
     alloc: Global,
     run: &Run<'_>,
-    valid: Valid<'_>,
+    valid: Valid<'a>,
     supplies: &Supplies<'_>,
     random: &[u8],
     device: D,
     input: R,
     out: W1,
     err: W2,
-) -> Executed<D, R, W1, W2>
+) -> (Valid<'a>, Executed<D, R, W1, W2>)
     requires { AreSupplies run.now supplies.now }
-    ensures { NoVolume D.honest D.disk D.size D.failures R.remaining W1.contents W2.contents Keeps
-        run.now device input out err result
-        ⊎ OnVolume D.honest D.disk D.size D.failures R.remaining W1.contents W2.contents Keeps
-        run.now valid.entry random.now device input out err result }
+    ensures module { result.0 ≡ valid.entry }
+    ensures runs { RunsOn D.honest D.disk D.size D.failures R.remaining W1.contents W2.contents Keeps
+        run.now valid.entry random.now device input out err result.1 }
 {
     let volume = match open_for_run(alloc, run.volume.or(run.image), device) {
         Ok(volume) => volume,
         Err(Refused { device, fault }) => {
-            drop(valid);
             let status = volume_status(fault);
             let kept = kept_where_refused(fault);
-            return Executed {
+            let left = Executed {
                 status,
                 summary: Some(not_run(run, Fault::Volume(fault), kept, status)),
                 flushed: true,
@@ -419,6 +420,7 @@ fn run_valid<D: Device + Drop, R: Read + Drop, W1: Write + Drop, W2: Write + Dro
                 out,
                 err,
             };
+            return (valid, left);
         }
     };
     let parts = HostParts {
@@ -449,9 +451,11 @@ pub(crate) fn run<D: Device + Drop, R: Read + Drop, W1: Write + Drop, W2: Write 
     let (status, fault) = match supplied(alloc, run) {
         Ok(supplies) => match sandbox_core::load(alloc, module) {
             Ok(valid) => {
-                return run_valid(
+                let (valid, left) = run_valid(
                     alloc, run, valid, &supplies, random, device, input, out, err,
                 );
+                drop(valid);
+                return left;
             }
             Err(fault) => (load_status(fault), Fault::Module(fault)),
         },

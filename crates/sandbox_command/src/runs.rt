@@ -20,6 +20,7 @@ use crate::program;
 use crate::program::Executed;
 use crate::reporting::not_run;
 use crate::streams::{Sink, Source};
+use crate::testing::perform_tests;
 use run_report::{End, Fault, Kept, Summary};
 use sandbox_device::{FileDevice, RamDevice};
 use sandbox_words::{Invocation, Run};
@@ -61,7 +62,7 @@ struct Streams<R, W1, W2> {
     lines: Option<W2>,
 }
 
-/// Makes the file of a run's report, executes the run, and reports how it ended.
+/// Makes the file of a run's report, executes the run, and reports how it ended; or runs the module on a list of tests.
 pub(crate) fn perform_run<R: Read + Drop, W1: Write + Drop, W2: Write + Drop>(
     rt: &HostRuntime,
     invocation: &Invocation<'_>,
@@ -75,6 +76,9 @@ pub(crate) fn perform_run<R: Read + Drop, W1: Write + Drop, W2: Write + Drop>(
         invocation.now input out err result }
     ensures within { result ≤ 124 }
 {
+    if let Some(list) = run.tests {
+        return perform_tests(rt, run, list, err);
+    }
     match made_file(rt, run.report) {
         Ok(file) => run_and_report(rt, file, invocation, run, input, out, err).0,
         Err(error) => refuse(&error, err),
@@ -297,7 +301,7 @@ fn run_in_memory<R: Read + Drop, W1: Write + Drop, W2: Write + Drop>(
 }
 
 /// The sectors in memory that a run begins with: those of its image, or new ones.
-fn memory_of(rt: &HostRuntime, run: &Run<'_>) -> io::Result<RamDevice>
+pub(crate) fn memory_of(rt: &HostRuntime, run: &Run<'_>) -> io::Result<RamDevice>
     ensures { IfOk result (λ device. IsImage run.now.image device.sectors) }
 {
     match run.image {
@@ -315,18 +319,14 @@ fn lines_of<R: Drop, W1: Drop, W2: Drop>(streams: Streams<R, W1, W2>) -> Sink<W2
     }
 }
 
-/// Refuses a run for want of memory before it begins.
-fn out_of_memory<W: Write + Drop>(run: &Run<'_>, mut err: W) -> Ended<W>
-    ensures status { result.status ≡ 122 }
-    ensures summary { result.summary ≡ Some (not_run run.now reason.Memory kept.None result.status) }
+/// What the report says of a run one of whose files can't be read or made.
+pub(crate) fn unread(run: &Run<'_>, error: &io::Error) -> Summary
+    ensures { IsUnread run.now result.status (Some result) }
 {
-    let status = program::out_of_memory(&mut err);
-    let summary = Some(not_run(run, Fault::Memory, Kept::None, status));
-    Ended {
-        status,
-        summary,
-        err,
+    if error.kind() == ErrorKind::OutOfMemory {
+        return not_run(run, Fault::Memory, Kept::None, program::OUT_OF_MEMORY);
     }
+    not_run(run, Fault::File, Kept::None, program::FAULT)
 }
 
 /// Refuses a run one of whose files can't be read or made.
@@ -334,14 +334,11 @@ fn refused<W: Write + Drop>(run: &Run<'_>, error: &io::Error, mut err: W) -> End
     ensures status { (result.status ≡ 122) ⊎ (result.status ≡ 124) }
     ensures unread { IsUnread run.now result.status result.summary }
 {
-    if error.kind() == ErrorKind::OutOfMemory {
-        return out_of_memory(run, err);
-    }
-    let status = program::refuse_file(&mut err);
-    let summary = Some(not_run(run, Fault::File, Kept::None, status));
+    let summary = unread(run, error);
+    program::tell_end(&mut err, &summary);
     Ended {
-        status,
-        summary,
+        status: summary.status,
+        summary: Some(summary),
         err,
     }
 }
@@ -461,7 +458,7 @@ fn not_kept<W: Write + Drop>(ended: Ended<W>) -> Ended<W>
 }
 
 /// The bytes of the module's file, and of the random bytes' where the run names one.
-fn read_files(rt: &HostRuntime, run: &Run<'_>) -> io::Result<(Vec<u8>, Vec<u8>)> {
+pub(crate) fn read_files(rt: &HostRuntime, run: &Run<'_>) -> io::Result<(Vec<u8>, Vec<u8>)> {
     let module = read_module(rt, run.module)?;
     let random = match run.random {
         Some(file) => read_file(rt, file, RANDOM_READ)?,

@@ -15,8 +15,8 @@ use Rattle.sandbox_command.proofs.Seeding.{opens_seeded, shares_seeded}
 use Rattle.sandbox_command.proofs.program.launch.Goals as goal
 
 -- the session ran
-pub returns-in-Ok : goal.returns-in-Ok
-returns-in-Ok g c =
+pub returns-in-Ok-clause-launches : goal.returns-in-Ok-clause-launches
+returns-in-Ok-clause-launches g c =
     let honest = g.D.Device.honest in
     let disk = g.D.Device.disk in
     let size = g.D.Device.size in
@@ -35,18 +35,18 @@ returns-in-Ok g c =
     (subst (λ (p : HostParts g.row.D.Denot (Counted g.row.R.Denot) (Counted g.row.W1.Denot) (Counted g.row.W2.Denot)). Shares honest disk size failures p began_with) same c.in-Ok.ensures.shares) in
     let i = opens.starts.instance in
     let first = first_configuration opens.starts.entered opens.starts.store in
-    let counted = c.run_within-counted.ensures in
+    let counted = c.run_within-valid.ensures.counted in
     let reports = counted.reports in
     let last = reports.last.host in
     let run = reports.run i first opens.starts.stands in
     let ended = c.reported.ensures in
-    let back = ended.device ∙ device_back honest disk size failures reports.volume.new c.run_within-counted.result.0.volume reports.volume.handed_back in
+    let back = ended.device ∙ device_back honest disk size failures reports.volume.new c.run_within-valid.result.1.volume reports.volume.handed_back in
     inr (record {
       session = s;
       opens = opens;
       shares = shares;
-      report = c.run_within-counted.result.0;
-      tally = c.run_within-counted.result.1;
+      report = c.run_within-valid.result.1;
+      tally = c.run_within-valid.result.2;
       counted = counted;
       ends = ended.ends;
       summary = ended.summary;
@@ -56,7 +56,7 @@ returns-in-Ok g c =
       err = subst (λ (w : Counted g.row.W2.Denot). Keeps (errs w) (g.W2.Write.contents c.reported.result.err)) reports.err ended.err;
       over_paths = λ is. reach_moves honest disk size failures remaining outs errs i s.host last first run.last run.answers run.reach (shares.reads.kept.honest.0 is);
       crash = λ is lasts.
-          subst (λ (d : g.row.D.Denot). Leaves (disk parts.volume.device) (disk d) (StandsInRun honest disk size failures g.R.Read.remaining g.W1.Write.contents g.W2.Write.contents i s.host first c.args.run.now.limits.fuel c.run_within-counted.result.0 last _ run))
+          subst (λ (d : g.row.D.Denot). Leaves (disk parts.volume.device) (disk d) (StandsInRun honest disk size failures g.R.Read.remaining g.W1.Write.contents g.W2.Write.contents i s.host first c.args.run.now.limits.fuel c.run_within-valid.result.1 last _ run))
           (sym back)
           (began (Host honest disk size failures g.R.Read.remaining g.W1.Write.contents g.W2.Write.contents) (HostCalls honest disk size failures g.R.Read.remaining g.W1.Write.contents g.W2.Write.contents) (λ h. disk h.volume.device) (λ h. h.volume.numbers) (λ h. h.volume.tree)
           i s.host last first run.last run.answers (disk parts.volume.device) (disk reports.volume.new.device) parts.volume.numbers parts.volume.tree run.reach (sym {b = parts.volume.numbers} shares.reads.kept.numbers) (sym {b = parts.volume.tree} (shares.reads.tree is))
@@ -64,8 +64,8 @@ returns-in-Ok g c =
     })
 
 -- there is no session
-pub returns-in-Err : goal.returns-in-Err
-returns-in-Err g c =
+pub returns-in-Err-clause-launches : goal.returns-in-Err-clause-launches
+returns-in-Err-clause-launches g c =
     let parts = c.args.parts in
     let same = counting_from parts c.new-taken.result c.new-given.result c.new-complaints.result c.new-taken.ensures c.new-given.ensures c.new-complaints.ensures in
     let back = c.in-Err.ensures.hands_back in
@@ -87,3 +87,9 @@ returns-in-Err g c =
             (sym (ended.err ∙ ap (λ (w : Counted g.row.W2.Denot). w.stream) (back.err ∙ c.new-complaints.ensures))) (Keeps-refl (g.W2.Write.contents parts.err));
       };
     })
+
+pub returns-in-Ok-clause-module : goal.returns-in-Ok-clause-module
+returns-in-Ok-clause-module g c = c.run_within-valid.ensures.module ∙ c.in-Ok.ensures.opens.starts.module_is
+
+pub returns-in-Err-clause-module : goal.returns-in-Err-clause-module
+returns-in-Err-clause-module g c = c.not_begun.ensures.module ∙ c.in-Err.ensures.hands_back.valid

@@ -10,7 +10,7 @@ use Rattle.sandbox_command.proofs.program.run.Goals.{in-Ok+in-Err-load, in-Err}
 pub returns-in-Ok-load : goal.returns-in-Ok-load
 returns-in-Ok-load g c =
     let found = c.in-Ok-load.ensures.found in
-    inr (inr (c.in-Ok-load.valid, found.0, found.1, c.run_valid.ensures))
+    inr (inr (c.in-Ok-load.valid, found.0, found.1, c.run_valid-valid.ensures.runs))
 
 -- the words are refused, or the bytes
 pub returns : goal.returns

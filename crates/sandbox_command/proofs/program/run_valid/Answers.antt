@@ -10,8 +10,8 @@ use Rattle.sandbox_command.proofs.Began.{launch_honest, opened_honest, whole_cra
 use Rattle.sandbox_command.proofs.program.run_valid.Goals as goal
 
 -- the volume is refused
-pub returns-in-Err : goal.returns-in-Err
-returns-in-Err g c =
+pub returns-in-Err-clause-runs : goal.returns-in-Err-clause-runs
+returns-in-Err-clause-runs g c =
     inl (record {
       refused = c.in-Err.field-0;
       why = subst (λ file. IsRefusedFor g.D.Device.honest g.D.Device.disk g.D.Device.size g.D.Device.failures file c.args.device c.in-Err.field-0) c.or.ensures c.in-Err.ensures.refused;
@@ -23,8 +23,8 @@ returns-in-Err g c =
     })
 
 -- the module was launched
-pub returns : goal.returns
-returns g c =
+pub returns-clause-runs : goal.returns-clause-runs
+returns-clause-runs g c =
     let honest = g.D.Device.honest in
     let disk = g.D.Device.disk in
     let size = g.D.Device.size in
@@ -34,14 +34,14 @@ returns g c =
     let opened = subst (λ named. IsOpenFor honest disk size failures named c.args.device v) c.or.ensures c.in-Ok.ensures.opens in
     let parts = given c.settings.result v c.args.input c.args.out c.args.err in
     let run = c.args.run.now in
-    let whole = whole_crash honest disk size failures g.R.Read.remaining g.W1.Write.contents g.W2.Write.contents Keeps c.args.valid run parts c.launch.result file c.args.device opened c.launch.ensures in
+    let whole = whole_crash honest disk size failures g.R.Read.remaining g.W1.Write.contents g.W2.Write.contents Keeps c.args.valid run parts c.launch.result.1 file c.args.device opened c.launch.ensures.launches in
     inr (record {
       volume = v;
       opened = opened;
       settings = c.settings.result;
       are_settings = c.settings.ensures;
-      launched = c.launch.ensures;
+      launched = c.launch.ensures.launches;
       crash = whole;
-      honest = λ h. launch_honest honest disk size failures g.R.Read.remaining g.W1.Write.contents g.W2.Write.contents Keeps c.args.valid run parts c.launch.result
-          c.launch.ensures (opened_honest honest disk size failures file c.args.device v opened h);
+      honest = λ h. launch_honest honest disk size failures g.R.Read.remaining g.W1.Write.contents g.W2.Write.contents Keeps c.args.valid run parts c.launch.result.1
+          c.launch.ensures.launches (opened_honest honest disk size failures file c.args.device v opened h);
     })

@@ -4,13 +4,16 @@ use Rattle.sandbox_core.specs.Session.{used_by}
 use Rattle.sandbox_command.specs.internal.Seeds.{with_seed}
 use Rattle.sandbox_command.proofs.program.run_within.Goals as goal
 
-pub run_counted-requires : goal.run_counted-requires
-run_counted-requires g c = ap (λ s. used_by s) (c.seed.ensures ∙ ap (λ s. with_seed c.args.run.now.seed s) c.limit_values.ensures) ∙ c.requires.0
+pub run_counted_with_module-requires : goal.run_counted_with_module-requires
+run_counted_with_module-requires g c = ap (λ s. used_by s) (c.seed.ensures ∙ ap (λ s. with_seed c.args.run.now.seed s) c.limit_values.ensures) ∙ c.requires.0
 
 pub seed-requires : goal.seed-requires
 seed-requires g c = ap (λ s. s.host.generator) c.limit_values.ensures ∙ c.requires.1
 
 -- the limit on values changes nothing that callers see of the session
-pub returns : goal.returns
-returns g c = subst (λ s. ReportsCounted g.D.Device.honest g.D.Device.disk g.D.Device.size g.D.Device.failures g.R.Read.remaining g.W1.Write.contents g.W2.Write.contents s c.args.run.now.limits.fuel c.run_counted.result.0 c.run_counted.result.1)
-    (c.seed.ensures ∙ ap (λ s. with_seed c.args.run.now.seed s) c.limit_values.ensures) c.run_counted.ensures
+pub returns-clause-counted : goal.returns-clause-counted
+returns-clause-counted g c = subst (λ s. ReportsCounted g.D.Device.honest g.D.Device.disk g.D.Device.size g.D.Device.failures g.R.Read.remaining g.W1.Write.contents g.W2.Write.contents s c.args.run.now.limits.fuel c.run_counted_with_module.result.1 c.run_counted_with_module.result.2)
+    (c.seed.ensures ∙ ap (λ s. with_seed c.args.run.now.seed s) c.limit_values.ensures) c.run_counted_with_module.ensures.counted
+
+pub returns-clause-module : goal.returns-clause-module
+returns-clause-module g c = c.run_counted_with_module.ensures.module ∙ ap (λ s. s.machine.valid) (c.seed.ensures ∙ ap (λ s. with_seed c.args.run.now.seed s) c.limit_values.ensures)

@@ -1,0 +1,27 @@
+use Rattle.std.proofs.Common.{Some, inl, inr, refl}
+use Rattle.run_report.specs.declared.fault.Fault.TheVariants as reason
+use Rattle.run_report.specs.declared.summary.Kept.TheVariants as kept
+use Rattle.sandbox_command.specs.Reporting.{not_run, session_reason}
+use Rattle.sandbox_command.proofs.testing.run_tests.Goals as goal
+
+-- the words are refused
+pub returns-in-Err : goal.returns-in-Err
+returns-in-Err g c =
+    inl (
+      Some (not_run c.args.run.now (session_reason c.in-Err.fault) kept.None c.refuse_all.result),
+      record { fault = c.in-Err.fault; uncut = c.in-Err.ensures.refused; ends = c.refuse_all.ensures; summary_is = refl },
+    )
+
+-- a guest ran in each test
+pub returns-then-run_all : goal.returns-then-run_all
+returns-then-run_all g c =
+    let found = c.in-Ok-load.ensures.found in
+    inr (inr (c.in-Ok-load.valid, found.0, found.1, inl (refl, c.run_all.ensures c.if-run_all.true)))
+
+-- the bytes are refused
+pub returns : goal.returns
+returns g c =
+    inr (inl (
+      Some (not_run c.args.run.now (reason.Module c.in-Err-load.fault) kept.None c.load_status.result),
+      record { fault = c.in-Err-load.fault; refused = c.in-Err-load.ensures.no; spells_none = c.in-Err-load.ensures.refused; ends = c.load_status.ensures; summary_is = refl },
+    ))

@@ -1,0 +1,27 @@
+-- What a run begins with: sectors in memory, or files that can't be read.
+use Rattle.std.specs.Prelude.{◌≡◌, ◌⊎◌, ◌≤◌, ℕ, List, Option, Some, None, length, replicate}
+use Rattle.std.specs.Borrow.{Bor}
+use Rattle.vol_sector.specs.Disk.{Disk}
+use Rattle.sandbox_device.specs.declared.ram_device.RamDevice.{RamDevice}
+use Rattle.sandbox_device.specs.Ram.{held}
+use Rattle.run_report.specs.declared.fault.Fault.TheVariants as reason
+use Rattle.run_report.specs.declared.summary.Kept.TheVariants as became
+use Rattle.run_report.specs.declared.summary.Summary.{Summary}
+use Rattle.sandbox_words.specs.declared.request.Run.{Run}
+use Rattle.sandbox_words.specs.Request.{Text}
+use Rattle.sandbox_command.specs.Reporting.{not_run}
+
+-- what is known of the disk of a device in memory
+abbrev pub memory_disk : RamDevice → Disk
+memory_disk d = held d.sectors d.past.images
+
+-- the sectors of an image, 65,536 at most; without one 202 of zeros
+abbrev pub IsImage : Option (Bor Text) → List (List ℕ) → Type 0
+IsImage None sectors = sectors ≡ replicate 202 (replicate 512 0)
+IsImage (Some file) sectors = length sectors ≤ 65536
+
+-- A run whose files can't be read, or for which memory was wanting before it was executed, with what its report says.
+abbrev pub IsUnread : Run → (status : ℕ) → Option Summary → Type 0
+IsUnread run status summary =
+    ((status ≡ 122) × (summary ≡ Some (not_run run reason.Memory became.None status)))
+    ⊎ ((status ≡ 124) × (summary ≡ Some (not_run run reason.File became.None status)))
