@@ -5,7 +5,7 @@ use std::alloc::Global;
 use std::process::Abort;
 use vol_sector::{FlakyDevice, MemoryDevice};
 use vol_tree::Volume;
-use wasi_calls::{HostFault, HostParts, Preopen, RefusedHost, Settings, WasiHost};
+use wasi_calls::{HostFault, HostParts, Preopen, Settings, WasiHost};
 use wasm_store::{Answer, Errno, Host, HostCall, Memory};
 
 /// What a guest does, and what is wanted of it.
@@ -52,9 +52,6 @@ pub static PLAIN: Settings<'static, 'static> = Settings {
 
 pub type Guest<'s, 't> = WasiHost<'s, 't, FlakyDevice<MemoryDevice>, Feeding, Taking, Taking>;
 
-/// What such a host was to be made of, handed back.
-type NoGuest<'s, 't> = RefusedHost<'s, 't, FlakyDevice<MemoryDevice>, Feeding, Taking, Taking>;
-
 /// A volume on a device, of whose operations one fails.
 pub type Flaky = Volume<FlakyDevice<MemoryDevice>>;
 
@@ -69,27 +66,6 @@ pub fn opened_on(alloc: Global, sectors: u32, failing: u64) -> Option<Flaky> {
 /// One of 202 sectors.
 pub fn opened(alloc: Global, failing: u64) -> Option<Flaky> {
     opened_on(alloc, 202, failing)
-}
-
-/// The host, where its directories are open.
-fn kept<'s, 't>(
-    host: Guest<'s, 't>,
-    preopened: Result<(), HostFault>,
-) -> Result<Guest<'s, 't>, HostFault> {
-    match preopened {
-        Ok(()) => Ok(host),
-        Err(fault) => {
-            drop(host);
-            Err(fault)
-        }
-    }
-}
-
-/// Why a host was refused.
-fn fault_of(refused: NoGuest<'_, '_>) -> HostFault {
-    let fault = refused.fault;
-    drop(refused);
-    fault
 }
 
 /// A host of these settings over a volume and this output, with its directories open.
@@ -108,38 +84,35 @@ pub fn host<'s, 't>(
         err: Taking::all(alloc),
     };
     match WasiHost::new(alloc, parts) {
-        Ok(mut host) => {
-            let preopened = host.preopen();
-            kept(host, preopened)
+        Ok(mut host) => match host.preopen() {
+            Ok(()) => Ok(host),
+            Err(fault) => {
+                drop(host);
+                Err(fault)
+            }
+        },
+        Err(refused) => {
+            let fault = refused.fault;
+            drop(refused);
+            Err(fault)
         }
-        Err(refused) => Err(fault_of(refused)),
     }
-}
-
-/// A host that works, over a volume.
-pub fn over<'s, 't>(
-    rt: &impl Abort,
-    alloc: Global,
-    settings: Settings<'s, 't>,
-    volume: Flaky,
-    input: Feeding,
-    out: Taking,
-) -> Guest<'s, 't> {
-    host(alloc, settings, volume, input, out)
-        .ok()
-        .expect(rt, "no host")
 }
 
 /// A host over a fresh volume.
 pub fn fresh<'s, 't>(
-    rt: &impl Abort,
     alloc: Global,
     settings: Settings<'s, 't>,
     input: Feeding,
     out: Taking,
-) -> Guest<'s, 't> {
-    let volume = opened(alloc, 0).expect(rt, "no volume");
-    over(rt, alloc, settings, volume, input, out)
+) -> Option<Guest<'s, 't>> {
+    match opened(alloc, 0) {
+        Some(volume) => host(alloc, settings, volume, input, out).ok(),
+        None => {
+            drop((input, out));
+            None
+        }
+    }
 }
 
 /// Whether memory has these bytes at an address.
@@ -150,9 +123,9 @@ fn has_bytes(memory: &Memory, address: u32, bytes: &[u8]) -> bool {
     }
 }
 
-/// Whether a call answers this errno. (What only makes calls is written for any host, which costs its proof less.)
-fn answers<H: Host>(
-    guest: &mut H,
+/// Whether a call answers this errno.
+fn answers(
+    guest: &mut Guest<'_, '_>,
     memory: &mut Memory,
     call: HostCall,
     arguments: &[u64],
@@ -162,8 +135,8 @@ fn answers<H: Host>(
 }
 
 /// Makes a call on a path, and says whether it answers this errno.
-fn answers_on<H: Host>(
-    guest: &mut H,
+fn answers_on(
+    guest: &mut Guest<'_, '_>,
     memory: &mut Memory,
     call: HostCall,
     path: &[u8],
@@ -187,57 +160,41 @@ fn answers_on<H: Host>(
     }
 }
 
-/// Opens a path with these oflags, and says whether that answers this errno.
-fn opens<H: Host>(
-    guest: &mut H,
-    memory: &mut Memory,
-    path: &[u8],
-    oflags: u64,
-    errno: u16,
-) -> bool {
-    let (at, len) = (u64::from(PATH), path.len() as u64);
-    let arguments = [3, 0, at, len, oflags, u64::MAX, u64::MAX, 0, OPENED];
-    memory.write(PATH, path) && answers(guest, memory, HostCall::PathOpen, &arguments, errno)
-}
-
-/// Renames a path to another, and says whether that answers this errno.
-fn renames<H: Host>(
-    guest: &mut H,
-    memory: &mut Memory,
-    from: &[u8],
-    to: &[u8],
-    errno: u16,
-) -> bool {
-    let (at, other) = (u64::from(PATH), u64::from(OTHER_PATH));
-    let arguments = [3, at, from.len() as u64, 3, other, to.len() as u64];
-    memory.write(PATH, from)
-        && memory.write(OTHER_PATH, to)
-        && answers(guest, memory, HostCall::PathRename, &arguments, errno)
-}
-
 /// Does a step, and says whether it is as wanted.
-fn is_as_wanted<H: Host>(guest: &mut H, memory: &mut Memory, step: &Step<'_>) -> bool {
+fn is_as_wanted(guest: &mut Guest<'_, '_>, memory: &mut Memory, step: &Step<'_>) -> bool {
+    let (at, other) = (u64::from(PATH), u64::from(OTHER_PATH));
     match step {
         Step::Put(address, bytes) => memory.write(*address, bytes),
         Step::Call(call, arguments, errno) => answers(guest, memory, *call, arguments, *errno),
         Step::Has(address, bytes) => has_bytes(memory, *address, bytes),
-        Step::Open(path, oflags, errno) => opens(guest, memory, path, *oflags, *errno),
+        Step::Open(path, oflags, errno) => {
+            let len = path.len() as u64;
+            let arguments = [3, 0, at, len, *oflags, u64::MAX, u64::MAX, 0, OPENED];
+            memory.write(PATH, path)
+                && answers(guest, memory, HostCall::PathOpen, &arguments, *errno)
+        }
         Step::On(call, path, errno) => answers_on(guest, memory, *call, path, *errno),
-        Step::Rename(from, to, errno) => renames(guest, memory, from, to, *errno),
+        Step::Rename(from, to, errno) => {
+            let arguments = [3, at, from.len() as u64, 3, other, to.len() as u64];
+            memory.write(PATH, from)
+                && memory.write(OTHER_PATH, to)
+                && answers(guest, memory, HostCall::PathRename, &arguments, *errno)
+        }
     }
 }
 
-fn assert_all<H: Host>(rt: &impl Abort, guest: &mut H, memory: &mut Memory, steps: &[Step<'_>]) {
+fn assert_all(rt: &impl Abort, guest: &mut Guest<'_, '_>, memory: &mut Memory, steps: &[Step<'_>]) {
     for (i, step) in steps.iter().enumerate() {
         assert!(rt; is_as_wanted(guest, memory, step), "step {i}");
     }
 }
 
 /// Does the steps in turn, in a page of memory.
-pub fn assert_steps<H: Host>(rt: &impl Abort, alloc: Global, guest: &mut H, steps: &[Step<'_>]) {
-    let mut memory = Memory::new(alloc, 1).expect(rt, "no memory");
-    assert_all(rt, guest, &mut memory, steps);
-    drop(memory);
+pub fn assert_steps(rt: &impl Abort, alloc: Global, guest: &mut Guest<'_, '_>, steps: &[Step<'_>]) {
+    match Memory::new(alloc, 1) {
+        Ok(mut memory) => assert_all(rt, guest, &mut memory, steps),
+        Err(_) => panic!(rt; "no memory"),
+    }
 }
 
 /// Does the steps in turn over a fresh volume with these settings, preopened directories and input.
@@ -248,17 +205,25 @@ pub fn assert_fed(
     input: Feeding,
     steps: &[Step<'_>],
 ) {
-    let mut guest = fresh(rt, alloc, settings, input, Taking::all(alloc));
-    assert_steps(rt, alloc, &mut guest, steps);
-    drop(guest);
+    match fresh(alloc, settings, input, Taking::all(alloc)) {
+        Some(mut guest) => {
+            assert_steps(rt, alloc, &mut guest, steps);
+            drop(guest);
+        }
+        None => panic!(rt; "no host"),
+    }
 }
 
 /// Does the steps in turn over a fresh volume, with random bytes from this seed.
 pub fn assert_seeded(rt: &impl Abort, alloc: Global, seed: u64, steps: &[Step<'_>]) {
-    let mut guest = fresh(rt, alloc, PLAIN, Feeding::new(&[]), Taking::all(alloc));
-    guest.seed(seed);
-    assert_steps(rt, alloc, &mut guest, steps);
-    drop(guest);
+    match fresh(alloc, PLAIN, Feeding::new(&[]), Taking::all(alloc)) {
+        Some(mut guest) => {
+            guest.seed(seed);
+            assert_steps(rt, alloc, &mut guest, steps);
+            drop(guest);
+        }
+        None => panic!(rt; "no host"),
+    }
 }
 
 /// The same without input.

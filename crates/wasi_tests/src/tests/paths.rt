@@ -1,7 +1,7 @@
 //! Paths, and what they name.
 
 use super::guest::Step::{Call, Has, On, Open, Put, Rename};
-use super::guest::{Flaky, STAT, Step, assert_plain, assert_steps, host, opened, over};
+use super::guest::{Flaky, STAT, Step, assert_plain, assert_steps, host, opened};
 use super::streams::{Feeding, Taking};
 use std::alloc::Global;
 use std::process::Abort;
@@ -198,17 +198,20 @@ fn within(rt: &impl Abort, alloc: Global, path: &[u8], volume: Flaky, steps: &[S
         guest_name: b"/",
         path,
     }];
-    let mut guest = over(
-        rt,
+    match host(
         alloc,
         seeing(&preopens),
         volume,
         Feeding::new(&[]),
         Taking::all(alloc),
-    );
-    assert_steps(rt, alloc, &mut guest, steps);
-    let HostParts { volume, .. } = guest.into_parts();
-    volume
+    ) {
+        Ok(mut guest) => {
+            assert_steps(rt, alloc, &mut guest, steps);
+            let HostParts { volume, .. } = guest.into_parts();
+            volume
+        }
+        Err(_) => panic!(rt; "no host"),
+    }
 }
 
 /// Makes a directory and a file beside it, does steps with that directory open, and looks at what stands then.
@@ -228,8 +231,10 @@ fn assert_within(rt: &impl Abort, alloc: Global, volume: Flaky) {
 
 #[test]
 fn a_preopened_directory_is_all_there_is(rt: HostRuntime) {
-    let volume = opened(rt.alloc(), 0).expect(&rt, "no volume");
-    assert_within(&rt, rt.alloc(), volume);
+    match opened(rt.alloc(), 0) {
+        Some(volume) => assert_within(&rt, rt.alloc(), volume),
+        None => panic!(rt; "not opened"),
+    }
 }
 
 /// Whether a host over a fresh volume with this directory is refused so.
