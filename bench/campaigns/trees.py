@@ -23,7 +23,7 @@ def content(number, size):
 def stream(members):
     """A tar stream of paths, each with None for a directory or its bytes."""
     out = io.BytesIO()
-    with tarfile.open(fileobj=out, mode="w", format=tarfile.USTAR_FORMAT) as archive:
+    with tarfile.open(fileobj=out, mode="w", format=tarfile.GNU_FORMAT) as archive:
         for path, bytes_of_it in members:
             it = tarfile.TarInfo(path)
             it.type = tarfile.DIRTYPE if bytes_of_it is None else tarfile.REGTYPE
