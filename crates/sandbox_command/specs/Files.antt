@@ -1,6 +1,5 @@
 -- What is done on the files that a command line names (`README.md`, "The program"). No contract says what a file holds.
-use Rattle.std.specs.Prelude.{◌≡◌, ◌⊎◌, ◌≤◌, ℕ, List, Option, Some, None, IsSome, IsSomeAnd, length, min, option_map, replicate}
-use Rattle.std.specs.Borrow.{Bor}
+use Rattle.std.specs.Prelude.{◌≡◌, ◌⊎◌, ◌≤◌, ℕ, List, Option, None, IsSome, IsSomeAnd, length, min, option_map}
 use Rattle.std.specs.Io.KnownBytes.{Keeps}
 use Rattle.std.specs.declared.io.ErrorKind.{ErrorKind as InputKind}
 use Rattle.clap.specs.declared.error.kind.ErrorKind.{ErrorKind as LineKind}
@@ -9,8 +8,6 @@ use Rattle.vol_sector.specs.Disk.{Disk}
 use Rattle.sandbox_device.specs.declared.file_device.FileDevice.{FileDevice}
 use Rattle.sandbox_device.specs.declared.ram_device.RamDevice.{RamDevice}
 use Rattle.sandbox_device.specs.File.{kept, KeepsItsModel}
-use Rattle.sandbox_device.specs.Ram.{held}
-use Rattle.run_report.specs.declared.fault.Fault.TheVariants as reason
 use Rattle.run_report.specs.declared.summary.Kept.TheVariants as became
 use Rattle.run_report.specs.declared.summary.Summary.{Summary}
 use Rattle.sandbox_words.specs.declared.request.Run.{Run}
@@ -20,7 +17,6 @@ use Rattle.sandbox_words.specs.Request.{Text}
 use Rattle.sandbox_words.specs.CommandLine.{AsksFor, program}
 use Rattle.sandbox_command.specs.declared.program.Executed.{Executed}
 use Rattle.sandbox_command.specs.Execution.{ExecutesSo}
-use Rattle.sandbox_command.specs.Reporting.{not_run}
 use Rattle.sandbox_command.specs.declared.streams.Source.{Source}
 use Rattle.sandbox_command.specs.declared.streams.Sink.{Sink}
 use Rattle.sandbox_command.specs.Sources.{AreStreams, sink_contents, source_remaining}

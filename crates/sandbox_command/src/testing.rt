@@ -18,10 +18,9 @@ use sandbox_core::{SessionFault, Valid};
 use sandbox_device::RamDevice;
 use sandbox_words::Run;
 use std::alloc::Global;
-use std::fs;
 use std::fs::File;
-use std::io;
 use std::io::Write;
+use std::{fs, io};
 
 /// The names of a test's files.
 #[derive(Clone, Copy)]

@@ -6,7 +6,7 @@ use Rattle.sandbox_command.specs.declared.streams.Source.TheVariants as source
 use Rattle.sandbox_command.specs.declared.streams.Sink.TheVariants as sink
 use Rattle.sandbox_command.specs.Files.{IsNewInFile, file_disk}
 use Rattle.sandbox_command.specs.Sources.{sink_contents, source_remaining}
-use Rattle.sandbox_command.proofs.Performing.{IsInFile, IsNoRun, no_run, no_volume, so_too, streams_given}
+use Rattle.sandbox_command.proofs.Performing.{IsInFile, no_run, no_volume, so_too, streams_given}
 use Rattle.sandbox_command.proofs.files.perform.Goals as goal
 use Rattle.sandbox_command.proofs.files.perform.Goals.{in-Format, in-Volume, in-Import, in-Export}
 

@@ -1,4 +1,4 @@
-use Rattle.std.proofs.Common.{◌≡◌, ◌⊎◌, ℕ, List, IsSome, inl, inr, refl, sym, subst, length}
+use Rattle.std.proofs.Common.{◌≡◌, ◌⊎◌, ℕ, List, IsSome, inl, inr, refl, sym, subst}
 use Rattle.wasm_module.specs.declared.fault.LoadFault.{LoadFault}
 use Rattle.wasm_module.specs.declared.fault.LoadFault.TheVariants as loading
 use Rattle.sandbox_core.specs.declared.fault.SessionFault.{SessionFault}
