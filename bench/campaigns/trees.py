@@ -83,7 +83,7 @@ def imported(setting):
         succeeded(setting, "put", path, f"/{name}", given=it)
     members = [("d", None), ("d/x", content(1, 700)), ("a", content(2, 31_000)), ("e/f/g", content(3, 100)), ("e", None)]
     if not setting.is_quick:
-        members += [(f"d/{k}", content(k, 900 * k)) for k in range(30)]
+        members += [(f"d/{k}", content(k, 400 * k)) for k in range(30)]
     trees = after_each(old, members)
 
     def right(path, _):
