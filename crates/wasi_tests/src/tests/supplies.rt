@@ -60,8 +60,8 @@ fn random_bytes_are_those_handed_in(rt: HostRuntime) {
     );
 }
 
-/// The first bytes are from the documents: PCG32 as `rand_core` describes `seed_from_u64`, and ChaCha20 by RFC 8439. The
-/// first 16 of seed 42 are `78 48 B5 D7 11 BC 98 83 99 63 17 A3 F9 C9 02 69`.
+/// The first bytes come from the documents: PCG32 as `rand_core` describes `seed_from_u64`, and ChaCha20 by RFC 8439. The
+/// first 16 of seed 42 are `78 48 b5 d7 11 bc 98 83 99 63 17 a3 f9 c9 02 69`.
 #[test]
 fn a_seed_gives_its_bytes(rt: HostRuntime) {
     let steps = [
