@@ -28,7 +28,7 @@ trap_text trap.UninitializedElement = codes "uninitialized element"
 trap_text trap.IndirectCallMismatch = codes "indirect call type mismatch"
 trap_text trap.CallStackExhausted = codes "call stack exhausted"
 
--- what has no number is want of memory
+-- what has no number is that it is out of memory
 abbrev pub refusal_label : Option ℕ → Text
 refusal_label (Some n) = codes "fault"
 refusal_label None = codes "out of memory"

@@ -29,7 +29,7 @@ pub enum Fault {
     Memory,
 }
 
-/// The number of a module's fault; none for want of memory.
+/// The number of a module's fault; none where it is out of memory.
 fn load_number(fault: LoadFault) -> Option<u32>
     ensures { result ≡ load_number fault }
 {
@@ -94,7 +94,7 @@ fn load_text(fault: LoadFault) -> &'static str
     }
 }
 
-/// The number of a volume's fault; none for want of memory.
+/// The number of a volume's fault; none where it is out of memory.
 fn volume_number(fault: VolumeFault) -> Option<u32>
     ensures { result ≡ volume_number fault }
 {
@@ -126,7 +126,7 @@ fn volume_text(fault: VolumeFault) -> &'static str
     }
 }
 
-/// The number of an instance's fault; none for want of memory.
+/// The number of an instance's fault; none where it is out of memory.
 fn instance_number(fault: InstanceFault) -> Option<u32>
     ensures { result ≡ instance_number fault }
 {
@@ -157,7 +157,7 @@ fn instance_text(fault: InstanceFault) -> &'static str
 }
 
 impl Fault {
-    /// Its number, as `sandbox help faults` has it; none for want of memory.
+    /// Its number, as `sandbox help faults` has it; none where it is out of memory.
     pub fn number(self) -> Option<u32>
         ensures { result ≡ fault_number self }
     {
@@ -182,7 +182,7 @@ impl Fault {
         }
     }
 
-    /// It in words, as `sandbox help faults` has it; nothing for want of memory.
+    /// It in words, as `sandbox help faults` has it; nothing where it is out of memory.
     pub fn text(self) -> &'static str
         ensures { result.now ≡ fault_text self }
     {

@@ -22,8 +22,10 @@ module's file.
   14        no function _start without parameters and results is exported
   15        a --dir without =, or whose name is empty or over 255 bytes; over 64
             of them; arguments, or texts of the environment, over 1024 or over
-            65536 bytes; --pages over 65536; --image with --volume; or
-            --volume-out without --image
+            65536 bytes; --pages over 65536; --image with --volume;
+            --volume-out without --image; --seed with --random; --tests with an
+            option for one run; or a line of a list of tests that is not four
+            words
   16        the PATH of a --dir is no directory of the volume
   20        a data segment passes the end of memory
   21        an element segment passes the end of the table

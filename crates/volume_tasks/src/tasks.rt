@@ -70,7 +70,7 @@ fn done_with<D: Device, R: Read, W: Write>(
 }
 
 /// Opens the volume of a device, does a task with it, and gives the device back. What isn't
-/// committed when it ends is given up.
+/// committed when it ends is discarded.
 pub fn perform<D: Device, R: Read, W: Write>(
     alloc: Global,
     device: D,
