@@ -8,7 +8,6 @@ use sandbox_host::{
 };
 use std::alloc::Global;
 use std::process::Abort;
-use std::test::Fail;
 
 /// `HELLO`, which a session keeps.
 static HI: [u8; 168] = HELLO;
@@ -128,41 +127,70 @@ fn has_written(alloc: Global, session: &mut Handle, from: usize, shown: &[u8]) -
     output(alloc, session, 1, from, &mut room) == 3 && room.as_slice() == shown
 }
 
-#[test]
-fn goes_through_a_session(rt: HostRuntime) -> Result<(), Fail> {
-    let alloc = rt.alloc();
+/// Goes through a session to its end, and takes the sectors of its volume.
+fn assert_finishes(
+    rt: &impl Abort,
+    alloc: Global,
+    session: &mut Handle,
+    sectors: &mut [[u8; 512]],
+) {
+    assert_none(rt, wrong_turn(alloc, session));
+    assert!(rt; has_written(alloc, session, 0, b"hi\n."));
+    assert!(rt; volume_out(alloc, session, sectors) == 0);
+    assert!(rt; finish(alloc, session) == OK);
+    assert!(rt; has_written(alloc, session, 1, b"i\n.."));
+    assert!(rt; volume_out(alloc, session, sectors) == 202);
+    assert!(rt; close(alloc, session) == OK);
+}
+
+/// Whether a session over a volume is opened, and closed again.
+fn is_opened(alloc: Global, volume: &VolumeSource<'_>) -> bool {
+    let (mut session, answer) = opened(alloc, volume);
+    let closed = close(alloc, &mut session);
+    drop(session);
+    answer == OK && closed == OK
+}
+
+/// What a session over a fresh volume leaves in the sectors.
+fn assert_session(rt: &impl Abort, alloc: Global, sectors: &mut [[u8; 512]]) {
     let (mut session, answer) = opened(alloc, &FRESH);
     assert!(rt; answer == OK);
-    assert_none(&rt, wrong_turn(alloc, &mut session));
-    assert!(rt; has_written(alloc, &mut session, 0, b"hi\n."));
-    let mut sectors = vec![in alloc; [0; 512]; 202]?;
-    assert!(rt; volume_out(alloc, &mut session, &mut sectors) == 0);
-    assert!(rt; finish(alloc, &mut session) == OK);
-    assert!(rt; has_written(alloc, &mut session, 1, b"i\n.."));
-    assert!(rt; volume_out(alloc, &mut session, &mut sectors) == 202);
-    assert!(rt; close(alloc, &mut session) == OK);
+    assert_finishes(rt, alloc, &mut session, sectors);
+    drop(session);
+}
+
+#[test]
+fn goes_through_a_session(rt: HostRuntime) {
+    let alloc = rt.alloc();
+    let mut sectors = [[0; 512]; 202];
+    assert_session(&rt, alloc, &mut sectors);
     // the sectors are the volume of the next session
     let volume = VolumeSource {
         kind: 1,
         sectors: &sectors,
     };
-    let (mut next, answer) = opened(alloc, &volume);
-    assert!(rt; answer == OK && close(alloc, &mut next) == OK);
-    Ok(())
+    assert!(rt; is_opened(alloc, &volume));
+}
+
+/// What is asked of a handle without a session.
+fn assert_empty(rt: &impl Abort, alloc: Global, none: &mut Handle) {
+    let mut found = told(9, 9, 9);
+    assert!(rt; resume(alloc, none, 1, &mut found) == MISUSE && found == told(9, 9, 9));
+    assert!(rt; finish(alloc, none) == MISUSE && close(alloc, none) == MISUSE);
 }
 
 #[test]
 fn answers_misuse(rt: HostRuntime) {
     let alloc = rt.alloc();
-    let mut found = told(9, 9, 9);
     let mut none = Handle::empty(alloc);
-    assert!(rt; resume(alloc, &mut none, 1, &mut found) == MISUSE && found == told(9, 9, 9));
-    assert!(rt; finish(alloc, &mut none) == MISUSE && close(alloc, &mut none) == MISUSE);
+    assert_empty(&rt, alloc, &mut none);
+    drop(none);
     let unknown = VolumeSource {
         kind: 2,
         sectors: &[],
     };
-    let (_, answer) = opened(alloc, &unknown);
+    let (session, answer) = opened(alloc, &unknown);
+    drop(session);
     assert!(rt; answer == MISUSE);
 }
 
