@@ -22,12 +22,15 @@ type Place = (usize, usize, usize);
 
 /// Whether these are the targets, in order.
 fn are(found: &[Target], want: &[Place]) -> bool {
+    for (i, place) in want.iter().enumerate() {
+        let Some(target) = found.get(i) else {
+            return false;
+        };
+        if (target.position, target.kept, target.height) != *place {
+            return false;
+        }
+    }
     found.len() == want.len()
-        && found.iter().zip(want).all(|(target, place)| (
-            target.position,
-            target.kept,
-            target.height,
-        ) == *place)
 }
 
 /// A function and an instruction in it, and where that leads.

@@ -1,41 +1,8 @@
-//! Tables, globals, and the texts of faults and traps.
+//! The texts of faults and traps.
 
 use std::alloc::Global;
-use std::process::Abort;
-use std::test::Fail;
 use wasm_num::Trap;
-use wasm_store::{Globals, InstanceFault, Table};
-
-/// Puts functions into a table of 3 elements, and asks where they stand.
-fn assert_elements(rt: &impl Abort, table: &mut Table) {
-    assert!(rt; table.len() == 3);
-    assert!(rt; table.set(1, &[7]) && !table.set(2, &[8, 9]));
-    assert!(rt; table.set(3, &[]) && !table.set(4, &[]));
-    assert!(rt; table.get(0) == Some(None) && table.get(1) == Some(Some(7)));
-    assert!(rt; table.get(2) == Some(None) && table.get(3).is_none());
-}
-
-#[test]
-fn tables_hold_functions(rt: HostRuntime) -> Result<(), Fail> {
-    let mut table = Table::new(rt.alloc(), 3)?;
-    assert_elements(&rt, &mut table);
-    Ok(())
-}
-
-/// Asks of two globals, and sets the first.
-fn assert_numbers(rt: &impl Abort, globals: &mut Globals) {
-    assert!(rt; globals.len() == 2);
-    assert!(rt; globals.get(1) == Some(u64::MAX) && globals.get(2).is_none());
-    assert!(rt; globals.set(0, 6) && !globals.set(2, 6));
-    assert!(rt; globals.as_slice() == [6, u64::MAX].as_slice());
-}
-
-#[test]
-fn globals_hold_numbers(rt: HostRuntime) -> Result<(), Fail> {
-    let mut globals = Globals::new(vec![in rt.alloc(); 5, u64::MAX]?);
-    assert_numbers(&rt, &mut globals);
-    Ok(())
-}
+use wasm_store::InstanceFault;
 
 fn is_fault(alloc: Global, fault: InstanceFault, text: &str) -> bool {
     match format!(in alloc; "{fault}") {
