@@ -1,6 +1,6 @@
 //! A device of whose operations one fails, in the middle of a guest's calls.
 
-use super::guest::{Guest, PLAIN, host, opened};
+use super::guest::{PLAIN, host, opened};
 use super::streams::{Feeding, Taking};
 use std::alloc::{AllocError, Global};
 use wasm_store::HostCall::{
@@ -34,7 +34,7 @@ fn working(i: usize) -> u16 {
 }
 
 /// Makes the calls in turn. Once one of them answers 29 all others do. How many answered as they would where all works.
-fn answered(guest: &mut Guest<'_, '_>, memory: &mut Memory) -> Option<usize> {
+fn answered<H: Host>(guest: &mut H, memory: &mut Memory) -> Option<usize> {
     let mut count: usize = 0;
     for (i, (call, arguments)) in CALLS.iter().enumerate() {
         match guest.call(memory, 1, *call, arguments) {
@@ -56,7 +56,7 @@ fn page(alloc: Global) -> Result<Memory, AllocError> {
 }
 
 /// The same in a page of memory.
-fn answered_in_page(alloc: Global, guest: &mut Guest<'_, '_>) -> Option<usize> {
+fn answered_in_page<H: Host>(alloc: Global, guest: &mut H) -> Option<usize> {
     match page(alloc) {
         Ok(mut memory) => answered(guest, &mut memory),
         Err(_) => None,

@@ -1,7 +1,7 @@
 //! Files: their bytes, sizes and positions.
 
 use super::guest::Step::{Call, Has, Open, Put};
-use super::guest::{PLAIN, Step, assert_plain, assert_steps, host, opened_on};
+use super::guest::{PLAIN, Step, assert_plain, assert_steps, opened_on, over};
 use super::streams::{Feeding, Taking};
 use wasm_store::HostCall::{
     FdFilestatGet, FdFilestatSetSize, FdPread, FdPwrite, FdRead, FdSeek, FdTell, FdWrite, PathOpen,
@@ -39,18 +39,17 @@ const LONGEST: &[Step<'static>] = &[
 #[test]
 fn a_size_has_a_limit(rt: HostRuntime) {
     let alloc = rt.alloc();
-    match opened_on(alloc, 1_000, 0) {
-        Some(volume) => {
-            match host(alloc, PLAIN, volume, Feeding::new(&[]), Taking::all(alloc)) {
-                Ok(mut guest) => {
-                    assert_steps(&rt, alloc, &mut guest, LONGEST);
-                    drop(guest);
-                }
-                Err(_) => panic!(rt; "no host"),
-            }
-        }
-        None => panic!(rt; "no volume"),
-    }
+    let volume = opened_on(alloc, 1_000, 0).expect(&rt, "no volume");
+    let mut guest = over(
+        &rt,
+        alloc,
+        PLAIN,
+        volume,
+        Feeding::new(&[]),
+        Taking::all(alloc),
+    );
+    assert_steps(&rt, alloc, &mut guest, LONGEST);
+    drop(guest);
 }
 
 #[test]

@@ -99,20 +99,30 @@ pub fn host<'s, 't>(
     }
 }
 
+/// A host that works, over a volume.
+pub fn over<'s, 't>(
+    rt: &impl Abort,
+    alloc: Global,
+    settings: Settings<'s, 't>,
+    volume: Flaky,
+    input: Feeding,
+    out: Taking,
+) -> Guest<'s, 't> {
+    host(alloc, settings, volume, input, out)
+        .ok()
+        .expect(rt, "no host")
+}
+
 /// A host over a fresh volume.
 pub fn fresh<'s, 't>(
+    rt: &impl Abort,
     alloc: Global,
     settings: Settings<'s, 't>,
     input: Feeding,
     out: Taking,
-) -> Option<Guest<'s, 't>> {
-    match opened(alloc, 0) {
-        Some(volume) => host(alloc, settings, volume, input, out).ok(),
-        None => {
-            drop((input, out));
-            None
-        }
-    }
+) -> Guest<'s, 't> {
+    let volume = opened(alloc, 0).expect(rt, "no volume");
+    over(rt, alloc, settings, volume, input, out)
 }
 
 /// Whether memory has these bytes at an address.
@@ -123,9 +133,9 @@ fn has_bytes(memory: &Memory, address: u32, bytes: &[u8]) -> bool {
     }
 }
 
-/// Whether a call answers this errno.
-fn answers(
-    guest: &mut Guest<'_, '_>,
+/// Whether a call answers this errno. (What only makes calls is written for any host, which costs its proof less.)
+fn answers<H: Host>(
+    guest: &mut H,
     memory: &mut Memory,
     call: HostCall,
     arguments: &[u64],
@@ -135,8 +145,8 @@ fn answers(
 }
 
 /// Makes a call on a path, and says whether it answers this errno.
-fn answers_on(
-    guest: &mut Guest<'_, '_>,
+fn answers_on<H: Host>(
+    guest: &mut H,
     memory: &mut Memory,
     call: HostCall,
     path: &[u8],
@@ -160,41 +170,57 @@ fn answers_on(
     }
 }
 
-/// Does a step, and says whether it is as wanted.
-fn is_as_wanted(guest: &mut Guest<'_, '_>, memory: &mut Memory, step: &Step<'_>) -> bool {
+/// Opens a path with these oflags, and says whether that answers this errno.
+fn opens<H: Host>(
+    guest: &mut H,
+    memory: &mut Memory,
+    path: &[u8],
+    oflags: u64,
+    errno: u16,
+) -> bool {
+    let (at, len) = (u64::from(PATH), path.len() as u64);
+    let arguments = [3, 0, at, len, oflags, u64::MAX, u64::MAX, 0, OPENED];
+    memory.write(PATH, path) && answers(guest, memory, HostCall::PathOpen, &arguments, errno)
+}
+
+/// Renames a path to another, and says whether that answers this errno.
+fn renames<H: Host>(
+    guest: &mut H,
+    memory: &mut Memory,
+    from: &[u8],
+    to: &[u8],
+    errno: u16,
+) -> bool {
     let (at, other) = (u64::from(PATH), u64::from(OTHER_PATH));
+    let arguments = [3, at, from.len() as u64, 3, other, to.len() as u64];
+    memory.write(PATH, from)
+        && memory.write(OTHER_PATH, to)
+        && answers(guest, memory, HostCall::PathRename, &arguments, errno)
+}
+
+/// Does a step, and says whether it is as wanted.
+fn is_as_wanted<H: Host>(guest: &mut H, memory: &mut Memory, step: &Step<'_>) -> bool {
     match step {
         Step::Put(address, bytes) => memory.write(*address, bytes),
         Step::Call(call, arguments, errno) => answers(guest, memory, *call, arguments, *errno),
         Step::Has(address, bytes) => has_bytes(memory, *address, bytes),
-        Step::Open(path, oflags, errno) => {
-            let len = path.len() as u64;
-            let arguments = [3, 0, at, len, *oflags, u64::MAX, u64::MAX, 0, OPENED];
-            memory.write(PATH, path)
-                && answers(guest, memory, HostCall::PathOpen, &arguments, *errno)
-        }
+        Step::Open(path, oflags, errno) => opens(guest, memory, path, *oflags, *errno),
         Step::On(call, path, errno) => answers_on(guest, memory, *call, path, *errno),
-        Step::Rename(from, to, errno) => {
-            let arguments = [3, at, from.len() as u64, 3, other, to.len() as u64];
-            memory.write(PATH, from)
-                && memory.write(OTHER_PATH, to)
-                && answers(guest, memory, HostCall::PathRename, &arguments, *errno)
-        }
+        Step::Rename(from, to, errno) => renames(guest, memory, from, to, *errno),
     }
 }
 
-fn assert_all(rt: &impl Abort, guest: &mut Guest<'_, '_>, memory: &mut Memory, steps: &[Step<'_>]) {
+fn assert_all<H: Host>(rt: &impl Abort, guest: &mut H, memory: &mut Memory, steps: &[Step<'_>]) {
     for (i, step) in steps.iter().enumerate() {
         assert!(rt; is_as_wanted(guest, memory, step), "step {i}");
     }
 }
 
 /// Does the steps in turn, in a page of memory.
-pub fn assert_steps(rt: &impl Abort, alloc: Global, guest: &mut Guest<'_, '_>, steps: &[Step<'_>]) {
-    match Memory::new(alloc, 1) {
-        Ok(mut memory) => assert_all(rt, guest, &mut memory, steps),
-        Err(_) => panic!(rt; "no memory"),
-    }
+pub fn assert_steps<H: Host>(rt: &impl Abort, alloc: Global, guest: &mut H, steps: &[Step<'_>]) {
+    let mut memory = Memory::new(alloc, 1).expect(rt, "no memory");
+    assert_all(rt, guest, &mut memory, steps);
+    drop(memory);
 }
 
 /// Does the steps in turn over a fresh volume with these settings, preopened directories and input.
@@ -205,25 +231,17 @@ pub fn assert_fed(
     input: Feeding,
     steps: &[Step<'_>],
 ) {
-    match fresh(alloc, settings, input, Taking::all(alloc)) {
-        Some(mut guest) => {
-            assert_steps(rt, alloc, &mut guest, steps);
-            drop(guest);
-        }
-        None => panic!(rt; "no host"),
-    }
+    let mut guest = fresh(rt, alloc, settings, input, Taking::all(alloc));
+    assert_steps(rt, alloc, &mut guest, steps);
+    drop(guest);
 }
 
 /// Does the steps in turn over a fresh volume, with random bytes from this seed.
 pub fn assert_seeded(rt: &impl Abort, alloc: Global, seed: u64, steps: &[Step<'_>]) {
-    match fresh(alloc, PLAIN, Feeding::new(&[]), Taking::all(alloc)) {
-        Some(mut guest) => {
-            guest.seed(seed);
-            assert_steps(rt, alloc, &mut guest, steps);
-            drop(guest);
-        }
-        None => panic!(rt; "no host"),
-    }
+    let mut guest = fresh(rt, alloc, PLAIN, Feeding::new(&[]), Taking::all(alloc));
+    guest.seed(seed);
+    assert_steps(rt, alloc, &mut guest, steps);
+    drop(guest);
 }
 
 /// The same without input.

@@ -29,7 +29,7 @@ fn func_type(alloc: Global, params: &[u8], results: &[u8]) -> Result<FuncType, A
 }
 
 /// Whether an import links to what it should.
-fn is_linked(alloc: Global, guest: &Guest<'_, '_>, import: &Import<'_>) -> bool {
+fn is_linked<H: Host>(alloc: Global, guest: &H, import: &Import<'_>) -> bool {
     let (module_name, name, params, results, want) = *import;
     match func_type(alloc, params, results) {
         Ok(func_type) => guest.link(module_name, name, &func_type) == want,
@@ -37,20 +37,21 @@ fn is_linked(alloc: Global, guest: &Guest<'_, '_>, import: &Import<'_>) -> bool 
     }
 }
 
-fn assert_imports(rt: &impl Abort, alloc: Global, guest: &Guest<'_, '_>, imports: &[Import<'_>]) {
+fn assert_imports<H: Host>(rt: &impl Abort, alloc: Global, guest: &H, imports: &[Import<'_>]) {
     for (i, import) in imports.iter().enumerate() {
         assert!(rt; is_linked(alloc, guest, import), "row {i}");
     }
 }
 
+/// A host over a fresh volume, with the root as descriptor 3.
+fn plain(rt: &impl Abort, alloc: Global) -> Guest<'static, 'static> {
+    fresh(rt, alloc, PLAIN, Feeding::new(&[]), Taking::all(alloc))
+}
+
 fn assert_linked(rt: &impl Abort, alloc: Global, imports: &[Import<'_>]) {
-    match fresh(alloc, PLAIN, Feeding::new(&[]), Taking::all(alloc)) {
-        Some(guest) => {
-            assert_imports(rt, alloc, &guest, imports);
-            drop(guest);
-        }
-        None => panic!(rt; "no host"),
-    }
+    let guest = plain(rt, alloc);
+    assert_imports(rt, alloc, &guest, imports);
+    drop(guest);
 }
 
 /// The name of the module that has the calls.
@@ -94,38 +95,23 @@ fn calls_link_by_their_types(rt: HostRuntime) {
 /// A call, its arguments, and its answer.
 type Row<'a> = (HostCall, &'a [u64], Answer);
 
-fn assert_answers(
-    rt: &impl Abort,
-    guest: &mut Guest<'_, '_>,
-    memory: &mut Memory,
-    rows: &[Row<'_>],
-) {
+fn assert_answers<H: Host>(rt: &impl Abort, guest: &mut H, memory: &mut Memory, rows: &[Row<'_>]) {
     for (i, (call, arguments, want)) in rows.iter().enumerate() {
         assert!(rt; guest.call(memory, 1, *call, arguments) == *want, "row {i}");
     }
 }
 
 /// Makes the calls in turn without memory.
-fn assert_without_memory(
-    rt: &impl Abort,
-    alloc: Global,
-    guest: &mut Guest<'_, '_>,
-    rows: &[Row<'_>],
-) {
-    match Memory::new(alloc, 0) {
-        Ok(mut memory) => assert_answers(rt, guest, &mut memory, rows),
-        Err(_) => panic!(rt; "no memory"),
-    }
+fn assert_without_memory<H: Host>(rt: &impl Abort, alloc: Global, guest: &mut H, rows: &[Row<'_>]) {
+    let mut memory = Memory::new(alloc, 0).expect(rt, "no memory");
+    assert_answers(rt, guest, &mut memory, rows);
+    drop(memory);
 }
 
 fn assert_calls(rt: &impl Abort, alloc: Global, rows: &[Row<'_>]) {
-    match fresh(alloc, PLAIN, Feeding::new(&[]), Taking::all(alloc)) {
-        Some(mut guest) => {
-            assert_without_memory(rt, alloc, &mut guest, rows);
-            drop(guest);
-        }
-        None => panic!(rt; "no host"),
-    }
+    let mut guest = plain(rt, alloc);
+    assert_without_memory(rt, alloc, &mut guest, rows);
+    drop(guest);
 }
 
 #[test]

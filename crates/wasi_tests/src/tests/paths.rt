@@ -1,7 +1,7 @@
 //! Paths, and what they name.
 
 use super::guest::Step::{Call, Has, On, Open, Put, Rename};
-use super::guest::{Flaky, STAT, Step, assert_plain, assert_steps, host, opened};
+use super::guest::{Flaky, STAT, Step, assert_plain, assert_steps, host, opened, over};
 use super::streams::{Feeding, Taking};
 use std::alloc::Global;
 use std::process::Abort;
@@ -198,20 +198,17 @@ fn within(rt: &impl Abort, alloc: Global, path: &[u8], volume: Flaky, steps: &[S
         guest_name: b"/",
         path,
     }];
-    match host(
+    let mut guest = over(
+        rt,
         alloc,
         seeing(&preopens),
         volume,
         Feeding::new(&[]),
         Taking::all(alloc),
-    ) {
-        Ok(mut guest) => {
-            assert_steps(rt, alloc, &mut guest, steps);
-            let HostParts { volume, .. } = guest.into_parts();
-            volume
-        }
-        Err(_) => panic!(rt; "no host"),
-    }
+    );
+    assert_steps(rt, alloc, &mut guest, steps);
+    let HostParts { volume, .. } = guest.into_parts();
+    volume
 }
 
 /// Makes a directory and a file beside it, does steps with that directory open, and looks at what stands then.
@@ -231,10 +228,8 @@ fn assert_within(rt: &impl Abort, alloc: Global, volume: Flaky) {
 
 #[test]
 fn a_preopened_directory_is_all_there_is(rt: HostRuntime) {
-    match opened(rt.alloc(), 0) {
-        Some(volume) => assert_within(&rt, rt.alloc(), volume),
-        None => panic!(rt; "not opened"),
-    }
+    let volume = opened(rt.alloc(), 0).expect(&rt, "no volume");
+    assert_within(&rt, rt.alloc(), volume);
 }
 
 /// Whether a host over a fresh volume with this directory is refused so.

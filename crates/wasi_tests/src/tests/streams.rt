@@ -188,16 +188,12 @@ const WRITES: &[Step<'static>] = &[
 /// Writes four bytes to an output that refuses a write after this many, and to the other, and asks what the two took.
 fn assert_written(rt: &impl Abort, alloc: Global, takes: usize, refusal: Refusal, stands: &[u8]) {
     let out = Taking::new(alloc, takes, refusal);
-    match fresh(alloc, PLAIN, Feeding::new(&[]), out) {
-        Some(mut guest) => {
-            assert_steps(rt, alloc, &mut guest, WRITES);
-            let parts = guest.into_parts();
-            assert!(rt; parts.out.held.as_slice() == stands);
-            assert!(rt; parts.err.held.as_slice() == b"abcd".as_slice());
-            drop(parts);
-        }
-        None => panic!(rt; "no host"),
-    }
+    let mut guest = fresh(rt, alloc, PLAIN, Feeding::new(&[]), out);
+    assert_steps(rt, alloc, &mut guest, WRITES);
+    let parts = guest.into_parts();
+    assert!(rt; parts.out.held.as_slice() == stands);
+    assert!(rt; parts.err.held.as_slice() == b"abcd".as_slice());
+    drop(parts);
 }
 
 fn assert_refused(rt: &impl Abort, alloc: Global, refusal: Refusal) {
