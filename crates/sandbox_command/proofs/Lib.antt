@@ -1,3 +1,5 @@
+mod Chains
+mod Listing
 mod Lines
 mod Spoken
 mod Began
