@@ -3,6 +3,7 @@ mod Listing
 mod Lines
 mod Spoken
 mod Began
+mod Bounds
 mod Performing
 mod AfterFlush
 mod Seeding
