@@ -39,7 +39,8 @@ abbrev pub IsOfRandom : (Text → Text → Type 0) → Option (Bor Text) → Tex
 IsOfRandom is_beginning None bytes = bytes ≡ []
 IsOfRandom is_beginning (Some file) bytes = is_beginning file.now bytes
 
--- The host gave this for the name. What it is isn't said anywhere, so nothing but an answer of the host's shows it.
+-- The system gave this for the name. No contract says what a file holds, so `gave` shows it of anything; but only the proofs
+-- of `HostPlaces` cite that, and all others see a relation of which they know nothing.
 pub Gave : {X : Type 0} → Text → X → Type 0
 Gave name x = Unit {0}
 
