@@ -1,6 +1,9 @@
+mod Chains
+mod Listing
 mod Lines
 mod Spoken
 mod Began
+mod Bounds
 mod Performing
 mod AfterFlush
 mod Seeding

@@ -8,6 +8,7 @@ pub mod Running
 pub mod Inspecting
 pub mod Execution
 pub mod Beginning
+pub mod Places
 pub mod Testing
 pub mod Files
 pub mod internal

@@ -10,12 +10,14 @@ ghost use Rattle.sandbox_command.specs.declared.program.Executed.{Executed as Ex
 ghost use Rattle.sandbox_command.specs.declared.streams.Source.{Source as SourceValue};
 ghost use Rattle.sandbox_command.specs.declared.streams.Sink.{Sink as SinkValue};
 ghost use Rattle.sandbox_command.specs.Execution.{Runs};
+ghost use Rattle.sandbox_command.specs.Places.{Chain, ChainOfSome, IsOfImage, IsOfRandom, file_accesses, reads_of};
 ghost use Rattle.sandbox_command.specs.Reporting.{IsTold, not_run};
 ghost use Rattle.sandbox_command.specs.Sources.{IsSink, IsSource, sink_contents, source_remaining};
 ghost use Rattle.sandbox_command.specs.Files.{HasEnded, HasEndedOn, IsHandedOut, IsImage, IsPerformed, IsUnread, lost};
 ghost use Rattle.sandbox_command.specs.internal.Redirected.{AreRedirected};
 
 use crate::files::refuse;
+use crate::places::{HostPlaces, Places};
 use crate::program;
 use crate::program::Executed;
 use crate::reporting::not_run;
@@ -160,7 +162,7 @@ fn run_on_files<R: Read + Drop, W1: Write + Drop, W2: Write + Drop>(
         input out err result.status result.summary }
     ensures within { result.status ≤ 124 }
 {
-    let (module, random) = match read_files(rt, run) {
+    let (module, random) = match read_files(rt.alloc(), &mut HostPlaces::new(rt), run) {
         Ok(bytes) => bytes,
         Err(error) => return refused(run, &error, Sink::Given(err)),
     };
@@ -291,7 +293,7 @@ fn run_in_memory<R: Read + Drop, W1: Write + Drop, W2: Write + Drop>(
         streams.input streams.out streams.err result.status result.summary }
     ensures within { result.status ≤ 124 }
 {
-    match memory_of(rt, run) {
+    match memory_of(rt.alloc(), &mut HostPlaces::new(rt), run) {
         Ok(device) => {
             let (ended, device) = run_on(rt.alloc(), run, module, random, device, streams);
             handed_out(rt, run, &device, ended)
@@ -301,12 +303,18 @@ fn run_in_memory<R: Read + Drop, W1: Write + Drop, W2: Write + Drop>(
 }
 
 /// The sectors in memory that a run begins with: those of its image, or new ones.
-pub(crate) fn memory_of(rt: &HostRuntime, run: &Run<'_>) -> io::Result<RamDevice>
-    ensures { IfOk result (λ device. IsImage run.now.image device.sectors) }
+pub(crate) fn memory_of<P: Places>(
+    alloc: Global,
+    places: &mut P,
+    run: &Run<'_>,
+) -> io::Result<RamDevice>
+    ensures sectors { IfOk result (λ device. IsImage run.now.image device.sectors) }
+    ensures image { IfOk result (λ device. IsOfImage P.is_image run.now.image device) }
+    ensures asked { Chain P.asked (reads_of run.now.image) places.old places.new }
 {
     match run.image {
-        Some(file) => RamDevice::read(rt.alloc(), rt, file),
-        None => Ok(RamDevice::new(rt.alloc(), FRESH_SECTORS)?),
+        Some(file) => places.image(file),
+        None => Ok(RamDevice::new(alloc, FRESH_SECTORS)?),
     }
 }
 
@@ -458,24 +466,33 @@ fn not_kept<W: Write + Drop>(ended: Ended<W>) -> Ended<W>
 }
 
 /// The bytes of the module's file, and of the random bytes' where the run names one.
-pub(crate) fn read_files(rt: &HostRuntime, run: &Run<'_>) -> io::Result<(Vec<u8>, Vec<u8>)> {
-    let module = read_module(rt, run.module)?;
-    let random = match run.random {
-        Some(file) => read_file(rt, file, RANDOM_READ)?,
-        None => Vec::new(rt.alloc()),
-    };
+pub(crate) fn read_files<P: Places>(
+    alloc: Global,
+    places: &mut P,
+    run: &Run<'_>,
+) -> io::Result<(Vec<u8>, Vec<u8>)>
+    ensures read { IfOk result (λ it. Chain P.asked (file_accesses run.now) places.old places.new
+        × P.is_beginning run.now.«module».now 67108865 it.0.items
+        × IsOfRandom (λ name. P.is_beginning name 67108864) run.now.random it.1.items) }
+    ensures asked { ChainOfSome P.asked (file_accesses run.now) places.old places.new }
+{
+    let module = places.bytes(run.module, MODULE_READ)?;
+    let random = random_of(alloc, places, run)?;
     Ok((module, random))
 }
 
-/// The bytes of a module's file, or too many where it has too many.
-pub(crate) fn read_module(rt: &HostRuntime, path: &str) -> io::Result<Vec<u8>> {
-    read_file(rt, path, MODULE_READ)
+/// The random bytes of a run that names a file of them, or none.
+fn random_of<P: Places>(alloc: Global, places: &mut P, run: &Run<'_>) -> io::Result<Vec<u8>>
+    ensures read { IfOk result (λ it. IsOfRandom (λ name. P.is_beginning name 67108864) run.now.random it.items) }
+    ensures asked { Chain P.asked (reads_of run.now.random) places.old places.new }
+{
+    match run.random {
+        Some(file) => places.bytes(file, RANDOM_READ),
+        None => Ok(Vec::new(alloc)),
+    }
 }
 
-/// The bytes of a file, or this many of them where it has more. That a module has too many is then for
-/// the decoder to say.
-fn read_file(rt: &HostRuntime, path: &str, most: u64) -> io::Result<Vec<u8>> {
-    let mut bytes = Vec::new(rt.alloc());
-    File::open(rt, path)?.take(most).read_to_end(&mut bytes)?;
-    Ok(bytes)
+/// The bytes of a module's file, or too many where it has too many. That it has is then for the decoder to say.
+pub(crate) fn read_module(rt: &HostRuntime, path: &str) -> io::Result<Vec<u8>> {
+    HostPlaces::new(rt).bytes(path, MODULE_READ)
 }

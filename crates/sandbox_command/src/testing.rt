@@ -1,14 +1,16 @@
 //! A module that is run on a list of tests.
 
-ghost use Rattle.std.specs.Prelude.{◌≡◌, ◌⊎◌, IfOk, IsTrue, Some, length};
+ghost use Rattle.std.specs.Prelude.{◌≡◌, ◌⊎◌, ◌++◌, ◌∷◌, IfOk, IfSome, IsTrue, Some, string_bytes};
 ghost use Rattle.sandbox_words.specs.declared.request.Invocation.TheVariants as asked;
-ghost use Rattle.sandbox_command.specs.Beginning.{IsImage};
+ghost use Rattle.sandbox_command.specs.Places.{Chain, ChainOfSome};
 ghost use Rattle.sandbox_command.specs.Status.{session_status};
-ghost use Rattle.sandbox_command.specs.Testing.{HasRun, HasTested, HaveRun, IsTestedOrUnread, IsToldOfGuest, RunsTests};
+ghost use Rattle.sandbox_command.specs.Testing.{AreRead, HasRun, HasTested, IsTest, IsTestedOrUnread, IsWord, Lists, RunsList, RunsTests, line_of, list_accesses, stream_accesses, test_accesses};
 ghost use Rattle.sandbox_command.specs.internal.Supplies.{AreSupplies};
+ghost use Rattle.sandbox_command.specs.internal.Tests.{IsPrepared, IsToldOfGuest};
 
 use crate::files::refuse;
 use crate::output::tell_fault;
+use crate::places::{HostPlaces, Places};
 use crate::program::{load_status, refuse_file, run_valid, session_status};
 use crate::reporting::session_reason;
 use crate::runs::{memory_of, read_files, unread};
@@ -18,9 +20,8 @@ use sandbox_core::{SessionFault, Valid};
 use sandbox_device::RamDevice;
 use sandbox_words::Run;
 use std::alloc::Global;
-use std::fs::File;
+use std::io;
 use std::io::Write;
-use std::{fs, io};
 
 /// The names of a test's files.
 #[derive(Clone, Copy)]
@@ -33,36 +34,54 @@ struct Test<'a> {
 
 /// What a test begins with: its sectors, and the files of its streams.
 #[derive(Drop)]
-struct Prepared {
+struct Prepared<R, W> {
     device: RamDevice,
-    input: File,
-    out: File,
-    err: File,
+    input: R,
+    out: W,
+    err: W,
 }
 
 /// Whether a word is one.
-fn is_word(word: &str) -> bool {
-    !word.is_empty() && !word.contains(' ')
+fn is_word(word: &str) -> bool
+    ensures { IsTrue result → IsWord word.now }
+{
+    !word.is_empty() && word.as_bytes().iter().all(|byte| *byte != b' ')
+}
+
+/// The first word of a text, and what stands behind the blank after it.
+fn word_and_rest(text: &str) -> Option<(&str, &str)>
+    ensures { IfSome result (λ it. (text.now ≡ it.0.now ++ (32 ∷ it.1.now)) × IsWord it.0.now) }
+{
+    let (word, rest) = text.split_once(' ')?;
+    if is_word(word) {
+        Some((word, rest))
+    } else {
+        None
+    }
 }
 
 /// The test of a line, which is four words with one blank between them.
-fn test_of(line: &str) -> Option<Test<'_>> {
-    let (input, rest) = line.split_once(' ')?;
-    let (output, rest) = rest.split_once(' ')?;
-    let (errors, report) = rest.split_once(' ')?;
-    if is_word(input) && is_word(output) && is_word(errors) && is_word(report) {
-        return Some(Test {
-            input,
-            output,
-            errors,
-            report,
-        });
+fn test_of(line: &str) -> Option<Test<'_>>
+    ensures { IfSome result (λ test. (line_of test ≡ line.now) × IsTest test) }
+{
+    let (input, rest) = word_and_rest(line)?;
+    let (output, rest) = word_and_rest(rest)?;
+    let (errors, report) = word_and_rest(rest)?;
+    if !is_word(report) {
+        return None;
     }
-    None
+    Some(Test {
+        input,
+        output,
+        errors,
+        report,
+    })
 }
 
 /// The tests of a list. A line that is none is refused as `Setting`.
-fn tests_of(alloc: Global, list: &str) -> Result<Vec<Test<'_>>, SessionFault> {
+fn tests_of(alloc: Global, list: &str) -> Result<Vec<Test<'_>>, SessionFault>
+    ensures { IfOk result (λ tests. Lists list.now tests.items) }
+{
     let mut tests = Vec::new(alloc);
     for line in list.lines() {
         let Some(test) = test_of(line) else {
@@ -76,20 +95,28 @@ fn tests_of(alloc: Global, list: &str) -> Result<Vec<Test<'_>>, SessionFault> {
 }
 
 /// Opens the input of a test, makes the files of its outputs, and has its sectors read or made.
-fn prepare(rt: &HostRuntime, run: &Run<'_>, test: Test<'_>) -> io::Result<Prepared>
-    ensures { IfOk result (λ prepared. IsImage run.now.image prepared.device.sectors) }
+fn prepare<P: Places>(
+    alloc: Global,
+    places: &mut P,
+    run: &Run<'_>,
+    test: Test<'_>,
+) -> io::Result<Prepared<P::Input, P::Output>>
+    ensures prepared { IfOk result (λ prepared. IsPrepared P.asked P.is_input P.is_output P.is_image
+        run.now test.entry places.old places.new prepared) }
+    ensures asked { ChainOfSome P.asked (stream_accesses run.now test.entry) places.old places.new }
 {
     Ok(Prepared {
-        input: File::open(rt, test.input)?,
-        out: File::create(rt, test.output)?,
-        err: File::create(rt, test.errors)?,
-        device: memory_of(rt, run)?,
+        input: places.open(test.input)?,
+        out: places.make(test.output)?,
+        err: places.make(test.errors)?,
+        device: memory_of(alloc, places, run)?,
     })
 }
 
 /// Runs the module on the files of a test. Gives it back, and what the report of the test says.
-fn tested<'m>(
-    rt: &HostRuntime,
+fn tested<'m, P: Places>(
+    alloc: Global,
+    places: &mut P,
     run: &Run<'_>,
     valid: Valid<'m>,
     supplies: &Supplies<'_>,
@@ -98,9 +125,11 @@ fn tested<'m>(
 ) -> (Valid<'m>, Option<Summary>)
     requires { AreSupplies run.now supplies.now }
     ensures module { result.0 ≡ valid.entry }
-    ensures tested { IsTestedOrUnread run.now valid.entry random.now result.1 }
+    ensures tested { IsTestedOrUnread P.Input.remaining P.Output.contents P.asked P.is_input P.is_output P.is_image
+        run.now valid.entry random.now test.entry places.old places.new result.1 }
+    ensures asked { ChainOfSome P.asked (stream_accesses run.now test.entry) places.old places.new }
 {
-    match prepare(rt, run, test) {
+    match prepare(alloc, places, run, test) {
         Ok(prepared) => {
             let Prepared {
                 device,
@@ -108,7 +137,6 @@ fn tested<'m>(
                 out,
                 err,
             } = prepared;
-            let alloc = rt.alloc();
             let (valid, left) = run_valid(
                 alloc, run, valid, supplies, random, device, input, out, err,
             );
@@ -134,8 +162,9 @@ fn is_told_of_guest<W: Write>(report: &mut W, said: Option<Summary>) -> bool
 
 /// Makes the report of a test, runs the module on its files, and prints the report. Gives the module back, and whether a
 /// guest ran and its report could be printed.
-fn run_test<'m>(
-    rt: &HostRuntime,
+fn run_test<'m, P: Places>(
+    alloc: Global,
+    places: &mut P,
     run: &Run<'_>,
     valid: Valid<'m>,
     supplies: &Supplies<'_>,
@@ -144,19 +173,22 @@ fn run_test<'m>(
 ) -> (Valid<'m>, bool)
     requires { AreSupplies run.now supplies.now }
     ensures module { result.0 ≡ valid.entry }
-    ensures ran { IsTrue result.1 → HasRun run.now valid.entry random.now }
+    ensures ran { IsTrue result.1 → HasRun P.Input.remaining P.Output.contents P.asked P.is_input P.is_output P.is_image
+        run.now valid.entry random.now test.entry places.old places.new }
+    ensures asked { ChainOfSome P.asked (test_accesses run.now test.entry) places.old places.new }
 {
-    let Ok(mut report) = File::create(rt, test.report) else {
+    let Ok(mut report) = places.make(test.report) else {
         return (valid, false);
     };
-    let (valid, said) = tested(rt, run, valid, supplies, random, test);
+    let (valid, said) = tested(alloc, places, run, valid, supplies, random, test);
     (valid, is_told_of_guest(&mut report, said))
 }
 
 /// Runs the module on each of these tests, whatever became of those before it: whether a guest ran in each, and its report
 /// could be printed.
-fn run_all<'m>(
-    rt: &HostRuntime,
+fn run_all<'m, P: Places>(
+    alloc: Global,
+    places: &mut P,
     run: &Run<'_>,
     valid: Valid<'m>,
     supplies: &Supplies<'_>,
@@ -164,12 +196,14 @@ fn run_all<'m>(
     tests: &[Test<'_>],
 ) -> bool
     requires { AreSupplies run.now supplies.now }
-    ensures { IsTrue result → HaveRun run.now valid.entry random.now (length tests.now) }
+    ensures ran { IsTrue result → Chain (HasRun P.Input.remaining P.Output.contents P.asked P.is_input P.is_output P.is_image
+        run.now valid.entry random.now) tests.now places.old places.new }
+    ensures tried { Chain (λ test. ChainOfSome P.asked (test_accesses run.now test)) tests.now places.old places.new }
 {
     let mut valid = valid;
     let mut have_run = true;
     for test in tests {
-        let (kept, has_run) = run_test(rt, run, valid, supplies, random, *test);
+        let (kept, has_run) = run_test(alloc, places, run, valid, supplies, random, *test);
         valid = kept;
         have_run = have_run && has_run;
     }
@@ -186,23 +220,25 @@ fn refuse_all<W: Write>(err: &mut W, fault: SessionFault) -> u8
 }
 
 /// Decodes a module and runs it on these tests, and gives the status.
-fn run_tests<W: Write>(
-    rt: &HostRuntime,
+fn run_tests<P: Places, W: Write>(
+    alloc: Global,
+    places: &mut P,
     run: &Run<'_>,
     module: &[u8],
     random: &[u8],
     tests: &[Test<'_>],
     err: &mut W,
 ) -> u8
-    ensures { RunsTests run.now «module».now random.now (length tests.now) result }
+    ensures { RunsTests P.Input.remaining P.Output.contents P.asked P.is_input P.is_output P.is_image
+        run.now «module».now random.now tests.now places.old places.new result }
 {
-    let supplies = match supplied(rt.alloc(), run) {
+    let supplies = match supplied(alloc, run) {
         Ok(supplies) => supplies,
         Err(fault) => return refuse_all(err, fault),
     };
-    match sandbox_core::load(rt.alloc(), module) {
+    match sandbox_core::load(alloc, module) {
         Ok(valid) => {
-            if run_all(rt, run, valid, &supplies, random, tests) {
+            if run_all(alloc, places, run, valid, &supplies, random, tests) {
                 return 0;
             }
             refuse_file(err)
@@ -215,33 +251,41 @@ fn run_tests<W: Write>(
 }
 
 /// The text of a list, and the bytes of a run's files.
-fn list_and_files(
-    rt: &HostRuntime,
+fn list_and_files<P: Places>(
+    alloc: Global,
+    places: &mut P,
     run: &Run<'_>,
     list: &str,
-) -> io::Result<(String, Vec<u8>, Vec<u8>)> {
-    let text = fs::read_to_string(rt, list)?;
-    let (module, random) = read_files(rt, run)?;
+) -> io::Result<(String, Vec<u8>, Vec<u8>)>
+    ensures read { IfOk result (λ it. AreRead P.asked P.is_text P.is_beginning run.now list.now places.old places.new
+        (string_bytes it.0) it.1.items it.2.items) }
+    ensures asked { ChainOfSome P.asked (list_accesses run.now list.now) places.old places.new }
+{
+    let text = places.text(list)?;
+    let (module, random) = read_files(alloc, places, run)?;
     Ok((text, module, random))
 }
 
-/// Runs a module on the tests of a list, and gives the status. Where a line is no test, nothing is run.
-pub(crate) fn perform_tests<W: Write + Drop>(
-    rt: &HostRuntime,
+/// Runs a module on the tests of a list, each on the files that its line names, and gives the status. Where a line is no
+/// test, nothing is run. The program's own line goes to `err`.
+pub fn run_list<P: Places, W: Write + Drop>(
+    alloc: Global,
+    places: &mut P,
     run: &Run<'_>,
     list: &str,
     mut err: W,
 ) -> u8
-    requires { run.now.tests ≡ Some list }
-    ensures { (result ≡ 122) ⊎ ((result ≡ 124) ⊎ ((result ≡ 0) × HasTested (asked.Run run.now))) }
+    ensures { RunsList P.Input.remaining P.Output.contents P.asked P.is_input P.is_output P.is_image P.is_text P.is_beginning
+        run.now list.now places.old places.new result }
 {
-    let (text, module, random) = match list_and_files(rt, run, list) {
+    let (text, module, random) = match list_and_files(alloc, places, run, list) {
         Ok(files) => files,
         Err(error) => return refuse(&error, err),
     };
-    match tests_of(rt.alloc(), text.as_str()) {
+    match tests_of(alloc, text.as_str()) {
         Ok(tests) => run_tests(
-            rt,
+            alloc,
+            places,
             run,
             module.as_slice(),
             random.as_slice(),
@@ -250,4 +294,17 @@ pub(crate) fn perform_tests<W: Write + Drop>(
         ),
         Err(fault) => refuse_all(&mut err, fault),
     }
+}
+
+/// Runs a module on the tests of a list in the files of the system, and gives the status.
+pub(crate) fn perform_tests<W: Write + Drop>(
+    rt: &HostRuntime,
+    run: &Run<'_>,
+    list: &str,
+    err: W,
+) -> u8
+    requires { run.now.tests ≡ Some list }
+    ensures { (result ≡ 122) ⊎ ((result ≡ 124) ⊎ ((result ≡ 0) × HasTested (asked.Run run.now))) }
+{
+    run_list(rt.alloc(), &mut HostPlaces::new(rt), run, list, err)
 }

@@ -16,7 +16,7 @@ returns-in-Ok-clause-tells g c =
         subst NamesNoVolume (sym c.requires.0) c.requires.1,
         executed (λ d. Unit {0}) memory_disk (λ d. length d.sectors) (λ d. 0) (source_remaining g.R.Read.remaining) (sink_contents g.W1.Write.contents) (sink_contents g.W2.Write.contents)
             (IsNewInMemory c.args.invocation.now) c.args.invocation.now c.args.run.now c.requires.0 c.args.module.now c.args.random.now c.in-Ok.device
-            (subst (λ (i : Invocation). IsNewInMemory i c.in-Ok.device) (sym c.requires.0) c.in-Ok.ensures)
+            (subst (λ (i : Invocation). IsNewInMemory i c.in-Ok.device) (sym c.requires.0) c.in-Ok.ensures.sectors)
             streams.input streams.out streams.err tells.0 tells.1 _ _ tells.2 tells.3,
       ),
       c.handed_out.ensures,

@@ -10,13 +10,20 @@ returns-in-Err g c =
     inl (
       Some (not_run c.args.run.now (session_reason c.in-Err.fault) kept.None c.refuse_all.result),
       record { fault = c.in-Err.fault; uncut = c.in-Err.ensures.refused; ends = c.refuse_all.ensures; summary_is = refl },
+      refl,
     )
 
 -- a guest ran in each test
 pub returns-then-run_all : goal.returns-then-run_all
 returns-then-run_all g c =
     let found = c.in-Ok-load.ensures.found in
-    inr (inr (c.in-Ok-load.valid, found.0, found.1, inl (refl, c.run_all.ensures c.if-run_all.true)))
+    inr (inr (c.in-Ok-load.valid, found.0, found.1, c.run_all.ensures.tried, inl (refl, c.run_all.ensures.ran c.if-run_all.true)))
+
+-- or not in each
+pub returns-in-Ok-load : goal.returns-in-Ok-load
+returns-in-Ok-load g c =
+    let found = c.in-Ok-load.ensures.found in
+    inr (inr (c.in-Ok-load.valid, found.0, found.1, c.run_all.ensures.tried, inr c.refuse_file.ensures.status))
 
 -- the bytes are refused
 pub returns : goal.returns
@@ -24,4 +31,5 @@ returns g c =
     inr (inl (
       Some (not_run c.args.run.now (reason.Module c.in-Err-load.fault) kept.None c.load_status.result),
       record { fault = c.in-Err-load.fault; refused = c.in-Err-load.ensures.no; spells_none = c.in-Err-load.ensures.refused; ends = c.load_status.ensures; summary_is = refl },
+      refl,
     ))

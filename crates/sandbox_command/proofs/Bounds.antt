@@ -1,0 +1,59 @@
+-- No run ends with a status above 124.
+use Rattle.std.proofs.Common.{◌≡◌, ◌≤◌, ℕ, Bool, true, false, List, Option, Result, Ok, Err, nat_le, if◌then◌else◌, inl, inr, arith}
+use Rattle.std.proofs.lemmas.Bool.Decides.{nat_tests}
+use Rattle.std.specs.Io.KnownBytes.{Keeps}
+use Rattle.vol_sector.specs.Disk.{Disk}
+use Rattle.vol_sector.specs.declared.fault.VolumeFault.{VolumeFault}
+use Rattle.vol_sector.specs.declared.fault.VolumeFault.TheVariants as volume
+use Rattle.wasm_module.specs.declared.fault.LoadFault.{LoadFault}
+use Rattle.wasm_module.specs.declared.fault.LoadFault.TheVariants as loading
+use Rattle.wasm_steps.specs.declared.pause.Outcome.{Outcome}
+use Rattle.wasm_steps.specs.declared.pause.Outcome.TheVariants.{Exited, Trapped, OutOfFuel, OutOfMemory}
+use Rattle.sandbox_core.specs.declared.fault.SessionFault.{SessionFault}
+use Rattle.sandbox_core.specs.declared.fault.SessionFault.TheVariants as opening
+use Rattle.sandbox_words.specs.Request.{Text}
+use Rattle.sandbox_words.specs.declared.request.Run.{Run}
+use Rattle.sandbox_command.specs.declared.program.Executed.{Executed}
+use Rattle.sandbox_command.specs.Execution.{Runs}
+use Rattle.sandbox_command.specs.Status.{EndsWith, load_status, session_status, status_of, volume_status}
+
+of_session : (f : SessionFault) (n : ℕ) → n ≡ session_status f → n ≤ 124
+of_session opening.Memory n is = omega (arith, is)
+of_session opening.Setting n is = omega (arith, is)
+of_session (opening.Instance f) n is = omega (arith, is)
+of_session opening.Device n is = omega (arith, is)
+of_session opening.Preopen n is = omega (arith, is)
+
+of_volume : (f : VolumeFault) (n : ℕ) → n ≡ volume_status f → n ≤ 124
+of_volume volume.Memory n is = omega (arith, is)
+of_volume f n is = omega (arith, is)
+
+of_load : (f : LoadFault) (n : ℕ) → n ≡ load_status f → n ≤ 124
+of_load loading.Memory n is = omega (arith, is)
+of_load f n is = omega (arith, is)
+
+exited : (n status : ℕ) → status ≡ (if nat_le n 119 then n else 119) → status ≤ 124
+exited n status is = grind (arith, nat_tests)
+
+of_outcome : (outcome : Outcome) (n : ℕ) → n ≡ status_of outcome → n ≤ 124
+of_outcome (Exited code) n is = exited code n is
+of_outcome (Trapped t) n is = omega (arith, is)
+of_outcome OutOfFuel n is = omega (arith, is)
+of_outcome OutOfMemory n is = omega (arith, is)
+
+of_end : {V R : Type 0} (outcome : Outcome) (left : Result V R) (flushed : Bool) (n : ℕ) → EndsWith outcome left flushed n → n ≤ 124
+of_end outcome (Ok v) true n is = of_outcome outcome n is
+of_end outcome (Ok v) false n is = omega (arith, is)
+of_end outcome (Err r) flushed n is = omega (arith, is)
+
+module _ {D R W1 W2 : Type 0} (is_honest : D → Type 0) (disk : D → Disk) (sectors_on failures : D → ℕ)
+    (remaining : R → Option (List ℕ)) (outs : W1 → Option (List ℕ)) (errs : W2 → Option (List ℕ)) where
+  pub runs_within : (run : Run) (bytes : List ℕ) (random : Text) (device : D) (input : R) (out : W1) (err : W2) (left : Executed D R W1 W2)
+      → Runs is_honest disk sectors_on failures remaining outs errs Keeps run bytes random device input out err left → left.status ≤ 124
+  runs_within run bytes random device input out err left (inl (refused, same)) = of_session refused.fault left.status refused.ends
+  runs_within run bytes random device input out err left (inr (inl (refused, same))) = of_load refused.fault left.status refused.ends
+  runs_within run bytes random device input out err left (inr (inr (m, spells, valid, inl none))) = of_volume none.refused.fault left.status none.ends
+  runs_within run bytes random device input out err left (inr (inr (m, spells, valid, inr on))) = elim on.launched [
+    | inl refused ↦ of_session refused.fault left.status refused.ends
+    | inr ran ↦ of_end ran.report.outcome ran.report.volume left.flushed left.status ran.ends
+  ]

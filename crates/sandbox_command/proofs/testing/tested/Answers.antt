@@ -1,0 +1,28 @@
+use Rattle.std.proofs.Common.{inl, inr, refl}
+use Rattle.sandbox_command.proofs.testing.tested.Goals as goal
+
+pub returns-in-Ok : goal.returns-in-Ok
+returns-in-Ok g c =
+    let files = c.in-Ok.ensures.prepared in
+    record {
+      «module» = c.run_valid-valid.ensures.«module»;
+      tested = inr (record {
+        asked_for = files.asked_for;
+        input = c.in-Ok.prepared.input;
+        is_its_input = files.input;
+        out = c.in-Ok.prepared.out;
+        is_its_output = files.out;
+        err = c.in-Ok.prepared.err;
+        are_its_errors = files.err;
+        device = c.in-Ok.prepared.device;
+        new = files.new;
+        of_image = files.of_image;
+        left = c.run_valid-valid.result.1;
+        runs = c.run_valid-valid.ensures.runs;
+        summary_is = refl;
+      });
+      asked = c.prepare.ensures.asked;
+    }
+
+pub returns-in-Err : goal.returns-in-Err
+returns-in-Err g c = record { «module» = refl; tested = inl (_, c.unread.ensures); asked = c.prepare.ensures.asked }

@@ -1,0 +1,33 @@
+use Rattle.std.proofs.Common.{◌≡◌, ◌++◌, List, [], ◌∷◌, map, sym, ◌∙◌, ap, subst, arith}
+use Rattle.std.specs.Borrow.{Bor}
+use Rattle.std.specs.List.{All}
+use Rattle.std.proofs.lemmas.List.{map-append}
+use Rattle.std.proofs.lemmas.List.Elements.{All-push}
+use Rattle.std.proofs.lemmas.Grind.{common_steps}
+use Rattle.std.proofs.lemmas.Iterator.Consumers.{YieldsList-end}
+use Rattle.std.proofs.lemmas.Iterator.Splits.{YieldsList-from_lines}
+use Rattle.sandbox_words.specs.Request.{Text}
+use Rattle.sandbox_command.specs.Testing.{IsTest, line_of}
+use Rattle.sandbox_command.specs.declared.testing.Test.{Test}
+use Rattle.sandbox_command.proofs.testing.tests_of.Goals as goal
+
+-- one line more is one test more
+one_more : (ts : List Test) (t : Test) (xs : List (Bor Text)) (x : Bor Text) → map line_of ts ≡ map (λ x. x.now) xs → line_of t ≡ x.now
+    → map line_of (ts ++ (t ∷ [])) ≡ map (λ x. x.now) (xs ++ (x ∷ []))
+one_more ts t xs x so_far here =
+    map-append line_of ts (t ∷ []) ∙ (ap (λ l. l ++ (line_of t ∷ [])) so_far ∙ (ap (λ (w : Text). map (λ x. x.now) xs ++ (w ∷ [])) here ∙ sym (map-append (λ (x : Bor Text). x.now) xs (x ∷ []))))
+
+pub loop-line-preserved : goal.loop-line-preserved
+loop-line-preserved c =
+    let e : c.push.new.self.items ≡ c.loop-line.tests.items ++ (c.in-Some-test_of.test ∷ []) = grind (arith, common_steps) in
+    let is = c.in-Some-test_of.ensures in
+    record {
+      lines = subst (λ (l : List Test). map line_of l ≡ map (λ x. x.now) (c.loop-line.yielded ++ (c.in-Some.line ∷ []))) (sym e)
+          (one_more c.loop-line.tests.items c.in-Some-test_of.test c.loop-line.yielded c.in-Some.line c.loop-line.invariant.lines is.0);
+      tests = subst (λ (l : List Test). All IsTest l) (sym e) (All-push IsTest c.loop-line.tests.items c.in-Some-test_of.test c.loop-line.invariant.tests is.1);
+    }
+
+pub returns : goal.returns
+returns c =
+    let ended = YieldsList-end (YieldsList-from_lines c.args.list.now cc) c.loop-line.yielded _ c.loop-line.yielded_by _ _ c.in-None.is c.next.ensures.steps in
+    (c.loop-line.invariant.lines ∙ ended.0, c.loop-line.invariant.tests)
