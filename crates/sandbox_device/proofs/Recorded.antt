@@ -5,28 +5,47 @@ use Rattle.std.proofs.lemmas.List.Sums.{sum_by-cons}
 use Rattle.std.proofs.lemmas.List.{length_push, take_all}
 use Rattle.vol_sector.specs.Disk.{Image, Leaves, Keeps, Only, After, Wrote}
 use Rattle.vol_sector.specs.Counting.{counting, passed_since}
-use Rattle.vol_sector.specs.Record.{recorded, newest, LeftBy, image_of}
+use Rattle.vol_sector.specs.Record.{newest, recorded, LeftBy, image_of}
 use Rattle.vol_sector.specs.declared.record.Operation.{Operation}
 use Rattle.vol_sector.specs.declared.record.Operation.TheVariants.{Write, Sync}
-use Rattle.vol_sector.proofs.Counting.{leaves_passed, keeps_passed, keeps_kept}
-use Rattle.vol_sector.proofs.Records.{keeps_push, leaves_write, leaves_sync}
+use Rattle.vol_sector.proofs.Counting.{leaves_passed, leaves_kept, keeps_passed, keeps_kept}
+use Rattle.vol_sector.proofs.Records.{keeps_push, leaves_write, leaves_sync, only_sync}
+use Rattle.sandbox_device.specs.Ram.{Sectors}
+use Rattle.sandbox_device.specs.Recorded.{written_by}
 use Rattle.sandbox_device.specs.declared.recorded_device.RecordedDevice.{RecordedDevice}
-use Rattle.sandbox_device.specs.Recorded.{IsFollowed, done_on}
+use Rattle.sandbox_device.specs.Followed.{IsFollowed, done_on}
 
-module _ (first : Image) (done : List Operation) (outcomes : List Bool) where
-  pub keeps_quiet : Keeps (counting outcomes (recorded first done)) (counting (false ∷ outcomes) (recorded first done))
-  keeps_quiet = keeps_kept outcomes (false ∷ outcomes) (recorded first done) refl
+-- what reads give says nothing of what a crash leaves
+with_seen : (now new first : Sectors) (done more : List Operation) (outcomes tried : List Bool) (P : Image → Type 0)
+    → Leaves (counting outcomes (recorded (image_of first) done)) (counting tried (recorded (image_of first) more)) P
+    → Leaves (written_by now first done outcomes) (written_by new first more tried) P
+with_seen now new first done more outcomes tried P leaves = record { later = leaves.later; since = leaves.since; now = leaves.now }
 
-  pub keeps_more : (o : Operation) → Keeps (counting outcomes (recorded first done)) (counting (true ∷ outcomes) (recorded first (done ++ o ∷ [])))
-  keeps_more o = keeps_passed outcomes (true ∷ outcomes) (recorded first done) (recorded first (done ++ o ∷ [])) refl (length_push done o) (keeps_push first done o)
+module _ (now first : Sectors) (done : List Operation) (outcomes : List Bool) where
+  abbrev start : Image
+  start = image_of first
 
-  pub leaves_synced : Leaves (counting outcomes (recorded first done)) (counting (true ∷ outcomes) (recorded first (done ++ Sync ∷ []))) (λ c. ⊥)
-  leaves_synced = leaves_passed outcomes (true ∷ outcomes) (recorded first done) (recorded first (done ++ Sync ∷ [])) (λ c. ⊥) refl (length_push done Sync) (leaves_sync first done)
+  pub keeps_quiet : Keeps (written_by now first done outcomes) (written_by now first done (false ∷ outcomes))
+  keeps_quiet = keeps_kept outcomes (false ∷ outcomes) (recorded start done) refl
 
-  pub leaves_written : (n : ℕ) (bytes : List ℕ)
-      → Leaves (counting outcomes (recorded first done)) (counting (true ∷ outcomes) (recorded first (done ++ Write n bytes ∷ []))) (After (Wrote n bytes) (LeftBy first done))
-  leaves_written n bytes = leaves_passed outcomes (true ∷ outcomes) (recorded first done) (recorded first (done ++ Write n bytes ∷ [])) (After (Wrote n bytes) (LeftBy first done)) refl
-      (length_push done (Write n bytes)) (leaves_write first done n bytes)
+  pub leaves_quiet : Leaves (written_by now first done outcomes) (written_by now first done (false ∷ outcomes)) (λ c. ⊥)
+  leaves_quiet = with_seen now now first done done outcomes (false ∷ outcomes) (λ c. ⊥) (leaves_kept outcomes (false ∷ outcomes) (recorded start done) (λ c. ⊥) refl)
+
+  pub keeps_more : (new : Sectors) (o : Operation) → Keeps (written_by now first done outcomes) (written_by new first (done ++ o ∷ []) (true ∷ outcomes))
+  keeps_more new o = keeps_passed outcomes (true ∷ outcomes) (recorded start done) (recorded start (done ++ o ∷ [])) refl (length_push done o) (keeps_push start done o)
+
+  pub leaves_synced : Leaves (written_by now first done outcomes) (written_by now first (done ++ Sync ∷ []) (true ∷ outcomes)) (λ c. ⊥)
+  leaves_synced = with_seen now now first done (done ++ Sync ∷ []) outcomes (true ∷ outcomes) (λ c. ⊥)
+      (leaves_passed outcomes (true ∷ outcomes) (recorded start done) (recorded start (done ++ Sync ∷ [])) (λ c. ⊥) refl (length_push done Sync) (leaves_sync start done))
+
+  pub only_synced : ((n : ℕ) → image_of now n ≡ newest n (start n) done) → Only (image_of now) (LeftBy start (done ++ Sync ∷ []))
+  only_synced agrees c left = λ j n. (ap (λ (i : Image). i n) (only_sync start done c left) ∙ sym (agrees n)) j
+
+  pub leaves_written : (new : Sectors) (n : ℕ) (bytes : List ℕ)
+      → Leaves (written_by now first done outcomes) (written_by new first (done ++ Write n bytes ∷ []) (true ∷ outcomes)) (After (Wrote n bytes) (LeftBy start done))
+  leaves_written new n bytes = with_seen now new first done (done ++ Write n bytes ∷ []) outcomes (true ∷ outcomes) (After (Wrote n bytes) (LeftBy start done))
+      (leaves_passed outcomes (true ∷ outcomes) (recorded start done) (recorded start (done ++ Write n bytes ∷ [])) (After (Wrote n bytes) (LeftBy start done)) refl
+      (length_push done (Write n bytes)) (leaves_write start done n bytes))
 
 -- how many of the operations tried were writes and syncs
 pub counts_more : (outcomes : List Bool) (done : List Operation) (o : Operation) → count_by (λ (passed : Bool). passed) outcomes ≡ length done

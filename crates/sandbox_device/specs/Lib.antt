@@ -2,4 +2,5 @@
 pub mod Ram
 pub mod File
 pub mod Recorded
+pub mod Followed
 pub mod internal

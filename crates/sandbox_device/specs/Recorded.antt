@@ -1,23 +1,18 @@
--- What the record of a device in memory is good for: another disk follows it (`docs/VOLUME.md`, "The device").
-use Rattle.std.specs.Prelude.{◌≡◌, ◌≤◌, ℕ, List, length, take}
-use Rattle.vol_sector.specs.Disk.{Image, Disk}
+-- A device in memory whose writes and syncs are recorded, as a disk that they are done on: a crash leaves each sector, apart
+-- from the others, at its value of the last sync or at any value that was written since (`docs/VOLUME.md`, "The device").
+use Rattle.std.specs.Prelude.{List, Bool, length}
+use Rattle.vol_sector.specs.Disk.{Disk}
 use Rattle.vol_sector.specs.Counting.{counting}
-use Rattle.vol_sector.specs.Record.{newest, LeftBy, recorded, image_of}
+use Rattle.vol_sector.specs.Record.{LeftBy, recorded, image_of}
 use Rattle.vol_sector.specs.declared.record.Operation.{Operation}
-use Rattle.sandbox_device.specs.declared.recorded_device.RecordedDevice.{RecordedDevice}
+use Rattle.sandbox_device.specs.Ram.{Sectors}
 
--- the sectors that it began with, and the writes and syncs that were done, in order
-abbrev pub first_of : RecordedDevice → Image
-first_of d = image_of d.history.first
-
-abbrev pub done_on : RecordedDevice → List Operation
-done_on d = d.history.done
-
-abbrev pub disk_of : RecordedDevice → Disk
-disk_of d = counting d.history.outcomes (recorded (first_of d) (done_on d))
-
--- A disk that begins with the same sectors, and on which the operations are done in order, has the device's sectors in the
--- end. A stop after any of them leaves nothing that a crash of the device couldn't have left.
-pub record IsFollowed (d : RecordedDevice) : Type 0 where
-  pub ends : (n : ℕ) → newest n (first_of d n) (done_on d) ≡ image_of d.sectors n
-  pub stops : (k : ℕ) (c : Image) → k ≤ length (done_on d) → LeftBy (first_of d) (take k (done_on d)) c → (disk_of d).left_since 0 c
+-- Its sectors now and those that it began with, the writes and syncs that were done, in order, and of each operation that was
+-- tried, the newest first, whether it is one of these.
+abbrev pub written_by : Sectors → Sectors → List Operation → List Bool → Disk
+written_by now first done outcomes = record {
+  seen = image_of now;
+  may_leave = LeftBy (image_of first) done;
+  operation_count = length outcomes;
+  left_since = (counting outcomes (recorded (image_of first) done)).left_since;
+}

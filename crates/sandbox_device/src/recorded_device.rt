@@ -1,10 +1,9 @@
 //! A device in memory that records what is done to it.
 
 ghost use Rattle.std.specs.Prelude.{◌≡◌, ◌<◌, ◌≤◌, ◌++◌, ◌∷◌, [], ℕ, Bool, true, false, IfOk, length, replicate, slice_get, option_copied, count_by};
-ghost use Rattle.vol_sector.specs.Counting.{counting};
-ghost use Rattle.vol_sector.specs.internal.CountingLaws.{counting_now, only_counting};
-ghost use Rattle.vol_sector.specs.Record.{newest, recorded, image_of};
-ghost use Rattle.vol_sector.specs.internal.RecordLaws.{stays_left, left_now, only_left};
+ghost use Rattle.vol_sector.specs.Record.{newest, image_of};
+ghost use Rattle.sandbox_device.specs.Recorded.{written_by};
+ghost use Rattle.sandbox_device.specs.internal.RecordedLaws.{now_is_since, now_is_all, now_may_stay};
 
 use crate::history::History;
 use crate::sectors::Sectors;
@@ -106,7 +105,7 @@ impl RecordedDevice {
 }
 
 impl Device for RecordedDevice {
-    ghost disk = { λ d. counting d.history.outcomes (recorded (image_of d.history.first) d.history.done) };
+    ghost disk = { λ d. written_by d.sectors d.history.first d.history.done d.history.outcomes };
 
     ghost honest = { λ d. Unit {0} };
 
@@ -114,15 +113,14 @@ impl Device for RecordedDevice {
 
     ghost failures = { λ d. 0 };
 
-    ghost counts_now = { λ d t c h le may. counting_now d.history.outcomes
-        (recorded (image_of d.history.first) d.history.done)
-        (left_now (image_of d.history.first) d.history.done) t c le may };
+    ghost counts_now = { λ d t c h le may.
+        now_is_since d.sectors d.history.first d.history.done d.history.outcomes t c le may };
 
-    ghost only_now = { λ d c h left. only_counting d.history.outcomes
-        (recorded (image_of d.history.first) d.history.done)
-        (only_left (image_of d.history.first) d.history.done) c left };
+    ghost only_now = { λ d c h left.
+        now_is_all d.sectors d.history.first d.history.done d.history.outcomes c left };
 
-    ghost may_stay = { λ d h. stays_left (image_of d.history.first) d.history.done };
+    ghost may_stay = { λ d h.
+        now_may_stay d.sectors d.history.first d.history.done d.history.outcomes d.agrees };
 
     fn sectors(&self) -> u32 {
         self.sectors.len() as u32

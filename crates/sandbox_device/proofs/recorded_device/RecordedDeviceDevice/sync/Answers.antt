@@ -2,8 +2,8 @@ use Rattle.std.proofs.Common.{List, [], ◌∷◌, ◌++◌, ap, sym, ◌∙◌}
 use Rattle.vol_sector.specs.Record.{image_of}
 use Rattle.vol_sector.specs.declared.record.Operation.{Operation}
 use Rattle.vol_sector.specs.declared.record.Operation.TheVariants.{Sync}
-use Rattle.vol_sector.proofs.Records.{newest_sync, only_sync}
-use Rattle.sandbox_device.proofs.Recorded.{counts_more, keeps_more, leaves_synced}
+use Rattle.vol_sector.proofs.Records.{newest_sync}
+use Rattle.sandbox_device.proofs.Recorded.{counts_more, keeps_more, leaves_synced, only_synced}
 use Rattle.sandbox_device.proofs.recorded_device.RecordedDeviceDevice.sync.Goals as goal
 
 pub invariant_of-self : goal.invariant_of-self
@@ -20,16 +20,16 @@ pub returns-clause-durable : goal.returns-clause-durable
 returns-clause-durable c h =
     let past = c.args.self.now.history in
     let is = c.and-self.ensures in
-    rw (is.0, is.1) (only_sync (image_of past.first) past.done)
+    rw (is.0, is.1) (only_synced c.args.self.now.sectors past.first past.done past.outcomes c.args.self.now.agrees)
 
 pub returns-clause-crash : goal.returns-clause-crash
 returns-clause-crash c h =
     let past = c.args.self.now.history in
     let is = c.and-self.ensures in
-    rw (is.0, is.1, is.2) (leaves_synced (image_of past.first) past.done past.outcomes)
+    rw (is.0, is.1, is.2) (leaves_synced c.args.self.now.sectors past.first past.done past.outcomes)
 
 pub returns-clause-keeps : goal.returns-clause-keeps
 returns-clause-keeps c h =
     let past = c.args.self.now.history in
     let is = c.and-self.ensures in
-    rw (is.0, is.1, is.2) (keeps_more (image_of past.first) past.done past.outcomes Sync)
+    rw (is.0, is.1, is.2) (keeps_more c.args.self.now.sectors past.first past.done past.outcomes c.args.self.now.sectors Sync)

@@ -1,5 +1,4 @@
 use Rattle.std.proofs.Common.{List, [], ◌∷◌, ◌++◌, ap, sym, ◌∙◌, arith}
-use Rattle.vol_sector.specs.Record.{image_of}
 use Rattle.vol_sector.specs.declared.record.Operation.{Operation}
 use Rattle.vol_sector.specs.declared.record.Operation.TheVariants.{Write}
 use Rattle.vol_sector.proofs.Records.{agrees_write}
@@ -20,10 +19,10 @@ pub returns-clause-crash : goal.returns-clause-crash
 returns-clause-crash c h =
     let past = c.args.self.now.history in
     let is = c.and-self.ensures in
-    rw (is.0, is.1, is.2) (leaves_written (image_of past.first) past.done past.outcomes c.args.n c.args.image.now)
+    rw (is.0, is.1, is.2) (leaves_written c.args.self.now.sectors past.first past.done past.outcomes c.put.new.self c.args.n c.args.image.now)
 
 pub returns-clause-keeps : goal.returns-clause-keeps
 returns-clause-keeps c h =
     let past = c.args.self.now.history in
     let is = c.and-self.ensures in
-    rw (is.0, is.1, is.2) (keeps_more (image_of past.first) past.done past.outcomes (Write c.args.n c.args.image.now))
+    rw (is.0, is.1, is.2) (keeps_more c.args.self.now.sectors past.first past.done past.outcomes c.put.new.self (Write c.args.n c.args.image.now))
