@@ -1,4 +1,4 @@
 mod Ram
 mod File
-mod Recorded
+pub mod Recorded
 pub mod Packing

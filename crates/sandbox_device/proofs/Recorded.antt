@@ -1,19 +1,20 @@
 -- One operation more on a disk that is recorded.
-use Rattle.std.proofs.Common.{◌≡◌, ◌≤◌, ◌-◌, List, [], ◌∷◌, ◌++◌, Bool, true, false, ℕ, length, take, refl, ap, sym, ◌∙◌, arith}
+use Rattle.std.proofs.Common.{◌≡◌, ◌≤◌, ◌-◌, List, [], ◌∷◌, ◌++◌, Bool, true, false, ℕ, length, refl, ap, sym, ◌∙◌, subst, inl, inr, arith}
 use Rattle.std.specs.Prelude.{count_by, cond}
 use Rattle.std.proofs.lemmas.List.Sums.{sum_by-cons}
 use Rattle.std.proofs.lemmas.List.{length_push, take_all}
 use Rattle.vol_sector.specs.Disk.{Image, Leaves, Keeps, Only, After, Wrote}
 use Rattle.vol_sector.specs.Counting.{counting, passed_since}
-use Rattle.vol_sector.specs.Record.{newest, recorded, LeftBy, image_of}
+use Rattle.vol_sector.specs.Record.{newest, recorded, choices, Among, LeftBy, image_of}
 use Rattle.vol_sector.specs.declared.record.Operation.{Operation}
 use Rattle.vol_sector.specs.declared.record.Operation.TheVariants.{Write, Sync}
 use Rattle.vol_sector.proofs.Counting.{leaves_passed, leaves_kept, keeps_passed, keeps_kept}
 use Rattle.vol_sector.proofs.Records.{keeps_push, leaves_write, leaves_sync, only_sync}
 use Rattle.sandbox_device.specs.Ram.{Sectors}
 use Rattle.sandbox_device.specs.Recorded.{written_by}
+use Rattle.sandbox_device.specs.internal.RecordedLaws.{now_is_all}
 use Rattle.sandbox_device.specs.declared.recorded_device.RecordedDevice.{RecordedDevice}
-use Rattle.sandbox_device.specs.Followed.{IsFollowed, done_on}
+use Rattle.sandbox_device.specs.Followed.{IsFollowed, done_on, disk_of}
 
 -- what reads give says nothing of what a crash leaves
 with_seen : (now new first : Sectors) (done more : List Operation) (outcomes tried : List Bool) (P : Image → Type 0)
@@ -68,3 +69,19 @@ followed d = record {
     start {k} le =
         let all : passed_since d.history.outcomes 0 ≡ length (done_on d) = ap (λ (l : List Bool). count_by (λ (passed : Bool). passed) l) (take_all (length d.history.outcomes - 0) d.history.outcomes (omega arith)) ∙ d.counted in
         omega (arith, all)
+
+-- ---- a device on which nothing was done yet
+
+alone : (first c : Image) (n : ℕ) → Among (choices n (first n) (first n ∷ []) []) (c n) → c n ≡ first n
+alone first c n (inl is) = is
+alone first c n (inr none) = absurd none
+
+pub unused_leaves : (d : RecordedDevice) → d.history.done ≡ [] → d.history.outcomes ≡ [] → (c : Image) → (disk_of d).left_since 0 c → c ≡ image_of d.sectors
+unused_leaves d none quiet c left = λ j n. at n j
+  where
+    now : LeftBy (image_of d.history.first) d.history.done c
+    now = now_is_all d.sectors d.history.first d.history.done d.history.outcomes c (subst (λ (t : ℕ). (disk_of d).left_since t c) (sym (ap length quiet)) left)
+
+    at : (n : ℕ) → c n ≡ image_of d.sectors n
+    at n = alone (image_of d.history.first) c n (subst (λ (l : List Operation). LeftBy (image_of d.history.first) l c) none now n)
+        ∙ sym (d.agrees n ∙ ap (λ (l : List Operation). newest n (image_of d.history.first n) l) none)

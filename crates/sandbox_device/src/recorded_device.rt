@@ -51,7 +51,8 @@ impl RecordedDevice {
     ) -> Result<RecordedDevice, AllocError>
         requires { length sectors.now ≤ 65536 }
         ensures sectors { IfOk result (λ d. d.sectors ≡ sectors.now) }
-        ensures unused { IfOk result (λ d. (d.history.first ≡ sectors.now) × (d.history.done ≡ [])) }
+        ensures unused { IfOk result (λ d. (d.history.first ≡ sectors.now) × (d.history.done ≡ [])
+            × (d.history.outcomes ≡ [])) }
         ensures recorded { IfOk result (λ d. (d.is_recorded ≡ is_recorded) × (d.is_whole ≡ is_recorded)) }
     {
         let sectors = Sectors::of(alloc, sectors)?;
@@ -60,7 +61,8 @@ impl RecordedDevice {
 
     fn from_sectors(alloc: Global, sectors: Sectors, is_recorded: bool) -> RecordedDevice
         ensures sectors { result.sectors ≡ sectors }
-        ensures unused { (result.history.first ≡ sectors) × (result.history.done ≡ []) }
+        ensures unused { (result.history.first ≡ sectors) × (result.history.done ≡ [])
+            × (result.history.outcomes ≡ []) }
         ensures recorded { (result.is_recorded ≡ is_recorded) × (result.is_whole ≡ is_recorded) }
     {
         let history = History::of(&sectors);

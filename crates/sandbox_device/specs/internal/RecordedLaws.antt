@@ -2,7 +2,6 @@
 use Rattle.std.specs.Prelude.{◌≡◌, ◌≤◌, ℕ, List, [], ◌∷◌, Bool, length}
 use Rattle.std.proofs.Common.{sym, subst}
 use Rattle.vol_sector.specs.Disk.{Image}
-use Rattle.vol_sector.specs.Counting.{counting}
 use Rattle.vol_sector.specs.internal.CountingLaws.{counting_now, only_counting}
 use Rattle.vol_sector.specs.Record.{newest, recorded, choices, Among, LeftBy, image_of}
 use Rattle.vol_sector.specs.internal.RecordLaws.{stays_left, left_now, only_left}
