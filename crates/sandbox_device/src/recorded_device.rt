@@ -16,13 +16,13 @@ use vol_sector::{Device, DeviceFault, Operation};
 #[derive(Drop)]
 pub struct RecordedDevice {
     sectors: Sectors,
-    record: Vec<Operation>,
+    noted: Vec<Operation>,
     is_recorded: bool,
     is_whole: bool,
     history: History,
     ghost agrees: { (n : ℕ) → image_of sectors n ≡ newest n (image_of history.first n) history.done },
     ghost counted: { count_by (λ passed. passed) history.outcomes ≡ length history.done },
-    ghost whole: { is_whole ≡ true → record.items ≡ history.done },
+    ghost whole: { is_whole ≡ true → noted.items ≡ history.done },
 }
 
 /// Adds an operation to a record that is whole. Where memory is refused, it isn't whole any more.
@@ -68,7 +68,7 @@ impl RecordedDevice {
         let history = History::of(&sectors);
         RecordedDevice {
             sectors,
-            record: Vec::new(alloc),
+            noted: Vec::new(alloc),
             is_recorded,
             is_whole: is_recorded,
             history,
@@ -102,7 +102,7 @@ impl RecordedDevice {
     pub fn operation(&self, n: usize) -> Option<&Operation>
         ensures { self.now.is_whole ≡ true → option_copied result ≡ slice_get self.now.history.done n }
     {
-        self.record.get(n)
+        self.noted.get(n)
     }
 }
 
@@ -139,7 +139,7 @@ impl Device for RecordedDevice {
 
     fn write(&mut self, n: u32, image: &[u8; 512]) -> Result<(), DeviceFault> {
         let operation = Operation::Write(n, *image);
-        note(&mut self.record, &mut self.is_whole, &operation);
+        note(&mut self.noted, &mut self.is_whole, &operation);
         self.sectors.put(n, image);
         self.history = self.history.and(&operation);
         Ok(())
@@ -147,7 +147,7 @@ impl Device for RecordedDevice {
 
     fn sync(&mut self) -> Result<(), DeviceFault> {
         let operation = Operation::Sync;
-        note(&mut self.record, &mut self.is_whole, &operation);
+        note(&mut self.noted, &mut self.is_whole, &operation);
         self.history = self.history.and(&operation);
         Ok(())
     }
