@@ -159,7 +159,7 @@ fn answers_misuse(rt: HostRuntime) {
     assert!(rt; resume(alloc, &mut none, 1, &mut found) == MISUSE && found == told(9, 9, 9));
     assert!(rt; finish(alloc, &mut none) == MISUSE && close(alloc, &mut none) == MISUSE);
     let unknown = VolumeSource {
-        kind: 2,
+        kind: 3,
         sectors: &[],
     };
     let (_, answer) = opened(alloc, &unknown);
