@@ -1,33 +1,27 @@
 -- A record that is done on a disk leaves the trees of the session.
-use Rattle.std.proofs.Common.{◌≡◌, ◌≤◌, ◌⊎◌, ℕ, Bool, List, [], ◌∷◌, length, take, Result, Ok, Err, ⊎_elim, inl, inr, refl, ap, sym, subst, ◌∙◌, arith}
-use Rattle.std.specs.Borrow.{Bor}
+use Rattle.std.proofs.Common.{◌≡◌, ◌⊎◌, List, [], ◌∷◌, Result, Ok, Err, ⊎_elim, inl, inr, ap, sym, subst, ◌∙◌, arith}
 use Rattle.vol_sector.specs.Disk.{Image, Leaves}
-use Rattle.vol_sector.specs.Record.{LeftBy}
 use Rattle.vol_sector.specs.declared.fault.Refused.{Refused}
 use Rattle.vol_tree.specs.declared.superblock.Superblock.{Superblock}
 use Rattle.vol_tree.specs.Tree.{Tree}
 use Rattle.vol_tree.specs.Stands.{StandsAs}
 use Rattle.vol_tree.specs.Opened.{Reflects, ReflectsOr}
-use Rattle.wasm_module.specs.declared.module.Module.{Module}
 use Rattle.sandbox_device.specs.declared.recorded_device.RecordedDevice.{RecordedDevice}
-use Rattle.sandbox_device.specs.Followed.{IsFollowed, first_of, done_on}
+use Rattle.sandbox_device.specs.Followed.{IsFollowed}
 use Rattle.sandbox_device.specs.internal.RecordedLaws.{now_is_since}
 use Rattle.sandbox_host.specs.declared.numbers.Told.{Told}
-use Rattle.sandbox_host.specs.declared.held.Ended.{Ended}
-use Rattle.sandbox_host.specs.declared.supplies.Supplies.{Supplies}
-use Rattle.sandbox_host.specs.declared.volumes.Origin.TheVariants.{Sectors}
 use Rattle.sandbox_host.specs.Host.{State, HostVolume, Commits, disk_of}
-use Rattle.sandbox_host.specs.Sessions.{Begins, Finishes, device_of}
+use Rattle.sandbox_host.specs.Sessions.{device_of}
 use Rattle.sandbox_host.specs.Headline.{Resumed}
 use Rattle.sandbox_host.specs.Settled.{StandsForOne, IsSettled}
 use Rattle.sandbox_host.proofs.Carrying.{OneTree, resumed_same}
 
 -- what a crash may have left of the device at any moment
-Left : RecordedDevice → Image → Type 0
+abbrev Left : RecordedDevice → Image → Type 0
 Left d c = (disk_of d).left_since 0 c
 
 -- what stands for a tree that such an image stands for is such an image
-IsClosed : Superblock → (Image → Type 0) → Type 0
+abbrev IsClosed : Superblock → (Image → Type 0) → Type 0
 IsClosed v P = (c d : Image) (U : Tree) → P d → StandsAs d v U → StandsAs c v U → P c
 
 now_left : (d : RecordedDevice) (c : Image) → (disk_of d).may_leave c → Left d c

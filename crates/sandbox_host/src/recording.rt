@@ -24,7 +24,7 @@ pub struct VolumeOperation {
 
 /// Tells an operation, or that there is none.
 fn tell(operation: Option<&Operation>, told: &mut VolumeOperation)
-    ensures { told.new ≡ told_operation (option_copied operation) told.old }
+    ensures { told.new ≡ told_operation (option_copied operation.entry) told.old }
 {
     match operation {
         Some(Operation::Write(sector, bytes)) => {
