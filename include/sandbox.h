@@ -72,13 +72,22 @@ typedef struct { /* what a guest is given */
 
 typedef struct { /* the guest's volume; borrowed */
     uint32_t kind;                 /* SANDBOX_VOLUME_* */
-    const uint8_t (*sectors)[512]; /* _MEMORY: copied in; sandbox_volume_out copies out */
-    size_t sectors_count;          /* _MEMORY: how many, at most 65,536; else 0 */
+    const uint8_t (*sectors)[512]; /* _MEMORY, _RECORDED: copied in; sandbox_volume_out copies out */
+    size_t sectors_count;          /* _MEMORY, _RECORDED: how many, at most 65,536; else 0 */
 } sandbox_volume;
 enum {
-    SANDBOX_VOLUME_FRESH = 0,  /* empty, 202 sectors and 16 slots */
-    SANDBOX_VOLUME_MEMORY = 1  /* that of these sectors. The host keeps a volume by sandbox_volume_out */
+    SANDBOX_VOLUME_FRESH = 0,    /* empty, 202 sectors and 16 slots */
+    SANDBOX_VOLUME_MEMORY = 1,   /* that of these sectors. The host keeps a volume by sandbox_volume_out */
+    SANDBOX_VOLUME_RECORDED = 2  /* the same, and the session keeps a record of its writes and syncs (sandbox_operation_at), for
+                                  * a volume on a descriptor: DESCRIPTORS below. 520 bytes of memory for each */
 };
+
+typedef struct { /* what a session did to its volume; a caller may pass any numbers in it */
+    uint32_t kind;      /* SANDBOX_WRITE, SANDBOX_SYNC; SANDBOX_NO_OPERATION past the last */
+    uint32_t sector;    /* that was written; else as it was */
+    uint8_t bytes[512]; /* that were written; else as they were */
+} sandbox_operation;
+enum { SANDBOX_NO_OPERATION = 0, SANDBOX_WRITE = 1, SANDBOX_SYNC = 2 }; /* sandbox_operation.kind */
 
 typedef struct { /* why a call came back; a caller may pass any numbers in it */
     uint32_t kind; /* SANDBOX_EXITED .. */
@@ -176,6 +185,13 @@ uint32_t sandbox_finish(sandbox_session **session);
  * that answered 0, they are the volume of a next session, with the guest's files as they were at the end. */
 size_t sandbox_volume_out(sandbox_session **session, uint8_t (*room)[512], size_t count);
 
+/* Tells the write or the sync with this number, from 0 at the opening on, in the order in which the session did them to its
+ * volume. After sandbox_finish, of a session over SANDBOX_VOLUME_RECORDED, else MISUSE. OUT_OF_MEMORY where memory for the
+ * record was refused: then none is told. Who does them on a disk that has the sectors that were handed in, in order, has the
+ * volume's sectors in the end; and where he stops in between, a next session finds the volume as it was at a moment of this
+ * one. */
+uint32_t sandbox_operation_at(sandbox_session **session, size_t number, sandbox_operation *operation);
+
 /* Discards all, also what isn't committed, and makes *session NULL. MISUSE where there is none. */
 uint32_t sandbox_close(sandbox_session **session);
 
@@ -196,6 +212,134 @@ static inline uint32_t sandbox_resume_checked(sandbox_session **s, uint64_t unit
 }
 static inline uint32_t sandbox_finish_checked(sandbox_session **s) { return s ? sandbox_finish(s) : (uint32_t)SANDBOX_MISUSE; }
 static inline uint32_t sandbox_close_checked(sandbox_session **s) { return s ? sandbox_close(s) : (uint32_t)SANDBOX_MISUSE; }
+
+#ifdef SANDBOX_DESCRIPTORS
+/*
+ * DESCRIPTORS, for hosts on POSIX (_POSIX_C_SOURCE 200809L, as gcc has it by itself but with -std=c99 and the like) that define
+ * SANDBOX_DESCRIPTORS before they include this header. The library itself has no
+ * system call. What stands here is C, which is tried and not proved.
+ *
+ * A volume on a descriptor: the host opens it to read and write, locks it (flock, fcntl), and then
+ *
+ *     sandbox_volume_from(fd, &volume);                 reads its sectors
+ *     sandbox_open(&session, .., &volume, &why);        copies them
+ *     sandbox_volume_free(&volume);
+ *     sandbox_resume(..);                               as often as it likes
+ *     sandbox_finish(&session);
+ *     size_t done = 0;
+ *     sandbox_settle(&session, fd, &done);              does what the session did, with fdatasync at each of its syncs
+ *     sandbox_close(&session);
+ *
+ * Once sandbox_settle has answered 0, all that the guest did lasts. Where the host or the machine stops before, the descriptor
+ * has the volume as it was at a moment of the session: with a first part of the guest's calls, and never a damaged one. So what
+ * a guest syncs lasts from sandbox_settle on, and not from its own call on. Where sandbox_settle fails, close the session and
+ * don't call it again; the descriptor has such a moment then, too. Where sandbox_finish has failed, settling is of no use.
+ *
+ * Each answers 0, SANDBOX_DEVICE_FAILED with errno set, SANDBOX_OUT_OF_MEMORY, or SANDBOX_MISUSE.
+ */
+#include <errno.h>
+#include <stdlib.h>
+#include <sys/types.h>
+#include <unistd.h>
+
+/* Reads all sectors of a file or a block device, 65,536 at most, for a session that is recorded. */
+static inline uint32_t sandbox_volume_from(int fd, sandbox_volume *volume) {
+    off_t size = lseek(fd, 0, SEEK_END);
+    size_t count = size < 0 ? 0 : size / 512 > 65536 ? 65536 : (size_t)(size / 512), so_far = 0;
+    uint8_t *sectors = size < 0 ? NULL : (uint8_t *)malloc(count * 512 + 1);
+    if (size < 0 || !sectors)
+        return size < 0 ? SANDBOX_DEVICE_FAILED : SANDBOX_OUT_OF_MEMORY;
+    while (so_far < count * 512) {
+        ssize_t more = pread(fd, sectors + so_far, count * 512 - so_far, (off_t)so_far);
+        if (more > 0)
+            so_far += (size_t)more;
+        else if (more == 0 || errno != EINTR) {
+            free(sectors);
+            return SANDBOX_DEVICE_FAILED;
+        }
+    }
+    volume->kind = SANDBOX_VOLUME_RECORDED;
+    volume->sectors = (const uint8_t(*)[512])sectors;
+    volume->sectors_count = count;
+    return SANDBOX_OK;
+}
+
+/* Once the session is opened, or refused. */
+static inline void sandbox_volume_free(sandbox_volume *volume) {
+    free((void *)volume->sectors);
+    volume->sectors = NULL;
+}
+
+/* Does the operations of a finished session from number *done on, and raises it by each that is done. */
+static inline uint32_t sandbox_settle(sandbox_session **session, int fd, size_t *done) {
+    sandbox_operation operation;
+    uint32_t last = SANDBOX_SYNC;
+    for (;; ++*done) {
+        uint32_t answer = sandbox_operation_at(session, *done, &operation);
+        if (answer != SANDBOX_OK)
+            return answer;
+        if (operation.kind == SANDBOX_WRITE) {
+            size_t written = 0;
+            while (written < 512) {
+                ssize_t more = pwrite(fd, operation.bytes + written, 512 - written, (off_t)operation.sector * 512 + (off_t)written);
+                if (more > 0)
+                    written += (size_t)more;
+                else if (more == 0 || errno != EINTR)
+                    return SANDBOX_DEVICE_FAILED;
+            }
+        } else if ((operation.kind == SANDBOX_SYNC || last == SANDBOX_WRITE) && fdatasync(fd))
+            return SANDBOX_DEVICE_FAILED;
+        if (operation.kind == SANDBOX_NO_OPERATION)
+            return SANDBOX_OK;
+        last = operation.kind;
+    }
+}
+
+/* All bytes of a descriptor up to its end, for sandbox_supplies.input; free((void *)input->at) once the session is closed. */
+static inline uint32_t sandbox_input_from(int fd, sandbox_bytes *input) {
+    size_t room = 65536, length = 0;
+    uint8_t *bytes = (uint8_t *)malloc(room);
+    ssize_t more = 1;
+    while (bytes && more) {
+        more = read(fd, bytes + length, room - length);
+        if (more < 0 && errno != EINTR) {
+            free(bytes);
+            return SANDBOX_DEVICE_FAILED;
+        }
+        length += more > 0 ? (size_t)more : 0;
+        if (length == room) {
+            uint8_t *larger = room <= (size_t)-1 / 2 ? (uint8_t *)realloc(bytes, room *= 2) : NULL;
+            if (!larger)
+                free(bytes);
+            bytes = larger;
+        }
+    }
+    if (!bytes)
+        return SANDBOX_OUT_OF_MEMORY;
+    input->at = bytes;
+    input->length = length;
+    return SANDBOX_OK;
+}
+
+/* Writes what the guest has written to its descriptor 1 or 2 from byte *from on to a descriptor of the host, and raises *from by
+ * each byte. After each resume, and after the last one. */
+static inline uint32_t sandbox_output_to(sandbox_session **session, uint32_t descriptor, int fd, size_t *from) {
+    uint8_t room[4096];
+    for (;;) {
+        size_t all = sandbox_output(session, descriptor, *from, room, sizeof room);
+        size_t count = all <= *from ? 0 : all - *from < sizeof room ? all - *from : sizeof room, written = 0;
+        if (count == 0)
+            return SANDBOX_OK;
+        while (written < count) {
+            ssize_t more = write(fd, room + written, count - written);
+            if (more < 0 && errno != EINTR)
+                return SANDBOX_DEVICE_FAILED;
+            written += more > 0 ? (size_t)more : 0;
+            *from += more > 0 ? (size_t)more : 0;
+        }
+    }
+}
+#endif
 
 #ifdef __cplusplus
 }

@@ -1,4 +1,5 @@
-/* The C interface tried: each misuse that it answers, and what sessions cost. bench/embed builds and calls it. */
+/* The C interface tried: each misuse that it answers, stops while a volume's record is settled, and what sessions cost.
+ * bench/embed builds and calls it. */
 #define _GNU_SOURCE
 #include <malloc.h>
 #include <pthread.h>
@@ -88,7 +89,99 @@ static void misuse(void) {
   want("a volume of zeros", (given.pages = 1, odd = (sandbox_volume){.kind = SANDBOX_VOLUME_MEMORY, .sectors = (const uint8_t(*)[512])sector, .sectors_count = 1},
        sandbox_open(&session, module.at, module.length, &given, &odd, &why) == 30 && !session));
   want("format of too little", sandbox_format(sector, 1, 1) == 36);
+  /* the record of a volume */
+  static uint8_t sectors[137][512];
+  sandbox_operation operation, operation_before;
+  memset(&operation, 7, sizeof operation);
+  operation_before = operation;
+  given.pages = 1024;
+  want("format", sandbox_format(sectors, 137, 4) == SANDBOX_OK);
+  sandbox_volume volume = {.kind = SANDBOX_VOLUME_MEMORY, .sectors = (const uint8_t(*)[512])sectors, .sectors_count = 137};
+  want("operation_at of none", sandbox_operation_at(&session, 0, &operation) == SANDBOX_MISUSE && same(&operation, &operation_before, sizeof operation));
+  for (int recorded = 0; recorded < 2; recorded++) {
+    volume.kind = recorded ? SANDBOX_VOLUME_RECORDED : SANDBOX_VOLUME_MEMORY;
+    want("open over sectors", sandbox_open(&session, module.at, module.length, &given, &volume, &why) == SANDBOX_OK);
+    want("operation_at before finish", sandbox_operation_at(&session, 0, &operation) == SANDBOX_MISUSE && same(&operation, &operation_before, sizeof operation));
+    want("finish over sectors", sandbox_finish(&session) == SANDBOX_OK);
+    if (recorded)
+      want("operation_at past the last", sandbox_operation_at(&session, 1000, &operation) == SANDBOX_OK && operation.kind == SANDBOX_NO_OPERATION);
+    else
+      want("operation_at without a record", sandbox_operation_at(&session, 0, &operation) == SANDBOX_MISUSE && same(&operation, &operation_before, sizeof operation));
+    want("close over sectors", sandbox_close(&session) == SANDBOX_OK);
+  }
   printf("misuse: %u wrong\n", wrong);
+}
+
+enum { STOP_SECTORS = 1000, STOPS = 20000 };
+
+/* A session of the guest with these words over sectors, finished. */
+static void session_over(sandbox_session **session, uint32_t kind, const uint8_t (*sectors)[512], const char *const *texts, size_t count) {
+  sandbox_supplies given = supplies();
+  sandbox_bytes words[8];
+  for (size_t n = 0; n < count; n++)
+    words[n] = (sandbox_bytes){(const uint8_t *)texts[n], strlen(texts[n])};
+  given.args = words, given.args_count = count;
+  const sandbox_volume volume = {.kind = kind, .sectors = sectors, .sectors_count = STOP_SECTORS};
+  sandbox_told told = {0};
+  sandbox_why why;
+  want("open", sandbox_open(session, module.at, module.length, &given, &volume, &why) == SANDBOX_OK);
+  do
+    want("resume", sandbox_resume(session, 10000000 - told.used, &told) == SANDBOX_OK);
+  while (told.kind == SANDBOX_CALLED);
+  want("the guest exits", told.kind == SANDBOX_EXITED);
+  want("finish", sandbox_finish(session) == SANDBOX_OK);
+}
+
+/* Whether the guest finds this value of the key in the sectors. */
+static int finds(const uint8_t (*sectors)[512], const char *key, const char *value) {
+  const char *const words[] = {"keys", "store", "get", key};
+  sandbox_session *session = NULL;
+  uint8_t said[64];
+  session_over(&session, SANDBOX_VOLUME_MEMORY, sectors, words, 4);
+  size_t length = sandbox_output(&session, 1, 0, said, sizeof said);
+  sandbox_close(&session);
+  return length == strlen(value) + 1 && !memcmp(said, value, length - 1);
+}
+
+/* Stops while a session is settled: after each of its operations, and with any of the writes since the last sync left out, as a
+ * disk may. The volume is never damaged, has what was settled before, and in the end what the session put. */
+static void stops(void) {
+  static uint8_t disk[STOP_SECTORS][512], synced[STOP_SECTORS][512], left[STOP_SECTORS][512], out[STOP_SECTORS][512];
+  static sandbox_operation operations[STOPS];
+  unsigned tried = 0, seed = 1;
+  want("format", sandbox_format(disk, STOP_SECTORS, 16) == SANDBOX_OK);
+  for (int put = 0; put < 8; put++) {
+    char key[8], value[8], key_before[8], value_before[8];
+    snprintf(key, sizeof key, "k%d", put), snprintf(value, sizeof value, "v%d", put);
+    snprintf(key_before, sizeof key_before, "k%d", put - 1), snprintf(value_before, sizeof value_before, "v%d", put - 1);
+    const char *const words[] = {"keys", "store", "put", key, value};
+    sandbox_session *session = NULL;
+    session_over(&session, SANDBOX_VOLUME_RECORDED, (const uint8_t(*)[512])disk, words, 5);
+    size_t count = 0, first = 0; /* since the last sync */
+    while (count < STOPS && sandbox_operation_at(&session, count, &operations[count]) == SANDBOX_OK && operations[count].kind != SANDBOX_NO_OPERATION)
+      count++;
+    want("some operations, and the last a sync", count > 1 && count < STOPS && operations[count - 1].kind == SANDBOX_SYNC);
+    want("sectors", sandbox_volume_out(&session, out, STOP_SECTORS) == STOP_SECTORS);
+    sandbox_close(&session);
+    memcpy(synced, disk, sizeof disk);
+    for (size_t k = 0; k <= count; k++) { /* the first k were done */
+      for (int some = 0; some < 4; some++) {
+        memcpy(left, synced, sizeof left);
+        for (size_t i = first; i < k; i++)
+          if (operations[i].kind == SANDBOX_WRITE && (some == 0 || (seed = seed * 1103515245 + 12345) >> 30 & 1))
+            memcpy(left[operations[i].sector], operations[i].bytes, 512);
+        want("a stop leaves a volume with what was settled", put == 0 ? 1 : finds((const uint8_t(*)[512])left, key_before, value_before));
+        tried++;
+      }
+      if (k < count && operations[k].kind == SANDBOX_WRITE)
+        memcpy(disk[operations[k].sector], operations[k].bytes, 512);
+      else if (k < count)
+        memcpy(synced, disk, sizeof disk), first = k + 1;
+    }
+    want("all operations give the sectors", same(disk, out, sizeof disk));
+    want("what was put is found", finds((const uint8_t(*)[512])disk, key, value));
+  }
+  printf("%u stops while sessions are settled: %u wrong\n", tried, wrong);
 }
 
 static int one(sandbox_supplies *given) {
@@ -190,6 +283,8 @@ int main(int argc, char **argv) {
   fclose(file);
   if (!strcmp(argv[2], "misuse"))
     misuse();
+  else if (!strcmp(argv[2], "stops"))
+    stops();
   else
     costs(atol(argv[2]));
   return wrong != 0;

@@ -8,13 +8,14 @@ ghost use Rattle.vol_tree.specs.Stands.{StandsAs, empty_tree};
 ghost use Rattle.wasm_module.specs.declared.module.Module.{Module as ModuleValue};
 ghost use Rattle.sandbox_host.specs.Sessions.{running, finished, loaded, has_session, has_module, output, sectors};
 ghost use Rattle.sandbox_host.specs.Sessions.{IsLoaded, IsShown, Begins, BeginsFrom, Paused, Finishes};
+ghost use Rattle.sandbox_host.specs.Recording.{recorded, operation_of, told_operation};
 ghost use Rattle.sandbox_host.specs.Volumes.{origin_of};
 ghost use Rattle.sandbox_host.specs.Refusals.{NotLoaded, NotBegun, NotOpened};
 ghost use Rattle.sandbox_host.specs.Whole.{Ran, IsUnformatted};
 ghost use Rattle.sandbox_host.specs.Texts.{text_of};
 ghost use Rattle.sandbox_host.specs.declared.volumes.Origin.TheVariants.{Fresh};
 
-use sandbox_host::{Handle, Supplies, Told, VolumeSource, Why};
+use sandbox_host::{Handle, Supplies, Told, VolumeOperation, VolumeSource, Why};
 use std::alloc::Global;
 
 /// The version of the archive.
@@ -176,6 +177,23 @@ pub extern "C" fn sandbox_volume_out(
     ensures kept { session.new.held ≡ session.old.held }
 {
     sandbox_host::volume_out(alloc, session, room)
+}
+
+/// Tells what was done to the volume.
+#[unsafe(no_mangle)]
+pub extern "C" fn sandbox_operation_at(
+    alloc: Global,
+    session: &mut Handle,
+    number: usize,
+    told: &mut VolumeOperation,
+) -> u32
+    ensures misuse { is_none (recorded session.old.held) ≡ true → (result ≡ 100) × (told.new ≡ told.old) }
+    ensures lost { IfSome (recorded session.old.held) (λ d. d.is_whole ≡ false → (result ≡ 40) × (told.new ≡ told.old)) }
+    ensures told { IfSome (recorded session.old.held) (λ d. d.is_whole ≡ true
+        → (result ≡ 0) × (told.new ≡ told_operation (operation_of d number) told.old)) }
+    ensures kept { session.new.held ≡ session.old.held }
+{
+    sandbox_host::operation_at(alloc, session, number, told)
 }
 
 /// Discards a session.

@@ -1,3 +1,4 @@
 mod Ram
 mod File
+pub mod Recorded
 pub mod Packing

@@ -1,3 +1,4 @@
 pub mod RamLaws
 pub mod FileLaws
 pub mod Packing
+pub mod RecordedLaws

@@ -31,12 +31,12 @@ impl Model for Sectors {
 fn is_zeros(image: &[u8; 512]) -> bool
     ensures { IsTrue result → image.now ≡ replicate 512 0 }
 {
-    // (An array is compared byte after byte, up to the first that differs. A sum is taken of many at a time.)
-    let mut sum: u32 = 0;
+    // (An array is compared byte after byte, up to the first that differs. The largest is found of many at a time.)
+    let mut largest: u8 = 0;
     for byte in image {
-        sum += u32::from(*byte);
+        largest = largest.max(*byte);
     }
-    sum == 0
+    largest == 0
 }
 
 impl Sectors {

@@ -11,7 +11,8 @@ use Rattle.vol_tree.specs.Tree.{Tree}
 use Rattle.vol_tree.specs.Stands.{StandsAs}
 use Rattle.vol_tree.specs.Opening.{StandsOn}
 use Rattle.vol_tree.proofs.OneTree.{version_is}
-use Rattle.sandbox_device.specs.declared.ram_device.RamDevice.{RamDevice}
+use Rattle.sandbox_device.specs.internal.RecordedLaws.{now_may_stay}
+use Rattle.sandbox_device.specs.declared.recorded_device.RecordedDevice.{RecordedDevice}
 use Rattle.sandbox_host.specs.declared.numbers.Told.{Told}
 use Rattle.sandbox_host.specs.declared.held.Ended.{Ended}
 use Rattle.sandbox_host.specs.declared.volumes.Origin.{Origin}
@@ -53,17 +54,17 @@ opens_again one sectors numbers tree stands room few = record {
 
 -- ---- what a commit that succeeded leaves
 
-record Leaves (v : HostVolume) (device : RamDevice) : Type 0 where
+record Leaves (v : HostVolume) (device : RecordedDevice) : Type 0 where
   stands : StandsAs (image_of device.sectors) v.numbers v.tree
   size : length device.sectors ≡ size_of v.device
 
-leaves : (v : HostVolume) (result : Result HostVolume (Refused RamDevice)) (device : RamDevice) → Commits v result → device ≡ device_of result → 0 ≡ commit_number result → Leaves v device
+leaves : (v : HostVolume) (result : Result HostVolume (Refused RecordedDevice)) (device : RecordedDevice) → Commits v result → device ≡ device_of result → 0 ≡ commit_number result → Leaves v device
 leaves v (Ok w) device commits is told =
-    let last : RamDevice = commits.new.device in
+    let last : RecordedDevice = commits.new.device in
     let same : device ≡ last = is ∙ ap (λ (x : HostVolume). x.device) commits.handed_back in
     record {
-      stands = subst (λ (d : RamDevice). StandsAs (image_of d.sectors) v.numbers v.tree) (sym same) (commits.durable tt refl (image_of last.sectors) refl);
-      size = ap (λ (d : RamDevice). length d.sectors) same ∙ commits.kept.size;
+      stands = subst (λ (d : RecordedDevice). StandsAs (image_of d.sectors) v.numbers v.tree) (sym same) (commits.durable tt refl (image_of last.sectors) (now_may_stay last.sectors last.history.first last.history.done last.history.outcomes last.agrees));
+      size = ap (λ (d : RecordedDevice). length d.sectors) same ∙ commits.kept.size;
     }
 leaves v (Err r) device commits is told = absurd (omega (arith, told))
 
@@ -77,11 +78,11 @@ carried one s e fits ends =
 
 -- ---- from the opening on
 
-record Same (old new : HostVolume) : Type 0 where
-  numbers : new.numbers ≡ old.numbers
-  size : size_of new.device ≡ size_of old.device
+pub record Same (old new : HostVolume) : Type 0 where
+  pub numbers : new.numbers ≡ old.numbers
+  pub size : size_of new.device ≡ size_of old.device
 
-resumed_same : (s s' : State) (rs : List (Told × State)) → Resumed s rs s' → Same s.host.volume s'.host.volume
+pub resumed_same : (s s' : State) (rs : List (Told × State)) → Resumed s rs s' → Same s.host.volume s'.host.volume
 resumed_same s s' [] is = record {
   numbers = ap (λ (t : State). t.host.volume.numbers) is;
   size = ap (λ (t : State). size_of t.host.volume.device) is;
@@ -92,7 +93,7 @@ resumed_same s s' (r ∷ rs) is =
 
 fits_at_first : (origin : Origin) (v : HostVolume) → IsVolume origin v → Fits v
 fits_at_first Fresh v is = record { room = omega (arith, is.size, ap (λ (n : Superblock). n.sectors) is.numbers); few = omega (arith, is.size) }
-fits_at_first (Sectors sectors) v is = record { room = omega (arith, is.size, is.stands.room); few = omega (arith, is.size, is.few) }
+fits_at_first (Sectors sectors recorded) v is = record { room = omega (arith, is.size, is.stands.room); few = omega (arith, is.size, is.few) }
 
 fits_then : (old new : HostVolume) → Same old new → Fits old → Fits new
 fits_then old new same fits = record {

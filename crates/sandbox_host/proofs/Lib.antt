@@ -2,5 +2,6 @@ pub mod AsBox
 pub mod Carrying
 pub mod Closed
 pub mod Resuming
+pub mod Settling
 pub mod Working
 pub mod WrittenItems

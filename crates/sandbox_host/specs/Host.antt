@@ -8,23 +8,23 @@ use Rattle.vol_tree.specs.Opened.{Opened}
 use Rattle.wasm_module.specs.declared.module.Module.{Module}
 use Rattle.wasm_steps.specs.declared.pause.Pause.{Pause}
 use Rattle.wasi_calls.specs.declared.wasi_host.HostParts.{HostParts}
-use Rattle.sandbox_device.specs.declared.ram_device.RamDevice.{RamDevice}
-use Rattle.sandbox_device.specs.contracts.ram_device.RamDeviceDevice.TheImpl.{ghosts}
+use Rattle.sandbox_device.specs.declared.recorded_device.RecordedDevice.{RecordedDevice}
+use Rattle.sandbox_device.specs.contracts.recorded_device.RecordedDeviceDevice.TheImpl.{ghosts}
 use Rattle.sandbox_core.specs.Session as core
 use Rattle.sandbox_core.specs.declared.report.Report.{Report}
 use Rattle.sandbox_core.specs.Report as report
 
 -- what is known of a device in memory: it always keeps its model
-abbrev pub IsHonest : RamDevice → Type 0
+abbrev pub IsHonest : RecordedDevice → Type 0
 IsHonest = ghosts.honest
 
-abbrev pub disk_of : RamDevice → Disk
+abbrev pub disk_of : RecordedDevice → Disk
 disk_of = ghosts.disk
 
-abbrev pub size_of : RamDevice → ℕ
+abbrev pub size_of : RecordedDevice → ℕ
 size_of = ghosts.size
 
-abbrev pub failures_of : RamDevice → ℕ
+abbrev pub failures_of : RecordedDevice → ℕ
 failures_of = ghosts.failures
 
 abbrev pub Bytes : Type 0
@@ -38,16 +38,16 @@ written bytes = Some bytes.items
 
 -- a session, its volume, what it is made of, and the report of a run
 abbrev pub State : Type 0
-State = core.SessionState RamDevice (Bor (List ℕ)) Bytes Bytes
+State = core.SessionState RecordedDevice (Bor (List ℕ)) Bytes Bytes
 
 abbrev pub HostVolume : Type 0
-HostVolume = Opened RamDevice
+HostVolume = Opened RecordedDevice
 
 abbrev pub Parts : Type 0
-Parts = HostParts RamDevice (Bor (List ℕ)) Bytes Bytes
+Parts = HostParts RecordedDevice (Bor (List ℕ)) Bytes Bytes
 
 abbrev pub HostReport : Type 0
-HostReport = Report RamDevice (Bor (List ℕ)) Bytes Bytes
+HostReport = Report RecordedDevice (Bor (List ℕ)) Bytes Bytes
 
 -- what the calls of a session say, at these types
 abbrev pub Opens : Module → Parts → State → Type 0
@@ -59,7 +59,7 @@ Shares = core.Shares IsHonest disk_of size_of failures_of
 abbrev pub Resumes : State → State → ℕ → Pause → Type 0
 Resumes = core.Resumes IsHonest disk_of size_of failures_of remaining written written
 
-abbrev pub Commits : HostVolume → Result HostVolume (Refused RamDevice) → Type 0
+abbrev pub Commits : HostVolume → Result HostVolume (Refused RecordedDevice) → Type 0
 Commits = core.Commits IsHonest disk_of size_of failures_of
 
 abbrev pub Reports : State → ℕ → HostReport → Type 0

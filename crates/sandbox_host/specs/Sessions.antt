@@ -6,7 +6,7 @@ use Rattle.wasm_module.specs.Module.{Spells}
 use Rattle.wasm_valid.specs.Validity.{IsValid}
 use Rattle.wasm_steps.specs.declared.pause.Pause.{Pause}
 use Rattle.sandbox_core.specs.Session.{given, used_by}
-use Rattle.sandbox_device.specs.declared.ram_device.RamDevice.{RamDevice}
+use Rattle.sandbox_device.specs.declared.recorded_device.RecordedDevice.{RecordedDevice}
 use Rattle.sandbox_host.specs.declared.numbers.Told.{Told}
 use Rattle.sandbox_host.specs.declared.supplies.Supplies.{Supplies}
 use Rattle.sandbox_host.specs.declared.volumes.Origin.{Origin}
@@ -131,17 +131,17 @@ pub record Paused (units : ℕ) (old new : State) (told : Told) : Type 0 where
   pub tells : told ≡ told_pause pause (used_by new)
 
 -- the device of what is handed back of a volume, and the number that is answered
-abbrev pub device_of : Result HostVolume (Refused RamDevice) → RamDevice
+abbrev pub device_of : Result HostVolume (Refused RecordedDevice) → RecordedDevice
 device_of (Ok v) = v.device
 device_of (Err r) = r.device
 
-abbrev pub commit_number : Result HostVolume (Refused RamDevice) → ℕ
+abbrev pub commit_number : Result HostVolume (Refused RecordedDevice) → ℕ
 commit_number (Ok v) = 0
 commit_number (Err r) = 33
 
 -- The session's calls are committed, and what it leaves is its module, the volume's device then, and what it has written.
 pub record Finishes (s : State) (e : Ended) (number : ℕ) : Type 0 where
-  pub volume : Result HostVolume (Refused RamDevice)
+  pub volume : Result HostVolume (Refused RecordedDevice)
   pub commits : Commits s.host.volume volume
   pub device : e.device ≡ device_of volume
   pub number_told : number ≡ commit_number volume

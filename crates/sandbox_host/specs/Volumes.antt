@@ -1,5 +1,5 @@
 -- The volume of a guest: a fresh one of 202 sectors and 16 slots, or that of sectors that a host hands in.
-use Rattle.std.specs.Prelude.{◌≡◌, ◌≤◌, ◌<◌, ◌==◌, ℕ, List, length, Option, Some, None, false, if◌then◌else◌}
+use Rattle.std.specs.Prelude.{◌≡◌, ◌≤◌, ◌<◌, ◌==◌, ℕ, List, length, Option, Some, None, true, false, if◌then◌else◌}
 use Rattle.vol_sector.specs.Disk.{Image}
 use Rattle.vol_sector.specs.Record.{image_of}
 use Rattle.vol_sector.specs.declared.fault.VolumeFault.{VolumeFault}
@@ -13,7 +13,7 @@ use Rattle.sandbox_host.specs.declared.volumes.Origin.{Origin}
 use Rattle.sandbox_host.specs.declared.volumes.Origin.TheVariants.{Fresh, Sectors}
 
 abbrev pub origin_of : VolumeSource → Option Origin
-origin_of s = if s.kind == 0 then Some Fresh else (if s.kind == 1 then Some (Sectors s.sectors) else None)
+origin_of s = if s.kind == 0 then Some Fresh else (if s.kind == 1 then Some (Sectors s.sectors false) else (if s.kind == 2 then Some (Sectors s.sectors true) else None))
 
 -- A volume that works, and each crash leaves its tree.
 pub record Works (v : HostVolume) : Type 0 where
@@ -27,16 +27,18 @@ pub record IsNew (v : HostVolume) : Type 0 where
   pub size : size_of v.device ≡ 202
   pub working : Works v
 
--- what these sectors stand for, on a device that has as many
+-- What these sectors stand for, on a device that has as many. Each image that a crash may have left since they were handed in
+-- stands for it, too.
 pub record IsIn (sectors : List (List ℕ)) (v : HostVolume) : Type 0 where
   pub few : length sectors ≤ 65536
   pub stands : StandsOn (length sectors) (image_of sectors) v.numbers v.tree
   pub size : size_of v.device ≡ length sectors
   pub working : Works v
+  pub since : (c : Image) → (disk_of v.device).left_since 0 c → StandsAs c v.numbers v.tree
 
 abbrev pub IsVolume : Origin → HostVolume → Type 0
 IsVolume Fresh v = IsNew v
-IsVolume (Sectors sectors) v = IsIn sectors.now v
+IsVolume (Sectors sectors recorded) v = IsIn sectors.now v
 
 -- Why the volume of these sectors isn't opened.
 abbrev pub RefusesSectors : List (List ℕ) → VolumeFault → Type 0
@@ -51,4 +53,4 @@ RefusesSectors sectors fault.Memory = Unit {0}
 
 abbrev pub RefusesVolume : Origin → VolumeFault → Type 0
 RefusesVolume Fresh f = f ≡ fault.Memory
-RefusesVolume (Sectors sectors) f = RefusesSectors sectors.now f
+RefusesVolume (Sectors sectors recorded) f = RefusesSectors sectors.now f

@@ -5,17 +5,17 @@ ghost use Rattle.sandbox_host.specs.Sessions.{stream};
 
 use crate::showing::show_sectors;
 use sandbox_core::{Session, Valid};
-use sandbox_device::RamDevice;
+use sandbox_device::RecordedDevice;
 use vol_sector::Device;
 
 /// A session of a host, over its device, whose output is kept in memory.
-pub type HostSession<'a> = Session<'a, 'a, 'a, RamDevice, &'a [u8], Vec<u8>, Vec<u8>>;
+pub type HostSession<'a> = Session<'a, 'a, 'a, RecordedDevice, &'a [u8], Vec<u8>, Vec<u8>>;
 
 /// What a finished session leaves.
 #[derive(Drop)]
 pub struct Ended {
     pub valid: Valid<'static>,
-    pub device: RamDevice,
+    pub device: RecordedDevice,
     pub out: Vec<u8>,
     pub err: Vec<u8>,
 }

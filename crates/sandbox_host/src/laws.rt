@@ -2,9 +2,11 @@
 
 ghost use Rattle.sandbox_host.specs.Headline.{HostHeadline};
 ghost use Rattle.sandbox_host.specs.Carried.{IsCarried, IsCarriedOn};
+ghost use Rattle.sandbox_host.specs.Settled.{IsSettled};
 
 use sandbox_core::laws::{headline, turns_are_safe};
-use sandbox_device::RamDevice;
+use sandbox_device::RecordedDevice;
+use sandbox_device::laws::record_is_followed;
 use vol_tree::one_tree;
 
 /// Whatever is called on a session that was opened, the calls of `resume` are resumes of it, told by their numbers, and the
@@ -14,8 +16,8 @@ use vol_tree::one_tree;
 pub fn host_headline()
     ensures { HostHeadline }
 {
-    headline::<RamDevice, &'static [u8], Vec<u8>, Vec<u8>>();
-    turns_are_safe::<RamDevice, &'static [u8], Vec<u8>, Vec<u8>>();
+    headline::<RecordedDevice, &'static [u8], Vec<u8>, Vec<u8>>();
+    turns_are_safe::<RecordedDevice, &'static [u8], Vec<u8>, Vec<u8>>();
 }
 
 /// Where `finish` answers 0, the sectors that it leaves are opened again as a volume with the same numbers and the tree at the
@@ -25,4 +27,13 @@ pub fn volume_is_carried()
     ensures from_the_opening { IsCarriedOn }
 {
     one_tree();
+}
+
+/// On a disk that has the sectors that a session's device began with, the writes and syncs of the session are done in order:
+/// whatever a stop in between leaves stands for the tree at the opening, or for that after a resume.
+pub fn record_is_settled()
+    ensures { IsSettled }
+{
+    one_tree();
+    record_is_followed();
 }

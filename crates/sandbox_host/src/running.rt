@@ -2,13 +2,14 @@
 
 ghost use Rattle.std.specs.Prelude.{◌≡◌, ◌≢◌, ◌⊎◌, None, Some, IfSome, IsSomeAnd, is_none, true, false, length, drop, min, take, ◌++◌};
 ghost use Rattle.sandbox_host.specs.Sessions.{running, running_in, finished, finished_in, loaded, has_session, has_module};
-ghost use Rattle.sandbox_host.specs.Sessions.{output, sectors, IsShown, Paused, Finishes};
+ghost use Rattle.sandbox_host.specs.Sessions.{output, sectors, IsShown, Paused, Finishes, device_of, commit_number};
 
 use crate::handle::Handle;
 use crate::held::{Ended, Held, HostSession};
 use crate::numbers::{DEVICE_FAILED, MISUSE, OK, Told, told_pause};
 use crate::showing::{show, show_sectors};
-use sandbox_core::Finished;
+use sandbox_core::{Finished, Volume};
+use sandbox_device::RecordedDevice;
 use std::alloc::Global;
 use vol_sector::Refused;
 
@@ -80,6 +81,19 @@ pub fn volume_out(alloc: Global, session: &mut Handle, room: &mut [[u8; 512]]) -
     length
 }
 
+/// The device of a volume that is handed back, or of one that is refused, and whether it failed.
+fn handed_back(
+    volume: Result<Volume<RecordedDevice>, Refused<RecordedDevice>>,
+) -> (RecordedDevice, u32)
+    ensures device { result.0 ≡ device_of volume }
+    ensures number { result.1 ≡ commit_number volume }
+{
+    match volume {
+        Ok(volume) => (volume.into_device(), OK),
+        Err(Refused { device, .. }) => (device, DEVICE_FAILED),
+    }
+}
+
 /// Commits a session's calls. What is left of it, and whether its device failed.
 fn end(session: HostSession<'static>) -> (Ended, u32)
     ensures { Finishes session.entry result.0 result.1 }
@@ -93,10 +107,7 @@ fn end(session: HostSession<'static>) -> (Ended, u32)
             ..
         },
     ) = session.finish_with_module();
-    let (device, number) = match volume {
-        Ok(volume) => (volume.into_device(), OK),
-        Err(Refused { device, .. }) => (device, DEVICE_FAILED),
-    };
+    let (device, number) = handed_back(volume);
     (
         Ended {
             valid,

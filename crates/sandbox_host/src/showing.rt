@@ -3,7 +3,7 @@
 ghost use Rattle.std.specs.Prelude.{◌≡◌};
 ghost use Rattle.sandbox_host.specs.Sessions.{IsShown};
 
-use sandbox_device::RamDevice;
+use sandbox_device::RecordedDevice;
 use vol_sector::Device;
 
 /// Copies as many items as there is room for.
@@ -15,7 +15,7 @@ pub(crate) fn show<T: Copy>(items: &[T], room: &mut [T])
 }
 
 /// Copies the sectors of a device in memory, as many as there is room for.
-pub(crate) fn show_sectors(device: &RamDevice, room: &mut [[u8; 512]])
+pub(crate) fn show_sectors(device: &RecordedDevice, room: &mut [[u8; 512]])
     ensures { IsShown device.now.sectors room.old room.new }
 {
     let count = room.len().min(device.sectors() as usize);

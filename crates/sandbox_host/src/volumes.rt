@@ -4,7 +4,7 @@ ghost use Rattle.std.specs.Prelude.{◌≡◌, IfOk, IfErr};
 ghost use Rattle.sandbox_host.specs.Volumes.{IsVolume, RefusesVolume};
 
 use sandbox_core::Volume;
-use sandbox_device::RamDevice;
+use sandbox_device::RecordedDevice;
 use std::alloc::Global;
 use vol_sector::{Refused, VolumeFault};
 
@@ -21,7 +21,7 @@ pub(crate) const MOST_SECTORS: usize = 65_536;
 #[repr(C)]
 #[derive(Clone, Copy)]
 pub struct VolumeSource<'a> {
-    /// 0 a fresh volume, 1 that of the sectors.
+    /// 0 a fresh volume, 1 that of the sectors, 2 the same, of which a record is kept.
     pub kind: u32,
     pub sectors: &'a [[u8; 512]],
 }
@@ -31,8 +31,8 @@ pub struct VolumeSource<'a> {
 pub enum Origin<'a> {
     /// An empty one is made in memory.
     Fresh,
-    /// It is that of these sectors, which are copied.
-    Sectors(&'a [[u8; 512]]),
+    /// It is that of these sectors, which are copied; what is done to it may be recorded.
+    Sectors(&'a [[u8; 512]], bool),
 }
 
 impl<'a> VolumeSource<'a> {
@@ -44,18 +44,19 @@ impl<'a> VolumeSource<'a> {
     {
         match self.kind {
             0 => Some(Origin::Fresh),
-            1 => Some(Origin::Sectors(self.sectors)),
+            1 => Some(Origin::Sectors(self.sectors, false)),
+            2 => Some(Origin::Sectors(self.sectors, true)),
             _ => None,
         }
     }
 }
 
 /// Makes an empty volume in memory, and opens it.
-fn open_fresh(alloc: Global) -> Result<Volume<RamDevice>, VolumeFault>
+fn open_fresh(alloc: Global) -> Result<Volume<RecordedDevice>, VolumeFault>
     ensures opens { IfOk result (IsVolume Origin.Fresh) }
     ensures refused { IfErr result (RefusesVolume Origin.Fresh) }
 {
-    let device = RamDevice::new(alloc, FRESH_SECTORS)?;
+    let device = RecordedDevice::new(alloc, FRESH_SECTORS)?;
     let device = match Volume::format(device, FRESH_SECTORS, FRESH_SLOTS) {
         Ok(device) => device,
         Err(Refused { fault, .. }) => return Err(fault),
@@ -67,14 +68,18 @@ fn open_fresh(alloc: Global) -> Result<Volume<RamDevice>, VolumeFault>
 }
 
 /// Opens the volume that sectors hold, of which a copy is made.
-fn open_sectors(alloc: Global, sectors: &[[u8; 512]]) -> Result<Volume<RamDevice>, VolumeFault>
-    ensures opens { IfOk result (IsVolume (Origin.Sectors sectors.entry)) }
-    ensures refused { IfErr result (RefusesVolume (Origin.Sectors sectors.entry)) }
+fn open_sectors(
+    alloc: Global,
+    sectors: &[[u8; 512]],
+    is_recorded: bool,
+) -> Result<Volume<RecordedDevice>, VolumeFault>
+    ensures opens { IfOk result (IsVolume (Origin.Sectors sectors.entry is_recorded)) }
+    ensures refused { IfErr result (RefusesVolume (Origin.Sectors sectors.entry is_recorded)) }
 {
     if sectors.len() > MOST_SECTORS {
         return Err(VolumeFault::Geometry);
     }
-    let device = RamDevice::of(alloc, sectors)?;
+    let device = RecordedDevice::of(alloc, sectors, is_recorded)?;
     match Volume::open(alloc, device) {
         Ok(volume) => Ok(volume),
         Err(Refused { fault, .. }) => Err(fault),
@@ -85,12 +90,12 @@ fn open_sectors(alloc: Global, sectors: &[[u8; 512]]) -> Result<Volume<RamDevice
 pub(crate) fn open_volume(
     alloc: Global,
     origin: Origin<'_>,
-) -> Result<Volume<RamDevice>, VolumeFault>
+) -> Result<Volume<RecordedDevice>, VolumeFault>
     ensures opens { IfOk result (IsVolume origin.entry) }
     ensures refused { IfErr result (RefusesVolume origin.entry) }
 {
     match origin {
         Origin::Fresh => open_fresh(alloc),
-        Origin::Sectors(sectors) => open_sectors(alloc, sectors),
+        Origin::Sectors(sectors, is_recorded) => open_sectors(alloc, sectors, is_recorded),
     }
 }

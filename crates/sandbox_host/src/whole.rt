@@ -16,7 +16,7 @@ use crate::showing::{show, show_sectors};
 use crate::supplies::Supplies;
 use crate::volumes::{MOST_SECTORS, Origin};
 use sandbox_core::{Report, Volume};
-use sandbox_device::RamDevice;
+use sandbox_device::RecordedDevice;
 use std::alloc::Global;
 use vol_sector::Refused;
 
@@ -76,7 +76,7 @@ pub fn format(alloc: Global, sectors: &mut [[u8; 512]], slots: u32) -> u32
         return GEOMETRY;
     }
     let count = sectors.len() as u32;
-    let Ok(device) = RamDevice::of(alloc, sectors) else {
+    let Ok(device) = RecordedDevice::of(alloc, sectors, false) else {
         return OUT_OF_MEMORY;
     };
     match Volume::format(device, count, slots) {

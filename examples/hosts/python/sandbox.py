@@ -50,6 +50,10 @@ class Told(c.Structure):
     _fields_ = [("kind", c.c_uint32), ("code", c.c_uint32), ("call", c.c_uint32), ("used", c.c_uint64)]
 
 
+class _Operation(c.Structure):
+    _fields_ = [("kind", c.c_uint32), ("sector", c.c_uint32), ("bytes", c.c_uint8 * 512)]
+
+
 class _Why(c.Structure):
     _fields_ = [("fault", c.c_uint32), ("offset", c.c_uint32)]
 
@@ -106,7 +110,7 @@ class Module:
 class Session:
     """A guest with what it is given; `with` closes it, and its module can be used again then."""
 
-    def __init__(self, module, args=(), env=(), preopens=(("/", "/"),), moment=0, random=b"", pages=1024, input=b"", volume=None):
+    def __init__(self, module, args=(), env=(), preopens=(("/", "/"),), moment=0, random=b"", pages=1024, input=b"", volume=None, recorded=False):
         def texts(given):
             return [it.encode() if isinstance(it, str) else bytes(it) for it in given]
 
@@ -114,7 +118,7 @@ class Session:
         array = (_Bytes * max(1, len(args)))(*map(_Bytes.of, args)), (_Bytes * max(1, len(env)))(*map(_Bytes.of, env))
         opened = (_Preopen * max(1, len(names)))(*[_Preopen(_Bytes.of(name), _Bytes.of(path)) for name, path in zip(names, paths)])
         given = _Supplies(array[0], len(args), array[1], len(env), opened, len(names), moment, _Bytes.of(random), pages, _Bytes.of(input))
-        over = _Volume(1, volume, len(volume) // 512) if volume is not None else _Volume(0, b"", 0)
+        over = _Volume(1 + recorded, volume, len(volume) // 512) if volume is not None else _Volume(0, b"", 0)
         self._kept, self._module, self._raw = (args, env, names, paths, array, opened, random, input, module), module, c.c_void_p()
         _check(_lib.sandbox_open_loaded(c.byref(self._raw), c.byref(module._raw), c.byref(given), c.byref(over)))
 
@@ -145,6 +149,23 @@ class Session:
         room = c.create_string_buffer(512 * max(1, count))
         _lib.sandbox_volume_out(c.byref(self._raw), room, c.c_size_t(count))
         return room.raw[:512 * count]
+
+    def settle(self, descriptor):
+        """Does what a finished session did to its volume on a descriptor, with `fdatasync` at each of its syncs. The session
+        was opened with the descriptor's bytes as `volume`, and `recorded`. What the guest did lasts then; a stop before leaves
+        the volume as it was at a moment of the session."""
+        operation, number, last = _Operation(), 0, 2
+        while True:
+            _check(_lib.sandbox_operation_at(c.byref(self._raw), c.c_size_t(number), c.byref(operation)))
+            if operation.kind == 1:
+                done = 0
+                while done < 512:
+                    done += os.pwrite(descriptor, bytes(operation.bytes)[done:], 512 * operation.sector + done)
+            elif operation.kind == 2 or last == 1:
+                os.fdatasync(descriptor)
+            if operation.kind == 0:
+                return
+            number, last = number + 1, operation.kind
 
     def close(self):
         """Discards the session, finished where it wasn't. Its module can be used again."""

@@ -186,7 +186,7 @@ fn answers_misuse(rt: HostRuntime) {
     assert_empty(&rt, alloc, &mut none);
     drop(none);
     let unknown = VolumeSource {
-        kind: 2,
+        kind: 3,
         sectors: &[],
     };
     let (session, answer) = opened(alloc, &unknown);

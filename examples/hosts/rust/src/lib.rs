@@ -5,8 +5,11 @@
 //! borrowed for as long as its session lives. Both may go to another thread; each thread can have its own.
 mod sys;
 
+use std::error::Error;
 use std::fmt;
+use std::fs::File;
 use std::marker::PhantomData;
+use std::os::unix::fs::FileExt;
 use std::ptr::null_mut;
 
 /// The bytes of a volume's sectors.
@@ -29,7 +32,7 @@ impl fmt::Display for Refused {
     }
 }
 
-impl std::error::Error for Refused {}
+impl Error for Refused {}
 
 fn answered(number: u32) -> Result<(), Refused> {
     match number {
@@ -87,12 +90,20 @@ impl<'a> Module<'a> {
 
     /// A session of the module, over these sectors, or over an empty volume that is discarded at the end. A refusal gives the
     /// module back.
-    pub fn open(mut self, supplies: &Supplies<'a>, volume: Option<&[[u8; 512]]>) -> Result<Session<'a>, (Refused, Module<'a>)> {
+    pub fn open(self, supplies: &Supplies<'a>, volume: Option<&[[u8; 512]]>) -> Result<Session<'a>, (Refused, Module<'a>)> {
+        match volume {
+            None => self.open_over(supplies, sys::Volume { kind: 0, sectors: [].as_ptr(), sectors_count: 0 }),
+            Some(sectors) => self.open_over(supplies, sys::Volume { kind: 1, sectors: sectors.as_ptr(), sectors_count: sectors.len() }),
+        }
+    }
+
+    /// A session over these sectors, which are those of a file: [`Session::settle`] does there what the session did.
+    pub fn open_recorded(self, supplies: &Supplies<'a>, sectors: &[[u8; 512]]) -> Result<Session<'a>, (Refused, Module<'a>)> {
+        self.open_over(supplies, sys::Volume { kind: 2, sectors: sectors.as_ptr(), sectors_count: sectors.len() })
+    }
+
+    fn open_over(mut self, supplies: &Supplies<'a>, volume: sys::Volume) -> Result<Session<'a>, (Refused, Module<'a>)> {
         let kept = Kept::of(supplies);
-        let volume = match volume {
-            None => sys::Volume { kind: 0, sectors: [].as_ptr(), sectors_count: 0 },
-            Some(sectors) => sys::Volume { kind: 1, sectors: sectors.as_ptr(), sectors_count: sectors.len() },
-        };
         let mut raw = null_mut();
         // SAFETY: what the supplies lead to is in `kept`, beside the session, or borrowed as long as it.
         match unsafe { sys::sandbox_open_loaded(&mut raw, &mut self.raw, &kept.supplies(supplies), &volume) } {
@@ -206,6 +217,27 @@ impl<'a> Session<'a> {
             sys::sandbox_volume_out(&mut self.raw, sectors.as_mut_ptr(), count);
             Ok(sectors)
         }
+    }
+
+    /// Does what a finished session did to its volume on the file that has the sectors it was opened over, with a sync at each of
+    /// its syncs. What the guest did lasts then; a stop before leaves the volume as it was at a moment of the session.
+    pub fn settle(&mut self, file: &File) -> Result<(), Box<dyn Error>> {
+        let mut operation = sys::Operation { kind: 0, sector: 0, bytes: [0; 512] };
+        let mut is_written = false;
+        for number in 0.. {
+            // SAFETY: `raw` is a session.
+            answered(unsafe { sys::sandbox_operation_at(&mut self.raw, number, &mut operation) })?;
+            match operation.kind {
+                1 => file.write_all_at(&operation.bytes, u64::from(operation.sector) * 512)?,
+                2 => file.sync_data()?,
+                _ => break,
+            }
+            is_written = operation.kind == 1;
+        }
+        if is_written {
+            file.sync_data()?;
+        }
+        Ok(())
     }
 
     /// Discards the session, and gives its module back. What wasn't finished is finished first.

@@ -56,6 +56,13 @@ pub struct Why {
     pub offset: u32,
 }
 
+#[repr(C)]
+pub struct Operation {
+    pub kind: u32,
+    pub sector: u32,
+    pub bytes: [u8; 512],
+}
+
 extern "C" {
     pub fn sandbox_version() -> u32;
     pub fn sandbox_text(kind: u32, number: u32, room: *mut u8, length: usize) -> usize;
@@ -71,6 +78,7 @@ extern "C" {
     pub fn sandbox_output(session: *mut *mut OpaqueSession, descriptor: u32, from: usize, room: *mut u8, length: usize) -> usize;
     pub fn sandbox_finish(session: *mut *mut OpaqueSession) -> u32;
     pub fn sandbox_volume_out(session: *mut *mut OpaqueSession, room: *mut [u8; 512], count: usize) -> usize;
+    pub fn sandbox_operation_at(session: *mut *mut OpaqueSession, number: usize, operation: *mut Operation) -> u32;
     pub fn sandbox_close(session: *mut *mut OpaqueSession) -> u32;
     pub fn sandbox_close_loaded(session: *mut *mut OpaqueSession, module: *mut *mut OpaqueModule) -> u32;
     pub fn sandbox_format(sectors: *mut [u8; 512], count: usize, slots: u32) -> u32;

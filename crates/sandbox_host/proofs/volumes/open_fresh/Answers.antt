@@ -1,4 +1,5 @@
-use Rattle.std.proofs.Common.{◌≡◌, ◌≤◌, ◌∙◌, arith}
+use Rattle.std.proofs.Common.{◌≡◌, ◌≤◌, ◌∙◌, ap, length, replicate, ℕ, arith}
+use Rattle.std.proofs.lemmas.List.{length-replicate}
 use Rattle.vol_tree.specs.Fresh.{fresh}
 use Rattle.vol_tree.specs.Stands.{empty_tree}
 use Rattle.vol_tree.specs.Opening.{StandsOn}
@@ -12,7 +13,7 @@ returns-in-Ok-open-clause-opens c =
     let opened = c.in-Ok-open.ensures in
     let device = c.in-Ok.device in
     let keeps_model : IsHonest device = made.kept_ok.0.0 tt in
-    let size : size_of device ≡ 202 = made.kept_ok.1 ∙ c.in_ok-device.ensures.sectors in
+    let size : size_of device ≡ 202 = made.kept_ok.1 ∙ (ap length c.in_ok-device.ensures ∙ length-replicate 202 (replicate {A = ℕ} 512 0)) in
     let room : 202 ≤ size_of device = omega (arith, size) in
     let stands : StandsOn (size_of device) (disk_of device).seen (fresh 202 16) (empty_tree 16) = record { stands = made.empty tt; room = room } in
     let found = opened.finds (fresh 202 16) (empty_tree 16) keeps_model stands in

@@ -1,4 +1,7 @@
-use Rattle.std.proofs.Common.{◌≡◌, ◌∙◌, List, length, ap, subst, ℕ, arith}
+use Rattle.std.proofs.Common.{◌≡◌, ◌∙◌, List, length, ap, sym, subst, ⊎_elim, ℕ, arith}
+use Rattle.vol_sector.specs.Disk.{Image}
+use Rattle.vol_tree.specs.Stands.{StandsAs}
+use Rattle.sandbox_device.proofs.Recorded.{unused_leaves}
 use Rattle.vol_sector.specs.Record.{image_of}
 use Rattle.vol_tree.specs.Opening.{StandsOn}
 use Rattle.sandbox_host.proofs.volumes.open_sectors.Goals as goal
@@ -7,10 +10,16 @@ use Rattle.sandbox_host.proofs.volumes.open_sectors.Goals as goal
 pub returns-in-Ok-clause-opens : goal.returns-in-Ok-clause-opens
 returns-in-Ok-clause-opens c =
     let v = c.in-Ok.volume in
-    let same : c.in_ok-device.device.sectors ≡ c.args.sectors.now = c.in_ok-device.ensures in
+    let d = c.in_ok-device.device in
+    let unused = c.in_ok-device.ensures.unused in
+    let same : d.sectors ≡ c.args.sectors.now = c.in_ok-device.ensures.sectors in
+    let stood : StandsOn (length d.sectors) (image_of d.sectors) v.numbers v.tree = c.in-Ok.ensures.stands tt in
+    let crash = c.in-Ok.ensures.crash_ok v.numbers v.tree tt stood in
     record {
       few = omega (arith, c.if-sectors-gt-MOST_SECTORS.false);
-      stands = subst (λ (xs : List (List ℕ)). StandsOn (length xs) (image_of xs) v.numbers v.tree) same (c.in-Ok.ensures.stands tt);
+      stands = subst (λ (xs : List (List ℕ)). StandsOn (length xs) (image_of xs) v.numbers v.tree) same stood;
       size = c.in-Ok.ensures.kept_ok.1 ∙ ap length same;
       working = record { works = c.in-Ok.ensures.working; lasts = c.in-Ok.ensures.durable tt };
+      since = λ i left. ⊎_elim (λ first. subst (λ (image : Image). StandsAs image v.numbers v.tree) (sym (unused_leaves d unused.1 unused.2 i first)) stood.stands) (λ is. is)
+          (crash.since 0 i (omega arith) left);
     }

@@ -1,0 +1,14 @@
+use Rattle.sandbox_device.proofs.Recorded.{keeps_quiet, leaves_quiet}
+use Rattle.sandbox_device.proofs.recorded_device.RecordedDeviceDevice.read.Goals as goal
+
+pub returns-clause-keeps : goal.returns-clause-keeps
+returns-clause-keeps c h =
+    let past = c.args.self.now.history in
+    let is = c.quiet-self.ensures in
+    rw (is.0, is.1, is.2) (keeps_quiet c.args.self.now.sectors past.first past.done past.outcomes)
+
+pub returns-clause-crash : goal.returns-clause-crash
+returns-clause-crash c h =
+    let past = c.args.self.now.history in
+    let is = c.quiet-self.ensures in
+    rw (is.0, is.1, is.2) (leaves_quiet c.args.self.now.sectors past.first past.done past.outcomes)

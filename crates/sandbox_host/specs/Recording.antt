@@ -1,0 +1,33 @@
+-- What was done to a session's volume, as a host is told of it (`include/sandbox.h`).
+use Rattle.std.specs.Prelude.{ℕ, Option, Some, None, slice_get, if◌then◌else◌}
+use Rattle.vol_sector.specs.declared.record.Operation.{Operation}
+use Rattle.vol_sector.specs.declared.record.Operation.TheVariants.{Write, Sync}
+use Rattle.sandbox_device.specs.declared.recorded_device.RecordedDevice.{RecordedDevice}
+use Rattle.sandbox_device.specs.Followed.{done_on}
+use Rattle.sandbox_host.specs.declared.recording.VolumeOperation.{VolumeOperation}
+use Rattle.sandbox_host.specs.declared.held.Held.{Held}
+use Rattle.sandbox_host.specs.declared.held.Held.TheVariants.{Loaded, Running, Finished, Nothing}
+
+-- the write or sync with this number, in the order in which they were done
+abbrev pub operation_of : RecordedDevice → ℕ → Option Operation
+operation_of d number = slice_get (done_on d) number
+
+-- an operation, or none, told over what stood there
+abbrev pub told_operation : Option Operation → VolumeOperation → VolumeOperation
+told_operation None before = record before { kind = 0 }
+told_operation (Some (Write sector bytes)) before = record { kind = 1; sector = sector; bytes = bytes }
+told_operation (Some Sync) before = record before { kind = 2 }
+
+-- the device of a finished session whose operations are recorded
+abbrev pub recorded_on : RecordedDevice → Option RecordedDevice
+recorded_on d = if d.is_recorded then Some d else None
+
+abbrev pub recorded_in : Held → Option RecordedDevice
+recorded_in (Loaded m) = None
+recorded_in (Running s) = None
+recorded_in (Finished e) = recorded_on e.device
+recorded_in Nothing = None
+
+abbrev pub recorded : Option Held → Option RecordedDevice
+recorded None = None
+recorded (Some held) = recorded_in held

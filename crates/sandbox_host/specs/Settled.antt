@@ -1,0 +1,30 @@
+-- A record that a host does on a disk: wherever it stops, the disk has the volume as it was at a moment of the session.
+use Rattle.std.specs.Prelude.{◌⊎◌, ◌≤◌, ℕ, Bool, List, [], ◌∷◌, length, take}
+use Rattle.std.specs.Borrow.{Bor}
+use Rattle.vol_sector.specs.Disk.{Image}
+use Rattle.vol_sector.specs.Record.{LeftBy}
+use Rattle.vol_tree.specs.declared.superblock.Superblock.{Superblock}
+use Rattle.vol_tree.specs.Tree.{Tree}
+use Rattle.vol_tree.specs.Stands.{StandsAs}
+use Rattle.wasm_module.specs.declared.module.Module.{Module}
+use Rattle.sandbox_device.specs.Followed.{first_of, done_on}
+use Rattle.sandbox_host.specs.declared.numbers.Told.{Told}
+use Rattle.sandbox_host.specs.declared.held.Ended.{Ended}
+use Rattle.sandbox_host.specs.declared.supplies.Supplies.{Supplies}
+use Rattle.sandbox_host.specs.declared.volumes.Origin.TheVariants.{Sectors}
+use Rattle.sandbox_host.specs.Host.{State}
+use Rattle.sandbox_host.specs.Sessions.{Begins, Finishes}
+use Rattle.sandbox_host.specs.Headline.{Resumed}
+
+-- the image stands for the tree at first, or for that after one of these resumes
+abbrev pub StandsForOne : Superblock → Tree → List (Told × State) → Image → Type 0
+StandsForOne v tree [] c = StandsAs c v tree
+StandsForOne v tree (r ∷ rs) c = StandsAs c v tree ⊎ StandsForOne v r.1.host.volume.tree rs c
+
+-- From an opening over sectors, over any resumes, to the end: on a disk that has the sectors that the device began with the
+-- first k writes and syncs are done. What a crash leaves of it stands for the tree at the opening, or after a resume.
+abbrev pub IsSettled : Type 0
+IsSettled = (m : Module) (supplies : Supplies) (sectors : Bor (List (List ℕ))) (recorded : Bool) (s s' : State) (rs : List (Told × State)) (e : Ended) (number k : ℕ) (c : Image)
+    → (begins : Begins m supplies (Sectors sectors recorded) s) → Resumed s rs s' → Finishes s' e number
+    → k ≤ length (done_on e.device) → LeftBy (first_of e.device) (take k (done_on e.device)) c
+    → StandsForOne begins.volume.numbers begins.volume.tree rs c
