@@ -115,7 +115,7 @@ pub fn refuse_command_line<W: Write>(err: &mut W, refused: &clap::Error) -> u8
     REFUSED
 }
 
-/// Prints the line of want of memory, and gives its status.
+/// Prints that it is out of memory, and gives the status of that.
 pub fn out_of_memory<W: Write>(err: &mut W) -> u8
     ensures status { result ≡ 122 }
     ensures line { AppendsSome (W.contents err.old) (W.contents err.new) }
