@@ -8,27 +8,12 @@
  */
 #define _GNU_SOURCE
 #define SANDBOX_DESCRIPTORS
+#define HOST "disk"
+#include "common.h"
 #include <fcntl.h>
-#include <sandbox.h>
-#include <stdio.h>
-#include <string.h>
 #include <sys/file.h>
 
 enum { SECTORS = 1000, SLOTS = 16, WORDS = 5 };
-
-static void fail(const char *what, uint32_t number) {
-  uint8_t text[80];
-  size_t length = sandbox_text(SANDBOX_TEXT_FAULT, number, text, sizeof text);
-  fprintf(stderr, "disk: %s: %u %.*s\n", what, number, (int)(length < sizeof text ? length : sizeof text), text);
-  exit(1);
-}
-
-static void check(const char *what, uint32_t answer) {
-  if (answer != SANDBOX_OK)
-    fail(what, answer);
-}
-
-static sandbox_bytes bytes_of(const char *text) { return (sandbox_bytes){(const uint8_t *)text, strlen(text)}; }
 
 /* An empty file becomes an empty volume. */
 static void format(int fd) {

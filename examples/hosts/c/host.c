@@ -4,26 +4,10 @@
  *
  *     make && ./host
  */
-#include <sandbox.h>
-#include <stdio.h>
-#include <stdlib.h>
-#include <string.h>
+#define HOST "host"
+#include "common.h"
 
 enum { RUNS = 1000, SECTORS = 1000, SLOTS = 16 };
-
-static void fail(const char *what, uint32_t number) {
-  uint8_t text[80];
-  size_t length = sandbox_text(SANDBOX_TEXT_FAULT, number, text, sizeof text);
-  fprintf(stderr, "host: %s: %u %.*s\n", what, number, (int)(length < sizeof text ? length : sizeof text), text);
-  exit(1);
-}
-
-static void check(const char *what, uint32_t answer) {
-  if (answer != SANDBOX_OK)
-    fail(what, answer);
-}
-
-static sandbox_bytes bytes_of(const char *text) { return (sandbox_bytes){(const uint8_t *)text, strlen(text)}; }
 
 static sandbox_bytes file(const char *path) {
   FILE *opened = fopen(path, "rb");
