@@ -184,6 +184,13 @@ where
         self.host.err()
     }
 
+    /// The device of the volume, as it is now: what isn't committed isn't there yet.
+    pub fn device(&self) -> &D
+        ensures { result.now ≡ self.now.host.volume.device }
+    {
+        self.host.device()
+    }
+
     /// Whether a read or a write of a stream has failed.
     pub fn has_failed_stream(&self) -> bool
         ensures { result ≡ stream_failed self.now.host }

@@ -271,7 +271,14 @@ impl<D: Device> Log<D> {
         written
     }
 
-    /// The device. What is staged is given up.
+    /// The device, as it is now: what is staged isn't there yet.
+    pub fn device(&self) -> &D
+        ensures { result.now ≡ device_of self.now }
+    {
+        &self.device
+    }
+
+    /// The device. What is staged is discarded.
     pub fn into_device(self) -> D
         ensures { result ≡ device_of self }
     {

@@ -466,7 +466,14 @@ impl<D: Device> Volume<D> {
         self.parts.upgrade()
     }
 
-    /// The device. What isn't committed is given up.
+    /// The device, as it is now: what isn't committed isn't there yet.
+    pub fn device(&self) -> &D
+        ensures { result.now ≡ self.now.device }
+    {
+        self.parts.log.device()
+    }
+
+    /// The device. What isn't committed is discarded.
     pub fn into_device(self) -> D
         ensures { result ≡ self.device }
     {

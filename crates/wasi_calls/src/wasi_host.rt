@@ -157,6 +157,13 @@ impl<'s, 't, D: Device, R: Read + Drop, W1: Write + Drop, W2: Write + Drop> Wasi
         &self.inner.err.writer
     }
 
+    /// The device of the volume, as it is now: what isn't committed isn't there yet.
+    pub fn device(&self) -> &D
+        ensures { result.now ≡ self.now.volume.device }
+    {
+        self.inner.volume.device()
+    }
+
     /// Whether a read or a write of a stream has failed. It stays so.
     pub fn has_failed_stream(&self) -> bool
         ensures { result ≡ stream_failed self.now }

@@ -53,7 +53,7 @@ impl LoadFault {
         }
     }
 
-    /// Its number and its offset; none for want of memory.
+    /// Its number and its offset; none where memory was refused.
     fn place(self) -> Option<(u32, u32)> {
         match self {
             LoadFault::Truncated { offset } => Some((1, offset)),

@@ -3,7 +3,7 @@ use Rattle.std.specs.Prelude.{Result, MatchResult}
 use Rattle.wasm_module.specs.declared.fault.LoadFault.{LoadFault}
 use Rattle.wasm_module.specs.declared.fault.LoadFault.TheVariants.{Memory, Invalid}
 
--- a refusal of what was to hold: want of memory says nothing of it, and fault 12 that it doesn't hold
+-- a refusal of what was to hold: where memory was refused nothing is said of it, and fault 12 says that it doesn't hold
 abbrev pub Refutes : LoadFault → Type 0 → Type 0
 Refutes Memory P = Unit {0}
 Refutes (Invalid function offset) P = P → ⊥
