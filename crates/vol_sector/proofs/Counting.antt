@@ -76,3 +76,7 @@ counts_one old new passed is = omega (arith, ap length is)
 pub both_counted : (failed : Bool) (before after own : ℕ) → after ≡ counted failed before → both_counts after own ≡ counted failed (both_counts before own)
 both_counted true before after own is = omega (arith, is)
 both_counted false before after own is = ap (λ (n : ℕ). both_counts n own) is
+
+-- a failure above the device below is one of the two counts together
+pub one_failed : (before own after : ℕ) → after ≡ counted true own → both_counts before after ≡ counted true (both_counts before own)
+one_failed before own after is = omega (arith, is)

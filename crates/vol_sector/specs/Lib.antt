@@ -4,7 +4,6 @@ pub mod Fault
 pub mod Record
 pub mod Crash
 pub mod Counting
-pub mod Fuse
-pub mod Flaky
+pub mod Faulty
 pub mod Memory
 pub mod internal

@@ -1,4 +1,3 @@
 -- Definitions that only private contracts and proofs cite.
 pub mod CountingLaws
 pub mod RecordLaws
-pub mod Breakable

@@ -1,11 +1,9 @@
 //! Devices of 512-byte sectors, what a crash may leave of them, and why a volume is refused.
 #![tactic(auto)]
 
-mod breakable;
 mod device;
 mod fault;
-mod flaky;
-mod fuse;
+mod faulty;
 mod laws;
 mod memory;
 mod operations;
@@ -13,8 +11,7 @@ mod record;
 
 pub use device::{Device, DeviceFault};
 pub use fault::{Refused, VolumeFault};
-pub use flaky::FlakyDevice;
-pub use fuse::FuseDevice;
+pub use faulty::{FaultyDevice, FlakyDevice, FuseDevice};
 pub use laws::{crash_leaves_what_is_picked, picks_give_what_a_crash_leaves};
 pub use memory::MemoryDevice;
 pub use record::Operation;

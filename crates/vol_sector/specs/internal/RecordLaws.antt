@@ -1,5 +1,5 @@
 -- What holds of a record of writes and syncs.
-use Rattle.std.specs.Prelude.{◌≡◌, ◌≤◌, ◌==◌, ℕ, List, [], ◌∷◌, ◌++◌, length, take, slice_index_or, refl, if◌then◌else◌, Bool, true, false}
+use Rattle.std.specs.Prelude.{◌≡◌, ◌≤◌, ◌==◌, ℕ, List, [], ◌∷◌, ◌++◌, length, take, refl, if◌then◌else◌, Bool, true, false}
 use Rattle.std.proofs.Common.{inl, inr, sym, subst, arith}
 use Rattle.std.proofs.lemmas.List.{take_all}
 use Rattle.vol_sector.specs.Disk.{Image}

@@ -1,91 +1,115 @@
-//! A device of which an operation can be failed.
+//! A device of which chosen operations fail.
 
-ghost use Rattle.std.specs.Prelude.{◌≡◌, ◌+◌, ◌-◌, ◌^◌, ◌<◌, ◌≤◌, ◌↔◌, ℕ, min, true, []};
-ghost use Rattle.vol_sector.specs.Disk.{Leaves, Keeps, OneMore, counted};
+ghost use Rattle.std.specs.Prelude.{◌≡◌, ◌+◌, ◌-◌, ◌^◌, ◌<◌, ◌≢◌, ◌↔◌, ◌∷◌, ℕ, min, not, true, false};
+ghost use Rattle.vol_sector.specs.Disk.{counted};
 ghost use Rattle.vol_sector.specs.Counting.{counting};
 ghost use Rattle.vol_sector.specs.internal.CountingLaws.{counting_now, only_counting};
 
 use crate::operations::Operations;
 use crate::{Device, DeviceFault};
 
-/// Passes operations to its device, and can fail one without effect.
+/// A count of operations (reads, writes and syncs) that goes down to 0 and stays there.
 #[derive(Drop)]
-pub(crate) struct Breakable<D> {
-    device: D,
-    operations: Operations,
+struct Countdown {
+    left: u64,
     failures: u64,
+    operations: Operations,
 }
 
-impl<D: Device> Breakable<D> {
-    ghost use Rattle.vol_sector.specs.internal.Breakable.{device_of, operations_of, failures_of, disk_of};
-
-    /// The device, on which nothing was tried.
-    pub(crate) fn new(device: D) -> Self
-        ensures device { device_of result ≡ device }
-        ensures operations { operations_of result ≡ [] }
-        ensures failures { failures_of result ≡ 0 }
+impl Countdown {
+    /// Counts an operation, which fails where the count is this: does it pass?
+    fn passes(&mut self, fails_at: u64) -> bool
+        ensures fails { self.old.left ≡ fails_at → result ≡ false }
+        ensures passes { self.old.left ≢ fails_at → result ≡ true }
+        ensures left { self.new.left ≡ self.old.left - 1 }
+        ensures failures { self.new.failures ≡ counted (not result) self.old.failures }
+        ensures operations { self.new.operations.outcomes
+            ≡ result ∷ self.old.operations.outcomes }
     {
-        Breakable {
+        let fails = self.left == fails_at;
+        self.left = self.left.saturating_sub(1);
+        if fails {
+            self.failures = self.failures.saturating_add(1);
+            self.operations = self.operations.kept();
+        } else {
+            self.operations = self.operations.passed();
+        }
+        !fails
+    }
+}
+
+/// Counts operations down, and fails those, without effect, at which the count is `FAILS_AT`. All others it
+/// passes to its device.
+#[derive(Drop)]
+pub struct FaultyDevice<D, const FAILS_AT: u64> {
+    device: D,
+    count: Countdown,
+}
+
+/// Passes a number of operations, and then fails all.
+pub type FuseDevice<D> = FaultyDevice<D, 0>;
+
+/// Fails the operation with a number, counted from 1, and passes all others. With 0 it fails none.
+pub type FlakyDevice<D> = FaultyDevice<D, 1>;
+
+impl<D: Device, const FAILS_AT: u64> FaultyDevice<D, FAILS_AT> {
+    ghost use Rattle.vol_sector.specs.Faulty.{device_of, left_of, failures_of, disk_of};
+
+    /// The device, with the count that begins with this number of operations.
+    pub fn new(device: D, operations: u64) -> Self
+        ensures device { device_of result ≡ device }
+        ensures left { left_of result ≡ operations }
+        ensures failures { failures_of result ≡ 0 }
+        ensures operation_count { (disk_of D.disk result).operation_count ≡ 0 }
+    {
+        FaultyDevice {
             device,
-            operations: Operations::new(),
-            failures: 0,
+            count: Countdown {
+                left: operations,
+                failures: 0,
+                operations: Operations::new(),
+            },
         }
     }
 
     /// The device as it is now.
-    pub(crate) fn into_inner(self) -> D
+    pub fn into_inner(self) -> D
         ensures { result ≡ device_of self }
     {
-        let Breakable {
-            device,
-            operations: _,
-            failures: _,
-        } = self;
+        let FaultyDevice { device, count: _ } = self;
         device
-    }
-
-    /// Counts an operation that fails here, without effect on the device.
-    pub(crate) fn fail(&mut self) -> DeviceFault
-        ensures device { device_of self.new ≡ device_of self.old }
-        ensures failures { failures_of self.new ≡ counted true (failures_of self.old) }
-        ensures crash { Leaves (disk_of D.disk self.old) (disk_of D.disk self.new) (λ c. ⊥) }
-        ensures keeps { Keeps (disk_of D.disk self.old) (disk_of D.disk self.new) }
-        ensures operation_count { OneMore (disk_of D.disk self.old) (disk_of D.disk self.new) }
-    {
-        self.operations = self.operations.kept();
-        self.failures = self.failures.saturating_add(1);
-        DeviceFault
     }
 }
 
-impl<D: Device> Device for Breakable<D> {
-    ghost use Rattle.std.specs.Prelude.{IfOk, OnOk, IsErr, is_err};
+impl<D: Device, const FAILS_AT: u64> Device for FaultyDevice<D, FAILS_AT> {
+    ghost use Rattle.std.specs.Prelude.{◌≤◌, ◌==◌, List, IfOk, OnOk, IsErr, is_err};
     ghost use Rattle.vol_sector.specs.Disk.{Image, put, After, Wrote, Only, Leaves, Keeps};
-    ghost use Rattle.vol_sector.specs.Disk.{OneMore, OneOperation, both_counts, counted};
-    ghost use Rattle.vol_sector.specs.internal.Breakable.{device_of, failures_of, disk_of};
+    ghost use Rattle.vol_sector.specs.Disk.{OneMore, OneOperation, both_counts};
+    ghost use Rattle.vol_sector.specs.Faulty.{device_of, left_of, failures_of, disk_of};
 
-    ghost disk = { λ b. counting b.operations.outcomes (D.disk b.device) };
+    ghost disk = { λ f. counting f.count.operations.outcomes (D.disk f.device) };
 
-    ghost honest = { λ b. D.honest b.device };
+    ghost honest = { λ f. D.honest f.device };
 
-    ghost size = { λ b. D.size b.device };
+    ghost size = { λ f. D.size f.device };
 
-    ghost failures = { λ b. both_counts (D.failures b.device) b.failures };
+    ghost failures = { λ f. both_counts (D.failures f.device) f.count.failures };
 
-    ghost counts_now = { λ b t c h le may. counting_now b.operations.outcomes (D.disk b.device)
-        (λ s x past left. D.counts_now b.device s x h past left) t c le may };
+    ghost counts_now = { λ f t c h le may. counting_now f.count.operations.outcomes
+        (D.disk f.device) (λ s x past left. D.counts_now f.device s x h past left)
+        t c le may };
 
-    ghost only_now = { λ b c h left. only_counting b.operations.outcomes (D.disk b.device)
-        (λ x last. D.only_now b.device x h last) c left };
+    ghost only_now = { λ f c h left. only_counting f.count.operations.outcomes
+        (D.disk f.device) (λ x last. D.only_now f.device x h last) c left };
 
-    ghost may_stay = { λ b h. D.may_stay b.device h };
+    ghost may_stay = { λ f h. D.may_stay f.device h };
 
     fn sectors(&self) -> u32 {
         self.device.sectors()
     }
 
     fn failures(&self) -> u64 {
-        self.device.failures().saturating_add(self.failures)
+        self.device.failures().saturating_add(self.count.failures)
     }
 
     fn read(&mut self, n: u32) -> Result<[u8; 512], DeviceFault>
@@ -105,13 +129,18 @@ impl<D: Device> Device for Breakable<D> {
         ensures failures { both_counts (D.failures (device_of self.new)) (failures_of self.new)
             ≡ counted (is_err result)
             (both_counts (D.failures (device_of self.old)) (failures_of self.old)) }
-        ensures passes { D.failures (device_of self.new)
+        ensures count { left_of self.new ≡ left_of self.old - 1 }
+        ensures fails { left_of self.old ≡ FAILS_AT
+            → IsErr result × (device_of self.new ≡ device_of self.old) }
+        ensures passes { left_of self.old ≢ FAILS_AT
+            → D.failures (device_of self.new)
             ≡ counted (is_err result) (D.failures (device_of self.old)) }
-        ensures own_failures { failures_of self.new ≡ failures_of self.old }
-        ensures passes_on { D.honest (device_of self.old)
+        ensures passes_on { left_of self.old ≢ FAILS_AT → D.honest (device_of self.old)
             → OneOperation (D.disk (device_of self.old)) (D.disk (device_of self.new)) (λ c. ⊥) }
     {
-        self.operations = self.operations.passed();
+        if !self.count.passes(FAILS_AT) {
+            return Err(DeviceFault);
+        }
         self.device.read(n)
     }
 
@@ -135,14 +164,19 @@ impl<D: Device> Device for Breakable<D> {
         ensures failures { both_counts (D.failures (device_of self.new)) (failures_of self.new)
             ≡ counted (is_err result)
             (both_counts (D.failures (device_of self.old)) (failures_of self.old)) }
-        ensures passes { D.failures (device_of self.new)
+        ensures count { left_of self.new ≡ left_of self.old - 1 }
+        ensures fails { left_of self.old ≡ FAILS_AT
+            → IsErr result × (device_of self.new ≡ device_of self.old) }
+        ensures passes { left_of self.old ≢ FAILS_AT
+            → D.failures (device_of self.new)
             ≡ counted (is_err result) (D.failures (device_of self.old)) }
-        ensures own_failures { failures_of self.new ≡ failures_of self.old }
-        ensures passes_on { D.honest (device_of self.old)
+        ensures passes_on { left_of self.old ≢ FAILS_AT → D.honest (device_of self.old)
             → OneOperation (D.disk (device_of self.old)) (D.disk (device_of self.new))
             (After (Wrote n image.now) (D.disk (device_of self.old)).may_leave) }
     {
-        self.operations = self.operations.passed();
+        if !self.count.passes(FAILS_AT) {
+            return Err(DeviceFault);
+        }
         self.device.write(n, image)
     }
 
@@ -163,13 +197,18 @@ impl<D: Device> Device for Breakable<D> {
         ensures failures { both_counts (D.failures (device_of self.new)) (failures_of self.new)
             ≡ counted (is_err result)
             (both_counts (D.failures (device_of self.old)) (failures_of self.old)) }
-        ensures passes { D.failures (device_of self.new)
+        ensures count { left_of self.new ≡ left_of self.old - 1 }
+        ensures fails { left_of self.old ≡ FAILS_AT
+            → IsErr result × (device_of self.new ≡ device_of self.old) }
+        ensures passes { left_of self.old ≢ FAILS_AT
+            → D.failures (device_of self.new)
             ≡ counted (is_err result) (D.failures (device_of self.old)) }
-        ensures own_failures { failures_of self.new ≡ failures_of self.old }
-        ensures passes_on { D.honest (device_of self.old)
+        ensures passes_on { left_of self.old ≢ FAILS_AT → D.honest (device_of self.old)
             → OneOperation (D.disk (device_of self.old)) (D.disk (device_of self.new)) (λ c. ⊥) }
     {
-        self.operations = self.operations.passed();
+        if !self.count.passes(FAILS_AT) {
+            return Err(DeviceFault);
+        }
         self.device.sync()
     }
 }

@@ -1,9 +1,0 @@
-use Rattle.std.proofs.Common.{arith}
-use Rattle.std.proofs.lemmas.Grind.{common_steps}
-use Rattle.vol_sector.proofs.fuse.FuseDeviceDevice.read.Goals as goal
-
-pub returns-clause-fails : goal.returns-clause-fails
-returns-clause-fails c = grind (arith, common_steps)
-
-pub returns-then-not-passes-clause-passes_on : goal.returns-then-not-passes-clause-passes_on
-returns-then-not-passes-clause-passes_on c = grind (arith, common_steps)

@@ -1,0 +1,25 @@
+-- What a caller sees of a device of which chosen operations fail (`docs/VOLUME.md`, "The device").
+use Rattle.std.specs.Prelude.{ℕ, List, Bool}
+use Rattle.vol_sector.specs.Disk.{Disk}
+use Rattle.vol_sector.specs.Counting.{counting}
+use Rattle.vol_sector.specs.declared.faulty.FaultyDevice.{FaultyDevice}
+
+-- the device that the operations are passed to
+abbrev pub device_of : {D : Type 0} {N : ℕ} → FaultyDevice D N → D
+device_of f = f.device
+
+-- what the count of operations is down to
+abbrev pub left_of : {D : Type 0} {N : ℕ} → FaultyDevice D N → ℕ
+left_of f = f.count.left
+
+-- how many operations were failed here
+abbrev pub failures_of : {D : Type 0} {N : ℕ} → FaultyDevice D N → ℕ
+failures_of f = f.count.failures
+
+-- the operations tried, the newest first: was each passed to the device?
+abbrev pub operations_of : {D : Type 0} {N : ℕ} → FaultyDevice D N → List Bool
+operations_of f = f.count.operations.outcomes
+
+-- the device's disk, where each operation tried counts
+abbrev pub disk_of : {D : Type 0} {N : ℕ} → (D → Disk) → FaultyDevice D N → Disk
+disk_of disk f = counting (operations_of f) (disk (device_of f))
