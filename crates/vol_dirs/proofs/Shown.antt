@@ -155,3 +155,16 @@ rewritten_shown v one other slots s d e dirs shown right too is now parents name
   λ held. rewritten_slot v one other slots s d e right too is now parents names same p n t ((shown p n t).0 held),
   λ slot. (shown p n t).1 (rewritten_slot v other one slots s e d too right now is (sym parents) (sym names) (λ u first last differ. sym (same u first last differ)) p n t slot),
 )
+
+-- only the first slot was taken up, and no other is used
+pub shown_alone : (v : Version) (image : Image) (slots : ℕ) (e : Entry) (dirs : Dirs) → IsEntry v e → 1 ≤ slots → image 122 ≡ spelling e → ((s : ℕ) → 2 ≤ s → s ≤ slots → image (121 + s) ≡ unused)
+    → ((p : ℕ) (n : List ℕ) (t : ℕ) → Names dirs p n t → IsNameOf e 1 p n t) → ((p : ℕ) (n : List ℕ) (t : ℕ) → IsNameOf e 1 p n t → Names dirs p n t) → Shows v image slots dirs
+shown_alone v image slots e dirs right some first others only held p n t = (
+  λ names. own_slot v image slots 1 e p n t right (omega arith) some first (only p n t names),
+  λ slot. elim (cases_eq t 1) [
+    | inl same ↦ held p n t (slot_is_own v image slots 1 e p n t right first same slot)
+    | inr differ ↦
+        let none = others t (omega (arith, slot.first, differ)) slot.last in
+        absurd (not_unused slot.spelled.entry (sym slot.spelled.spelled ∙ none))
+  ],
+)

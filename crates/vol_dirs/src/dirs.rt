@@ -242,7 +242,7 @@ impl Dirs {
     }
 
     /// No names, with the memory for those of all slots.
-    fn reserve(alloc: Global, slots: u32) -> Result<Dirs, AllocError>
+    pub(crate) fn reserve(alloc: Global, slots: u32) -> Result<Dirs, AllocError>
         ensures slots { IfOk result (λ dirs. slots_of dirs ≡ slots) }
         ensures free { IfOk result (λ dirs. (serial : ℕ) → IsFree dirs serial) }
     {
@@ -273,7 +273,7 @@ impl Dirs {
     }
 
     /// Takes up the name of an entry whose serial isn't held.
-    fn hold(&mut self, serial: u32, entry: &Entry)
+    pub(crate) fn hold(&mut self, serial: u32, entry: &Entry)
         requires first { 1 ≤ serial }
         requires last { serial ≤ slots_of self.old }
         requires free { IsFree self.old serial }

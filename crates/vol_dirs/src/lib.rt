@@ -4,6 +4,7 @@
 mod dirs;
 mod keys;
 mod laws;
+mod rooted;
 mod sorted;
 
 pub use dirs::Dirs;
