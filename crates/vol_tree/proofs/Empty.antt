@@ -25,12 +25,12 @@ use Rattle.vol_tree.specs.internal.Formatting.{root_entry, fresh_slot, HasFreshS
 
 -- ---- lists of one value
 
-none_at : {X : Type 0} (n i : ℕ) → get_or (replicate {A = Option X} n None) i None ≡ None
+pub none_at : {X : Type 0} (n i : ℕ) → get_or (replicate {A = Option X} n None) i None ≡ None
 none_at zero i = refl
 none_at (suc n) zero = refl
 none_at (suc n) (suc i) = none_at n i
 
-zero_at : (n i : ℕ) → get_or (replicate {A = ℕ} n 0) i 0 ≡ 0
+pub zero_at : (n i : ℕ) → get_or (replicate {A = ℕ} n 0) i 0 ≡ 0
 zero_at zero i = refl
 zero_at (suc n) zero = refl
 zero_at (suc n) (suc i) = zero_at n i
@@ -47,7 +47,7 @@ map_none : {X Y : Type 0} (f : X → Y) (n : ℕ) → map (option_map f) (replic
 map_none f zero = refl
 map_none f (suc n) = ap (λ (l : List (Option _)). None ∷ l) (map_none f n)
 
-no_need : (n : ℕ) → sum_by need_in (replicate n None) ≡ 0
+pub no_need : (n : ℕ) → sum_by need_in (replicate n None) ≡ 0
 no_need zero = refl
 no_need (suc n) = no_need n
 
@@ -57,7 +57,7 @@ limit : (version : Version) → 0 ≤ size_limit version
 limit One = omega arith
 limit Two = omega arith
 
-root_is_entry : (version : Version) → IsEntry version root_entry
+pub root_is_entry : (version : Version) → IsEntry version root_entry
 root_is_entry version = record {
   widths = record {
     parent = omega arith;
@@ -79,7 +79,7 @@ pick true c x none = none
 pick false true x none = refl
 pick false false x none = refl
 
-names_none : (content : Image) (p : BlockPosition) → named content root_entry p ≡ 0
+pub names_none : (content : Image) (p : BlockPosition) → named content root_entry p ≡ 0
 names_none content (data_block j) = pick (nat_lt j 58) (nat_lt j 186) (get_or (replicate 60 0) j 0) (zero_at 60 j)
 names_none content indirect_block = refl
 names_none content double_indirect_block = refl
@@ -94,17 +94,22 @@ root_is_body content = record {
 
 -- ---- the slots
 
-abbrev fresh_slots : ℕ → Slots
+abbrev pub fresh_slots : ℕ → Slots
 fresh_slots n = Some root_entry ∷ replicate (n - 1) None
 
 past_first : (s : ℕ) (x y : List ℕ) → (if suc s == 0 then x else y) ≡ y
 past_first s x y = grind (arith, nat_tests)
 
+-- no slot but the first is used
+pub later_slot : (s : ℕ) → 1 ≤ s → fresh_slot s ≡ unused
+later_slot zero later = absurd (omega arith)
+later_slot (suc s) later = past_first s (spelling root_entry) unused
+
 slot_is : (n s : ℕ) → slot (get_or (fresh_slots n) s None) ≡ fresh_slot s
 slot_is n zero = refl
-slot_is n (suc s) = ap slot (none_at (n - 1) s) ∙ sym (past_first s (spelling root_entry) unused)
+slot_is n (suc s) = ap slot (none_at (n - 1) s) ∙ sym (later_slot (suc s) (omega arith))
 
-only_entry : (n s : ℕ) (e : Entry) → get_or (fresh_slots n) s None ≡ Some e → (s ≡ 0) × (e ≡ root_entry)
+pub only_entry : (n s : ℕ) (e : Entry) → get_or (fresh_slots n) s None ≡ Some e → (s ≡ 0) × (e ≡ root_entry)
 only_entry n zero e is = (refl, sym (same_Some root_entry e is))
 only_entry n (suc s) e is = absurd (none-some e (sym (none_at (n - 1) s) ∙ is))
 
@@ -140,7 +145,7 @@ empty_is_tree n = record {
   reached = reached n;
 }
 
-tree_is : (content : Image) (n : ℕ) → tree_of content (fresh_slots n) ≡ empty_tree n
+pub tree_is : (content : Image) (n : ℕ) → tree_of content (fresh_slots n) ≡ empty_tree n
 tree_is content n = ap (λ (l : Tree). Some root ∷ l) (map_none (entry_of content) (n - 1))
 
 -- ---- the volume

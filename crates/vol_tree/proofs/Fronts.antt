@@ -68,3 +68,9 @@ stands_unrefused size image v T x on none version damaged named =
 
 pub device_not_front : {X : Type 0} → (faults.Device ≡ faults.NotAVolume) ⊎ ((faults.Device ≡ faults.Version) ⊎ (faults.Device ≡ faults.Damaged)) → X
 device_not_front is = absurd (⊎_elim (λ none. cc) (λ other. ⊎_elim (λ version. cc) (λ damaged. cc) other) is)
+
+-- what is refused after the numbers isn't refused for them
+pub not_the_numbers : {X : Type 0} (x : VolumeFault) → (x ≡ faults.Damaged) ⊎ ((x ≡ faults.Device) ⊎ (x ≡ faults.Memory)) → (x ≡ faults.Geometry) ⊎ (x ≡ faults.TooSmall) → X
+not_the_numbers x named numbers =
+    absurd (⊎_elim (λ damaged. ⊎_elim (λ geometry. cc) (λ small. cc) numbers)
+    (λ other. ⊎_elim (λ device. ⊎_elim (λ geometry. cc) (λ small. cc) numbers) (λ memory. ⊎_elim (λ geometry. cc) (λ small. cc) numbers) other) named)

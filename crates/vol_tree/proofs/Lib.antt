@@ -45,5 +45,6 @@ pub mod Refusals
 pub mod Passes
 pub mod Passed
 pub mod Openings
+pub mod FreshVolumes
 mod Fronts
 pub mod OtherSectors

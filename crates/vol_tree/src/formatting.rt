@@ -166,7 +166,7 @@ fn fresh_slot(s: u32) -> [u8; 512]
 }
 
 /// The root.
-fn root() -> Entry
+pub(crate) fn root() -> Entry
     ensures { result ≡ root_entry }
 {
     Entry {

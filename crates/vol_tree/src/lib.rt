@@ -5,6 +5,7 @@ mod checking;
 mod errno;
 mod files;
 mod formatting;
+mod fresh;
 mod laws;
 mod layout;
 mod moving;

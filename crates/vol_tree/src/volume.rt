@@ -53,6 +53,9 @@ impl<D: Device> Model for Volume<D> {
 }
 
 impl<D: Device> Volume<D> {
+    ghost use Rattle.vol_tree.specs.Parts.{opened};
+    ghost use Rattle.vol_tree.specs.internal.Parts.{IsOpen};
+
     /// Opens the volume that a device holds: what its log holds is installed, and then all its
     /// sectors that have rules are read and checked.
     ///
@@ -146,6 +149,14 @@ impl<D: Device> Volume<D> {
                 fault,
             }),
         }
+    }
+
+    /// The volume whose parts these are.
+    pub(crate) fn of_parts(parts: Parts<D>) -> Volume<D>
+        requires { IsOpen parts }
+        ensures { result ≡ opened parts }
+    {
+        Volume { parts }
     }
 
     /// A law: on a device that keeps its model, what an open volume shows is a tree with a place for
