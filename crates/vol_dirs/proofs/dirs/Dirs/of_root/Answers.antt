@@ -3,7 +3,7 @@ use Rattle.vol_dirs.proofs.Shown.{shown_alone}
 use Rattle.vol_dirs.proofs.dirs.Dirs.of_root.Goals as goal
 
 pub hold-requires-clause-free : goal.hold-requires-clause-free
-hold-requires-clause-free c = c.in_ok-dirs.ensures.free 1
+hold-requires-clause-free c = c.in_ok-dirs.ensures.free _
 
 pub returns-clause-shows : goal.returns-clause-shows
 returns-clause-shows c version image right first others =
