@@ -79,7 +79,7 @@ enum {
     SANDBOX_VOLUME_FRESH = 0,    /* empty, 202 sectors and 16 slots */
     SANDBOX_VOLUME_MEMORY = 1,   /* that of these sectors. The host keeps a volume by sandbox_volume_out */
     SANDBOX_VOLUME_RECORDED = 2  /* the same, and the session keeps a record of its writes and syncs (sandbox_operation_at), for
-                                  * a volume on a descriptor: DESCRIPTORS below. 520 bytes of memory for each */
+                                  * a volume on a descriptor: DESCRIPTORS below. 520 bytes of memory for each, until it is closed */
 };
 
 typedef struct { /* what a session did to its volume; a caller may pass any numbers in it */
@@ -186,10 +186,12 @@ uint32_t sandbox_finish(sandbox_session **session);
 size_t sandbox_volume_out(sandbox_session **session, uint8_t (*room)[512], size_t count);
 
 /* Tells the write or the sync with this number, from 0 at the opening on, in the order in which the session did them to its
- * volume. After sandbox_finish, of a session over SANDBOX_VOLUME_RECORDED, else MISUSE. OUT_OF_MEMORY where memory for the
- * record was refused: then none is told. Who does them on a disk that has the sectors that were handed in, in order, has the
- * volume's sectors in the end; and where he stops in between, a next session finds the volume as it was at a moment of this
- * one. */
+ * volume; SANDBOX_NO_OPERATION past the last so far. Of a session over SANDBOX_VOLUME_RECORDED, any time between open and
+ * close, also while it runs, else MISUSE: sandbox_resume and sandbox_finish add to them, and what was told stays.
+ * OUT_OF_MEMORY where memory for the record was refused: then none is told from then on.
+ * Who does them in order on a disk that has the sectors that were handed in has the volume's sectors in the end. Where he has
+ * done all that there are after a resume that answered a sync with 0, a next session finds the volume as it was then. And
+ * wherever he stops, a next session finds it as it was at a moment of this one. */
 uint32_t sandbox_operation_at(sandbox_session **session, size_t number, sandbox_operation *operation);
 
 /* Discards all, also what isn't committed, and makes *session NULL. MISUSE where there is none. */
@@ -224,16 +226,23 @@ static inline uint32_t sandbox_close_checked(sandbox_session **s) { return s ? s
  *     sandbox_volume_from(fd, &volume);                 reads its sectors
  *     sandbox_open(&session, .., &volume, &why);        copies them
  *     sandbox_volume_free(&volume);
- *     sandbox_resume(..);                               as often as it likes
+ *     size_t done = 0;                                  how many of its operations are on the descriptor
+ *     do {
+ *         sandbox_resume(&session, units, &told);
+ *         sandbox_settle(&session, fd, &done);          does those that are new, with fdatasync at each of the session's syncs
+ *     } while (told.kind == SANDBOX_CALLED);
  *     sandbox_finish(&session);
- *     size_t done = 0;
- *     sandbox_settle(&session, fd, &done);              does what the session did, with fdatasync at each of its syncs
+ *     sandbox_settle(&session, fd, &done);              and those of the end
  *     sandbox_close(&session);
  *
- * Once sandbox_settle has answered 0, all that the guest did lasts. Where the host or the machine stops before, the descriptor
- * has the volume as it was at a moment of the session: with a first part of the guest's calls, and never a damaged one. So what
- * a guest syncs lasts from sandbox_settle on, and not from its own call on. Where sandbox_settle fails, close the session and
- * don't call it again; the descriptor has such a moment then, too. Where sandbox_finish has failed, settling is of no use.
+ * Once sandbox_settle has answered 0, each operation that the session has done so far is on the disk. So
+ *   - what the guest had done when a sync of it was answered (told.call SANDBOX_CALL_FD_SYNC or _FD_DATASYNC, told.code 0) lasts
+ *     from the sandbox_settle after that resume on, before the guest goes on: it never runs past a sync that doesn't last;
+ *   - what it did and didn't sync lasts from the sandbox_settle after sandbox_finish on;
+ *   - where a host calls sandbox_settle only there, a sync of the guest lasts from there on, too, and not earlier.
+ * Where the host or the machine stops, at any moment, the descriptor has the volume as it was at a moment of the session, and
+ * at none before the last sync that was settled: with a first part of the guest's calls, and never a damaged one. Where
+ * sandbox_settle fails, close the session and don't call it again; the descriptor has such a moment then, too.
  *
  * Each answers 0, SANDBOX_DEVICE_FAILED with errno set, SANDBOX_OUT_OF_MEMORY, or SANDBOX_MISUSE.
  */
@@ -270,7 +279,8 @@ static inline void sandbox_volume_free(sandbox_volume *volume) {
     volume->sectors = NULL;
 }
 
-/* Does the operations of a finished session from number *done on, and raises it by each that is done. */
+/* Does the operations that a session has done so far, from number *done on, and raises it by each that is done. After each
+ * resume, and after sandbox_finish; where there are none new, without a call of the system. */
 static inline uint32_t sandbox_settle(sandbox_session **session, int fd, size_t *done) {
     sandbox_operation operation;
     uint32_t last = SANDBOX_SYNC;

@@ -1,6 +1,7 @@
-/* The C interface tried: each misuse that it answers, stops while a volume's record is settled, and what sessions cost.
- * bench/embed builds and calls it. */
+/* The C interface tried: each misuse that it answers, stops while a volume's record is settled, syncs that are on a descriptor
+ * before their guest goes on, and what sessions cost. bench/embed builds and calls it. */
 #define _GNU_SOURCE
+#define SANDBOX_DESCRIPTORS
 #include <malloc.h>
 #include <pthread.h>
 #include <sandbox.h>
@@ -101,13 +102,20 @@ static void misuse(void) {
   for (int recorded = 0; recorded < 2; recorded++) {
     volume.kind = recorded ? SANDBOX_VOLUME_RECORDED : SANDBOX_VOLUME_MEMORY;
     want("open over sectors", sandbox_open(&session, module.at, module.length, &given, &volume, &why) == SANDBOX_OK);
-    want("operation_at before finish", sandbox_operation_at(&session, 0, &operation) == SANDBOX_MISUSE && same(&operation, &operation_before, sizeof operation));
-    want("finish over sectors", sandbox_finish(&session) == SANDBOX_OK);
-    if (recorded)
-      want("operation_at past the last", sandbox_operation_at(&session, 1000, &operation) == SANDBOX_OK && operation.kind == SANDBOX_NO_OPERATION);
-    else
-      want("operation_at without a record", sandbox_operation_at(&session, 0, &operation) == SANDBOX_MISUSE && same(&operation, &operation_before, sizeof operation));
-    want("close over sectors", sandbox_close(&session) == SANDBOX_OK);
+    for (int finished = 0; finished < 2; finished++) { /* while it runs, and then */
+      memset(&operation, 7, sizeof operation);
+      uint32_t answer = sandbox_operation_at(&session, 1000, &operation);
+      if (recorded) {
+        want("operation_at past the last", answer == SANDBOX_OK && operation.kind == SANDBOX_NO_OPERATION);
+        operation.kind = operation_before.kind;
+      } else
+        want("operation_at without a record", answer == SANDBOX_MISUSE);
+      want("operation_at writes no more", same(&operation, &operation_before, sizeof operation));
+      want("finish over sectors", sandbox_finish(&session) == (finished ? SANDBOX_MISUSE : SANDBOX_OK));
+    }
+    want("close_loaded over sectors", sandbox_close_loaded(&session, &loaded) == SANDBOX_OK);
+    want("operation_at of a module", sandbox_operation_at((sandbox_session **)(void *)&loaded, 0, &operation) == SANDBOX_MISUSE && same(&operation, &operation_before, sizeof operation) && loaded);
+    want("unload", sandbox_unload(&loaded) == SANDBOX_OK);
   }
   printf("misuse: %u wrong\n", wrong);
 }
@@ -182,6 +190,57 @@ static void stops(void) {
     want("what was put is found", finds((const uint8_t(*)[512])disk, key, value));
   }
   printf("%u stops while sessions are settled: %u wrong\n", tried, wrong);
+}
+
+static int same_operation(const sandbox_operation *one, const sandbox_operation *other) {
+  return one->kind == other->kind && (one->kind != SANDBOX_WRITE || (one->sector == other->sector && same(one->bytes, other->bytes, 512)));
+}
+
+/* A guest that syncs each of its records, over a volume on a descriptor. After the resume that told of a sync, before the guest
+ * goes on, a next session finds the record in what the descriptor has. What was told while it ran is what is told in the end, and
+ * all of it gives the volume. */
+static void synced(void) {
+  enum { RECORDS = 6 };
+  static uint8_t disk[STOP_SECTORS][512], out[STOP_SECTORS][512];
+  static sandbox_operation early[STOPS];
+  const sandbox_bytes words[] = {{(const uint8_t *)"keys", 4}, {(const uint8_t *)"store", 5}, {(const uint8_t *)"fill", 4}, {(const uint8_t *)"6", 1}};
+  sandbox_supplies given = supplies();
+  given.args = words, given.args_count = 4;
+  FILE *file = tmpfile();
+  int fd = file ? fileno(file) : -1;
+  want("format", sandbox_format(disk, STOP_SECTORS, 16) == SANDBOX_OK && pwrite(fd, disk, sizeof disk, 0) == sizeof disk);
+  sandbox_session *session = NULL;
+  sandbox_volume volume;
+  sandbox_operation operation;
+  sandbox_told told = {0};
+  sandbox_why why;
+  size_t done = 0, first = 0, syncs = 0, count = 0;
+  want("volume_from", sandbox_volume_from(fd, &volume) == SANDBOX_OK && volume.sectors_count == STOP_SECTORS);
+  want("open", sandbox_open(&session, module.at, module.length, &given, &volume, &why) == SANDBOX_OK);
+  sandbox_volume_free(&volume);
+  do {
+    want("resume", sandbox_resume(&session, 10000000 - told.used, &told) == SANDBOX_OK);
+    while (count < STOPS && sandbox_operation_at(&session, count, &early[count]) == SANDBOX_OK && early[count].kind != SANDBOX_NO_OPERATION)
+      count++;
+    want("settle while it runs", sandbox_settle(&session, fd, &done) == SANDBOX_OK && done == count);
+    if (told.kind == SANDBOX_CALLED && told.call == SANDBOX_CALL_FD_SYNC && told.code == 0) {
+      char key[8];
+      snprintf(key, sizeof key, "k%zu", syncs++);
+      want("a sync has operations", done > first);
+      want("a sync is on the descriptor before its guest goes on", pread(fd, disk, sizeof disk, 0) == sizeof disk && finds((const uint8_t(*)[512])disk, key, key));
+      first = done;
+    }
+  } while (told.kind == SANDBOX_CALLED);
+  want("the guest exits", told.kind == SANDBOX_EXITED && told.code == 0 && syncs == RECORDS);
+  want("finish", sandbox_finish(&session) == SANDBOX_OK);
+  for (size_t n = 0; n < count; n++)
+    want("what was told while it ran is told again", sandbox_operation_at(&session, n, &operation) == SANDBOX_OK && same_operation(&operation, &early[n]));
+  want("settle", sandbox_settle(&session, fd, &done) == SANDBOX_OK);
+  want("sectors", sandbox_volume_out(&session, out, STOP_SECTORS) == STOP_SECTORS);
+  want("all operations give the sectors", pread(fd, disk, sizeof disk, 0) == sizeof disk && same(disk, out, sizeof disk));
+  want("close", sandbox_close(&session) == SANDBOX_OK);
+  fclose(file);
+  printf("%zu syncs, %zu operations while the guest ran and %zu at its end: %u wrong\n", syncs, count, done - count, wrong);
 }
 
 static int one(sandbox_supplies *given) {
@@ -285,6 +344,8 @@ int main(int argc, char **argv) {
     misuse();
   else if (!strcmp(argv[2], "stops"))
     stops();
+  else if (!strcmp(argv[2], "synced"))
+    synced();
   else
     costs(atol(argv[2]));
   return wrong != 0;

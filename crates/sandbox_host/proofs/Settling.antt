@@ -1,20 +1,39 @@
 -- A record that is done on a disk leaves the trees of the session.
-use Rattle.std.proofs.Common.{◌≡◌, ◌⊎◌, List, [], ◌∷◌, Result, Ok, Err, ⊎_elim, inl, inr, ap, sym, subst, ◌∙◌, arith}
+use Rattle.std.proofs.Common.{◌≡◌, ◌==◌, ◌||◌, ◌⊎◌, ◌≤◌, ℕ, Bool, IsTrue, List, [], ◌∷◌, length, Result, Ok, Err, ⊎_elim, inl, inr, ap, sym, subst, ◌∙◌, arith}
+use Rattle.std.specs.Borrow.{Bor}
 use Rattle.vol_sector.specs.Disk.{Image, Leaves}
+use Rattle.vol_sector.specs.Record.{LeftBy}
 use Rattle.vol_sector.specs.declared.fault.Refused.{Refused}
 use Rattle.vol_tree.specs.declared.superblock.Superblock.{Superblock}
 use Rattle.vol_tree.specs.Tree.{Tree}
 use Rattle.vol_tree.specs.Stands.{StandsAs}
 use Rattle.vol_tree.specs.Opened.{Reflects, ReflectsOr}
+use Rattle.wasm_module.specs.declared.module.Module.{Module}
+use Rattle.wasm_store.specs.declared.call.HostCall.{HostCall}
+use Rattle.wasm_store.specs.declared.call.HostCall.TheVariants as call
+use Rattle.wasm_steps.specs.declared.pause.Outcome.{Outcome}
+use Rattle.wasm_steps.specs.declared.pause.Outcome.TheVariants.{Exited, Trapped, OutOfFuel, OutOfMemory}
+use Rattle.wasm_steps.specs.declared.pause.Pause.{Pause}
+use Rattle.wasm_steps.specs.declared.pause.Pause.TheVariants.{Called, Spent, Ended}
+use Rattle.wasi_calls.specs.Host.{HostState}
+use Rattle.wasi_calls.specs.Moments.{is_sync, PauseSynced}
+use Rattle.sandbox_core.specs.Session.{used_by}
 use Rattle.sandbox_device.specs.declared.recorded_device.RecordedDevice.{RecordedDevice}
-use Rattle.sandbox_device.specs.Followed.{IsFollowed}
+use Rattle.sandbox_device.specs.Followed.{IsFollowed, first_of, done_on}
 use Rattle.sandbox_device.specs.internal.RecordedLaws.{now_is_since}
 use Rattle.sandbox_host.specs.declared.numbers.Told.{Told}
-use Rattle.sandbox_host.specs.Host.{State, HostVolume, Commits, disk_of}
-use Rattle.sandbox_host.specs.Sessions.{device_of}
+use Rattle.sandbox_host.specs.declared.supplies.Supplies.{Supplies}
+use Rattle.sandbox_host.specs.declared.volumes.Origin.{Origin}
+use Rattle.sandbox_host.specs.declared.volumes.Origin.TheVariants.{Sectors}
+use Rattle.sandbox_host.specs.Numbers.{call_number, told_end, told_pause}
+use Rattle.sandbox_host.specs.Host.{State, HostVolume, Bytes, Commits, IsHonest, disk_of}
+use Rattle.sandbox_host.specs.Sessions.{Begins, device_of}
 use Rattle.sandbox_host.specs.Headline.{Resumed}
-use Rattle.sandbox_host.specs.Settled.{StandsForOne, IsSettled}
+use Rattle.sandbox_host.specs.Settled.{StandsForOne, IsSettled, IsSettledSoFar, TellsSync, IsSyncSettled}
 use Rattle.sandbox_host.proofs.Carrying.{OneTree, resumed_same}
+
+abbrev Host : Type 0
+Host = HostState RecordedDevice (Bor (List ℕ)) Bytes Bytes
 
 -- what a crash may have left of the device at any moment
 abbrev Left : RecordedDevice → Image → Type 0
@@ -72,19 +91,57 @@ committed : (v : HostVolume) (result : Result HostVolume (Refused RecordedDevice
 committed v (Ok w) commits = ap (λ (x : HostVolume). x.device) commits.handed_back
 committed v (Err r) commits = commits.handed_back.0
 
+-- from an opening over sectors on
+all_left : OneTree → (m : Module) (supplies : Supplies) (sectors : Bor (List (List ℕ))) (recorded : Bool) (s s' : State) (rs : List (Told × State))
+    → (begins : Begins m supplies (Sectors sectors recorded) s) → Resumed s rs s' → (d : Image) → Left s'.host.volume.device d → StandsForOne begins.volume.numbers s.host.volume.tree rs d
+all_left one m supplies sectors recorded s s' rs begins resumed d now =
+    ⊎_elim (λ none. absurd none) (λ is. is) (resumes_left one begins.volume.numbers (λ i. ⊥) (λ i j U none a b. none) s s' rs resumed reads.kept.numbers at_first d now)
+  where
+    reads = begins.shares.reads
+
+    at_first : (i : Image) → Left s.host.volume.device i → ⊥ ⊎ StandsAs i begins.volume.numbers s.host.volume.tree
+    at_first i then = inr (subst (StandsAs i begins.volume.numbers) (sym (reads.tree tt)) (begins.is_volume.since i (⊎_elim (λ old. old) (λ none. absurd none) ((reads.crash tt).since 0 i (omega arith) then))))
+
+numbers_then : (m : Module) (supplies : Supplies) (origin : Origin) (s s' : State) (rs : List (Told × State)) (begins : Begins m supplies origin s) → Resumed s rs s' → s'.host.volume.numbers ≡ begins.volume.numbers
+numbers_then m supplies origin s s' rs begins resumed = (resumed_same s s' rs resumed).numbers ∙ begins.shares.reads.kept.numbers
+
+pub settled_so_far : OneTree → ((d : RecordedDevice) → IsFollowed d) → IsSettledSoFar
+settled_so_far one followed m supplies sectors recorded s s' rs k c begins resumed le left =
+    subst (λ (t : Tree). StandsForOne begins.volume.numbers t rs c) (begins.shares.reads.tree tt)
+    (all_left one m supplies sectors recorded s s' rs begins resumed c ((followed s'.host.volume.device).stops k c le left))
+
+-- a call that is told by such a number is one that syncs
+is_sync_by : (c : HostCall) → IsTrue (call_number c == 20 || call_number c == 21) → IsTrue (is_sync c)
+is_sync_by call.FdSync is = tt
+is_sync_by call.FdDatasync is = tt
+is_sync_by other is = absurd is
+
+no_end : (o : Outcome) (used : ℕ) → (told_end o used).kind ≡ 4 → ⊥
+no_end (Exited status) used is = absurd (omega (arith, is))
+no_end (Trapped t) used is = absurd (omega (arith, is))
+no_end OutOfFuel used is = absurd (omega (arith, is))
+no_end OutOfMemory used is = absurd (omega (arith, is))
+
+-- what a pause that is told of as such a call says
+told_synced : (p : Pause) (h : Host) (used : ℕ) (c : Image) → TellsSync (told_pause p used) → PauseSynced (λ (h : Host). disk_of h.volume.device) (λ h. h.volume.numbers) (λ h. h.volume.tree) (λ h. IsHonest h.volume.device) p h
+    → LeftBy (first_of h.volume.device) (done_on h.volume.device) c → StandsAs c h.volume.numbers h.volume.tree
+told_synced (Called call errno) h used c is stands left = stands (is_sync_by call is.sync) is.success c left
+told_synced Spent h used c is stands left = absurd (omega (arith, is.called))
+told_synced (Ended outcome) h used c is stands left = absurd (no_end outcome used is.called)
+
+pub sync_settled : IsSyncSettled
+sync_settled m supplies sectors recorded s old new rs told units c begins resumed paused tells left =
+    subst (λ (v : Superblock). StandsAs c v new.host.volume.tree) (paused.resumes.numbers ∙ numbers_then m supplies (Sectors sectors recorded) s old rs begins resumed)
+    (told_synced paused.pause new.host (used_by new) c (subst TellsSync paused.tells tells) (paused.resumes.synced tt) left)
+
 pub settled : OneTree → ((d : RecordedDevice) → IsFollowed d) → IsSettled
 settled one followed m supplies sectors recorded s s' rs e number k c begins resumed ends le left =
     let v = begins.volume.numbers in
-    let reads = begins.shares.reads in
-    let same : s.host.volume.tree ≡ begins.volume.tree = reads.tree tt in
+    let same : s.host.volume.tree ≡ begins.volume.tree = begins.shares.reads.tree tt in
     let T : Tree = s.host.volume.tree in
-    let begun : RecordedDevice = s.host.volume.device in
     let last : RecordedDevice = s'.host.volume.device in
-    let at_first : (d : Image) → Left begun d → ⊥ ⊎ StandsAs d v T =
-    λ d now. inr (subst (StandsAs d v) (sym same) (begins.is_volume.since d (⊎_elim (λ old. old) (λ none. absurd none) ((reads.crash tt).since 0 d (omega arith) now)))) in
-    let all : (d : Image) → Left last d → StandsForOne v T rs d =
-    λ d now. ⊎_elim (λ none. absurd none) (λ is. is) (resumes_left one v (λ i. ⊥) (λ i j U none a b. none) s s' rs resumed reads.kept.numbers at_first d now) in
-    let numbers : s'.host.volume.numbers ≡ v = (resumed_same s s' rs resumed).numbers ∙ reads.kept.numbers in
+    let all : (d : Image) → Left last d → StandsForOne v T rs d = all_left one m supplies sectors recorded s s' rs begins resumed in
+    let numbers : s'.host.volume.numbers ≡ v = numbers_then m supplies (Sectors sectors recorded) s s' rs begins resumed in
     let commits = ends.commits in
     let turn = subst (λ (n : Superblock). Leaves (disk_of last) (disk_of commits.new.device) (ReflectsOr (disk_of last) n s'.host.volume.tree)) numbers (commits.crash tt) in
     let moment : Left commits.new.device c = subst (λ (d : RecordedDevice). Left d c) (ends.device ∙ committed s'.host.volume ends.volume commits) ((followed e.device).stops k c le left) in

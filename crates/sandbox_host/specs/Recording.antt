@@ -18,13 +18,14 @@ told_operation None before = record before { kind = 0 }
 told_operation (Some (Write sector bytes)) before = record { kind = 1; sector = sector; bytes = bytes }
 told_operation (Some Sync) before = record before { kind = 2 }
 
--- the device of a finished session whose operations are recorded
+-- the device, where its operations are recorded
 abbrev pub recorded_on : RecordedDevice → Option RecordedDevice
 recorded_on d = if d.is_recorded then Some d else None
 
+-- that of a session as it is: while it runs, what isn't committed isn't on it yet
 abbrev pub recorded_in : Held → Option RecordedDevice
 recorded_in (Loaded m) = None
-recorded_in (Running s) = None
+recorded_in (Running s) = recorded_on s.host.volume.device
 recorded_in (Finished e) = recorded_on e.device
 recorded_in Nothing = None
 

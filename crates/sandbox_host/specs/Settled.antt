@@ -1,5 +1,5 @@
 -- A record that a host does on a disk: wherever it stops, the disk has the volume as it was at a moment of the session.
-use Rattle.std.specs.Prelude.{◌⊎◌, ◌≤◌, ℕ, Bool, List, [], ◌∷◌, length, take}
+use Rattle.std.specs.Prelude.{◌≡◌, ◌==◌, ◌||◌, ◌⊎◌, ◌≤◌, ℕ, Bool, IsTrue, List, [], ◌∷◌, length, take}
 use Rattle.std.specs.Borrow.{Bor}
 use Rattle.vol_sector.specs.Disk.{Image}
 use Rattle.vol_sector.specs.Record.{LeftBy}
@@ -13,7 +13,7 @@ use Rattle.sandbox_host.specs.declared.held.Ended.{Ended}
 use Rattle.sandbox_host.specs.declared.supplies.Supplies.{Supplies}
 use Rattle.sandbox_host.specs.declared.volumes.Origin.TheVariants.{Sectors}
 use Rattle.sandbox_host.specs.Host.{State}
-use Rattle.sandbox_host.specs.Sessions.{Begins, Finishes}
+use Rattle.sandbox_host.specs.Sessions.{Begins, Paused, Finishes}
 use Rattle.sandbox_host.specs.Headline.{Resumed}
 
 -- the image stands for the tree at first, or for that after one of these resumes
@@ -28,3 +28,23 @@ IsSettled = (m : Module) (supplies : Supplies) (sectors : Bor (List (List ℕ)))
     → (begins : Begins m supplies (Sectors sectors recorded) s) → Resumed s rs s' → Finishes s' e number
     → k ≤ length (done_on e.device) → LeftBy (first_of e.device) (take k (done_on e.device)) c
     → StandsForOne begins.volume.numbers begins.volume.tree rs c
+
+-- The same of a session that still runs, after any resumes: the first k that it has done by then.
+abbrev pub IsSettledSoFar : Type 0
+IsSettledSoFar = (m : Module) (supplies : Supplies) (sectors : Bor (List (List ℕ))) (recorded : Bool) (s s' : State) (rs : List (Told × State)) (k : ℕ) (c : Image)
+    → (begins : Begins m supplies (Sectors sectors recorded) s) → Resumed s rs s'
+    → k ≤ length (done_on s'.host.volume.device) → LeftBy (first_of s'.host.volume.device) (take k (done_on s'.host.volume.device)) c
+    → StandsForOne begins.volume.numbers begins.volume.tree rs c
+
+-- a call that syncs was answered with success
+pub record TellsSync (told : Told) : Type 0 where
+  pub called : told.kind ≡ 4
+  pub sync : IsTrue (told.call == 20 || told.call == 21)
+  pub success : told.code ≡ 0
+
+-- After a resume that tells of a sync, all that the session has done by then: a crash leaves the tree after that resume.
+abbrev pub IsSyncSettled : Type 0
+IsSyncSettled = (m : Module) (supplies : Supplies) (sectors : Bor (List (List ℕ))) (recorded : Bool) (s old new : State) (rs : List (Told × State)) (told : Told) (units : ℕ) (c : Image)
+    → (begins : Begins m supplies (Sectors sectors recorded) s) → Resumed s rs old → Paused units old new told → TellsSync told
+    → LeftBy (first_of new.host.volume.device) (done_on new.host.volume.device) c
+    → StandsAs c begins.volume.numbers new.host.volume.tree

@@ -2,7 +2,7 @@
 
 ghost use Rattle.sandbox_host.specs.Headline.{HostHeadline};
 ghost use Rattle.sandbox_host.specs.Carried.{IsCarried, IsCarriedOn};
-ghost use Rattle.sandbox_host.specs.Settled.{IsSettled};
+ghost use Rattle.sandbox_host.specs.Settled.{IsSettled, IsSettledSoFar, IsSyncSettled};
 
 use sandbox_core::laws::{headline, turns_are_safe};
 use sandbox_device::RecordedDevice;
@@ -30,9 +30,13 @@ pub fn volume_is_carried()
 }
 
 /// On a disk that has the sectors that a session's device began with, the writes and syncs of the session are done in order:
-/// whatever a stop in between leaves stands for the tree at the opening, or for that after a resume.
+/// whatever a stop in between leaves stands for the tree at the opening, or for that after a resume. So it is after any resume
+/// with what the session has done by then; and once all of that is done, where the resume told of a sync, it is the tree after
+/// that resume.
 pub fn record_is_settled()
-    ensures { IsSettled }
+    ensures at_the_end { IsSettled }
+    ensures so_far { IsSettledSoFar }
+    ensures synced { IsSyncSettled }
 {
     one_tree();
     record_is_followed();

@@ -54,8 +54,8 @@ fn tell_of(device: &RecordedDevice, number: usize, told: &mut VolumeOperation) -
     OK
 }
 
-/// Tells the write or sync with this number, from 0 on, of those that were done to a finished session's volume since it was
-/// opened; none past the last.
+/// Tells the write or sync with this number, from 0 on, of those that were done to a session's volume since it was opened; none
+/// past the last so far. Of a session that runs, those are told that its resumes have done; of a finished one all.
 pub fn operation_at(
     alloc: Global,
     session: &mut Handle,
@@ -72,6 +72,7 @@ pub fn operation_at(
         return MISUSE;
     };
     let answer = match &*held {
+        Held::Running(running) => tell_of(running.device(), number, told),
         Held::Finished(ended) => tell_of(&ended.device, number, told),
         _ => MISUSE,
     };

@@ -1,10 +1,11 @@
 /*
  * A volume on a descriptor, from C: a guest keeps keys in a file of it, and what it was told to keep is there after a `kill -9`.
  *
- *     make disk && printf 'put k value\nget k\n' | ./disk FILE
+ *     make disk && printf 'put k value\nget k\nfill 3\n' | ./disk FILE
  *
- * Each line of standard input is a session of its own: `put KEY VALUE` adds a record, `get KEY` finds its last value. A line is
- * answered on standard output once what the session did lasts.
+ * Each line of standard input is a session of its own: `put KEY VALUE` adds a record, `get KEY` finds its last value, and
+ * `fill TO` adds many, each with a sync of its own, and says each. What the guest syncs is in the file before it goes on, and
+ * what it says is passed on only then. A line is answered by the guest's status once all that the session did lasts.
  */
 #define _GNU_SOURCE
 #define SANDBOX_DESCRIPTORS
@@ -35,12 +36,13 @@ static uint32_t run(sandbox_module **module, int fd, const sandbox_bytes *words,
   check("volume", sandbox_volume_from(fd, &volume));
   check("open", sandbox_open_loaded(&session, module, &supplies, &volume));
   sandbox_volume_free(&volume);
-  do
+  do {
     check("resume", sandbox_resume(&session, 10000000 - told.used, &told));
-  while (told.kind == SANDBOX_CALLED);
+    check("settle", sandbox_settle(&session, fd, &settled)); /* a sync of the guest lasts from here on */
+    check("output", sandbox_output_to(&session, 1, STDOUT_FILENO, &shown));
+  } while (told.kind == SANDBOX_CALLED);
   check("finish", sandbox_finish(&session));
-  check("settle", sandbox_settle(&session, fd, &settled));
-  check("output", sandbox_output_to(&session, 1, STDOUT_FILENO, &shown)); /* only now */
+  check("settle", sandbox_settle(&session, fd, &settled)); /* and all that it did from here on */
   check("close", sandbox_close_loaded(&session, module));
   return told.kind == SANDBOX_EXITED ? told.code : 255;
 }

@@ -1,5 +1,5 @@
 #!/usr/bin/env python3
-"""The same as ../c/disk.c, from Python: printf 'put k value\\nget k\\n' | python3 disk.py FILE"""
+"""The same as ../c/disk.c, from Python: printf 'put k value\\nget k\\nfill 3\\n' | python3 disk.py FILE"""
 import fcntl
 import os
 import sys
@@ -13,10 +13,16 @@ def run(module, disk, words):
     """One session over the volume on the descriptor: the status that the guest exited with."""
     volume = os.pread(disk, os.fstat(disk).st_size // 512 * 512, 0)
     with module.session(args=["keys", "store", *words], volume=volume, recorded=True) as session:
-        told = session.run(10**7)
+        told, used, shown = None, 0, 0
+        while told is None or told.kind == sandbox.CALLED:
+            told = session.resume(10**7 - used)
+            session.settle(disk)  # a sync of the guest lasts from here on
+            said = session.output(start=shown)
+            sys.stdout.buffer.write(said)
+            sys.stdout.buffer.flush()
+            used, shown = told.used, shown + len(said)
         session.finish()
-        session.settle(disk)
-        sys.stdout.buffer.write(session.output())  # only now
+        session.settle(disk)  # and all that it did from here on
         return told.code if told.kind == sandbox.EXITED else 255
 
 

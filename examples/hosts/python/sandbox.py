@@ -120,6 +120,7 @@ class Session:
         given = _Supplies(array[0], len(args), array[1], len(env), opened, len(names), moment, _Bytes.of(random), pages, _Bytes.of(input))
         over = _Volume(1 + recorded, volume, len(volume) // 512) if volume is not None else _Volume(0, b"", 0)
         self._kept, self._module, self._raw = (args, env, names, paths, array, opened, random, input, module), module, c.c_void_p()
+        self._settled = 0  # operations that are on the descriptor
         _check(_lib.sandbox_open_loaded(c.byref(self._raw), c.byref(module._raw), c.byref(given), c.byref(over)))
 
     def resume(self, units):
@@ -135,11 +136,11 @@ class Session:
             told = self.resume(fuel - told.used)
         return told
 
-    def output(self, descriptor=1):
-        """What the guest has written so far."""
-        length = _lib.sandbox_output(c.byref(self._raw), c.c_uint32(descriptor), c.c_size_t(0), b"", c.c_size_t(0))
+    def output(self, descriptor=1, start=0):
+        """What the guest has written so far, from this byte on."""
+        length = max(0, _lib.sandbox_output(c.byref(self._raw), c.c_uint32(descriptor), c.c_size_t(0), b"", c.c_size_t(0)) - start)
         room = c.create_string_buffer(max(1, length))
-        _lib.sandbox_output(c.byref(self._raw), c.c_uint32(descriptor), c.c_size_t(0), room, c.c_size_t(length))
+        _lib.sandbox_output(c.byref(self._raw), c.c_uint32(descriptor), c.c_size_t(start), room, c.c_size_t(length))
         return room.raw[:length]
 
     def finish(self):
@@ -151,12 +152,13 @@ class Session:
         return room.raw[:512 * count]
 
     def settle(self, descriptor):
-        """Does what a finished session did to its volume on a descriptor, with `fdatasync` at each of its syncs. The session
-        was opened with the descriptor's bytes as `volume`, and `recorded`. What the guest did lasts then; a stop before leaves
-        the volume as it was at a moment of the session."""
-        operation, number, last = _Operation(), 0, 2
+        """Does on a descriptor what the session did to its volume since the last time, with `fdatasync` at each of its syncs.
+        The session was opened with the descriptor's bytes as `volume`, and `recorded`. After a `resume` what the guest synced
+        lasts from then on, before it goes on; after `finish` all that it did. A stop at any moment leaves the volume as it was
+        at a moment of the session. Where this fails, it isn't called again."""
+        operation, last = _Operation(), 2
         while True:
-            _check(_lib.sandbox_operation_at(c.byref(self._raw), c.c_size_t(number), c.byref(operation)))
+            _check(_lib.sandbox_operation_at(c.byref(self._raw), c.c_size_t(self._settled), c.byref(operation)))
             if operation.kind == 1:
                 done = 0
                 while done < 512:
@@ -165,7 +167,7 @@ class Session:
                 os.fdatasync(descriptor)
             if operation.kind == 0:
                 return
-            number, last = number + 1, operation.kind
+            self._settled, last = self._settled + 1, operation.kind
 
     def close(self):
         """Discards the session, finished where it wasn't. Its module can be used again."""

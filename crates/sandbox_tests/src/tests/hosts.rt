@@ -1,10 +1,12 @@
-//! What a host in C calls: why a module is refused, a session behind its handle, misuse, and texts.
+//! What a host in C calls: why a module is refused, a session behind its handle, its record, misuse, and texts.
 
+use super::guests::FILES;
 use super::sessions::assert_none;
 use machine_tests::HELLO;
+use sandbox_core::Preopen;
 use sandbox_host::{
-    Handle, MISUSE, OK, Supplies, Told, VolumeSource, Why, check, close, finish, open, output,
-    resume, text, volume_out,
+    Handle, MISUSE, OK, Supplies, Told, VolumeOperation, VolumeSource, Why, check, close, finish,
+    format, open, operation_at, output, resume, text, volume_out,
 };
 use std::alloc::Global;
 use std::process::Abort;
@@ -12,11 +14,14 @@ use std::process::Abort;
 /// `HELLO`, which a session keeps.
 static HI: [u8; 168] = HELLO;
 
-/// What a guest is given that asks for nothing.
+/// What a guest is given: the root as `/`, and nothing else.
 static SUPPLIES: Supplies<'static> = Supplies {
     args: &[],
     env: &[],
-    preopens: &[],
+    preopens: &[Preopen {
+        guest_name: b"/",
+        path: b"/",
+    }],
     moment: 0,
     random: b"",
     pages: 1,
@@ -78,14 +83,14 @@ fn tells_why_a_module_is_refused(rt: HostRuntime) {
     assert!(rt; is_refused(rt.alloc(), &HI, 0, 0));
 }
 
-/// A session of `HI` over a volume, and what the call answered.
-fn opened(alloc: Global, volume: &VolumeSource<'_>) -> (Handle, u32) {
+/// A session of a module over a volume, and what the call answered.
+fn opened(alloc: Global, module: &'static [u8], volume: &VolumeSource<'_>) -> (Handle, u32) {
     let mut session = Handle::empty(alloc);
     let mut why = Why {
         fault: 0,
         offset: 0,
     };
-    let answer = open(alloc, &mut session, &HI, &SUPPLIES, volume, &mut why);
+    let answer = open(alloc, &mut session, module, &SUPPLIES, volume, &mut why);
     (session, answer)
 }
 
@@ -145,7 +150,7 @@ fn assert_finishes(
 
 /// Whether a session over a volume is opened, and closed again.
 fn is_opened(alloc: Global, volume: &VolumeSource<'_>) -> bool {
-    let (mut session, answer) = opened(alloc, volume);
+    let (mut session, answer) = opened(alloc, &HI, volume);
     let closed = close(alloc, &mut session);
     drop(session);
     answer == OK && closed == OK
@@ -153,7 +158,7 @@ fn is_opened(alloc: Global, volume: &VolumeSource<'_>) -> bool {
 
 /// What a session over a fresh volume leaves in the sectors.
 fn assert_session(rt: &impl Abort, alloc: Global, sectors: &mut [[u8; 512]]) {
-    let (mut session, answer) = opened(alloc, &FRESH);
+    let (mut session, answer) = opened(alloc, &HI, &FRESH);
     assert!(rt; answer == OK);
     assert_finishes(rt, alloc, &mut session, sectors);
     drop(session);
@@ -170,6 +175,72 @@ fn goes_through_a_session(rt: HostRuntime) {
         sectors: &sectors,
     };
     assert!(rt; is_opened(alloc, &volume));
+}
+
+/// How often a session of `FILES` is resumed then, a number, and the kind of the operation that is told by it: 1 a write, 2 a
+/// sync, 0 none yet. It makes three files, syncs, and writes to one of them twice.
+static RECORD: [(usize, usize, u32); 7] = [
+    // the opening syncs, and the three files aren't on the device yet
+    (0, 0, 2),
+    (3, 1, 0),
+    // a commit: three images in the log, a sync, the header, a sync, the three in their places, a sync, the header, a sync
+    (1, 1, 1),
+    (0, 4, 2),
+    (0, 12, 2),
+    (0, 13, 0),
+    (2, 13, 0),
+];
+
+/// Whether the operation with this number is told as of this kind.
+fn tells(alloc: Global, session: &mut Handle, number: usize, kind: u32) -> bool {
+    let mut operation = VolumeOperation {
+        kind: 9,
+        sector: 0,
+        bytes: [0; 512],
+    };
+    operation_at(alloc, session, number, &mut operation) == OK && operation.kind == kind
+}
+
+/// Resumes a session this often.
+fn go_on(alloc: Global, session: &mut Handle, times: usize) {
+    let mut found = told(9, 9, 9);
+    for _ in 0..times {
+        resume(alloc, session, 1_000, &mut found);
+    }
+}
+
+/// The first row that a session's operations aren't told by.
+fn wrong_record(alloc: Global, session: &mut Handle) -> Option<usize> {
+    for (i, (times, number, kind)) in RECORD.iter().enumerate() {
+        go_on(alloc, session, *times);
+        if !tells(alloc, session, *number, *kind) {
+            return Some(i);
+        }
+    }
+    None
+}
+
+/// Goes through a session over a recorded volume to its end.
+fn assert_records(rt: &impl Abort, alloc: Global, volume: &VolumeSource<'_>) {
+    let (mut session, answer) = opened(alloc, FILES, volume);
+    assert!(rt; answer == OK);
+    assert_none(rt, wrong_record(alloc, &mut session));
+    assert!(rt; finish(alloc, &mut session) == OK);
+    // what was written since is committed in the same way
+    assert!(rt; tells(alloc, &mut session, 13, 1) && tells(alloc, &mut session, 100, 2));
+    assert!(rt; tells(alloc, &mut session, 101, 0));
+    drop(session);
+}
+
+#[test]
+fn tells_operations_while_it_runs(rt: HostRuntime) {
+    let mut sectors = [[0; 512]; 202];
+    assert!(rt; format(rt.alloc(), &mut sectors, 16) == OK);
+    let volume = VolumeSource {
+        kind: 2,
+        sectors: &sectors,
+    };
+    assert_records(&rt, rt.alloc(), &volume);
 }
 
 /// What is asked of a handle without a session.
@@ -189,7 +260,7 @@ fn answers_misuse(rt: HostRuntime) {
         kind: 3,
         sectors: &[],
     };
-    let (session, answer) = opened(alloc, &unknown);
+    let (session, answer) = opened(alloc, &HI, &unknown);
     drop(session);
     assert!(rt; answer == MISUSE);
 }

@@ -107,7 +107,7 @@ impl<'a> Module<'a> {
         let mut raw = null_mut();
         // SAFETY: what the supplies lead to is in `kept`, beside the session, or borrowed as long as it.
         match unsafe { sys::sandbox_open_loaded(&mut raw, &mut self.raw, &kept.supplies(supplies), &volume) } {
-            0 => Ok(Session { raw, _kept: kept, bytes: PhantomData }),
+            0 => Ok(Session { raw, settled: 0, _kept: kept, bytes: PhantomData }),
             number => Err((Refused { number, offset: 0 }, self)),
         }
     }
@@ -164,6 +164,8 @@ impl Kept {
 /// A guest on its way.
 pub struct Session<'a> {
     raw: *mut sys::OpaqueSession,
+    /// How many of its operations were done on a file.
+    settled: usize,
     _kept: Kept,
     bytes: PhantomData<&'a [u8]>,
 }
@@ -219,20 +221,23 @@ impl<'a> Session<'a> {
         }
     }
 
-    /// Does what a finished session did to its volume on the file that has the sectors it was opened over, with a sync at each of
-    /// its syncs. What the guest did lasts then; a stop before leaves the volume as it was at a moment of the session.
+    /// Does what the session did to its volume since the last time on the file that has the sectors it was opened over, with a
+    /// sync at each of its syncs. After a resume what the guest synced lasts from then on, before it goes on; after
+    /// [`Session::finish`] all that it did. A stop at any moment leaves the volume as it was at a moment of the session. Where
+    /// this fails, it isn't called again.
     pub fn settle(&mut self, file: &File) -> Result<(), Box<dyn Error>> {
         let mut operation = sys::Operation { kind: 0, sector: 0, bytes: [0; 512] };
         let mut is_written = false;
-        for number in 0.. {
+        loop {
             // SAFETY: `raw` is a session.
-            answered(unsafe { sys::sandbox_operation_at(&mut self.raw, number, &mut operation) })?;
+            answered(unsafe { sys::sandbox_operation_at(&mut self.raw, self.settled, &mut operation) })?;
             match operation.kind {
                 1 => file.write_all_at(&operation.bytes, u64::from(operation.sector) * 512)?,
                 2 => file.sync_data()?,
                 _ => break,
             }
             is_written = operation.kind == 1;
+            self.settled += 1;
         }
         if is_written {
             file.sync_data()?;

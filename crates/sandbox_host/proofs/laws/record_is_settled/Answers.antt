@@ -1,5 +1,11 @@
-use Rattle.sandbox_host.proofs.Settling.{settled}
+use Rattle.sandbox_host.proofs.Settling.{settled, settled_so_far, sync_settled}
 use Rattle.sandbox_host.proofs.laws.record_is_settled.Goals as goal
 
-pub returns : goal.returns
-returns c = settled c.one_tree.ensures c.record_is_followed.ensures
+pub returns-clause-at_the_end : goal.returns-clause-at_the_end
+returns-clause-at_the_end c = settled c.one_tree.ensures c.record_is_followed.ensures
+
+pub returns-clause-so_far : goal.returns-clause-so_far
+returns-clause-so_far c = settled_so_far c.one_tree.ensures c.record_is_followed.ensures
+
+pub returns-clause-synced : goal.returns-clause-synced
+returns-clause-synced c = sync_settled
