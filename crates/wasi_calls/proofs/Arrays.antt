@@ -1,11 +1,11 @@
 -- Buffers that a call reads.
-use Rattle.std.proofs.Common.{◌≡◌, ℕ, suc, ◌+◌, ◌-◌, ◌*◌, ◌<◌, ◌≤◌, List, [], ◌∷◌, ◌++◌, length, take, drop, min, get_or, set, Bool, true, false, refl, sym, ap, ◌∙◌, append_assoc, add-zero, add-one, append-nil, ◌⊎◌, inl, inr, nat_le, Ok, arith}
+use Rattle.std.proofs.Common.{◌≡◌, ℕ, suc, ◌+◌, ◌-◌, ◌*◌, ◌<◌, ◌≤◌, List, [], ◌∷◌, ◌++◌, length, take, drop, min, get_or, Bool, true, false, refl, sym, ap, ◌∙◌, append_assoc, add-zero, add-one, append-nil, ◌⊎◌, inl, inr, nat_le, Ok, arith}
 use Rattle.std.proofs.lemmas.Bool.{leb-true, false≢true, and_parts}
 use Rattle.std.proofs.Math.Seq.{take-suc, drop-cons}
 use Rattle.std.proofs.lemmas.List.Folds.{list_all_at, list_all-map}
 use Rattle.wasi_calls.specs.internal.Buffers.{fit, usable}
 use Rattle.wasi_calls.proofs.Yields.{goes_on}
-use Rattle.std.proofs.lemmas.List.{drop-drop, take_more_set, map-append, length-append, length-take, length-drop, take_min}
+use Rattle.std.proofs.lemmas.List.{drop-drop, map-append, length-append, length-take, length-drop, take_min}
 use Rattle.std.proofs.lemmas.List.Sums.{sum_by-cons, sum_by-append}
 use Rattle.std.specs.List.{list_all}
 use Rattle.byteorder.specs.Endian.{little_number}
@@ -27,14 +27,13 @@ buffers_from array count i h =
     rw one_more (ap (λ (bytes : List ℕ). buffer_at (drop (8 * i) array) ∷ buffers_in (count - (i + 1)) bytes) moved)
 
 -- one more is read
-pub read_more : (room : List Span) (array : List ℕ) (count i : ℕ) (b : Span) → i < length room → i < count → pair_of b ≡ buffer_at (drop (8 * i) array)
-    → list_of (take (i + 1) (set room i b)) ++ buffers_in (count - (i + 1)) (drop (8 * (i + 1)) array) ≡ list_of (take i room) ++ buffers_in (count - i) (drop (8 * i) array)
-read_more room array count i b inside below is =
+pub read_more : (room : List Span) (array : List ℕ) (count i : ℕ) (b : Span) → i < count → pair_of b ≡ buffer_at (drop (8 * i) array)
+    → list_of (room ++ b ∷ []) ++ buffers_in (count - (i + 1)) (drop (8 * (i + 1)) array) ≡ list_of room ++ buffers_in (count - i) (drop (8 * i) array)
+read_more room array count i b below is =
     let rest : List Buffer = buffers_in (count - (i + 1)) (drop (8 * (i + 1)) array) in
-    ap (λ (l : List Span). list_of l ++ rest) (take_more_set room i b inside)
-    ∙ (ap (λ (l : List Buffer). l ++ rest) (map-append pair_of (take i room) (b ∷ []))
-    ∙ (append_assoc (list_of (take i room)) (pair_of b ∷ []) rest
-    ∙ (ap (λ (x : Buffer). list_of (take i room) ++ (x ∷ rest)) is ∙ ap (λ (l : List Buffer). list_of (take i room) ++ l) (sym (buffers_from array count i below)))))
+    ap (λ (l : List Buffer). l ++ rest) (map-append pair_of room (b ∷ []))
+    ∙ (append_assoc (list_of room) (pair_of b ∷ []) rest
+    ∙ (ap (λ (x : Buffer). list_of room ++ (x ∷ rest)) is ∙ ap (λ (l : List Buffer). list_of room ++ l) (sym (buffers_from array count i below))))
 
 bool_or : (b : Bool) → (b ≡ true) ⊎ (b ≡ false)
 bool_or true = inl refl

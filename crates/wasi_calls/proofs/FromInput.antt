@@ -1,5 +1,5 @@
 -- Calls that read from the input.
-use Rattle.std.proofs.Common.{◌≡◌, ◌⊎◌, inl, inr, Result, OnOk, OnErr, IfErr, ℕ, ◌+◌, ◌≤◌, Bool, true, false, not, cond, ◌||◌, nat_lt, List, [], ◌∷◌, ◌++◌, length, take, drop, Option, Some, None, Ok, Err, vec_len, refl, sym, ap, ◌∙◌, subst, append-nil, arith}
+use Rattle.std.proofs.Common.{◌≡◌, ◌⊎◌, inl, inr, Result, OnOk, OnErr, IfErr, ℕ, ◌+◌, ◌≤◌, Bool, true, false, not, cond, ◌||◌, nat_lt, List, [], ◌∷◌, ◌++◌, length, take, drop, Option, Some, None, Ok, Err, vec_capacity, refl, sym, ap, ◌∙◌, subst, append-nil, arith}
 use Rattle.std.proofs.lemmas.Bool.{false≢true}
 use Rattle.std.proofs.lemmas.List.{length-append, length-take, length-drop, take_all, drop_all}
 use Rattle.std.proofs.Math.Seq.{take-append_seam, drop-append_seam}
@@ -90,7 +90,7 @@ unread_ended w is = ap (λ (b : Bool). cond b [] w.input) is
 module _ {D R W1 W2 : Type 0} (honest : D → Type 0) (disk : D → Disk) (sectors_on failures : D → ℕ)
     (remaining : R → Option (List ℕ)) (out_contents : W1 → Option (List ℕ)) (err_contents : W2 → Option (List ℕ))
     (c : HostCall) (used : ℕ) (args : List ℕ) (old new : Inner D R W1 W2) (m m' : List ℕ) (fd : ℕ) (bs : List Buffer) (result : ℕ)
-    (h : IsSetUp remaining old) (buffers : vec_len new.buffers ≡ 1024) (piece : vec_len new.piece ≡ 16384)
+    (h : IsSetUp remaining old) (buffers : 1024 ≤ vec_capacity new.buffers) (piece : 16384 ≤ vec_capacity new.piece)
     (end : new.input.ended ≡ true → IsAtEnd (remaining new.input.reader))
     (state : state_of new ≡ state_of (record old { input = new.input }))
     (same : (v : World) → v.table ≡ table_of old.descriptors → row c v m used args ≡ read_to v fd (Stream Input) bs result)

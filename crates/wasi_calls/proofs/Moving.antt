@@ -1,5 +1,5 @@
 -- Calls that reach the volume and move a position.
-use Rattle.std.proofs.Common.{◌≡◌, ℕ, IsTrue, true, refl, List, Option, sym, ap, ◌∙◌, vec_len, subst}
+use Rattle.std.proofs.Common.{◌≡◌, ◌≤◌, ℕ, IsTrue, true, refl, List, Option, sym, ap, ◌∙◌, vec_capacity, subst}
 use Rattle.vol_sector.specs.Disk.{Disk}
 use Rattle.vol_tree.specs.declared.superblock.Superblock.{Superblock}
 use Rattle.vol_tree.specs.Opened.{Opened, IsSerial}
@@ -58,7 +58,7 @@ module _ {D R W1 W2 : Type 0} (honest : D → Type 0) (disk : D → Disk) (secto
   -- A call that changes the volume and positions, and leaves what it likes in the room for its bytes.
   pub serves_roomy : (c : HostCall) (used : ℕ) (args : List ℕ) (old new : Inner D R W1 W2) (m m' : List ℕ) (e : ℕ)
       → (e ≡ 29 → HasFailed c (state_of new))
-      → IsSetUp remaining old → vec_len new.buffers ≡ 1024 → vec_len new.piece ≡ 16384
+      → IsSetUp remaining old → 1024 ≤ vec_capacity new.buffers → 16384 ≤ vec_capacity new.piece
       → state_of new ≡ state_of (record old { volume = new.volume; descriptors = new.descriptors })
       → VolumeStep honest disk sectors_on failures old.volume new.volume → NoMoreEntries (table_of old.descriptors) (table_of new.descriptors)
       → ((IsTrue (reaches_volume c (table_of old.descriptors) args) → honest old.volume.device) → (b : StreamBytes)

@@ -1,5 +1,5 @@
 -- Calls whose checks have passed.
-use Rattle.std.proofs.Common.{◌≡◌, ℕ, ◌+◌, ◌≤◌, ◌++◌, List, length, take, true, Ok, Err, refl, sym, ap, ◌∙◌, subst, arith, length-take}
+use Rattle.std.proofs.Common.{◌≡◌, ℕ, ◌+◌, ◌≤◌, ◌++◌, List, length, take, true, Ok, Err, refl, sym, ap, ◌∙◌, subst}
 use Rattle.std.proofs.Math.Seq.{take-append_seam}
 use Rattle.wasi_fd.specs.declared.descriptor.Stream.{Stream as StreamValue}
 use Rattle.wasi_fd.specs.declared.descriptor.Stream.TheVariants.{Input, Output, Error}
@@ -70,12 +70,6 @@ usable_row m iovs count result k = paired (buffers m iovs count) (range m result
 -- a vector's elements after they were written through a slice of all of them
 pub refilled : {X : Type 0} (n : ℕ) (ws zs : List X) → length ws ≡ n → take n (ws ++ zs) ≡ ws
 refilled n ws zs h = ap (λ (k : ℕ). take k (ws ++ zs)) (sym h) ∙ take-append_seam ws zs
-
-pub few_taken : {X : Type 0} (n : ℕ) (xs l : List X) → l ≡ take n xs → n ≤ 1024 → length l ≤ 1024
-few_taken n xs l is few =
-    let long = ap length is in
-    let least = length-take n xs in
-    omega (arith, long, least, few)
 
 -- ---- rights
 

@@ -1,5 +1,5 @@
 -- Calls that write to a stream.
-use Rattle.std.proofs.Common.{◌≡◌, ◌⊎◌, inl, inr, Bool, Result, OnOk, OnErr, IfErr, ℕ, true, false, not, List, ◌++◌, length, take, Option, Some, Ok, Err, vec_len, refl, sym, ap, ◌∙◌, subst, append_assoc, arith}
+use Rattle.std.proofs.Common.{◌≡◌, ◌≤◌, ◌⊎◌, inl, inr, Bool, Result, OnOk, OnErr, IfErr, ℕ, true, false, not, List, ◌++◌, length, take, Option, Some, Ok, Err, vec_capacity, refl, sym, ap, ◌∙◌, subst, append_assoc, arith}
 use Rattle.std.proofs.lemmas.List.{length-append}
 use Rattle.std.proofs.Math.Seq.{take-append_seam}
 use Rattle.std.specs.Io.KnownBytes.{Appends, IsAtEnd}
@@ -38,7 +38,7 @@ either false = inr refl
 module _ {D R W1 W2 : Type 0} (honest : D → Type 0) (disk : D → Disk) (sectors_on failures : D → ℕ)
     (remaining : R → Option (List ℕ)) (out_contents : W1 → Option (List ℕ)) (err_contents : W2 → Option (List ℕ))
     (c : HostCall) (used : ℕ) (args : List ℕ) (old new : Inner D R W1 W2) (m m' : List ℕ) (fd : ℕ) (all : List ℕ) (result : ℕ)
-    (h : IsSetUp remaining old) (buffers : vec_len new.buffers ≡ 1024) (piece : vec_len new.piece ≡ 16384)
+    (h : IsSetUp remaining old) (buffers : 1024 ≤ vec_capacity new.buffers) (piece : 16384 ≤ vec_capacity new.piece)
     (state : state_of new ≡ state_of (record old { out = new.out }))
     (same : (v : World) → v.table ≡ table_of old.descriptors → row c v m used args ≡ written_to v fd (Stream Output) all result)
     (cause : new.out.failed ≡ true → HasFailed c (state_of new)) where
@@ -159,7 +159,7 @@ module _ {D R W1 W2 : Type 0} (honest : D → Type 0) (disk : D → Disk) (secto
 module _ {D R W1 W2 : Type 0} (honest : D → Type 0) (disk : D → Disk) (sectors_on failures : D → ℕ)
     (remaining : R → Option (List ℕ)) (out_contents : W1 → Option (List ℕ)) (err_contents : W2 → Option (List ℕ))
     (c : HostCall) (used : ℕ) (args : List ℕ) (old new : Inner D R W1 W2) (m m' : List ℕ) (fd : ℕ) (all : List ℕ) (result : ℕ)
-    (h : IsSetUp remaining old) (buffers : vec_len new.buffers ≡ 1024) (piece : vec_len new.piece ≡ 16384)
+    (h : IsSetUp remaining old) (buffers : 1024 ≤ vec_capacity new.buffers) (piece : 16384 ≤ vec_capacity new.piece)
     (state : state_of new ≡ state_of (record old { err = new.err }))
     (same : (v : World) → v.table ≡ table_of old.descriptors → row c v m used args ≡ written_to v fd (Stream Error) all result)
     (cause : new.err.failed ≡ true → HasFailed c (state_of new)) where

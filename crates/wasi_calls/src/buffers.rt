@@ -1,6 +1,6 @@
 //! Buffers of the guest, which a call names by an array of them.
 
-ghost use Rattle.std.specs.Prelude.{◌≡◌, ◌<◌, ◌≤◌, ◌+◌, ◌-◌, ◌*◌, ◌^◌, nat_le, length, take, drop, true, Ok, Err, OnOk, MatchResult};
+ghost use Rattle.std.specs.Prelude.{◌≡◌, ◌<◌, ◌≤◌, ◌+◌, ◌-◌, ◌*◌, ◌^◌, nat_le, length, take, drop, true, Ok, Err, OnOk, MatchResult, vec_len, vec_capacity};
 ghost use Rattle.std.specs.List.{list_all};
 ghost use Rattle.byteorder.specs.Endian.{little_number};
 ghost use Rattle.wasm_store.specs.Bytes.{bytes_at};
@@ -30,13 +30,17 @@ fn buffer_in(array: &[u8]) -> Span
     }
 }
 
-/// Reads as many buffers of an array as there is room for.
-fn read_buffers(room: &mut [Span], array: &[u8])
-    requires { length array.now ≡ 8 * length room.old }
-    ensures { list_of room.new ≡ buffers_in (length room.old) array.now }
+/// Reads this many buffers of an array into the room, which has the place.
+fn read_buffers(room: &mut Vec<Span>, array: &[u8], count: usize)
+    requires place { count ≤ vec_capacity room.old }
+    requires whole { length array.now ≡ 8 * count }
+    ensures read { list_of room.new.items ≡ buffers_in count array.now }
+    ensures len { vec_len room.new ≡ count }
+    ensures place { vec_capacity room.new ≡ vec_capacity room.old }
 {
-    for index in 0..room.len() {
-        room[index] = buffer_in(&array[ENTRY_BYTES as usize * index..]);
+    room.clear();
+    for index in 0..count {
+        room.push_reserved(buffer_in(&array[ENTRY_BYTES as usize * index..]));
     }
 }
 
@@ -67,16 +71,18 @@ fn are_inside(buffers: &[Span], memory: &Memory) -> bool
 }
 
 /// Reads an array of buffers of this length and at this address.
-fn read_array(room: &mut [Span], memory: &Memory, iovs: u32, count: u32)
-    requires room { length room.old ≡ 1024 }
+fn read_array(room: &mut Vec<Span>, memory: &Memory, iovs: u32, count: u32)
+    requires place { 1024 ≤ vec_capacity room.old }
     requires few { count ≤ 1024 }
     requires inside { iovs + 8 * count ≤ length memory.now }
-    ensures { list_of (take count room.new) ≡ buffers_in count (bytes_at memory.now iovs (8 * count)) }
+    ensures read { list_of room.new.items ≡ buffers_in count (bytes_at memory.now iovs (8 * count)) }
+    ensures len { vec_len room.new ≡ count }
+    ensures place { vec_capacity room.new ≡ vec_capacity room.old }
 {
     let Some(array) = memory.slice(iovs, ENTRY_BYTES * count) else {
         unreachable!()
     };
-    read_buffers(&mut room[..count as usize], array);
+    read_buffers(room, array, count as usize);
 }
 
 /// Whether the buffers have few enough bytes and lie in memory.
@@ -123,15 +129,17 @@ impl Request {
         }
     }
 
-    /// Reads the buffers into the room, where all of them and the place of the result lie in memory.
+    /// Reads the buffers into the room, where all of them and the place of the result lie in memory. It takes no memory: the room
+    /// has the place for as many as a call can name.
     #[tactic(auto, using(crate::proofs::Yields::goes_on, crate::proofs::Yields::stops))]
-    pub fn find_buffers(&self, room: &mut [Span], memory: &Memory) -> Result<(), Errno>
-        requires { length room.old ≡ 1024 }
+    pub fn find_buffers(&self, room: &mut Vec<Span>, memory: &Memory) -> Result<(), Errno>
+        requires { 1024 ≤ vec_capacity room.old }
         ensures found { MatchResult result
-            (λ _. usable memory.now self.now.iovs self.now.count self.now.result_at ≡ Ok (list_of (take self.now.count room.new)))
+            (λ _. usable memory.now self.now.iovs self.now.count self.now.result_at ≡ Ok (list_of room.new.items))
             (λ e. usable memory.now self.now.iovs self.now.count self.now.result_at ≡ Err e.0) }
-        ensures usable { OnOk result (AreUsable memory.now (list_of (take self.now.count room.new)) self.now.result_at) }
-        ensures few { OnOk result (self.now.count ≤ 1024) }
+        ensures usable { OnOk result (AreUsable memory.now (list_of room.new.items) self.now.result_at) }
+        ensures few { OnOk result (vec_len room.new ≤ 1024) }
+        ensures place { 1024 ≤ vec_capacity room.new }
     {
         if let Err(errno) = check_that(self.count <= MOST_BUFFERS, Errno::INVAL) {
             return Err(errno);
@@ -140,20 +148,12 @@ impl Request {
             return Err(errno);
         }
         read_array(room, memory, self.iovs, self.count);
-        if let Err(errno) = check_buffers(self.buffers_in(room), memory) {
+        if let Err(errno) = check_buffers(room.as_slice(), memory) {
             return Err(errno);
         }
         match check_range(memory, self.result_at, 4) {
             Ok(()) => Ok(()),
             Err(errno) => Err(errno),
         }
-    }
-
-    /// The buffers of the call, once they are in the room.
-    pub fn buffers_in<'a>(&self, room: &'a [Span]) -> &'a [Span]
-        requires { self.now.count ≤ length room.now }
-        ensures { result.now ≡ take self.now.count room.now }
-    {
-        &room[..self.count as usize]
     }
 }

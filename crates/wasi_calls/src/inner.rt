@@ -22,9 +22,9 @@ pub(crate) struct Inner<'s, 't, D: Device, R, W1, W2> {
     pub settings: Settings<'s, 't>,
     /// What random bytes come from where the host is seeded.
     pub generator: Option<ChaCha20Rng>,
-    /// Room for the buffers of a call.
+    /// Place for the buffers of a call.
     pub buffers: Vec<Span>,
-    /// Room for the bytes of a call.
+    /// Place for the bytes of a call.
     pub piece: Vec<u8>,
 }
 

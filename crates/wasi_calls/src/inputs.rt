@@ -1,6 +1,6 @@
 //! Bytes that a call reads from a stream.
 
-ghost use Rattle.std.specs.Prelude.{◌≡◌, ◌<◌, ◌≤◌, ◌+◌, ◌^◌, length, take, [], true, false, Ok, Err, OnOk, OnErr, IfOk, IfErr};
+ghost use Rattle.std.specs.Prelude.{◌≡◌, ◌<◌, ◌≤◌, ◌+◌, ◌^◌, length, take, [], true, false, Ok, Err, OnOk, OnErr, IfOk, IfErr, vec_len, vec_capacity};
 ghost use Rattle.std.specs.List.{list_all};
 ghost use Rattle.std.specs.Io.KnownBytes.{Consumes, IsAtEnd};
 ghost use Rattle.wasm_store.specs.Bytes.{written};
@@ -15,9 +15,23 @@ use std::io::Read;
 use vol_tree::Span;
 use wasm_store::{Errno, Memory};
 
+/// How many bytes a call takes from the input at once.
+pub(crate) const PIECE: usize = 16_384;
+
 /// A reader has failed.
 #[derive(Clone, Copy)]
 struct ReaderFailed;
+
+/// Gives the piece all of its bytes, for which it has the place: zeros at the first call that reads, and none where it has them.
+pub(crate) fn fill_up(piece: &mut Vec<u8>)
+    requires { 16384 ≤ vec_capacity piece.old }
+    ensures len { vec_len piece.new ≡ 16384 }
+    ensures place { 16384 ≤ vec_capacity piece.new }
+{
+    let Ok(()) = piece.resize(PIECE, 0) else {
+        unreachable!()
+    };
+}
 
 /// Reads once into the piece, at most this many bytes, and says how many: none only at the reader's end. Any error of the
 /// reader counts as failure, an interruption too.

@@ -39,7 +39,7 @@ impl<'s, 't, D: Device, R: Read, W1: Write, W2: Write> Inner<'s, 't, D, R, W1, W
             Ok(opened) => opened,
             Err(errno) => return Err(errno),
         };
-        if let Err(errno) = request.find_buffers(self.buffers.as_mut_slice(), memory) {
+        if let Err(errno) = request.find_buffers(&mut self.buffers, memory) {
             return Err(errno);
         }
         let room = self.buffers.as_mut_slice();
@@ -58,10 +58,10 @@ impl<'s, 't, D: Device, R: Read, W1: Write, W2: Write> Inner<'s, 't, D, R, W1, W
             Ok(opened) => opened,
             Err(errno) => return Err(errno),
         };
-        if let Err(errno) = request.find_buffers(self.buffers.as_mut_slice(), memory) {
+        if let Err(errno) = request.find_buffers(&mut self.buffers, memory) {
             return Err(errno);
         }
-        let buffers = request.buffers_in(self.buffers.as_slice());
+        let buffers = self.buffers.as_slice();
         let volume = &mut self.volume;
         writing::write_at(volume, memory, &opened, offset, buffers, request.result_at)
     }
@@ -77,12 +77,13 @@ impl<'s, 't, D: Device, R: Read, W1: Write, W2: Write> Inner<'s, 't, D, R, W1, W
             Ok(target) => target,
             Err(errno) => return Err(errno),
         };
-        if let Err(errno) = request.find_buffers(self.buffers.as_mut_slice(), memory) {
+        if let Err(errno) = request.find_buffers(&mut self.buffers, memory) {
             return Err(errno);
         }
         match target {
             Descriptor::Stream(Stream::Input) => {
-                let buffers = request.buffers_in(self.buffers.as_slice());
+                let buffers = self.buffers.as_slice();
+                inputs::fill_up(&mut self.piece);
                 let piece = self.piece.as_mut_slice();
                 inputs::read_stream(&mut self.input, piece, memory, buffers, request.result_at)
             }
@@ -107,10 +108,10 @@ impl<'s, 't, D: Device, R: Read, W1: Write, W2: Write> Inner<'s, 't, D, R, W1, W
             Ok(target) => target,
             Err(errno) => return Err(errno),
         };
-        if let Err(errno) = request.find_buffers(self.buffers.as_mut_slice(), memory) {
+        if let Err(errno) = request.find_buffers(&mut self.buffers, memory) {
             return Err(errno);
         }
-        let buffers = request.buffers_in(self.buffers.as_slice());
+        let buffers = self.buffers.as_slice();
         match target {
             Descriptor::Stream(Stream::Input) => Err(NOTCAPABLE),
             Descriptor::Stream(Stream::Output) => {

@@ -251,26 +251,24 @@ pub(crate) fn file_to_read<'t>(descriptors: &Descriptors<'t>, fd: u32) -> Result
     entry_at(descriptors, fd, Takes::Files, rights)
 }
 
-/// Reads the bytes of an open file from a place on into the buffers of a call, and then writes how many. The buffers
-/// are in the room, which is cut to what was read.
+/// Reads the bytes of an open file from a place on into the buffers of a call, which are cut to what was read, and then writes
+/// how many.
 pub(crate) fn read_placed<D: Device>(
     volume: &mut Volume<D>,
     memory: &mut Memory,
     opened: &Opened<'_>,
     from: u64,
     request: &Request,
-    room: &mut [Span],
+    buffers: &mut [Span],
 ) -> Result<(), Errno>
     requires file { IsFileOf D.honest volume.old opened.now.serial }
-    requires room { length room.old ≡ 1024 }
-    requires few { request.now.count ≤ 1024 }
-    requires usable { AreUsable memory.old (list_of (take request.now.count room.old)) request.now.result_at }
+    requires few { length buffers.old ≤ 1024 }
+    requires usable { AreUsable memory.old (list_of buffers.old) request.now.result_at }
     ensures step { VolumeStep D.honest D.disk D.size D.failures volume.old volume.new }
     ensures io { errno_of result ≡ 29 → volume.new.failed ≡ true }
     ensures answered { D.honest volume.old.device → (w : World) → w ≡ with_volume volume.old w
-        → Answered (λ v. read_into v opened.now from (list_of (take request.now.count room.old)) request.now.result_at) w memory.old (with_volume volume.new w) memory.new (errno_of result) }
+        → Answered (λ v. read_into v opened.now from (list_of buffers.old) request.now.result_at) w memory.old (with_volume volume.new w) memory.new (errno_of result) }
 {
-    let buffers = &mut room[..request.count as usize];
     match read_at(volume, opened.serial, from, memory, buffers) {
         Ok(len) => {
             write_bytes(memory, request.result_at, &le32(len));
@@ -280,28 +278,26 @@ pub(crate) fn read_placed<D: Device>(
     }
 }
 
-/// Reads the bytes of an open file where it stands into the buffers of a call. The file moves after them, and then it is
-/// written how many. The buffers are in the room, which is cut to what was read.
+/// Reads the bytes of an open file where it stands into the buffers of a call, which are cut to what was read. The file moves
+/// after them, and then it is written how many.
 pub(crate) fn read_file<'t, D: Device>(
     volume: &mut Volume<D>,
     descriptors: &mut Descriptors<'t>,
     memory: &mut Memory,
     opened: &Opened<'t>,
     request: &Request,
-    room: &mut [Span],
+    buffers: &mut [Span],
 ) -> Result<(), Errno>
     requires file { IsFileOf D.honest volume.old opened.now.serial }
     requires open { table_of descriptors.old request.now.fd ≡ Some (Descriptor.Entry opened.now) }
-    requires room { length room.old ≡ 1024 }
-    requires few { request.now.count ≤ 1024 }
-    requires usable { AreUsable memory.old (list_of (take request.now.count room.old)) request.now.result_at }
+    requires few { length buffers.old ≤ 1024 }
+    requires usable { AreUsable memory.old (list_of buffers.old) request.now.result_at }
     ensures step { VolumeStep D.honest D.disk D.size D.failures volume.old volume.new }
     ensures io { errno_of result ≡ 29 → volume.new.failed ≡ true }
     ensures entries { NoMoreEntries (table_of descriptors.old) (table_of descriptors.new) }
     ensures answered { D.honest volume.old.device → (w : World) → w.table ≡ table_of descriptors.old → w ≡ with_volume volume.old w
-        → Answered (λ v. read_file_to v request.now.fd opened.now (list_of (take request.now.count room.old)) request.now.result_at) w memory.old (with_table (table_of descriptors.new) (with_volume volume.new w)) memory.new (errno_of result) }
+        → Answered (λ v. read_file_to v request.now.fd opened.now (list_of buffers.old) request.now.result_at) w memory.old (with_table (table_of descriptors.new) (with_volume volume.new w)) memory.new (errno_of result) }
 {
-    let buffers = &mut room[..request.count as usize];
     match read_at(volume, opened.serial, opened.position, memory, buffers) {
         Ok(len) => {
             let past = opened.position + u64::from(len);

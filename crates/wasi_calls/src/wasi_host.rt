@@ -7,6 +7,7 @@ use crate::arguments::word;
 use crate::fault::HostFault;
 use crate::host::VolumeHost;
 use crate::inner::Inner;
+use crate::inputs::PIECE;
 use crate::linking;
 use crate::settings::Settings;
 use crate::streams::{Input, Output};
@@ -16,16 +17,13 @@ use std::alloc::Global;
 use std::io::{Read, Write};
 use std::marker::Model;
 use vol_sector::Device;
-use vol_tree::{Span, Volume};
+use vol_tree::Volume;
 use wasi_fd::Descriptors;
 use wasm_module::FuncType;
 use wasm_store::{Answer, Errno, Host, HostCall, Memory};
 
 /// How many buffers a call can name.
 const MOST_BUFFERS: usize = 1_024;
-
-/// How many bytes a call writes to a file at most, and takes from the input at once.
-const PIECE: usize = 16_384;
 
 /// The host of a guest, which answers its calls.
 #[derive(Drop)]
@@ -99,13 +97,13 @@ impl<'s, 't, D: Device, R: Read + Drop, W1: Write + Drop, W2: Write + Drop> Wasi
                 fault: HostFault::Memory,
             });
         };
-        let Ok(buffers) = vec![in alloc; Span { pointer: 0, len: 0 }; MOST_BUFFERS] else {
+        let Ok(buffers) = Vec::with_capacity(alloc, MOST_BUFFERS) else {
             return Err(RefusedHost {
                 parts,
                 fault: HostFault::Memory,
             });
         };
-        let Ok(piece) = vec![in alloc; 0; PIECE] else {
+        let Ok(piece) = Vec::with_capacity(alloc, PIECE) else {
             return Err(RefusedHost {
                 parts,
                 fault: HostFault::Memory,

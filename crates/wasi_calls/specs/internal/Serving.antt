@@ -1,5 +1,5 @@
 -- What the bodies of calls say.
-use Rattle.std.specs.Prelude.{◌≡◌, ◌≤◌, IsTrue, ℕ, Bool, true, false, List, Option, Result, Ok, Err, Some, vec_len}
+use Rattle.std.specs.Prelude.{◌≡◌, ◌≤◌, IsTrue, ℕ, Bool, true, false, List, Option, Result, Ok, Err, Some, vec_capacity}
 use Rattle.std.specs.Io.KnownBytes.{IsAtEnd}
 use Rattle.vol_inode.specs.declared.entry.Kind.{Kind}
 use Rattle.vol_inode.specs.declared.entry.Kind.TheVariants as nodes
@@ -59,8 +59,8 @@ module _ {D R W1 W2 : Type 0} where
   -- tells, and each open entry has a number of the volume.
   pub record IsSetUp (remaining : R → Option (List ℕ)) (p : Inner D R W1 W2) : Type 0 where
     pub settings : settings_fit p.settings ≡ true
-    pub buffers : vec_len p.buffers ≡ 1024
-    pub piece : vec_len p.piece ≡ 16384
+    pub buffers : 1024 ≤ vec_capacity p.buffers
+    pub piece : 16384 ≤ vec_capacity p.piece
     pub ended : p.input.ended ≡ true → IsAtEnd (remaining p.input.reader)
     pub serials : (fd : ℕ) (o : OpenedEntry) → table_of p.descriptors fd ≡ Some (Entry o) → IsSerial p.volume.numbers o.serial
 

@@ -1,8 +1,11 @@
-use Rattle.std.proofs.Common.{◌≡◌, ◌-◌, ◌*◌, ◌++◌, length, take, drop}
+use Rattle.std.proofs.Common.{◌≡◌, ◌-◌, ◌*◌, ◌++◌, drop, vec_len, vec_capacity}
 use Rattle.wasi_calls.specs.Checks.{buffers_in}
 use Rattle.wasi_calls.specs.internal.Buffers.{list_of}
 use Rattle.wasi_calls.proofs.buffers.read_buffers.Given as goal
 
 abbrev pub invariant-loop-index : goal.invariant-loop-index
-invariant-loop-index l =
-    list_of (take l.index l.room) ++ buffers_in (length l.initial.room - l.index) (drop (8 * l.index) l.array) ≡ buffers_in (length l.initial.room) l.array
+invariant-loop-index l = record {
+  read : list_of l.room.items ++ buffers_in (l.count - l.index) (drop (8 * l.index) l.array) ≡ buffers_in l.count l.array;
+  len : vec_len l.room ≡ l.index;
+  place : vec_capacity l.room ≡ vec_capacity l.initial.room;
+}

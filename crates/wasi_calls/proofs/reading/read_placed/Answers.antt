@@ -1,4 +1,4 @@
-use Rattle.std.proofs.Common.{◌≡◌, ℕ, true, false, List, [], ◌∷◌, Err, length, take, sym, ap, ◌∙◌, subst, refl}
+use Rattle.std.proofs.Common.{◌≡◌, ℕ, true, false, List, [], ◌∷◌, Err, length, sym, ap, ◌∙◌, subst, refl}
 use Rattle.byteorder.specs.Endian.{little_bytes}
 use Rattle.wasm_store.specs.Bytes.{written}
 use Rattle.vol_tree.specs.declared.errno.Errno.{Errno}
@@ -28,7 +28,7 @@ returns-in-Err g c = record {
       let new = c.read_at.new.volume in
       let o = c.args.opened.now in
       let from = c.args.from in
-      let bs = list_of (take c.args.request.now.count c.args.room.now) in
+      let bs = list_of c.args.buffers.now in
       let result = c.args.request.now.result_at in
       let (io, mixed) = c.in-Err.ensures.broke h in
       let asked : Asked g.D.Device.honest g.D.Device.disk g.D.Device.size g.D.Device.failures old new true =
@@ -51,7 +51,7 @@ returns-in-Ok g c = record {
       let new = c.read_at.new.volume in
       let o = c.args.opened.now in
       let from = c.args.from in
-      let bs = list_of (take c.args.request.now.count c.args.room.now) in
+      let bs = list_of c.args.buffers.now in
       let result = c.args.request.now.result_at in
       let asked = c.in-Ok.ensures.asked in
       let working : old.failed ≡ false = was_working g.D.Device.honest g.D.Device.size g.D.Device.failures old new false asked.kept refl in

@@ -1,4 +1,4 @@
-use Rattle.std.proofs.Common.{◌≡◌, ◌+◌, ◌^◌, List, Ok, take, refl, sym, ap, ◌∙◌, subst}
+use Rattle.std.proofs.Common.{◌≡◌, ◌+◌, ◌^◌, List, Ok, refl, sym, ap, ◌∙◌, subst, arith}
 use Rattle.std.specs.Vec.{with_items}
 use Rattle.wasi_fd.specs.Table.{table_of}
 use Rattle.vol_body.specs.declared.source.Span.{Span}
@@ -21,7 +21,7 @@ use Rattle.wasi_calls.proofs.Entries.{file_of}
 use Rattle.wasi_calls.proofs.Volumes.{refused_first}
 use Rattle.wasi_calls.proofs.Served.{no_more, volume_rests}
 use Rattle.wasi_calls.proofs.Moving.{serves_roomy}
-use Rattle.wasi_calls.proofs.Prepared.{answered_so, usable_row, refilled}
+use Rattle.wasi_calls.proofs.Prepared.{answered_so, usable_row}
 use Rattle.wasi_calls.proofs.inner.Inner.fd_pread.Goals as goal
 
 pub returns-in-Err : goal.returns-in-Err
@@ -53,9 +53,9 @@ returns-in-Err-find_buffers g c = λ used.
     let o = c.in-Ok.opened in
     let run : World → Checked Done = λ w. fd_pread w m (word a 0) (word a 1) (word a 2) (long a 3) (word a 4) in
     serves_roomy g.D.Device.honest g.D.Device.disk g.D.Device.size g.D.Device.failures g.R.Read.remaining g.W1.Write.contents g.W2.Write.contents
-    call.FdPread used a s (record s { buffers = with_items s.buffers c.find_buffers.new.room }) m m _
+    call.FdPread used a s (record s { buffers = c.find_buffers.new.room }) m m _
     (not_29 (usable m q.iovs q.count q.result_at) _ (usable_never m q.iovs q.count q.result_at) c.in-Err-find_buffers.ensures.found)
-    c.requires.set_up c.requires.set_up.buffers c.requires.set_up.piece refl
+    c.requires.set_up c.find_buffers.ensures.place c.requires.set_up.piece refl
     (volume_rests g.D.Device.honest g.D.Device.disk g.D.Device.size g.D.Device.failures s.volume) (no_more (table_of s.descriptors))
     (λ h b.
     let w = world_of (state_of s) b in
@@ -72,8 +72,8 @@ read_placed-requires-clause-file g c =
 pub read_placed-requires-clause-usable : goal.read_placed-requires-clause-usable
 read_placed-requires-clause-usable g c =
     let q = c.new-request.result in
-    let whole : c.as_mut_slice-room.result.now ≡ c.find_buffers.new.room = c.as_mut_slice-room.ensures.value ∙ refilled _ c.find_buffers.new.room _ (c.find_buffers.auto.room ∙ c.as_mut_slice.ensures.len) in
-    subst (λ (bs : List Span). AreUsable c.args.memory.now (list_of (take q.count bs)) q.result_at) (sym whole) c.in_default.ensures.usable
+    let whole : c.as_mut_slice-room.result.now ≡ c.find_buffers.new.room.items = c.as_mut_slice-room.ensures.value in
+    subst (λ (bs : List Span). AreUsable c.args.memory.now (list_of bs) q.result_at) (sym whole) c.in_default.ensures.usable
 
 pub returns : goal.returns
 returns g c = λ used.
@@ -84,25 +84,25 @@ returns g c = λ used.
     let asked = c.new-request.ensures in
     let o = c.in-Ok.opened in
     let offset = c.long-offset.result in
-    let bs = list_of (take q.count c.as_mut_slice-room.result.now) in
+    let bs = list_of c.as_mut_slice-room.result.now in
     let run : World → Checked Done = λ w. fd_pread w m (word a 0) (word a 1) (word a 2) (long a 3) (word a 4) in
     let new = record s {
       volume = c.read_placed.new.volume;
-      buffers = with_items (with_items s.buffers c.find_buffers.new.room) c.read_placed.new.room;
+      buffers = with_items c.find_buffers.new.room c.read_placed.new.buffers;
     } in
-    let whole : c.as_mut_slice-room.result.now ≡ c.find_buffers.new.room = c.as_mut_slice-room.ensures.value ∙ refilled _ c.find_buffers.new.room _ (c.find_buffers.auto.room ∙ c.as_mut_slice.ensures.len) in
-    let found : list_of (take q.count c.find_buffers.new.room) ≡ bs = ap (λ (bs : List Span). list_of (take q.count bs)) (sym whole) in
+    let whole : c.as_mut_slice-room.result.now ≡ c.find_buffers.new.room.items = c.as_mut_slice-room.ensures.value in
+    let found : list_of c.find_buffers.new.room.items ≡ bs = ap list_of (sym whole) in
     let same : (w : World) → w.table ≡ table_of s.descriptors → run w ≡ read_into w o offset bs q.result_at = λ w table.
     (λ i. fd_pread w m (sym asked.fd i) (sym asked.iovs i) (sym asked.count i) (sym c.long-offset.ensures i) (sym asked.result_at i))
     ∙ (goes_on _ _ o (c.in-Ok.ensures w table)
     ∙ (usable_row m q.iovs q.count q.result_at (λ bs. read_into w o offset bs q.result_at)
     ∙ goes_on _ _ bs (c.in_default.ensures.found ∙ ap Ok found))) in
     serves_roomy g.D.Device.honest g.D.Device.disk g.D.Device.size g.D.Device.failures g.R.Read.remaining g.W1.Write.contents g.W2.Write.contents
-    call.FdPread used a s new m c.read_placed.new.memory (errno_of c.read_placed.result) c.read_placed.ensures.io c.requires.set_up c.requires.set_up.buffers c.requires.set_up.piece refl
+    call.FdPread used a s new m c.read_placed.new.memory (errno_of c.read_placed.result) c.read_placed.ensures.io c.requires.set_up c.find_buffers.ensures.place c.requires.set_up.piece refl
     c.read_placed.ensures.step (no_more (table_of s.descriptors))
     (λ h b.
     let w = world_of (state_of s) b in
     answered_so run (λ v. read_into v o offset bs q.result_at) w (λ v table tree. same v table) m _ _ _ (c.read_placed.ensures.answered (h refl) w refl))
 
 pub read_placed-requires-clause-few : goal.read_placed-requires-clause-few
-read_placed-requires-clause-few g c = c.in_default.ensures.few
+read_placed-requires-clause-few g c = omega (arith, c.as_mut_slice-room.ensures.len, c.in_default.ensures.few)

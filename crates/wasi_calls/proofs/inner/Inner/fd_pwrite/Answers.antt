@@ -1,5 +1,4 @@
-use Rattle.std.proofs.Common.{◌≡◌, ◌+◌, ◌^◌, List, Ok, take, refl, sym, ap, ◌∙◌, subst}
-use Rattle.std.specs.Vec.{with_items}
+use Rattle.std.proofs.Common.{◌≡◌, ◌+◌, ◌^◌, List, Ok, refl, sym, ap, ◌∙◌, subst, arith}
 use Rattle.wasi_fd.specs.Table.{table_of}
 use Rattle.vol_body.specs.declared.source.Span.{Span}
 use Rattle.wasm_store.specs.declared.call.HostCall.TheVariants as call
@@ -21,7 +20,7 @@ use Rattle.wasi_calls.proofs.Entries.{file_of}
 use Rattle.wasi_calls.proofs.Volumes.{refused_first}
 use Rattle.wasi_calls.proofs.Served.{no_more, volume_rests}
 use Rattle.wasi_calls.proofs.Moving.{serves_roomy}
-use Rattle.wasi_calls.proofs.Prepared.{answered_so, usable_row, refilled, few_taken}
+use Rattle.wasi_calls.proofs.Prepared.{answered_so, usable_row}
 use Rattle.wasi_calls.proofs.inner.Inner.fd_pwrite.Goals as goal
 
 pub returns-in-Err : goal.returns-in-Err
@@ -53,9 +52,9 @@ returns-in-Err-find_buffers g c = λ used.
     let o = c.in-Ok.opened in
     let run : World → Checked Done = λ w. fd_pwrite w m (word a 0) (word a 1) (word a 2) (long a 3) (word a 4) in
     serves_roomy g.D.Device.honest g.D.Device.disk g.D.Device.size g.D.Device.failures g.R.Read.remaining g.W1.Write.contents g.W2.Write.contents
-    call.FdPwrite used a s (record s { buffers = with_items s.buffers c.find_buffers.new.room }) m m _
+    call.FdPwrite used a s (record s { buffers = c.find_buffers.new.room }) m m _
     (not_29 (usable m q.iovs q.count q.result_at) _ (usable_never m q.iovs q.count q.result_at) c.in-Err-find_buffers.ensures.found)
-    c.requires.set_up c.requires.set_up.buffers c.requires.set_up.piece refl
+    c.requires.set_up c.find_buffers.ensures.place c.requires.set_up.piece refl
     (volume_rests g.D.Device.honest g.D.Device.disk g.D.Device.size g.D.Device.failures s.volume) (no_more (table_of s.descriptors))
     (λ h b.
     let w = world_of (state_of s) b in
@@ -72,7 +71,7 @@ write_at-requires-clause-file g c =
 pub write_at-requires-clause-usable : goal.write_at-requires-clause-usable
 write_at-requires-clause-usable g c =
     let q = c.new-request.result in
-    subst (λ (bs : List Span). AreUsable c.args.memory.now (list_of bs) q.result_at) (sym (c.buffers_in-buffers.ensures ∙ ap (λ (bs : List Span). take q.count bs) (c.as_slice.ensures.value ∙ refilled _ c.find_buffers.new.room _ (c.find_buffers.auto.room ∙ c.as_mut_slice.ensures.len))))
+    subst (λ (bs : List Span). AreUsable c.args.memory.now (list_of bs) q.result_at) (sym c.as_slice-buffers.ensures.value)
     c.in_default.ensures.usable
 
 pub returns : goal.returns
@@ -84,25 +83,25 @@ returns g c = λ used.
     let asked = c.new-request.ensures in
     let o = c.in-Ok.opened in
     let offset = c.long-offset.result in
-    let bs = list_of c.buffers_in-buffers.result.now in
+    let bs = list_of c.as_slice-buffers.result.now in
     let run : World → Checked Done = λ w. fd_pwrite w m (word a 0) (word a 1) (word a 2) (long a 3) (word a 4) in
     let new = record s {
       volume = c.write_at.new.volume;
-      buffers = with_items s.buffers c.find_buffers.new.room;
+      buffers = c.find_buffers.new.room;
     } in
-    let found : list_of (take q.count c.find_buffers.new.room) ≡ bs =
-    ap list_of (sym (c.buffers_in-buffers.ensures ∙ ap (λ (bs : List Span). take q.count bs) (c.as_slice.ensures.value ∙ refilled _ c.find_buffers.new.room _ (c.find_buffers.auto.room ∙ c.as_mut_slice.ensures.len)))) in
+    let found : list_of c.find_buffers.new.room.items ≡ bs =
+    ap list_of (sym c.as_slice-buffers.ensures.value) in
     let same : (w : World) → w.table ≡ table_of s.descriptors → run w ≡ placed w o offset (gathered m bs) q.result_at = λ w table.
     (λ i. fd_pwrite w m (sym asked.fd i) (sym asked.iovs i) (sym asked.count i) (sym c.long-offset.ensures i) (sym asked.result_at i))
     ∙ (goes_on _ _ o (c.in-Ok.ensures w table)
     ∙ (usable_row m q.iovs q.count q.result_at (λ bs. placed w o offset (gathered m bs) q.result_at)
     ∙ goes_on _ _ bs (c.in_default.ensures.found ∙ ap Ok found))) in
     serves_roomy g.D.Device.honest g.D.Device.disk g.D.Device.size g.D.Device.failures g.R.Read.remaining g.W1.Write.contents g.W2.Write.contents
-    call.FdPwrite used a s new m c.write_at.new.memory (errno_of c.write_at.result) c.write_at.ensures.io c.requires.set_up c.requires.set_up.buffers c.requires.set_up.piece refl
+    call.FdPwrite used a s new m c.write_at.new.memory (errno_of c.write_at.result) c.write_at.ensures.io c.requires.set_up c.find_buffers.ensures.place c.requires.set_up.piece refl
     c.write_at.ensures.step (no_more (table_of s.descriptors))
     (λ h b.
     let w = world_of (state_of s) b in
     answered_so run (λ v. placed v o offset (gathered m bs) q.result_at) w (λ v table tree. same v table) m _ _ _ (c.write_at.ensures.answered (h refl) w refl))
 
 pub write_at-requires-clause-few : goal.write_at-requires-clause-few
-write_at-requires-clause-few g c = few_taken _ _ _ c.buffers_in-buffers.ensures c.in_default.ensures.few
+write_at-requires-clause-few g c = omega (arith, c.as_slice-buffers.ensures.len, c.in_default.ensures.few)

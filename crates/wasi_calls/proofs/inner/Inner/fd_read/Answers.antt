@@ -1,4 +1,4 @@
-use Rattle.std.proofs.Common.{◌≡◌, inl, inr, ◌^◌, IsTrue, List, [], Option, Some, Ok, take, true, refl, sym, ap, ◌∙◌, subst}
+use Rattle.std.proofs.Common.{◌≡◌, inl, inr, ◌^◌, IsTrue, List, [], Option, Some, Ok, true, refl, sym, ap, ◌∙◌, subst, arith}
 use Rattle.std.proofs.lemmas.Bool.{false≢true}
 use Rattle.std.specs.Vec.{with_items}
 use Rattle.wasi_fd.specs.declared.descriptor.Stream.TheVariants.{Input, Output, Error}
@@ -27,7 +27,7 @@ use Rattle.wasi_calls.proofs.Volumes.{refused_first}
 use Rattle.wasi_calls.proofs.Served.{no_more, volume_rests}
 use Rattle.wasi_calls.proofs.Moving.{serves_roomy}
 use Rattle.wasi_calls.proofs.FromInput.{served_in}
-use Rattle.wasi_calls.proofs.Prepared.{answered_so, usable_row, refilled, has_right, few_taken}
+use Rattle.wasi_calls.proofs.Prepared.{answered_so, usable_row, has_right}
 use Rattle.wasi_calls.proofs.inner.Inner.fd_read.Goals as goal
 
 pub returns-in-Err : goal.returns-in-Err
@@ -58,9 +58,9 @@ returns-in-Err-find_buffers g c = λ used.
     let run : World → Checked Done = λ w. fd_read w m (word a 0) (word a 1) (word a 2) (word a 3) in
     let same_call : (w : World) → run w ≡ fd_read w m q.fd q.iovs q.count q.result_at = λ w i. fd_read w m (sym asked.fd i) (sym asked.iovs i) (sym asked.count i) (sym asked.result_at i) in
     serves_roomy g.D.Device.honest g.D.Device.disk g.D.Device.size g.D.Device.failures g.R.Read.remaining g.W1.Write.contents g.W2.Write.contents
-    call.FdRead used a s (record s { buffers = with_items s.buffers c.find_buffers.new.room }) m m _
+    call.FdRead used a s (record s { buffers = c.find_buffers.new.room }) m m _
     (not_29 (usable m q.iovs q.count q.result_at) _ (usable_never m q.iovs q.count q.result_at) c.in-Err-find_buffers.ensures.found)
-    c.requires.set_up c.requires.set_up.buffers c.requires.set_up.piece refl
+    c.requires.set_up c.find_buffers.ensures.place c.requires.set_up.piece refl
     (volume_rests g.D.Device.honest g.D.Device.disk g.D.Device.size g.D.Device.failures s.volume) (no_more (table_of s.descriptors))
     (λ h b.
     let w = world_of (state_of s) b in
@@ -71,14 +71,14 @@ returns-in-Err-find_buffers g c = λ used.
 pub read_stream-requires-clause-usable : goal.read_stream-requires-clause-usable
 read_stream-requires-clause-usable g c =
     let q = c.new-request.result in
-    let whole : c.as_slice.result.now ≡ c.find_buffers.new.room = c.as_slice.ensures.value ∙ refilled _ c.find_buffers.new.room _ (c.find_buffers.auto.room ∙ c.as_mut_slice.ensures.len) in
-    subst (λ (bs : List Span). AreUsable c.args.memory.now (list_of bs) q.result_at) (sym (c.buffers_in-buffers.ensures ∙ ap (λ (bs : List Span). take q.count bs) whole)) c.in_default.ensures.usable
+    let whole : c.as_slice-buffers.result.now ≡ c.find_buffers.new.room.items = c.as_slice-buffers.ensures.value in
+    subst (λ (bs : List Span). AreUsable c.args.memory.now (list_of bs) q.result_at) (sym whole) c.in_default.ensures.usable
 
 pub read_file-requires-clause-usable : goal.read_file-requires-clause-usable
 read_file-requires-clause-usable g c =
     let q = c.new-request.result in
-    let whole : c.as_mut_slice-room.result.now ≡ c.find_buffers.new.room = c.as_mut_slice-room.ensures.value ∙ refilled _ c.find_buffers.new.room _ (c.find_buffers.auto.room ∙ c.as_mut_slice.ensures.len) in
-    subst (λ (bs : List Span). AreUsable c.args.memory.now (list_of (take q.count bs)) q.result_at) (sym whole) c.in_default.ensures.usable
+    let whole : c.as_mut_slice-room.result.now ≡ c.find_buffers.new.room.items = c.as_mut_slice-room.ensures.value in
+    subst (λ (bs : List Span). AreUsable c.args.memory.now (list_of bs) q.result_at) (sym whole) c.in_default.ensures.usable
 
 pub read_file-requires-clause-open : goal.read_file-requires-clause-open
 read_file-requires-clause-open g c =
@@ -105,21 +105,21 @@ returns-in-Stream-Input g c = λ used.
     let same_call : (w : World) → run w ≡ fd_read w m q.fd q.iovs q.count q.result_at = λ w i. fd_read w m (sym asked.fd i) (sym asked.iovs i) (sym asked.count i) (sym asked.result_at i) in
     let one : c.in-Stream-Input.field-0 ≡ Input = rw c.in-Stream-Input.is at c.in-Stream-Input.field-0-is in
     let is : c.in-Ok.target ≡ Stream Input = c.in-Stream-Input.is ∙ ap Stream one in
-    let bs = list_of c.buffers_in-buffers.result.now in
-    let whole : c.as_slice.result.now ≡ c.find_buffers.new.room = c.as_slice.ensures.value ∙ refilled _ c.find_buffers.new.room _ (c.find_buffers.auto.room ∙ c.as_mut_slice.ensures.len) in
-    let found : list_of (take q.count c.find_buffers.new.room) ≡ bs = ap list_of (sym (c.buffers_in-buffers.ensures ∙ ap (λ (bs : List Span). take q.count bs) whole)) in
+    let bs = list_of c.as_slice-buffers.result.now in
+    let whole : c.as_slice-buffers.result.now ≡ c.find_buffers.new.room.items = c.as_slice-buffers.ensures.value in
+    let found : list_of c.find_buffers.new.room.items ≡ bs = ap list_of (sym whole) in
     let same : (w : World) → w.table ≡ table_of s.descriptors → run w ≡ read_to w q.fd (Stream Input) bs q.result_at = λ w table.
     same_call w ∙ (goes_on _ _ c.in-Ok.target (c.in-Ok.ensures w table)
     ∙ (usable_row m q.iovs q.count q.result_at (λ bs. read_to w q.fd c.in-Ok.target bs q.result_at)
     ∙ (goes_on _ _ bs (c.in_default.ensures.found ∙ ap Ok found) ∙ ap (λ (d : Descriptor). read_to w q.fd d bs q.result_at) is))) in
     let new = record s {
       input = c.read_stream.new.input;
-      buffers = with_items s.buffers c.find_buffers.new.room;
-      piece = with_items s.piece c.read_stream.new.piece;
+      buffers = c.find_buffers.new.room;
+      piece = with_items c.fill_up.new.piece c.read_stream.new.piece;
     } in
     let told = c.read_stream.ensures in
     served_in g.D.Device.honest g.D.Device.disk g.D.Device.size g.D.Device.failures g.R.Read.remaining g.W1.Write.contents g.W2.Write.contents
-    call.FdRead used a s new m c.read_stream.new.memory q.fd bs q.result_at c.requires.set_up c.requires.set_up.buffers c.requires.set_up.piece told.end refl same (λ is. inr is)
+    call.FdRead used a s new m c.read_stream.new.memory q.fd bs q.result_at c.requires.set_up c.find_buffers.ensures.place c.fill_up.ensures.place told.end refl same (λ is. inr is)
     c.read_stream.result (λ failed. let rests = told.idle failed in (rests.0, rests.1)) told.took told.broke told.answer
 
 pub returns-in-Stream-Output : goal.returns-in-Stream-Output
@@ -154,9 +154,9 @@ returns-in-Entry g c = λ used.
     let open_there : table_of s.descriptors (word a 0) ≡ Some (Entry o) =
     ap (table_of s.descriptors) (sym asked.fd) ∙ (at_descriptor (table_of s.descriptors) q.fd no_directories (2 ^ 1) c.in-Ok.target c.in-Ok.ensures ∙ ap Some is) in
     let reaches : IsTrue (is_entry (table_of s.descriptors (word a 0))) = subst (λ (d : Option Descriptor). IsTrue (is_entry d)) (sym open_there) refl in
-    let bs = list_of (take q.count c.as_mut_slice-room.result.now) in
-    let whole : c.as_mut_slice-room.result.now ≡ c.find_buffers.new.room = c.as_mut_slice-room.ensures.value ∙ refilled _ c.find_buffers.new.room _ (c.find_buffers.auto.room ∙ c.as_mut_slice.ensures.len) in
-    let found : list_of (take q.count c.find_buffers.new.room) ≡ bs = ap (λ (bs : List Span). list_of (take q.count bs)) (sym whole) in
+    let bs = list_of c.as_mut_slice-room.result.now in
+    let whole : c.as_mut_slice-room.result.now ≡ c.find_buffers.new.room.items = c.as_mut_slice-room.ensures.value in
+    let found : list_of c.find_buffers.new.room.items ≡ bs = ap list_of (sym whole) in
     let same : (w : World) → w.table ≡ table_of s.descriptors → run w ≡ read_to w q.fd (Entry o) bs q.result_at = λ w table.
     same_call w ∙ (goes_on _ _ c.in-Ok.target (c.in-Ok.ensures w table)
     ∙ (usable_row m q.iovs q.count q.result_at (λ bs. read_to w q.fd c.in-Ok.target bs q.result_at)
@@ -164,17 +164,17 @@ returns-in-Entry g c = λ used.
     let new = record s {
       volume = c.read_file.new.volume;
       descriptors = c.read_file.new.descriptors;
-      buffers = with_items (with_items s.buffers c.find_buffers.new.room) c.read_file.new.room;
+      buffers = with_items c.find_buffers.new.room c.read_file.new.buffers;
     } in
     serves_roomy g.D.Device.honest g.D.Device.disk g.D.Device.size g.D.Device.failures g.R.Read.remaining g.W1.Write.contents g.W2.Write.contents
-    call.FdRead used a s new m c.read_file.new.memory (errno_of c.read_file.result) (λ is. inl (c.read_file.ensures.io is)) c.requires.set_up c.requires.set_up.buffers c.requires.set_up.piece refl
+    call.FdRead used a s new m c.read_file.new.memory (errno_of c.read_file.result) (λ is. inl (c.read_file.ensures.io is)) c.requires.set_up c.find_buffers.ensures.place c.requires.set_up.piece refl
     c.read_file.ensures.step c.read_file.ensures.entries
     (λ h b.
     let w = world_of (state_of s) b in
     answered_so run (λ v. read_to v q.fd (Entry o) bs q.result_at) w (λ v table tree. same v table) m _ _ _ (c.read_file.ensures.answered (h reaches) w refl refl))
 
 pub read_stream-requires-clause-few : goal.read_stream-requires-clause-few
-read_stream-requires-clause-few g c = few_taken _ _ _ c.buffers_in-buffers.ensures c.in_default.ensures.few
+read_stream-requires-clause-few g c = omega (arith, c.as_slice-buffers.ensures.len, c.in_default.ensures.few)
 
 pub read_file-requires-clause-few : goal.read_file-requires-clause-few
-read_file-requires-clause-few g c = c.in_default.ensures.few
+read_file-requires-clause-few g c = omega (arith, c.as_mut_slice-room.ensures.len, c.in_default.ensures.few)

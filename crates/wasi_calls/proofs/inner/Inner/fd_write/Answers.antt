@@ -1,6 +1,5 @@
-use Rattle.std.proofs.Common.{◌≡◌, inl, inr, ◌^◌, IsTrue, List, [], Option, Some, Ok, take, true, refl, sym, ap, ◌∙◌, subst}
+use Rattle.std.proofs.Common.{◌≡◌, inl, inr, ◌^◌, IsTrue, List, [], Option, Some, Ok, true, refl, sym, ap, ◌∙◌, subst, arith}
 use Rattle.std.proofs.lemmas.Bool.{false≢true}
-use Rattle.std.specs.Vec.{with_items}
 use Rattle.wasi_fd.specs.declared.descriptor.Stream.TheVariants.{Input, Output, Error}
 use Rattle.wasi_fd.specs.declared.descriptor.Descriptor.{Descriptor}
 use Rattle.wasi_fd.specs.declared.descriptor.Descriptor.TheVariants.{Stream, Entry}
@@ -27,7 +26,7 @@ use Rattle.wasi_calls.proofs.Volumes.{refused_first}
 use Rattle.wasi_calls.proofs.Served.{no_more, volume_rests}
 use Rattle.wasi_calls.proofs.Moving.{serves_roomy}
 use Rattle.wasi_calls.proofs.Streamed.{served_out, served_err}
-use Rattle.wasi_calls.proofs.Prepared.{answered_so, usable_row, refilled, has_right, few_taken}
+use Rattle.wasi_calls.proofs.Prepared.{answered_so, usable_row, has_right}
 use Rattle.wasi_calls.proofs.inner.Inner.fd_write.Goals as goal
 
 pub returns-in-Err : goal.returns-in-Err
@@ -58,9 +57,9 @@ returns-in-Err-find_buffers g c = λ used.
     let run : World → Checked Done = λ w. fd_write w m (word a 0) (word a 1) (word a 2) (word a 3) in
     let same_call : (w : World) → run w ≡ fd_write w m q.fd q.iovs q.count q.result_at = λ w i. fd_write w m (sym asked.fd i) (sym asked.iovs i) (sym asked.count i) (sym asked.result_at i) in
     serves_roomy g.D.Device.honest g.D.Device.disk g.D.Device.size g.D.Device.failures g.R.Read.remaining g.W1.Write.contents g.W2.Write.contents
-    call.FdWrite used a s (record s { buffers = with_items s.buffers c.find_buffers.new.room }) m m _
+    call.FdWrite used a s (record s { buffers = c.find_buffers.new.room }) m m _
     (not_29 (usable m q.iovs q.count q.result_at) _ (usable_never m q.iovs q.count q.result_at) c.in-Err-find_buffers.ensures.found)
-    c.requires.set_up c.requires.set_up.buffers c.requires.set_up.piece refl
+    c.requires.set_up c.find_buffers.ensures.place c.requires.set_up.piece refl
     (volume_rests g.D.Device.honest g.D.Device.disk g.D.Device.size g.D.Device.failures s.volume) (no_more (table_of s.descriptors))
     (λ h b.
     let w = world_of (state_of s) b in
@@ -70,17 +69,17 @@ returns-in-Err-find_buffers g c = λ used.
 
 pub write_stream-requires-clause-usable : goal.write_stream-requires-clause-usable
 write_stream-requires-clause-usable g c =
-    subst (λ (bs : List Span). AreUsable c.args.memory.now (list_of bs) c.new-request.result.result_at) (sym (c.buffers_in-buffers.ensures ∙ ap (λ (bs : List Span). take c.new-request.result.count bs) (c.as_slice.ensures.value ∙ refilled _ c.find_buffers.new.room _ (c.find_buffers.auto.room ∙ c.as_mut_slice.ensures.len))))
+    subst (λ (bs : List Span). AreUsable c.args.memory.now (list_of bs) c.new-request.result.result_at) (sym c.as_slice-buffers.ensures.value)
     c.in_default.ensures.usable
 
 pub write_stream-requires-in-Stream-Error-clause-usable : goal.write_stream-requires-in-Stream-Error-clause-usable
 write_stream-requires-in-Stream-Error-clause-usable g c =
-    subst (λ (bs : List Span). AreUsable c.args.memory.now (list_of bs) c.new-request.result.result_at) (sym (c.buffers_in-buffers.ensures ∙ ap (λ (bs : List Span). take c.new-request.result.count bs) (c.as_slice.ensures.value ∙ refilled _ c.find_buffers.new.room _ (c.find_buffers.auto.room ∙ c.as_mut_slice.ensures.len))))
+    subst (λ (bs : List Span). AreUsable c.args.memory.now (list_of bs) c.new-request.result.result_at) (sym c.as_slice-buffers.ensures.value)
     c.in_default.ensures.usable
 
 pub write_file-requires-clause-usable : goal.write_file-requires-clause-usable
 write_file-requires-clause-usable g c =
-    subst (λ (bs : List Span). AreUsable c.args.memory.now (list_of bs) c.new-request.result.result_at) (sym (c.buffers_in-buffers.ensures ∙ ap (λ (bs : List Span). take c.new-request.result.count bs) (c.as_slice.ensures.value ∙ refilled _ c.find_buffers.new.room _ (c.find_buffers.auto.room ∙ c.as_mut_slice.ensures.len))))
+    subst (λ (bs : List Span). AreUsable c.args.memory.now (list_of bs) c.new-request.result.result_at) (sym c.as_slice-buffers.ensures.value)
     c.in_default.ensures.usable
 
 pub write_file-requires-clause-open : goal.write_file-requires-clause-open
@@ -117,16 +116,16 @@ returns-in-Stream-Output g c = λ used.
     let same_call : (w : World) → run w ≡ fd_write w m q.fd q.iovs q.count q.result_at = λ w i. fd_write w m (sym asked.fd i) (sym asked.iovs i) (sym asked.count i) (sym asked.result_at i) in
     let one : c.in-Stream-Output.field-0 ≡ Output = rw c.in-Stream-Output.is at c.in-Stream-Output.field-0-is in
     let is : c.in-Ok.target ≡ Stream Output = c.in-Stream-Output.is ∙ ap Stream one in
-    let bs = list_of c.buffers_in-buffers.result.now in
-    let found : list_of (take q.count c.find_buffers.new.room) ≡ bs =
-    ap list_of (sym (c.buffers_in-buffers.ensures ∙ ap (λ (bs : List Span). take q.count bs) (c.as_slice.ensures.value ∙ refilled _ c.find_buffers.new.room _ (c.find_buffers.auto.room ∙ c.as_mut_slice.ensures.len)))) in
+    let bs = list_of c.as_slice-buffers.result.now in
+    let found : list_of c.find_buffers.new.room.items ≡ bs =
+    ap list_of (sym c.as_slice-buffers.ensures.value) in
     let same : (w : World) → w.table ≡ table_of s.descriptors → run w ≡ written_to w q.fd (Stream Output) (gathered m bs) q.result_at = λ w table.
     same_call w ∙ (goes_on _ _ c.in-Ok.target (c.in-Ok.ensures w table)
     ∙ (usable_row m q.iovs q.count q.result_at (λ bs. written_to w q.fd c.in-Ok.target (gathered m bs) q.result_at)
     ∙ (goes_on _ _ bs (c.in_default.ensures.found ∙ ap Ok found) ∙ ap (λ (d : Descriptor). written_to w q.fd d (gathered m bs) q.result_at) is))) in
-    let new = record s { out = c.write_stream.new.output; buffers = with_items s.buffers c.find_buffers.new.room } in
+    let new = record s { out = c.write_stream.new.output; buffers = c.find_buffers.new.room } in
     served_out g.D.Device.honest g.D.Device.disk g.D.Device.size g.D.Device.failures g.R.Read.remaining g.W1.Write.contents g.W2.Write.contents
-    call.FdWrite used a s new m c.write_stream.new.memory q.fd (gathered m bs) q.result_at c.requires.set_up c.requires.set_up.buffers c.requires.set_up.piece refl same (λ is. inr (inl is))
+    call.FdWrite used a s new m c.write_stream.new.memory q.fd (gathered m bs) q.result_at c.requires.set_up c.find_buffers.ensures.place c.requires.set_up.piece refl same (λ is. inr (inl is))
     c.write_stream.result (λ failed. (c.write_stream.ensures.idle failed).0) c.write_stream.ensures.took c.write_stream.ensures.broke c.write_stream.ensures.answer
 
 pub returns-in-Stream-Error : goal.returns-in-Stream-Error
@@ -140,16 +139,16 @@ returns-in-Stream-Error g c = λ used.
     let same_call : (w : World) → run w ≡ fd_write w m q.fd q.iovs q.count q.result_at = λ w i. fd_write w m (sym asked.fd i) (sym asked.iovs i) (sym asked.count i) (sym asked.result_at i) in
     let one : c.in-Stream-Error.field-0 ≡ Error = rw c.in-Stream-Error.is at c.in-Stream-Error.field-0-is in
     let is : c.in-Ok.target ≡ Stream Error = c.in-Stream-Error.is ∙ ap Stream one in
-    let bs = list_of c.buffers_in-buffers.result.now in
-    let found : list_of (take q.count c.find_buffers.new.room) ≡ bs =
-    ap list_of (sym (c.buffers_in-buffers.ensures ∙ ap (λ (bs : List Span). take q.count bs) (c.as_slice.ensures.value ∙ refilled _ c.find_buffers.new.room _ (c.find_buffers.auto.room ∙ c.as_mut_slice.ensures.len)))) in
+    let bs = list_of c.as_slice-buffers.result.now in
+    let found : list_of c.find_buffers.new.room.items ≡ bs =
+    ap list_of (sym c.as_slice-buffers.ensures.value) in
     let same : (w : World) → w.table ≡ table_of s.descriptors → run w ≡ written_to w q.fd (Stream Error) (gathered m bs) q.result_at = λ w table.
     same_call w ∙ (goes_on _ _ c.in-Ok.target (c.in-Ok.ensures w table)
     ∙ (usable_row m q.iovs q.count q.result_at (λ bs. written_to w q.fd c.in-Ok.target (gathered m bs) q.result_at)
     ∙ (goes_on _ _ bs (c.in_default.ensures.found ∙ ap Ok found) ∙ ap (λ (d : Descriptor). written_to w q.fd d (gathered m bs) q.result_at) is))) in
-    let new = record s { err = c.write_stream-in-Stream-Error.new.output; buffers = with_items s.buffers c.find_buffers.new.room } in
+    let new = record s { err = c.write_stream-in-Stream-Error.new.output; buffers = c.find_buffers.new.room } in
     served_err g.D.Device.honest g.D.Device.disk g.D.Device.size g.D.Device.failures g.R.Read.remaining g.W1.Write.contents g.W2.Write.contents
-    call.FdWrite used a s new m c.write_stream-in-Stream-Error.new.memory q.fd (gathered m bs) q.result_at c.requires.set_up c.requires.set_up.buffers c.requires.set_up.piece refl same (λ is. inr (inr is))
+    call.FdWrite used a s new m c.write_stream-in-Stream-Error.new.memory q.fd (gathered m bs) q.result_at c.requires.set_up c.find_buffers.ensures.place c.requires.set_up.piece refl same (λ is. inr (inr is))
     c.write_stream-in-Stream-Error.result (λ failed. (c.write_stream-in-Stream-Error.ensures.idle failed).0) c.write_stream-in-Stream-Error.ensures.took c.write_stream-in-Stream-Error.ensures.broke c.write_stream-in-Stream-Error.ensures.answer
 
 pub returns-in-Entry : goal.returns-in-Entry
@@ -166,9 +165,9 @@ returns-in-Entry g c = λ used.
     let open_there : table_of s.descriptors (word a 0) ≡ Some (Entry o) =
     ap (table_of s.descriptors) (sym asked.fd) ∙ (at_descriptor (table_of s.descriptors) q.fd no_directories (2 ^ 6) c.in-Ok.target c.in-Ok.ensures ∙ ap Some is) in
     let reaches : IsTrue (is_entry (table_of s.descriptors (word a 0))) = subst (λ (d : Option Descriptor). IsTrue (is_entry d)) (sym open_there) refl in
-    let bs = list_of c.buffers_in-buffers.result.now in
-    let found : list_of (take q.count c.find_buffers.new.room) ≡ bs =
-    ap list_of (sym (c.buffers_in-buffers.ensures ∙ ap (λ (bs : List Span). take q.count bs) (c.as_slice.ensures.value ∙ refilled _ c.find_buffers.new.room _ (c.find_buffers.auto.room ∙ c.as_mut_slice.ensures.len)))) in
+    let bs = list_of c.as_slice-buffers.result.now in
+    let found : list_of c.find_buffers.new.room.items ≡ bs =
+    ap list_of (sym c.as_slice-buffers.ensures.value) in
     let same : (w : World) → w.table ≡ table_of s.descriptors → run w ≡ written_to w q.fd (Entry o) (gathered m bs) q.result_at = λ w table.
     same_call w ∙ (goes_on _ _ c.in-Ok.target (c.in-Ok.ensures w table)
     ∙ (usable_row m q.iovs q.count q.result_at (λ bs. written_to w q.fd c.in-Ok.target (gathered m bs) q.result_at)
@@ -176,20 +175,20 @@ returns-in-Entry g c = λ used.
     let new = record s {
       volume = c.write_file.new.volume;
       descriptors = c.write_file.new.descriptors;
-      buffers = with_items s.buffers c.find_buffers.new.room;
+      buffers = c.find_buffers.new.room;
     } in
     serves_roomy g.D.Device.honest g.D.Device.disk g.D.Device.size g.D.Device.failures g.R.Read.remaining g.W1.Write.contents g.W2.Write.contents
-    call.FdWrite used a s new m c.write_file.new.memory (errno_of c.write_file.result) (λ is. inl (c.write_file.ensures.io is)) c.requires.set_up c.requires.set_up.buffers c.requires.set_up.piece refl
+    call.FdWrite used a s new m c.write_file.new.memory (errno_of c.write_file.result) (λ is. inl (c.write_file.ensures.io is)) c.requires.set_up c.find_buffers.ensures.place c.requires.set_up.piece refl
     c.write_file.ensures.step c.write_file.ensures.entries
     (λ h b.
     let w = world_of (state_of s) b in
     answered_so run (λ v. written_to v q.fd (Entry o) (gathered m bs) q.result_at) w (λ v table tree. same v table) m _ _ _ (c.write_file.ensures.answered (h reaches) w refl refl))
 
 pub write_file-requires-clause-few : goal.write_file-requires-clause-few
-write_file-requires-clause-few g c = few_taken _ _ _ c.buffers_in-buffers.ensures c.in_default.ensures.few
+write_file-requires-clause-few g c = omega (arith, c.as_slice-buffers.ensures.len, c.in_default.ensures.few)
 
 pub write_stream-requires-in-Stream-Error-clause-few : goal.write_stream-requires-in-Stream-Error-clause-few
-write_stream-requires-in-Stream-Error-clause-few g c = few_taken _ _ _ c.buffers_in-buffers.ensures c.in_default.ensures.few
+write_stream-requires-in-Stream-Error-clause-few g c = omega (arith, c.as_slice-buffers.ensures.len, c.in_default.ensures.few)
 
 pub write_stream-requires-clause-few : goal.write_stream-requires-clause-few
-write_stream-requires-clause-few g c = few_taken _ _ _ c.buffers_in-buffers.ensures c.in_default.ensures.few
+write_stream-requires-clause-few g c = omega (arith, c.as_slice-buffers.ensures.len, c.in_default.ensures.few)

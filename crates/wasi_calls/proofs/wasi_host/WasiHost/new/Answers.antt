@@ -7,8 +7,8 @@ pub invariant_of-result : goal.invariant_of-result
 invariant_of-result g c = record {
   set_up = record {
     settings = sym c.fits.ensures ∙ c.if-not-fits.false;
-    buffers = c.in-Ok-vec.ensures.len;
-    piece = c.in-Ok-vec-2.ensures.len;
+    buffers = c.in-Ok-with_capacity.ensures.capacity;
+    piece = c.in-Ok-with_capacity-2.ensures.capacity;
     ended = λ never. cc;
     serials = λ fd o is. absurd (no_entries (table_of c.in-Ok.descriptors) c.in-Ok.ensures fd o is);
   };
@@ -39,15 +39,15 @@ returns-in_default g c = record {
   refused = sym c.fits.ensures ∙ c.if-not-fits.false;
 }
 
-pub returns-in_default-vec : goal.returns-in_default-vec
-returns-in_default-vec g c = record {
+pub returns-in_default-with_capacity : goal.returns-in_default-with_capacity
+returns-in_default-with_capacity g c = record {
   made = tt;
   hands_back = refl;
   refused = sym c.fits.ensures ∙ c.if-not-fits.false;
 }
 
-pub returns-in_default-vec-2 : goal.returns-in_default-vec-2
-returns-in_default-vec-2 g c = record {
+pub returns-in_default-with_capacity-2 : goal.returns-in_default-with_capacity-2
+returns-in_default-with_capacity-2 g c = record {
   made = tt;
   hands_back = refl;
   refused = sym c.fits.ensures ∙ c.if-not-fits.false;
