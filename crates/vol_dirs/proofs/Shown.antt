@@ -168,3 +168,18 @@ shown_alone v image slots e dirs right some first others only held p n t = (
         absurd (not_unused slot.spelled.entry (sym slot.spelled.spelled ∙ none))
   ],
 )
+
+-- one slot more, which holds this entry
+pub shown_more : (v : Version) (image : Image) (k : ℕ) (e : Entry) (old new : Dirs) → Shows v image k old → IsEntry v e → image (FIRST_AFTER_LOG + k) ≡ spelling e
+    → ((p : ℕ) (n : List ℕ) (t : ℕ) → Names new p n t ↔ (Names old p n t ⊎ IsNameOf e (k + 1) p n t)) → Shows v image (k + 1) new
+shown_more v image k e old new shown right is names = shown_next v image k old new shown (λ p n t. (
+  λ held. elim ((names p n t).0 held) [ inl h ↦ inl h | inr that ↦ inr (that.serial_is, spelled_by v (image (FIRST_AFTER_LOG + k)) e (k + 1) p n t right is that) ],
+  λ either. (names p n t).1 (elim either [ inl h ↦ inl h | inr (same, spelled) ↦ inr (spelled_is v (image (FIRST_AFTER_LOG + k)) e (k + 1) p n t right is same spelled) ]),
+))
+
+-- one slot more, which isn't used
+pub shown_past : (v : Version) (image : Image) (k : ℕ) (dirs : Dirs) → Shows v image k dirs → image (FIRST_AFTER_LOG + k) ≡ unused → Shows v image (k + 1) dirs
+shown_past v image k dirs shown is = shown_next v image k dirs dirs shown (λ p n t. (
+  λ held. inl held,
+  λ either. elim either [ inl h ↦ h | inr (same, spelled) ↦ absurd (not_unused spelled.entry (sym spelled.spelled ∙ is)) ],
+))

@@ -9,7 +9,6 @@ ghost use Rattle.vol_inode.specs.Name.{IsName};
 ghost use Rattle.vol_inode.specs.Entry.{IsEntry, HasName, name_of};
 ghost use Rattle.vol_inode.specs.Spelling.{spelling, unused};
 ghost use Rattle.vol_inode.specs.declared.version.Version.{Version};
-ghost use Rattle.vol_dirs.specs.Key.{IsPlain};
 ghost use Rattle.vol_dirs.specs.internal.Listing.{IsListing, AreMarked};
 
 use crate::keys::key_of;
@@ -241,8 +240,8 @@ impl Dirs {
         (found == parent).then_some(serial)
     }
 
-    /// No names, with the memory for those of all slots.
-    pub(crate) fn reserve(alloc: Global, slots: u32) -> Result<Dirs, AllocError>
+    /// No names, with the memory for those of all slots. It is refused where there is none.
+    pub fn reserve(alloc: Global, slots: u32) -> Result<Dirs, AllocError>
         ensures slots { IfOk result (λ dirs. slots_of dirs ≡ slots) }
         ensures free { IfOk result (λ dirs. (serial : ℕ) → IsFree dirs serial) }
     {
@@ -272,12 +271,12 @@ impl Dirs {
         self.hold(serial, &entry);
     }
 
-    /// Takes up the name of an entry whose serial isn't held.
-    pub(crate) fn hold(&mut self, serial: u32, entry: &Entry)
+    /// Takes up the name of the entry that a slot holds. Nothing is staged.
+    pub fn hold(&mut self, serial: u32, entry: &Entry)
         requires first { 1 ≤ serial }
         requires last { serial ≤ slots_of self.old }
         requires free { IsFree self.old serial }
-        requires plain { IsPlain (name_of entry.now) }
+        requires named { HasName entry.now }
         ensures names { (p : ℕ) (n : List ℕ) (s : ℕ) → Names self.new p n s
             ↔ (Names self.old p n s ⊎ IsNameOf entry.now serial p n s) }
         ensures slots { slots_of self.new ≡ slots_of self.old }

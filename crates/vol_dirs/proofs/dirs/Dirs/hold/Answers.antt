@@ -5,6 +5,7 @@ use Rattle.vol_dirs.proofs.Marks.{marks_more}
 use Rattle.vol_dirs.proofs.Orders.{key_ties}
 use Rattle.vol_dirs.proofs.Listings.{listing_more, names_more, key_free}
 use Rattle.vol_dirs.proofs.Room.{room_for_key, room_for_child}
+use Rattle.vol_dirs.proofs.Spelled.{plain_name_of}
 use Rattle.vol_dirs.proofs.dirs.Dirs.hold.Goals as goal
 
 pub insert-requires-clause-ties : goal.insert-requires-clause-ties
@@ -29,7 +30,7 @@ invariant_of-self-clause-listing c =
     let free = key_free old.slots old.keys.items old.children.items old.listing c.args.serial c.requires.free in
     let more = rw c.key_of-key.ensures at c.insert.ensures.adds in
     let narrow : e.parent < 2 ^ 32 = omega arith in
-    listing_more old.slots old.keys.items old.children.items old.listing e.parent c.args.serial (name_of e) narrow c.requires.plain c.insert.new.items.items c.insert-2.new.items.items
+    listing_more old.slots old.keys.items old.children.items old.listing e.parent c.args.serial (name_of e) narrow (plain_name_of e c.requires.named) c.insert.new.items.items c.insert-2.new.items.items
     c.requires.first c.requires.last free more c.insert-2.ensures.adds c.insert.ensures.rises c.insert-2.ensures.rises
 
 pub returns-clause-names : goal.returns-clause-names
@@ -38,7 +39,7 @@ returns-clause-names c p n s =
     let e = c.args.entry.now in
     let more = rw c.key_of-key.ensures at c.insert.ensures.adds in
     let narrow : e.parent < 2 ^ 32 = omega arith in
-    let names = names_more old.slots old.keys.items old.children.items old.listing e.parent c.args.serial (name_of e) narrow c.requires.plain c.insert.new.items.items c.insert-2.new.items.items more p n s in (
+    let names = names_more old.slots old.keys.items old.children.items old.listing e.parent c.args.serial (name_of e) narrow (plain_name_of e c.requires.named) c.insert.new.items.items c.insert-2.new.items.items more p n s in (
       λ h. elim (names.0 h) [ inl kept ↦ inl kept | inr (parent, name, serial) ↦ inr (record { parent_is = parent; name_is = name; serial_is = serial }) ],
       λ either. names.1 (elim either [ inl kept ↦ inl kept | inr that ↦ inr (that.parent_is, that.name_is, that.serial_is) ]),
     )
