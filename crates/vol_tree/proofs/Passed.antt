@@ -18,8 +18,6 @@ use Rattle.vol_alloc.specs.Alloc.{taken_of}
 use Rattle.vol_body.specs.Body.{named, bytes_of, IsBody, NamesOthers}
 use Rattle.vol_body.specs.Survey.{sectors_named}
 use Rattle.vol_body.proofs.Surveyed.{named_stands, stands_named, keeps_rules}
-use Rattle.vol_dirs.specs.declared.dirs.Dirs.{Dirs}
-use Rattle.vol_dirs.specs.Names.{Names, Shows}
 use Rattle.vol_tree.specs.declared.superblock.Superblock.{Superblock}
 use Rattle.vol_tree.specs.declared.reading.Entries.{Entries}
 use Rattle.vol_tree.specs.Superblock.{HasRanges}
@@ -35,15 +33,14 @@ use Rattle.vol_tree.specs.internal.Reads.{parent_in, directory_in, named_in, res
 use Rattle.vol_tree.proofs.SlotsRead.{slots_count}
 use Rattle.vol_tree.proofs.Finding.{entry_at, slot_within, slot_of_entry}
 use Rattle.vol_tree.proofs.AllNamed.{in_flat, from_flat, one_distinct, apart_in}
-use Rattle.vol_tree.proofs.Checked.{name_held}
+use Rattle.vol_inode.specs.Spelling.{spelling}
 use Rattle.vol_tree.proofs.Passes.{space_is}
 
 -- what every check that passed gives
-pub record HasPassed (content : Image) (v : Superblock) (dirs : Dirs) (found : Entries) : Type 0 where
+pub record HasPassed (content : Image) (v : Superblock) (found : Entries) : Type 0 where
   pub ranges : HasRanges v
-  pub read : HaveRead content v dirs v.slots found
+  pub read : HaveRead content v v.slots found
   pub within : AreWithin v found
-  pub shows : Shows v.version content v.slots dirs
   pub distinct : AreDistinct found.named.items
   pub top : get_or found.directories.items 0 false ≡ true
   pub stand : StandInDirectories found.parents.items found.directories.items
@@ -56,7 +53,7 @@ directory_node kinds.File bytes is = absurd (false≢true is)
 by_kind : (k : Kind) (bytes : List ℕ) → k ≡ kinds.Directory → node_by k bytes ≡ Directory
 by_kind k bytes is = ap (λ (x : Kind). node_by x bytes) is
 
-module _ (content : Image) (v : Superblock) (dirs : Dirs) (found : Entries) (p : HasPassed content v dirs found) where
+module _ (content : Image) (v : Superblock) (found : Entries) (p : HasPassed content v found) where
   abbrev slots : Slots
   slots = slots_in content v.slots
 
@@ -90,13 +87,13 @@ module _ (content : Image) (v : Superblock) (dirs : Dirs) (found : Entries) (p :
   inside_slots : (s : ℕ) (e : Entry) → get_or slots s None ≡ Some e → s < v.slots
   inside_slots s e at = slot_within content v.slots s e at
 
-  right : (s : ℕ) (e : Entry) → get_or slots s None ≡ Some e → IsRight content v dirs s (Some e)
-  right s e at = subst (IsRight content v dirs s) at (p.read.right s (inside_slots s e at))
+  right : (s : ℕ) (e : Entry) → get_or slots s None ≡ Some e → IsRight content v s (Some e)
+  right s e at = subst (IsRight content v s) at (p.read.right s (inside_slots s e at))
 
   entry_right : (s : ℕ) (e : Entry) → get_or slots s None ≡ Some e → IsEntry v.version e
   entry_right s e at = (right s e at).entry e refl
 
-  placed : (s : ℕ) (e : Entry) → get_or slots s None ≡ Some e → IsPlaced dirs (s + 1) e
+  placed : (s : ℕ) (e : Entry) → get_or slots s None ≡ Some e → IsPlaced content v s e
   placed s e at = (right s e at).placed e refl
 
   there : (s : ℕ) (e : Entry) → get_or slots s None ≡ Some e → tree.entry T (suc s) ≡ Some (entry_of content e)
@@ -146,15 +143,14 @@ module _ (content : Image) (v : Superblock) (dirs : Dirs) (found : Entries) (p :
       let first : 0 < length slots = omega (arith, long, p.ranges.some_slots) in
       let e = slot_with 0 (get_or slots 0 None) refl (sym (directory_at 0 first) ∙ p.top) in
       let name = (entry_right 0 e.0 e.1).rules.name in
-      let one : 0 + 1 ≡ 1 = omega arith in
-      let parent : e.0.parent ≡ 0 = (placed 0 e.0 e.1).top one in
+      let parent : e.0.parent ≡ 0 = (placed 0 e.0 e.1).top refl in
       let is_empty : name_of e.0 ≡ [] = ap (λ (n : ℕ). take n e.0.name) (name.root_name parent) in
       let node : node_by e.0.kind (bytes_of content e.0) ≡ Directory = by_kind e.0.kind (bytes_of content e.0) (name.root_kind parent) in
       let same : entry_of content e.0 ≡ root = λ i. record { parent = parent i; name = is_empty i; node = node i } in
       there 0 e.0 e.1 ∙ ap Some same
 
   not_top : (s : ℕ) (e : Entry) → get_or slots s None ≡ Some e → suc s ≢ 1 → e.parent ≢ 0
-  not_top s e at other = (placed s e at).below (λ one. other (omega (arith, one)))
+  not_top s e at other = (placed s e at).below (λ none. other (omega (arith, none)))
 
   in_directory : (s : ℕ) (e : Entry) → get_or slots s None ≡ Some e → e.parent ≢ 0 → IsDirectory T e.parent
   in_directory s e at some = by e.parent refl
@@ -176,19 +172,22 @@ module _ (content : Image) (v : Superblock) (dirs : Dirs) (found : Entries) (p :
             | inr past ↦ absurd (false≢true (sym (get_or_past found.directories.items k false (omega (arith, past, ap length directories_are, length-map slots directory_in))) ∙ flag))
           ]
 
-  held_name : (s : ℕ) (e : Entry) → get_or slots s None ≡ Some e → e.parent ≢ 0 → Names dirs e.parent (name_of e) (s + 1)
-  held_name s e at some = name_held content v dirs s (inside_slots s e at) e (entry_right s e at) (right s e at).bytes p.shows some
-
   least_of : (s t : ℕ) (d e : Entry) → get_or slots s None ≡ Some d → get_or slots t None ≡ Some e → d.parent ≡ e.parent → name_of d ≡ name_of e → s ≤ t
   least_of s t d e at_d at_e parent name = elim (cases_eq d.parent 0) [
     | inl none ↦ elim (cases_eq (suc s) 1) [
       | inl one ↦ omega (arith, one)
       | inr other ↦ absurd (not_top s d at_d other none)
     ]
-    | inr some ↦
-        let names : Names dirs d.parent (name_of d) (t + 1) = subst (λ (n : List ℕ). Names dirs d.parent n (t + 1)) (sym name) (subst (λ (q : ℕ). Names dirs q (name_of e) (t + 1)) (sym parent) (held_name t e at_e (λ none. some (parent ∙ none)))) in
-        let le = (placed s d at_d).least some (t + 1) names in
-        omega (arith, le)
+    | inr some ↦ elim (cases_lt t s) [
+      | inl before ↦
+          let is : content (121 + (t + 1)) ≡ spelling e = ap content (omega arith) ∙ (right t e at_e).bytes in
+          absurd ((placed s d at_d).first some (t + 1) (record {
+            first = omega arith;
+            last = omega (arith, before);
+            spelled = record { entry = e; right = entry_right t e at_e; spelled = is; parent_is = parent; name_is = name };
+          }))
+      | inr le ↦ le
+    ]
   ]
 
   -- from an entry up to the root

@@ -13,15 +13,13 @@ use Rattle.vol_inode.specs.declared.entry.Entry.{Entry}
 use Rattle.vol_inode.specs.declared.entry.Kind.{Kind}
 use Rattle.vol_inode.specs.declared.entry.Kind.TheVariants as kinds
 use Rattle.vol_inode.specs.declared.version.Version.{Version}
-use Rattle.vol_inode.specs.Entry.{IsEntry, name_of}
+use Rattle.vol_inode.specs.Entry.{IsEntry}
 use Rattle.vol_inode.specs.Space.{need_of}
 use Rattle.vol_alloc.specs.Numbers.{AreDistinct, ArePlaces}
 use Rattle.vol_body.specs.Body.{bytes_of, byte_at}
 use Rattle.vol_body.specs.Survey.{AreInside}
 use Rattle.vol_body.proofs.Repeats.{names_none_twice}
 use Rattle.vol_body.proofs.Surveyed.{stands_named}
-use Rattle.vol_dirs.specs.declared.dirs.Dirs.{Dirs}
-use Rattle.vol_dirs.specs.Names.{Shows}
 use Rattle.vol_tree.specs.declared.superblock.Superblock.{Superblock}
 use Rattle.vol_tree.specs.declared.reading.Entries.{Entries}
 use Rattle.vol_tree.specs.Tree as tree
@@ -35,7 +33,9 @@ use Rattle.vol_tree.specs.internal.Replacing.{kind_is_directory}
 use Rattle.vol_tree.specs.internal.Climbs.{climb, AllLeadUpSoon, StandInDirectories}
 use Rattle.vol_tree.specs.internal.Reads.{held_at, parent_in, directory_in, named_in, reserved_in, IsPlaced, IsRight, FitIn, HaveRead, HaveTreeSoon}
 use Rattle.vol_tree.proofs.SlotsRead.{slots_count}
-use Rattle.vol_tree.proofs.Finding.{entry_at, slot_within, slot_of_entry, held, size_back}
+use Rattle.vol_tree.proofs.Checked.{held_some}
+use Rattle.vol_inode.specs.Spelling.{spelling}
+use Rattle.vol_tree.proofs.Finding.{entry_at, slot_within, slot_of_entry, size_back}
 use Rattle.vol_tree.proofs.Within.{within_below}
 use Rattle.vol_tree.proofs.AllNamed.{from_flat, all_distinct, inside_so_far}
 use Rattle.vol_log.specs.declared.layout.TheConstants.{FIRST_AFTER_LOG}
@@ -59,7 +59,7 @@ pub kind_back : (k : Kind) (bytes : List ℕ) → node_by k bytes ≡ Directory 
 kind_back kinds.Directory bytes is = refl
 kind_back kinds.File bytes is = absurd (cc)
 
-module _ (content : Image) (v : Superblock) (dirs : Dirs) (is : IsContent content v) (shows : Shows v.version content v.slots dirs) where
+module _ (content : Image) (v : Superblock) (is : IsContent content v) where
   abbrev slots : Slots
   slots = slots_in content v.slots
 
@@ -71,22 +71,25 @@ module _ (content : Image) (v : Superblock) (dirs : Dirs) (is : IsContent conten
 
   -- ---- each slot
 
-  placed : (s : ℕ) (e : Entry) → get_or slots s None ≡ Some e → IsPlaced dirs (s + 1) e
+  placed : (s : ℕ) (e : Entry) → get_or slots s None ≡ Some e → IsPlaced content v s e
   placed s e at = record {
-    top = λ first.
-        let zeroth : s ≡ 0 = omega (arith, first) in
+    top = λ zeroth.
         let same : entry_of content e ≡ root = same_Some (entry_of content e) root (sym (there s e at) ∙ ap (λ (k : ℕ). tree.entry T (suc k)) zeroth ∙ is.volume.tree.top) in
         ap (λ (d : tree.Entry). d.parent) same;
     below = λ other none.
         let inside = is.volume.tree.inside (suc s) (entry_of content e) (there s e at) (λ one. other (omega (arith, one))) in
         none-some inside.0 (sym (ap (tree.entry T) none) ∙ inside.1);
-    least = λ some t names.
-        let d = held content v dirs is shows e.parent (name_of e) t names in
-        let same = is.volume.tree.apart (suc s) t (entry_of content e) d.0 (there s e at) d.1 (sym d.2) (sym d.3) in
-        omega (arith, same);
+    first = λ some t before.
+        let spelled = before.spelled in
+        let d = spelled.entry in
+        let lt : t - 1 < v.slots = omega (arith, before.first, before.last, slot_within content v.slots s e at) in
+        let own : content (FIRST_AFTER_LOG + (t - 1)) ≡ spelling d = ap content (omega (arith, before.first)) ∙ spelled.spelled in
+        let at_d : get_or slots (t - 1) None ≡ Some d = held_some content v (t - 1) lt d spelled.right own in
+        let same = is.volume.tree.apart (suc s) (suc (t - 1)) (entry_of content e) (entry_of content d) (there s e at) (there (t - 1) d at_d) spelled.parent_is spelled.name_is in
+        omega (arith, same, before.first, before.last);
   }
 
-  pub right : (s : ℕ) → s < v.slots → IsRight content v dirs s (held_at content v s)
+  pub right : (s : ℕ) → s < v.slots → IsRight content v s (held_at content v s)
   right s lt = record {
     bytes = is.volume.holds.bytes s (omega (arith, lt, is.volume.count));
     entry = λ e at. is.volume.holds.entries s e at;
@@ -121,7 +124,7 @@ module _ (content : Image) (v : Superblock) (dirs : Dirs) (is : IsContent conten
       let below = is.volume.sectors.there at.0 e.0 p.position.0 e.1 p.position.1 in
       (omega (arith, after_slots, p.position.2), omega (arith, below, p.position.2))
 
-  pub fits : (s : ℕ) (found : Entries) → s < v.slots → HaveRead content v dirs s found → FitIn content v (held_at content v s) found
+  pub fits : (s : ℕ) (found : Entries) → s < v.slots → HaveRead content v s found → FitIn content v (held_at content v s) found
   fits s found lt read =
       let o = held_at content v s in
       let within : s < length slots = omega (arith, lt, slots_count content v.slots) in
@@ -133,8 +136,8 @@ module _ (content : Image) (v : Superblock) (dirs : Dirs) (is : IsContent conten
       }
 
   -- a slot is not refused
-  pub not_refused : (s : ℕ) (found : Entries) → s < v.slots → HaveRead content v dirs s found
-      → (IsRight content v dirs s (held_at content v s) → FitIn content v (held_at content v s) found → ⊥) → ⊥
+  pub not_refused : (s : ℕ) (found : Entries) → s < v.slots → HaveRead content v s found
+      → (IsRight content v s (held_at content v s) → FitIn content v (held_at content v s) found → ⊥) → ⊥
   not_refused s found lt read none = none (right s lt) (fits s found lt read)
 
   -- ---- the directories that entries are in
@@ -217,7 +220,7 @@ module _ (content : Image) (v : Superblock) (dirs : Dirs) (is : IsContent conten
 
   -- ---- all slots
 
-  module _ (found : Entries) (read : HaveRead content v dirs v.slots found) where
+  module _ (found : Entries) (read : HaveRead content v v.slots found) where
     whole : take v.slots slots ≡ slots
     whole = take_all v.slots slots (omega (arith, slots_count content v.slots))
 

@@ -1,11 +1,11 @@
 //! Reading a volume whole, and checking all rules on what it holds.
 
-ghost use Rattle.std.specs.Prelude.{◌≡◌, ◌⊎◌, ◌≤◌, ◌<◌, ◌+◌, IsTrue, IfOk, IfErr, false, length};
+ghost use Rattle.std.specs.Prelude.{◌≡◌, ◌⊎◌, ◌≤◌, ◌<◌, ◌+◌, ℕ, IsTrue, IfOk, IfErr, false, length};
 ghost use Rattle.vol_sector.specs.Fault.{device_failed};
 ghost use Rattle.vol_log.specs.Log.{view, log_sectors, has_failed, device_of};
 ghost use Rattle.vol_log.specs.Reading.{OnlyReads};
 ghost use Rattle.vol_alloc.specs.Alloc.{first_of, end_of};
-ghost use Rattle.vol_dirs.specs.Names.{slots_of, Shows};
+ghost use Rattle.vol_dirs.specs.Names.{slots_of, IsFree};
 ghost use Rattle.vol_tree.specs.Superblock.{HasRanges};
 ghost use Rattle.vol_tree.specs.internal.Parts.{IsContent};
 ghost use Rattle.vol_tree.specs.internal.Reads.{HaveTree, HaveTreeSoon, HasParts};
@@ -37,24 +37,25 @@ fn make_a_tree(alloc: Global, found: &Entries) -> Result<bool, AllocError>
     lead_to_root(alloc, &found.parents)
 }
 
-/// Reads all entries and checks what they name and where they stand. It gives the free sectors, and
-/// how many sectors the files need by their sizes.
+/// Reads all entries, holds their names, and checks what they name and where they stand. It gives
+/// the free sectors, and how many sectors the files need by their sizes.
 fn check_entries<D: Device>(
     alloc: Global,
     log: &mut Log<D>,
     numbers: &Superblock,
-    dirs: &Dirs,
+    dirs: &mut Dirs,
 ) -> Result<(Alloc, u32), VolumeFault>
     requires there { numbers.now.sectors ≤ log_sectors log.old }
     requires ranges { HasRanges numbers.now }
     requires working { has_failed log.old ≡ false }
+    requires slots { slots_of dirs.old ≡ numbers.now.slots }
+    requires free { (s : ℕ) → IsFree dirs.old s }
+    ensures slots { slots_of dirs.new ≡ slots_of dirs.old }
     ensures first { IfOk result (λ p. first_of p.0 ≡ FIRST_AFTER_LOG + numbers.now.slots) }
     ensures end { IfOk result (λ p. end_of p.0 ≡ numbers.now.sectors) }
     ensures parts { D.honest (device_of log.old)
-        → Shows numbers.now.version (view log.old) numbers.now.slots dirs.now
-        → IfOk result (λ p. HasParts (view log.old) numbers.now dirs.now p.0 p.1) }
+        → IfOk result (λ p. HasParts (view log.old) numbers.now dirs.new p.0 p.1) }
     ensures damaged { D.honest (device_of log.old)
-        → Shows numbers.now.version (view log.old) numbers.now.slots dirs.now
         → IfErr result (λ fault. fault ≡ VolumeFault.Damaged
         → IsContent (view log.old) numbers.now → ⊥) }
     ensures refused { IfErr result (λ fault. (fault ≡ VolumeFault.Damaged)
@@ -97,7 +98,7 @@ pub(crate) fn read_parts<D: Device>(
     ensures reads { OnlyReads log.old log.new }
     ensures failed { has_failed log.new ≡ device_failed result }
 {
-    let dirs = Dirs::open(alloc, log, numbers.version, numbers.slots)?;
-    let (sectors, reserved) = check_entries(alloc, log, numbers, &dirs)?;
+    let mut dirs = Dirs::reserve(alloc, numbers.slots)?;
+    let (sectors, reserved) = check_entries(alloc, log, numbers, &mut dirs)?;
     Ok((dirs, sectors, reserved))
 }

@@ -1,18 +1,18 @@
 //! Reading all entries of a volume, with the checks that each one asks.
 
-ghost use Rattle.std.specs.Prelude.{◌≡◌, ◌≢◌, ◌⊎◌, ◌≤◌, ◌<◌, ◌+◌, ◌∷◌, ◌++◌, [], IsTrue, IfOk, OnOk, IfErr, false, Some, None, length};
+ghost use Rattle.std.specs.Prelude.{◌≡◌, ◌≢◌, ◌⊎◌, ◌≤◌, ◌<◌, ◌+◌, ◌∷◌, ◌++◌, ◌↔◌, ℕ, List, [], IsTrue, IfOk, OnOk, IfErr, false, Some, None, length};
 ghost use Rattle.vol_sector.specs.Disk.{Image};
 ghost use Rattle.vol_sector.specs.Fault.{device_failed};
 ghost use Rattle.vol_log.specs.Log.{view, log_sectors, has_failed, device_of};
 ghost use Rattle.vol_log.specs.Reading.{OnlyReads};
-ghost use Rattle.vol_inode.specs.Entry.{IsEntry, HasName, name_of};
+ghost use Rattle.vol_inode.specs.Entry.{IsEntry, HasName};
 ghost use Rattle.vol_inode.specs.Space.{need_of};
 ghost use Rattle.vol_body.specs.Survey.{IsTrimmed};
-ghost use Rattle.vol_dirs.specs.Names.{Names, Shows};
+ghost use Rattle.vol_dirs.specs.Names.{slots_of, Names, IsFree, IsNameOf, Shows};
 ghost use Rattle.vol_tree.specs.Superblock.{HasRanges};
 ghost use Rattle.vol_tree.specs.internal.Parts.{IsContent};
 ghost use Rattle.vol_tree.specs.internal.Replacing.{kind_is_directory};
-ghost use Rattle.vol_tree.specs.internal.Reads.{held_at, IsPlaced, IsRight, Adds, AreWithin, FitIn, HaveRead};
+ghost use Rattle.vol_tree.specs.internal.Reads.{held_at, IsNew, IsRight, AreBelow, Adds, AreWithin, FitIn, HaveRead};
 
 use crate::stat::ROOT;
 use crate::superblock::Superblock;
@@ -99,32 +99,30 @@ fn is_directory(entry: &Entry) -> bool
     entry.kind == Kind::Directory
 }
 
-/// Whether the entry has a parent, unless it is the root's, and a name that no entry of a lesser
-/// serial has there.
+/// Whether the entry has a parent, unless it is the root's, and a name that no entry before has
+/// there.
 fn is_placed<D: Device>(log: &Log<D>, dirs: &Dirs, serial: u32, entry: &Entry) -> bool
     requires working { has_failed log.now ≡ false }
     requires named { HasName entry.now }
-    ensures yes { IsTrue result → IsPlaced dirs.now serial entry.now }
-    ensures no { (entry.now.parent ≢ 0
-        → Names dirs.now entry.now.parent (name_of entry.now) serial)
-        → IsPlaced dirs.now serial entry.now → IsTrue result }
+    ensures yes { IsTrue result → IsNew dirs.now serial entry.now }
+    ensures no { IsNew dirs.now serial entry.now → IsTrue result }
 {
     if serial == ROOT || entry.parent == 0 {
         return serial == ROOT && entry.parent == 0;
     }
     let name = &entry.name[..entry.name_length as usize];
     match dirs.lookup(log, entry.parent, name) {
-        Ok(Some(first)) => first == serial,
-        Ok(None) => false,
+        Ok(Some(_)) => false,
+        Ok(None) => true,
         Err(_) => false,
     }
 }
 
-/// Takes up the entry of a slot, with the sectors that it names.
+/// Takes up the entry of a slot, with its name and the sectors that it names.
 fn take_up<D: Device>(
     log: &mut Log<D>,
     numbers: &Superblock,
-    dirs: &Dirs,
+    dirs: &mut Dirs,
     serial: u32,
     entry: &Entry,
     found: &mut Entries,
@@ -132,6 +130,9 @@ fn take_up<D: Device>(
     requires there { numbers.now.sectors ≤ log_sectors log.old }
     requires ranges { HasRanges numbers.now }
     requires working { has_failed log.old ≡ false }
+    requires first { 1 ≤ serial }
+    requires last { serial ≤ slots_of dirs.old }
+    requires free { IsFree dirs.old serial }
     requires right { IsEntry numbers.now.version entry.now }
     requires within { AreWithin numbers.now found.old }
     ensures adds { D.honest (device_of log.old)
@@ -139,13 +140,15 @@ fn take_up<D: Device>(
     ensures within { OnOk result (AreWithin numbers.now found.new) }
     ensures count { OnOk result
         (length found.new.parents.items ≡ length found.old.parents.items + 1) }
-    ensures placed { OnOk result (IsPlaced dirs.now serial entry.now) }
+    ensures placed { OnOk result (IsNew dirs.old serial entry.now) }
+    ensures names { OnOk result ((p : ℕ) (n : List ℕ) (s : ℕ) → Names dirs.new p n s
+        ↔ (Names dirs.old p n s ⊎ IsNameOf entry.now serial p n s)) }
+    ensures slots { slots_of dirs.new ≡ slots_of dirs.old }
     ensures trimmed { D.honest (device_of log.old)
         → OnOk result (IsTrimmed (view log.old) entry.now) }
     ensures damaged { D.honest (device_of log.old)
         → IfErr result (λ fault. fault ≡ VolumeFault.Damaged
-        → (entry.now.parent ≢ 0 → Names dirs.now entry.now.parent (name_of entry.now) serial)
-        → IsPlaced dirs.now serial entry.now → IsTrimmed (view log.old) entry.now
+        → IsNew dirs.old serial entry.now → IsTrimmed (view log.old) entry.now
         → FitIn (view log.old) numbers.now (Some entry.now) found.old → ⊥) }
     ensures refused { IfErr result (λ fault. (fault ≡ VolumeFault.Damaged)
         ⊎ ((fault ≡ VolumeFault.Device) ⊎ (fault ≡ VolumeFault.Memory))) }
@@ -155,6 +158,7 @@ fn take_up<D: Device>(
     if !is_placed(log, dirs, serial, entry) {
         return Err(VolumeFault::Damaged);
     }
+    dirs.hold(serial, entry);
     let first = FIRST_AFTER_LOG + numbers.slots;
     survey(log, entry, first, numbers.sectors, &mut found.named)?;
     found.add(entry, numbers.sectors - first)
@@ -164,7 +168,7 @@ fn take_up<D: Device>(
 fn read_slot<D: Device>(
     log: &mut Log<D>,
     numbers: &Superblock,
-    dirs: &Dirs,
+    dirs: &mut Dirs,
     slot: u32,
     found: &mut Entries,
 ) -> Result<(), VolumeFault>
@@ -172,19 +176,25 @@ fn read_slot<D: Device>(
     requires ranges { HasRanges numbers.now }
     requires working { has_failed log.old ≡ false }
     requires slot { slot < numbers.now.slots }
+    requires slots { slots_of dirs.old ≡ numbers.now.slots }
+    requires before { AreBelow dirs.old slot }
+    requires shown { D.honest (device_of log.old)
+        → Shows numbers.now.version (view log.old) slot dirs.old }
     requires within { AreWithin numbers.now found.old }
     ensures adds { D.honest (device_of log.old) → OnOk result (Adds (view log.old)
         (held_at (view log.old) numbers.now slot) found.old found.new) }
     ensures within { OnOk result (AreWithin numbers.now found.new) }
     ensures count { OnOk result
         (length found.new.parents.items ≡ length found.old.parents.items + 1) }
+    ensures slots { slots_of dirs.new ≡ slots_of dirs.old }
+    ensures below { OnOk result (AreBelow dirs.new (slot + 1)) }
+    ensures shows { D.honest (device_of log.old) → OnOk result
+        (Shows numbers.now.version (view log.old) (slot + 1) dirs.new) }
     ensures right { D.honest (device_of log.old) → OnOk result (IsRight (view log.old)
-        numbers.now dirs.now slot (held_at (view log.old) numbers.now slot)) }
+        numbers.now slot (held_at (view log.old) numbers.now slot)) }
     ensures damaged { D.honest (device_of log.old)
-        → Shows numbers.now.version (view log.old) numbers.now.slots dirs.now
         → IfErr result (λ fault. fault ≡ VolumeFault.Damaged
-        → IsRight (view log.old) numbers.now dirs.now slot
-        (held_at (view log.old) numbers.now slot)
+        → IsRight (view log.old) numbers.now slot (held_at (view log.old) numbers.now slot)
         → FitIn (view log.old) numbers.now (held_at (view log.old) numbers.now slot) found.old
         → ⊥) }
     ensures refused { IfErr result (λ fault. (fault ≡ VolumeFault.Damaged)
@@ -200,22 +210,26 @@ fn read_slot<D: Device>(
     }
 }
 
-/// Reads all slots, one after another.
+/// Reads all slots once, one after another. The names are held where none was before.
 pub(crate) fn read_entries<D: Device>(
     alloc: Global,
     log: &mut Log<D>,
     numbers: &Superblock,
-    dirs: &Dirs,
+    dirs: &mut Dirs,
 ) -> Result<Entries, VolumeFault>
     requires there { numbers.now.sectors ≤ log_sectors log.old }
     requires ranges { HasRanges numbers.now }
     requires working { has_failed log.old ≡ false }
+    requires slots { slots_of dirs.old ≡ numbers.now.slots }
+    requires free { (s : ℕ) → IsFree dirs.old s }
     ensures read { D.honest (device_of log.old) → IfOk result
-        (λ found. HaveRead (view log.old) numbers.now dirs.now numbers.now.slots found) }
+        (λ found. HaveRead (view log.old) numbers.now numbers.now.slots found) }
     ensures within { IfOk result (λ found. AreWithin numbers.now found) }
     ensures count { IfOk result (λ found. length found.parents.items ≡ numbers.now.slots) }
+    ensures slots { slots_of dirs.new ≡ slots_of dirs.old }
+    ensures shows { D.honest (device_of log.old) → OnOk result
+        (Shows numbers.now.version (view log.old) numbers.now.slots dirs.new) }
     ensures damaged { D.honest (device_of log.old)
-        → Shows numbers.now.version (view log.old) numbers.now.slots dirs.now
         → IfErr result (λ fault. fault ≡ VolumeFault.Damaged
         → IsContent (view log.old) numbers.now → ⊥) }
     ensures refused { IfErr result (λ fault. (fault ≡ VolumeFault.Damaged)

@@ -7,7 +7,7 @@ use Rattle.vol_inode.specs.Entry.{IsEntry, name_of}
 use Rattle.vol_inode.specs.Space.{need_of}
 use Rattle.vol_body.specs.Survey.{sectors_named, AreInside, IsTrimmed}
 use Rattle.vol_dirs.specs.declared.dirs.Dirs.{Dirs}
-use Rattle.vol_dirs.specs.Names.{IsLeastOf, Shows}
+use Rattle.vol_dirs.specs.Names.{Names, IsInSlot, Shows}
 use Rattle.vol_alloc.specs.declared.sectors.Alloc.{Alloc}
 use Rattle.vol_tree.specs.declared.superblock.Superblock.{Superblock}
 use Rattle.vol_tree.specs.declared.reading.Entries.{Entries}
@@ -42,18 +42,28 @@ abbrev pub reserved_in : Option Entry → ℕ
 reserved_in None = 0
 reserved_in (Some e) = need_of e.size
 
--- Only the root has no parent; and of the entries with this name in its directory the entry has the least serial.
-pub record IsPlaced (dirs : Dirs) (serial : ℕ) (e : Entry) : Type 0 where
+-- Only the root has no parent; and no slot before holds an entry with this name in the directory.
+pub record IsPlaced (content : Image) (v : Superblock) (s : ℕ) (e : Entry) : Type 0 where
+  pub top : s ≡ 0 → e.parent ≡ 0
+  pub below : s ≢ 0 → e.parent ≢ 0
+  pub first : e.parent ≢ 0 → (t : ℕ) → IsInSlot v.version content s e.parent (name_of e) t → ⊥
+
+-- the same, where the names of the slots before are held
+pub record IsNew (dirs : Dirs) (serial : ℕ) (e : Entry) : Type 0 where
   pub top : serial ≡ 1 → e.parent ≡ 0
   pub below : serial ≢ 1 → e.parent ≢ 0
-  pub least : e.parent ≢ 0 → IsLeastOf dirs e.parent (name_of e) serial
+  pub first : e.parent ≢ 0 → (t : ℕ) → Names dirs e.parent (name_of e) t → ⊥
 
--- the slot keeps the rules that it shows, by itself and with the names of the others
-pub record IsRight (content : Image) (v : Superblock) (dirs : Dirs) (s : ℕ) (o : Option Entry) : Type 0 where
+-- the slot keeps the rules that it shows, by itself and with the names of those before
+pub record IsRight (content : Image) (v : Superblock) (s : ℕ) (o : Option Entry) : Type 0 where
   pub bytes : content (FIRST_AFTER_LOG + s) ≡ slot o
   pub entry : (e : Entry) → o ≡ Some e → IsEntry v.version e
-  pub placed : (e : Entry) → o ≡ Some e → IsPlaced dirs (s + 1) e
+  pub placed : (e : Entry) → o ≡ Some e → IsPlaced content v s e
   pub trimmed : (e : Entry) → o ≡ Some e → IsTrimmed content e
+
+-- only names of these first slots are held
+abbrev pub AreBelow : Dirs → ℕ → Type 0
+AreBelow dirs count = (p : ℕ) (n : List ℕ) (s : ℕ) → Names dirs p n s → s ≤ count
 
 -- what reading one slot more adds
 pub record Adds (content : Image) (o : Option Entry) (old new : Entries) : Type 0 where
@@ -73,12 +83,12 @@ pub record FitIn (content : Image) (v : Superblock) (o : Option Entry) (found : 
   pub room : found.reserved + reserved_in o ≤ data_sectors v
 
 -- what the first slots gave
-pub record HaveRead (content : Image) (v : Superblock) (dirs : Dirs) (count : ℕ) (found : Entries) : Type 0 where
+pub record HaveRead (content : Image) (v : Superblock) (count : ℕ) (found : Entries) : Type 0 where
   pub named : found.named.items ≡ flat_map (named_in content) (take count (slots_in content v.slots))
   pub parents : found.parents.items ≡ map parent_in (take count (slots_in content v.slots))
   pub directories : found.directories.items ≡ map directory_in (take count (slots_in content v.slots))
   pub reserved : found.reserved ≡ sum_by reserved_in (take count (slots_in content v.slots))
-  pub right : (s : ℕ) → s < count → IsRight content v dirs s (held_at content v s)
+  pub right : (s : ℕ) → s < count → IsRight content v s (held_at content v s)
 
 -- The root is a directory, and all entries stand in directories that lead up to it.
 pub record HaveTree (found : Entries) : Type 0 where

@@ -6,6 +6,7 @@ use Rattle.vol_log.specs.Log.{view}
 use Rattle.vol_log.proofs.Readings.{reads_same, reads_then}
 use Rattle.vol_body.proofs.Surveys.{handed_on, failed_on}
 use Rattle.vol_dirs.specs.Names.{Shows}
+use Rattle.vol_dirs.proofs.Shown.{shown_first}
 use Rattle.vol_tree.specs.declared.reading.Entries.{Entries}
 use Rattle.vol_tree.specs.internal.Reads.{held_at, Adds, IsRight, FitIn, HaveRead}
 use Rattle.vol_tree.proofs.Checked.{none_inside, none_read, more_read}
@@ -25,11 +26,16 @@ loop-slot-preserved g c =
       reads = reads_then c.args.log.now c.loop-slot.log c.read_slot.new.log so_far.working so_far.reads done.reads;
       count = omega (arith, done.count, so_far.count);
       within = done.within;
+      slots = done.slots ∙ so_far.slots;
+      below = done.below;
+      shows = λ h.
+          let h1 = so_far.reads.honest.0 h in
+          subst (λ (m : Image). Shows v.version m (s + 1) c.read_slot.new.dirs) (so_far.reads.view h) (done.shows h1);
       read = λ h.
           let h1 = so_far.reads.honest.0 h in
-          more_read content v c.args.dirs.now s c.loop-slot.found c.read_slot.new.found c.loop-slot-test.true (so_far.read h)
+          more_read content v s c.loop-slot.found c.read_slot.new.found c.loop-slot-test.true (so_far.read h)
           (subst (λ (m : Image). Adds m (held_at m v s) c.loop-slot.found c.read_slot.new.found) (so_far.reads.view h) (done.adds h1))
-          (subst (λ (m : Image). IsRight m v c.args.dirs.now s (held_at m v s)) (so_far.reads.view h) (done.right h1));
+          (subst (λ (m : Image). IsRight m v s (held_at m v s)) (so_far.reads.view h) (done.right h1));
     }
 
 pub read_slot-requires : goal.read_slot-requires
@@ -40,6 +46,11 @@ read_slot-requires g c =
       ranges = c.requires.ranges;
       working = so_far.working;
       slot = c.loop-slot-test.true;
+      slots = so_far.slots ∙ c.requires.slots;
+      before = so_far.below;
+      shown = λ h1.
+          let h = so_far.reads.honest.1 h1 in
+          subst (λ (m : Image). Shows c.args.numbers.now.version m c.loop-slot.slot c.loop-slot.dirs) (sym (so_far.reads.view h)) (so_far.shows h);
       within = so_far.within;
     }
 
@@ -47,7 +58,6 @@ pub returns-in_err-read_slot : goal.returns-in_err-read_slot
 returns-in_err-read_slot g c =
     let content = view c.args.log.now in
     let v = c.args.numbers.now in
-    let dirs = c.args.dirs.now in
     let s = c.loop-slot.slot in
     let so_far = c.loop-slot.invariant in
     let r = c.from_residual.result in
@@ -59,10 +69,12 @@ returns-in_err-read_slot g c =
       read = λ h. IfOk-from_err r _ is_err_now;
       within = IfOk-from_err r _ is_err_now;
       count = IfOk-from_err r _ is_err_now;
-      damaged = λ h shows.
-          let damaged = subst (λ (m : Image). Shows v.version m v.slots dirs → (x ≡ Damaged → IsRight m v dirs s (held_at m v s) → FitIn m v (held_at m v s) c.loop-slot.found → ⊥)) (so_far.reads.view h)
-          (e.damaged (so_far.reads.honest.0 h)) shows in
-          handed_on r _ x is (λ yes volume. not_refused content v dirs volume shows s c.loop-slot.found c.loop-slot-test.true (so_far.read h) (damaged yes));
+      slots = e.slots ∙ so_far.slots;
+      shows = λ h. IfOk-from_err r _ is_err_now;
+      damaged = λ h.
+          let damaged = subst (λ (m : Image). (x ≡ Damaged → IsRight m v s (held_at m v s) → FitIn m v (held_at m v s) c.loop-slot.found → ⊥)) (so_far.reads.view h)
+          (e.damaged (so_far.reads.honest.0 h)) in
+          handed_on r _ x is (λ yes volume. not_refused content v volume s c.loop-slot.found c.loop-slot-test.true (so_far.read h) (damaged yes));
       refused = handed_on r _ x is e.refused;
       reads = reads_then c.args.log.now c.loop-slot.log c.read_slot.new.log so_far.working so_far.reads e.reads;
       failed = failed_on r x _ is e.failed;
@@ -74,10 +86,12 @@ returns g c =
     let v = c.args.numbers.now in
     let all : c.loop-slot.slot ≡ v.slots = omega (arith, c.loop-slot-test.false, c.loop-slot.auto.slot-end) in
     record {
-      read = λ h. subst (λ (n : ℕ). HaveRead (view c.args.log.now) v c.args.dirs.now n c.loop-slot.found) all (so_far.read h);
+      read = λ h. subst (λ (n : ℕ). HaveRead (view c.args.log.now) v n c.loop-slot.found) all (so_far.read h);
       within = so_far.within;
       count = so_far.count ∙ all;
-      damaged = λ h shows. tt;
+      slots = so_far.slots;
+      shows = λ h. subst (λ (n : ℕ). Shows v.version (view c.args.log.now) n c.loop-slot.dirs) all (so_far.shows h);
+      damaged = λ h. tt;
       refused = tt;
       reads = so_far.reads;
       failed = so_far.working;
@@ -91,6 +105,9 @@ loop-slot-init g c =
       working = c.requires.working;
       reads = reads_same c.args.log.now;
       count = ap length c.new-2.ensures.items;
+      slots = refl;
+      below = λ p n s held. absurd (c.requires.free s p n held);
+      shows = λ h. shown_first v.version (view c.args.log.now) c.args.dirs.now c.requires.free;
       within = record { inside = none_inside (FIRST_AFTER_LOG + v.slots) v.sectors c.new.result.items c.new.ensures.items; room = omega arith };
-      read = λ h. none_read (view c.args.log.now) v c.args.dirs.now found c.new.ensures.items c.new-2.ensures.items c.new-3.ensures.items refl;
+      read = λ h. none_read (view c.args.log.now) v found c.new.ensures.items c.new-2.ensures.items c.new-3.ensures.items refl;
     }

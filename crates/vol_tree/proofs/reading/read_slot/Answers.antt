@@ -1,18 +1,18 @@
-use Rattle.std.proofs.Common.{◌≡◌, ◌≢◌, ◌≤◌, ◌+◌, ◌∙◌, ℕ, true, false, inl, inr, refl, Option, Some, None, IfSome, Ok, OnOk, IfErr, sym, ap, subst, arith}
+use Rattle.std.proofs.Common.{◌≡◌, ◌≤◌, ◌+◌, ◌∙◌, ℕ, true, false, inl, inr, refl, Option, Some, None, IfSome, Ok, OnOk, IfErr, sym, ap, subst, arith}
 use Rattle.std.proofs.lemmas.Result.{IfOk-from_err, IfErr-weaker, on_ok_weaker}
 use Rattle.vol_sector.specs.Disk.{Image}
 use Rattle.vol_sector.specs.declared.fault.VolumeFault.TheVariants.{Damaged, Device}
 use Rattle.vol_inode.specs.declared.entry.Entry.{Entry}
-use Rattle.vol_inode.specs.Entry.{IsEntry, name_of}
+use Rattle.vol_inode.specs.Entry.{IsEntry}
 use Rattle.vol_inode.specs.Spelling.{spelling, unused}
 use Rattle.vol_log.specs.Log.{view, device_of}
 use Rattle.vol_log.proofs.Readings.{reads_of, reads_then}
 use Rattle.vol_body.specs.Survey.{AreInside, IsTrimmed}
 use Rattle.vol_body.proofs.Surveys.{handed_on, failed_on, device_not_damaged, no_device_failed}
-use Rattle.vol_dirs.specs.Names.{Names}
+use Rattle.vol_dirs.proofs.Shown.{shown_more, shown_past}
 use Rattle.vol_tree.specs.Opened.{data_sectors}
-use Rattle.vol_tree.specs.internal.Reads.{Adds, IsPlaced, FitIn}
-use Rattle.vol_tree.proofs.Checked.{held_none, right_none, held_some, right_some, some_contradicts, refused_contradicts}
+use Rattle.vol_tree.specs.internal.Reads.{Adds, IsNew, FitIn}
+use Rattle.vol_tree.proofs.Checked.{held_none, right_none, held_some, right_some, new_placed, some_contradicts, refused_contradicts}
 use Rattle.vol_tree.proofs.Committing.{at_ok, on_ok}
 use Rattle.vol_tree.proofs.Refusals.{memory_not_damage, err_not_ok}
 use Rattle.vol_tree.proofs.reading.read_slot.Goals as goal
@@ -29,6 +29,9 @@ take_up-requires g c =
       there = subst (λ (n : ℕ). v.sectors ≤ n) (sym c.in_ok-image.ensures.sectors) c.requires.there;
       ranges = c.requires.ranges;
       working = c.in_ok-image.ensures.failed;
+      first = omega arith;
+      last = omega (arith, c.requires.slot, c.requires.slots);
+      free = λ p n held. let le = c.requires.before p n _ held in omega (arith, le);
       right = both.0;
       within = c.requires.within;
     }
@@ -43,8 +46,11 @@ returns-in_err-image g c =
       adds = λ h. IfOk-from_err r _ is_err_now;
       within = IfOk-from_err r _ is_err_now;
       count = IfOk-from_err r _ is_err_now;
+      slots = refl;
+      below = IfOk-from_err r _ is_err_now;
+      shows = λ h. IfOk-from_err r _ is_err_now;
       right = λ h. IfOk-from_err r _ is_err_now;
-      damaged = λ h shows. handed_on r _ Device is (λ damaged. device_not_damaged damaged);
+      damaged = λ h. handed_on r _ Device is (λ damaged. device_not_damaged damaged);
       refused = handed_on r _ Device is (inr (inl refl));
       reads = reads_of c.args.log.now c.read.new.self true read.view read.staged read.seen read.crash read.sectors read.honest read.size read.failures read.failed;
       failed = failed_on r Device _ is read.failed;
@@ -64,18 +70,25 @@ returns-in-Ok-Some g c =
     let spelled = λ (h : g.D.Device.honest (device_of c.args.log.now)). let is : content (FIRST_AFTER_LOG + c.args.slot) ≡ spelling e = sym (read.value h) ∙ both.1 in is in
     record {
       adds = λ h.
-          let is = held_some content v dirs c.args.slot c.requires.slot e both.0 (spelled h) in
+          let is = held_some content v c.args.slot c.requires.slot e both.0 (spelled h) in
           subst (λ (o : Option Entry). OnOk r (Adds content o found c.take_up.new.found)) (sym is)
           (subst (λ (m : Image). OnOk r (Adds m (Some e) found c.take_up.new.found)) (read.view h) (taken.adds (read.honest.0 h)));
       within = taken.within;
       count = taken.count;
+      slots = taken.slots;
+      below = on_ok r _ (λ done p n s held. elim ((at_ok r _ taken.names done p n s).0 held) [
+        | inl old ↦ omega (arith, c.requires.before p n s old)
+        | inr that ↦ omega (arith, that.serial_is)
+      ]);
+      shows = λ h. on_ok r _ (λ done. shown_more v.version content c.args.slot e dirs c.take_up.new.dirs (c.requires.shown h) both.0 (spelled h) (at_ok r _ taken.names done));
       right = λ h.
           let trimmed = subst (λ (m : Image). OnOk r (IsTrimmed m e)) (read.view h) (taken.trimmed (read.honest.0 h)) in
-          on_ok r _ (λ done. right_some content v dirs c.args.slot c.requires.slot e both.0 (spelled h) (at_ok r _ taken.placed done) (at_ok r _ trimmed done));
-      damaged = λ h shows.
+          on_ok r _ (λ done. right_some content v c.args.slot c.requires.slot e both.0 (spelled h)
+          (new_placed content v c.args.slot c.requires.slot e both.0 (spelled h) dirs (c.requires.shown h) (at_ok r _ taken.placed done)) (at_ok r _ trimmed done));
+      damaged = λ h.
           let damaged = subst (λ (m : Image). IfErr r (λ fault. fault ≡ Damaged
-          → (e.parent ≢ 0 → Names dirs e.parent (name_of e) (c.args.slot + 1)) → IsPlaced dirs (c.args.slot + 1) e → IsTrimmed m e → FitIn m v (Some e) found → ⊥)) (read.view h) (taken.damaged (read.honest.0 h)) in
-          IfErr-weaker r _ _ (λ fault none is. some_contradicts content v dirs c.args.slot c.requires.slot e both.0 (spelled h) found shows (none is)) damaged;
+          → IsNew dirs (c.args.slot + 1) e → IsTrimmed m e → FitIn m v (Some e) found → ⊥)) (read.view h) (taken.damaged (read.honest.0 h)) in
+          IfErr-weaker r _ _ (λ fault none is. some_contradicts content v c.args.slot c.requires.slot e both.0 (spelled h) dirs (c.requires.shown h) found (none is)) damaged;
       refused = taken.refused;
       reads = reads_then c.args.log.now c.read.new.self c.take_up.new.log read.failed (reads_of c.args.log.now c.read.new.self false read.view read.staged read.seen read.crash read.sectors read.honest read.size read.failures read.failed) taken.reads;
       failed = taken.failed;
@@ -93,15 +106,18 @@ returns-in-Ok-None g c =
     let none = λ (h : g.D.Device.honest (device_of c.args.log.now)). let is : content (FIRST_AFTER_LOG + c.args.slot) ≡ unused = sym (read.value h) ∙ c.in-Ok-None.ensures.unused.0 (ap Ok c.in-Ok-None.field-0-is) in is in
     record {
       adds = λ h.
-          let is = held_none content v dirs c.args.slot c.requires.slot (none h) in
+          let is = held_none content v c.args.slot c.requires.slot (none h) in
           on_ok_weaker r (λ adds. subst (λ (o : Option Entry). Adds content o found c.pass.new.self) (sym is) (adds content)) passed.adds;
       within = on_ok r _ (λ done. record {
         inside = subst (AreInside (FIRST_AFTER_LOG + v.slots) v.sectors) (sym passed.named) c.requires.within.inside;
         room = subst (λ (n : ℕ). n ≤ data_sectors v) (sym passed.reserved) c.requires.within.room;
       });
       count = passed.count;
-      right = λ h. on_ok r _ (λ done. right_none content v dirs c.args.slot c.requires.slot (none h));
-      damaged = λ h shows. IfErr-weaker r _ _ (λ fault is damaged. memory_not_damage (sym is ∙ damaged)) passed.refused;
+      slots = refl;
+      below = on_ok r _ (λ done p n s held. omega (arith, c.requires.before p n s held));
+      shows = λ h. on_ok r _ (λ done. shown_past v.version content c.args.slot dirs (c.requires.shown h) (none h));
+      right = λ h. on_ok r _ (λ done. right_none content v c.args.slot c.requires.slot (none h));
+      damaged = λ h. IfErr-weaker r _ _ (λ fault is damaged. memory_not_damage (sym is ∙ damaged)) passed.refused;
       refused = IfErr-weaker r _ _ (λ fault is. inr (inr is)) passed.refused;
       reads = reads_of c.args.log.now c.read.new.self false read.view read.staged read.seen read.crash read.sectors read.honest read.size read.failures read.failed;
       failed = read.failed ∙ sym (no_device_failed r (IfErr-weaker r _ _ (λ fault is. inr is) passed.refused));
@@ -116,9 +132,12 @@ returns-in-Err g c =
       adds = λ h. tt;
       within = tt;
       count = tt;
+      slots = refl;
+      below = tt;
+      shows = λ h. tt;
       right = λ h. tt;
-      damaged = λ h shows is right fits.
-          refused_contradicts (view c.args.log.now) c.args.numbers.now c.args.dirs.now c.args.slot (λ d is_entry spelled. err_not_ok why (Some d) (e.every d is_entry (read.value h ∙ spelled)))
+      damaged = λ h is right fits.
+          refused_contradicts (view c.args.log.now) c.args.numbers.now c.args.slot (λ d is_entry spelled. err_not_ok why (Some d) (e.every d is_entry (read.value h ∙ spelled)))
           (λ none. err_not_ok why None (e.unused.1 (read.value h ∙ none))) right;
       refused = inl refl;
       reads = reads_of c.args.log.now c.read.new.self false read.view read.staged read.seen read.crash read.sectors read.honest read.size read.failures read.failed;

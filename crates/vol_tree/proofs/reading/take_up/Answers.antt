@@ -12,6 +12,9 @@ use Rattle.vol_log.specs.declared.layout.TheConstants.{FIRST_AFTER_LOG}
 pub is_placed-requires : goal.is_placed-requires
 is_placed-requires g c = record { working = c.requires.working; named = c.requires.right.rules.name }
 
+pub hold-requires : goal.hold-requires
+hold-requires g c = record { first = c.requires.first; last = c.requires.last; free = c.requires.free; named = c.requires.right.rules.name }
+
 pub survey-requires : goal.survey-requires
 survey-requires g c = record {
   there = c.requires.there;
@@ -29,8 +32,10 @@ returns-then-not-is_placed g c = record {
   within = tt;
   count = tt;
   placed = tt;
+  names = tt;
+  slots = refl;
   trimmed = λ h. tt;
-  damaged = λ h is held placed trimmed fits. true≢false (sym (c.is_placed.ensures.no held placed) ∙ c.if-not-is_placed.true);
+  damaged = λ h is placed trimmed fits. true≢false (sym (c.is_placed.ensures.no placed) ∙ c.if-not-is_placed.true);
   refused = inl refl;
   reads = reads_same c.args.log.now;
   failed = c.requires.working;
@@ -48,8 +53,10 @@ returns-in_err-survey g c =
       within = IfOk-from_err r _ is_err_now;
       count = IfOk-from_err r _ is_err_now;
       placed = IfOk-from_err r _ is_err_now;
+      names = IfOk-from_err r _ is_err_now;
+      slots = c.hold.ensures.slots;
       trimmed = λ h. IfOk-from_err r _ is_err_now;
-      damaged = λ h. handed_on r _ x is (λ damaged held placed trimmed fits. e.damaged h damaged trimmed fits.inside);
+      damaged = λ h. handed_on r _ x is (λ damaged placed trimmed fits. e.damaged h damaged trimmed fits.inside);
       refused = handed_on r _ x is e.refused;
       reads = e.reads;
       failed = failed_on r x _ is e.failed;
@@ -73,8 +80,10 @@ returns g c =
       });
       count = on_ok r _ (λ ok. ap length (at_ok r _ added.parents ok) ∙ length_push c.args.found.now.parents.items c.args.entry.now.parent);
       placed = on_ok r _ (λ ok. c.is_placed.ensures.yes c.if-not-is_placed.false);
+      names = on_ok r _ (λ ok. c.hold.ensures.names);
+      slots = c.hold.ensures.slots;
       trimmed = λ h. on_ok r _ (λ ok. surveyed.trimmed h);
-      damaged = λ h. IfErr-weaker r _ _ (λ fault more is held placed trimmed fits. omega (arith, more is, fits.room)) added.damaged;
+      damaged = λ h. IfErr-weaker r _ _ (λ fault more is placed trimmed fits. omega (arith, more is, fits.room)) added.damaged;
       refused = IfErr-weaker r _ _ or_memory added.refused;
       reads = surveyed.reads;
       failed = surveyed.failed ∙ sym (no_device_failed r added.refused);
