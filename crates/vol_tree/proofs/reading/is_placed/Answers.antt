@@ -1,7 +1,11 @@
 use Rattle.std.proofs.Common.{ℕ, Option, MatchOption, subst}
+use Rattle.std.proofs.lemmas.Bool.{false≢true}
 use Rattle.vol_dirs.specs.Names.{Names}
 use Rattle.vol_inode.specs.Entry.{name_of}
 use Rattle.vol_tree.proofs.reading.is_placed.Goals as goal
+
+pub returns-in-Ok-Some-clause-yes : goal.returns-in-Ok-Some-clause-yes
+returns-in-Ok-Some-clause-yes g c test = absurd (false≢true test)
 
 pub returns-in-Ok-Some-clause-no : goal.returns-in-Ok-Some-clause-no
 returns-in-Ok-Some-clause-no g c placed =
