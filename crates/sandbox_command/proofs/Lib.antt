@@ -1,4 +1,6 @@
 mod Chains
+mod Given
+mod Words
 mod Listing
 mod Lines
 mod Spoken

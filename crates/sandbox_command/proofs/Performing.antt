@@ -16,7 +16,7 @@ use Rattle.sandbox_command.specs.declared.streams.Sink.{Sink}
 use Rattle.sandbox_command.specs.declared.streams.Sink.TheVariants as sink
 use Rattle.sandbox_command.specs.Execution.{Executes, ExecutesSo, Runs}
 use Rattle.sandbox_command.specs.Sources.{AreStreams, IsSink, IsSource}
-use Rattle.sandbox_command.specs.Files.{AsksNothingAfter, HasEnded, HasEndedOn, IsExecuted, IsExecutedOnFiles, IsNewInMemory, IsPerformed, NamesNoVolume}
+use Rattle.sandbox_command.specs.Files.{AsksNothingAfter, Clashes, EndsAsListed, HasEnded, HasEndedOn, IsExecuted, IsExecutedOnFiles, IsNewInMemory, IsPerformed, NamesNoVolume}
 use Rattle.sandbox_command.specs.Testing.{HasTested}
 use Rattle.sandbox_command.specs.internal.Inspecting.{IsInspecting}
 
@@ -47,6 +47,11 @@ no_volume (asked.Volume name task) file names = names
 no_volume (asked.Import name path) file names = names
 no_volume (asked.Export name path) file names = names
 no_volume (asked.Inspect it) file names = file
+
+-- where its options clash, no list of tests is run
+pub no_list_of : (i : Invocation) (status : ℕ) → Clashes i → EndsAsListed i status
+no_list_of (asked.Run run) status clash = λ list is together. absurd (together clash)
+no_list_of i status clash = absurd clash
 
 -- and what isn't
 pub inspecting : (i : Invocation) (device : RamDevice) → IsInspecting i → IsNoRun i × NamesNoVolume i × IsNewInMemory i device

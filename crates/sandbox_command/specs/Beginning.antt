@@ -1,6 +1,8 @@
 -- What a run begins with: sectors in memory, or files that can't be read.
 use Rattle.std.specs.Prelude.{◌≡◌, ◌⊎◌, ◌≤◌, ℕ, List, Option, Some, None, length, replicate}
 use Rattle.std.specs.Borrow.{Bor}
+use Rattle.std.specs.declared.io.ErrorKind.{ErrorKind}
+use Rattle.std.specs.declared.io.ErrorKind.TheVariants as input
 use Rattle.vol_sector.specs.Disk.{Disk}
 use Rattle.sandbox_device.specs.declared.ram_device.RamDevice.{RamDevice}
 use Rattle.sandbox_device.specs.Ram.{held}
@@ -25,3 +27,8 @@ abbrev pub IsUnread : Run → (status : ℕ) → Option Summary → Type 0
 IsUnread run status summary =
     ((status ≡ 122) × (summary ≡ Some (not_run run reason.Memory became.None status)))
     ⊎ ((status ≡ 124) × (summary ≡ Some (not_run run reason.File became.None status)))
+
+-- the report of a run whose file is refused so
+abbrev pub unread : Run → ErrorKind → Summary
+unread run input.OutOfMemory = not_run run reason.Memory became.None 122
+unread run kind = not_run run reason.File became.None 124

@@ -1,5 +1,6 @@
 -- What is done on the files that a command line names (`README.md`, "The program"). No contract says what a file holds.
-use Rattle.std.specs.Prelude.{◌≡◌, ◌⊎◌, ◌≤◌, ℕ, List, Option, None, IsSome, IsSomeAnd, length, min, option_map}
+use Rattle.std.specs.Prelude.{◌≡◌, ◌⊎◌, ◌≤◌, ℕ, List, Option, Some, None, IsSome, IsSomeAnd, length, min, option_map}
+use Rattle.std.specs.Borrow.{Bor}
 use Rattle.std.specs.Io.KnownBytes.{Keeps}
 use Rattle.std.specs.declared.io.ErrorKind.{ErrorKind as InputKind}
 use Rattle.clap.specs.declared.error.kind.ErrorKind.{ErrorKind as LineKind}
@@ -21,7 +22,7 @@ use Rattle.sandbox_command.specs.declared.streams.Source.{Source}
 use Rattle.sandbox_command.specs.declared.streams.Sink.{Sink}
 use Rattle.sandbox_command.specs.Sources.{AreStreams, sink_contents, source_remaining}
 use Rattle.sandbox_command.specs.Status.{command_line_status, words_status}
-use Rattle.sandbox_command.specs.Testing.{HasTested}
+use Rattle.sandbox_command.specs.Testing.{HasTested, RunsListed}
 pub use Rattle.sandbox_command.specs.Beginning.{IsImage, IsUnread, memory_disk}
 
 -- what is known of the disk of a device in a file
@@ -38,6 +39,11 @@ abbrev pub Clashes : Invocation → Type 0
 Clashes (asked.Run run) = (IsSome run.image × IsSome run.volume) ⊎ ((IsSome run.volume_out × (run.image ≡ None)) ⊎ ((IsSome run.seed × IsSome run.random)
     ⊎ (IsSome run.tests × IsForOneRun run)))
 Clashes _ = ⊥
+
+-- A run that names a list of tests, whose options go together, ends as the list does, with a reason where the status isn't 0.
+abbrev pub EndsAsListed : Invocation → ℕ → Type 0
+EndsAsListed (asked.Run run) status = (list : Bor Text) → run.tests ≡ Some list → (Clashes (asked.Run run) → ⊥) → RunsListed run list.now status
+EndsAsListed _ status = Unit {0}
 
 -- a run whose volume is in memory, since it names no file for one; and inspecting a module, which has no use of one
 abbrev pub NamesNoVolume : Invocation → Type 0
@@ -129,4 +135,4 @@ module _ {R W1 W2 : Type 0} (remaining : R → Option (List ℕ)) (out_contents 
       ((kind : InputKind) × (status ≡ words_status kind))
       ⊎ (((kind : LineKind) × (status ≡ command_line_status kind))
       ⊎ ((words : List Text) × (invocation : Invocation) × IsSomeAnd (subcommand_of program words) (λ entered. AsksFor entered.0 entered.1 invocation)
-      × IsPerformed invocation input out err status))
+      × IsPerformed invocation input out err status × EndsAsListed invocation status))

@@ -1,24 +1,34 @@
 -- What is asked of the places where files stand, by name (`src/places.rt`), and what nothing but the host shows of a file.
-use Rattle.std.specs.Prelude.{◌≡◌, ◌++◌, List, [], ◌∷◌, Option, Some, None}
+use Rattle.std.specs.Prelude.{◌≡◌, ◌⊎◌, List, [], ◌∷◌, Option, Some, None}
 use Rattle.std.specs.Borrow.{Bor}
+use Rattle.std.specs.declared.io.ErrorKind.{ErrorKind}
 use Rattle.sandbox_device.specs.declared.ram_device.RamDevice.{RamDevice}
 use Rattle.sandbox_words.specs.declared.request.Run.{Run}
 use Rattle.sandbox_words.specs.Request.{Text}
 
--- A file of this name is opened to read; or made, or cut to nothing; or read whole and not written.
+-- A file of this name is opened to read; or made, or cut to nothing; or read whole and not written; or a report is printed into
+-- the one that was made.
 pub data Access : Type 0 where
   Opens : Text → Access
   Makes : Text → Access
   Reads : Text → Access
+  Prints : Text → Access
 
 -- Each of these took one state on to the next: the first from p, the last to q.
 abbrev pub Chain : {A P : Type 0} → (A → P → P → Type 0) → List A → P → P → Type 0
 Chain step [] p q = q ≡ p
 Chain step (a ∷ rest) p q = (m : _) × step a p m × Chain step rest m q
 
--- all of these, or the first of them
-abbrev pub ChainOfSome : {A P : Type 0} → (A → P → P → Type 0) → List A → P → P → Type 0
-ChainOfSome {A = A} step all p q = (taken : List A) × (rest : List A) × (all ≡ taken ++ rest) × Chain step taken p q
+-- One of these was refused: those before it were asked for, then it was, and none behind it.
+abbrev pub IsRefusedAmong : {P : Type 0} → (asks : Access → P → P → Type 0) → (refuses : Access → ErrorKind → P → P → Type 0) → List Access → ErrorKind → P → P → Type 0
+IsRefusedAmong asks refuses [] kind p q = ⊥
+IsRefusedAmong asks refuses (a ∷ rest) kind p q = (asks a p q × refuses a kind p q) ⊎ ((m : _) × asks a p m × IsRefusedAmong asks refuses rest kind m q)
+
+-- Each of these went well or failed, one after the other, and one at least failed.
+abbrev pub ChainWithFailure : {A P : Type 0} → (went failed : A → P → P → Type 0) → List A → P → P → Type 0
+ChainWithFailure went failed [] p q = ⊥
+ChainWithFailure went failed (a ∷ rest) p q =
+    (m : _) × ((failed a p m × Chain (λ b r s. went b r s ⊎ failed b r s) rest m q) ⊎ (went a p m × ChainWithFailure went failed rest m q))
 
 -- a file is read whole, where one is named
 abbrev pub reads_of : Option (Bor Text) → List Access
@@ -39,11 +49,26 @@ abbrev pub IsOfRandom : (Text → Text → Type 0) → Option (Bor Text) → Tex
 IsOfRandom is_beginning None bytes = bytes ≡ []
 IsOfRandom is_beginning (Some file) bytes = is_beginning file.now bytes
 
--- The system gave this for the name. No contract says what a file holds, so `gave` shows it of anything; but only the proofs
--- of `HostPlaces` cite that, and all others see a relation of which they know nothing.
+-- The system gave this for the name; or took this text into the file that it gave; or refused this, and why. No contract says
+-- what a file holds, nor what the system refuses, so `gave`, `took` and `was_refused` show it of anything; but only the proofs of
+-- `HostPlaces` cite these, and all others see relations of which they know nothing.
 pub Gave : {X : Type 0} → Text → X → Type 0
 Gave name x = Unit {0}
 
 pub gave : {X : Type 0} (name : Text) (x : X) → Gave name x
 unfolding Gave
 gave name x = tt
+
+pub Took : Text → Text → Type 0
+Took name text = Unit {0}
+
+pub took : (name text : Text) → Took name text
+unfolding Took
+took name text = tt
+
+pub WasRefused : Access → ErrorKind → Type 0
+WasRefused access kind = Unit {0}
+
+pub was_refused : (access : Access) (kind : ErrorKind) → WasRefused access kind
+unfolding WasRefused
+was_refused access kind = tt

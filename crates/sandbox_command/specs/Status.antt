@@ -47,6 +47,11 @@ abbrev pub volume_status : VolumeFault → ℕ
 volume_status volume.Memory = 122
 volume_status f = 124
 
+-- where a file can't be opened, made, read or written
+abbrev pub file_status : InputKind → ℕ
+file_status input.OutOfMemory = 122
+file_status k = 124
+
 -- where the words of the command line can't be read
 abbrev pub words_status : InputKind → ℕ
 words_status input.OutOfMemory = 122

@@ -1,6 +1,7 @@
 //! Commands on the files that they name.
 
 ghost use Rattle.std.specs.Prelude.{◌≡◌, ◌⊎◌, ◌↔◌, ◌≤◌, [], IsTrue};
+ghost use Rattle.std.specs.IoError.{error_kind};
 ghost use Rattle.std.specs.Process.{exit_status};
 ghost use Rattle.sandbox_command.specs.declared.program.Executed.{Executed};
 ghost use Rattle.sandbox_command.specs.Execution.{Executes};
@@ -9,7 +10,8 @@ ghost use Rattle.sandbox_command.specs.declared.streams.Source.TheVariants as so
 ghost use Rattle.sandbox_command.specs.declared.streams.Sink.{Sink as SinkValue};
 ghost use Rattle.sandbox_command.specs.declared.streams.Sink.TheVariants as sink;
 ghost use Rattle.sandbox_command.specs.Sources.{sink_contents, source_remaining};
-ghost use Rattle.sandbox_command.specs.Files.{Clashes, IsAnswered, IsForOneRun, IsPerformed};
+ghost use Rattle.sandbox_command.specs.Status.{file_status};
+ghost use Rattle.sandbox_command.specs.Files.{Clashes, EndsAsListed, IsAnswered, IsForOneRun, IsPerformed};
 ghost use Rattle.sandbox_command.specs.internal.Inspecting.{IsInspecting};
 
 use crate::program;
@@ -89,6 +91,7 @@ pub fn perform<R: Read + Drop, W1: Write + Drop, W2: Write + Drop>(
 ) -> u8
     ensures tells { IsPerformed R.remaining W1.contents W2.contents
         invocation.now input out err result }
+    ensures lists { EndsAsListed invocation.now result }
     ensures refuses { Clashes invocation.now → result ≡ 124 }
     ensures within { result ≤ 124 }
 {
@@ -174,7 +177,8 @@ fn inspect_file<R: Read + Drop, W1: Write + Drop, W2: Write + Drop>(
 
 /// Refuses a file that can't be read or written.
 pub(crate) fn refuse<W: Write + Drop>(error: &io::Error, mut err: W) -> u8
-    ensures { (result ≡ 122) ⊎ (result ≡ 124) }
+    ensures either { (result ≡ 122) ⊎ (result ≡ 124) }
+    ensures of_kind { result ≡ file_status (error_kind error.now) }
 {
     if error.kind() == ErrorKind::OutOfMemory {
         return program::out_of_memory(&mut err);

@@ -1,19 +1,25 @@
 //! Runs on the files that they name.
 
-ghost use Rattle.std.specs.Prelude.{◌≡◌, ◌⊎◌, ◌↔◌, ◌≤◌, ℕ, Option, IfOk, Some, None, option_map};
+ghost use Rattle.std.specs.Prelude.{◌≡◌, ◌⊎◌, ◌↔◌, ◌≤◌, ℕ, Option, IfErr, IfOk, MatchResult, Some, None, option_map};
+ghost use Rattle.std.specs.Borrow.{Bor};
 ghost use Rattle.std.specs.Io.KnownBytes.{Keeps};
+ghost use Rattle.std.specs.IoError.{error_kind};
+ghost use Rattle.std.specs.declared.io.ErrorKind.TheVariants as failing;
 ghost use Rattle.run_report.specs.declared.fault.Fault.TheVariants as reason;
 ghost use Rattle.run_report.specs.declared.summary.Kept.TheVariants as kept;
 ghost use Rattle.run_report.specs.declared.summary.Summary.{Summary as SummaryValue};
+ghost use Rattle.sandbox_words.specs.Request.{Text};
 ghost use Rattle.sandbox_words.specs.declared.request.Invocation.TheVariants as asked;
 ghost use Rattle.sandbox_command.specs.declared.program.Executed.{Executed as ExecutedValue};
 ghost use Rattle.sandbox_command.specs.declared.streams.Source.{Source as SourceValue};
 ghost use Rattle.sandbox_command.specs.declared.streams.Sink.{Sink as SinkValue};
 ghost use Rattle.sandbox_command.specs.Execution.{Runs};
-ghost use Rattle.sandbox_command.specs.Places.{Chain, ChainOfSome, IsOfImage, IsOfRandom, file_accesses, reads_of};
+ghost use Rattle.sandbox_command.specs.Beginning.{unread};
+ghost use Rattle.sandbox_command.specs.Places.{Chain, IsOfImage, IsOfRandom, IsRefusedAmong, file_accesses, reads_of};
 ghost use Rattle.sandbox_command.specs.Reporting.{IsTold, not_run};
 ghost use Rattle.sandbox_command.specs.Sources.{IsSink, IsSource, sink_contents, source_remaining};
 ghost use Rattle.sandbox_command.specs.Files.{HasEnded, HasEndedOn, IsHandedOut, IsImage, IsPerformed, IsUnread, lost};
+ghost use Rattle.sandbox_command.specs.Testing.{RunsListed};
 ghost use Rattle.sandbox_command.specs.internal.Redirected.{AreRedirected};
 
 use crate::files::refuse;
@@ -76,6 +82,7 @@ pub(crate) fn perform_run<R: Read + Drop, W1: Write + Drop, W2: Write + Drop>(
     requires { invocation.now ≡ asked.Run run.now }
     ensures tells { IsPerformed R.remaining W1.contents W2.contents
         invocation.now input out err result }
+    ensures lists { (list : Bor Text) → run.now.tests ≡ Some list → RunsListed run.now list.now result }
     ensures within { result ≤ 124 }
 {
     if let Some(list) = run.tests {
@@ -311,6 +318,9 @@ pub(crate) fn memory_of<P: Places>(
     ensures sectors { IfOk result (λ device. IsImage run.now.image device.sectors) }
     ensures image { IfOk result (λ device. IsOfImage P.is_image run.now.image device) }
     ensures asked { Chain P.asked (reads_of run.now.image) places.old places.new }
+    ensures refused { IfErr result
+        (λ error. IsRefusedAmong P.asked P.refused (reads_of run.now.image) (error_kind error) places.old places.new
+        ⊎ ((run.now.image ≡ None) × (error_kind error ≡ failing.OutOfMemory))) }
 {
     match run.image {
         Some(file) => places.image(file),
@@ -329,7 +339,8 @@ fn lines_of<R: Drop, W1: Drop, W2: Drop>(streams: Streams<R, W1, W2>) -> Sink<W2
 
 /// What the report says of a run one of whose files can't be read or made.
 pub(crate) fn unread(run: &Run<'_>, error: &io::Error) -> Summary
-    ensures { IsUnread run.now result.status (Some result) }
+    ensures unread { IsUnread run.now result.status (Some result) }
+    ensures of_kind { result ≡ unread run.now (error_kind error.now) }
 {
     if error.kind() == ErrorKind::OutOfMemory {
         return not_run(run, Fault::Memory, Kept::None, program::OUT_OF_MEMORY);
@@ -471,10 +482,11 @@ pub(crate) fn read_files<P: Places>(
     places: &mut P,
     run: &Run<'_>,
 ) -> io::Result<(Vec<u8>, Vec<u8>)>
-    ensures read { IfOk result (λ it. Chain P.asked (file_accesses run.now) places.old places.new
+    ensures { MatchResult result
+        (λ it. Chain P.asked (file_accesses run.now) places.old places.new
         × P.is_beginning run.now.«module».now 67108865 it.0.items
-        × IsOfRandom (λ name. P.is_beginning name 67108864) run.now.random it.1.items) }
-    ensures asked { ChainOfSome P.asked (file_accesses run.now) places.old places.new }
+        × IsOfRandom (λ name. P.is_beginning name 67108864) run.now.random it.1.items)
+        (λ error. IsRefusedAmong P.asked P.refused (file_accesses run.now) (error_kind error) places.old places.new) }
 {
     let module = places.bytes(run.module, MODULE_READ)?;
     let random = random_of(alloc, places, run)?;
@@ -485,6 +497,8 @@ pub(crate) fn read_files<P: Places>(
 fn random_of<P: Places>(alloc: Global, places: &mut P, run: &Run<'_>) -> io::Result<Vec<u8>>
     ensures read { IfOk result (λ it. IsOfRandom (λ name. P.is_beginning name 67108864) run.now.random it.items) }
     ensures asked { Chain P.asked (reads_of run.now.random) places.old places.new }
+    ensures refused { IfErr result (λ error. IsRefusedAmong P.asked P.refused (reads_of run.now.random) (error_kind error)
+        places.old places.new) }
 {
     match run.random {
         Some(file) => places.bytes(file, RANDOM_READ),

@@ -1,12 +1,13 @@
 //! A module that is run on a list of tests.
 
-ghost use Rattle.std.specs.Prelude.{◌≡◌, ◌⊎◌, ◌++◌, ◌∷◌, IfOk, IfSome, IsTrue, Some, string_bytes};
-ghost use Rattle.sandbox_words.specs.declared.request.Invocation.TheVariants as asked;
-ghost use Rattle.sandbox_command.specs.Places.{Chain, ChainOfSome};
+ghost use Rattle.std.specs.Prelude.{◌≡◌, ◌⊎◌, ◌↔◌, ◌++◌, ◌∷◌, IfErr, IfOk, IsTrue, MatchOption, MatchResult, string_bytes};
+ghost use Rattle.std.specs.IoError.{error_kind};
+ghost use Rattle.sandbox_core.specs.declared.fault.SessionFault.TheVariants as opening;
+ghost use Rattle.sandbox_command.specs.Places.{IsRefusedAmong, Prints};
 ghost use Rattle.sandbox_command.specs.Status.{session_status};
-ghost use Rattle.sandbox_command.specs.Testing.{AreRead, HasRun, HasTested, IsTest, IsTestedOrUnread, IsWord, Lists, RunsList, RunsTests, line_of, list_accesses, stream_accesses, test_accesses};
+ghost use Rattle.sandbox_command.specs.Testing.{AreRead, HasFailed, HasNoTest, HasRun, IsNoTest, IsTest, IsTestedOrUnread, IsWord, LacksFiles, Lists, RunsList, RunsListed, RunsTests, line_of, list_accesses};
 ghost use Rattle.sandbox_command.specs.internal.Supplies.{AreSupplies};
-ghost use Rattle.sandbox_command.specs.internal.Tests.{IsPrepared, IsToldOfGuest};
+ghost use Rattle.sandbox_command.specs.internal.Tests.{AllEndAs, BeginsWithNoWord, IsPrepared, IsToldAs, OneEndsAs};
 
 use crate::files::refuse;
 use crate::output::tell_fault;
@@ -43,14 +44,15 @@ struct Prepared<R, W> {
 
 /// Whether a word is one.
 fn is_word(word: &str) -> bool
-    ensures { IsTrue result → IsWord word.now }
+    ensures { IsTrue result ↔ IsWord word.now }
 {
     !word.is_empty() && word.as_bytes().iter().all(|byte| *byte != b' ')
 }
 
 /// The first word of a text, and what stands behind the blank after it.
 fn word_and_rest(text: &str) -> Option<(&str, &str)>
-    ensures { IfSome result (λ it. (text.now ≡ it.0.now ++ (32 ∷ it.1.now)) × IsWord it.0.now) }
+    ensures { MatchOption result (BeginsWithNoWord text.now)
+        (λ it. (text.now ≡ it.0.now ++ (32 ∷ it.1.now)) × IsWord it.0.now) }
 {
     let (word, rest) = text.split_once(' ')?;
     if is_word(word) {
@@ -62,7 +64,7 @@ fn word_and_rest(text: &str) -> Option<(&str, &str)>
 
 /// The test of a line, which is four words with one blank between them.
 fn test_of(line: &str) -> Option<Test<'_>>
-    ensures { IfSome result (λ test. (line_of test ≡ line.now) × IsTest test) }
+    ensures { MatchOption result (IsNoTest line.now) (λ test. (line_of test ≡ line.now) × IsTest test) }
 {
     let (input, rest) = word_and_rest(line)?;
     let (output, rest) = word_and_rest(rest)?;
@@ -80,7 +82,9 @@ fn test_of(line: &str) -> Option<Test<'_>>
 
 /// The tests of a list. A line that is none is refused as `Setting`.
 fn tests_of(alloc: Global, list: &str) -> Result<Vec<Test<'_>>, SessionFault>
-    ensures { IfOk result (λ tests. Lists list.now tests.items) }
+    ensures tests { IfOk result (λ tests. Lists list.now tests.items) }
+    ensures refused { IfErr result
+        (λ fault. ((fault ≡ opening.Setting) × HasNoTest list.now) ⊎ (fault ≡ opening.Memory)) }
 {
     let mut tests = Vec::new(alloc);
     for line in list.lines() {
@@ -101,9 +105,9 @@ fn prepare<P: Places>(
     run: &Run<'_>,
     test: Test<'_>,
 ) -> io::Result<Prepared<P::Input, P::Output>>
-    ensures prepared { IfOk result (λ prepared. IsPrepared P.asked P.is_input P.is_output P.is_image
-        run.now test.entry places.old places.new prepared) }
-    ensures asked { ChainOfSome P.asked (stream_accesses run.now test.entry) places.old places.new }
+    ensures { MatchResult result
+        (λ prepared. IsPrepared P.asked P.is_input P.is_output P.is_image run.now test.entry places.old places.new prepared)
+        (λ error. LacksFiles P.asked P.refused run.now test.entry (error_kind error) places.old places.new) }
 {
     Ok(Prepared {
         input: places.open(test.input)?,
@@ -125,9 +129,8 @@ fn tested<'m, P: Places>(
 ) -> (Valid<'m>, Option<Summary>)
     requires { AreSupplies run.now supplies.now }
     ensures module { result.0 ≡ valid.entry }
-    ensures tested { IsTestedOrUnread P.Input.remaining P.Output.contents P.asked P.is_input P.is_output P.is_image
-        run.now valid.entry random.now test.entry places.old places.new result.1 }
-    ensures asked { ChainOfSome P.asked (stream_accesses run.now test.entry) places.old places.new }
+    ensures tested { IsTestedOrUnread P.Input.remaining P.Output.contents P.asked P.refused P.is_input P.is_output P.is_image
+        P.printed run.now valid.entry random.now test.entry places.old places.new result.1 }
 {
     match prepare(alloc, places, run, test) {
         Ok(prepared) => {
@@ -146,14 +149,19 @@ fn tested<'m, P: Places>(
     }
 }
 
-/// Prints what a report says: whether that could be done, and a guest ran.
-fn is_told_of_guest<W: Write>(report: &mut W, said: Option<Summary>) -> bool
-    ensures { IsTrue result → IsToldOfGuest said (W.contents report.old) (W.contents report.new) }
+/// Prints the report of a test into its file: whether that could be done, and a guest ran.
+fn is_told_of_guest<P: Places>(
+    places: &mut P,
+    name: &str,
+    report: &mut P::Output,
+    summary: &Summary,
+) -> bool
+    requires { P.is_output name.now report.old }
+    ensures asked { P.asked (Prints name.now) places.old places.new }
+    ensures told { IsToldAs P.refused P.printed result name.now summary.now places.old places.new
+        (P.Output.contents report.old) (P.Output.contents report.new) }
 {
-    let Some(summary) = said else {
-        return false;
-    };
-    let is_printed = run_report::print(report, &summary).is_ok();
+    let is_printed = places.print(name, report, summary).is_ok();
     match summary.end {
         End::Ran(_) => is_printed,
         End::Refused(_) => false,
@@ -173,15 +181,22 @@ fn run_test<'m, P: Places>(
 ) -> (Valid<'m>, bool)
     requires { AreSupplies run.now supplies.now }
     ensures module { result.0 ≡ valid.entry }
-    ensures ran { IsTrue result.1 → HasRun P.Input.remaining P.Output.contents P.asked P.is_input P.is_output P.is_image
-        run.now valid.entry random.now test.entry places.old places.new }
-    ensures asked { ChainOfSome P.asked (test_accesses run.now test.entry) places.old places.new }
+    ensures ends { OneEndsAs
+        (HasRun P.Input.remaining P.Output.contents P.asked P.refused P.is_input P.is_output P.is_image P.printed
+        run.now valid.entry random.now)
+        (HasFailed P.Input.remaining P.Output.contents P.asked P.refused P.is_input P.is_output P.is_image P.printed
+        run.now valid.entry random.now)
+        result.1 test.entry places.old places.new }
 {
     let Ok(mut report) = places.make(test.report) else {
         return (valid, false);
     };
     let (valid, said) = tested(alloc, places, run, valid, supplies, random, test);
-    (valid, is_told_of_guest(&mut report, said))
+    let Some(summary) = said else {
+        return (valid, false);
+    };
+    let has_run = is_told_of_guest(places, test.report, &mut report, &summary);
+    (valid, has_run)
 }
 
 /// Runs the module on each of these tests, whatever became of those before it: whether a guest ran in each, and its report
@@ -196,9 +211,12 @@ fn run_all<'m, P: Places>(
     tests: &[Test<'_>],
 ) -> bool
     requires { AreSupplies run.now supplies.now }
-    ensures ran { IsTrue result → Chain (HasRun P.Input.remaining P.Output.contents P.asked P.is_input P.is_output P.is_image
-        run.now valid.entry random.now) tests.now places.old places.new }
-    ensures tried { Chain (λ test. ChainOfSome P.asked (test_accesses run.now test)) tests.now places.old places.new }
+    ensures { AllEndAs
+        (HasRun P.Input.remaining P.Output.contents P.asked P.refused P.is_input P.is_output P.is_image P.printed
+        run.now valid.entry random.now)
+        (HasFailed P.Input.remaining P.Output.contents P.asked P.refused P.is_input P.is_output P.is_image P.printed
+        run.now valid.entry random.now)
+        result tests.now places.old places.new }
 {
     let mut valid = valid;
     let mut have_run = true;
@@ -229,7 +247,7 @@ fn run_tests<P: Places, W: Write>(
     tests: &[Test<'_>],
     err: &mut W,
 ) -> u8
-    ensures { RunsTests P.Input.remaining P.Output.contents P.asked P.is_input P.is_output P.is_image
+    ensures { RunsTests P.Input.remaining P.Output.contents P.asked P.refused P.is_input P.is_output P.is_image P.printed
         run.now «module».now random.now tests.now places.old places.new result }
 {
     let supplies = match supplied(alloc, run) {
@@ -257,9 +275,11 @@ fn list_and_files<P: Places>(
     run: &Run<'_>,
     list: &str,
 ) -> io::Result<(String, Vec<u8>, Vec<u8>)>
-    ensures read { IfOk result (λ it. AreRead P.asked P.is_text P.is_beginning run.now list.now places.old places.new
-        (string_bytes it.0) it.1.items it.2.items) }
-    ensures asked { ChainOfSome P.asked (list_accesses run.now list.now) places.old places.new }
+    ensures { MatchResult result
+        (λ it. AreRead P.asked P.is_text P.is_beginning run.now list.now places.old places.new
+        (string_bytes it.0) it.1.items it.2.items)
+        (λ error. IsRefusedAmong P.asked P.refused (list_accesses run.now list.now) (error_kind error)
+        places.old places.new) }
 {
     let text = places.text(list)?;
     let (module, random) = read_files(alloc, places, run)?;
@@ -275,8 +295,8 @@ pub fn run_list<P: Places, W: Write + Drop>(
     list: &str,
     mut err: W,
 ) -> u8
-    ensures { RunsList P.Input.remaining P.Output.contents P.asked P.is_input P.is_output P.is_image P.is_text P.is_beginning
-        run.now list.now places.old places.new result }
+    ensures { RunsList P.Input.remaining P.Output.contents P.asked P.refused P.is_input P.is_output P.is_image P.printed
+        P.is_text P.is_beginning run.now list.now places.old places.new result }
 {
     let (text, module, random) = match list_and_files(alloc, places, run, list) {
         Ok(files) => files,
@@ -303,8 +323,7 @@ pub(crate) fn perform_tests<W: Write + Drop>(
     list: &str,
     err: W,
 ) -> u8
-    requires { run.now.tests ≡ Some list }
-    ensures { (result ≡ 122) ⊎ ((result ≡ 124) ⊎ ((result ≡ 0) × HasTested (asked.Run run.now))) }
+    ensures { RunsListed run.now list.now result }
 {
     run_list(rt.alloc(), &mut HostPlaces::new(rt), run, list, err)
 }

@@ -1,8 +1,10 @@
--- The parts of a test.
-use Rattle.std.specs.Prelude.{◌≡◌, ℕ, List, Option, Some}
+-- The parts of a list and of a test.
+use Rattle.std.specs.Prelude.{◌≡◌, ◌⊎◌, ◌++◌, ℕ, List, ◌∷◌, Bool, true, false, Option}
 use Rattle.std.specs.Io.KnownBytes.{Appends}
+use Rattle.std.specs.declared.io.ErrorKind.{ErrorKind}
 use Rattle.wasm_steps.specs.declared.pause.Outcome.{Outcome}
-use Rattle.run_report.specs.declared.end.End.TheVariants.{Ran}
+use Rattle.run_report.specs.declared.end.End.TheVariants.{Ran, Refused}
+use Rattle.run_report.specs.declared.fault.Fault.{Fault}
 use Rattle.run_report.specs.declared.summary.Summary.{Summary}
 use Rattle.run_report.specs.Reporting.{report_text}
 use Rattle.sandbox_device.specs.declared.ram_device.RamDevice.{RamDevice}
@@ -11,8 +13,12 @@ use Rattle.sandbox_words.specs.Request.{Text}
 use Rattle.sandbox_command.specs.declared.testing.Prepared.{Prepared}
 use Rattle.sandbox_command.specs.declared.testing.Test.{Test}
 use Rattle.sandbox_command.specs.Beginning.{IsImage}
-use Rattle.sandbox_command.specs.Places.{Access, Chain, IsOfImage}
-use Rattle.sandbox_command.specs.Testing.{stream_accesses}
+use Rattle.sandbox_command.specs.Places.{Access, Chain, ChainWithFailure, IsOfImage, Prints}
+use Rattle.sandbox_command.specs.Testing.{IsWord, stream_accesses}
+
+-- no word stands at its beginning, with a blank behind it
+abbrev pub BeginsWithNoWord : Text → Type 0
+BeginsWithNoWord text = (word rest : Text) → text ≡ word ++ (32 ∷ rest) → IsWord word → ⊥
 
 -- the files of a test, which were asked for in turn
 pub record IsPrepared {P R W : Type 0} (asks : Access → P → P → Type 0) (is_input : Text → R → Type 0) (is_output : Text → W → Type 0)
@@ -24,7 +30,19 @@ pub record IsPrepared {P R W : Type 0} (asks : Access → P → P → Type 0) (i
   pub new : IsImage run.image prepared.device.sectors
   pub of_image : IsOfImage is_image run.image prepared.device
 
--- a report has been printed of a guest that ran
-abbrev pub IsToldOfGuest : Option Summary → (before after : Option (List ℕ)) → Type 0
-IsToldOfGuest said before after =
-    (summary : Summary) × (said ≡ Some summary) × ((outcome : Outcome) × (summary.end ≡ Ran outcome)) × Appends before after (report_text summary)
+-- A report was printed, and tells of a guest that ran; or it couldn't be printed, or tells of none.
+abbrev pub IsToldAs : {P : Type 0} → (refuses : Access → ErrorKind → P → P → Type 0) → (prints : Text → Text → P → P → Type 0) → Bool → Text → Summary → (p q : P) → (before after : Option (List ℕ)) → Type 0
+IsToldAs refuses prints true name summary p q before after =
+    ((outcome : Outcome) × (summary.end ≡ Ran outcome)) × prints name (report_text summary) p q × Appends before after (report_text summary)
+IsToldAs refuses prints false name summary p q before after = ((kind : ErrorKind) × refuses (Prints name) kind p q)
+    ⊎ ((fault : Fault) × (summary.end ≡ Refused fault) × prints name (report_text summary) p q)
+
+-- this one went well, or failed
+abbrev pub OneEndsAs : {A P : Type 0} → (went failed : A → P → P → Type 0) → Bool → A → P → P → Type 0
+OneEndsAs went failed true a p q = went a p q
+OneEndsAs went failed false a p q = failed a p q
+
+-- and all of these did, or one at least failed
+abbrev pub AllEndAs : {A P : Type 0} → (went failed : A → P → P → Type 0) → Bool → List A → P → P → Type 0
+AllEndAs went failed true all p q = Chain went all p q
+AllEndAs went failed false all p q = ChainWithFailure went failed all p q

@@ -4,9 +4,9 @@ use Rattle.sandbox_device.specs.File.{KeepsItsModel}
 use Rattle.sandbox_words.specs.declared.request.Invocation.{Invocation}
 use Rattle.sandbox_command.specs.declared.streams.Source.TheVariants as source
 use Rattle.sandbox_command.specs.declared.streams.Sink.TheVariants as sink
-use Rattle.sandbox_command.specs.Files.{IsNewInFile, file_disk}
+use Rattle.sandbox_command.specs.Files.{EndsAsListed, IsNewInFile, file_disk}
 use Rattle.sandbox_command.specs.Sources.{sink_contents, source_remaining}
-use Rattle.sandbox_command.proofs.Performing.{IsInFile, no_run, no_volume, so_too, streams_given}
+use Rattle.sandbox_command.proofs.Performing.{IsInFile, no_list_of, no_run, no_volume, so_too, streams_given}
 use Rattle.sandbox_command.proofs.files.perform.Goals as goal
 use Rattle.sandbox_command.proofs.files.perform.Goals.{in-Format, in-Volume, in-Import, in-Export}
 
@@ -63,3 +63,31 @@ returns-in-Ok-clause-tells g c =
         ),
       ),
     )))
+
+-- ---- a list of tests
+
+pub returns-then-clashes-clause-lists : goal.returns-then-clashes-clause-lists
+returns-then-clashes-clause-lists g c = no_list_of c.args.invocation.now c.refuse_setting.result (c.clashes.ensures.0 c.if-clashes.true)
+
+pub returns-in-Run-clause-lists : goal.returns-in-Run-clause-lists
+returns-in-Run-clause-lists g c =
+    subst (λ (i : Invocation). EndsAsListed i c.perform_run.result) (sym c.in-Run.is) (λ list is together. c.perform_run.ensures.lists list is)
+
+pub returns-in-Inspect-clause-lists : goal.returns-in-Inspect-clause-lists
+returns-in-Inspect-clause-lists g c = subst (λ (i : Invocation). EndsAsListed i c.inspect_file.result) (sym c.in-Inspect.is) tt
+
+pub returns-in-Ok-clause-lists : goal.returns-in-Ok-clause-lists
+returns-in-Ok-clause-lists g c = elim c.match-invocation.branch [
+  | in-Format w ↦ subst (λ (i : Invocation). EndsAsListed i c.status_on.result) (sym w.in-Format.is) tt
+  | in-Volume w ↦ subst (λ (i : Invocation). EndsAsListed i c.status_on.result) (sym w.in-Volume.is) tt
+  | in-Import w ↦ subst (λ (i : Invocation). EndsAsListed i c.status_on.result) (sym w.in-Import.is) tt
+  | in-Export w ↦ subst (λ (i : Invocation). EndsAsListed i c.status_on.result) (sym w.in-Export.is) tt
+]
+
+pub returns-in-Err-clause-lists : goal.returns-in-Err-clause-lists
+returns-in-Err-clause-lists g c = elim c.match-invocation.branch [
+  | in-Format w ↦ subst (λ (i : Invocation). EndsAsListed i c.refuse.result) (sym w.in-Format.is) tt
+  | in-Volume w ↦ subst (λ (i : Invocation). EndsAsListed i c.refuse.result) (sym w.in-Volume.is) tt
+  | in-Import w ↦ subst (λ (i : Invocation). EndsAsListed i c.refuse.result) (sym w.in-Import.is) tt
+  | in-Export w ↦ subst (λ (i : Invocation). EndsAsListed i c.refuse.result) (sym w.in-Export.is) tt
+]

@@ -1,12 +1,44 @@
-use Rattle.std.proofs.Common.{◌≡◌, Result, Ok, Err, OnOk, true, is_ok, sym, ◌∙◌, true≢false}
+use Rattle.std.proofs.Common.{◌≡◌, ℕ, List, Option, Bool, false, Result, Ok, Err, IfErr, OnOk, is_ok, inl, inr, sym, subst}
+use Rattle.std.specs.IoError.{error_kind}
+use Rattle.std.specs.Io.KnownBytes.{Appends}
+use Rattle.std.specs.declared.io.Error.{Error}
+use Rattle.std.specs.declared.io.ErrorKind.{ErrorKind}
+use Rattle.wasm_steps.specs.declared.pause.Outcome.{Outcome}
+use Rattle.run_report.specs.declared.end.End.TheVariants.{Ran, Refused}
+use Rattle.run_report.specs.declared.fault.Fault.{Fault}
+use Rattle.run_report.specs.declared.summary.Summary.{Summary}
+use Rattle.run_report.specs.Reporting.{report_text}
+use Rattle.sandbox_words.specs.Request.{Text}
+use Rattle.sandbox_command.specs.Places.{Access, Prints}
+use Rattle.sandbox_command.specs.internal.Tests.{IsToldAs}
 use Rattle.sandbox_command.proofs.testing.is_told_of_guest.Goals as goal
 
--- what holds where that went well
-of_ok : {X E P : Type 0} (r : Result X E) → OnOk r P → is_ok r ≡ true → P
-of_ok (Ok x) holds is = holds
-of_ok (Err e) holds is = absurd (true≢false (sym is))
+module _ {P : Type 0} (refuses : Access → ErrorKind → P → P → Type 0) (prints : Text → Text → P → P → Type 0) (name : Text) (summary : Summary) (p q : P) (before after : Option (List ℕ))
+    (r : Result (Unit {0}) Error) (refused : IfErr r (λ e. refuses (Prints name) (error_kind e) p q)) (printed : OnOk r (prints name (report_text summary) p q)) (tells : OnOk r (Appends before after (report_text summary))) where
+  told_of_guest : (is_printed : Bool) (outcome : Outcome) → is_printed ≡ is_ok r → summary.end ≡ Ran outcome → IsToldAs refuses prints is_printed name summary p q before after
+  told_of_guest is_printed outcome same ran = subst (λ (b : Bool). IsToldAs refuses prints b name summary p q before after) (sym same) (by r refused printed tells)
+    where
+      by : (s : Result (Unit {0}) Error) → IfErr s (λ e. refuses (Prints name) (error_kind e) p q) → OnOk s (prints name (report_text summary) p q) → OnOk s (Appends before after (report_text summary)) → IsToldAs refuses prints (is_ok s) name summary p q before after
+      by (Ok x) refused printed tells = ((outcome, ran), printed, tells)
+      by (Err e) refused printed tells = inl (error_kind e, refused)
 
--- a guest ran
+  told_of_none : (fault : Fault) → summary.end ≡ Refused fault → IsToldAs refuses prints false name summary p q before after
+  told_of_none fault is = by r refused printed
+    where
+      by : (s : Result (Unit {0}) Error) → IfErr s (λ e. refuses (Prints name) (error_kind e) p q) → OnOk s (prints name (report_text summary) p q) → IsToldAs refuses prints false name summary p q before after
+      by (Ok x) refused printed = inr (fault, is, printed)
+      by (Err e) refused printed = inl (error_kind e, refused)
+
 pub returns-in-Ran : goal.returns-in-Ran
-returns-in-Ran g c = λ is.
-    (c.in-Some.summary, c.in-Some.is, (c.in-Ran.field-0, c.in-Ran.is), of_ok c.print.result c.print.ensures (sym c.is_ok-is_printed.ensures.value ∙ is))
+returns-in-Ran g c = record {
+  asked = c.print.ensures.asked;
+  told = told_of_guest g.P.Places.refused g.P.Places.printed c.args.name.now c.args.summary.now _ _ _ _ c.print.result c.print.ensures.refused c.print.ensures.printed c.print.ensures.tells
+      c.is_ok-is_printed.result c.in-Ran.field-0 c.is_ok-is_printed.ensures.value c.in-Ran.is;
+}
+
+pub returns-in-Refused : goal.returns-in-Refused
+returns-in-Refused g c = record {
+  asked = c.print.ensures.asked;
+  told = told_of_none g.P.Places.refused g.P.Places.printed c.args.name.now c.args.summary.now _ _ _ _ c.print.result c.print.ensures.refused c.print.ensures.printed c.print.ensures.tells
+      c.in-Refused.field-0 c.in-Refused.is;
+}

@@ -1,23 +1,18 @@
-use Rattle.std.proofs.Common.{[], ◌∷◌, refl}
-use Rattle.sandbox_command.specs.Places.{Reads, file_accesses}
-use Rattle.sandbox_command.specs.Testing.{list_accesses}
-use Rattle.sandbox_command.proofs.Chains.{after_one, all_of}
+use Rattle.std.proofs.Common.{inl, inr}
+use Rattle.sandbox_command.proofs.Chains.{passed}
 use Rattle.sandbox_command.proofs.testing.list_and_files.Goals as goal
 
-pub returns-in_err-text-clause-asked : goal.returns-in_err-text-clause-asked
-returns-in_err-text-clause-asked g c = (Reads c.args.list.now ∷ [], file_accesses c.args.run.now, refl, (_, c.text.ensures.asked, refl))
+pub returns-in_err-text : goal.returns-in_err-text
+returns-in_err-text g c = passed _ _ c.from_residual.result c.in_err-text.field-0.0 c.from_residual.ensures.1 (inl (c.text.ensures.asked, c.in_err-text.ensures.refused))
 
-pub returns-in_err-module-clause-asked : goal.returns-in_err-module-clause-asked
-returns-in_err-module-clause-asked g c =
-    after_one g.P.Places.asked (Reads c.args.list.now) (file_accesses c.args.run.now) _ _ _ c.text.ensures.asked c.read_files.ensures.asked
+pub returns-in_err-module : goal.returns-in_err-module
+returns-in_err-module g c = passed _ _ c.from_residual-in_err-module.result c.in_err-module.field-0.0 c.from_residual-in_err-module.ensures.1
+    (inr (_, c.text.ensures.asked, c.in_err-module.ensures))
 
 pub returns : goal.returns
 returns g c = record {
-  read = record {
-    asked_for = (_, c.text.ensures.asked, c.in_ok-module.ensures.read.0);
-    is_its_text = c.in_ok-text.ensures.text;
-    is_its_module = c.in_ok-module.ensures.read.1;
-    is_its_random = c.in_ok-module.ensures.read.2;
-  };
-  asked = all_of g.P.Places.asked (list_accesses c.args.run.now c.args.list.now) _ _ (_, c.text.ensures.asked, c.in_ok-module.ensures.read.0);
+  asked_for = (_, c.text.ensures.asked, c.in_ok-module.ensures.0);
+  is_its_text = c.in_ok-text.ensures.text;
+  is_its_module = c.in_ok-module.ensures.1;
+  is_its_random = c.in_ok-module.ensures.2;
 }

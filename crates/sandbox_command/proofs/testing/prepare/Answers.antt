@@ -1,33 +1,35 @@
-use Rattle.std.proofs.Common.{[], ◌∷◌, refl}
-use Rattle.sandbox_command.specs.Places.{Opens, Makes}
-use Rattle.sandbox_command.specs.Testing.{stream_accesses}
-use Rattle.sandbox_command.proofs.Chains.{all_of}
+use Rattle.std.proofs.Common.{◌≡◌, ◌⊎◌, ℕ, inl, inr}
+use Rattle.std.specs.declared.io.ErrorKind.{ErrorKind}
+use Rattle.sandbox_words.specs.declared.request.Run.{Run}
+use Rattle.sandbox_command.specs.declared.testing.Test.{Test}
+use Rattle.sandbox_command.proofs.Chains.{passed}
 use Rattle.sandbox_command.proofs.testing.prepare.Goals as goal
 
-pub returns-in_err-open-clause-asked : goal.returns-in_err-open-clause-asked
-returns-in_err-open-clause-asked g c = (Opens c.args.test.input.now ∷ [], _, refl, (_, c.open.ensures.asked, refl))
+pub returns-in_err-open : goal.returns-in_err-open
+returns-in_err-open g c = passed _ _ c.from_residual.result c.in_err-open.field-0.0 c.from_residual.ensures.1 (inl (inl (c.open.ensures.asked, c.in_err-open.ensures.refused)))
 
-pub returns-in_err-make-clause-asked : goal.returns-in_err-make-clause-asked
-returns-in_err-make-clause-asked g c = (Opens c.args.test.input.now ∷ (Makes c.args.test.output.now ∷ []), _, refl, (_, c.open.ensures.asked, (_, c.make.ensures.asked, refl)))
+pub returns-in_err-make : goal.returns-in_err-make
+returns-in_err-make g c = passed _ _ c.from_residual-in_err-make.result c.in_err-make.field-0.0 c.from_residual-in_err-make.ensures.1
+    (inl (inr (_, c.open.ensures.asked, inl (c.make.ensures.asked, c.in_err-make.ensures.refused))))
 
-pub returns-in_err-make-2-clause-asked : goal.returns-in_err-make-2-clause-asked
-returns-in_err-make-2-clause-asked g c =
-    (Opens c.args.test.input.now ∷ (Makes c.args.test.output.now ∷ (Makes c.args.test.errors.now ∷ [])), _, refl, (_, c.open.ensures.asked, (_, c.make.ensures.asked, (_, c.make-2.ensures.asked, refl))))
+pub returns-in_err-make-2 : goal.returns-in_err-make-2
+returns-in_err-make-2 g c = passed _ _ c.from_residual-in_err-make-2.result c.in_err-make-2.field-0.0 c.from_residual-in_err-make-2.ensures.1
+    (inl (inr (_, c.open.ensures.asked, inr (_, c.make.ensures.asked, inl (c.make-2.ensures.asked, c.in_err-make-2.ensures.refused)))))
 
--- the image too, whether it could be read or not
-pub returns-in_err-memory_of-clause-asked : goal.returns-in_err-memory_of-clause-asked
-returns-in_err-memory_of-clause-asked g c =
-    all_of g.P.Places.asked (stream_accesses c.args.run.now c.args.test) _ _ (_, c.open.ensures.asked, (_, c.make.ensures.asked, (_, c.make-2.ensures.asked, c.memory_of.ensures.asked)))
+-- the image couldn't be read, or memory was wanting for sectors
+pub returns-in_err-memory_of : goal.returns-in_err-memory_of
+returns-in_err-memory_of g c = passed _ _ c.from_residual-in_err-memory_of.result c.in_err-memory_of.field-0.0 c.from_residual-in_err-memory_of.ensures.1
+    (elim c.in_err-memory_of.ensures.refused [
+      | inl refused ↦ inl (inr (_, c.open.ensures.asked, inr (_, c.make.ensures.asked, inr (_, c.make-2.ensures.asked, refused))))
+      | inr memory ↦ inr (memory.0, memory.1, (_, c.open.ensures.asked, (_, c.make.ensures.asked, (_, c.make-2.ensures.asked, c.memory_of.ensures.asked))))
+    ])
 
 pub returns : goal.returns
 returns g c = record {
-  prepared = record {
-    asked_for = (_, c.open.ensures.asked, (_, c.make.ensures.asked, (_, c.make-2.ensures.asked, c.memory_of.ensures.asked)));
-    input = c.in_ok-open.ensures.input;
-    out = c.in_ok-make.ensures.output;
-    err = c.in_ok-make-2.ensures.output;
-    new = c.in_ok-memory_of.ensures.sectors;
-    of_image = c.in_ok-memory_of.ensures.image;
-  };
-  asked = all_of g.P.Places.asked (stream_accesses c.args.run.now c.args.test) _ _ (_, c.open.ensures.asked, (_, c.make.ensures.asked, (_, c.make-2.ensures.asked, c.memory_of.ensures.asked)));
+  asked_for = (_, c.open.ensures.asked, (_, c.make.ensures.asked, (_, c.make-2.ensures.asked, c.memory_of.ensures.asked)));
+  input = c.in_ok-open.ensures.input;
+  out = c.in_ok-make.ensures.output;
+  err = c.in_ok-make-2.ensures.output;
+  new = c.in_ok-memory_of.ensures.sectors;
+  of_image = c.in_ok-memory_of.ensures.image;
 }

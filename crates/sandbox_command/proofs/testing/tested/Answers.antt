@@ -1,9 +1,9 @@
-use Rattle.std.proofs.Common.{inl, inr, refl}
+use Rattle.std.proofs.Common.{Some, ap, inl, inr, refl}
 use Rattle.sandbox_command.proofs.testing.tested.Goals as goal
 
 pub returns-in-Ok : goal.returns-in-Ok
 returns-in-Ok g c =
-    let files = c.in-Ok.ensures.prepared in
+    let files = c.in-Ok.ensures in
     record {
       «module» = c.run_valid-valid.ensures.«module»;
       tested = inr (record {
@@ -21,8 +21,7 @@ returns-in-Ok g c =
         runs = c.run_valid-valid.ensures.runs;
         summary_is = refl;
       });
-      asked = c.prepare.ensures.asked;
     }
 
 pub returns-in-Err : goal.returns-in-Err
-returns-in-Err g c = record { «module» = refl; tested = inl (_, c.unread.ensures); asked = c.prepare.ensures.asked }
+returns-in-Err g c = record { «module» = refl; tested = inl (_, c.in-Err.ensures, ap Some c.unread.ensures.of_kind) }

@@ -1,10 +1,6 @@
-use Rattle.std.proofs.Common.{Result, Ok, Err, IfOk}
-use Rattle.sandbox_command.specs.Places.{Gave, gave}
+use Rattle.sandbox_command.specs.Places.{Makes}
+use Rattle.sandbox_command.proofs.Given.{given, refused}
 use Rattle.sandbox_command.proofs.places.HostPlacesPlaces.make.Goals as goal
 
-was_given : {X E : Type 0} (name : _) (r : Result X E) → IfOk r (λ x. Gave name x)
-was_given name (Ok x) = gave name x
-was_given name (Err e) = tt
-
-pub returns-clause-output : goal.returns-clause-output
-returns-clause-output c = was_given c.args.name.now c.create.result
+pub returns : goal.returns
+returns c = record { asked = tt; refused = refused (Makes c.args.name.now) c.create.result; output = given c.args.name.now (λ x. x) c.create.result }
