@@ -1,5 +1,5 @@
 -- What a chain of steps is made of.
-use Rattle.std.proofs.Common.{◌≡◌, ◌⊎◌, ◌<◌, ◌≤◌, ◌++◌, ℕ, ◌+◌, Bool, true, false, List, [], ◌∷◌, Option, Some, Result, Ok, Err, IfErr, IfOk, IsErrAnd, MatchResult, length, take, get_or, inl, inr, refl, sym, ap, ◌∙◌, subst, add-one, true≢false}
+use Rattle.std.proofs.Common.{◌≡◌, ◌⊎◌, ◌<◌, ◌≤◌, ◌++◌, ℕ, ◌+◌, Bool, true, false, List, [], ◌∷◌, Option, Some, Result, Ok, Err, IfErr, IsErrAnd, MatchResult, length, take, get_or, inl, inr, refl, sym, ap, ◌∙◌, subst, add-one, true≢false}
 use Rattle.std.proofs.Math.Seq.{take-suc}
 use Rattle.std.proofs.lemmas.List.{take_all}
 use Rattle.std.specs.Borrow.{Bor}

@@ -60,7 +60,7 @@ module _ {P R W : Type 0} (remaining : R → Option (List ℕ)) (contents : W �
     | inr (inr (tests, lists, inl (summary, refused, same))) ↦ refused_so (of_session refused.fault status refused.ends)
     | inr (inr (tests, lists, inr (inl (summary, refused, same)))) ↦ refused_so (of_load refused.fault status refused.ends)
     | inr (inr (tests, lists, inr (inr (m, spells, valid, inl (zero, ran))))) ↦
-      inr (inr (zero, record { text = it.text; bytes = it.bytes; random = it.random; between = it.between; read = it.read; tests = tests; lists = lists; m = m; spells = spells; valid = valid; ran = ran }))
+        inr (inr (zero, record { text = it.text; bytes = it.bytes; random = it.random; between = it.between; read = it.read; tests = tests; lists = lists; m = m; spells = spells; valid = valid; ran = ran }))
     | inr (inr (tests, lists, inr (inr (m, spells, valid, inr (fault, failed))))) ↦ inr (inl fault)
   ]
 

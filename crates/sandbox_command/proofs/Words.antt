@@ -1,5 +1,5 @@
 -- How a line is cut at its blanks.
-use Rattle.std.proofs.Common.{Option, Some, None, MatchOption, ◌≡◌, ◌≢◌, ◌<◌, ◌++◌, ℕ, zero, suc, List, [], ◌∷◌, length, map, get_or, IsTrue, ◌↔◌, Bool, false, true, not, sym, ◌∙◌, ap, refl, arith, true≢false, subst, length-append}
+use Rattle.std.proofs.Common.{Option, None, MatchOption, ◌≡◌, ◌≢◌, ◌<◌, ◌++◌, ℕ, zero, suc, List, [], ◌∷◌, length, map, get_or, sym, ◌∙◌, ap, refl, arith, subst, length-append}
 use Rattle.std.proofs.lemmas.List.{get_or_at}
 use Rattle.std.specs.List.{All}
 use Rattle.sandbox_words.specs.Request.{Text}
@@ -31,8 +31,10 @@ same_cut (c ∷ a) (d ∷ b) x y free too is =
   where
     heads : c ∷ (a ++ (32 ∷ x)) ≡ d ∷ (b ++ (32 ∷ y)) → c ≡ d
     heads is = cc
+
     tails : c ∷ (a ++ (32 ∷ x)) ≡ d ∷ (b ++ (32 ∷ y)) → a ++ (32 ∷ x) ≡ b ++ (32 ∷ y)
     tails is = cc
+
     both : (c d : ℕ) (a b : Text) → c ≡ d → a ≡ b → c ∷ a ≡ d ∷ b
     both c d a b h t = cc
 

@@ -1,8 +1,5 @@
-use Rattle.std.proofs.Common.{◌≡◌, ◌⊎◌, Option, Result, Ok, Err, IfErr, IsErrAnd, inl, inr, refl, sym, subst}
+use Rattle.std.proofs.Common.{Option, inl, refl, sym, subst}
 use Rattle.std.specs.Borrow.{Bor}
-use Rattle.std.specs.IoError.{error_kind}
-use Rattle.std.specs.declared.io.Error.{Error}
-use Rattle.std.specs.declared.io.ErrorKind.TheVariants.{OutOfMemory}
 use Rattle.sandbox_words.specs.Request.{Text}
 use Rattle.sandbox_command.specs.Places.{Chain, reads_of}
 use Rattle.sandbox_command.proofs.Chains.{read_refused}

@@ -1,7 +1,4 @@
-use Rattle.std.proofs.Common.{◌≡◌, ◌⊎◌, ℕ, inl, inr}
-use Rattle.std.specs.declared.io.ErrorKind.{ErrorKind}
-use Rattle.sandbox_words.specs.declared.request.Run.{Run}
-use Rattle.sandbox_command.specs.declared.testing.Test.{Test}
+use Rattle.std.proofs.Common.{inl, inr}
 use Rattle.sandbox_command.proofs.Chains.{passed}
 use Rattle.sandbox_command.proofs.testing.prepare.Goals as goal
 

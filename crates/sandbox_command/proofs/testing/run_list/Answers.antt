@@ -5,7 +5,7 @@ use Rattle.sandbox_core.specs.declared.fault.SessionFault.TheVariants.{Setting, 
 use Rattle.sandbox_command.specs.declared.testing.Test.{Test}
 use Rattle.sandbox_command.specs.Places.{IsOfRandom}
 use Rattle.sandbox_command.specs.Status.{session_status}
-use Rattle.sandbox_command.specs.Testing.{HasNoTest, Lists, RunsTests}
+use Rattle.sandbox_command.specs.Testing.{HasNoTest, Lists}
 use Rattle.sandbox_command.proofs.testing.run_list.Goals as goal
 
 -- a line is no test, or memory was wanting

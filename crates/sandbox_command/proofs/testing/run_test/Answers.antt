@@ -1,6 +1,5 @@
 use Rattle.std.proofs.Common.{◌≡◌, ℕ, Bool, true, false, List, Option, Some, None, inl, inr, refl, sym, ◌∙◌, ap, subst}
 use Rattle.std.proofs.lemmas.Option.{none-some}
-use Rattle.std.specs.Io.KnownBytes.{Appends}
 use Rattle.std.specs.declared.io.ErrorKind.{ErrorKind}
 use Rattle.std.specs.declared.io.ErrorKind.TheVariants.{OutOfMemory}
 use Rattle.wasm_module.specs.declared.module.Module.{Module}
@@ -83,6 +82,12 @@ pub returns-in_default : goal.returns-in_default
 returns-in_default g c =
     let why = of_err c.make.result (λ kind. g.P.Places.refused (Makes c.args.test.report.now) kind c.args.places.now c.make.new.self) c.in_default.not-Ok c.make.ensures.refused in
     record { «module» = refl; ends = inl (why.0, c.make.ensures.asked, why.1) }
+
+-- something is always said
+pub returns-in_default-said : goal.returns-in_default-said
+returns-in_default-said g c =
+    absurd (said_something g.P.Input.Read.remaining g.P.Output.Write.contents g.P.Places.asked g.P.Places.refused g.P.Places.is_input g.P.Places.is_output g.P.Places.is_image g.P.Places.printed
+    c.args.run.now c.args.valid c.args.random.now c.args.test c.make.new.self c.tested-valid.new.places c.tested-valid.result.1 c.in_default-said.is c.tested-valid.ensures.tested)
 
 pub returns : goal.returns
 returns g c = record {

@@ -19,19 +19,35 @@ returns-in-Err g c =
 pub returns-then-run_all : goal.returns-then-run_all
 returns-then-run_all g c =
     let found = c.in-Ok-load.ensures.found in
-    inr (inr (c.in-Ok-load.valid, found.0, found.1, inl (refl, went_all
-      (HasRun g.P.Input.Read.remaining g.P.Output.Write.contents g.P.Places.asked g.P.Places.refused g.P.Places.is_input g.P.Places.is_output g.P.Places.is_image g.P.Places.printed c.args.run.now c.in-Ok-load.valid c.args.random.now)
-      (HasFailed g.P.Input.Read.remaining g.P.Output.Write.contents g.P.Places.asked g.P.Places.refused g.P.Places.is_input g.P.Places.is_output g.P.Places.is_image g.P.Places.printed c.args.run.now c.in-Ok-load.valid c.args.random.now)
-      c.run_all.result c.args.tests.now _ _ c.if-run_all.true c.run_all.ensures)))
+    inr (inr (
+      c.in-Ok-load.valid,
+      found.0,
+      found.1,
+      inl (
+        refl,
+        went_all
+            (HasRun g.P.Input.Read.remaining g.P.Output.Write.contents g.P.Places.asked g.P.Places.refused g.P.Places.is_input g.P.Places.is_output g.P.Places.is_image g.P.Places.printed c.args.run.now c.in-Ok-load.valid c.args.random.now)
+            (HasFailed g.P.Input.Read.remaining g.P.Output.Write.contents g.P.Places.asked g.P.Places.refused g.P.Places.is_input g.P.Places.is_output g.P.Places.is_image g.P.Places.printed c.args.run.now c.in-Ok-load.valid c.args.random.now)
+            c.run_all.result c.args.tests.now _ _ c.if-run_all.true c.run_all.ensures,
+      ),
+    ))
 
 -- or not in each
 pub returns-in-Ok-load : goal.returns-in-Ok-load
 returns-in-Ok-load g c =
     let found = c.in-Ok-load.ensures.found in
-    inr (inr (c.in-Ok-load.valid, found.0, found.1, inr (c.refuse_file.ensures.status, failed_some
-      (HasRun g.P.Input.Read.remaining g.P.Output.Write.contents g.P.Places.asked g.P.Places.refused g.P.Places.is_input g.P.Places.is_output g.P.Places.is_image g.P.Places.printed c.args.run.now c.in-Ok-load.valid c.args.random.now)
-      (HasFailed g.P.Input.Read.remaining g.P.Output.Write.contents g.P.Places.asked g.P.Places.refused g.P.Places.is_input g.P.Places.is_output g.P.Places.is_image g.P.Places.printed c.args.run.now c.in-Ok-load.valid c.args.random.now)
-      c.run_all.result c.args.tests.now _ _ c.if-run_all.false c.run_all.ensures)))
+    inr (inr (
+      c.in-Ok-load.valid,
+      found.0,
+      found.1,
+      inr (
+        c.refuse_file.ensures.status,
+        failed_some
+            (HasRun g.P.Input.Read.remaining g.P.Output.Write.contents g.P.Places.asked g.P.Places.refused g.P.Places.is_input g.P.Places.is_output g.P.Places.is_image g.P.Places.printed c.args.run.now c.in-Ok-load.valid c.args.random.now)
+            (HasFailed g.P.Input.Read.remaining g.P.Output.Write.contents g.P.Places.asked g.P.Places.refused g.P.Places.is_input g.P.Places.is_output g.P.Places.is_image g.P.Places.printed c.args.run.now c.in-Ok-load.valid c.args.random.now)
+            c.run_all.result c.args.tests.now _ _ c.if-run_all.false c.run_all.ensures,
+      ),
+    ))
 
 -- the bytes are refused
 pub returns : goal.returns
