@@ -1,6 +1,7 @@
 -- A record that is done on a disk leaves the trees of the session.
-use Rattle.std.proofs.Common.{◌≡◌, ◌==◌, ◌||◌, ◌⊎◌, ◌≤◌, ℕ, Bool, IsTrue, List, [], ◌∷◌, length, Result, Ok, Err, ⊎_elim, inl, inr, ap, sym, subst, ◌∙◌, arith}
+use Rattle.std.proofs.Common.{◌≡◌, ◌==◌, ◌||◌, ◌⊎◌, ℕ, Bool, IsTrue, List, [], ◌∷◌, Result, Ok, Err, ⊎_elim, inl, inr, refl, ap, sym, subst, ◌∙◌, arith}
 use Rattle.std.specs.Borrow.{Bor}
+use Rattle.std.proofs.lemmas.Bool.{false≢true}
 use Rattle.vol_sector.specs.Disk.{Image, Leaves}
 use Rattle.vol_sector.specs.Record.{LeftBy}
 use Rattle.vol_sector.specs.declared.fault.Refused.{Refused}
@@ -95,12 +96,10 @@ committed v (Err r) commits = commits.handed_back.0
 all_left : OneTree → (m : Module) (supplies : Supplies) (sectors : Bor (List (List ℕ))) (recorded : Bool) (s s' : State) (rs : List (Told × State))
     → (begins : Begins m supplies (Sectors sectors recorded) s) → Resumed s rs s' → (d : Image) → Left s'.host.volume.device d → StandsForOne begins.volume.numbers s.host.volume.tree rs d
 all_left one m supplies sectors recorded s s' rs begins resumed d now =
-    ⊎_elim (λ none. absurd none) (λ is. is) (resumes_left one begins.volume.numbers (λ i. ⊥) (λ i j U none a b. none) s s' rs resumed reads.kept.numbers at_first d now)
+    ⊎_elim (λ none. absurd none) (λ is. is) (resumes_left one begins.volume.numbers (λ i. ⊥) (λ i j U none a b. none) s s' rs resumed begins.shares.reads.kept.numbers at_first d now)
   where
-    reads = begins.shares.reads
-
     at_first : (i : Image) → Left s.host.volume.device i → ⊥ ⊎ StandsAs i begins.volume.numbers s.host.volume.tree
-    at_first i then = inr (subst (StandsAs i begins.volume.numbers) (sym (reads.tree tt)) (begins.is_volume.since i (⊎_elim (λ old. old) (λ none. absurd none) ((reads.crash tt).since 0 i (omega arith) then))))
+    at_first i then = inr (subst (StandsAs i begins.volume.numbers) (sym (begins.shares.reads.tree tt)) (begins.is_volume.since i (⊎_elim (λ old. old) (λ none. absurd none) ((begins.shares.reads.crash tt).since 0 i (omega arith) then))))
 
 numbers_then : (m : Module) (supplies : Supplies) (origin : Origin) (s s' : State) (rs : List (Told × State)) (begins : Begins m supplies origin s) → Resumed s rs s' → s'.host.volume.numbers ≡ begins.volume.numbers
 numbers_then m supplies origin s s' rs begins resumed = (resumed_same s s' rs resumed).numbers ∙ begins.shares.reads.kept.numbers
@@ -112,9 +111,9 @@ settled_so_far one followed m supplies sectors recorded s s' rs k c begins resum
 
 -- a call that is told by such a number is one that syncs
 is_sync_by : (c : HostCall) → IsTrue (call_number c == 20 || call_number c == 21) → IsTrue (is_sync c)
-is_sync_by call.FdSync is = tt
-is_sync_by call.FdDatasync is = tt
-is_sync_by other is = absurd is
+is_sync_by call.FdSync is = refl
+is_sync_by call.FdDatasync is = refl
+is_sync_by other is = absurd (false≢true is)
 
 no_end : (o : Outcome) (used : ℕ) → (told_end o used).kind ≡ 4 → ⊥
 no_end (Exited status) used is = absurd (omega (arith, is))
