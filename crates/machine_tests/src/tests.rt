@@ -9,6 +9,7 @@ mod instances;
 mod memories;
 mod modules;
 mod operators;
+mod sections;
 mod stores;
 mod surveys;
 

@@ -1,20 +1,21 @@
 //! Modules of one function, and where its branches lead.
 
 use super::loaded;
+use super::sections::PREAMBLE;
 use std::alloc::{AllocError, Global};
 use std::process::Abort;
 use wasm_branch::{Target, Targets, targets};
 use wasm_valid::Valid;
 
-/// The preamble, and the types [] -> [] and [] -> [i32].
-const TYPES: &[u8] = b"\0asm\x01\0\0\0\x01\x08\x02\x60\x00\x00\x60\x00\x01\x7F";
+/// The types [] -> [] and [] -> [i32].
+const TYPES: &[u8] = b"\x01\x08\x02\x60\x00\x00\x60\x00\x01\x7F";
 
 /// A module of one function of the type that has this index, with these instructions, under 100 bytes.
 fn module(alloc: Global, type_index: u8, code: &[u8]) -> Result<Vec<u8>, AllocError> {
     let size = code.len().min(100) as u8 + 1;
     let functions = [0x03, 0x02, 0x01, type_index];
     let front = [0x0A, size + 2, 0x01, size, 0x00];
-    [TYPES, &functions, &front, code].concat(alloc)
+    [PREAMBLE, TYPES, &functions, &front, code].concat(alloc)
 }
 
 /// A position, how many values are kept, and the height.

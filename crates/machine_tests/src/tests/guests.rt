@@ -48,9 +48,15 @@ impl Host for Recorder {
 }
 
 /// Imports function 0, of type [i32] -> [], and function 1, of type [i32 i64] -> [i32]; has a memory of one page that
-/// may have two, and exports function 2, of type [] -> [].
-const FRONT: &[u8] =
-    b"\0asm\x01\0\0\0\x01\x0E\x03\x60\x01\x7F\x00\x60\x00\x00\x60\x02\x7F\x7E\x01\x7F\x02\x0D\x02\x01w\x01a\x00\x00\x01w\x01b\x00\x02\x03\x02\x01\x01\x05\x04\x01\x01\x01\x02\x07\x0A\x01\x06_start\x00\x02\x0A";
+/// may have two, and exports function 2, of type [] -> []. After the preamble there is a line for each section: types,
+/// imports, functions, memories, exports, and the id of code.
+const FRONT: &[u8] = b"\0asm\x01\0\0\0\
+    \x01\x0E\x03\x60\x01\x7F\x00\x60\x00\x00\x60\x02\x7F\x7E\x01\x7F\
+    \x02\x0D\x02\x01w\x01a\x00\x00\x01w\x01b\x00\x02\
+    \x03\x02\x01\x01\
+    \x05\x04\x01\x01\x01\x02\
+    \x07\x0A\x01\x06_start\x00\x02\
+    \x0A";
 
 /// The bytes of a module whose function has no locals and this code, under 100 bytes.
 fn guest(alloc: Global, code: &[u8]) -> Result<Vec<u8>, AllocError> {

@@ -3,7 +3,8 @@
 ghost use Rattle.std.specs.Prelude.{Some};
 
 use super::loaded;
-use std::alloc::{AllocError, Global};
+use super::sections::{Section, spelled};
+use std::alloc::Global;
 use std::process::Abort;
 use std::test::Fail;
 use wasm_module::FuncType;
@@ -36,49 +37,25 @@ impl Host for Links {
     }
 }
 
-/// Sections by their ids and their contents, each under 128 bytes; an empty one isn't there.
-type Sections<'a> = [(u8, &'a [u8]); 11];
-
 /// Imports function 0 and exports function 1 as `_start`, both of type [] -> []. It has a table of 2 elements, one page
 /// of memory, and the constant globals 2, 3, -1 and, of 64 bits, -2. Function 1 starts.
-static GUEST: Sections<'static> = [
+static GUEST: [Section<'static>; 9] = [
+    // types, imports, functions, tables and memories
     (1, b"\x01\x60\x00\x00"),
     (2, b"\x01\x01w\x01a\x00\x00"),
     (3, b"\x01\x00"),
     (4, b"\x01\x70\x00\x02"),
     (5, b"\x01\x00\x01"),
+    // globals
     (
         6,
         b"\x04\x7F\x00\x41\x02\x0B\x7F\x00\x41\x03\x0B\x7F\x00\x41\x7F\x0B\x7E\x00\x42\x7E\x0B",
     ),
+    // exports, the function that starts, and code
     (7, b"\x01\x06_start\x00\x01"),
     (8, b"\x01"),
-    (9, b""),
     (10, b"\x01\x02\x00\x0B"),
-    (11, b""),
 ];
-
-fn push_section(bytes: &mut Vec<u8>, id: u8, content: &[u8]) -> Result<(), AllocError> {
-    bytes.extend_from_slice(&[id, content.len().min(127) as u8])?;
-    bytes.extend_from_slice(content)
-}
-
-/// The module's bytes where one section has another content.
-fn spelled(
-    alloc: Global,
-    sections: &Sections<'_>,
-    id: u8,
-    other: &[u8],
-) -> Result<Vec<u8>, AllocError> {
-    let mut bytes = Vec::from_slice(alloc, b"\0asm\x01\0\0\0")?;
-    for (at, usual) in sections {
-        let content = if *at == id { other } else { *usual };
-        if !content.is_empty() {
-            push_section(&mut bytes, *at, content)?;
-        }
-    }
-    Ok(bytes)
-}
 
 /// How the module is refused under a limit of one page, if it is.
 fn refusal(alloc: Global, valid: &Valid<'_>, call: Option<HostCall>) -> Option<InstanceFault> {
@@ -117,12 +94,12 @@ fn is_refused(
 
 fn is_as_wanted(
     alloc: Global,
-    sections: &Sections<'_>,
+    others: &[Section<'_>],
     call: Option<HostCall>,
     row: &Row<'_>,
 ) -> bool {
     let (id, content, want) = *row;
-    match spelled(alloc, sections, id, content) {
+    match spelled(alloc, &GUEST, others, (id, content)) {
         Ok(bytes) => is_refused(alloc, &bytes, call, want),
         Err(_) => false,
     }
@@ -131,12 +108,12 @@ fn is_as_wanted(
 fn assert_rows(
     rt: &impl Abort,
     alloc: Global,
-    sections: &Sections<'_>,
+    others: &[Section<'_>],
     call: Option<HostCall>,
     rows: &[Row<'_>],
 ) {
     for (i, row) in rows.iter().enumerate() {
-        assert!(rt; is_as_wanted(alloc, sections, call, row), "row {i}");
+        assert!(rt; is_as_wanted(alloc, others, call, row), "row {i}");
     }
 }
 
@@ -145,7 +122,7 @@ fn places_segments(rt: HostRuntime) {
     assert_rows(
         &rt,
         rt.alloc(),
-        &GUEST,
+        &[],
         Some(HostCall::Nosys),
         &[
             // three bytes at 65,533 and at 65,534
@@ -165,21 +142,9 @@ fn places_segments(rt: HostRuntime) {
     );
 }
 
-/// The same with data and elements that are both out of range.
-static FAR: Sections<'static> = [
-    (1, b"\x01\x60\x00\x00"),
-    (2, b"\x01\x01w\x01a\x00\x00"),
-    (3, b"\x01\x00"),
-    (4, b"\x01\x70\x00\x02"),
-    (5, b"\x01\x00\x01"),
-    (
-        6,
-        b"\x04\x7F\x00\x41\x02\x0B\x7F\x00\x41\x03\x0B\x7F\x00\x41\x7F\x0B\x7E\x00\x42\x7E\x0B",
-    ),
-    (7, b"\x01\x06_start\x00\x01"),
-    (8, b"\x01"),
+/// Elements and data that are both out of range.
+static FAR: [Section<'static>; 2] = [
     (9, b"\x01\x00\x41\x02\x0B\x01\x00"),
-    (10, b"\x01\x02\x00\x0B"),
     (11, b"\x01\x00\x41\x7F\x0B\x01h"),
 ];
 
@@ -239,28 +204,16 @@ fn assert_loaded(rt: &impl Abort, alloc: Global, bytes: &[u8]) {
     }
 }
 
-/// The same with one element, and with three bytes of data.
-static FILLED: Sections<'static> = [
-    (1, b"\x01\x60\x00\x00"),
-    (2, b"\x01\x01w\x01a\x00\x00"),
-    (3, b"\x01\x00"),
-    (4, b"\x01\x70\x00\x02"),
-    (5, b"\x01\x00\x01"),
-    (
-        6,
-        b"\x04\x7F\x00\x41\x02\x0B\x7F\x00\x41\x03\x0B\x7F\x00\x41\x7F\x0B\x7E\x00\x42\x7E\x0B",
-    ),
-    (7, b"\x01\x06_start\x00\x01"),
-    (8, b"\x01"),
+/// One element, and three bytes of data.
+static FILLED: [Section<'static>; 2] = [
     (9, b"\x01\x00\x41\x01\x0B\x01\x01"),
-    (10, b"\x01\x02\x00\x0B"),
     (11, b"\x01\x00\x41\xFD\xFF\x03\x0B\x03abc"),
 ];
 
 /// They stand there, under a limit of 7 pages.
 #[test]
 fn instances(rt: HostRuntime) -> Result<(), Fail> {
-    let bytes = spelled(rt.alloc(), &FILLED, 0, b"")?;
+    let bytes = spelled(rt.alloc(), &GUEST, &FILLED, (0, b""))?;
     assert_loaded(&rt, rt.alloc(), &bytes);
     Ok(())
 }

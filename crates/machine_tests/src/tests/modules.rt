@@ -1,6 +1,5 @@
 //! Which fault a module's bytes are refused with, and where.
 
-mod bytes;
 mod decoded;
 mod made;
 mod opcodes;

@@ -3,6 +3,7 @@
 ghost use Rattle.std.specs.Prelude.{if◌then◌else◌, codes, bytes_eq, Some, None};
 ghost use Rattle.wasm_store.specs.declared.call.HostCall.TheVariants as call;
 
+use super::sections::PREAMBLE;
 use crate::program::HELLO;
 use module_survey::{Links, survey};
 use std::alloc::Global;
@@ -84,7 +85,7 @@ fn modules_that_load(rt: HostRuntime) {
         rt.alloc(),
         &[
             (
-                &[b"\0asm\x01\0\0\0"],
+                &[PREAMBLE],
                 b"loads:yes\nmemory:none\ntable:none\nfunctions:0\nglobals:0\nstart:none\nentry:no\n",
             ),
             (
@@ -94,7 +95,8 @@ fn modules_that_load(rt: HostRuntime) {
             // names with a blank, a backslash, a letter of two bytes and a line break; `_start` has a result
             (
                 &[
-                    b"\0asm\x01\0\0\0\x01\x08\x02\x60\x00\x00\x60\x00\x01\x7F",
+                    PREAMBLE,
+                    b"\x01\x08\x02\x60\x00\x00\x60\x00\x01\x7F",
                     b"\x02\x1B\x02\x05a \\\xC3\xA4\x09sock_open\x00\x00\x01e\x01m\x02\x01\x01\x02",
                     b"\x03\x03\x02\x00\x01\x04\x05\x01\x70\x01\x02\x03\x06\x06\x01\x7F\x00\x41\x00\x0B",
                     b"\x07\x17\x04\x06_start\x00\x02\x01t\x01\x00\x01g\x03\x00\x02m\n\x02\x00",
@@ -124,11 +126,11 @@ fn modules_that_are_refused(rt: HostRuntime) {
                 b"loads:no\nfault:1\ntext:the module ends too early\noffset:0\nfunction:\nname:\n",
             ),
             (
-                &[b"\0asm\x01\0\0\0\x01\x05\x01\x60\x01\x7D\x00", NAMES],
+                &[PREAMBLE, b"\x01\x05\x01\x60\x01\x7D\x00", NAMES],
                 b"loads:no\nfault:10\ntext:a type or an instruction of floating point\noffset:13\nfunction:\nname:\n",
             ),
             (
-                &[b"\0asm\x01\0\0\0", TWO_FUNCTIONS, NAMES],
+                &[PREAMBLE, TWO_FUNCTIONS, NAMES],
                 b"loads:no\nfault:7\ntext:a byte that has no meaning where it stands\noffset:27\nfunction:1\nname:\n",
             ),
         ],

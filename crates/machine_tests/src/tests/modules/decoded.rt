@@ -1,7 +1,9 @@
 //! What bytes are decoded to.
 
 use crate::HELLO;
+use crate::tests::sections::{FUNCTION, PREAMBLE};
 use std::alloc::Global;
+use std::process::Abort;
 use wasm_module::{
     Body, Export, ExportKind, FuncType, Import, Instruction, Limits, Module, decode, one_module,
 };
@@ -52,11 +54,16 @@ fn has_imports(imports: &[Import<'_>]) -> bool {
     }
 }
 
+const GREATEST: Limits = Limits {
+    min: 0,
+    max: Some(4_294_967_295),
+};
+
 fn has_memory(module: &Module<'_>, limits: Limits) -> bool {
     module.memories.as_slice() == [limits].as_slice()
 }
 
-/// Where the only body stands, what it holds, and where its instructions stand.
+/// Where the only body stands, how many bytes and locals it has, where its instructions stand, and how many there are.
 fn places(body: &Body<'_>) -> [usize; 5] {
     [
         body.bytes.offset() as usize,
@@ -152,36 +159,55 @@ fn is_decoded(alloc: Global, bytes: &[u8], content: Content) -> bool {
     }
 }
 
-#[test]
-fn program(rt: HostRuntime) {
-    assert!(rt; is_decoded(rt.alloc(), &HELLO, Content::Program));
+/// Parts of a module's bytes, and what it has to hold.
+type Row<'a> = (&'a [&'a [u8]], Content);
+
+fn is_as_wanted(alloc: Global, row: &Row<'_>) -> bool {
+    match row.0.concat(alloc) {
+        Ok(bytes) => is_decoded(alloc, &bytes, row.1),
+        Err(_) => false,
+    }
+}
+
+fn assert_decoded(rt: &impl Abort, alloc: Global, rows: &[Row<'_>]) {
+    for (i, row) in rows.iter().enumerate() {
+        assert!(rt; is_as_wanted(alloc, row), "row {i}");
+    }
 }
 
 #[test]
-fn numbers(rt: HostRuntime) {
-    // -1, modulo 2 ^ 32, and 0 at its longest
-    let least =
-        b"\0asm\x01\0\0\0\x01\x04\x01\x60\x00\x00\x03\x02\x01\x00\x0A\x0B\x01\x09\x00\x41\xFF\xFF\xFF\xFF\x7F\x1A\x0B";
-    let zero =
-        b"\0asm\x01\0\0\0\x01\x04\x01\x60\x00\x00\x03\x02\x01\x00\x0A\x0B\x01\x09\x00\x41\x80\x80\x80\x80\x00\x1A\x0B";
-    assert!(rt; is_decoded(rt.alloc(), least, Content::Constant(4_294_967_295)));
-    assert!(rt; is_decoded(rt.alloc(), zero, Content::Constant(0)));
-}
-
-#[test]
-fn greatest_number(rt: HostRuntime) {
-    let bytes = b"\0asm\x01\0\0\0\x05\x08\x01\x01\x00\xFF\xFF\xFF\xFF\x0F";
-    let limits = Limits {
-        min: 0,
-        max: Some(4_294_967_295),
-    };
-    assert!(rt; is_decoded(rt.alloc(), bytes, Content::Memory(limits)));
-}
-
-#[test]
-fn branch_tables(rt: HostRuntime) {
-    let bytes =
-        b"\0asm\x01\0\0\0\x01\x04\x01\x60\x00\x00\x03\x02\x01\x00\x0A\x09\x01\x07\x00\x0E\x02\x05\x06\x07\x0B";
-    assert!(rt; is_decoded(rt.alloc(), bytes, Content::Branch));
+fn contents(rt: HostRuntime) {
+    assert_decoded(
+        &rt,
+        rt.alloc(),
+        &[
+            (&[&HELLO], Content::Program),
+            // -1, modulo 2 ^ 32, and 0 at its longest
+            (
+                &[
+                    FUNCTION,
+                    b"\x0A\x0B\x01\x09\x00\x41\xFF\xFF\xFF\xFF\x7F\x1A\x0B",
+                ],
+                Content::Constant(4_294_967_295),
+            ),
+            (
+                &[
+                    FUNCTION,
+                    b"\x0A\x0B\x01\x09\x00\x41\x80\x80\x80\x80\x00\x1A\x0B",
+                ],
+                Content::Constant(0),
+            ),
+            // a memory of no page at least, and of 4,294,967,295 at most
+            (
+                &[PREAMBLE, b"\x05\x08\x01\x01\x00\xFF\xFF\xFF\xFF\x0F"],
+                Content::Memory(GREATEST),
+            ),
+            // br_table 5 6 7
+            (
+                &[FUNCTION, b"\x0A\x09\x01\x07\x00\x0E\x02\x05\x06\x07\x0B"],
+                Content::Branch,
+            ),
+        ],
+    );
     one_module();
 }

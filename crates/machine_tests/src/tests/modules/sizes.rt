@@ -1,8 +1,8 @@
 //! A program cut anywhere, with any byte replaced, and with more sections, and a type of many parameters.
 
-use super::bytes::PREAMBLE;
 use super::fault_of;
 use crate::HELLO;
+use crate::tests::sections::PREAMBLE;
 use std::alloc::Global;
 use wasm_module::LoadFault;
 
