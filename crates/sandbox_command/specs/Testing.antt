@@ -42,7 +42,7 @@ line_of t = t.input.now ++ (32 ∷ (t.output.now ++ (32 ∷ (t.errors.now ++ (32
 abbrev pub IsTest : Test → Type 0
 IsTest t = IsWord t.input.now × IsWord t.output.now × IsWord t.errors.now × IsWord t.report.now
 
--- a line that is that of none
+-- a line that is that of no test
 abbrev pub IsNoTest : Text → Type 0
 IsNoTest line = (t : Test) → line_of t ≡ line → IsTest t → ⊥
 
@@ -50,7 +50,7 @@ IsNoTest line = (t : Test) → line_of t ≡ line → IsTest t → ⊥
 abbrev pub Lists : Text → List Test → Type 0
 Lists text tests = (map line_of tests ≡ lines text) × All IsTest tests
 
--- they are those of no tests, since one of them is no test
+-- they are those of no list of tests: one of them is no test
 abbrev pub HasNoTest : Text → Type 0
 HasNoTest text = (tests : List Test) → Lists text tests → ⊥
 
@@ -75,7 +75,7 @@ module _ {P : Type 0} (asks : Access → P → P → Type 0) (is_text : Text →
 
 -- ---- a test
 
--- Its files couldn't all be opened, made and read; or where there is no image, memory was wanting for sectors.
+-- One of its files couldn't be opened, made or read; or all could, and where there is no image memory was wanting for sectors.
 abbrev pub LacksFiles : {P : Type 0} → (asks : Access → P → P → Type 0) → (refuses : Access → ErrorKind → P → P → Type 0) → Run → Test → ErrorKind → P → P → Type 0
 LacksFiles asks refuses run t kind p q = IsRefusedAmong asks refuses (stream_accesses run t) kind p q
     ⊎ ((run.image ≡ None) × (kind ≡ OutOfMemory) × Chain asks (stream_accesses run t) p q)
