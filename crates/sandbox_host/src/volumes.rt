@@ -51,17 +51,13 @@ impl<'a> VolumeSource<'a> {
     }
 }
 
-/// Makes an empty volume in memory, and opens it.
+/// Makes an empty volume in memory, which is open at once.
 fn open_fresh(alloc: Global) -> Result<Volume<RecordedDevice>, VolumeFault>
     ensures opens { IfOk result (IsVolume Origin.Fresh) }
     ensures refused { IfErr result (RefusesVolume Origin.Fresh) }
 {
     let device = RecordedDevice::new(alloc, FRESH_SECTORS)?;
-    let device = match Volume::format(device, FRESH_SECTORS, FRESH_SLOTS) {
-        Ok(device) => device,
-        Err(Refused { fault, .. }) => return Err(fault),
-    };
-    match Volume::open(alloc, device) {
+    match Volume::create(alloc, device, FRESH_SECTORS, FRESH_SLOTS) {
         Ok(volume) => Ok(volume),
         Err(Refused { fault, .. }) => Err(fault),
     }
