@@ -337,7 +337,7 @@ pub fn ends(rt: &impl Abort, alloc: Global, row: &Row<'_>, printed: &[u8]) -> bo
 }
 
 /// The first row of a run that doesn't end as it says, or doesn't print exactly this.
-pub fn wrong_end(
+fn wrong_end(
     rt: &impl Abort,
     alloc: Global,
     rows: &[Row<'_>],
