@@ -337,12 +337,7 @@ pub fn ends(rt: &impl Abort, alloc: Global, row: &Row<'_>, printed: &[u8]) -> bo
 }
 
 /// The first row of a run that doesn't end as it says, or doesn't print exactly this.
-fn wrong_end(
-    rt: &impl Abort,
-    alloc: Global,
-    rows: &[Row<'_>],
-    printed: &[u8],
-) -> Option<usize> {
+fn wrong_end(rt: &impl Abort, alloc: Global, rows: &[Row<'_>], printed: &[u8]) -> Option<usize> {
     for (i, row) in rows.iter().enumerate() {
         if !ends(rt, alloc, row, printed) {
             return Some(i);
