@@ -1,23 +1,25 @@
 -- The laws of single instructions.
-use Rattle.std.proofs.Common.{◌≡◌, ℕ, ◌+◌, Bool, true, false, cond, eqb, ltb, List, [], ◌∷◌, ◌++◌, Some, None, refl, sym, ap, subst, ◌∙◌, append_assoc}
+use Rattle.std.proofs.Common.{◌≡◌, ℕ, ◌+◌, Bool, true, false, cond, eqb, ltb, List, [], ◌∷◌, ◌++◌, Option, Some, None, refl, sym, ap, subst, ◌∙◌, append_assoc}
 use Rattle.std.proofs.lemmas.Bool.{eqb-true}
 use Rattle.wasm_module.specs.declared.number.Sign.TheVariants.{Signed}
 use Rattle.wasm_module.specs.declared.instruction.ValueType.TheVariants.{I32, I64}
 use Rattle.wasm_module.specs.declared.instruction.BlockType.{BlockType}
 use Rattle.wasm_module.specs.declared.instruction.MemArg.{MemArg}
+use Rattle.wasm_module.specs.declared.accesses.LoadOperator.{LoadOperator}
+use Rattle.wasm_module.specs.declared.accesses.StoreOperator.{StoreOperator}
 use Rattle.wasm_module.specs.declared.instruction.Instruction.{Instruction}
 use Rattle.wasm_module.specs.declared.instruction.Instruction.TheVariants as op
 use Rattle.wasm_module.specs.Number.{SpellsNumber}
 use Rattle.wasm_module.specs.Grammar.{Byte, Then, U32, Vector}
 use Rattle.wasm_module.specs.Types.{SpellsBlockType}
-use Rattle.wasm_module.specs.Instructions.{comparison_number, binary_operator_number, unary_opcode, SpellsMemArg, SpellsInstruction}
+use Rattle.wasm_module.specs.Instructions.{comparison_number, binary_operator_number, unary_opcode, load_opcode, store_opcode, SpellsMemArg, SpellsInstruction}
 use Rattle.wasm_module.specs.internal.TypesReading.{block_type_at}
-use Rattle.wasm_module.specs.internal.CodeReading.{s32_at, s64_at, mem_arg_at, numeric_of, numeric_after, control_after, variable_after, load_after, store_after, bulk_after, bulk_at, instruction_after, instruction_at}
-use Rattle.wasm_module.specs.internal.Reading.{Reader, byte_at, u32_at, then_at, map_at, vector_at}
+use Rattle.wasm_module.specs.internal.CodeReading.{s32_at, s64_at, mem_arg_at, numeric_of, numeric_after, control_after, variable_after, load_of, load_after, store_of, store_after, size_after, bulk_after, bulk_at, instruction_after, instruction_at}
+use Rattle.wasm_module.specs.internal.Reading.{◌>>=◌, Reader, byte_at, u32_at, then_at, map_at, vector_at}
 use Rattle.wasm_module.proofs.Laws.{bind_some, some_is, Front, Reads, reads_number}
 use Rattle.wasm_module.proofs.Combine.{reads_byte, reads_then, reads_as, reads_u32, reads_vector, choice, alone, operand, read_as, reread}
 use Rattle.wasm_module.proofs.TypeLaws.{reads_block_type}
-use Rattle.wasm_module.proofs.OperatorLaws.{numeric_takes, compare32, compare64, operate32, operate64, unary32, unary64}
+use Rattle.wasm_module.proofs.OperatorLaws.{numeric_takes, load_has_opcode, store_has_opcode, compare32, compare64, operate32, operate64, load_again, store_again, unary32, unary64}
 
 -- ---- operands
 
@@ -103,38 +105,29 @@ variable_takes b rest x after =
     operand_then ℕ U32 u32_at op.GlobalSet 0x24 b _ rest x after reads_u32 (λ text y h. (text, h, refl)) (
     λ e. absurd cc)))))))
 
+-- an operator by its opcode, and what its address says
+accessed : (O : Type 0) (of : ℕ → Option O) (made : O → MemArg → Instruction) (b : ℕ) (rest : List ℕ) (x : Instruction) (after : List ℕ) → ((o : O) → of b ≡ Some o → (text : List ℕ) (m : MemArg) → SpellsMemArg text m → SpellsInstruction (b ∷ text) (made o m)) → (of b >>= λ o. map_at (made o) mem_arg_at rest) ≡ Some (x, after) → Said b rest x after
+accessed O of made b rest x after spells e =
+    let s = bind_some (of b) (λ o. map_at (made o) mem_arg_at rest) (x, after) e in
+    operand Instruction SpellsInstruction MemArg SpellsMemArg mem_arg_at (made s.0) b b rest x after reads_mem_arg (spells s.0 s.1) refl s.2
+
 -- the loads
 load_takes : (b : ℕ) (rest : List ℕ) (x : Instruction) (after : List ℕ) → load_after b rest ≡ Some (x, after) → Said b rest x after
 unfolding load_after
-load_takes b rest x after =
-    operand_then MemArg SpellsMemArg mem_arg_at op.I32Load 0x28 b _ rest x after reads_mem_arg (λ text y h. (text, h, refl)) (
-    operand_then MemArg SpellsMemArg mem_arg_at op.I64Load 0x29 b _ rest x after reads_mem_arg (λ text y h. (text, h, refl)) (
-    operand_then MemArg SpellsMemArg mem_arg_at op.I32Load8S 0x2C b _ rest x after reads_mem_arg (λ text y h. (text, h, refl)) (
-    operand_then MemArg SpellsMemArg mem_arg_at op.I32Load8U 0x2D b _ rest x after reads_mem_arg (λ text y h. (text, h, refl)) (
-    operand_then MemArg SpellsMemArg mem_arg_at op.I32Load16S 0x2E b _ rest x after reads_mem_arg (λ text y h. (text, h, refl)) (
-    operand_then MemArg SpellsMemArg mem_arg_at op.I32Load16U 0x2F b _ rest x after reads_mem_arg (λ text y h. (text, h, refl)) (
-    operand_then MemArg SpellsMemArg mem_arg_at op.I64Load8S 0x30 b _ rest x after reads_mem_arg (λ text y h. (text, h, refl)) (
-    operand_then MemArg SpellsMemArg mem_arg_at op.I64Load8U 0x31 b _ rest x after reads_mem_arg (λ text y h. (text, h, refl)) (
-    operand_then MemArg SpellsMemArg mem_arg_at op.I64Load16S 0x32 b _ rest x after reads_mem_arg (λ text y h. (text, h, refl)) (
-    operand_then MemArg SpellsMemArg mem_arg_at op.I64Load16U 0x33 b _ rest x after reads_mem_arg (λ text y h. (text, h, refl)) (
-    operand_then MemArg SpellsMemArg mem_arg_at op.I64Load32S 0x34 b _ rest x after reads_mem_arg (λ text y h. (text, h, refl)) (
-    operand_then MemArg SpellsMemArg mem_arg_at op.I64Load32U 0x35 b _ rest x after reads_mem_arg (λ text y h. (text, h, refl)) (
-    λ e. absurd cc))))))))))))
+load_takes b rest x after e = accessed LoadOperator load_of op.Load b rest x after (λ o is text m h. (text, h, ap (λ (c : ℕ). c ∷ text) (load_has_opcode b o is))) e
 
--- the stores, and the size of memory
+-- the stores
 store_takes : (b : ℕ) (rest : List ℕ) (x : Instruction) (after : List ℕ) → store_after b rest ≡ Some (x, after) → Said b rest x after
 unfolding store_after
-store_takes b rest x after =
-    operand_then MemArg SpellsMemArg mem_arg_at op.I32Store 0x36 b _ rest x after reads_mem_arg (λ text y h. (text, h, refl)) (
-    operand_then MemArg SpellsMemArg mem_arg_at op.I64Store 0x37 b _ rest x after reads_mem_arg (λ text y h. (text, h, refl)) (
-    operand_then MemArg SpellsMemArg mem_arg_at op.I32Store8 0x3A b _ rest x after reads_mem_arg (λ text y h. (text, h, refl)) (
-    operand_then MemArg SpellsMemArg mem_arg_at op.I32Store16 0x3B b _ rest x after reads_mem_arg (λ text y h. (text, h, refl)) (
-    operand_then MemArg SpellsMemArg mem_arg_at op.I64Store8 0x3C b _ rest x after reads_mem_arg (λ text y h. (text, h, refl)) (
-    operand_then MemArg SpellsMemArg mem_arg_at op.I64Store16 0x3D b _ rest x after reads_mem_arg (λ text y h. (text, h, refl)) (
-    operand_then MemArg SpellsMemArg mem_arg_at op.I64Store32 0x3E b _ rest x after reads_mem_arg (λ text y h. (text, h, refl)) (
+store_takes b rest x after e = accessed StoreOperator store_of op.Store b rest x after (λ o is text m h. (text, h, ap (λ (c : ℕ). c ∷ text) (store_has_opcode b o is))) e
+
+-- the size of memory and its growth
+size_takes : (b : ℕ) (rest : List ℕ) (x : Instruction) (after : List ℕ) → size_after b rest ≡ Some (x, after) → Said b rest x after
+unfolding size_after
+size_takes b rest x after =
     operand_then (Unit {0}) (Byte 0x00) (byte_at 0x00) (λ x. op.MemorySize) 0x3F b _ rest x after reads_zero (λ text y h. (text, h, refl)) (
     operand_then (Unit {0}) (Byte 0x00) (byte_at 0x00) (λ x. op.MemoryGrow) 0x40 b _ rest x after reads_zero (λ text y h. (text, h, refl)) (
-    λ e. absurd cc)))))))))
+    λ e. absurd cc))
 
 -- the operators
 numerics_take : (b : ℕ) (rest : List ℕ) (x : Instruction) (after : List ℕ) → numeric_after b rest ≡ Some (x, after) → Said b rest x after
@@ -181,8 +174,9 @@ after_takes b rest x after =
     either (ltb b 0x12) _ _ b rest x after (control_takes b rest x after) (
     either (ltb b 0x28) _ _ b rest x after (variable_takes b rest x after) (
     either (ltb b 0x36) _ _ b rest x after (load_takes b rest x after) (
-    either (ltb b 0x41) _ _ b rest x after (store_takes b rest x after) (
-    numerics_take b rest x after)))))))
+    either (ltb b 0x3F) _ _ b rest x after (store_takes b rest x after) (
+    either (ltb b 0x41) _ _ b rest x after (size_takes b rest x after) (
+    numerics_take b rest x after))))))))
 
 -- an instruction that is read is spelled so
 takes : (bytes : List ℕ) (x : Instruction) (rest : List ℕ) → instruction_at bytes ≡ Some (x, rest) → Front Instruction SpellsInstruction bytes x rest
@@ -200,7 +194,7 @@ read_bare code i text immediates rest is none text-is =
 
 -- an instruction that is spelled so is read
 again : (text : List ℕ) (x : Instruction) (rest : List ℕ) → SpellsInstruction text x → instruction_at (text ++ rest) ≡ Some (x, rest)
-unfolding instruction_at instruction_after control_after variable_after load_after store_after bulk_at bulk_after numeric_after numeric_of
+unfolding instruction_at instruction_after control_after variable_after load_after store_after size_after bulk_at bulk_after numeric_after numeric_of
 again text op.Unreachable rest h = read_bare 0x00 op.Unreachable text h.0 rest (λ s. refl) h.1 h.2
 again text op.Nop rest h = read_bare 0x01 op.Nop text h.0 rest (λ s. refl) h.1 h.2
 again text (op.Block x) rest h = reread Instruction BlockType SpellsBlockType block_type_at op.Block instruction_at 0x02 text h.0 x rest reads_block_type (λ s. refl) h.2 h.1
@@ -221,25 +215,8 @@ again text (op.LocalSet x) rest h = reread Instruction ℕ U32 u32_at op.LocalSe
 again text (op.LocalTee x) rest h = reread Instruction ℕ U32 u32_at op.LocalTee instruction_at 0x22 text h.0 x rest reads_u32 (λ s. refl) h.2 h.1
 again text (op.GlobalGet x) rest h = reread Instruction ℕ U32 u32_at op.GlobalGet instruction_at 0x23 text h.0 x rest reads_u32 (λ s. refl) h.2 h.1
 again text (op.GlobalSet x) rest h = reread Instruction ℕ U32 u32_at op.GlobalSet instruction_at 0x24 text h.0 x rest reads_u32 (λ s. refl) h.2 h.1
-again text (op.I32Load x) rest h = reread Instruction MemArg SpellsMemArg mem_arg_at op.I32Load instruction_at 0x28 text h.0 x rest reads_mem_arg (λ s. refl) h.2 h.1
-again text (op.I64Load x) rest h = reread Instruction MemArg SpellsMemArg mem_arg_at op.I64Load instruction_at 0x29 text h.0 x rest reads_mem_arg (λ s. refl) h.2 h.1
-again text (op.I32Load8S x) rest h = reread Instruction MemArg SpellsMemArg mem_arg_at op.I32Load8S instruction_at 0x2C text h.0 x rest reads_mem_arg (λ s. refl) h.2 h.1
-again text (op.I32Load8U x) rest h = reread Instruction MemArg SpellsMemArg mem_arg_at op.I32Load8U instruction_at 0x2D text h.0 x rest reads_mem_arg (λ s. refl) h.2 h.1
-again text (op.I32Load16S x) rest h = reread Instruction MemArg SpellsMemArg mem_arg_at op.I32Load16S instruction_at 0x2E text h.0 x rest reads_mem_arg (λ s. refl) h.2 h.1
-again text (op.I32Load16U x) rest h = reread Instruction MemArg SpellsMemArg mem_arg_at op.I32Load16U instruction_at 0x2F text h.0 x rest reads_mem_arg (λ s. refl) h.2 h.1
-again text (op.I64Load8S x) rest h = reread Instruction MemArg SpellsMemArg mem_arg_at op.I64Load8S instruction_at 0x30 text h.0 x rest reads_mem_arg (λ s. refl) h.2 h.1
-again text (op.I64Load8U x) rest h = reread Instruction MemArg SpellsMemArg mem_arg_at op.I64Load8U instruction_at 0x31 text h.0 x rest reads_mem_arg (λ s. refl) h.2 h.1
-again text (op.I64Load16S x) rest h = reread Instruction MemArg SpellsMemArg mem_arg_at op.I64Load16S instruction_at 0x32 text h.0 x rest reads_mem_arg (λ s. refl) h.2 h.1
-again text (op.I64Load16U x) rest h = reread Instruction MemArg SpellsMemArg mem_arg_at op.I64Load16U instruction_at 0x33 text h.0 x rest reads_mem_arg (λ s. refl) h.2 h.1
-again text (op.I64Load32S x) rest h = reread Instruction MemArg SpellsMemArg mem_arg_at op.I64Load32S instruction_at 0x34 text h.0 x rest reads_mem_arg (λ s. refl) h.2 h.1
-again text (op.I64Load32U x) rest h = reread Instruction MemArg SpellsMemArg mem_arg_at op.I64Load32U instruction_at 0x35 text h.0 x rest reads_mem_arg (λ s. refl) h.2 h.1
-again text (op.I32Store x) rest h = reread Instruction MemArg SpellsMemArg mem_arg_at op.I32Store instruction_at 0x36 text h.0 x rest reads_mem_arg (λ s. refl) h.2 h.1
-again text (op.I64Store x) rest h = reread Instruction MemArg SpellsMemArg mem_arg_at op.I64Store instruction_at 0x37 text h.0 x rest reads_mem_arg (λ s. refl) h.2 h.1
-again text (op.I32Store8 x) rest h = reread Instruction MemArg SpellsMemArg mem_arg_at op.I32Store8 instruction_at 0x3A text h.0 x rest reads_mem_arg (λ s. refl) h.2 h.1
-again text (op.I32Store16 x) rest h = reread Instruction MemArg SpellsMemArg mem_arg_at op.I32Store16 instruction_at 0x3B text h.0 x rest reads_mem_arg (λ s. refl) h.2 h.1
-again text (op.I64Store8 x) rest h = reread Instruction MemArg SpellsMemArg mem_arg_at op.I64Store8 instruction_at 0x3C text h.0 x rest reads_mem_arg (λ s. refl) h.2 h.1
-again text (op.I64Store16 x) rest h = reread Instruction MemArg SpellsMemArg mem_arg_at op.I64Store16 instruction_at 0x3D text h.0 x rest reads_mem_arg (λ s. refl) h.2 h.1
-again text (op.I64Store32 x) rest h = reread Instruction MemArg SpellsMemArg mem_arg_at op.I64Store32 instruction_at 0x3E text h.0 x rest reads_mem_arg (λ s. refl) h.2 h.1
+again text (op.Load o x) rest h = reread Instruction MemArg SpellsMemArg mem_arg_at (op.Load o) instruction_at (load_opcode o) text h.0 x rest reads_mem_arg (load_again o) h.2 h.1
+again text (op.Store o x) rest h = reread Instruction MemArg SpellsMemArg mem_arg_at (op.Store o) instruction_at (store_opcode o) text h.0 x rest reads_mem_arg (store_again o) h.2 h.1
 again text op.MemorySize rest h = reread Instruction (Unit {0}) (Byte 0x00) (byte_at 0x00) (λ x. op.MemorySize) instruction_at 0x3F text h.0 tt rest reads_zero (λ s. refl) h.2 h.1
 again text op.MemoryGrow rest h = reread Instruction (Unit {0}) (Byte 0x00) (byte_at 0x00) (λ x. op.MemoryGrow) instruction_at 0x40 text h.0 tt rest reads_zero (λ s. refl) h.2 h.1
 again text (op.I32Const x) rest h = reread Instruction ℕ (SpellsNumber Signed 32) s32_at op.I32Const instruction_at 0x41 text h.0 x rest reads_s32 (λ s. refl) h.2 h.1

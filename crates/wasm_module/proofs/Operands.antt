@@ -3,10 +3,9 @@ use Rattle.std.proofs.Common.{Bool, true, false, ◌≡◌, ℕ, ◌<◌, ◌≤
 use Rattle.std.proofs.lemmas.Bool.{eqb-true, eqb-false}
 use Rattle.wasm_module.specs.declared.fault.LoadFault.{LoadFault}
 use Rattle.wasm_module.specs.declared.instruction.BlockType.{BlockType}
-use Rattle.wasm_module.specs.declared.instruction.MemArg.{MemArg}
 use Rattle.wasm_module.specs.declared.instruction.Instruction.{Instruction}
 use Rattle.wasm_module.specs.declared.instruction.Instruction.TheVariants as op
-use Rattle.wasm_module.specs.internal.CodeReading.{mem_arg_at, control_after, block_with, branch_with, variable_after, variable_with, load_after, load_with, store_after, store_with}
+use Rattle.wasm_module.specs.internal.CodeReading.{control_after, block_with, branch_with, variable_after, variable_with}
 use Rattle.wasm_module.specs.internal.TypesReading.{block_type_at}
 use Rattle.wasm_module.specs.internal.Reading.{◌>>=◌, Gives, Reader, map_at, u32_at}
 
@@ -35,53 +34,6 @@ differs b code lt = by_test (eqb b code) refl where
   by_test : (t : Bool) → eqb b code ≡ t → t ≡ false
   by_test true is = let same : b ≡ code = eqb-true _ _ is in absurd (omega (arith, same))
   by_test false is = refl
-
--- the loads
-loaded : (b : ℕ) (bytes : List ℕ) → load_after b bytes ≡ made_with mem_arg_at (load_with b) bytes
-unfolding load_after load_with
-loaded b bytes =
-    more (eqb b 0x28) mem_arg_at op.I32Load _ _ bytes (
-    more (eqb b 0x29) mem_arg_at op.I64Load _ _ bytes (
-    more (eqb b 0x2C) mem_arg_at op.I32Load8S _ _ bytes (
-    more (eqb b 0x2D) mem_arg_at op.I32Load8U _ _ bytes (
-    more (eqb b 0x2E) mem_arg_at op.I32Load16S _ _ bytes (
-    more (eqb b 0x2F) mem_arg_at op.I32Load16U _ _ bytes (
-    more (eqb b 0x30) mem_arg_at op.I64Load8S _ _ bytes (
-    more (eqb b 0x31) mem_arg_at op.I64Load8U _ _ bytes (
-    more (eqb b 0x32) mem_arg_at op.I64Load16S _ _ bytes (
-    more (eqb b 0x33) mem_arg_at op.I64Load16U _ _ bytes (
-    more (eqb b 0x34) mem_arg_at op.I64Load32S _ _ bytes (
-    more (eqb b 0x35) mem_arg_at op.I64Load32U _ _ bytes (
-    none mem_arg_at bytes _ refl))))))))))))
-
--- what is made of the operand of a load is what is read
-pub loaded_given : (b : ℕ) (bytes rest : List ℕ) (x : MemArg) (r : Result Instruction LoadFault) → mem_arg_at bytes ≡ Some (x, rest) → Gives (λ i. i) r (load_with b x) → Gives (λ i. (i, rest)) r (load_after b bytes)
-loaded_given b bytes rest x r is made_is = subst (λ (o : Option (Instruction × List ℕ)). Gives (λ i. (i, rest)) r o) (sym (loaded b bytes)) (given mem_arg_at (load_with b) bytes rest x r is made_is)
-
--- where the operand of a load can't be read, nothing can
-pub loaded_none : (b : ℕ) (bytes : List ℕ) → mem_arg_at bytes ≡ None → load_after b bytes ≡ None
-loaded_none b bytes none_is = loaded b bytes ∙ rw none_is refl
-
--- the stores, which the size of memory is none of
-stored : (b : ℕ) (bytes : List ℕ) → eqb b 0x3F ≡ false → eqb b 0x40 ≡ false → store_after b bytes ≡ made_with mem_arg_at (store_with b) bytes
-unfolding store_after store_with
-stored b bytes size grow =
-    more (eqb b 0x36) mem_arg_at op.I32Store _ _ bytes (
-    more (eqb b 0x37) mem_arg_at op.I64Store _ _ bytes (
-    more (eqb b 0x3A) mem_arg_at op.I32Store8 _ _ bytes (
-    more (eqb b 0x3B) mem_arg_at op.I32Store16 _ _ bytes (
-    more (eqb b 0x3C) mem_arg_at op.I64Store8 _ _ bytes (
-    more (eqb b 0x3D) mem_arg_at op.I64Store16 _ _ bytes (
-    more (eqb b 0x3E) mem_arg_at op.I64Store32 _ _ bytes (
-    rw (size, grow) (none mem_arg_at bytes _ refl))))))))
-
--- what is made of the operand of a store is what is read
-pub stored_given : (b : ℕ) (bytes rest : List ℕ) (x : MemArg) (r : Result Instruction LoadFault) → eqb b 0x3F ≡ false → eqb b 0x40 ≡ false → mem_arg_at bytes ≡ Some (x, rest) → Gives (λ i. i) r (store_with b x) → Gives (λ i. (i, rest)) r (store_after b bytes)
-stored_given b bytes rest x r size grow is made_is = subst (λ (o : Option (Instruction × List ℕ)). Gives (λ i. (i, rest)) r o) (sym (stored b bytes size grow)) (given mem_arg_at (store_with b) bytes rest x r is made_is)
-
--- where the operand of a store can't be read, nothing can
-pub stored_none : (b : ℕ) (bytes : List ℕ) → eqb b 0x3F ≡ false → eqb b 0x40 ≡ false → mem_arg_at bytes ≡ None → store_after b bytes ≡ None
-stored_none b bytes size grow none_is = stored b bytes size grow ∙ rw none_is refl
 
 -- the variables, whose opcodes are greater than the others'
 variables : (b : ℕ) (bytes : List ℕ) → 0x20 ≤ b → variable_after b bytes ≡ made_with u32_at (variable_with b) bytes

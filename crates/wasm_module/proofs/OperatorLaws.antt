@@ -3,6 +3,10 @@ use Rattle.std.proofs.Common.{◌≡◌, ℕ, ◌+◌, ◌-◌, ◌≤◌, Bool,
 use Rattle.std.proofs.lemmas.Bool.{eqb-true, leb-true}
 use Rattle.wasm_module.specs.declared.instruction.ValueType.{ValueType}
 use Rattle.wasm_module.specs.declared.instruction.ValueType.TheVariants.{I32, I64}
+use Rattle.wasm_module.specs.declared.accesses.LoadOperator.{LoadOperator}
+use Rattle.wasm_module.specs.declared.accesses.LoadOperator.TheVariants as load
+use Rattle.wasm_module.specs.declared.accesses.StoreOperator.{StoreOperator}
+use Rattle.wasm_module.specs.declared.accesses.StoreOperator.TheVariants as store
 use Rattle.wasm_module.specs.declared.instruction.Comparison.{Comparison}
 use Rattle.wasm_module.specs.declared.instruction.Comparison.TheVariants as comparison
 use Rattle.wasm_module.specs.declared.instruction.UnaryOperator.{UnaryOperator}
@@ -11,9 +15,9 @@ use Rattle.wasm_module.specs.declared.instruction.BinaryOperator.{BinaryOperator
 use Rattle.wasm_module.specs.declared.instruction.BinaryOperator.TheVariants as binary
 use Rattle.wasm_module.specs.declared.instruction.Instruction.{Instruction}
 use Rattle.wasm_module.specs.declared.instruction.Instruction.TheVariants as op
-use Rattle.wasm_module.specs.Instructions.{comparison_number, binary_operator_number, unary_opcode, SpellsImmediates, SpellsInstruction}
-use Rattle.wasm_module.specs.internal.CodeReading.{comparison_of, binary_operator_of, unary_of, is_between, compared, operated, numeric_of, numeric_after, instruction_after, instruction_at}
-use Rattle.wasm_module.specs.internal.Reading.{◌>>=◌}
+use Rattle.wasm_module.specs.Instructions.{comparison_number, binary_operator_number, unary_opcode, load_opcode, store_opcode, SpellsImmediates, SpellsInstruction}
+use Rattle.wasm_module.specs.internal.CodeReading.{comparison_of, binary_operator_of, unary_of, is_between, compared, operated, numeric_of, numeric_after, mem_arg_at, load_of, load_after, store_of, store_after, instruction_after, instruction_at}
+use Rattle.wasm_module.specs.internal.Reading.{◌>>=◌, map_at}
 use Rattle.wasm_module.proofs.Laws.{bind_some, some_is}
 
 -- ---- tables
@@ -75,6 +79,37 @@ binary_takes n o =
     picked (λ (o : BinaryOperator). n ≡ binary_operator_number o) n 13 binary.Rotl o _ (λ is. is) (
     picked (λ (o : BinaryOperator). n ≡ binary_operator_number o) n 14 binary.Rotr o _ (λ is. is) (
     λ e. absurd cc)))))))))))))))
+
+-- a load that an opcode is of has that opcode
+pub load_has_opcode : (b : ℕ) (o : LoadOperator) → load_of b ≡ Some o → b ≡ load_opcode o
+unfolding load_of
+load_has_opcode b o =
+    picked (λ (o : LoadOperator). b ≡ load_opcode o) b 0x28 load.I32Load o _ (λ is. is) (
+    picked (λ (o : LoadOperator). b ≡ load_opcode o) b 0x29 load.I64Load o _ (λ is. is) (
+    picked (λ (o : LoadOperator). b ≡ load_opcode o) b 0x2C load.I32Load8S o _ (λ is. is) (
+    picked (λ (o : LoadOperator). b ≡ load_opcode o) b 0x2D load.I32Load8U o _ (λ is. is) (
+    picked (λ (o : LoadOperator). b ≡ load_opcode o) b 0x2E load.I32Load16S o _ (λ is. is) (
+    picked (λ (o : LoadOperator). b ≡ load_opcode o) b 0x2F load.I32Load16U o _ (λ is. is) (
+    picked (λ (o : LoadOperator). b ≡ load_opcode o) b 0x30 load.I64Load8S o _ (λ is. is) (
+    picked (λ (o : LoadOperator). b ≡ load_opcode o) b 0x31 load.I64Load8U o _ (λ is. is) (
+    picked (λ (o : LoadOperator). b ≡ load_opcode o) b 0x32 load.I64Load16S o _ (λ is. is) (
+    picked (λ (o : LoadOperator). b ≡ load_opcode o) b 0x33 load.I64Load16U o _ (λ is. is) (
+    picked (λ (o : LoadOperator). b ≡ load_opcode o) b 0x34 load.I64Load32S o _ (λ is. is) (
+    picked (λ (o : LoadOperator). b ≡ load_opcode o) b 0x35 load.I64Load32U o _ (λ is. is) (
+    λ e. absurd cc))))))))))))
+
+-- a store that an opcode is of has that opcode
+pub store_has_opcode : (b : ℕ) (o : StoreOperator) → store_of b ≡ Some o → b ≡ store_opcode o
+unfolding store_of
+store_has_opcode b o =
+    picked (λ (o : StoreOperator). b ≡ store_opcode o) b 0x36 store.I32Store o _ (λ is. is) (
+    picked (λ (o : StoreOperator). b ≡ store_opcode o) b 0x37 store.I64Store o _ (λ is. is) (
+    picked (λ (o : StoreOperator). b ≡ store_opcode o) b 0x3A store.I32Store8 o _ (λ is. is) (
+    picked (λ (o : StoreOperator). b ≡ store_opcode o) b 0x3B store.I32Store16 o _ (λ is. is) (
+    picked (λ (o : StoreOperator). b ≡ store_opcode o) b 0x3C store.I64Store8 o _ (λ is. is) (
+    picked (λ (o : StoreOperator). b ≡ store_opcode o) b 0x3D store.I64Store16 o _ (λ is. is) (
+    picked (λ (o : StoreOperator). b ≡ store_opcode o) b 0x3E store.I64Store32 o _ (λ is. is) (
+    λ e. absurd cc)))))))
 
 -- the operator on one integer that this byte spells
 abbrev IsUnary : ℕ → ValueType × UnaryOperator → Type 0
@@ -183,3 +218,15 @@ pub unary64 : (o : UnaryOperator) (immediates : List ℕ) → SpellsImmediates i
 unfolding instruction_at instruction_after numeric_after numeric_of unary_of
 unary64 unary.Clz immediates h = (h, λ rest. refl)
 unary64 o immediates h = (h, λ rest. refl)
+
+-- the loads
+pub load_again : (o : LoadOperator) (rest : List ℕ) → instruction_at (load_opcode o ∷ rest) ≡ map_at (op.Load o) mem_arg_at rest
+unfolding instruction_at instruction_after load_after load_of
+load_again load.I32Load rest = refl
+load_again o rest = refl
+
+-- the stores
+pub store_again : (o : StoreOperator) (rest : List ℕ) → instruction_at (store_opcode o ∷ rest) ≡ map_at (op.Store o) mem_arg_at rest
+unfolding instruction_at instruction_after store_after store_of
+store_again store.I32Store rest = refl
+store_again o rest = refl

@@ -5,6 +5,10 @@ use Rattle.wasm_module.specs.declared.instruction.ValueType.{ValueType}
 use Rattle.wasm_module.specs.declared.instruction.ValueType.TheVariants.{I32, I64}
 use Rattle.wasm_module.specs.declared.instruction.BlockType.{BlockType}
 use Rattle.wasm_module.specs.declared.instruction.MemArg.{MemArg}
+use Rattle.wasm_module.specs.declared.accesses.LoadOperator.{LoadOperator}
+use Rattle.wasm_module.specs.declared.accesses.LoadOperator.TheVariants as load
+use Rattle.wasm_module.specs.declared.accesses.StoreOperator.{StoreOperator}
+use Rattle.wasm_module.specs.declared.accesses.StoreOperator.TheVariants as store
 use Rattle.wasm_module.specs.declared.instruction.Comparison.{Comparison}
 use Rattle.wasm_module.specs.declared.instruction.Comparison.TheVariants.{Eq, Ne, LtS, LtU, GtS, GtU, LeS, LeU, GeS, GeU}
 use Rattle.wasm_module.specs.declared.instruction.UnaryOperator.{UnaryOperator}
@@ -117,6 +121,29 @@ unary_opcode I64 Extend8S = 0xC2
 unary_opcode I64 Extend16S = 0xC3
 unary_opcode t Extend32S = 0xC4
 
+abbrev pub load_opcode : LoadOperator → ℕ
+load_opcode load.I32Load = 0x28
+load_opcode load.I64Load = 0x29
+load_opcode load.I32Load8S = 0x2C
+load_opcode load.I32Load8U = 0x2D
+load_opcode load.I32Load16S = 0x2E
+load_opcode load.I32Load16U = 0x2F
+load_opcode load.I64Load8S = 0x30
+load_opcode load.I64Load8U = 0x31
+load_opcode load.I64Load16S = 0x32
+load_opcode load.I64Load16U = 0x33
+load_opcode load.I64Load32S = 0x34
+load_opcode load.I64Load32U = 0x35
+
+abbrev pub store_opcode : StoreOperator → ℕ
+store_opcode store.I32Store = 0x36
+store_opcode store.I64Store = 0x37
+store_opcode store.I32Store8 = 0x3A
+store_opcode store.I32Store16 = 0x3B
+store_opcode store.I64Store8 = 0x3C
+store_opcode store.I64Store16 = 0x3D
+store_opcode store.I64Store32 = 0x3E
+
 -- the byte that an instruction begins with
 abbrev pub opcode : Instruction → ℕ
 opcode op.Unreachable = 0x00
@@ -139,25 +166,8 @@ opcode (op.LocalSet x) = 0x21
 opcode (op.LocalTee x) = 0x22
 opcode (op.GlobalGet x) = 0x23
 opcode (op.GlobalSet x) = 0x24
-opcode (op.I32Load m) = 0x28
-opcode (op.I64Load m) = 0x29
-opcode (op.I32Load8S m) = 0x2C
-opcode (op.I32Load8U m) = 0x2D
-opcode (op.I32Load16S m) = 0x2E
-opcode (op.I32Load16U m) = 0x2F
-opcode (op.I64Load8S m) = 0x30
-opcode (op.I64Load8U m) = 0x31
-opcode (op.I64Load16S m) = 0x32
-opcode (op.I64Load16U m) = 0x33
-opcode (op.I64Load32S m) = 0x34
-opcode (op.I64Load32U m) = 0x35
-opcode (op.I32Store m) = 0x36
-opcode (op.I64Store m) = 0x37
-opcode (op.I32Store8 m) = 0x3A
-opcode (op.I32Store16 m) = 0x3B
-opcode (op.I64Store8 m) = 0x3C
-opcode (op.I64Store16 m) = 0x3D
-opcode (op.I64Store32 m) = 0x3E
+opcode (op.Load o m) = load_opcode o
+opcode (op.Store o m) = store_opcode o
 opcode op.MemorySize = 0x3F
 opcode op.MemoryGrow = 0x40
 opcode op.MemoryCopy = 0xFC
@@ -193,25 +203,8 @@ SpellsImmediates text (op.LocalSet x) = U32 text x
 SpellsImmediates text (op.LocalTee x) = U32 text x
 SpellsImmediates text (op.GlobalGet x) = U32 text x
 SpellsImmediates text (op.GlobalSet x) = U32 text x
-SpellsImmediates text (op.I32Load m) = SpellsMemArg text m
-SpellsImmediates text (op.I64Load m) = SpellsMemArg text m
-SpellsImmediates text (op.I32Load8S m) = SpellsMemArg text m
-SpellsImmediates text (op.I32Load8U m) = SpellsMemArg text m
-SpellsImmediates text (op.I32Load16S m) = SpellsMemArg text m
-SpellsImmediates text (op.I32Load16U m) = SpellsMemArg text m
-SpellsImmediates text (op.I64Load8S m) = SpellsMemArg text m
-SpellsImmediates text (op.I64Load8U m) = SpellsMemArg text m
-SpellsImmediates text (op.I64Load16S m) = SpellsMemArg text m
-SpellsImmediates text (op.I64Load16U m) = SpellsMemArg text m
-SpellsImmediates text (op.I64Load32S m) = SpellsMemArg text m
-SpellsImmediates text (op.I64Load32U m) = SpellsMemArg text m
-SpellsImmediates text (op.I32Store m) = SpellsMemArg text m
-SpellsImmediates text (op.I64Store m) = SpellsMemArg text m
-SpellsImmediates text (op.I32Store8 m) = SpellsMemArg text m
-SpellsImmediates text (op.I32Store16 m) = SpellsMemArg text m
-SpellsImmediates text (op.I64Store8 m) = SpellsMemArg text m
-SpellsImmediates text (op.I64Store16 m) = SpellsMemArg text m
-SpellsImmediates text (op.I64Store32 m) = SpellsMemArg text m
+SpellsImmediates text (op.Load o m) = SpellsMemArg text m
+SpellsImmediates text (op.Store o m) = SpellsMemArg text m
 SpellsImmediates text op.MemorySize = Byte 0x00 text tt
 SpellsImmediates text op.MemoryGrow = Byte 0x00 text tt
 SpellsImmediates text op.MemoryCopy = Then U32 (Then (Byte 0x00) (Byte 0x00)) text (10, (tt, tt))

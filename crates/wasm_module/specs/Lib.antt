@@ -2,6 +2,7 @@
 pub mod Number
 pub mod Grammar
 pub mod Types
+pub mod Accesses
 pub mod Instructions
 pub mod Sections
 pub mod Module

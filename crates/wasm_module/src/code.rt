@@ -1,9 +1,10 @@
 //! What instructions are read from (section 5.4).
 
 ghost use Rattle.std.specs.Prelude.{◌≡◌};
-ghost use Rattle.wasm_module.specs.internal.CodeReading.{binary_operator_of, block_with, branch_table_at, branch_with, bulk_after, bulk_at, call_indirect_at, compared, comparison_of, control_after, load_after, load_with, numeric_of, operated, store_after, store_with, unary_instruction, variable_after, variable_with};
+ghost use Rattle.wasm_module.specs.internal.CodeReading.{binary_operator_of, block_with, branch_table_at, branch_with, bulk_after, bulk_at, call_indirect_at, compared, comparison_of, control_after, load_after, load_of, numeric_of, operated, size_after, store_after, store_of, unary_instruction, variable_after, variable_with};
 ghost use Rattle.wasm_module.specs.internal.Reading.{Gives};
 
+use crate::accesses::{LoadOperator, StoreOperator};
 use crate::cursor::{Cursor, Decode};
 use crate::fault::LoadFault;
 use crate::instruction::{
@@ -215,29 +216,29 @@ fn variable(cursor: &mut Cursor<'_>, byte: u8, offset: u32) -> Result<Instructio
     }
 }
 
-/// The load of this opcode, from this address.
-#[tactic(auto, unfolding(crate::specs::internal::CodeReading::load_with))]
-fn load_with(byte: u8, offset: u32, argument: MemArg) -> Result<Instruction, LoadFault>
-    ensures { Gives (λ i. i) result (load_with byte argument) }
+/// The load of this opcode.
+#[tactic(auto, unfolding(crate::specs::internal::CodeReading::load_of))]
+fn load_operator(byte: u8) -> Option<LoadOperator>
+    ensures { result ≡ load_of byte }
 {
     match byte {
-        0x28 => Ok(Instruction::I32Load(argument)),
-        0x29 => Ok(Instruction::I64Load(argument)),
-        0x2C => Ok(Instruction::I32Load8S(argument)),
-        0x2D => Ok(Instruction::I32Load8U(argument)),
-        0x2E => Ok(Instruction::I32Load16S(argument)),
-        0x2F => Ok(Instruction::I32Load16U(argument)),
-        0x30 => Ok(Instruction::I64Load8S(argument)),
-        0x31 => Ok(Instruction::I64Load8U(argument)),
-        0x32 => Ok(Instruction::I64Load16S(argument)),
-        0x33 => Ok(Instruction::I64Load16U(argument)),
-        0x34 => Ok(Instruction::I64Load32S(argument)),
-        0x35 => Ok(Instruction::I64Load32U(argument)),
-        _ => Err(unknown(byte, offset)),
+        0x28 => Some(LoadOperator::I32Load),
+        0x29 => Some(LoadOperator::I64Load),
+        0x2C => Some(LoadOperator::I32Load8S),
+        0x2D => Some(LoadOperator::I32Load8U),
+        0x2E => Some(LoadOperator::I32Load16S),
+        0x2F => Some(LoadOperator::I32Load16U),
+        0x30 => Some(LoadOperator::I64Load8S),
+        0x31 => Some(LoadOperator::I64Load8U),
+        0x32 => Some(LoadOperator::I64Load16S),
+        0x33 => Some(LoadOperator::I64Load16U),
+        0x34 => Some(LoadOperator::I64Load32S),
+        0x35 => Some(LoadOperator::I64Load32U),
+        _ => None,
     }
 }
 
-/// What follows an opcode of the loads (section 5.4.4).
+/// What follows an opcode of the loads (section 5.4.4). Those of floating point are refused before what follows them is read.
 #[tactic(auto, unfolding(crate::specs::internal::CodeReading::load_after))]
 fn load(
     alloc: Global,
@@ -247,31 +248,30 @@ fn load(
 ) -> Result<Instruction, LoadFault>
     ensures { Gives (λ x. (x, cursor.new)) result (load_after byte cursor.old) }
 {
-    match byte {
-        // Those of floating point are refused before what follows them is read.
-        0x2A | 0x2B => Err(unknown(byte, offset)),
-        _ => load_with(byte, offset, MemArg::decode(alloc, cursor)?),
+    match load_operator(byte) {
+        Some(operator) => Ok(Instruction::Load(operator, MemArg::decode(alloc, cursor)?)),
+        None => Err(unknown(byte, offset)),
     }
 }
 
-/// The store of this opcode, to this address.
-#[tactic(auto, unfolding(crate::specs::internal::CodeReading::store_with))]
-fn store_with(byte: u8, offset: u32, argument: MemArg) -> Result<Instruction, LoadFault>
-    ensures { Gives (λ i. i) result (store_with byte argument) }
+/// The store of this opcode.
+#[tactic(auto, unfolding(crate::specs::internal::CodeReading::store_of))]
+fn store_operator(byte: u8) -> Option<StoreOperator>
+    ensures { result ≡ store_of byte }
 {
     match byte {
-        0x36 => Ok(Instruction::I32Store(argument)),
-        0x37 => Ok(Instruction::I64Store(argument)),
-        0x3A => Ok(Instruction::I32Store8(argument)),
-        0x3B => Ok(Instruction::I32Store16(argument)),
-        0x3C => Ok(Instruction::I64Store8(argument)),
-        0x3D => Ok(Instruction::I64Store16(argument)),
-        0x3E => Ok(Instruction::I64Store32(argument)),
-        _ => Err(unknown(byte, offset)),
+        0x36 => Some(StoreOperator::I32Store),
+        0x37 => Some(StoreOperator::I64Store),
+        0x3A => Some(StoreOperator::I32Store8),
+        0x3B => Some(StoreOperator::I32Store16),
+        0x3C => Some(StoreOperator::I64Store8),
+        0x3D => Some(StoreOperator::I64Store16),
+        0x3E => Some(StoreOperator::I64Store32),
+        _ => None,
     }
 }
 
-/// What follows an opcode of the stores, or of the size of memory (section 5.4.4).
+/// What follows an opcode of the stores (section 5.4.4). Those of floating point are refused before what follows them is read.
 #[tactic(auto, unfolding(crate::specs::internal::CodeReading::store_after))]
 fn store(
     alloc: Global,
@@ -281,9 +281,18 @@ fn store(
 ) -> Result<Instruction, LoadFault>
     ensures { Gives (λ x. (x, cursor.new)) result (store_after byte cursor.old) }
 {
+    match store_operator(byte) {
+        Some(operator) => Ok(Instruction::Store(operator, MemArg::decode(alloc, cursor)?)),
+        None => Err(unknown(byte, offset)),
+    }
+}
+
+/// What follows an opcode of the instructions on the size of memory (section 5.4.4).
+#[tactic(auto, unfolding(crate::specs::internal::CodeReading::size_after))]
+fn memory_size(cursor: &mut Cursor<'_>, byte: u8, offset: u32) -> Result<Instruction, LoadFault>
+    ensures { Gives (λ x. (x, cursor.new)) result (size_after byte cursor.old) }
+{
     match byte {
-        // Those of floating point are refused before what follows them is read.
-        0x38 | 0x39 => Err(unknown(byte, offset)),
         0x3F => {
             cursor.zero()?;
             Ok(Instruction::MemorySize)
@@ -292,7 +301,7 @@ fn store(
             cursor.zero()?;
             Ok(Instruction::MemoryGrow)
         }
-        _ => store_with(byte, offset, MemArg::decode(alloc, cursor)?),
+        _ => Err(unknown(byte, offset)),
     }
 }
 
@@ -358,7 +367,8 @@ impl<'a> Decode<'a> for Instruction {
             0x00..=0x11 => control(alloc, cursor, byte, offset),
             0x12..=0x27 => variable(cursor, byte, offset),
             0x28..=0x35 => load(alloc, cursor, byte, offset),
-            0x36..=0x40 => store(alloc, cursor, byte, offset),
+            0x36..=0x3E => store(alloc, cursor, byte, offset),
+            0x3F..=0x40 => memory_size(cursor, byte, offset),
             _ => match numeric(byte) {
                 Some(instruction) => Ok(instruction),
                 None => Err(unknown(byte, offset)),

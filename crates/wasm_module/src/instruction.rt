@@ -1,5 +1,6 @@
 //! Types of values, and decoded instructions.
 
+use crate::accesses::{LoadOperator, StoreOperator};
 use crate::items::Items;
 use std::alloc::{AllocError, Global};
 use std::marker::Model;
@@ -143,25 +144,8 @@ pub enum Instruction {
     LocalTee(u32),
     GlobalGet(u32),
     GlobalSet(u32),
-    I32Load(MemArg),
-    I64Load(MemArg),
-    I32Load8S(MemArg),
-    I32Load8U(MemArg),
-    I32Load16S(MemArg),
-    I32Load16U(MemArg),
-    I64Load8S(MemArg),
-    I64Load8U(MemArg),
-    I64Load16S(MemArg),
-    I64Load16U(MemArg),
-    I64Load32S(MemArg),
-    I64Load32U(MemArg),
-    I32Store(MemArg),
-    I64Store(MemArg),
-    I32Store8(MemArg),
-    I32Store16(MemArg),
-    I64Store8(MemArg),
-    I64Store16(MemArg),
-    I64Store32(MemArg),
+    Load(LoadOperator, MemArg),
+    Store(StoreOperator, MemArg),
     MemorySize,
     MemoryGrow,
     MemoryCopy,

@@ -1,6 +1,7 @@
 //! WebAssembly modules, decoded from the binary format.
 #![tactic(auto)]
 
+mod accesses;
 mod code;
 mod cursor;
 mod decoding;
@@ -13,6 +14,7 @@ mod number;
 mod open_blocks;
 mod parts;
 
+pub use accesses::{Access, LoadOperator, StoreOperator};
 pub use decoding::{decode, one_module};
 pub use fault::LoadFault;
 pub use instruction::{

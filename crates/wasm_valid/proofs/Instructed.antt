@@ -12,13 +12,15 @@ use Rattle.wasm_module.specs.declared.instruction.BlockType.TheVariants.{Empty, 
 use Rattle.wasm_module.specs.declared.instruction.MemArg.{MemArg}
 use Rattle.wasm_module.specs.declared.instruction.UnaryOperator.{UnaryOperator}
 use Rattle.wasm_module.specs.declared.instruction.UnaryOperator.TheVariants.{Extend32S}
+use Rattle.wasm_module.specs.declared.accesses.Access.{Access}
+use Rattle.wasm_module.specs.Accesses.{load_access, store_access}
 use Rattle.wasm_module.specs.declared.instruction.Instruction.{Instruction}
 use Rattle.wasm_module.specs.declared.instruction.Instruction.TheVariants as op
 use Rattle.wasm_module.specs.declared.module.FuncType.{FuncType}
 use Rattle.wasm_module.specs.declared.module.GlobalType.{GlobalType}
 use Rattle.wasm_valid.specs.declared.effects.Takes.{Takes}
 use Rattle.wasm_valid.specs.declared.effects.Takes.TheVariants.{Nothing, One, Two, Three}
-use Rattle.wasm_valid.specs.declared.effects.Access.{Access}
+use Rattle.wasm_valid.specs.declared.effects.MemoryEffect.{MemoryEffect}
 use Rattle.wasm_valid.specs.Typing.{Context, Labels, Moves, Leaves, Loads, Stores, IsOperator, OpTyped, results_of}
 use Rattle.wasm_valid.specs.internal.Stack.{Stack, if_true, when, is_same, pop, pops, push, moved, left}
 use Rattle.wasm_valid.specs.internal.Effects.{taken, effect, access, load, store, access_of, is_operator, numeric_effect, accessed, variable_effect, applied, are_same, keeps, all_keep, table_label, called, called_indirect, after}
@@ -71,11 +73,11 @@ access_walks has_memory align most takes gives s =
     (λ a b q. (true_and has_memory (nat_le align most) q.0 (le-leb align most (width_le align most q.1)), q.2))
     (effect_walks (has_memory && nat_le align most) takes gives s)
 
-load_walks : (c : Context) (t : ValueType) (most : ℕ) (m : MemArg) (s : Stack) → ComputesTyping (λ a b. Loads c t (2 ^ most) m a b) s (applied (accessed c.has_memory (Some (load m most t)) None) s)
-load_walks c t most m s = access_walks c.has_memory m.align most (One I32) (Value t) s
+load_walks : (c : Context) (n : Access) (m : MemArg) (s : Stack) → ComputesTyping (λ a b. Loads c n m a b) s (applied (accessed c.has_memory (Some (load m n.width n.value_type)) None) s)
+load_walks c n m s = access_walks c.has_memory m.align n.width (One I32) (Value n.value_type) s
 
-store_walks : (c : Context) (t : ValueType) (most : ℕ) (m : MemArg) (s : Stack) → ComputesTyping (λ a b. Stores c t (2 ^ most) m a b) s (applied (accessed c.has_memory (Some (store m most t)) None) s)
-store_walks c t most m s = access_walks c.has_memory m.align most (Two t I32) Empty s
+store_walks : (c : Context) (n : Access) (m : MemArg) (s : Stack) → ComputesTyping (λ a b. Stores c n m a b) s (applied (accessed c.has_memory (Some (store m n.width n.value_type)) None) s)
+store_walks c n m s = access_walks c.has_memory m.align n.width (Two n.value_type I32) Empty s
 
 memory_walks : (c : Context) (takes : Takes) (gives : BlockType) (s : Stack) → ComputesTyping (λ a b. (c.has_memory ≡ true) × Moves (taken takes) (results_of gives) a b) s (applied (accessed c.has_memory (Some (access 0 0 takes gives)) None) s)
 memory_walks c takes gives s =
@@ -197,25 +199,8 @@ op_walks c ls (op.LocalSet x) s = lookup_walks (λ (t : ValueType). One t) (λ t
 op_walks c ls (op.LocalTee x) s = lookup_walks (λ (t : ValueType). One t) (λ t. Value t) s (slice_get c.locals x)
 op_walks c ls (op.GlobalGet x) s = lookup_walks (λ (g : GlobalType). Nothing) (λ g. Value g.value_type) s (slice_get c.globals x)
 op_walks c ls (op.GlobalSet x) s = set_walks s (slice_get c.globals x)
-op_walks c ls (op.I32Load m) s = load_walks c I32 2 m s
-op_walks c ls (op.I64Load m) s = load_walks c I64 3 m s
-op_walks c ls (op.I32Load8S m) s = load_walks c I32 0 m s
-op_walks c ls (op.I32Load8U m) s = load_walks c I32 0 m s
-op_walks c ls (op.I32Load16S m) s = load_walks c I32 1 m s
-op_walks c ls (op.I32Load16U m) s = load_walks c I32 1 m s
-op_walks c ls (op.I64Load8S m) s = load_walks c I64 0 m s
-op_walks c ls (op.I64Load8U m) s = load_walks c I64 0 m s
-op_walks c ls (op.I64Load16S m) s = load_walks c I64 1 m s
-op_walks c ls (op.I64Load16U m) s = load_walks c I64 1 m s
-op_walks c ls (op.I64Load32S m) s = load_walks c I64 2 m s
-op_walks c ls (op.I64Load32U m) s = load_walks c I64 2 m s
-op_walks c ls (op.I32Store m) s = store_walks c I32 2 m s
-op_walks c ls (op.I64Store m) s = store_walks c I64 3 m s
-op_walks c ls (op.I32Store8 m) s = store_walks c I32 0 m s
-op_walks c ls (op.I32Store16 m) s = store_walks c I32 1 m s
-op_walks c ls (op.I64Store8 m) s = store_walks c I64 0 m s
-op_walks c ls (op.I64Store16 m) s = store_walks c I64 1 m s
-op_walks c ls (op.I64Store32 m) s = store_walks c I64 2 m s
+op_walks c ls (op.Load o m) s = load_walks c (load_access o) m s
+op_walks c ls (op.Store o m) s = store_walks c (store_access o) m s
 op_walks c ls op.MemorySize s = memory_walks c Nothing (Value I32) s
 op_walks c ls op.MemoryGrow s = memory_walks c (One I32) (Value I32) s
 op_walks c ls op.MemoryCopy s = memory_walks c (Three I32 I32 I32) Empty s
@@ -232,7 +217,7 @@ op_walks c ls op.I64ExtendI32U s = moved_walks (I32 ∷ []) (I64 ∷ []) s
 
 -- ---- an instruction by what was found of it
 
-pub access_effect : (c : Context) (i : Instruction) (a : Access) → Some a ≡ access_of i → variable_effect c i ≡ if_true (c.has_memory && nat_le a.align a.most) a.effect
+pub access_effect : (c : Context) (i : Instruction) (a : MemoryEffect) → Some a ≡ access_of i → variable_effect c i ≡ if_true (c.has_memory && nat_le a.align a.most) a.effect
 access_effect c (op.LocalGet x) a e = cc
 access_effect c (op.LocalSet x) a e = cc
 access_effect c (op.LocalTee x) a e = cc

@@ -3,6 +3,7 @@ use Rattle.std.proofs.Common.{◌≡◌, List, [], ◌∷◌, ◌++◌, refl, sy
 use Rattle.wasm_module.specs.declared.instruction.ValueType.{ValueType}
 use Rattle.wasm_module.specs.declared.instruction.ValueType.TheVariants.{I32, I64}
 use Rattle.wasm_module.specs.declared.instruction.BlockType.{BlockType}
+use Rattle.wasm_module.specs.Accesses.{load_access, store_access}
 use Rattle.wasm_module.specs.declared.instruction.Instruction.{Instruction}
 use Rattle.wasm_module.specs.declared.instruction.Instruction.TheVariants as op
 use Rattle.wasm_module.specs.Instructions.{Instructions, done, plain, block, loop, if_then, if_else, invoke, append}
@@ -39,25 +40,8 @@ op_wide c ls (op.LocalSet x) a b w h = (h.0, h.1, moves_wide (h.0 ∷ []) [] a b
 op_wide c ls (op.LocalTee x) a b w h = (h.0, h.1, moves_wide (h.0 ∷ []) (h.0 ∷ []) a b w h.2)
 op_wide c ls (op.GlobalGet x) a b w h = (h.0, h.1, moves_wide [] (h.0.value_type ∷ []) a b w h.2)
 op_wide c ls (op.GlobalSet x) a b w h = (h.0, h.1, h.2, moves_wide (h.0.value_type ∷ []) [] a b w h.3)
-op_wide c ls (op.I32Load m) a b w h = (h.0, h.1, moves_wide (I32 ∷ []) (I32 ∷ []) a b w h.2)
-op_wide c ls (op.I64Load m) a b w h = (h.0, h.1, moves_wide (I32 ∷ []) (I64 ∷ []) a b w h.2)
-op_wide c ls (op.I32Load8S m) a b w h = (h.0, h.1, moves_wide (I32 ∷ []) (I32 ∷ []) a b w h.2)
-op_wide c ls (op.I32Load8U m) a b w h = (h.0, h.1, moves_wide (I32 ∷ []) (I32 ∷ []) a b w h.2)
-op_wide c ls (op.I32Load16S m) a b w h = (h.0, h.1, moves_wide (I32 ∷ []) (I32 ∷ []) a b w h.2)
-op_wide c ls (op.I32Load16U m) a b w h = (h.0, h.1, moves_wide (I32 ∷ []) (I32 ∷ []) a b w h.2)
-op_wide c ls (op.I64Load8S m) a b w h = (h.0, h.1, moves_wide (I32 ∷ []) (I64 ∷ []) a b w h.2)
-op_wide c ls (op.I64Load8U m) a b w h = (h.0, h.1, moves_wide (I32 ∷ []) (I64 ∷ []) a b w h.2)
-op_wide c ls (op.I64Load16S m) a b w h = (h.0, h.1, moves_wide (I32 ∷ []) (I64 ∷ []) a b w h.2)
-op_wide c ls (op.I64Load16U m) a b w h = (h.0, h.1, moves_wide (I32 ∷ []) (I64 ∷ []) a b w h.2)
-op_wide c ls (op.I64Load32S m) a b w h = (h.0, h.1, moves_wide (I32 ∷ []) (I64 ∷ []) a b w h.2)
-op_wide c ls (op.I64Load32U m) a b w h = (h.0, h.1, moves_wide (I32 ∷ []) (I64 ∷ []) a b w h.2)
-op_wide c ls (op.I32Store m) a b w h = (h.0, h.1, moves_wide (I32 ∷ I32 ∷ []) [] a b w h.2)
-op_wide c ls (op.I64Store m) a b w h = (h.0, h.1, moves_wide (I64 ∷ I32 ∷ []) [] a b w h.2)
-op_wide c ls (op.I32Store8 m) a b w h = (h.0, h.1, moves_wide (I32 ∷ I32 ∷ []) [] a b w h.2)
-op_wide c ls (op.I32Store16 m) a b w h = (h.0, h.1, moves_wide (I32 ∷ I32 ∷ []) [] a b w h.2)
-op_wide c ls (op.I64Store8 m) a b w h = (h.0, h.1, moves_wide (I64 ∷ I32 ∷ []) [] a b w h.2)
-op_wide c ls (op.I64Store16 m) a b w h = (h.0, h.1, moves_wide (I64 ∷ I32 ∷ []) [] a b w h.2)
-op_wide c ls (op.I64Store32 m) a b w h = (h.0, h.1, moves_wide (I64 ∷ I32 ∷ []) [] a b w h.2)
+op_wide c ls (op.Load o m) a b w h = (h.0, h.1, moves_wide (I32 ∷ []) ((load_access o).value_type ∷ []) a b w h.2)
+op_wide c ls (op.Store o m) a b w h = (h.0, h.1, moves_wide ((store_access o).value_type ∷ I32 ∷ []) [] a b w h.2)
 op_wide c ls op.MemorySize a b w h = (h.0, moves_wide [] (I32 ∷ []) a b w h.1)
 op_wide c ls op.MemoryGrow a b w h = (h.0, moves_wide (I32 ∷ []) (I32 ∷ []) a b w h.1)
 op_wide c ls op.MemoryCopy a b w h = (h.0, moves_wide (I32 ∷ I32 ∷ I32 ∷ []) [] a b w h.1)

@@ -6,6 +6,8 @@ use Rattle.wasm_module.specs.declared.instruction.ValueType.TheVariants.{I32, I6
 use Rattle.wasm_module.specs.declared.instruction.BlockType.{BlockType}
 use Rattle.wasm_module.specs.declared.instruction.BlockType.TheVariants.{Empty, Value}
 use Rattle.wasm_module.specs.declared.instruction.MemArg.{MemArg}
+use Rattle.wasm_module.specs.declared.accesses.Access.{Access}
+use Rattle.wasm_module.specs.Accesses.{load_access, store_access}
 use Rattle.wasm_module.specs.declared.instruction.UnaryOperator.{UnaryOperator}
 use Rattle.wasm_module.specs.declared.instruction.UnaryOperator.TheVariants.{Extend32S}
 use Rattle.wasm_module.specs.declared.instruction.Instruction.{Instruction}
@@ -46,12 +48,12 @@ Moves takes gives a b = (t : List ValueType) × (a ≡ takes ++ t) × (b ≡ giv
 abbrev pub Leaves : List ValueType → List ValueType → Type 0
 Leaves takes a = (t : List ValueType) × (a ≡ takes ++ t)
 
--- a load and a store of this many bytes (section 3.3.4): the alignment is not over the width
-abbrev pub Loads : Context → ValueType → ℕ → MemArg → List ValueType → List ValueType → Type 0
-Loads c t n m a b = (c.has_memory ≡ true) × (2 ^ m.align ≤ n) × Moves (I32 ∷ []) (t ∷ []) a b
+-- a load and a store (section 3.3.4): the alignment is not over the bytes of the number
+abbrev pub Loads : Context → Access → MemArg → List ValueType → List ValueType → Type 0
+Loads c n m a b = (c.has_memory ≡ true) × (2 ^ m.align ≤ 2 ^ n.width) × Moves (I32 ∷ []) (n.value_type ∷ []) a b
 
-abbrev pub Stores : Context → ValueType → ℕ → MemArg → List ValueType → List ValueType → Type 0
-Stores c t n m a b = (c.has_memory ≡ true) × (2 ^ m.align ≤ n) × Moves (t ∷ I32 ∷ []) [] a b
+abbrev pub Stores : Context → Access → MemArg → List ValueType → List ValueType → Type 0
+Stores c n m a b = (c.has_memory ≡ true) × (2 ^ m.align ≤ 2 ^ n.width) × Moves (n.value_type ∷ I32 ∷ []) [] a b
 
 -- extend32_s is only of i64
 abbrev pub IsOperator : ValueType → UnaryOperator → Type 0
@@ -83,25 +85,8 @@ OpTyped c ls (op.LocalTee x) a b = (t : ValueType) × (slice_get c.locals x ≡ 
 OpTyped c ls (op.GlobalGet x) a b = (g : GlobalType) × (slice_get c.globals x ≡ Some g) × Moves [] (g.value_type ∷ []) a b
 OpTyped c ls (op.GlobalSet x) a b =
     (g : GlobalType) × (slice_get c.globals x ≡ Some g) × (g.mutable ≡ true) × Moves (g.value_type ∷ []) [] a b
-OpTyped c ls (op.I32Load m) a b = Loads c I32 4 m a b
-OpTyped c ls (op.I64Load m) a b = Loads c I64 8 m a b
-OpTyped c ls (op.I32Load8S m) a b = Loads c I32 1 m a b
-OpTyped c ls (op.I32Load8U m) a b = Loads c I32 1 m a b
-OpTyped c ls (op.I32Load16S m) a b = Loads c I32 2 m a b
-OpTyped c ls (op.I32Load16U m) a b = Loads c I32 2 m a b
-OpTyped c ls (op.I64Load8S m) a b = Loads c I64 1 m a b
-OpTyped c ls (op.I64Load8U m) a b = Loads c I64 1 m a b
-OpTyped c ls (op.I64Load16S m) a b = Loads c I64 2 m a b
-OpTyped c ls (op.I64Load16U m) a b = Loads c I64 2 m a b
-OpTyped c ls (op.I64Load32S m) a b = Loads c I64 4 m a b
-OpTyped c ls (op.I64Load32U m) a b = Loads c I64 4 m a b
-OpTyped c ls (op.I32Store m) a b = Stores c I32 4 m a b
-OpTyped c ls (op.I64Store m) a b = Stores c I64 8 m a b
-OpTyped c ls (op.I32Store8 m) a b = Stores c I32 1 m a b
-OpTyped c ls (op.I32Store16 m) a b = Stores c I32 2 m a b
-OpTyped c ls (op.I64Store8 m) a b = Stores c I64 1 m a b
-OpTyped c ls (op.I64Store16 m) a b = Stores c I64 2 m a b
-OpTyped c ls (op.I64Store32 m) a b = Stores c I64 4 m a b
+OpTyped c ls (op.Load o m) a b = Loads c (load_access o) m a b
+OpTyped c ls (op.Store o m) a b = Stores c (store_access o) m a b
 OpTyped c ls op.MemorySize a b = (c.has_memory ≡ true) × Moves [] (I32 ∷ []) a b
 OpTyped c ls op.MemoryGrow a b = (c.has_memory ≡ true) × Moves (I32 ∷ []) (I32 ∷ []) a b
 OpTyped c ls op.MemoryCopy a b = (c.has_memory ≡ true) × Moves (I32 ∷ I32 ∷ I32 ∷ []) [] a b

@@ -1,9 +1,9 @@
 //! What an instruction of fixed type takes from the stack and leaves there (section 3.3).
 
 ghost use Rattle.std.specs.Prelude.{◌≡◌};
-ghost use Rattle.wasm_valid.specs.internal.Effects.{effect, access, load, store, load_of, store_of, range_of, access_of, is_operator, numeric_effect};
+ghost use Rattle.wasm_valid.specs.internal.Effects.{effect, access, load, store, access_of, is_operator, numeric_effect};
 
-use wasm_module::{BlockType, Instruction, MemArg, UnaryOperator, ValueType};
+use wasm_module::{Access, BlockType, Instruction, MemArg, UnaryOperator, ValueType};
 
 /// Types that are taken, the one on top first.
 #[derive(Clone, Copy)]
@@ -24,7 +24,7 @@ pub struct Effect {
 /// An instruction on memory: what its alignment is, as an exponent of 2, and what it may be at
 /// most.
 #[derive(Clone, Copy)]
-pub struct Access {
+pub struct MemoryEffect {
     pub align: u32,
     pub most: u32,
     pub effect: Effect,
@@ -39,105 +39,60 @@ impl Effect {
     }
 }
 
-/// A load that gives this type; its width is the exponent of 2.
-fn load(arg: MemArg, width: u32, value_type: ValueType) -> Option<Access>
-    ensures { result ≡ Some (load arg width value_type) }
+/// A load of this number.
+fn load(arg: MemArg, loaded: Access) -> MemoryEffect
+    ensures { result ≡ load arg loaded.width loaded.value_type }
 {
-    Some(Access {
+    MemoryEffect {
         align: arg.align,
-        most: width,
-        effect: Effect::new(Takes::One(ValueType::I32), BlockType::Value(value_type)),
-    })
+        most: loaded.width,
+        effect: Effect::new(
+            Takes::One(ValueType::I32),
+            BlockType::Value(loaded.value_type),
+        ),
+    }
 }
 
-/// A store of this type; its width is the exponent of 2.
-fn store(arg: MemArg, width: u32, value_type: ValueType) -> Option<Access>
-    ensures { result ≡ Some (store arg width value_type) }
+/// A store of this number.
+fn store(arg: MemArg, stored: Access) -> MemoryEffect
+    ensures { result ≡ store arg stored.width stored.value_type }
 {
-    Some(Access {
+    MemoryEffect {
         align: arg.align,
-        most: width,
-        effect: Effect::new(Takes::Two(value_type, ValueType::I32), BlockType::Empty),
-    })
+        most: stored.width,
+        effect: Effect::new(
+            Takes::Two(stored.value_type, ValueType::I32),
+            BlockType::Empty,
+        ),
+    }
 }
 
 /// An instruction on memory that has no alignment.
-fn unaligned(takes: Takes, gives: BlockType) -> Option<Access>
-    ensures { result ≡ Some (access 0 0 takes gives) }
+fn unaligned(takes: Takes, gives: BlockType) -> MemoryEffect
+    ensures { result ≡ access 0 0 takes gives }
 {
-    Some(Access {
+    MemoryEffect {
         align: 0,
         most: 0,
         effect: Effect::new(takes, gives),
-    })
-}
-
-// Three functions tell the instructions on memory apart, since a match costs its proof the square of
-// its arms.
-
-/// A load; None for any other instruction.
-fn loaded(instruction: &Instruction) -> Option<Access>
-    ensures { result ≡ load_of instruction.now }
-{
-    match instruction {
-        Instruction::I32Load(arg) => load(*arg, 2, ValueType::I32),
-        Instruction::I64Load(arg) => load(*arg, 3, ValueType::I64),
-        Instruction::I32Load8S(arg) => load(*arg, 0, ValueType::I32),
-        Instruction::I32Load8U(arg) => load(*arg, 0, ValueType::I32),
-        Instruction::I32Load16S(arg) => load(*arg, 1, ValueType::I32),
-        Instruction::I32Load16U(arg) => load(*arg, 1, ValueType::I32),
-        Instruction::I64Load8S(arg) => load(*arg, 0, ValueType::I64),
-        Instruction::I64Load8U(arg) => load(*arg, 0, ValueType::I64),
-        Instruction::I64Load16S(arg) => load(*arg, 1, ValueType::I64),
-        Instruction::I64Load16U(arg) => load(*arg, 1, ValueType::I64),
-        Instruction::I64Load32S(arg) => load(*arg, 2, ValueType::I64),
-        Instruction::I64Load32U(arg) => load(*arg, 2, ValueType::I64),
-        _ => None,
-    }
-}
-
-/// A store; None for any other instruction.
-fn stored(instruction: &Instruction) -> Option<Access>
-    ensures { result ≡ store_of instruction.now }
-{
-    match instruction {
-        Instruction::I32Store(arg) => store(*arg, 2, ValueType::I32),
-        Instruction::I64Store(arg) => store(*arg, 3, ValueType::I64),
-        Instruction::I32Store8(arg) => store(*arg, 0, ValueType::I32),
-        Instruction::I32Store16(arg) => store(*arg, 1, ValueType::I32),
-        Instruction::I64Store8(arg) => store(*arg, 0, ValueType::I64),
-        Instruction::I64Store16(arg) => store(*arg, 1, ValueType::I64),
-        Instruction::I64Store32(arg) => store(*arg, 2, ValueType::I64),
-        _ => None,
-    }
-}
-
-/// An instruction on the whole memory or on a range of it; None for any other.
-fn ranged(instruction: &Instruction) -> Option<Access>
-    ensures { result ≡ range_of instruction.now }
-{
-    let three = Takes::Three(ValueType::I32, ValueType::I32, ValueType::I32);
-    let address = BlockType::Value(ValueType::I32);
-    match instruction {
-        Instruction::MemorySize => unaligned(Takes::Nothing, address),
-        Instruction::MemoryGrow => unaligned(Takes::One(ValueType::I32), address),
-        Instruction::MemoryCopy => unaligned(three, BlockType::Empty),
-        Instruction::MemoryFill => unaligned(three, BlockType::Empty),
-        _ => None,
     }
 }
 
 /// An instruction on memory (section 3.3.4); None for any other.
-pub fn on_memory(instruction: &Instruction) -> Option<Access>
+pub fn on_memory(instruction: &Instruction) -> Option<MemoryEffect>
     ensures { result ≡ access_of instruction.now }
 {
-    if let Some(access) = loaded(instruction) {
-        return Some(access);
-    }
-    if let Some(access) = stored(instruction) {
-        return Some(access);
-    }
-    ranged(instruction)
+    let three = Takes::Three(ValueType::I32, ValueType::I32, ValueType::I32);
+    let address = BlockType::Value(ValueType::I32);
+    let access = match instruction {
+        Instruction::Load(operator, arg) => load(*arg, operator.access()),
+        Instruction::Store(operator, arg) => store(*arg, operator.access()),
+        Instruction::MemorySize => unaligned(Takes::Nothing, address),
+        Instruction::MemoryGrow => unaligned(Takes::One(ValueType::I32), address),
+        Instruction::MemoryCopy | Instruction::MemoryFill => unaligned(three, BlockType::Empty),
+        _ => return None,
+    };
+    Some(access)
 }
 
 /// Whether there is such an operator on this type.

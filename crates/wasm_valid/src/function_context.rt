@@ -6,7 +6,7 @@ ghost use Rattle.wasm_valid.specs.Typing.{Context, results_of};
 ghost use Rattle.wasm_valid.specs.internal.Stack.{if_true};
 ghost use Rattle.wasm_valid.specs.internal.Effects.{variable_effect};
 
-use crate::effects::{Access, Effect, Takes, numeric, on_memory};
+use crate::effects::{Effect, MemoryEffect, Takes, numeric, on_memory};
 use crate::locals::LocalTypes;
 use crate::module_context::ModuleContext;
 use wasm_module::{BlockType, FuncType, GlobalType, Instruction, ValueType};
@@ -84,7 +84,7 @@ impl<'s, 'm> FunctionContext<'s, 'm> {
     }
 
     /// The type of an instruction on memory, if there is one.
-    fn memory_effect(&self, access: Access) -> Option<Effect>
+    fn memory_effect(&self, access: MemoryEffect) -> Option<Effect>
         ensures { (c : Context) → IsFunctionContext self.now c
             → result ≡ if_true (c.has_memory && nat_le access.align access.most) access.effect }
     {

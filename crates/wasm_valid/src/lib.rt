@@ -18,6 +18,7 @@ mod valid;
 mod validating;
 
 pub use laws::typed_by_rules;
+pub use module_rules::imported_functions;
 pub use valid::Valid;
 pub use validating::validate;
 pub use wasm_module::LoadFault;

@@ -5,6 +5,10 @@ use Rattle.wasm_module.specs.declared.instruction.ValueType.{ValueType}
 use Rattle.wasm_module.specs.declared.instruction.ValueType.TheVariants.{I32, I64}
 use Rattle.wasm_module.specs.declared.instruction.BlockType.{BlockType}
 use Rattle.wasm_module.specs.declared.instruction.MemArg.{MemArg}
+use Rattle.wasm_module.specs.declared.accesses.LoadOperator.{LoadOperator}
+use Rattle.wasm_module.specs.declared.accesses.LoadOperator.TheVariants as load
+use Rattle.wasm_module.specs.declared.accesses.StoreOperator.{StoreOperator}
+use Rattle.wasm_module.specs.declared.accesses.StoreOperator.TheVariants as store
 use Rattle.wasm_module.specs.declared.instruction.Comparison.{Comparison}
 use Rattle.wasm_module.specs.declared.instruction.Comparison.TheVariants as comparison
 use Rattle.wasm_module.specs.declared.instruction.UnaryOperator.{UnaryOperator}
@@ -142,34 +146,45 @@ variable_after b =
     if b == 0x24 then map_at op.GlobalSet u32_at else (
     (λ rest. None))))))))
 
+unfoldable pub load_of : ℕ → Option LoadOperator
+load_of b =
+    if b == 0x28 then Some load.I32Load else (
+    if b == 0x29 then Some load.I64Load else (
+    if b == 0x2C then Some load.I32Load8S else (
+    if b == 0x2D then Some load.I32Load8U else (
+    if b == 0x2E then Some load.I32Load16S else (
+    if b == 0x2F then Some load.I32Load16U else (
+    if b == 0x30 then Some load.I64Load8S else (
+    if b == 0x31 then Some load.I64Load8U else (
+    if b == 0x32 then Some load.I64Load16S else (
+    if b == 0x33 then Some load.I64Load16U else (
+    if b == 0x34 then Some load.I64Load32S else (
+    if b == 0x35 then Some load.I64Load32U else (
+    None))))))))))))
+
 unfoldable pub load_after : ℕ → Reader Instruction
-load_after b =
-    if b == 0x28 then map_at op.I32Load mem_arg_at else (
-    if b == 0x29 then map_at op.I64Load mem_arg_at else (
-    if b == 0x2C then map_at op.I32Load8S mem_arg_at else (
-    if b == 0x2D then map_at op.I32Load8U mem_arg_at else (
-    if b == 0x2E then map_at op.I32Load16S mem_arg_at else (
-    if b == 0x2F then map_at op.I32Load16U mem_arg_at else (
-    if b == 0x30 then map_at op.I64Load8S mem_arg_at else (
-    if b == 0x31 then map_at op.I64Load8U mem_arg_at else (
-    if b == 0x32 then map_at op.I64Load16S mem_arg_at else (
-    if b == 0x33 then map_at op.I64Load16U mem_arg_at else (
-    if b == 0x34 then map_at op.I64Load32S mem_arg_at else (
-    if b == 0x35 then map_at op.I64Load32U mem_arg_at else (
-    (λ rest. None)))))))))))))
+load_after b rest = load_of b >>= λ o. map_at (op.Load o) mem_arg_at rest
+
+unfoldable pub store_of : ℕ → Option StoreOperator
+store_of b =
+    if b == 0x36 then Some store.I32Store else (
+    if b == 0x37 then Some store.I64Store else (
+    if b == 0x3A then Some store.I32Store8 else (
+    if b == 0x3B then Some store.I32Store16 else (
+    if b == 0x3C then Some store.I64Store8 else (
+    if b == 0x3D then Some store.I64Store16 else (
+    if b == 0x3E then Some store.I64Store32 else (
+    None)))))))
 
 unfoldable pub store_after : ℕ → Reader Instruction
-store_after b =
-    if b == 0x36 then map_at op.I32Store mem_arg_at else (
-    if b == 0x37 then map_at op.I64Store mem_arg_at else (
-    if b == 0x3A then map_at op.I32Store8 mem_arg_at else (
-    if b == 0x3B then map_at op.I32Store16 mem_arg_at else (
-    if b == 0x3C then map_at op.I64Store8 mem_arg_at else (
-    if b == 0x3D then map_at op.I64Store16 mem_arg_at else (
-    if b == 0x3E then map_at op.I64Store32 mem_arg_at else (
+store_after b rest = store_of b >>= λ o. map_at (op.Store o) mem_arg_at rest
+
+-- the size of memory and its growth
+unfoldable pub size_after : ℕ → Reader Instruction
+size_after b =
     if b == 0x3F then map_at (λ x. op.MemorySize) (byte_at 0x00) else (
     if b == 0x40 then map_at (λ x. op.MemoryGrow) (byte_at 0x00) else (
-    (λ rest. None))))))))))
+    (λ rest. None)))
 
 -- the beginning of a block with this opcode, with its type
 unfoldable pub block_with : ℕ → BlockType → Option Instruction
@@ -196,35 +211,6 @@ variable_with b n =
     if b == 0x24 then Some (op.GlobalSet n) else (
     None)))))
 
--- the load of this opcode, with what follows it
-unfoldable pub load_with : ℕ → MemArg → Option Instruction
-load_with b m =
-    if b == 0x28 then Some (op.I32Load m) else (
-    if b == 0x29 then Some (op.I64Load m) else (
-    if b == 0x2C then Some (op.I32Load8S m) else (
-    if b == 0x2D then Some (op.I32Load8U m) else (
-    if b == 0x2E then Some (op.I32Load16S m) else (
-    if b == 0x2F then Some (op.I32Load16U m) else (
-    if b == 0x30 then Some (op.I64Load8S m) else (
-    if b == 0x31 then Some (op.I64Load8U m) else (
-    if b == 0x32 then Some (op.I64Load16S m) else (
-    if b == 0x33 then Some (op.I64Load16U m) else (
-    if b == 0x34 then Some (op.I64Load32S m) else (
-    if b == 0x35 then Some (op.I64Load32U m) else (
-    None))))))))))))
-
--- the store of this opcode, with what follows it
-unfoldable pub store_with : ℕ → MemArg → Option Instruction
-store_with b m =
-    if b == 0x36 then Some (op.I32Store m) else (
-    if b == 0x37 then Some (op.I64Store m) else (
-    if b == 0x3A then Some (op.I32Store8 m) else (
-    if b == 0x3B then Some (op.I32Store16 m) else (
-    if b == 0x3C then Some (op.I64Store8 m) else (
-    if b == 0x3D then Some (op.I64Store16 m) else (
-    if b == 0x3E then Some (op.I64Store32 m) else (
-    None)))))))
-
 -- the instruction of this number after FC
 unfoldable pub bulk_after : ℕ → Reader Instruction
 bulk_after n =
@@ -244,8 +230,9 @@ instruction_after b =
     if nat_lt b 0x12 then control_after b else (
     if nat_lt b 0x28 then variable_after b else (
     if nat_lt b 0x36 then load_after b else (
-    if nat_lt b 0x41 then store_after b else (
-    numeric_after b)))))))
+    if nat_lt b 0x3F then store_after b else (
+    if nat_lt b 0x41 then size_after b else (
+    numeric_after b))))))))
 
 unfoldable pub instruction_at : Reader Instruction
 instruction_at bytes = next_at bytes >>= λ b. instruction_after b.0 b.1

@@ -13,10 +13,11 @@ use Rattle.wasm_module.specs.declared.instruction.UnaryOperator.TheVariants.{Ext
 use Rattle.wasm_module.specs.declared.instruction.Instruction.{Instruction}
 use Rattle.wasm_module.specs.declared.instruction.Instruction.TheVariants as op
 use Rattle.wasm_module.specs.declared.module.FuncType.{FuncType}
+use Rattle.wasm_module.specs.Accesses.{load_access, store_access}
 use Rattle.wasm_valid.specs.declared.effects.Takes.{Takes}
 use Rattle.wasm_valid.specs.declared.effects.Takes.TheVariants.{Nothing, One, Two, Three}
 use Rattle.wasm_valid.specs.declared.effects.Effect.{Effect}
-use Rattle.wasm_valid.specs.declared.effects.Access.{Access}
+use Rattle.wasm_valid.specs.declared.effects.MemoryEffect.{MemoryEffect}
 use Rattle.wasm_valid.specs.Typing.{Context, Labels, results_of}
 use Rattle.wasm_valid.specs.internal.Stack.{Stack, anything, if_true, when, is_same, moved, left, dropped, selected}
 
@@ -31,58 +32,24 @@ taken (Three t u v) = t ∷ u ∷ v ∷ []
 abbrev pub effect : Takes → BlockType → Effect
 effect t b = record { takes = t; gives = b }
 
-abbrev pub access : ℕ → ℕ → Takes → BlockType → Access
+abbrev pub access : ℕ → ℕ → Takes → BlockType → MemoryEffect
 access align most t b = record { align = align; most = most; effect = effect t b }
 
-abbrev pub load : MemArg → ℕ → ValueType → Access
+abbrev pub load : MemArg → ℕ → ValueType → MemoryEffect
 load m most t = access m.align most (One I32) (Value t)
 
-abbrev pub store : MemArg → ℕ → ValueType → Access
+abbrev pub store : MemArg → ℕ → ValueType → MemoryEffect
 store m most t = access m.align most (Two t I32) Empty
 
--- the loads
-abbrev pub load_of : Instruction → Option Access
-load_of (op.I32Load m) = Some (load m 2 I32)
-load_of (op.I64Load m) = Some (load m 3 I64)
-load_of (op.I32Load8S m) = Some (load m 0 I32)
-load_of (op.I32Load8U m) = Some (load m 0 I32)
-load_of (op.I32Load16S m) = Some (load m 1 I32)
-load_of (op.I32Load16U m) = Some (load m 1 I32)
-load_of (op.I64Load8S m) = Some (load m 0 I64)
-load_of (op.I64Load8U m) = Some (load m 0 I64)
-load_of (op.I64Load16S m) = Some (load m 1 I64)
-load_of (op.I64Load16U m) = Some (load m 1 I64)
-load_of (op.I64Load32S m) = Some (load m 2 I64)
-load_of (op.I64Load32U m) = Some (load m 2 I64)
-load_of i = None
-
--- the stores
-abbrev pub store_of : Instruction → Option Access
-store_of (op.I32Store m) = Some (store m 2 I32)
-store_of (op.I64Store m) = Some (store m 3 I64)
-store_of (op.I32Store8 m) = Some (store m 0 I32)
-store_of (op.I32Store16 m) = Some (store m 1 I32)
-store_of (op.I64Store8 m) = Some (store m 0 I64)
-store_of (op.I64Store16 m) = Some (store m 1 I64)
-store_of (op.I64Store32 m) = Some (store m 2 I64)
-store_of i = None
-
--- the other instructions on memory, whose alignment is 1 byte
-abbrev pub range_of : Instruction → Option Access
-range_of op.MemorySize = Some (access 0 0 Nothing (Value I32))
-range_of op.MemoryGrow = Some (access 0 0 (One I32) (Value I32))
-range_of op.MemoryCopy = Some (access 0 0 (Three I32 I32 I32) Empty)
-range_of op.MemoryFill = Some (access 0 0 (Three I32 I32 I32) Empty)
-range_of i = None
-
--- the first of two, where it is there
-abbrev pub or_else : Option Access → Option Access → Option Access
-or_else None other = other
-or_else (Some a) other = Some a
-
--- instructions on memory
-abbrev pub access_of : Instruction → Option Access
-access_of i = or_else (load_of i) (or_else (store_of i) (range_of i))
+-- instructions on memory: the size of memory and ranges of it have an alignment of 1 byte
+abbrev pub access_of : Instruction → Option MemoryEffect
+access_of (op.Load o m) = Some (load m (load_access o).width (load_access o).value_type)
+access_of (op.Store o m) = Some (store m (store_access o).width (store_access o).value_type)
+access_of op.MemorySize = Some (access 0 0 Nothing (Value I32))
+access_of op.MemoryGrow = Some (access 0 0 (One I32) (Value I32))
+access_of op.MemoryCopy = Some (access 0 0 (Three I32 I32 I32) Empty)
+access_of op.MemoryFill = Some (access 0 0 (Three I32 I32 I32) Empty)
+access_of i = None
 
 -- extend32_s is only of i64
 abbrev pub is_operator : ValueType → UnaryOperator → Bool
@@ -104,7 +71,7 @@ numeric_effect op.I64ExtendI32U = Some (effect (One I32) (Value I64))
 numeric_effect i = None
 
 -- with or without a memory
-abbrev pub accessed : Bool → Option Access → Option Effect → Option Effect
+abbrev pub accessed : Bool → Option MemoryEffect → Option Effect → Option Effect
 accessed has_memory None other = other
 accessed has_memory (Some a) other = if_true (has_memory && nat_le a.align a.most) a.effect
 

@@ -21,52 +21,6 @@ performs k i limit vs memory ws memory' is done = subst (λ (y : Instruction). P
 traps_so : (k i : Instruction) (e : Trap) (vs memory : List ℕ) → i ≡ k → Traps e k vs memory → Traps e i vs memory
 traps_so k i e vs memory is trapped = subst (λ (y : Instruction). Traps e y vs memory) (sym is) trapped
 
--- which load it is
-load_performs : (l : Option LoadOp) (s : Option StoreOp) (limit : ℕ) (i : Instruction) (vs memory ws : List ℕ) → Loads l vs memory ws → PerformsBy l s limit i vs memory ws memory
-load_performs (Some l) s limit i vs memory ws done = (done, refl)
-load_performs None s limit i vs memory ws done = absurd done.1
-
-load_traps : (l : Option LoadOp) (s : Option StoreOp) (i : Instruction) (vs memory : List ℕ) → Misses l memory (slice_index vs 0) → TrapsBy l s traps.OutOfBoundsMemory i vs memory
-load_traps (Some l) s i vs memory misses = (refl, misses)
-load_traps None s i vs memory misses = absurd misses
-
--- a load has its address on top
-load_deep : (i : Instruction) (vs memory ws : List ℕ) → Loads (load_of i) vs memory ws → IsReady i vs → 1 ≤ length vs
-load_deep (op.I32Load m) vs memory ws done ready = ready.0
-load_deep (op.I64Load m) vs memory ws done ready = ready.0
-load_deep (op.I32Load8S m) vs memory ws done ready = ready.0
-load_deep (op.I32Load8U m) vs memory ws done ready = ready.0
-load_deep (op.I32Load16S m) vs memory ws done ready = ready.0
-load_deep (op.I32Load16U m) vs memory ws done ready = ready.0
-load_deep (op.I64Load8S m) vs memory ws done ready = ready.0
-load_deep (op.I64Load8U m) vs memory ws done ready = ready.0
-load_deep (op.I64Load16S m) vs memory ws done ready = ready.0
-load_deep (op.I64Load16U m) vs memory ws done ready = ready.0
-load_deep (op.I64Load32S m) vs memory ws done ready = ready.0
-load_deep (op.I64Load32U m) vs memory ws done ready = ready.0
-load_deep i vs memory ws done ready = absurd done.1
-
--- and which store: no load is one
-store_performs : (i : Instruction) (limit : ℕ) (vs memory ws memory' : List ℕ) → Stores (store_of i) vs memory ws memory' → Performs limit i vs memory ws memory'
-store_performs (op.I32Store m) limit vs memory ws memory' done = done
-store_performs (op.I64Store m) limit vs memory ws memory' done = done
-store_performs (op.I32Store8 m) limit vs memory ws memory' done = done
-store_performs (op.I32Store16 m) limit vs memory ws memory' done = done
-store_performs (op.I64Store8 m) limit vs memory ws memory' done = done
-store_performs (op.I64Store16 m) limit vs memory ws memory' done = done
-store_performs (op.I64Store32 m) limit vs memory ws memory' done = done
-store_performs i limit vs memory ws memory' done = absurd done.0
-
-store_traps : (i : Instruction) (vs memory : List ℕ) → Overruns (store_of i) memory (slice_index vs 1) → Traps traps.OutOfBoundsMemory i vs memory
-store_traps (op.I32Store m) vs memory overruns = (refl, overruns)
-store_traps (op.I64Store m) vs memory overruns = (refl, overruns)
-store_traps (op.I32Store8 m) vs memory overruns = (refl, overruns)
-store_traps (op.I32Store16 m) vs memory overruns = (refl, overruns)
-store_traps (op.I64Store8 m) vs memory overruns = (refl, overruns)
-store_traps (op.I64Store16 m) vs memory overruns = (refl, overruns)
-store_traps (op.I64Store32 m) vs memory overruns = (refl, overruns)
-store_traps i vs memory overruns = absurd overruns
-
 -- the values that are left
 taken_off : (vs ws : List ℕ) (n : ℕ) → ws ≡ drop n vs → length ws ≤ length vs
 taken_off vs ws n is = omega (arith, ap length is, length-drop n vs)
@@ -99,6 +53,12 @@ returns-in-Unreachable c = record {
 
 pub select_top-requires : goal.select_top-requires
 select_top-requires c = is_ready c.args.instruction.now op.Select (reverse c.args.values.now.items) c.in-Select.is c.requires.ready
+
+pub load_top-requires : goal.load_top-requires
+load_top-requires c = is_ready c.args.instruction.now (op.Load c.in-Load.operator c.in-Load.place) (reverse c.args.values.now.items) c.in-Load.is c.requires.ready
+
+pub store_top-requires : goal.store_top-requires
+store_top-requires c = is_ready c.args.instruction.now (op.Store c.in-Store.operator c.in-Store.place) (reverse c.args.values.now.items) c.in-Store.is c.requires.ready
 
 pub grow_top-requires : goal.grow_top-requires
 grow_top-requires c = is_ready c.args.instruction.now op.MemoryGrow (reverse c.args.values.now.items) c.in-MemoryGrow.is c.requires.ready
@@ -243,7 +203,7 @@ returns-else-not-store_top c =
     let vs = reverse c.args.values.now.items in
     let ws = reverse c.store_top.new.values.items in
     record {
-      performed = store_performs c.args.instruction.now c.args.limit vs c.args.memory.now ws c.store_top.new.memory c.if-not-store_top.ensures.inside;
+      performed = performs (op.Store c.in-Store.operator c.in-Store.place) c.args.instruction.now c.args.limit vs c.args.memory.now ws c.store_top.new.memory c.in-Store.is c.if-not-store_top.ensures.inside;
       halted = tt;
       same = tt;
       spare = spare_still c.args.values.now c.store_top.new.values (taken_off vs ws 2 c.if-not-store_top.ensures.inside.1) c.requires.spare c.store_top.ensures.room;
@@ -255,10 +215,10 @@ returns-else-not-load_top c =
     let vs = reverse c.args.values.now.items in
     let ws = reverse c.load_top.new.values.items in
     record {
-      performed = load_performs (load_of c.args.instruction.now) (store_of c.args.instruction.now) c.args.limit c.args.instruction.now vs c.args.memory.now ws c.if-not-load_top.ensures.inside;
+      performed = performs (op.Load c.in-Load.operator c.in-Load.place) c.args.instruction.now c.args.limit vs c.args.memory.now ws c.args.memory.now c.in-Load.is (c.if-not-load_top.ensures.inside, refl);
       halted = tt;
       same = tt;
-      spare = spare_still c.args.values.now c.load_top.new.values (put_for vs ws c.if-not-load_top.ensures.inside.0 1 (omega arith) (load_deep c.args.instruction.now vs c.args.memory.now ws c.if-not-load_top.ensures.inside c.requires.ready) c.if-not-load_top.ensures.inside.2) c.requires.spare c.load_top.ensures.room;
+      spare = spare_still c.args.values.now c.load_top.new.values (put_for vs ws c.if-not-load_top.ensures.inside.0 1 (omega arith) (is_ready c.args.instruction.now (op.Load c.in-Load.operator c.in-Load.place) vs c.in-Load.is c.requires.ready).0 c.if-not-load_top.ensures.inside.2) c.requires.spare c.load_top.ensures.room;
       room = same_room _ _ c.load_top.ensures.room;
     }
 
@@ -283,7 +243,7 @@ returns-then-not-fill_top c = record {
 pub returns-then-not-store_top : goal.returns-then-not-store_top
 returns-then-not-store_top c = record {
   performed = tt;
-  halted = store_traps c.args.instruction.now (reverse c.args.values.now.items) c.args.memory.now c.if-not-store_top.ensures.outside.0;
+  halted = traps_so (op.Store c.in-Store.operator c.in-Store.place) c.args.instruction.now traps.OutOfBoundsMemory (reverse c.args.values.now.items) c.args.memory.now c.in-Store.is (refl, c.if-not-store_top.ensures.outside.0);
   same = (c.if-not-store_top.ensures.outside.2, c.if-not-store_top.ensures.outside.1);
   spare = spare_still c.args.values.now c.store_top.new.values (same_few _ _ c.if-not-store_top.ensures.outside.2) c.requires.spare c.store_top.ensures.room;
   room = same_room _ _ c.store_top.ensures.room;
@@ -292,7 +252,7 @@ returns-then-not-store_top c = record {
 pub returns-then-not-load_top : goal.returns-then-not-load_top
 returns-then-not-load_top c = record {
   performed = tt;
-  halted = load_traps (load_of c.args.instruction.now) (store_of c.args.instruction.now) c.args.instruction.now (reverse c.args.values.now.items) c.args.memory.now c.if-not-load_top.ensures.outside.0;
+  halted = traps_so (op.Load c.in-Load.operator c.in-Load.place) c.args.instruction.now traps.OutOfBoundsMemory (reverse c.args.values.now.items) c.args.memory.now c.in-Load.is (refl, c.if-not-load_top.ensures.outside.0);
   same = (c.if-not-load_top.ensures.outside.1, refl);
   spare = spare_still c.args.values.now c.load_top.new.values (same_few _ _ c.if-not-load_top.ensures.outside.1) c.requires.spare c.load_top.ensures.room;
   room = same_room _ _ c.load_top.ensures.room;

@@ -1,7 +1,7 @@
 use Rattle.std.proofs.Common.{refl, rules}
 use Rattle.wasm_module.specs.internal.CodeReading.{instruction_at, instruction_after}
 use Rattle.wasm_module.proofs.Exits.{handed_on}
-use Rattle.wasm_module.proofs.Opcodes.{control_read, variable_read, load_read, store_read, numeric_read}
+use Rattle.wasm_module.proofs.Opcodes.{control_read, variable_read, load_read, store_read, size_read, numeric_read}
 use Rattle.wasm_module.proofs.code.InstructionDecode.decode.Goals as goal
 
 pub returns-in_err-byte : goal.returns-in_err-byte
@@ -40,9 +40,13 @@ pub returns-in-40-to-53 : goal.returns-in-40-to-53
 unfolding instruction_at
 returns-in-40-to-53 c = rw (c.in_ok-byte.ensures, load_read c.in_ok-byte.byte _ (search rules) (search rules)) c.load.ensures
 
-pub returns-in-54-to-64 : goal.returns-in-54-to-64
+pub returns-in-54-to-62 : goal.returns-in-54-to-62
 unfolding instruction_at
-returns-in-54-to-64 c = rw (c.in_ok-byte.ensures, store_read c.in_ok-byte.byte _ (search rules) (search rules)) c.store.ensures
+returns-in-54-to-62 c = rw (c.in_ok-byte.ensures, store_read c.in_ok-byte.byte _ (search rules) (search rules)) c.store.ensures
+
+pub returns-in-63-to-64 : goal.returns-in-63-to-64
+unfolding instruction_at
+returns-in-63-to-64 c = rw (c.in_ok-byte.ensures, size_read c.in_ok-byte.byte _ (search rules) (search rules)) c.memory_size.ensures
 
 pub returns-in-Some : goal.returns-in-Some
 unfolding instruction_at
