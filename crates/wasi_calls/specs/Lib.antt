@@ -1,4 +1,5 @@
 -- What public contracts cite, in reading order; `internal` serves private contracts and proofs.
+pub mod Errnos
 pub mod Random
 pub mod World
 pub mod Checks
