@@ -14,8 +14,20 @@ mod stores;
 mod surveys;
 
 use std::alloc::Global;
+use std::process::Abort;
 use wasm_module::{LoadFault, decode};
 use wasm_valid::{Valid, validate};
+
+/// Ends the test where a row isn't as wanted. The loops over rows call it in place of an assertion of their own, since each
+/// that prints is expensive to prove.
+fn assert_row(rt: &impl Abort, row: usize, as_wanted: bool) {
+    assert!(rt; as_wanted, "row {row}");
+}
+
+/// Ends the test, for this reason.
+fn fail(rt: &impl Abort, reason: &str) {
+    panic!(rt; "{reason}");
+}
 
 /// The valid module of these bytes.
 fn loaded(alloc: Global, bytes: &[u8]) -> Result<Valid<'_>, LoadFault> {

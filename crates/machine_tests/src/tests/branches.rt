@@ -1,7 +1,7 @@
 //! Modules of one function, and where its branches lead.
 
-use super::loaded;
 use super::sections::PREAMBLE;
+use super::{assert_row, fail, loaded};
 use std::alloc::{AllocError, Global};
 use std::process::Abort;
 use wasm_branch::{Target, Targets, targets};
@@ -39,14 +39,14 @@ type Row<'a> = (usize, usize, &'a [Place]);
 
 fn assert_targets(rt: &impl Abort, targets: &Targets, rows: &[Row<'_>]) {
     for (function, pc, want) in rows {
-        assert!(rt; are(targets.of(*function, *pc), want), "at {pc}");
+        assert_row(rt, *pc, are(targets.of(*function, *pc), want));
     }
 }
 
 fn assert_laid(rt: &impl Abort, alloc: Global, valid: &Valid<'_>, rows: &[Row<'_>]) {
     match targets(alloc, valid) {
         Ok(targets) => assert_targets(rt, &targets, rows),
-        Err(_) => panic!(rt; "no memory"),
+        Err(_) => fail(rt, "no memory"),
     }
 }
 
@@ -56,7 +56,7 @@ fn assert_module(rt: &impl Abort, alloc: Global, bytes: &[u8], rows: &[Row<'_>])
             assert_laid(rt, alloc, &valid, rows);
             drop(valid);
         }
-        Err(_) => panic!(rt; "refused"),
+        Err(_) => fail(rt, "refused"),
     }
 }
 
@@ -64,7 +64,7 @@ fn assert_module(rt: &impl Abort, alloc: Global, bytes: &[u8], rows: &[Row<'_>])
 fn assert_code(rt: &impl Abort, alloc: Global, type_index: u8, code: &[u8], rows: &[Row<'_>]) {
     match module(alloc, type_index, code) {
         Ok(bytes) => assert_module(rt, alloc, &bytes, rows),
-        Err(_) => panic!(rt; "no memory"),
+        Err(_) => fail(rt, "no memory"),
     }
 }
 

@@ -1,6 +1,7 @@
 //! The operators of i32 at the edges (section 4.3.2): 0, 1, -1, the least and the greatest number, and counts at and over
 //! the width. The values were worked out by the definitions of the standard on whole numbers.
 
+use super::assert_row;
 use wasm_num::{
     Trap, i32_clz, i32_ctz, i32_div_s, i32_div_u, i32_eqz, i32_extend8_s, i32_extend16_s,
     i32_popcnt, i32_rem_s, i32_rem_u, i32_rotl, i32_rotr, i32_shl, i32_shr_s, i32_shr_u,
@@ -131,8 +132,8 @@ fn shifted(x: u32, y: u32) -> [u32; 5] {
 
 #[test]
 fn shifts_32(rt: HostRuntime) {
-    for (x, y, want) in &SHIFTS_32 {
-        assert!(rt; shifted(*x, *y) == *want, "{x} by {y}");
+    for (i, (x, y, want)) in SHIFTS_32.iter().enumerate() {
+        assert_row(&rt, i, shifted(*x, *y) == *want);
     }
 }
 
@@ -145,23 +146,34 @@ fn divided(x: u32, y: u32) -> [Result<u32, Trap>; 4] {
     ]
 }
 
+fn quotients([div_s, div_u, rem_s, rem_u]: [u32; 4]) -> [Result<u32, Trap>; 4] {
+    [Ok(div_s), Ok(div_u), Ok(rem_s), Ok(rem_u)]
+}
+
 #[test]
 fn divisions_32(rt: HostRuntime) {
-    for (x, y, [div_s, div_u, rem_s, rem_u]) in &DIVISIONS_32 {
-        let want = [Ok(*div_s), Ok(*div_u), Ok(*rem_s), Ok(*rem_u)];
-        assert!(rt; divided(*x, *y) == want, "{x} by {y}");
+    for (i, (x, y, want)) in DIVISIONS_32.iter().enumerate() {
+        assert_row(&rt, i, divided(*x, *y) == quotients(*want));
     }
 }
 
 #[test]
 fn divisions_without_a_quotient_32(rt: HostRuntime) {
     let least = 0x8000_0000;
-    let zero = [Err(Trap::DivideByZero); 4];
-    assert!(rt; divided(0, 0) == zero);
-    assert!(rt; divided(1, 0) == zero);
-    assert!(rt; divided(least, 0) == zero);
-    assert!(rt; divided(u32::MAX, 0) == zero);
-    assert!(rt; divided(least, u32::MAX) == [Err(Trap::IntegerOverflow), Ok(0), Ok(0), Ok(least)]);
+    let by_zero = [Err(Trap::DivideByZero); 4];
+    let overflow = [Err(Trap::IntegerOverflow), Ok(0), Ok(0), Ok(least)];
+    for (i, (x, y, want)) in [
+        (0, 0, by_zero),
+        (1, 0, by_zero),
+        (least, 0, by_zero),
+        (u32::MAX, 0, by_zero),
+        (least, u32::MAX, overflow),
+    ]
+    .iter()
+    .enumerate()
+    {
+        assert_row(&rt, i, divided(*x, *y) == *want);
+    }
 }
 
 fn measured(x: u32) -> [u32; 5] {
@@ -176,7 +188,7 @@ fn measured(x: u32) -> [u32; 5] {
 
 #[test]
 fn unary_32(rt: HostRuntime) {
-    for (x, want) in &UNARY_32 {
-        assert!(rt; i32_eqz(*x) == (*x == 0) && measured(*x) == *want, "of {x}");
+    for (i, (x, want)) in UNARY_32.iter().enumerate() {
+        assert_row(&rt, i, i32_eqz(*x) == (*x == 0) && measured(*x) == *want);
     }
 }

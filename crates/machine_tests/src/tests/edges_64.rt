@@ -1,6 +1,7 @@
 //! The operators of i64 at the edges (section 4.3.2): 0, 1, -1, the least and the greatest number, and counts at and over
 //! the width. The values were worked out by the definitions of the standard on whole numbers.
 
+use super::assert_row;
 use wasm_num::{
     Trap, i64_clz, i64_ctz, i64_div_s, i64_div_u, i64_eqz, i64_extend8_s, i64_extend16_s,
     i64_extend32_s, i64_popcnt, i64_rem_s, i64_rem_u, i64_rotl, i64_rotr, i64_shl, i64_shr_s,
@@ -240,8 +241,8 @@ fn shifted(x: u64, y: u64) -> [u64; 5] {
 
 #[test]
 fn shifts_64(rt: HostRuntime) {
-    for (x, y, want) in &SHIFTS_64 {
-        assert!(rt; shifted(*x, *y) == *want, "{x} by {y}");
+    for (i, (x, y, want)) in SHIFTS_64.iter().enumerate() {
+        assert_row(&rt, i, shifted(*x, *y) == *want);
     }
 }
 
@@ -254,23 +255,34 @@ fn divided(x: u64, y: u64) -> [Result<u64, Trap>; 4] {
     ]
 }
 
+fn quotients([div_s, div_u, rem_s, rem_u]: [u64; 4]) -> [Result<u64, Trap>; 4] {
+    [Ok(div_s), Ok(div_u), Ok(rem_s), Ok(rem_u)]
+}
+
 #[test]
 fn divisions_64(rt: HostRuntime) {
-    for (x, y, [div_s, div_u, rem_s, rem_u]) in &DIVISIONS_64 {
-        let want = [Ok(*div_s), Ok(*div_u), Ok(*rem_s), Ok(*rem_u)];
-        assert!(rt; divided(*x, *y) == want, "{x} by {y}");
+    for (i, (x, y, want)) in DIVISIONS_64.iter().enumerate() {
+        assert_row(&rt, i, divided(*x, *y) == quotients(*want));
     }
 }
 
 #[test]
 fn divisions_without_a_quotient_64(rt: HostRuntime) {
     let least = 0x8000_0000_0000_0000;
-    let zero = [Err(Trap::DivideByZero); 4];
-    assert!(rt; divided(0, 0) == zero);
-    assert!(rt; divided(1, 0) == zero);
-    assert!(rt; divided(least, 0) == zero);
-    assert!(rt; divided(u64::MAX, 0) == zero);
-    assert!(rt; divided(least, u64::MAX) == [Err(Trap::IntegerOverflow), Ok(0), Ok(0), Ok(least)]);
+    let by_zero = [Err(Trap::DivideByZero); 4];
+    let overflow = [Err(Trap::IntegerOverflow), Ok(0), Ok(0), Ok(least)];
+    for (i, (x, y, want)) in [
+        (0, 0, by_zero),
+        (1, 0, by_zero),
+        (least, 0, by_zero),
+        (u64::MAX, 0, by_zero),
+        (least, u64::MAX, overflow),
+    ]
+    .iter()
+    .enumerate()
+    {
+        assert_row(&rt, i, divided(*x, *y) == *want);
+    }
 }
 
 fn measured(x: u64) -> [u64; 6] {
@@ -286,7 +298,7 @@ fn measured(x: u64) -> [u64; 6] {
 
 #[test]
 fn unary_64(rt: HostRuntime) {
-    for (x, want) in &UNARY_64 {
-        assert!(rt; i64_eqz(*x) == (*x == 0) && measured(*x) == *want, "of {x}");
+    for (i, (x, want)) in UNARY_64.iter().enumerate() {
+        assert_row(&rt, i, i64_eqz(*x) == (*x == 0) && measured(*x) == *want);
     }
 }

@@ -3,7 +3,7 @@
 ghost use Rattle.std.specs.Prelude.{Some};
 ghost use Rattle.wasm_store.specs.declared.call.HostCall.TheVariants.{ProcExit};
 
-use super::loaded;
+use super::{assert_row, loaded};
 use std::alloc::{AllocError, Global};
 use std::process::Abort;
 use wasm_interp::Outcome::{Exited, OutOfMemory, Trapped};
@@ -11,6 +11,7 @@ use wasm_interp::{
     Answer, Errno, Host, HostCall, MOST_VALUES, Machine, Memory, Outcome, Pause, Trap,
 };
 use wasm_module::FuncType;
+use wasm_valid::Valid;
 
 /// Exits at a call of one argument, with that argument. A call of two is remembered, with the units used; it writes a
 /// byte to memory, and answers 8.
@@ -80,23 +81,59 @@ fn paused(machine: &mut Machine<'_>, host: &mut Recorder, units: u32, times: u32
     last
 }
 
-/// How a guest of these bytes pauses in the end, the units that it has used, and what its host saw.
+/// How a guest pauses in the end, the units that it has used, and what its host saw.
 type Ending = (Pause, u64, (u64, u64, u64));
 
-fn run(alloc: Global, bytes: &[u8], units: u32, times: u32) -> Option<Ending> {
-    let valid = loaded(alloc, bytes).ok()?;
+/// How often a guest is resumed, for how many units each time, and with how many values at most where that is said.
+#[derive(Clone, Copy)]
+struct Pace {
+    units: u32,
+    times: u32,
+    most_values: Option<usize>,
+}
+
+fn ending_of(machine: &mut Machine<'_>, host: &mut Recorder, pace: Pace) -> Option<Ending> {
+    if let Some(most) = pace.most_values {
+        machine.limit_values(most);
+    }
+    match paused(machine, host, pace.units, pace.times) {
+        Some(pause) => Some((pause, machine.used(), host.seen)),
+        None => None,
+    }
+}
+
+fn run_valid(alloc: Global, valid: Valid<'_>, pace: Pace) -> Option<Ending> {
     let mut host = Recorder { seen: (0, 0, 0) };
-    let mut machine = Machine::new(alloc, valid, 4, &host).ok()?;
-    let pause = paused(&mut machine, &mut host, units, times);
-    let used = machine.used();
-    drop(machine);
-    Some((pause?, used, host.seen))
+    match Machine::new(alloc, valid, 4, &host) {
+        Ok(mut machine) => {
+            let ending = ending_of(&mut machine, &mut host, pace);
+            drop(machine);
+            ending
+        }
+        Err(refused) => {
+            drop(refused);
+            None
+        }
+    }
+}
+
+/// The ending of a guest of these bytes.
+fn run(alloc: Global, bytes: &[u8], pace: Pace) -> Option<Ending> {
+    match loaded(alloc, bytes) {
+        Ok(valid) => run_valid(alloc, valid, pace),
+        Err(_) => None,
+    }
 }
 
 /// The ending of a guest with this code.
 fn ending(alloc: Global, code: &[u8], units: u32, times: u32) -> Option<Ending> {
+    let pace = Pace {
+        units,
+        times,
+        most_values: None,
+    };
     match guest(alloc, code) {
-        Ok(bytes) => run(alloc, &bytes, units, times),
+        Ok(bytes) => run(alloc, &bytes, pace),
         Err(_) => None,
     }
 }
@@ -106,8 +143,8 @@ type Row<'a> = (&'a [u8], Outcome, u64);
 
 fn assert_rows(rt: &impl Abort, alloc: Global, rows: &[Row<'_>]) {
     for (i, (code, outcome, used)) in rows.iter().enumerate() {
-        let want = Some((Pause::Ended(*outcome), *used, (0, 0, 0)));
-        assert!(rt; ending(alloc, code, 1_000, 1) == want, "row {i}");
+        let want = Some((Pause::Ended(*outcome), *used, UNSEEN));
+        assert_row(rt, i, ending(alloc, code, 1_000, 1) == want);
     }
 }
 
@@ -304,10 +341,7 @@ const CALLED: Pause = Pause::Called(HostCall::ProcExit, Errno::BADF);
 
 fn assert_resumes(rt: &impl Abort, alloc: Global, code: &[u8], rows: &[Resumes]) {
     for (i, (units, times, want)) in rows.iter().enumerate() {
-        assert!(rt;
-            ending(alloc, code, *units, *times) == Some(*want),
-            "row {i}"
-        );
+        assert_row(rt, i, ending(alloc, code, *units, *times) == Some(*want));
     }
 }
 
@@ -373,17 +407,22 @@ fn high_guest(alloc: Global, numbers: &[u8], drops: &[u8]) -> Result<Vec<u8>, Al
 }
 
 fn high_ending(alloc: Global) -> Option<Ending> {
+    let pace = Pace {
+        units: 10_000,
+        times: 1,
+        most_values: None,
+    };
     let numbers = b"\x41\x01".repeat(alloc, 4_200).ok()?;
     let drops = b"\x1A".repeat(alloc, 4_200).ok()?;
     match high_guest(alloc, &numbers, &drops) {
-        Ok(bytes) => run(alloc, &bytes, 10_000, 1),
+        Ok(bytes) => run(alloc, &bytes, pace),
         Err(_) => None,
     }
 }
 
 #[test]
 fn the_stack_grows(rt: HostRuntime) {
-    let want = Some((Pause::Ended(Exited(0)), 8_402, (0, 0, 0)));
+    let want = Some((Pause::Ended(Exited(0)), 8_402, UNSEEN));
     assert!(rt; high_ending(rt.alloc()) == want);
 }
 
@@ -392,22 +431,22 @@ fn the_stack_grows(rt: HostRuntime) {
 const DEEP: &[u8] =
     b"\x21\x01\x1F\x01\xE8\x07\x7F\x41\x00\x41\x00\x28\x02\x00\x41\x01\x6A\x36\x02\x00\x41\x00\x28\x02\x00\x41\x0A\x49\x04\x40\x10\x02\x0B\x0B";
 
-/// How that guest ends with this many values at most, and the units that it uses.
-fn deep_ending(alloc: Global, most: usize) -> Option<(Pause, u64)> {
-    let bytes = [FRONT, DEEP].concat(alloc).ok()?;
-    let valid = loaded(alloc, &bytes).ok()?;
-    let mut host = Recorder { seen: (0, 0, 0) };
-    let mut machine = Machine::new(alloc, valid, 4, &host).ok()?;
-    machine.limit_values(most);
-    let pause = paused(&mut machine, &mut host, 1_000, 1);
-    let used = machine.used();
-    drop(machine);
-    Some((pause?, used))
+/// How that guest ends with this many values at most.
+fn deep_ending(alloc: Global, most: usize) -> Option<Ending> {
+    let pace = Pace {
+        units: 1_000,
+        times: 1,
+        most_values: Some(most),
+    };
+    match [FRONT, DEEP].concat(alloc) {
+        Ok(bytes) => run(alloc, &bytes, pace),
+        Err(_) => None,
+    }
 }
 
 #[test]
 fn values_are_limited(rt: HostRuntime) {
-    for (most, outcome, used) in [
+    for (i, (most, outcome, used)) in [
         // the fifth call finds no room
         (0, OutOfMemory, 48),
         (4_999, OutOfMemory, 48),
@@ -421,8 +460,11 @@ fn values_are_limited(rt: HostRuntime) {
         (10_003, Exited(0), 119),
         (MOST_VALUES, Exited(0), 119),
         (usize::MAX, Exited(0), 119),
-    ] {
-        let want = Some((Pause::Ended(outcome), used));
-        assert!(rt; deep_ending(rt.alloc(), most) == want, "{most}");
+    ]
+    .iter()
+    .enumerate()
+    {
+        let want = Some((Pause::Ended(*outcome), *used, UNSEEN));
+        assert_row(&rt, i, deep_ending(rt.alloc(), *most) == want);
     }
 }

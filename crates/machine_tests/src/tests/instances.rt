@@ -2,11 +2,10 @@
 
 ghost use Rattle.std.specs.Prelude.{Some};
 
-use super::loaded;
 use super::sections::{Section, spelled};
+use super::{assert_row, loaded};
 use std::alloc::Global;
 use std::process::Abort;
-use std::test::Fail;
 use wasm_module::FuncType;
 use wasm_store::{Answer, Errno, Host, HostCall, InstanceFault, Instantiated, Memory, instantiate};
 use wasm_valid::Valid;
@@ -57,50 +56,89 @@ static GUEST: [Section<'static>; 9] = [
     (10, b"\x01\x02\x00\x0B"),
 ];
 
-/// How the module is refused under a limit of one page, if it is.
-fn refusal(alloc: Global, valid: &Valid<'_>, call: Option<HostCall>) -> Option<InstanceFault> {
-    instantiate(alloc, valid, 1, &Links { call }).err()
+/// What comes of a module: it is refused, it is instantiated, or its memory, table and globals are filled.
+#[derive(Clone, Copy)]
+enum Want {
+    Fault(InstanceFault),
+    Instance,
+    Filled,
 }
 
-const ELEMENTS: Option<InstanceFault> = Some(InstanceFault::ElementOutOfBounds);
+const ELEMENTS: Want = Want::Fault(InstanceFault::ElementOutOfBounds);
 
-const DATA: Option<InstanceFault> = Some(InstanceFault::DataOutOfBounds);
+const DATA: Want = Want::Fault(InstanceFault::DataOutOfBounds);
 
-const IMPORT: Option<InstanceFault> = Some(InstanceFault::Import);
+const IMPORT: Want = Want::Fault(InstanceFault::Import);
 
-const START: Option<InstanceFault> = Some(InstanceFault::NoStart);
+const START: Want = Want::Fault(InstanceFault::NoStart);
 
-const LIMIT: Option<InstanceFault> = Some(InstanceFault::PageLimit);
+const LIMIT: Want = Want::Fault(InstanceFault::PageLimit);
 
-/// A section's id and content, and the fault under a limit of one page.
-type Row<'a> = (u8, &'a [u8], Option<InstanceFault>);
+/// A section's id and content, and what comes of the module.
+type Row<'a> = (u8, &'a [u8], Want);
 
-/// Whether a module of these bytes is valid, and refused so.
-fn is_refused(
-    alloc: Global,
-    bytes: &[u8],
-    call: Option<HostCall>,
-    want: Option<InstanceFault>,
-) -> bool {
+fn has_first_values(made: &Instantiated) -> bool {
+    made.memory.len() == 65_536
+        && made.memory.slice(65_532, 4) == Some(b"\0abc".as_slice())
+        && made.table.get(0) == Some(None)
+        && made.table.get(1) == Some(Some(1))
+        && made.globals.as_slice() == [2, 3, 4_294_967_295, 18_446_744_073_709_551_614].as_slice()
+}
+
+fn is_filled(made: &Instantiated) -> bool {
+    has_first_values(made)
+        && made.calls.as_slice() == [HostCall::FdSync].as_slice()
+        && made.page_limit == 7
+        && made.start == Some(1)
+        && made.main == 1
+}
+
+fn is_instance(made: &Instantiated, want: Want) -> bool {
+    match want {
+        Want::Fault(_) => false,
+        Want::Instance => true,
+        Want::Filled => is_filled(made),
+    }
+}
+
+fn is_fault(found: InstanceFault, want: Want) -> bool {
+    match want {
+        Want::Fault(fault) => found == fault,
+        _ => false,
+    }
+}
+
+/// The host's call of each import, if it has one, and the limit of pages.
+type Given = (Option<HostCall>, u32);
+
+fn is_instantiated(alloc: Global, valid: &Valid<'_>, given: Given, want: Want) -> bool {
+    let (call, limit) = given;
+    match instantiate(alloc, valid, limit, &Links { call }) {
+        Ok(made) => {
+            let as_wanted = is_instance(&made, want);
+            drop(made);
+            as_wanted
+        }
+        Err(fault) => is_fault(fault, want),
+    }
+}
+
+/// Whether a module of these bytes is valid, and what comes of it is as wanted.
+fn is_loaded(alloc: Global, bytes: &[u8], given: Given, want: Want) -> bool {
     match loaded(alloc, bytes) {
         Ok(valid) => {
-            let found = refusal(alloc, &valid, call);
+            let as_wanted = is_instantiated(alloc, &valid, given, want);
             drop(valid);
-            found == want
+            as_wanted
         }
         Err(_) => false,
     }
 }
 
-fn is_as_wanted(
-    alloc: Global,
-    others: &[Section<'_>],
-    call: Option<HostCall>,
-    row: &Row<'_>,
-) -> bool {
+fn is_as_wanted(alloc: Global, others: &[Section<'_>], given: Given, row: &Row<'_>) -> bool {
     let (id, content, want) = *row;
     match spelled(alloc, &GUEST, others, (id, content)) {
-        Ok(bytes) => is_refused(alloc, &bytes, call, want),
+        Ok(bytes) => is_loaded(alloc, &bytes, given, want),
         Err(_) => false,
     }
 }
@@ -109,11 +147,11 @@ fn assert_rows(
     rt: &impl Abort,
     alloc: Global,
     others: &[Section<'_>],
-    call: Option<HostCall>,
+    given: Given,
     rows: &[Row<'_>],
 ) {
     for (i, row) in rows.iter().enumerate() {
-        assert!(rt; is_as_wanted(alloc, others, call, row), "row {i}");
+        assert_row(rt, i, is_as_wanted(alloc, others, given, row));
     }
 }
 
@@ -123,19 +161,19 @@ fn places_segments(rt: HostRuntime) {
         &rt,
         rt.alloc(),
         &[],
-        Some(HostCall::Nosys),
+        (Some(HostCall::Nosys), 1),
         &[
             // three bytes at 65,533 and at 65,534
-            (11, b"\x01\x00\x41\xFD\xFF\x03\x0B\x03abc", None),
+            (11, b"\x01\x00\x41\xFD\xFF\x03\x0B\x03abc", Want::Instance),
             (11, b"\x01\x00\x41\xFE\xFF\x03\x0B\x03abc", DATA),
             // none at 65,536 and at 65,537
-            (11, b"\x01\x00\x41\x80\x80\x04\x0B\x00", None),
+            (11, b"\x01\x00\x41\x80\x80\x04\x0B\x00", Want::Instance),
             (11, b"\x01\x00\x41\x81\x80\x04\x0B\x00", DATA),
             // two functions at 0 and at 1
-            (9, b"\x01\x00\x41\x00\x0B\x02\x00\x01", None),
+            (9, b"\x01\x00\x41\x00\x0B\x02\x00\x01", Want::Instance),
             (9, b"\x01\x00\x41\x01\x0B\x02\x00\x01", ELEMENTS),
             // none at the globals' 2, 3 and 2 ^ 32 - 1
-            (9, b"\x01\x00\x23\x00\x0B\x00", None),
+            (9, b"\x01\x00\x23\x00\x0B\x00", Want::Instance),
             (9, b"\x01\x00\x23\x01\x0B\x00", ELEMENTS),
             (9, b"\x01\x00\x23\x02\x0B\x00", ELEMENTS),
         ],
@@ -154,7 +192,7 @@ fn names_the_first_reason(rt: HostRuntime) {
         &rt,
         rt.alloc(),
         &FAR,
-        Some(HostCall::Nosys),
+        (Some(HostCall::Nosys), 1),
         &[
             (0, b"", ELEMENTS),
             // two pages
@@ -166,42 +204,7 @@ fn names_the_first_reason(rt: HostRuntime) {
         ],
     );
     // the host has no such call, and no function is exported as `_start`
-    assert_rows(&rt, rt.alloc(), &FAR, None, &[(7, b"", IMPORT)]);
-}
-
-fn has_first_values(made: &Instantiated) -> bool {
-    made.memory.len() == 65_536
-        && made.memory.slice(65_532, 4) == Some(b"\0abc".as_slice())
-        && made.table.get(0) == Some(None)
-        && made.table.get(1) == Some(Some(1))
-        && made.globals.as_slice() == [2, 3, 4_294_967_295, 18_446_744_073_709_551_614].as_slice()
-}
-
-fn assert_instance(rt: &impl Abort, made: &Instantiated) {
-    assert!(rt; has_first_values(made));
-    assert!(rt; made.calls.as_slice() == [HostCall::FdSync].as_slice());
-    assert!(rt; made.page_limit == 7 && made.start == Some(1) && made.main == 1);
-}
-
-fn assert_made(rt: &impl Abort, alloc: Global, valid: &Valid<'_>) {
-    let call = Some(HostCall::FdSync);
-    match instantiate(alloc, valid, 7, &Links { call }) {
-        Ok(made) => {
-            assert_instance(rt, &made);
-            drop(made);
-        }
-        Err(_) => panic!(rt; "not instantiated"),
-    }
-}
-
-fn assert_loaded(rt: &impl Abort, alloc: Global, bytes: &[u8]) {
-    match loaded(alloc, bytes) {
-        Ok(valid) => {
-            assert_made(rt, alloc, &valid);
-            drop(valid);
-        }
-        Err(_) => panic!(rt; "refused"),
-    }
+    assert_rows(&rt, rt.alloc(), &FAR, (None, 1), &[(7, b"", IMPORT)]);
 }
 
 /// One element, and three bytes of data.
@@ -212,8 +215,12 @@ static FILLED: [Section<'static>; 2] = [
 
 /// They stand there, under a limit of 7 pages.
 #[test]
-fn instances(rt: HostRuntime) -> Result<(), Fail> {
-    let bytes = spelled(rt.alloc(), &GUEST, &FILLED, (0, b""))?;
-    assert_loaded(&rt, rt.alloc(), &bytes);
-    Ok(())
+fn instances(rt: HostRuntime) {
+    assert_rows(
+        &rt,
+        rt.alloc(),
+        &FILLED,
+        (Some(HostCall::FdSync), 7),
+        &[(0, b"", Want::Filled)],
+    );
 }

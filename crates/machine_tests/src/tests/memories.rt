@@ -1,5 +1,6 @@
 //! Memories, by lists of what is done to them.
 
+use super::{assert_row, fail};
 use std::alloc::Global;
 use std::process::Abort;
 use wasm_store::Memory;
@@ -40,7 +41,7 @@ fn is_answered(memory: &mut Memory, deed: Deed<'_>) -> bool {
 
 fn assert_answers(rt: &impl Abort, memory: &mut Memory, deeds: &[Deed<'_>]) {
     for (i, deed) in deeds.iter().enumerate() {
-        assert!(rt; is_answered(memory, *deed), "deed {i}");
+        assert_row(rt, i, is_answered(memory, *deed));
     }
 }
 
@@ -48,7 +49,7 @@ fn assert_answers(rt: &impl Abort, memory: &mut Memory, deeds: &[Deed<'_>]) {
 fn assert_deeds(rt: &impl Abort, alloc: Global, pages: u32, deeds: &[Deed<'_>]) {
     match Memory::new(alloc, pages) {
         Ok(mut memory) => assert_answers(rt, &mut memory, deeds),
-        Err(_) => panic!(rt; "no memory"),
+        Err(_) => fail(rt, "no memory"),
     }
 }
 

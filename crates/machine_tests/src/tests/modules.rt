@@ -8,6 +8,7 @@ mod rules;
 mod sizes;
 mod typed;
 
+use super::assert_row;
 use std::alloc::Global;
 use std::process::Abort;
 use wasm_module::{LoadFault, decode};
@@ -26,6 +27,6 @@ fn fault_of(alloc: Global, parts: &[&[u8]]) -> Option<LoadFault> {
 /// Decodes each row after these bytes.
 fn assert_rows(rt: &impl Abort, alloc: Global, front: &[u8], rows: &[Row<'_>]) {
     for (i, (tail, want)) in rows.iter().enumerate() {
-        assert!(rt; fault_of(alloc, &[front, tail]) == *want, "row {i}");
+        assert_row(rt, i, fault_of(alloc, &[front, tail]) == *want);
     }
 }

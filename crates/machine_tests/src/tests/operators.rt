@@ -1,5 +1,6 @@
 //! Operators by rows: the operator, its operands, and what it makes of them.
 
+use super::assert_row;
 use std::process::Abort;
 use wasm_num::{
     i32_add, i32_and, i32_eq, i32_extend8_s, i32_extend16_s, i32_ge_s, i32_ge_u, i32_gt_s,
@@ -17,27 +18,16 @@ const NEG_32: u32 = u32::MAX;
 
 const NEG_64: u64 = u64::MAX;
 
-fn assert_words(rt: &impl Abort, rows: &[(u32, u32)]) {
+/// Compares what was found with what is wanted.
+fn assert_rows<T: PartialEq>(rt: &impl Abort, rows: &[(T, T)]) {
     for (i, (found, want)) in rows.iter().enumerate() {
-        assert!(rt; *found == *want, "row {i}");
-    }
-}
-
-fn assert_long_words(rt: &impl Abort, rows: &[(u64, u64)]) {
-    for (i, (found, want)) in rows.iter().enumerate() {
-        assert!(rt; *found == *want, "row {i}");
-    }
-}
-
-fn assert_truths(rt: &impl Abort, rows: &[(bool, bool)]) {
-    for (i, (found, want)) in rows.iter().enumerate() {
-        assert!(rt; *found == *want, "row {i}");
+        assert_row(rt, i, *found == *want);
     }
 }
 
 #[test]
 fn sums_and_digits_32(rt: HostRuntime) {
-    assert_words(
+    assert_rows(
         &rt,
         &[
             (i32_add(NEG_32, 1), 0),
@@ -56,7 +46,7 @@ fn sums_and_digits_32(rt: HostRuntime) {
 
 #[test]
 fn sums_and_digits_64(rt: HostRuntime) {
-    assert_long_words(
+    assert_rows(
         &rt,
         &[
             (i64_add(NEG_64, 2), 1),
@@ -71,7 +61,7 @@ fn sums_and_digits_64(rt: HostRuntime) {
 
 #[test]
 fn comparisons_32(rt: HostRuntime) {
-    assert_truths(
+    assert_rows(
         &rt,
         &[
             (i32_lt_s(LEAST_32, 0), true),
@@ -93,7 +83,7 @@ fn comparisons_32(rt: HostRuntime) {
 
 #[test]
 fn comparisons_64(rt: HostRuntime) {
-    assert_truths(
+    assert_rows(
         &rt,
         &[
             (i64_lt_s(LEAST_64, 0), true),
@@ -115,7 +105,7 @@ fn comparisons_64(rt: HostRuntime) {
 
 #[test]
 fn widths_32(rt: HostRuntime) {
-    assert_words(
+    assert_rows(
         &rt,
         &[
             (i32_extend8_s(128), 4_294_967_168),
@@ -127,7 +117,7 @@ fn widths_32(rt: HostRuntime) {
 
 #[test]
 fn widths_64(rt: HostRuntime) {
-    assert_long_words(
+    assert_rows(
         &rt,
         &[
             (i64_clz(0), 64),

@@ -1,5 +1,6 @@
 //! The texts of faults and traps.
 
+use super::assert_row;
 use std::alloc::Global;
 use wasm_num::Trap;
 use wasm_store::InstanceFault;
@@ -13,15 +14,18 @@ fn is_fault(alloc: Global, fault: InstanceFault, text: &str) -> bool {
 
 #[test]
 fn prints_faults(rt: HostRuntime) {
-    for (fault, text) in &[
+    for (i, (fault, text)) in [
         (InstanceFault::Import, "fault 13"),
         (InstanceFault::NoStart, "fault 14"),
         (InstanceFault::DataOutOfBounds, "fault 20"),
         (InstanceFault::ElementOutOfBounds, "fault 21"),
         (InstanceFault::PageLimit, "fault 22"),
         (InstanceFault::Memory, "out of memory"),
-    ] {
-        assert!(rt; is_fault(rt.alloc(), *fault, text), "{text}");
+    ]
+    .iter()
+    .enumerate()
+    {
+        assert_row(&rt, i, is_fault(rt.alloc(), *fault, text));
     }
 }
 
@@ -34,7 +38,7 @@ fn is_trap(alloc: Global, trap: Trap, text: &str) -> bool {
 
 #[test]
 fn prints_traps(rt: HostRuntime) {
-    for (trap, text) in &[
+    for (i, (trap, text)) in [
         (Trap::Unreachable, "unreachable"),
         (Trap::DivideByZero, "integer divide by zero"),
         (Trap::IntegerOverflow, "integer overflow"),
@@ -43,7 +47,10 @@ fn prints_traps(rt: HostRuntime) {
         (Trap::UninitializedElement, "uninitialized element"),
         (Trap::IndirectCallMismatch, "indirect call type mismatch"),
         (Trap::CallStackExhausted, "call stack exhausted"),
-    ] {
-        assert!(rt; is_trap(rt.alloc(), *trap, text), "{text}");
+    ]
+    .iter()
+    .enumerate()
+    {
+        assert_row(&rt, i, is_trap(rt.alloc(), *trap, text));
     }
 }

@@ -3,6 +3,7 @@
 ghost use Rattle.std.specs.Prelude.{if◌then◌else◌, codes, bytes_eq, Some, None};
 ghost use Rattle.wasm_store.specs.declared.call.HostCall.TheVariants as call;
 
+use super::assert_row;
 use super::sections::PREAMBLE;
 use crate::program::HELLO;
 use module_survey::{Links, survey};
@@ -35,46 +36,33 @@ type Changed<'a> = (u8, &'a [u8], &'a [u8]);
 /// A custom section `name`: the module is `m`, function 0 is `put`, and function 2 is `say hi`.
 const NAMES: &[u8] = b"\x00\x19\x04name\x00\x02\x01m\x01\x0E\x02\x00\x03put\x02\x06say hi";
 
-/// What is told of these bytes.
-fn told(alloc: Global, bytes: &[u8]) -> Option<Vec<u8>> {
-    let mut text = Vec::new(alloc);
-    let _ = survey(alloc, &TwoCalls, bytes, &mut text).ok()?;
-    Some(text)
-}
-
-/// What is told of these parts, one after another.
-fn told_of_parts(alloc: Global, parts: &[&[u8]]) -> Option<Vec<u8>> {
-    let bytes = parts.concat(alloc).ok()?;
-    told(alloc, &bytes)
-}
-
-/// What is told of `HELLO` with this byte in place of the instruction at `DROP`, and these bytes after it.
-fn told_of_changed(alloc: Global, opcode: u8, names: &[u8]) -> Option<Vec<u8>> {
-    let mut bytes = Vec::from_array(alloc, HELLO).ok()?;
-    bytes[DROP] = opcode;
-    bytes.extend_from_slice(names).ok()?;
-    told(alloc, &bytes)
-}
-
-fn is_text(told: Option<Vec<u8>>, text: &[u8]) -> bool {
-    match told {
-        Some(told) => told.as_slice() == text,
-        None => false,
+/// Whether this is told of these parts, one after another.
+fn is_told(alloc: Global, parts: &[&[u8]], text: &[u8]) -> bool {
+    let mut told = Vec::new(alloc);
+    match parts.concat(alloc) {
+        Ok(bytes) => {
+            survey(alloc, &TwoCalls, &bytes, &mut told).is_ok() && told.as_slice() == text
+        }
+        Err(_) => false,
     }
+}
+
+/// Whether this is told of `HELLO` with this byte in place of the instruction at `DROP`, and these bytes after it.
+fn is_told_of_changed(alloc: Global, opcode: u8, names: &[u8], text: &[u8]) -> bool {
+    let front = HELLO.get(..DROP).unwrap_or(&[]);
+    let back = HELLO.get(DROP + 1..).unwrap_or(&[]);
+    is_told(alloc, &[front, &[opcode], back, names], text)
 }
 
 fn assert_told(rt: &impl Abort, alloc: Global, rows: &[Row<'_>]) {
     for (i, row) in rows.iter().enumerate() {
-        assert!(rt; is_text(told_of_parts(alloc, row.0), row.1), "row {i}");
+        assert_row(rt, i, is_told(alloc, row.0, row.1));
     }
 }
 
 fn assert_changed(rt: &impl Abort, alloc: Global, rows: &[Changed<'_>]) {
     for (i, row) in rows.iter().enumerate() {
-        assert!(rt;
-            is_text(told_of_changed(alloc, row.0, row.1), row.2),
-            "row {i}"
-        );
+        assert_row(rt, i, is_told_of_changed(alloc, row.0, row.1, row.2));
     }
 }
 

@@ -1,6 +1,7 @@
 //! What bytes are decoded to.
 
 use crate::HELLO;
+use crate::tests::assert_row;
 use crate::tests::sections::{FUNCTION, PREAMBLE};
 use std::alloc::Global;
 use std::process::Abort;
@@ -171,7 +172,7 @@ fn is_as_wanted(alloc: Global, row: &Row<'_>) -> bool {
 
 fn assert_decoded(rt: &impl Abort, alloc: Global, rows: &[Row<'_>]) {
     for (i, row) in rows.iter().enumerate() {
-        assert!(rt; is_as_wanted(alloc, row), "row {i}");
+        assert_row(rt, i, is_as_wanted(alloc, row));
     }
 }
 

@@ -2,6 +2,7 @@
 
 use super::fault_of;
 use crate::HELLO;
+use crate::tests::assert_row;
 use crate::tests::sections::PREAMBLE;
 use std::alloc::Global;
 use wasm_module::LoadFault;
@@ -26,7 +27,7 @@ fn is_fault_of(found: Option<LoadFault>, offset: u32) -> bool {
 fn program_cut(rt: HostRuntime) {
     for length in 0..168_u32 {
         let found = fault_with(rt.alloc(), length as usize, 168, b"");
-        assert!(rt; is_fault_of(found, length), "at {length}");
+        assert_row(&rt, length as usize, is_fault_of(found, length));
     }
 }
 
@@ -34,7 +35,7 @@ fn program_cut(rt: HostRuntime) {
 fn program_with_a_byte_replaced(rt: HostRuntime) {
     for place in 0..168 {
         let found = fault_with(rt.alloc(), place, place + 1, b"\xFF");
-        assert!(rt; found != Some(LoadFault::Memory), "at {place}");
+        assert_row(&rt, place, found != Some(LoadFault::Memory));
     }
 }
 
