@@ -2,21 +2,21 @@
 
 ghost use Rattle.std.specs.Option.{MatchOption};
 ghost use Rattle.std.specs.List.{Contains};
-ghost use Rattle.std.specs.Prelude.{◌≡◌, ◌↔◌, IfOk, IsTrue, IsOkAnd, IsSomeAnd, Some, None, false, map, string_bytes, option_and_then};
-ghost use Rattle.clap.specs.Words.{FailsBy, app_of, fault_of, first_of, found_of, one_of, rows_of, rule_of, subcommand_of};
+ghost use Rattle.std.specs.Prelude.{◌≡◌, ◌↔◌, ◌∷◌, [], IfOk, IsTrue, IsOkAnd, IsSomeAnd, Some, None, false, true, map, string_bytes, option_and_then};
+ghost use Rattle.clap.specs.Matches.{has_subcommand};
+ghost use Rattle.clap.specs.Words.{FailsBy, app_of, fault_of, first_of, found_of, one_of, rows_of, rule_of, subcommand_of, subcommand_rows_of};
 ghost use Rattle.clap.specs.declared.builder.command.Command.TheViews.{out-Command as fields_of};
 ghost use Rattle.sandbox_words.specs.Request.{texts};
-ghost use Rattle.sandbox_words.specs.CommandLine.{AsksChange, AsksFor, AsksRun, AsksTask, number_of, number_rule, number_word_rule};
-ghost use Rattle.sandbox_words.specs.CommandLine.{change_names, flag_rule, task_names, text_rule, texts_rule, word_rule, words_rule};
+ghost use Rattle.sandbox_words.specs.CommandLine.{AsksChange, AsksFor, AsksRun, AsksTask, number_of};
+ghost use Rattle.sandbox_words.specs.CommandLine.{change_names, other_names, task_names};
 ghost use Rattle.sandbox_words.specs.CommandLine.{IsFlagged, text_in, texts_of, word_of};
 ghost use Rattle.sandbox_words.specs.CommandLine.{faults_app, program, table_apps};
-ghost use Rattle.sandbox_words.specs.internal.Table.{AddsArguments, AddsSubcommands, app_for, rule_for};
+ghost use Rattle.sandbox_words.specs.internal.Table.{AddsArguments, AddsSubcommands, action_for, app_for, rule_for};
 ghost use Rattle.sandbox_words.specs.internal.Given.{AsksRunOf};
 
 use crate::faults::MEANINGS;
 use crate::request::{Change, Invocation, Limits, Run, Task};
 use crate::table::{Argument, COMMANDS, Subcommand, Takes};
-use clap::builder::ValueParser;
 use clap::{Arg, ArgAction, ArgMatches, Command, Error};
 use std::alloc::{AllocError, Global};
 
@@ -51,105 +51,34 @@ const PAGES: u32 = 1_024;
 /// Values that the guest's stack may have where the command line says nothing of them.
 const VALUES: u32 = 134_217_728;
 
-/// A command with what help says of it.
-fn described<'a>(command: Command<'a>, about: &'a str) -> Command<'a>
-    ensures shape { app_of result ≡ app_of command.entry }
-    ensures globals { (fields_of result).has_globals ≡ (fields_of command.entry).has_globals }
+/// What the parser does with an argument that takes this.
+fn action(takes: Takes) -> ArgAction
+    ensures { result ≡ action_for takes }
 {
-    command.about(about).after_help(STATUSES)
-}
-
-/// An option with one number, which the parser takes.
-fn number_option<'a>(
-    alloc: Global,
-    name: &'a str,
-    parser: ValueParser<'a>,
-    help: &'a str,
-) -> Arg<'a>
-    ensures { (rule_of result ≡ number_rule name.entry.now parser.entry) × (result.global ≡ false) }
-{
-    Arg::new(alloc, name)
-        .long(name)
-        .value_name("N")
-        .action(ArgAction::Set)
-        .value_parser(parser)
-        .help(help)
-}
-
-/// An option with one text.
-fn text_option<'a>(alloc: Global, name: &'a str, value: &'a str, help: &'a str) -> Arg<'a>
-    ensures { (rule_of result ≡ text_rule name.entry.now) × (result.global ≡ false) }
-{
-    Arg::new(alloc, name)
-        .long(name)
-        .value_name(value)
-        .action(ArgAction::Set)
-        .help(help)
-}
-
-/// An option with one text, which may come any number of times.
-fn texts_option<'a>(alloc: Global, name: &'a str, value: &'a str, help: &'a str) -> Arg<'a>
-    ensures { (rule_of result ≡ texts_rule name.entry.now) × (result.global ≡ false) }
-{
-    Arg::new(alloc, name)
-        .long(name)
-        .value_name(value)
-        .action(ArgAction::Append)
-        .help(help)
-}
-
-/// A flag.
-fn flag_option<'a>(alloc: Global, name: &'a str, help: &'a str) -> Arg<'a>
-    ensures { (rule_of result ≡ flag_rule name.entry.now) × (result.global ≡ false) }
-{
-    Arg::new(alloc, name)
-        .long(name)
-        .action(ArgAction::SetTrue)
-        .help(help)
-}
-
-/// A word that has to be there.
-fn word<'a>(alloc: Global, name: &'a str, help: &'a str) -> Arg<'a>
-    ensures { (rule_of result ≡ word_rule name.entry.now) × (result.global ≡ false) }
-{
-    Arg::new(alloc, name)
-        .required(true)
-        .action(ArgAction::Set)
-        .help(help)
-}
-
-/// A word that has to be there and is a number.
-fn number_word<'a>(alloc: Global, name: &'a str, help: &'a str) -> Arg<'a>
-    ensures { (rule_of result ≡ number_word_rule name.entry.now) × (result.global ≡ false) }
-{
-    word(alloc, name, help).value_parser(clap::value_parser!(u32))
-}
-
-/// A word, any number of times.
-fn further_words<'a>(alloc: Global, name: &'a str, help: &'a str) -> Arg<'a>
-    ensures { (rule_of result ≡ words_rule name.entry.now) × (result.global ≡ false) }
-{
-    Arg::new(alloc, name)
-        .num_args(0..)
-        .action(ArgAction::Append)
-        .help(help)
+    match takes {
+        Takes::Text(_) | Takes::Long | Takes::Number | Takes::Word | Takes::NumberWord => {
+            ArgAction::Set
+        }
+        Takes::Texts(_) | Takes::Words => ArgAction::Append,
+        Takes::Flag | Takes::ShortFlag(_) => ArgAction::SetTrue,
+    }
 }
 
 /// An argument of the table.
 fn argument<'a>(alloc: Global, row: &'static Argument) -> Arg<'a>
     ensures { (rule_of result ≡ rule_for row.now) × (result.global ≡ false) }
 {
-    let (name, help) = (row.name, row.help);
-    match row.takes {
-        Takes::Text(value) => text_option(alloc, name, value, help),
-        Takes::Texts(value) => texts_option(alloc, name, value, help),
-        Takes::Long => number_option(alloc, name, clap::value_parser!(u64), help),
-        Takes::Number => number_option(alloc, name, clap::value_parser!(u32), help),
-        Takes::Flag => flag_option(alloc, name, help),
-        Takes::ShortFlag(letter) => flag_option(alloc, name, help).short(letter),
-        Takes::Word => word(alloc, name, help),
-        Takes::NumberWord => number_word(alloc, name, help),
-        Takes::Words => further_words(alloc, name, help),
+    let (name, takes) = (row.name, row.takes);
+    let arg = Arg::new(alloc, name).action(action(takes)).help(row.help);
+    match takes {
+        Takes::Text(value) | Takes::Texts(value) => arg.long(name).value_name(value),
+        Takes::Long => arg.long(name).value_name("N").value_parser(clap::value_parser!(u64)),
+        Takes::Number => arg.long(name).value_name("N").value_parser(clap::value_parser!(u32)),
+        Takes::Flag => arg.long(name),
+        Takes::ShortFlag(letter) => arg.long(name).short(letter),
+        Takes::Word => arg.required(true),
+        Takes::NumberWord => arg.required(true).value_parser(clap::value_parser!(u32)),
+        Takes::Words => arg.num_args(0..),
     }
 }
 
@@ -171,8 +100,25 @@ fn with_arguments<'a>(
 fn subcommand<'a>(alloc: Global, row: &'static Subcommand) -> Result<Command<'a>, AllocError>
     ensures { IfOk result (λ c. (app_of c ≡ app_for row.now) × ((fields_of c).has_globals ≡ false)) }
 {
-    let command = described(Command::new(alloc, row.name), row.about);
+    let command = Command::new(alloc, row.name).about(row.about).after_help(STATUSES);
     with_arguments(alloc, command, row.arguments)
+}
+
+/// A command with the command of this row more.
+fn with_subcommand<'a>(
+    alloc: Global,
+    command: Command<'a>,
+    row: &'static Subcommand,
+) -> Result<Command<'a>, AllocError>
+    ensures { IfOk result (AddsSubcommands command.entry (app_for row.now ∷ [])) }
+{
+    match subcommand(alloc, row) {
+        Ok(made) => command.subcommand(made),
+        Err(refusal) => {
+            drop(command); // by the call, since the end of the scope spells it out
+            Err(refusal)
+        }
+    }
 }
 
 /// A command with these subcommands more.
@@ -184,7 +130,7 @@ fn with_subcommands<'a>(
     ensures { IfOk result (AddsSubcommands command.entry (map app_for rows.now)) }
 {
     for row in rows {
-        command = command.subcommand(subcommand(alloc, row)?)?;
+        command = with_subcommand(alloc, command, row)?;
     }
     Ok(command)
 }
@@ -199,24 +145,23 @@ fn faults_command<'a>(alloc: Global) -> Command<'a>
         .arg_required_else_help(true)
 }
 
-/// A command with the subcommands of the table. (Nothing else stands in it, since each function that names the table is
-/// expensive to check.)
-fn with_table<'a>(alloc: Global, command: Command<'a>) -> Result<Command<'a>, AllocError>
-    ensures { IfOk result (AddsSubcommands command.entry table_apps) }
+/// The rows of the table. (Nothing else stands here, since each function that names the table is expensive to check.)
+fn commands() -> &'static [Subcommand]
+    ensures { map app_for result.now ≡ table_apps }
 {
-    with_subcommands(alloc, command, &COMMANDS)
+    &COMMANDS
 }
 
 /// The program, of whose commands one has to be there.
 fn command<'a>(alloc: Global) -> Result<Command<'a>, AllocError>
     ensures { IfOk result (λ c. (app_of c ≡ program) × ((fields_of c).has_globals ≡ false)) }
 {
-    let about =
-        "Runs command-line WebAssembly programs with exact fuel, and keeps volumes of files";
     let program = Command::new(alloc, "sandbox")
+        .about("Runs command-line WebAssembly programs with exact fuel, and keeps volumes of files")
+        .after_help(STATUSES)
         .version(VERSION)
         .subcommand_required(true);
-    with_table(alloc, described(program, about))?.subcommand(faults_command(alloc))
+    with_subcommands(alloc, program, commands())?.subcommand(faults_command(alloc))
 }
 
 /// The text of an argument, or the empty one.
@@ -349,6 +294,31 @@ fn task_given<'a>(name: &str, matches: &ArgMatches<'a>) -> Option<Task<'a>>
     }
 }
 
+/// What the command of this name is asked for; none where it is no command but `run`.
+fn other_given<'a>(name: &str, matches: &ArgMatches<'a>) -> Option<Invocation<'a>>
+    ensures { MatchOption result (Contains other_names name.now → ⊥)
+        (AsksFor name.now (rows_of (found_of matches.now))) }
+{
+    let file = text(matches, "FILE");
+    let path = text(matches, "PATH");
+    let module = text(matches, "MODULE");
+    match name {
+        "format" => Some(Invocation::Format {
+            file,
+            sectors: number(matches, "SECTORS").unwrap_or(0),
+            slots: number(matches, "SLOTS").unwrap_or(0),
+            large: is_flagged(matches, "large"),
+        }),
+        "import" => Some(Invocation::Import { file, path }),
+        "export" => Some(Invocation::Export { file, path }),
+        "inspect" => Some(Invocation::Inspect { module }),
+        _ => match task_given(name, matches) {
+            Some(task) => Some(Invocation::Volume { file, task }),
+            None => None,
+        },
+    }
+}
+
 /// What the command of this name is asked for.
 fn asked<'a>(
     alloc: Global,
@@ -357,24 +327,21 @@ fn asked<'a>(
 ) -> Result<Invocation<'a>, AllocError>
     ensures { IfOk result (AsksFor name.now (rows_of (found_of matches.now))) }
 {
-    let file = text(matches, "FILE");
-    let path = text(matches, "PATH");
-    let module = text(matches, "MODULE");
-    match name {
-        "format" => Ok(Invocation::Format {
-            file,
-            sectors: number(matches, "SECTORS").unwrap_or(0),
-            slots: number(matches, "SLOTS").unwrap_or(0),
-            large: is_flagged(matches, "large"),
-        }),
-        "import" => Ok(Invocation::Import { file, path }),
-        "export" => Ok(Invocation::Export { file, path }),
-        "inspect" => Ok(Invocation::Inspect { module }),
-        _ => match task_given(name, matches) {
-            Some(task) => Ok(Invocation::Volume { file, task }),
-            None => Ok(Invocation::Run(run_given(alloc, matches)?)),
-        },
+    match other_given(name, matches) {
+        Some(other) => Ok(other),
+        None => Ok(Invocation::Run(run_given(alloc, matches)?)),
     }
+}
+
+/// What the matches of a whole command line ask for. (So that their owner lets them go in one place.)
+fn entered<'a>(alloc: Global, matches: &ArgMatches<'a>) -> Result<Invocation<'a>, AllocError>
+    requires { has_subcommand matches.now ≡ true }
+    ensures { IfOk result (λ i. IsSomeAnd (subcommand_rows_of matches.now) (λ entered. AsksFor entered.0 entered.1 i)) }
+{
+    let Some((name, inner)) = matches.subcommand() else {
+        unreachable!() // clap refuses a command line without a subcommand
+    };
+    asked(alloc, name, inner)
 }
 
 /// Reads the words of a command line, of which the first is the program's name. A refusal, and
@@ -385,8 +352,7 @@ pub fn invocation<'a>(alloc: Global, words: &'a [String]) -> Result<Invocation<'
     ensures fails { FailsBy (fault_of program (map string_bytes words.entry.now)) result }
 {
     let matches = command(alloc)?.try_get_matches_from(words)?;
-    let Some((name, inner)) = matches.subcommand() else {
-        unreachable!() // clap refuses a command line without a subcommand
-    };
-    Ok(asked(alloc, name, inner)?)
+    let answer = entered(alloc, &matches);
+    drop(matches);
+    Ok(answer?)
 }

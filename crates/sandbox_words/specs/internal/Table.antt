@@ -1,5 +1,7 @@
 -- What clap's model says of the rows of the table (`src/table.rt`).
 use Rattle.std.specs.Prelude.{◌≡◌, List, map}
+use Rattle.clap.specs.declared.builder.action.ArgAction.{ArgAction}
+use Rattle.clap.specs.declared.builder.action.ArgAction.TheVariants.{Set, Append, SetTrue}
 use Rattle.clap.specs.Words.{App, Rule, app_of}
 use Rattle.clap.specs.declared.builder.command.Command.{Command}
 use Rattle.clap.specs.declared.builder.command.Command.TheViews.{out-Command as fields_of}
@@ -21,6 +23,18 @@ rule_that name (takes.ShortFlag letter) = short_flag_rule name letter
 rule_that name takes.Word = word_rule name
 rule_that name takes.NumberWord = number_word_rule name
 rule_that name takes.Words = words_rule name
+
+-- what the parser does with it
+abbrev pub action_for : Takes → ArgAction
+action_for (takes.Text value) = Set
+action_for (takes.Texts value) = Append
+action_for takes.Long = Set
+action_for takes.Number = Set
+action_for takes.Flag = SetTrue
+action_for (takes.ShortFlag letter) = SetTrue
+action_for takes.Word = Set
+action_for takes.NumberWord = Set
+action_for takes.Words = Append
 
 abbrev pub rule_for : Argument → Rule
 rule_for argument = rule_that argument.name.now argument.takes

@@ -1,10 +1,9 @@
-use Rattle.std.proofs.Common.{◌∙◌, ◌+◌, List, [], drop, get_or, refl, sym, map}
+use Rattle.std.proofs.Common.{◌∙◌, ◌+◌, List, [], ap, drop, get_or, refl, sym, map}
 use Rattle.std.proofs.lemmas.List.{at_drop_all, at_drop_more}
-use Rattle.clap.specs.Words.{app_of}
+use Rattle.clap.specs.Words.{App, app_of}
 use Rattle.sandbox_words.specs.declared.table.Subcommand.{Subcommand}
 use Rattle.sandbox_words.specs.CommandLine.{with_apps}
 use Rattle.sandbox_words.specs.internal.Table.{app_for}
-use Rattle.sandbox_words.proofs.CommandLines.{subcommand_added}
 use Rattle.sandbox_words.proofs.words.with_subcommands.Goals as goal
 
 pub loop-row-init : goal.loop-row-init
@@ -23,9 +22,8 @@ pub loop-row-preserved : goal.loop-row-preserved
 loop-row-preserved c =
     let whole = λ (rows : List Subcommand). with_apps (app_of c.loop-row.command) (map app_for rows) in
     let still = sym (at_drop_more whole c.args.rows.now c.loop-row.row-index none c.loop-row-test.true) ∙ c.loop-row.invariant.0 in
-    let added = subcommand_added c.loop-row.command c.in_ok-command.command c.in_ok-subcommand.field-0 _ (app_for (get_or c.args.rows.now c.loop-row.row-index none)) (map app_for (drop (c.loop-row.row-index + 1) c.args.rows.now))
-    c.in_ok-command.ensures c.in_ok-subcommand.ensures still in
-    (added.0, added.1 ∙ c.loop-row.invariant.1)
+    let rest = map app_for (drop (c.loop-row.row-index + 1) c.args.rows.now) in
+    (ap (λ (a : App). with_apps a rest) c.in_ok-command.ensures.shape ∙ still, c.in_ok-command.ensures.globals ∙ c.loop-row.invariant.1)
 
 -- no more are to come
 pub returns : goal.returns

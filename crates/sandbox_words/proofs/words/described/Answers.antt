@@ -1,6 +1,0 @@
-use Rattle.std.proofs.Common.{arith}
-use Rattle.std.proofs.lemmas.Grind.{common_steps}
-use Rattle.sandbox_words.proofs.words.described.Goals as goal
-
-pub returns-clause-shape : goal.returns-clause-shape
-returns-clause-shape c = grind (arith, common_steps)
