@@ -12,7 +12,7 @@ use Rattle.clap.specs.declared.builder.command.Command.TheViews.{out-Command as 
 use Rattle.clap.proofs.OnLiterals.{clap_on_literals}
 use Rattle.sandbox_words.specs.Request.{Text}
 use Rattle.sandbox_words.specs.internal.Table.{AddsSubcommands}
-use Rattle.sandbox_words.specs.CommandLine.{is_numeral, number_of, program, run_app, table_apps, with_apps, with_rules}
+use Rattle.sandbox_words.specs.CommandLine.{is_numeral, number_of, program, run_rules, table_apps, with_apps, with_rules}
 
 -- ---- numbers
 
@@ -108,11 +108,11 @@ program_made first made faults new top leaf apps (is, local) table last added =
 
 -- the program's command is one of which clap's model says all
 pub program_is_simple : is_simple program ≡ true
-unfolding program table_apps run_app clap_on_literals
+unfolding program table_apps run_rules clap_on_literals
 program_is_simple = refl
 
 pub program_is_free : is_simple_and_free program ≡ true
-unfolding program table_apps run_app clap_on_literals
+unfolding program table_apps run_rules clap_on_literals
 program_is_free = refl
 
 pub subcommand_is_required : program.top.subcommand_required ≡ true

@@ -84,15 +84,19 @@ abbrev pub with_apps : App → List App → App
 with_apps app [] = app
 with_apps app (sub ∷ rest) = with_apps (with_subcommand app sub.top) rest
 
--- `run`, with what a guest may use and is given, and where it is reported
-unfoldable pub run_app : App
-run_app = app_with (codes "run") (text_rule (codes "volume") ∷ text_rule (codes "image") ∷ text_rule (codes "volume-out")
+-- what a guest may use and is given, and where it is reported
+unfoldable pub run_rules : List Rule
+run_rules = text_rule (codes "volume") ∷ text_rule (codes "image") ∷ text_rule (codes "volume-out")
     ∷ number_rule (codes "fuel") u64_numbers ∷ number_rule (codes "pages") u32_numbers ∷ number_rule (codes "values") u32_numbers
     ∷ texts_rule (codes "dir") ∷ texts_rule (codes "env") ∷ number_rule (codes "moment") u64_numbers
     ∷ text_rule (codes "random") ∷ number_rule (codes "seed") u64_numbers
     ∷ text_rule (codes "stdin") ∷ text_rule (codes "stdout") ∷ text_rule (codes "stderr")
     ∷ text_rule (codes "name") ∷ text_rule (codes "report") ∷ text_rule (codes "tests")
-    ∷ word_rule (codes "MODULE") ∷ words_rule (codes "WORD") ∷ [])
+    ∷ word_rule (codes "MODULE") ∷ words_rule (codes "WORD") ∷ []
+
+-- `run`, with these
+abbrev pub run_app : App
+run_app = app_with (codes "run") run_rules
 
 -- `inspect`, of a module
 abbrev pub inspect_app : App

@@ -1,5 +1,9 @@
 //! The program's commands, with their arguments, in the order of the help.
 
+ghost use Rattle.std.specs.Prelude.{◌≡◌, map};
+ghost use Rattle.sandbox_words.specs.CommandLine.{table_apps};
+ghost use Rattle.sandbox_words.specs.internal.Table.{app_for, rule_for, rules_for};
+
 /// What an argument takes.
 #[derive(Clone, Copy)]
 pub(crate) enum Takes {
@@ -31,12 +35,31 @@ pub(crate) struct Argument {
     pub help: &'static str,
 }
 
+/// Which arguments a command has.
+#[derive(Clone, Copy)]
+pub(crate) enum Arguments {
+    /// Those of `run`.
+    Run,
+    /// A module.
+    Module,
+    /// Those of `format`.
+    Format,
+    /// A volume.
+    Volume,
+    /// A volume and a path in it.
+    Path,
+    /// Those of `mv`.
+    Move,
+    /// Those of `rm`.
+    Remove,
+}
+
 /// A command of the program.
 pub(crate) struct Subcommand {
     pub name: &'static str,
     /// What help says of it.
     pub about: &'static str,
-    pub arguments: &'static [Argument],
+    pub arguments: Arguments,
 }
 
 const VOLUME: Argument = Argument {
@@ -57,8 +80,17 @@ const MODULE: Argument = Argument {
     help: "The module's file",
 };
 
+/// The one argument of a command on a module.
+static INSPECT: [Argument; 1] = [MODULE];
+
+/// The one argument of a command on a whole volume.
+static ON_VOLUME: [Argument; 1] = [VOLUME];
+
+/// The arguments of a command on a path.
+static ON_PATH: [Argument; 2] = [VOLUME, PATH];
+
 /// The arguments of `run`.
-const RUN: &[Argument] = &[
+static RUN: [Argument; 19] = [
     Argument {
         name: "volume",
         takes: Takes::Text("FILE"),
@@ -157,7 +189,7 @@ const RUN: &[Argument] = &[
 ];
 
 /// The arguments of `format`.
-const FORMAT: &[Argument] = &[
+static FORMAT: [Argument; 4] = [
     VOLUME,
     Argument {
         name: "SECTORS",
@@ -177,7 +209,7 @@ const FORMAT: &[Argument] = &[
 ];
 
 /// The arguments of `mv`.
-const MOVE: &[Argument] = &[
+static MOVE: [Argument; 3] = [
     VOLUME,
     Argument {
         name: "FROM",
@@ -192,7 +224,7 @@ const MOVE: &[Argument] = &[
 ];
 
 /// The arguments of `rm`.
-const REMOVE: &[Argument] = &[
+static REMOVE: [Argument; 3] = [
     VOLUME,
     PATH,
     Argument {
@@ -202,76 +234,99 @@ const REMOVE: &[Argument] = &[
     },
 ];
 
+/// The rows of these arguments. (Not a part of each command's own row: what a function says of a table grows with the
+/// length of all of its texts, for each of them.)
+pub(crate) fn rows(arguments: Arguments) -> &'static [Argument]
+    ensures { map rule_for result.now ≡ rules_for arguments }
+{
+    match arguments {
+        Arguments::Run => &RUN,
+        Arguments::Module => &INSPECT,
+        Arguments::Format => &FORMAT,
+        Arguments::Volume => &ON_VOLUME,
+        Arguments::Path => &ON_PATH,
+        Arguments::Move => &MOVE,
+        Arguments::Remove => &REMOVE,
+    }
+}
+
 /// All commands but `faults`.
-pub(crate) static COMMANDS: [Subcommand; 14] = [
+pub(crate) fn commands() -> &'static [Subcommand]
+    ensures { map app_for result.now ≡ table_apps }
+{
+    &COMMANDS
+}
+
+/// All commands but `faults`.
+static COMMANDS: [Subcommand; 14] = [
     Subcommand {
         name: "run",
         about: "Run the _start of a WebAssembly module, until it ends or its fuel is used up",
-        arguments: RUN,
+        arguments: Arguments::Run,
     },
     Subcommand {
         name: "inspect",
         about: "Print what a WebAssembly module needs and offers, or why it is refused",
-        arguments: &[MODULE],
+        arguments: Arguments::Module,
     },
     Subcommand {
         name: "format",
         about: "Make a file an empty volume; it is made, or lengthened, where that is needed",
-        arguments: FORMAT,
+        arguments: Arguments::Format,
     },
     Subcommand {
         name: "ls",
         about: "Print the entries of a directory",
-        arguments: &[VOLUME, PATH],
+        arguments: Arguments::Path,
     },
     Subcommand {
         name: "get",
         about: "Print a file",
-        arguments: &[VOLUME, PATH],
+        arguments: Arguments::Path,
     },
     Subcommand {
         name: "put",
         about: "Put standard input into a file",
-        arguments: &[VOLUME, PATH],
+        arguments: Arguments::Path,
     },
     Subcommand {
         name: "import",
         about: "Put the tar archive on standard input into a directory",
-        arguments: &[VOLUME, PATH],
+        arguments: Arguments::Path,
     },
     Subcommand {
         name: "export",
         about: "Print a directory as a tar archive",
-        arguments: &[VOLUME, PATH],
+        arguments: Arguments::Path,
     },
     Subcommand {
         name: "mkdir",
         about: "Make a directory",
-        arguments: &[VOLUME, PATH],
+        arguments: Arguments::Path,
     },
     Subcommand {
         name: "mv",
         about: "Give an entry another place or name; a file or an empty directory there goes",
-        arguments: MOVE,
+        arguments: Arguments::Move,
     },
     Subcommand {
         name: "rm",
         about: "Remove a file, an empty directory or, with -r, a directory with all that is in it",
-        arguments: REMOVE,
+        arguments: Arguments::Remove,
     },
     Subcommand {
         name: "stat",
         about: "Print the kind, the size and the serial of an entry",
-        arguments: &[VOLUME, PATH],
+        arguments: Arguments::Path,
     },
     Subcommand {
         name: "check",
         about: "Print how much of a volume is used",
-        arguments: &[VOLUME],
+        arguments: Arguments::Volume,
     },
     Subcommand {
         name: "upgrade",
         about: "Make a volume one of version 2",
-        arguments: &[VOLUME],
+        arguments: Arguments::Volume,
     },
 ];

@@ -10,13 +10,13 @@ ghost use Rattle.sandbox_words.specs.Request.{texts};
 ghost use Rattle.sandbox_words.specs.CommandLine.{AsksChange, AsksFor, AsksRun, AsksTask, number_of};
 ghost use Rattle.sandbox_words.specs.CommandLine.{change_names, other_names, task_names};
 ghost use Rattle.sandbox_words.specs.CommandLine.{IsFlagged, text_in, texts_of, word_of};
-ghost use Rattle.sandbox_words.specs.CommandLine.{faults_app, program, table_apps};
+ghost use Rattle.sandbox_words.specs.CommandLine.{faults_app, program};
 ghost use Rattle.sandbox_words.specs.internal.Table.{AddsArguments, AddsSubcommands, action_for, app_for, rule_for};
 ghost use Rattle.sandbox_words.specs.internal.Given.{AsksRunOf};
 
 use crate::faults::MEANINGS;
 use crate::request::{Change, Invocation, Limits, Run, Task};
-use crate::table::{Argument, COMMANDS, Subcommand, Takes};
+use crate::table::{Argument, Subcommand, Takes, commands, rows};
 use clap::{Arg, ArgAction, ArgMatches, Command, Error};
 use std::alloc::{AllocError, Global};
 
@@ -72,8 +72,14 @@ fn argument<'a>(alloc: Global, row: &'static Argument) -> Arg<'a>
     let arg = Arg::new(alloc, name).action(action(takes)).help(row.help);
     match takes {
         Takes::Text(value) | Takes::Texts(value) => arg.long(name).value_name(value),
-        Takes::Long => arg.long(name).value_name("N").value_parser(clap::value_parser!(u64)),
-        Takes::Number => arg.long(name).value_name("N").value_parser(clap::value_parser!(u32)),
+        Takes::Long => arg
+            .long(name)
+            .value_name("N")
+            .value_parser(clap::value_parser!(u64)),
+        Takes::Number => arg
+            .long(name)
+            .value_name("N")
+            .value_parser(clap::value_parser!(u32)),
         Takes::Flag => arg.long(name),
         Takes::ShortFlag(letter) => arg.long(name).short(letter),
         Takes::Word => arg.required(true),
@@ -100,8 +106,10 @@ fn with_arguments<'a>(
 fn subcommand<'a>(alloc: Global, row: &'static Subcommand) -> Result<Command<'a>, AllocError>
     ensures { IfOk result (λ c. (app_of c ≡ app_for row.now) × ((fields_of c).has_globals ≡ false)) }
 {
-    let command = Command::new(alloc, row.name).about(row.about).after_help(STATUSES);
-    with_arguments(alloc, command, row.arguments)
+    let command = Command::new(alloc, row.name)
+        .about(row.about)
+        .after_help(STATUSES);
+    with_arguments(alloc, command, rows(row.arguments))
 }
 
 /// A command with the command of this row more.
@@ -143,13 +151,6 @@ fn faults_command<'a>(alloc: Global) -> Command<'a>
         .about("Print what the numbers of faults and errnos mean")
         .override_help(MEANINGS)
         .arg_required_else_help(true)
-}
-
-/// The rows of the table. (Nothing else stands here, since each function that names the table is expensive to check.)
-fn commands() -> &'static [Subcommand]
-    ensures { map app_for result.now ≡ table_apps }
-{
-    &COMMANDS
 }
 
 /// The program, of whose commands one has to be there.

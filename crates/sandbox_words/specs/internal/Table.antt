@@ -1,5 +1,5 @@
 -- What clap's model says of the rows of the table (`src/table.rt`).
-use Rattle.std.specs.Prelude.{◌≡◌, List, map}
+use Rattle.std.specs.Prelude.{◌≡◌, List, [], ◌∷◌, codes}
 use Rattle.clap.specs.declared.builder.action.ArgAction.{ArgAction}
 use Rattle.clap.specs.declared.builder.action.ArgAction.TheVariants.{Set, Append, SetTrue}
 use Rattle.clap.specs.Words.{App, Rule, app_of}
@@ -8,9 +8,11 @@ use Rattle.clap.specs.declared.builder.command.Command.TheViews.{out-Command as 
 use Rattle.sandbox_words.specs.declared.table.Takes.TheVariants as takes
 use Rattle.sandbox_words.specs.declared.table.Takes.{Takes}
 use Rattle.sandbox_words.specs.declared.table.Argument.{Argument}
+use Rattle.sandbox_words.specs.declared.table.Arguments.TheVariants as rows
+use Rattle.sandbox_words.specs.declared.table.Arguments.{Arguments}
 use Rattle.sandbox_words.specs.declared.table.Subcommand.{Subcommand}
 use Rattle.sandbox_words.specs.Request.{Text}
-use Rattle.sandbox_words.specs.CommandLine.{app_with, flag_rule, number_rule, number_word_rule, short_flag_rule, text_rule, texts_rule, u32_numbers, u64_numbers, with_apps, with_rules, word_rule, words_rule}
+use Rattle.sandbox_words.specs.CommandLine.{app_with, flag_rule, number_rule, number_word_rule, run_rules, short_flag_rule, text_rule, texts_rule, u32_numbers, u64_numbers, with_apps, with_rules, word_rule, words_rule}
 
 -- the argument of this name that takes this
 abbrev pub rule_that : Text → Takes → Rule
@@ -39,8 +41,18 @@ action_for takes.Words = Append
 abbrev pub rule_for : Argument → Rule
 rule_for argument = rule_that argument.name.now argument.takes
 
+-- the arguments of these rows
+abbrev pub rules_for : Arguments → List Rule
+rules_for rows.Run = run_rules
+rules_for rows.Module = word_rule (codes "MODULE") ∷ []
+rules_for rows.Format = word_rule (codes "FILE") ∷ number_word_rule (codes "SECTORS") ∷ number_word_rule (codes "SLOTS") ∷ flag_rule (codes "large") ∷ []
+rules_for rows.Volume = word_rule (codes "FILE") ∷ []
+rules_for rows.Path = word_rule (codes "FILE") ∷ word_rule (codes "PATH") ∷ []
+rules_for rows.Move = word_rule (codes "FILE") ∷ word_rule (codes "FROM") ∷ word_rule (codes "TO") ∷ []
+rules_for rows.Remove = word_rule (codes "FILE") ∷ word_rule (codes "PATH") ∷ short_flag_rule (codes "recursive") 114 ∷ []
+
 abbrev pub app_for : Subcommand → App
-app_for row = app_with row.name.now (map rule_for row.arguments.now)
+app_for row = app_with row.name.now (rules_for row.arguments)
 
 -- the new command is the old one with these arguments more
 pub record AddsArguments (old : Command) (rules : List Rule) (new : Command) : Type 0 where

@@ -1,6 +1,7 @@
 use Rattle.std.proofs.Common.{◌∙◌, ◌+◌, List, [], ap, drop, get_or, refl, sym, map}
 use Rattle.std.proofs.lemmas.List.{at_drop_all, at_drop_more}
 use Rattle.clap.specs.Words.{App, app_of}
+use Rattle.sandbox_words.specs.declared.table.Arguments.TheVariants.{Run}
 use Rattle.sandbox_words.specs.declared.table.Subcommand.{Subcommand}
 use Rattle.sandbox_words.specs.CommandLine.{with_apps}
 use Rattle.sandbox_words.specs.internal.Table.{app_for}
@@ -14,7 +15,7 @@ abbrev none : Subcommand
 none = record {
   name = record { ref_ptr = (0, 0); now = [] };
   about = record { ref_ptr = (0, 0); now = [] };
-  arguments = record { ref_ptr = (0, 0); now = [] };
+  arguments = Run;
 }
 
 -- one subcommand more, one fewer to come
