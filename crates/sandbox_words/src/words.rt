@@ -71,7 +71,8 @@ fn argument<'a>(alloc: Global, row: &'static Argument) -> Arg<'a>
     let (name, takes) = (row.name, row.takes);
     let arg = Arg::new(alloc, name).action(action(takes)).help(row.help);
     match takes {
-        Takes::Text(value) | Takes::Texts(value) => arg.long(name).value_name(value),
+        Takes::Text(value) => arg.long(name).value_name(value),
+        Takes::Texts(value) => arg.long(name).value_name(value),
         Takes::Long => arg
             .long(name)
             .value_name("N")

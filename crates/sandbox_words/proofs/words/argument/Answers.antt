@@ -5,6 +5,9 @@ use Rattle.sandbox_words.proofs.words.argument.Goals as goal
 pub returns-in-Text : goal.returns-in-Text
 returns-in-Text c = grind (arith, common_steps)
 
+pub returns-in-Texts : goal.returns-in-Texts
+returns-in-Texts c = grind (arith, common_steps)
+
 pub returns-in-Long : goal.returns-in-Long
 returns-in-Long c = grind (arith, common_steps)
 
