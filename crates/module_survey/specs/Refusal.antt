@@ -19,9 +19,12 @@ abbrev pub name_of : List ℕ → Option ℕ → List ℕ
 name_of bytes None = []
 name_of bytes (Some f) = option_map_or (λ name. name) (function_name bytes f) []
 
+abbrev pub lines_of : Option ℕ → Text → Option ℕ → Option ℕ → Text
+lines_of number reason offset f = concat (codes "loads:no\nfault:" ∷ number_text number ∷ codes "\ntext:" ∷ reason
+    ∷ codes "\noffset:" ∷ number_text offset ∷ codes "\nfunction:" ∷ number_text f ∷ codes "\nname:" ∷ [])
+
 abbrev pub fault_lines : LoadFault → Option ℕ → Text
-fault_lines fault f = concat (codes "loads:no\nfault:" ∷ number_text (load_number fault) ∷ codes "\ntext:" ∷ load_text fault
-    ∷ codes "\noffset:" ∷ number_text (load_offset fault) ∷ codes "\nfunction:" ∷ number_text f ∷ codes "\nname:" ∷ [])
+fault_lines fault f = lines_of (load_number fault) (load_text fault) (load_offset fault) f
 
 -- the fault, where it is, and the function that it lies in
 abbrev pub refusal_text : List ℕ → LoadFault → Option ℕ → Text

@@ -82,9 +82,12 @@ abbrev pub entry_text : Bool → Text
 entry_text true = codes "yes"
 entry_text false = codes "no"
 
+abbrev pub sizes_text : List Limits → List Limits → ℕ → ℕ → Option ℕ → Bool → Text
+sizes_text memories tables functions globals start entry = concat (codes "memory:" ∷ limits_text memories ∷ codes "\ntable:" ∷ limits_text tables ∷ codes "\nfunctions:" ∷ decimal functions
+    ∷ codes "\nglobals:" ∷ decimal globals ∷ codes "\nstart:" ∷ number_or_none start ∷ codes "\nentry:" ∷ entry_text entry ∷ codes "\n" ∷ [])
+
 abbrev pub parts_text : Module → Text
-parts_text m = concat (codes "memory:" ∷ limits_text m.memories ∷ codes "\ntable:" ∷ limits_text m.tables ∷ codes "\nfunctions:" ∷ decimal (length m.functions)
-    ∷ codes "\nglobals:" ∷ decimal (length m.globals) ∷ codes "\nstart:" ∷ number_or_none m.start ∷ codes "\nentry:" ∷ entry_text (has_entry m) ∷ codes "\n" ∷ [])
+parts_text m = sizes_text m.memories m.tables (length m.functions) (length m.globals) m.start (has_entry m)
 
 -- the imports and the exports in the module's order, and then the rest
 abbrev pub survey_of : LinksOf → Module → Text

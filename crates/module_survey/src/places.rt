@@ -3,6 +3,7 @@
 ghost use Rattle.std.specs.Prelude.{◌≡◌, IfOk};
 ghost use Rattle.std.specs.Option.{option_map};
 ghost use Rattle.module_survey.specs.Places.{function_name, holding_entry, IsFunctionAt, name_among, own_function_at, up_to_imports};
+ghost use Rattle.module_survey.specs.internal.Counting.{IsCountedAfter};
 
 use crate::functions::imported;
 use crate::sections::{Wanted, find, module_section, number, sized};
@@ -46,23 +47,32 @@ fn up_to_imports(bytes: &[u8]) -> &[u8]
     }
 }
 
-/// The function that holds the byte at this offset, the imported ones counted first; none where there is none, or its
-/// imports can't be read.
-pub(crate) fn function_at(alloc: Global, bytes: &[u8], offset: u32) -> io::Result<Option<u64>>
-    ensures { IfOk result (IsFunctionAt bytes.now offset) }
+/// The index of a module's own function, where the bytes, which end with the imports, are read as a module: the imported
+/// functions are counted first.
+fn counted_after_imports(alloc: Global, bytes: &[u8], own: u32) -> io::Result<Option<u64>>
+    ensures { IfOk result (IsCountedAfter bytes.now own) }
 {
-    let Some(own) = own_function_at(bytes, offset) else {
-        return Ok(None);
-    };
-    match decode(alloc, up_to_imports(bytes)) {
+    match decode(alloc, bytes) {
         Ok(module) => {
-            let imported = imported(alloc, module.imports.as_slice())?;
-            Ok(Some(imported.len() as u64 + u64::from(own)))
+            let imported = imported(alloc, module.imports.as_slice());
+            drop(module); // by the call, since each end of the scope spells it out
+            Ok(Some(imported?.len() as u64 + u64::from(own)))
         }
         Err(fault) => match fault {
             LoadFault::Memory => Err(Error::from(ErrorKind::OutOfMemory)),
             _ => Ok(None),
         },
+    }
+}
+
+/// The function that holds the byte at this offset, the imported ones counted first; none where there is none, or its
+/// imports can't be read.
+pub(crate) fn function_at(alloc: Global, bytes: &[u8], offset: u32) -> io::Result<Option<u64>>
+    ensures { IfOk result (IsFunctionAt bytes.now offset) }
+{
+    match own_function_at(bytes, offset) {
+        Some(own) => counted_after_imports(alloc, up_to_imports(bytes), own),
+        None => Ok(None),
     }
 }
 

@@ -2,7 +2,7 @@
 
 ghost use Rattle.std.specs.Prelude.{◌≡◌, ◌++◌, ℕ, Option, IfOk, OnOk};
 ghost use Rattle.run_report.specs.Faults.{load_offset};
-ghost use Rattle.module_survey.specs.Refusal.{fault_lines, LiesIn, name_of, refusal_text};
+ghost use Rattle.module_survey.specs.Refusal.{fault_lines, lines_of, LiesIn, name_of, refusal_text};
 
 use crate::places::{function_at, function_name};
 use crate::words::{Number, add_name};
@@ -44,18 +44,31 @@ fn wide(number: Option<u32>) -> Option<u64>
     }
 }
 
+fn add_lines(
+    text: &mut Vec<u8>,
+    number: Option<u64>,
+    reason: &str,
+    offset: Option<u64>,
+    function: Option<u64>,
+) -> io::Result<()>
+    ensures { OnOk result (text.new.items ≡ text.old.items ++ lines_of number reason.now offset function) }
+{
+    write!(
+        text,
+        "loads:no\nfault:{}\ntext:{}\noffset:{}\nfunction:{}\nname:",
+        Number(number),
+        reason,
+        Number(offset),
+        Number(function)
+    )
+}
+
 fn add_fault_lines(text: &mut Vec<u8>, fault: LoadFault, function: Option<u64>) -> io::Result<()>
     ensures { OnOk result (text.new.items ≡ text.old.items ++ fault_lines fault function) }
 {
     let reason = Fault::Module(fault);
-    write!(
-        text,
-        "loads:no\nfault:{}\ntext:{}\noffset:{}\nfunction:{}\nname:",
-        Number(wide(reason.number())),
-        reason.text(),
-        Number(wide(reason.offset())),
-        Number(function)
-    )
+    let (number, offset) = (wide(reason.number()), wide(reason.offset()));
+    add_lines(text, number, reason.text(), offset, function)
 }
 
 /// Adds why the bytes are refused.

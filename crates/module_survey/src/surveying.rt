@@ -43,11 +43,13 @@ fn text_of<L: Links>(
             added?;
             Ok((text, Ok(())))
         }
-        Err(LoadFault::Memory) => Err(Error::from(ErrorKind::OutOfMemory)),
-        Err(fault) => {
-            add_refusal(alloc, &mut text, bytes, fault)?;
-            Ok((text, Err(fault)))
-        }
+        Err(fault) => match fault {
+            LoadFault::Memory => Err(Error::from(ErrorKind::OutOfMemory)),
+            _ => {
+                add_refusal(alloc, &mut text, bytes, fault)?;
+                Ok((text, Err(fault)))
+            }
+        },
     }
 }
 

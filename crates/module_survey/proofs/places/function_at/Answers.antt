@@ -1,7 +1,18 @@
-use Rattle.std.proofs.Common.{ℕ, List, sym, subst}
+use Rattle.std.proofs.Common.{◌≡◌, ℕ, List, Option, Some, None, sym, subst}
+use Rattle.std.proofs.lemmas.Result.{IfOk-weaker}
 use Rattle.wasm_module.specs.Module.{Spells}
+use Rattle.module_survey.specs.Places.{IsFunctionAt, own_function_at, up_to_imports}
+use Rattle.module_survey.specs.internal.Counting.{IsCountedAfter}
 use Rattle.module_survey.proofs.places.function_at.Goals as goal
 
--- the imports can't be read
-pub returns-in_default-fault : goal.returns-in_default-fault
-returns-in_default-fault c = λ m spells. absurd (c.in-Err.ensures.refused c.in_default-fault.not-Memory m (subst (λ (b : List ℕ). Spells b m) (sym c.up_to_imports.ensures) spells))
+-- a function that is counted after the imports
+counted : (bytes imports : List ℕ) (offset own : ℕ) (f : Option ℕ) → imports ≡ up_to_imports bytes → own_function_at bytes offset ≡ Some own
+    → IsCountedAfter imports own f → IsFunctionAt bytes offset f
+counted bytes imports offset own (Some f) ends found (m, spells, is) = (m, subst (λ (b : List ℕ). Spells b m) ends spells, own, found, is)
+counted bytes imports offset own None ends found none = λ m spells. absurd (none m (subst (λ (b : List ℕ). Spells b m) (sym ends) spells))
+
+pub returns-in-Some : goal.returns-in-Some
+returns-in-Some c =
+    IfOk-weaker c.counted_after_imports.result _ _
+    (λ f is. counted c.args.bytes.now c.up_to_imports.result.now c.args.offset c.in-Some.own f c.up_to_imports.ensures (sym c.in-Some.ensures) is)
+    c.counted_after_imports.ensures

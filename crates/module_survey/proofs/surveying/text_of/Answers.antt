@@ -1,4 +1,5 @@
 use Rattle.std.proofs.Common.{ℕ, List, ◌++◌, ap, ◌∙◌}
+use Rattle.module_survey.specs.Refusal.{refusal_text}
 use Rattle.module_survey.specs.Survey.{survey_of}
 use Rattle.module_survey.proofs.surveying.text_of.Goals as goal
 
@@ -10,4 +11,14 @@ returns-in_ok-added-in-Ok g c =
       found.0,
       found.1,
       c.in_ok-added-in-Ok.ensures ∙ ap (λ (t : List ℕ). t ++ survey_of links c.module.result.now) c.new-text.ensures.items ∙ ap (survey_of links) c.module.ensures.value,
+    )
+
+-- the refusal's text
+pub returns-in_ok-add_refusal-in_default : goal.returns-in_ok-add_refusal-in_default
+returns-in_ok-add_refusal-in_default g c =
+    let (f, lies, added) = c.in_ok-add_refusal-in_default.ensures in (
+      c.in-Err.ensures.refused c.in_default.not-Memory,
+      f,
+      lies,
+      added ∙ ap (λ (t : List ℕ). t ++ refusal_text c.args.bytes.now c.in-Err.fault f) c.new-text.ensures.items,
     )

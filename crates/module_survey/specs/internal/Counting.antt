@@ -1,0 +1,10 @@
+-- Indices of functions, where the bytes up to the end of the imports are known.
+use Rattle.std.specs.Prelude.{◌≡◌, ℕ, ◌+◌, List, Option, Some, None}
+use Rattle.wasm_module.specs.declared.module.Module.{Module}
+use Rattle.wasm_module.specs.Module.{Spells}
+use Rattle.module_survey.specs.Places.{imported_functions}
+
+-- the index of a module's own function, the imported ones counted first; or the imports can't be read
+abbrev pub IsCountedAfter : List ℕ → ℕ → Option ℕ → Type 0
+IsCountedAfter bytes own (Some f) = (m : Module) × Spells bytes m × (f ≡ imported_functions m + own)
+IsCountedAfter bytes own None = (m : Module) → Spells bytes m → ⊥
