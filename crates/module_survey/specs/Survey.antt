@@ -82,12 +82,15 @@ abbrev pub entry_text : Bool → Text
 entry_text true = codes "yes"
 entry_text false = codes "no"
 
-abbrev pub sizes_text : List Limits → List Limits → ℕ → ℕ → Option ℕ → Bool → Text
-sizes_text memories tables functions globals start entry = concat (codes "memory:" ∷ limits_text memories ∷ codes "\ntable:" ∷ limits_text tables ∷ codes "\nfunctions:" ∷ decimal functions
-    ∷ codes "\nglobals:" ∷ decimal globals ∷ codes "\nstart:" ∷ number_or_none start ∷ codes "\nentry:" ∷ entry_text entry ∷ codes "\n" ∷ [])
+abbrev pub sizes_text : List Limits → List Limits → Text
+sizes_text memories tables = concat (codes "memory:" ∷ limits_text memories ∷ codes "\ntable:" ∷ limits_text tables ∷ codes "\n" ∷ [])
+
+abbrev pub counts_text : ℕ → ℕ → Option ℕ → Text → Text
+counts_text functions globals start entry = concat (codes "functions:" ∷ decimal functions ∷ codes "\nglobals:" ∷ decimal globals
+    ∷ codes "\nstart:" ∷ number_or_none start ∷ codes "\nentry:" ∷ entry ∷ codes "\n" ∷ [])
 
 abbrev pub parts_text : Module → Text
-parts_text m = sizes_text m.memories m.tables (length m.functions) (length m.globals) m.start (has_entry m)
+parts_text m = sizes_text m.memories m.tables ++ counts_text (length m.functions) (length m.globals) m.start (entry_text (has_entry m))
 
 -- the imports and the exports in the module's order, and then the rest
 abbrev pub survey_of : LinksOf → Module → Text

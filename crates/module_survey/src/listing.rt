@@ -2,7 +2,7 @@
 
 ghost use Rattle.std.specs.Prelude.{◌≡◌, ◌++◌, OnOk, Some};
 ghost use Rattle.std.specs.List.{flat_map, list_any};
-ghost use Rattle.module_survey.specs.Survey.{answer_text, call_text, entry_text, export_text, import_text, is_bare, is_bare_at, is_entry, kind_text, limits_text, link_text, parts_text, sizes_text, survey_of};
+ghost use Rattle.module_survey.specs.Survey.{answer_text, call_text, counts_text, entry_text, export_text, import_text, is_bare, is_bare_at, is_entry, kind_text, limits_text, link_text, parts_text, sizes_text, survey_of};
 
 use crate::functions::functions_of;
 use crate::links::Links;
@@ -170,26 +170,28 @@ fn entry_text(has_entry: bool) -> &'static str
     if has_entry { "yes" } else { "no" }
 }
 
-fn add_sizes(
+fn add_sizes(text: &mut Vec<u8>, memories: &[Limits], tables: &[Limits]) -> io::Result<()>
+    ensures { OnOk result (text.new.items ≡ text.old.items ++ sizes_text memories.now tables.now) }
+{
+    write!(text, "memory:{}\ntable:{}\n", Size(memories), Size(tables))
+}
+
+fn add_counts(
     text: &mut Vec<u8>,
-    memories: &[Limits],
-    tables: &[Limits],
     functions: usize,
     globals: usize,
     start: Option<u32>,
-    has_entry: bool,
+    entry: &str,
 ) -> io::Result<()>
-    ensures { OnOk result (text.new.items ≡ text.old.items ++ sizes_text memories.now tables.now functions globals start has_entry) }
+    ensures { OnOk result (text.new.items ≡ text.old.items ++ counts_text functions globals start entry.now) }
 {
     write!(
         text,
-        "memory:{}\ntable:{}\nfunctions:{}\nglobals:{}\nstart:{}\nentry:{}\n",
-        Size(memories),
-        Size(tables),
+        "functions:{}\nglobals:{}\nstart:{}\nentry:{}\n",
         functions,
         globals,
         NumberOrNone(start),
-        entry_text(has_entry)
+        entry
     )
 }
 
@@ -202,14 +204,14 @@ fn add_parts(alloc: Global, text: &mut Vec<u8>, module: &Module<'_>) -> io::Resu
         functions.as_slice(),
         module.exports.as_slice(),
     );
-    add_sizes(
+    drop(functions);
+    add_sizes(text, module.memories.as_slice(), module.tables.as_slice())?;
+    add_counts(
         text,
-        module.memories.as_slice(),
-        module.tables.as_slice(),
         module.functions.len(),
         module.globals.len(),
         module.start,
-        entry,
+        entry_text(entry),
     )
 }
 
