@@ -9,7 +9,7 @@ ghost use Rattle.sandbox_core.specs.Report.{ReportsCounted};
 ghost use Rattle.sandbox_command.specs.Status.{status_of, EndsWith, load_status, session_status};
 ghost use Rattle.sandbox_command.specs.Status.{volume_status, words_status, command_line_status};
 ghost use Rattle.sandbox_command.specs.Streams.{AppendsSome, IsSilent};
-ghost use Rattle.sandbox_command.specs.Reporting.{kept_where_not_begun, not_run, run_summary, session_reason};
+ghost use Rattle.sandbox_command.specs.Reporting.{kept_where_not_begun, not_run, run_summary, session_reason, volume_of};
 ghost use Rattle.sandbox_command.specs.Running.{Launches, device_of};
 ghost use Rattle.sandbox_command.specs.internal.Seeds.{with_seed};
 ghost use Rattle.sandbox_command.specs.internal.Supplies.{AreSupplies};
@@ -389,6 +389,13 @@ fn launch<'a, D: Device + Drop, R: Read + Drop, W1: Write + Drop, W2: Write + Dr
     }
 }
 
+/// The file that a run finds its volume in, its own or an image.
+fn volume_of<'a>(run: &Run<'a>) -> Option<&'a str>
+    ensures { result ≡ volume_of run.now }
+{
+    run.volume.or(run.image)
+}
+
 /// Runs a valid module on the volume of a device, with random bytes, and gives the module and the device back.
 pub(crate) fn run_valid<'a, D: Device + Drop, R: Read + Drop, W1: Write + Drop, W2: Write + Drop>(
     alloc: Global,
@@ -406,7 +413,7 @@ pub(crate) fn run_valid<'a, D: Device + Drop, R: Read + Drop, W1: Write + Drop, 
     ensures runs { RunsOn D.honest D.disk D.size D.failures R.remaining W1.contents W2.contents Keeps
         run.now valid.entry random.now device input out err result.1 }
 {
-    let volume = match open_for_run(alloc, run.volume.or(run.image), device) {
+    let volume = match open_for_run(alloc, volume_of(run), device) {
         Ok(volume) => volume,
         Err(Refused { device, fault }) => {
             let status = volume_status(fault);

@@ -11,6 +11,9 @@ returns-clause-ends g c = search rules
 pub returns-clause-device : goal.returns-clause-device
 returns-clause-device c = grind (arith, common_steps)
 
+pub returns-clause-out : goal.returns-clause-out
+returns-clause-out g c = search rules
+
 pub returns-clause-err : goal.returns-clause-err
 returns-clause-err g c =
     let errs = g.W2.Write.contents in

@@ -14,7 +14,7 @@ pub returns-in-Err-clause-runs : goal.returns-in-Err-clause-runs
 returns-in-Err-clause-runs g c =
     inl (record {
       refused = c.in-Err.field-0;
-      why = subst (λ file. IsRefusedFor g.D.Device.honest g.D.Device.disk g.D.Device.size g.D.Device.failures file c.args.device c.in-Err.field-0) c.or.ensures c.in-Err.ensures.refused;
+      why = subst (λ file. IsRefusedFor g.D.Device.honest g.D.Device.disk g.D.Device.size g.D.Device.failures file c.args.device c.in-Err.field-0) c.volume_of.ensures c.in-Err.ensures.refused;
       device_is = refl;
       ends = c.volume_status-status.ensures;
       flushed = refl;
@@ -31,7 +31,7 @@ returns-clause-runs g c =
     let failures = g.D.Device.failures in
     let file = volume_of c.args.run.now in
     let v = c.in-Ok.volume in
-    let opened = subst (λ named. IsOpenFor honest disk size failures named c.args.device v) c.or.ensures c.in-Ok.ensures.opens in
+    let opened = subst (λ named. IsOpenFor honest disk size failures named c.args.device v) c.volume_of.ensures c.in-Ok.ensures.opens in
     let parts = given c.settings.result v c.args.input c.args.out c.args.err in
     let run = c.args.run.now in
     let whole = whole_crash honest disk size failures g.R.Read.remaining g.W1.Write.contents g.W2.Write.contents Keeps c.args.valid run parts c.launch.result.1 file c.args.device opened c.launch.ensures.launches in
