@@ -112,12 +112,11 @@ fn write_some<D: Device>(
     let last_image = edges.1;
     let piece = Piece {
         offset: offset as usize,
-        bytes,
         first: first_image,
         last: last_image,
     };
     entry.size = entry.size.max(end);
-    write_blocks(log, sectors, entry, &mut all, &piece, first, last);
+    write_blocks(log, sectors, entry, &mut all, &piece, bytes, first, last);
     log.stage(inode_sector, &write_entry(entry));
     Ok(())
 }

@@ -6,12 +6,11 @@ ghost use Rattle.vol_inode.specs.declared.version.TheConstants.{LARGEST_SIZE};
 
 use crate::source::Source;
 
-/// Bytes that are to be written, and what stands around them.
+/// Where bytes are to be written, and what stands around them.
 #[derive(Drop)]
-pub struct Piece<'a, 'm> {
+pub struct Piece {
     /// The first byte of the file that is written.
     pub offset: usize,
-    pub bytes: &'a Source<'m>,
     /// The old bytes of the first data block that is touched.
     pub first: [u8; 512],
     /// The old bytes of the last data block that is touched.
@@ -19,25 +18,25 @@ pub struct Piece<'a, 'm> {
 }
 
 /// The bytes that are to be written to a data block, and to those after it.
-pub fn bytes_from<'m>(piece: &Piece<'_, 'm>, j: u32) -> Source<'m>
-    ensures { result ≡ drop (512 * j - piece.now.offset) piece.now.bytes.now }
+pub fn bytes_from<'m>(piece: &Piece, bytes: &Source<'m>, j: u32) -> Source<'m>
+    ensures { result ≡ drop (512 * j - piece.now.offset) bytes.now }
 {
     let start = 512 * j as usize;
-    piece.bytes.after(start.saturating_sub(piece.offset))
+    bytes.after(start.saturating_sub(piece.offset))
 }
 
 /// The new bytes of a data block that is touched. What is left to be written stands at its bytes,
 /// and then after them.
-pub fn image_of_block(piece: &Piece<'_, '_>, rest: &mut Source<'_>, j: u32) -> [u8; 512]
-    requires before { 512 * j < piece.now.offset + length piece.now.bytes.now }
+pub fn image_of_block(piece: &Piece, bytes: &Source<'_>, rest: &mut Source<'_>, j: u32) -> [u8; 512]
+    requires before { 512 * j < piece.now.offset + length bytes.now }
     requires starts_before { piece.now.offset < 512 * j + 512 }
-    requires small { piece.now.offset + length piece.now.bytes.now ≤ LARGEST_SIZE }
-    requires rest { rest.old ≡ drop (512 * j - piece.now.offset) piece.now.bytes.now }
-    ensures image { result ≡ image_of piece.now.offset piece.now.bytes.now piece.now.first piece.now.last j }
-    ensures rest { rest.new ≡ drop (512 * (j + 1) - piece.now.offset) piece.now.bytes.now }
+    requires small { piece.now.offset + length bytes.now ≤ LARGEST_SIZE }
+    requires rest { rest.old ≡ drop (512 * j - piece.now.offset) bytes.now }
+    ensures image { result ≡ image_of piece.now.offset bytes.now piece.now.first piece.now.last j }
+    ensures rest { rest.new ≡ drop (512 * (j + 1) - piece.now.offset) bytes.now }
 {
     let start = 512 * j as usize;
-    let end = piece.offset + piece.bytes.len();
+    let end = piece.offset + bytes.len();
     let mut image = if start < piece.offset {
         piece.first
     } else if end < start + 512 {

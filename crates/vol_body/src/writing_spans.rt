@@ -14,6 +14,7 @@ ghost use Rattle.vol_inode.specs.declared.version.TheConstants.{LARGEST_SIZE};
 
 use crate::locate::{DIRECT, LISTED, NUMBERS};
 use crate::pointer_sectors::{PointerSector, PointerSectors};
+use crate::source::Source;
 use crate::writing_blocks::{add_number, add_pointer, write_direct_block, write_listed_block};
 use crate::writing_image::{Piece, bytes_from, image_of_block};
 use vol_alloc::Alloc;
@@ -27,7 +28,8 @@ pub fn write_blocks<D: Device>(
     sectors: &mut Alloc,
     entry: &mut Entry,
     all: &mut PointerSectors,
-    piece: &Piece<'_, '_>,
+    piece: &Piece,
+    bytes: &Source<'_>,
     first: u32,
     last: u32,
 )
@@ -39,21 +41,29 @@ pub fn write_blocks<D: Device>(
     requires some { first ≤ last }
     requires last { last < 16570 }
     requires touched_first { piece.now.offset < 512 * first + 512 }
-    requires touched_last { 512 * last < piece.now.offset + length piece.now.bytes.now }
-    requires small { piece.now.offset + length piece.now.bytes.now ≤ LARGEST_SIZE }
+    requires touched_last { 512 * last < piece.now.offset + length bytes.now }
+    requires small { piece.now.offset + length bytes.now ≤ LARGEST_SIZE }
     requires known { KnowsAll sectors.old all.old }
     ensures written { IsReady sectors.old (view log.old) entry.old → last < blocks_for_size entry.old.size
         → MirrorsAll (view log.old) entry.old all.old first last
         → Changes sectors.old sectors.new (view log.old) (view log.new) entry.old entry.new
         (λ p. IsBlockIn first (last + 1) p ⊎ IsPointer p)
         × HasBlocks (view log.new) entry.new first (last + 1)
-        (image_of piece.now.offset piece.now.bytes.now piece.now.first piece.now.last) }
+        (image_of piece.now.offset bytes.now piece.now.first piece.now.last) }
     ensures entry { entry.new ≡ record entry.old { pointers = entry.new.pointers } }
     ensures room { room_of log.old ≤ room_of log.new + 36 }
     ensures puts { OnlyPuts log.old log.new }
     ensures range { SameRange sectors.old sectors.new }
 {
-    write_direct(log, sectors, entry, piece, first, (last + 1).min(DIRECT));
+    write_direct(
+        log,
+        sectors,
+        entry,
+        piece,
+        bytes,
+        first,
+        (last + 1).min(DIRECT),
+    );
     let group = first.saturating_sub(DIRECT) / NUMBERS;
     let border = LISTED + NUMBERS * group;
     write_segment(
@@ -64,6 +74,7 @@ pub fn write_blocks<D: Device>(
         &mut all.early,
         group,
         piece,
+        bytes,
         first.max(DIRECT),
         (last + 1).min(border),
     );
@@ -75,6 +86,7 @@ pub fn write_blocks<D: Device>(
         &mut all.late,
         group + 1,
         piece,
+        bytes,
         border,
         last + 1,
     );
@@ -85,7 +97,8 @@ fn write_direct<D: Device>(
     log: &mut Log<D>,
     sectors: &mut Alloc,
     entry: &mut Entry,
-    piece: &Piece<'_, '_>,
+    piece: &Piece,
+    bytes: &Source<'_>,
     from: u32,
     to: u32,
 )
@@ -95,22 +108,22 @@ fn write_direct<D: Device>(
     requires room { to - from ≤ room_of log.old }
     requires working { has_failed log.old ≡ false }
     requires touched_first { piece.now.offset < 512 * from + 512 }
-    requires touched_last { 512 * to < piece.now.offset + length piece.now.bytes.now + 512 }
-    requires small { piece.now.offset + length piece.now.bytes.now ≤ LARGEST_SIZE }
+    requires touched_last { 512 * to < piece.now.offset + length bytes.now + 512 }
+    requires small { piece.now.offset + length bytes.now ≤ LARGEST_SIZE }
     ensures written { IsReady sectors.old (view log.old) entry.old → to ≤ blocks_for_size entry.old.size
         → Changes sectors.old sectors.new (view log.old) (view log.new) entry.old entry.new
         (IsBlockIn from to)
         × HasBlocks (view log.new) entry.new from to
-        (image_of piece.now.offset piece.now.bytes.now piece.now.first piece.now.last) }
+        (image_of piece.now.offset bytes.now piece.now.first piece.now.last) }
     ensures keeps { (n : ℕ) → taken_of sectors.old n ≡ true → taken_of sectors.new n ≡ true }
     ensures entry { entry.new ≡ record entry.old { pointers = entry.new.pointers } }
     ensures room { room_of log.old ≤ room_of log.new + (to - from) }
     ensures puts { OnlyPuts log.old log.new }
     ensures range { SameRange sectors.old sectors.new }
 {
-    let mut rest = bytes_from(piece, from);
+    let mut rest = bytes_from(piece, bytes, from);
     for j in from..to {
-        let image = image_of_block(piece, &mut rest, j);
+        let image = image_of_block(piece, bytes, &mut rest, j);
         write_direct_block(log, sectors, entry, j, &image);
     }
 }
@@ -123,7 +136,8 @@ fn write_segment<D: Device>(
     all: &mut PointerSector,
     above: &mut PointerSector,
     group: u32,
-    piece: &Piece<'_, '_>,
+    piece: &Piece,
+    bytes: &Source<'_>,
     from: u32,
     to: u32,
 )
@@ -135,8 +149,8 @@ fn write_segment<D: Device>(
     requires ends { to ≤ 186 + 128 * group }
     requires last { to ≤ 16570 }
     requires touched_first { piece.now.offset < 512 * from + 512 }
-    requires touched_last { 512 * to < piece.now.offset + length piece.now.bytes.now + 512 }
-    requires small { piece.now.offset + length piece.now.bytes.now ≤ LARGEST_SIZE }
+    requires touched_last { 512 * to < piece.now.offset + length bytes.now + 512 }
+    requires small { piece.now.offset + length bytes.now ≤ LARGEST_SIZE }
     requires known { above.old.number ≢ 0 → taken_of sectors.old above.old.number ≡ true }
     requires known_all { all.old.number ≢ 0 → taken_of sectors.old all.old.number ≡ true }
     ensures written { IsReady sectors.old (view log.old) entry.old → to ≤ blocks_for_size entry.old.size
@@ -145,7 +159,7 @@ fn write_segment<D: Device>(
         → Changes sectors.old sectors.new (view log.old) (view log.new) entry.old entry.new
         (λ p. IsBlockIn from to p ⊎ ((p ≡ segment group) ⊎ (p ≡ double_indirect_block)))
         × HasBlocks (view log.new) entry.new from to
-        (image_of piece.now.offset piece.now.bytes.now piece.now.first piece.now.last)
+        (image_of piece.now.offset bytes.now piece.now.first piece.now.last)
         × (Mirrors (view log.old) entry.old double_indirect_block all.old.number all.old.image
         → Mirrors (view log.new) entry.new double_indirect_block all.new.number all.new.image) }
     ensures keeps { (n : ℕ) → taken_of sectors.old n ≡ true → taken_of sectors.new n ≡ true }
@@ -167,6 +181,7 @@ fn write_segment<D: Device>(
             above,
             DIRECT + NUMBERS * group,
             piece,
+            bytes,
             from,
             to,
         );
@@ -180,7 +195,8 @@ fn write_listed<D: Device>(
     sectors: &mut Alloc,
     above: &mut PointerSector,
     start: u32,
-    piece: &Piece<'_, '_>,
+    piece: &Piece,
+    bytes: &Source<'_>,
     from: u32,
     to: u32,
 )
@@ -193,24 +209,24 @@ fn write_listed<D: Device>(
     requires ends { to ≤ start + 128 }
     requires last { to ≤ 16570 }
     requires touched_first { piece.now.offset < 512 * from + 512 }
-    requires touched_last { 512 * to < piece.now.offset + length piece.now.bytes.now + 512 }
-    requires small { piece.now.offset + length piece.now.bytes.now ≤ LARGEST_SIZE }
+    requires touched_last { 512 * to < piece.now.offset + length bytes.now + 512 }
+    requires small { piece.now.offset + length bytes.now ≤ LARGEST_SIZE }
     ensures written { (e : Entry) (g : ℕ) → start ≡ 58 + 128 * g → to ≤ blocks_for_size e.size
         → IsReady sectors.old (view log.old) e
         → Mirrors (view log.old) e (segment g) above.old.number above.old.image
         → Changes sectors.old sectors.new (view log.old) (view log.new) e e
         (λ p. IsBlockIn from to p ⊎ (p ≡ segment g))
         × HasBlocks (view log.new) e from to
-        (image_of piece.now.offset piece.now.bytes.now piece.now.first piece.now.last) }
+        (image_of piece.now.offset bytes.now piece.now.first piece.now.last) }
     ensures keeps { (n : ℕ) → taken_of sectors.old n ≡ true → taken_of sectors.new n ≡ true }
     ensures room { room_of log.old + placed log.old above.old.number
         ≤ room_of log.new + placed log.new above.old.number + (to - from) }
     ensures puts { OnlyPuts log.old log.new }
     ensures range { SameRange sectors.old sectors.new }
 {
-    let mut rest = bytes_from(piece, from);
+    let mut rest = bytes_from(piece, bytes, from);
     for j in from..to {
-        let image = image_of_block(piece, &mut rest, j);
+        let image = image_of_block(piece, bytes, &mut rest, j);
         write_listed_block(log, sectors, above, j - start, &image);
     }
 }

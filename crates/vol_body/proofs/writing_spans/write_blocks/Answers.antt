@@ -95,7 +95,7 @@ returns g c =
           (λ p touched. touched)
           (λ p touched. span_touched from3 (last + 1) first last (s + 1) p (omega (arith, c.saturating_sub-group.ensures)) (omega arith) touched) first_two three.0 in
           let piece = c.args.piece.now in
-          let image = image_of piece.offset piece.bytes.now piece.first piece.last in
+          let image = image_of piece.offset c.args.bytes.now piece.first piece.last in
           let parts : HasBlocks c3 e3 first (last + 1) image = λ j from to.
           let there : j < 16570 = omega (arith, to, c.requires.last) in
           elim (cases_lt j from3) [

@@ -18,7 +18,7 @@ loop-j-preserved g c =
     let lt : j < c.args.to = c.loop-j-test.true in
     let from_j : from ≤ j = c.loop-j.auto.j in
     let piece = c.args.piece.now in
-    let image = image_of piece.offset piece.bytes.now piece.first piece.last in
+    let image = image_of piece.offset c.args.bytes.now piece.first piece.last in
     let a = c.args.sectors.now in
     let b = c.loop-j.sectors in
     let d = c.write_direct_block.new.sectors in
@@ -79,7 +79,7 @@ returns g c =
           let done = c.loop-j.invariant.written ready fits in (
             changes_wider c.args.sectors.now c.loop-j.sectors (view c.args.log.now) (view c.loop-j.log) c.args.entry.now c.loop-j.entry (IsBlockIn from c.loop-j.j) (IsBlockIn from c.args.to)
                 (λ p there. part_in_all from c.args.to c.loop-j.j p c.loop-j.invariant.few there) done.0,
-            parts_shorter (view c.loop-j.log) c.loop-j.entry from c.args.to c.loop-j.j (image_of piece.offset piece.bytes.now piece.first piece.last) c.loop-j-test.false done.1,
+            parts_shorter (view c.loop-j.log) c.loop-j.entry from c.args.to c.loop-j.j (image_of piece.offset c.args.bytes.now piece.first piece.last) c.loop-j-test.false done.1,
           );
       keeps = so_far.keeps;
       entry = so_far.entry;

@@ -7,7 +7,7 @@ use Rattle.vol_body.proofs.writing_spans.write_direct.Given as goal
 
 abbrev pub invariant-loop-j : goal.invariant-loop-j
 invariant-loop-j g l = record {
-  rest : l.rest ≡ drop (512 * l.j - l.piece.offset) l.piece.bytes.now;
+  rest : l.rest ≡ drop (512 * l.j - l.piece.offset) l.bytes;
   few : l.j - l.from ≤ l.to - l.from;
   working : has_failed l.log ≡ false;
   room : room_of l.fn.log ≤ room_of l.log + (l.j - l.from);
@@ -17,5 +17,5 @@ invariant-loop-j g l = record {
   entry : l.entry ≡ record l.fn.entry { pointers = l.entry.pointers };
   written : IsReady l.fn.sectors (view l.fn.log) l.fn.entry → l.to ≤ blocks_for_size l.fn.entry.size
       → Changes l.fn.sectors l.sectors (view l.fn.log) (view l.log) l.fn.entry l.entry (IsBlockIn l.from l.j)
-      × HasBlocks (view l.log) l.entry l.from l.j (image_of l.piece.offset l.piece.bytes.now l.piece.first l.piece.last);
+      × HasBlocks (view l.log) l.entry l.from l.j (image_of l.piece.offset l.bytes l.piece.first l.piece.last);
 }

@@ -17,7 +17,7 @@ loop-j-preserved g c =
     let lt : j < c.args.to = c.loop-j-test.true in
     let from_j : from ≤ j = c.loop-j.auto.j in
     let piece = c.args.piece.now in
-    let image = image_of piece.offset piece.bytes.now piece.first piece.last in
+    let image = image_of piece.offset c.args.bytes.now piece.first piece.last in
     let a = c.args.sectors.now in
     let b = c.loop-j.sectors in
     let d = c.write_listed_block.new.sectors in
@@ -97,7 +97,7 @@ returns g c =
           let done = c.loop-j.invariant.written e s starts fits ready mirror in (
             changes_wider c.args.sectors.now c.loop-j.sectors (view c.args.log.now) (view c.loop-j.log) e e (λ p. IsBlockIn from c.loop-j.j p ⊎ (p ≡ segment s)) (λ p. IsBlockIn from c.args.to p ⊎ (p ≡ segment s))
                 (λ p touched. shorter from c.args.to c.loop-j.j p (segment s) c.loop-j.invariant.few touched) done.0,
-            parts_shorter (view c.loop-j.log) e from c.args.to c.loop-j.j (image_of piece.offset piece.bytes.now piece.first piece.last) c.loop-j-test.false done.1,
+            parts_shorter (view c.loop-j.log) e from c.args.to c.loop-j.j (image_of piece.offset c.args.bytes.now piece.first piece.last) c.loop-j-test.false done.1,
           );
       keeps = so_far.keeps;
       room = omega (arith, so_far.room, so_far.few);

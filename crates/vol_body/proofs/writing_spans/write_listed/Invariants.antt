@@ -8,7 +8,7 @@ use Rattle.vol_body.proofs.writing_spans.write_listed.Given as goal
 
 abbrev pub invariant-loop-j : goal.invariant-loop-j
 invariant-loop-j g l = record {
-  rest : l.rest ≡ drop (512 * l.j - l.piece.offset) l.piece.bytes.now;
+  rest : l.rest ≡ drop (512 * l.j - l.piece.offset) l.bytes;
   few : l.j - l.from ≤ l.to - l.from;
   working : has_failed l.log ≡ false;
   number : l.above.number ≡ l.fn.above.number;
@@ -19,6 +19,6 @@ invariant-loop-j g l = record {
   written : (e : Entry) (s : ℕ) → l.start ≡ 58 + 128 * s → l.to ≤ blocks_for_size e.size → IsReady l.fn.sectors (view l.fn.log) e
       → Mirrors (view l.fn.log) e (segment s) l.fn.above.number l.fn.above.image
       → Changes l.fn.sectors l.sectors (view l.fn.log) (view l.log) e e (λ p. IsBlockIn l.from l.j p ⊎ (p ≡ segment s))
-      × HasBlocks (view l.log) e l.from l.j (image_of l.piece.offset l.piece.bytes.now l.piece.first l.piece.last)
+      × HasBlocks (view l.log) e l.from l.j (image_of l.piece.offset l.bytes l.piece.first l.piece.last)
       × Mirrors (view l.log) e (segment s) l.above.number l.above.image;
 }
