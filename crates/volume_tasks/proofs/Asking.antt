@@ -1,5 +1,5 @@
 -- Steps that only ask a volume.
-use Rattle.std.proofs.Common.{ℕ, Bool, false, OnErr, OnOk, Result, Ok, Err, sym, ap, ◌∙◌, subst}
+use Rattle.std.proofs.Common.{ℕ, Bool, false, OnErr, OnOk, Result, Ok, Err, IsErrAnd, ◌≡◌, sym, ap, ◌∙◌, subst}
 use Rattle.vol_sector.specs.Disk.{Disk, counted}
 use Rattle.vol_tree.specs.declared.superblock.Superblock.{Superblock}
 use Rattle.vol_tree.specs.Superblock.{HasRanges}
@@ -39,3 +39,9 @@ module _ {D : Type 0} (honest : D → Type 0) (size failures : D → ℕ) where
 pub on_err : {X E : Type 0} (r : Result X E) (P : Type 0) → P → OnErr r P
 on_err (Ok x) P p = tt
 on_err (Err e) P p = p
+
+-- whom a refusal blames, where it goes on as an error
+module _ {D : Type 0} (honest : D → Type 0) (disk : D → Disk) (size failures : D → ℕ) {X E : Type 0} (blames : Result X E → Bool) where
+  pub asked_on : (r : Result X E) (f : E) → IsErrAnd r (λ e. e ≡ f) → (a b : Opened D) → Asked honest disk size failures a b (blames (Err f)) → Asked honest disk size failures a b (blames r)
+  asked_on (Ok x) f is a b asked = absurd is
+  asked_on (Err e) f is a b asked = subst (λ (x : E). Asked honest disk size failures a b (blames (Err x))) (sym is) asked

@@ -1,7 +1,7 @@
-use Rattle.std.proofs.Common.{◌==◌, ℕ, take, ap, refl, sym, ◌∙◌}
+use Rattle.std.proofs.Common.{◌==◌, ℕ, take, ap, inr, refl, sym, ◌∙◌}
 use Rattle.std.proofs.lemmas.Bool.{cond-false, ne_eqb}
 use Rattle.vol_tree.specs.Calls.{renamed, name_at, parent_at}
-use Rattle.volume_tasks.proofs.Changed.{asked_first, means}
+use Rattle.volume_tasks.proofs.Changed.{asked_first, means, refused_on}
 use Rattle.volume_tasks.proofs.Meant.{onto_same}
 use Rattle.volume_tasks.proofs.changing.move_onto.Goals as goal
 
@@ -32,3 +32,10 @@ returns g c =
 
 pub rename-requires-clause-name : goal.rename-requires-clause-name
 rename-requires-clause-name g c = c.if-not-is_name.ensures.0 refl
+
+-- the device failed
+pub returns-in_err-stat : goal.returns-in_err-stat
+returns-in_err-stat g c =
+    let told = c.in_err-stat.ensures in
+    refused_on g.D.Device.honest g.D.Device.disk g.D.Device.size g.D.Device.failures (λ T. renamed T c.args.source (parent_at T c.args.target) (name_at T c.args.target)) c.args.volume.now c.stat.new.self c.in_err-stat.field-0.0 c.from_residual.result
+    (record { tree = λ h. (told.answer h).1; crash = told.crash; kept = told.kept }) (λ h. inr (told.answer h).0) c.from_residual.ensures.1

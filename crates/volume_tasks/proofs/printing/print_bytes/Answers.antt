@@ -4,9 +4,13 @@ use Rattle.vol_tree.specs.Tree.{Tree}
 use Rattle.vol_tree.specs.Calls.{bytes_at}
 use Rattle.path_walk.specs.Walk.{Asked}
 use Rattle.path_walk.proofs.Chaining.{asked_then}
-use Rattle.volume_tasks.proofs.Asking.{works_on}
+use Rattle.volume_tasks.proofs.Asking.{asked_on, works_on}
 use Rattle.volume_tasks.proofs.Pieces.{piece_broken, piece_printed, pieces_so_far}
 use Rattle.volume_tasks.proofs.Printed.{stream_refused, tree_refused}
+use Rattle.std.proofs.KnownBytes.{Keeps-refl}
+use Rattle.volume_tasks.specs.Blame.{blames_device}
+use Rattle.volume_tasks.specs.declared.failure.Failure.TheVariants as failure
+use Rattle.volume_tasks.proofs.Handed.{part_none}
 use Rattle.volume_tasks.proofs.printing.print_bytes.Goals as goal
 
 pub loop-n-preserved : goal.loop-n-preserved
@@ -39,7 +43,10 @@ pub returns-clause-prints : goal.returns-clause-prints
 returns-clause-prints c = grind (arith, common_steps)
 
 pub returns-in_err-read-clause-asked : goal.returns-in_err-read-clause-asked
-returns-in_err-read-clause-asked c = grind (arith, common_steps)
+returns-in_err-read-clause-asked g c =
+    let now = c.in_err-read.ensures in
+    asked_on g.D.Device.honest g.D.Device.disk g.D.Device.size g.D.Device.failures blames_device c.from_residual-in_err-read.result (failure.Tree c.in_err-read.field-0.0) c.from_residual-in_err-read.ensures.1 c.args.volume.now c.read.new.self
+    (asked_then g.D.Device.honest g.D.Device.disk g.D.Device.size g.D.Device.failures c.args.volume.now c.loop-n.volume c.read.new.self _ c.loop-n.invariant.asked (record { tree = λ h. (now.answer h).1; crash = now.crash; kept = now.kept }))
 
 pub slice_bounds-print_all-end : goal.slice_bounds-print_all-end
 slice_bounds-print_all-end c = grind (arith, common_steps)
@@ -69,3 +76,16 @@ returns-in_err-print_all-clause-prints g c h =
     c.loop-n.piece c.read.new.buffer c.loop-n.n (c.from.result * 16384) (length c.loop-n.piece) c.in_ok-read.field-0 c.min-count.result
     (ap (λ (k : ℕ). k * 16384) c.from.ensures) (search rules) got.0 got.1 c.min-count.ensures (before.printed h) c.in_err-print_all.ensures.part)
     c.from_residual-in_err-print_all.ensures.1
+
+pub returns-in_err-print_all-clause-asked : goal.returns-in_err-print_all-clause-asked
+returns-in_err-print_all-clause-asked g c =
+    let now = c.in_ok-read.ensures in
+    asked_on g.D.Device.honest g.D.Device.disk g.D.Device.size g.D.Device.failures blames_device c.from_residual-in_err-print_all.result failure.Stream c.from_residual-in_err-print_all.ensures.1 c.args.volume.now c.read.new.self
+    (asked_then g.D.Device.honest g.D.Device.disk g.D.Device.size g.D.Device.failures c.args.volume.now c.loop-n.volume c.read.new.self false c.loop-n.invariant.asked (record { tree = λ h. (now.answer h).2; crash = now.crash; kept = now.kept }))
+
+-- the device failed before anything was printed
+pub returns-in_err-size-clause-prints : goal.returns-in_err-size-clause-prints
+returns-in_err-size-clause-prints g c h =
+    let bytes = bytes_at c.args.volume.now.tree c.args.file in
+    let out = g.W.Write.contents c.args.out.now in
+    tree_refused (Ok bytes) out out c.in_err-size.field-0.0 c.from_residual.result (inr ((c.in_err-size.ensures.answer h).0, part_none out out bytes (Keeps-refl out))) c.from_residual.ensures.1

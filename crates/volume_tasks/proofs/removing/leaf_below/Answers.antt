@@ -1,4 +1,4 @@
-use Rattle.std.proofs.Common.{ap, arith, sym, ◌∙◌}
+use Rattle.std.proofs.Common.{ap, arith, false, sym, ◌∙◌}
 use Rattle.vol_tree.specs.Tree.{Tree}
 use Rattle.vol_tree.specs.Calls.{next_child}
 use Rattle.path_walk.proofs.Chaining.{asked_then}
@@ -33,3 +33,7 @@ returns-clause-answer g c h =
     let before = c.loop-depth.invariant in
     let few = way_ends c.args.volume.now.tree c.args.from c.loop-depth.here c.loop-depth._depth (c.is_a_tree.ensures.tree h) (c.requires.from.used h) (before.way h) in
     absurd (omega (arith, few, c.is_a_tree.ensures.count, c.is_a_tree.ensures.ranges.few_slots, c.loop-depth-test.false))
+
+pub returns-in-None-clause-asked : goal.returns-in-None-clause-asked
+returns-in-None-clause-asked g c =
+    asked_then g.D.Device.honest g.D.Device.disk g.D.Device.size g.D.Device.failures c.args.volume.now c.loop-depth.volume c.next_entry.new.volume false c.loop-depth.invariant.asked c.in_ok-child.ensures.asked

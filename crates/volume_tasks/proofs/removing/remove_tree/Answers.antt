@@ -5,7 +5,7 @@ use Rattle.vol_tree.specs.Calls.{parent_at}
 use Rattle.vol_tree.specs.Opened.{IsSerial}
 use Rattle.volume_tasks.specs.Changes.{IsThinned, without}
 use Rattle.volume_tasks.proofs.Asking.{keeps_then, works_after}
-use Rattle.volume_tasks.proofs.Removed.{only_io, stopped, turn_left, turned}
+use Rattle.volume_tasks.proofs.Removed.{only_io, quiet_left, stopped, turn_left, turned}
 use Rattle.volume_tasks.proofs.Thinned.{amid_ends, leaf_not_root}
 use Rattle.volume_tasks.proofs.removing.remove_tree.Goals as goal
 
@@ -91,3 +91,16 @@ returns g c =
       crash = before.crash;
       kept = before.kept;
     }
+
+-- the device failed on the way down
+pub returns-in_err-leaf : goal.returns-in_err-leaf
+returns-in_err-leaf g c =
+    let v = c.args.volume.now in
+    let T = v.tree in
+    let before = c.loop-removed.invariant in
+    let stop = c.in_err-leaf.ensures in
+    stopped g.D.Device.honest g.D.Device.disk g.D.Device.size g.D.Device.failures (λ T. Ok (without T c.args.top)) (λ T U. IsThinned T c.args.top U) v c.loop-removed.volume c.leaf_below.new.volume c.in_err-leaf.field-0.0 c.from_residual.result
+    before.kept stop.asked.kept (λ h. stop.answer (before.kept.honest.0 h))
+    (λ h. subst (λ (U : Tree). IsThinned T c.args.top U) (sym (stop.asked.tree (before.kept.honest.0 h))) (before.amid h).thinned)
+    (λ h. quiet_left g.D.Device.honest g.D.Device.disk g.D.Device.size g.D.Device.failures v c.loop-removed.volume c.leaf_below.new.volume (IsThinned T c.args.top) before.kept.numbers (before.kept.honest.0 h) _ stop.asked (before.crash h))
+    c.from_residual.ensures.1
