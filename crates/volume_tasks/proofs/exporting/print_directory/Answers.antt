@@ -1,9 +1,19 @@
-use Rattle.std.proofs.Common.{false}
+use Rattle.std.proofs.Common.{◌≡◌, false, ℕ, List, Option, Result, Ok, Err, IsErrAnd, sym, subst}
+use Rattle.std.proofs.KnownBytes.{Keeps-refl}
+use Rattle.vol_tree.specs.Tree.{Tree}
 use Rattle.path_walk.proofs.Chaining.{asked_then}
-use Rattle.volume_tasks.specs.declared.exporting.ExportFailure.TheVariants.{Stopped}
-use Rattle.volume_tasks.specs.Exporting.{blames_export}
+use Rattle.sandbox_words.specs.Request.{Text}
+use Rattle.volume_archive.specs.Export.{Exports, ExportsPart, HasMisfit, RefusesExport}
+use Rattle.volume_tasks.specs.declared.exporting.ExportFailure.{ExportFailure}
+use Rattle.volume_tasks.specs.declared.exporting.ExportFailure.TheVariants.{Path, Stopped}
+use Rattle.volume_tasks.specs.Exporting.{PrintsDirectory, blames_export}
 use Rattle.volume_tasks.proofs.Asking.{asked_on}
 use Rattle.volume_tasks.proofs.exporting.print_directory.Goals as goal
+
+-- what a refusal prints, where it goes on as an error
+printed_on : (T : Tree) (path : Text) (a b : Option (List ℕ)) (r : Result (Unit {0}) ExportFailure) (f : ExportFailure) → IsErrAnd r (λ e. e ≡ f) → PrintsDirectory T path a b (Err f) → PrintsDirectory T path a b r
+printed_on T path a b (Ok x) f is p = absurd is
+printed_on T path a b (Err e) f is p = subst (λ (x : ExportFailure). PrintsDirectory T path a b (Err x)) (sym is) p
 
 pub returns-clause-asked : goal.returns-clause-asked
 returns-clause-asked g c =
@@ -13,3 +23,35 @@ pub returns-in_err-export-clause-asked : goal.returns-in_err-export-clause-asked
 returns-in_err-export-clause-asked g c =
     asked_on g.D.Device.honest g.D.Device.disk g.D.Device.size g.D.Device.failures blames_export c.from_residual-in_err-export.result (Stopped c.in_err-export.field-0.0) c.from_residual-in_err-export.ensures.1 c.args.volume.now c.export.new.volume
     (asked_then g.D.Device.honest g.D.Device.disk g.D.Device.size g.D.Device.failures c.args.volume.now c.directory_named.new.volume c.export.new.volume _ c.in_ok-directory.ensures.asked c.in_err-export.ensures.asked)
+
+pub returns-clause-prints : goal.returns-clause-prints
+returns-clause-prints g c h =
+    let named = c.in_ok-directory.ensures in
+    let directory = c.in_ok-directory.directory in
+    let out = g.W.Write.contents in (
+      directory,
+      named.answer h,
+      subst (λ (T : Tree). Exports T directory (out c.args.out.now) (out c.export.new.out)) (named.asked.tree h) (c.in_ok-export.ensures.all (named.asked.kept.honest.0 h)),
+    )
+
+-- the path names no directory
+pub returns-in_err-directory-clause-prints : goal.returns-in_err-directory-clause-prints
+returns-in_err-directory-clause-prints g c h =
+    let out = g.W.Write.contents c.args.out.now in
+    printed_on c.args.volume.now.tree c.args.path.now out out c.from_residual.result (Path c.in_err-directory.field-0.0) c.from_residual.ensures.1 (c.in_err-directory.ensures.answer h, Keeps-refl out)
+
+-- a beginning was printed
+pub returns-in_err-export-clause-prints : goal.returns-in_err-export-clause-prints
+returns-in_err-export-clause-prints g c h =
+    let named = c.in_ok-directory.ensures in
+    let directory = c.in_ok-directory.directory in
+    let why = c.in_err-export.field-0.0 in
+    let a = g.W.Write.contents c.args.out.now in
+    let b = g.W.Write.contents c.export.new.out in
+    let now = named.asked.kept.honest.0 h in
+    printed_on c.args.volume.now.tree c.args.path.now a b c.from_residual-in_err-export.result (Stopped why) c.from_residual-in_err-export.ensures.1 (
+      directory,
+      named.answer h,
+      subst (λ (T : Tree). ExportsPart T directory a b) (named.asked.tree h) (c.in_err-export.ensures.part now),
+      subst (λ (T : Tree). RefusesExport (HasMisfit T directory) why) (named.asked.tree h) (c.in_err-export.ensures.refused now),
+    )

@@ -1,5 +1,11 @@
 use Rattle.volume_tasks.proofs.Brought.{part_left}
 use Rattle.vol_log.proofs.Moments.{leaves_any}
+use Rattle.std.proofs.Common.{false, subst}
+use Rattle.vol_tree.specs.Tree.{Tree}
+use Rattle.vol_tree.specs.declared.superblock.Superblock.{Superblock}
+use Rattle.vol_tree.specs.Opened.{geometry}
+use Rattle.volume_archive.specs.Import.{Imports}
+use Rattle.volume_tasks.proofs.Asking.{keeps_then}
 use Rattle.volume_tasks.proofs.importing.bring.Goals as goal
 
 pub returns-clause-crash : goal.returns-clause-crash
@@ -14,3 +20,21 @@ returns-in_err-import-clause-crash g c =
 
 pub returns-in_err-directory-clause-crash : goal.returns-in_err-directory-clause-crash
 returns-in_err-directory-clause-crash g c h = leaves_any (g.D.Device.disk c.args.volume.now.device) (g.D.Device.disk c.directory_named.new.volume.device) _ (c.in_err-directory.ensures.asked.crash h)
+
+pub returns-clause-kept : goal.returns-clause-kept
+returns-clause-kept g c =
+    keeps_then g.D.Device.honest g.D.Device.size g.D.Device.failures c.args.volume.now c.directory_named.new.volume c.import.new.volume false c.in_ok-directory.ensures.asked.kept c.in_ok-import.ensures.kept
+
+pub returns-clause-durable : goal.returns-clause-durable
+returns-clause-durable g c h = c.in_ok-import.ensures.durable (c.in_ok-directory.ensures.asked.kept.honest.0 h)
+
+pub returns-clause-brings : goal.returns-clause-brings
+returns-clause-brings g c h =
+    let named = c.in_ok-directory.ensures in
+    let N = c.directory_named.new.volume in
+    let directory = c.in_ok-directory.directory in
+    let imported = λ (v : Superblock) (T : Tree). Imports (geometry v) T directory (g.R.Read.remaining c.args.input.now) (g.R.Read.remaining c.import.new.input) c.in_ok-import.field-0 c.import.new.volume.tree in (
+      directory,
+      named.answer h,
+      subst (λ (v : Superblock). imported v c.args.volume.now.tree) named.asked.kept.numbers (subst (λ (T : Tree). imported N.numbers T) (named.asked.tree h) (c.in_ok-import.ensures.imports (named.asked.kept.honest.0 h))),
+    )

@@ -1,4 +1,5 @@
 use Rattle.std.proofs.Common.{◌⊎◌, inl, Bool, ap, sym, subst, arith}
+use Rattle.std.proofs.KnownBytes.{Keeps-refl}
 use Rattle.std.proofs.lemmas.Grind.{common_steps}
 use Rattle.vol_sector.specs.Disk.{Leaves, counted}
 use Rattle.sandbox_words.specs.declared.request.Task.{Task}
@@ -54,3 +55,9 @@ returns-in_ok-upgrade-in-Upgrade-clause-crash g c h =
     subst (λ (t : Task). Leaves (disk v.device) (disk c.upgrade.new.self.device)
     (λ m. ReflectsAny (disk v.device) v.numbers (IsPartOf t v.numbers v.tree (g.R.Read.remaining c.args.input.now)) m ⊎ IsRaised t v.numbers v.tree m)) (sym c.in-Upgrade.is)
     (upgrade_any (disk v.device) (disk c.upgrade.new.self.device) v.numbers v.tree (c.upgrade.ensures.crash h))
+
+pub returns-in_err-upgrade-in-Upgrade-clause-prints_nothing : goal.returns-in_err-upgrade-in-Upgrade-clause-prints_nothing
+returns-in_err-upgrade-in-Upgrade-clause-prints_nothing g c nothing = Keeps-refl (g.W.Write.contents c.args.out.now)
+
+pub returns-in_ok-upgrade-in-Upgrade-clause-prints_nothing : goal.returns-in_ok-upgrade-in-Upgrade-clause-prints_nothing
+returns-in_ok-upgrade-in-Upgrade-clause-prints_nothing g c nothing = Keeps-refl (g.W.Write.contents c.args.out.now)
