@@ -107,9 +107,7 @@ fn write_some<D: Device>(
     let first = offset / 512;
     let last = (end - 1) / 512;
     let mut all = load_pointer_sectors(log, sectors, entry, first, last)?;
-    let edges = read_edges(log, sectors, entry, &all, offset, end)?;
-    let first_image = edges.0;
-    let last_image = edges.1;
+    let (first_image, last_image) = read_edges(log, sectors, entry, &all, offset, end)?;
     let piece = Piece {
         offset: offset as usize,
         first: first_image,

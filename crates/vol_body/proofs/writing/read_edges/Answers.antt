@@ -1,4 +1,9 @@
-use Rattle.std.proofs.Common.{◌∙◌, ◌-◌, ◌/◌, sym, arith}
+use Rattle.std.proofs.Common.{◌≡◌, ◌≤◌, ◌+◌, ◌*◌, ◌∙◌, ◌-◌, ◌/◌, ℕ, ap, subst, sym, arith}
+use Rattle.vol_sector.specs.Disk.{Image}
+use Rattle.vol_log.specs.Log.{view}
+use Rattle.vol_alloc.specs.Alloc.{taken_of}
+use Rattle.vol_body.specs.Body.{data_block, named, block_bytes, NamesTaken}
+use Rattle.vol_body.specs.internal.Writing.{MirrorsAll}
 use Rattle.vol_log.proofs.Readings.{reads_then}
 use Rattle.std.proofs.lemmas.Result.{IfOk-from_err}
 use Rattle.vol_body.proofs.writing.read_edges.Goals as goal
@@ -64,3 +69,21 @@ returns-clause-reads g c = reads_then c.args.log.now c.read_edge.new.log c.read_
 
 pub returns-clause-failed : goal.returns-clause-failed
 returns-clause-failed g c = c.in_ok-last_image.ensures.failed
+
+-- the first data block is the last
+pub returns-then-first-last-clause-last : goal.returns-then-first-last-clause-last
+returns-then-first-last-clause-last g c h names mirrors partly =
+    let offset = c.args.offset in
+    let end = c.args.end in
+    let content = view c.args.log.now in
+    subst (λ (j : ℕ). (offset ≤ 512 * j → 512 * j + 512 ≤ end → ⊥) → c.in_ok-first_image.first_image ≡ block_bytes content (named content c.args.entry.now (data_block j))) c.if-first-last.true
+    (c.in_ok-first_image.ensures.bytes ((end - 1) / 512) (omega (arith, c.requires.some)) h names mirrors) partly
+
+pub returns-clause-last : goal.returns-clause-last
+returns-clause-last g c h names mirrors partly =
+    let last = (c.args.end - 1) / 512 in
+    let e = c.args.entry.now in
+    let first = c.in_ok-first_image.ensures.reads in
+    let same : view c.read_edge.new.log ≡ view c.args.log.now = first.view h in
+    c.in_ok-last_image.ensures.bytes last (omega arith) (first.honest.0 h) (subst (λ (m : Image). NamesTaken (taken_of c.args.sectors.now) m e) (sym same) names)
+    (subst (λ (m : Image). MirrorsAll m e c.args.all.now (c.args.offset / 512) last) (sym same) mirrors) partly ∙ ap (λ (m : Image). block_bytes m (named m e (data_block last))) same

@@ -48,11 +48,11 @@ read_edges-requires g c =
       working = e.failed;
     }
 
-pub returns-in_err-edges : goal.returns-in_err-edges
-returns-in_err-edges g c =
-    let r = c.from_residual-in_err-edges.result in
-    let is_err_now = c.from_residual-in_err-edges.ensures.0 in
-    let e = c.in_err-edges.ensures in
+pub returns-in_err-first_image : goal.returns-in_err-first_image
+returns-in_err-first_image g c =
+    let r = c.from_residual-in_err-first_image.result in
+    let is_err_now = c.from_residual-in_err-first_image.ensures.0 in
+    let e = c.in_err-first_image.ensures in
     let reads = reads_then c.args.log.now c.load_pointer_sectors.new.log c.read_edges.new.log c.in_ok-all.ensures.failed c.in_ok-all.ensures.reads e.reads in
     record {
       done = λ h names body space. IfOk-from_err r _ is_err_now;
@@ -65,7 +65,7 @@ returns-in_err-edges g c =
 pub write_blocks-requires : goal.write_blocks-requires
 write_blocks-requires g c =
     let first = c.in_ok-all.ensures in
-    let second = c.in_ok-edges.ensures in
+    let second = c.in_ok-first_image.ensures in
     let one = room_read c.args.log.now c.load_pointer_sectors.new.log first.reads in
     let two = room_read c.load_pointer_sectors.new.log c.read_edges.new.log second.reads in
     record {
@@ -85,7 +85,7 @@ write_blocks-requires g c =
 pub stage-requires : goal.stage-requires
 stage-requires g c =
     let first = c.in_ok-all.ensures in
-    let second = c.in_ok-edges.ensures in
+    let second = c.in_ok-first_image.ensures in
     let one = room_read c.args.log.now c.load_pointer_sectors.new.log first.reads in
     let two = room_read c.load_pointer_sectors.new.log c.read_edges.new.log second.reads in
     let puts = c.write_blocks.ensures.puts in
@@ -107,13 +107,13 @@ returns-clause-entry g c = record {
 
 pub returns-clause-steps : goal.returns-clause-steps
 returns-clause-steps g c =
-    let reads = reads_then c.args.log.now c.load_pointer_sectors.new.log c.read_edges.new.log c.in_ok-all.ensures.failed c.in_ok-all.ensures.reads c.in_ok-edges.ensures.reads in
+    let reads = reads_then c.args.log.now c.load_pointer_sectors.new.log c.read_edges.new.log c.in_ok-all.ensures.failed c.in_ok-all.ensures.reads c.in_ok-first_image.ensures.reads in
     let same : room_of c.read_edges.new.log ≡ room_of c.args.log.now = ap (λ l. 120 - length l) reads.staged in
     let last = room_left (is_staged c.write_blocks.new.log c.args.inode_sector) (room_of c.write_blocks.new.log) (room_of c.stage.new.self) c.stage.ensures.room in
     let puts = c.write_blocks.ensures.puts in
     record {
       room = omega (arith, same, last, c.write_blocks.ensures.room);
-      log = stages_then c.args.log.now c.read_edges.new.log c.stage.new.self reads c.in_ok-edges.ensures.failed
+      log = stages_then c.args.log.now c.read_edges.new.log c.stage.new.self reads c.in_ok-first_image.ensures.failed
           (c.stage.ensures.device ∙ puts.device) (c.stage.ensures.sectors ∙ puts.sectors) c.stage.ensures.failed;
       failed = c.stage.ensures.failed;
       range = (c.write_blocks.ensures.range.first, c.write_blocks.ensures.range.end);
@@ -139,7 +139,7 @@ returns-clause-done g c h names body space =
     let all = c.in_ok-all.all in
     let one : view c.load_pointer_sectors.new.log ≡ content = c.in_ok-all.ensures.reads.view h in
     let h1 = c.in_ok-all.ensures.reads.honest.0 h in
-    let three : start ≡ content = c.in_ok-edges.ensures.reads.view h1 ∙ one in
+    let three : start ≡ content = c.in_ok-first_image.ensures.reads.view h1 ∙ one in
     let names_in = λ (m : Image) (same : m ≡ content). subst (λ (k : Image). NamesTaken (taken_of a) k e) (sym same) names in
     let size_is : size ≡ max e.size (offset + length bytes) = c.max-entry.ensures ∙ ap (λ (n : ℕ). max e.size (offset + n)) len_is in
     let small : size ≤ LARGEST_SIZE = omega (arith, size_is, c.requires.small, c.requires.small_before) in
@@ -149,18 +149,18 @@ returns-clause-done g c h names body space =
     (subst (λ (k : Image). MirrorsAll k longer all first last) (sym three) mirrors) in
     let changes : Changes a b content between longer changed (λ p. IsBlockIn first (last + 1) p ⊎ IsPointer p) =
     subst (λ (k : Image). Changes a b k between longer changed (λ p. IsBlockIn first (last + 1) p ⊎ IsPointer p)) three written.0 in
-    let image = image_of offset bytes c.in_ok-edges.edges.0 c.in_ok-edges.edges.1 in
+    let image = image_of offset bytes c.in_ok-first_image.first_image c.in_ok-first_image.last_image in
     let edge : (n : ℕ) → Type 0 = λ n. (offset ≤ 512 * ((offset + n - 1) / 512) → 512 * ((offset + n - 1) / 512) + 512 ≤ offset + n → ⊥)
-    → c.in_ok-edges.edges.1 ≡ block_bytes content (named content e (data_block ((offset + n - 1) / 512))) in
+    → c.in_ok-first_image.last_image ≡ block_bytes content (named content e (data_block ((offset + n - 1) / 512))) in
     let there = names_in (view c.load_pointer_sectors.new.log) one in
     let held : MirrorsAll (view c.load_pointer_sectors.new.log) e all first last = subst (λ (k : Image). MirrorsAll k e all first last) (sym one) (c.in_ok-all.ensures.right h names) in
-    let read : edge c.len.result = λ partly. c.in_ok-edges.ensures.last h1 there held partly ∙ ap (λ (m : Image). block_bytes m (named m e (data_block last))) one in
-    write_leaves c.args.inode_sector offset bytes c.in_ok-edges.edges.0 c.in_ok-edges.edges.1 c.write_entry.result a b content between (view c.stage.new.self) e changed size
+    let read : edge c.len.result = λ partly. c.in_ok-first_image.ensures.last h1 there held partly ∙ ap (λ (m : Image). block_bytes m (named m e (data_block last))) one in
+    write_leaves c.args.inode_sector offset bytes c.in_ok-first_image.first_image c.in_ok-first_image.last_image c.write_entry.result a b content between (view c.stage.new.self) e changed size
     c.requires.after_log c.requires.slot c.write_blocks.ensures.range c.requires.small_before c.requires.small c.requires.some size_is body names
     (subst (λ (k : ℕ). Changes a b content between longer changed (λ p. IsBlockIn first (k + 1) p ⊎ IsPointer p)) is_last changes)
     (subst (λ (k : ℕ). HasBlocks between changed first (k + 1) image) is_last written.1) c.stage.ensures.view
     (search rules) (search rules)
-    (λ partly. c.in_ok-edges.ensures.first h1 there held (λ le fits. partly le (omega (arith, fits, len_is))) ∙ ap (λ (m : Image). block_bytes m (named m e (data_block first))) one)
+    (λ partly. c.in_ok-first_image.ensures.first h1 there held (λ le fits. partly le (omega (arith, fits, len_is))) ∙ ap (λ (m : Image). block_bytes m (named m e (data_block first))) one)
     (subst edge len_is read)
 
 pub returns-clause-widths : goal.returns-clause-widths
