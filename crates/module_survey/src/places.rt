@@ -5,12 +5,12 @@ ghost use Rattle.std.specs.Option.{option_map};
 ghost use Rattle.module_survey.specs.Places.{function_name, holding_entry, IsFunctionAt, name_among, own_function_at, up_to_imports};
 ghost use Rattle.module_survey.specs.internal.Counting.{IsCountedAfter};
 
-use crate::functions::imported;
 use crate::sections::{Wanted, find, module_section, number, sized};
 use std::alloc::Global;
 use std::io;
 use std::io::{Error, ErrorKind};
 use wasm_module::{LoadFault, decode};
+use wasm_valid::imported_functions;
 
 /// The entry of the code section that holds a byte, with so many bytes from it to the entries' end.
 fn holding_entry(count: u32, left: usize, entries: &[u8]) -> Option<u32>
@@ -54,7 +54,7 @@ fn counted_after_imports(alloc: Global, bytes: &[u8], own: u32) -> io::Result<Op
 {
     match decode(alloc, bytes) {
         Ok(module) => {
-            let imported = imported(alloc, module.imports.as_slice());
+            let imported = imported_functions(alloc, module.imports.as_slice());
             drop(module); // by the call, since each end of the scope spells it out
             Ok(Some(imported?.len() as u64 + u64::from(own)))
         }
