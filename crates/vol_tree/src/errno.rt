@@ -3,25 +3,44 @@
 ghost use Rattle.std.specs.Prelude.{◌≡◌};
 ghost use Rattle.vol_tree.specs.declared.errno.Errno.TheVariants.{Io};
 
-use std::error::Error;
 use std::fmt;
+use thiserror::Error;
 use vol_sector::DeviceFault;
 
 /// Why a call on a tree is refused.
-#[derive(Clone, Copy, PartialEq, Eq)]
+#[derive(Clone, Copy, PartialEq, Eq, Error)]
 pub enum Errno {
+    #[error("there is an entry of that name")]
     Exist,
+    #[error("the file would be too large")]
     TooBig,
+    #[error("it is no text")]
     BadText,
+    #[error("invalid argument")]
     Invalid,
+    #[error("the device failed")]
     Io,
+    #[error("it is a directory")]
     IsDirectory,
+    #[error("a name is too long")]
     NameTooLong,
+    #[error("there is no entry of that name")]
     NotFound,
+    #[error("no space is left")]
     NoSpace,
+    #[error("it is no directory")]
     NotDirectory,
+    #[error("the directory is not empty")]
     NotEmpty,
+    #[error("the path leads out of its directory")]
     NotCapable,
+}
+
+// A derived one spells each variant by itself, and the text says the same.
+impl fmt::Debug for Errno {
+    fn fmt<W: fmt::Write>(&self, f: &mut fmt::Formatter<W>) -> fmt::Result {
+        fmt::Display::fmt(self, f)
+    }
 }
 
 impl Errno {
@@ -47,40 +66,7 @@ impl Errno {
             Errno::NotCapable => 76,
         }
     }
-
-    fn text(self) -> &'static str {
-        match self {
-            Errno::Exist => "there is an entry of that name",
-            Errno::TooBig => "the file would be too large",
-            Errno::BadText => "it is no text",
-            Errno::Invalid => "invalid argument",
-            Errno::Io => "the device failed",
-            Errno::IsDirectory => "it is a directory",
-            Errno::NameTooLong => "a name is too long",
-            Errno::NotFound => "there is no entry of that name",
-            Errno::NoSpace => "no space is left",
-            Errno::NotDirectory => "it is no directory",
-            Errno::NotEmpty => "the directory is not empty",
-            Errno::NotCapable => "the path leads out of its directory",
-        }
-    }
 }
-
-// By hand, since a derived one writes each variant by itself.
-
-impl fmt::Display for Errno {
-    fn fmt<W: fmt::Write>(&self, f: &mut fmt::Formatter<W>) -> fmt::Result {
-        f.write_str(self.text())
-    }
-}
-
-impl fmt::Debug for Errno {
-    fn fmt<W: fmt::Write>(&self, f: &mut fmt::Formatter<W>) -> fmt::Result {
-        fmt::Display::fmt(self, f)
-    }
-}
-
-impl Error for Errno {}
 
 impl From<DeviceFault> for Errno {
     ghost from_gives = { λ _ e. e ≡ Io };

@@ -3,41 +3,31 @@
 ghost use Rattle.std.specs.Prelude.{◌≡◌};
 ghost use Rattle.volume_tasks.specs.declared.failure.Failure.TheVariants.{Volume, Tree, Stream};
 
-use std::error::Error;
 use std::{fmt, io};
+use thiserror::Error;
 use vol_sector::VolumeFault;
 use vol_tree::Errno;
 
 /// Why a task on a volume ends without success. The text is what the program says of it.
-#[derive(Clone, Copy)]
+#[derive(Clone, Copy, Error)]
 pub enum Failure {
     /// The volume is refused, or the device failed.
+    #[error("{0}")]
     Volume(VolumeFault),
     /// A call on the volume's tree is refused.
+    #[error("errno {number}", number = .0.number())]
     Tree(Errno),
     /// The input or the output failed.
+    #[error("fault 41")]
     Stream,
 }
 
-// By hand, since a derived one formats each variant by itself.
-
-impl fmt::Display for Failure {
-    fn fmt<W: fmt::Write>(&self, f: &mut fmt::Formatter<W>) -> fmt::Result {
-        match self {
-            Failure::Volume(fault) => fmt::Display::fmt(fault, f),
-            Failure::Tree(errno) => write!(f, "errno {}", errno.number()),
-            Failure::Stream => f.write_str("fault 41"),
-        }
-    }
-}
-
+// A derived one spells each variant by itself, and the text says the same.
 impl fmt::Debug for Failure {
     fn fmt<W: fmt::Write>(&self, f: &mut fmt::Formatter<W>) -> fmt::Result {
         fmt::Display::fmt(self, f)
     }
 }
-
-impl Error for Failure {}
 
 impl From<VolumeFault> for Failure {
     ghost from_gives = { λ fault f. f ≡ Volume fault };
