@@ -52,7 +52,7 @@ pub struct Run<'a> {
 }
 
 /// What is changed in the tree of a volume.
-#[derive(Clone, Copy, Debug)]
+#[derive(Clone, Copy)]
 pub enum Change<'a> {
     /// Make the directory of this path.
     MakeDirectory { path: &'a str },
@@ -65,7 +65,7 @@ pub enum Change<'a> {
 }
 
 /// What is done with the volume in a file.
-#[derive(Clone, Copy, Debug)]
+#[derive(Clone, Copy)]
 pub enum Task<'a> {
     /// Print the entries of the directory of this path.
     List { path: &'a str },
