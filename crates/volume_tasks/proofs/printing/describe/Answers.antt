@@ -1,4 +1,4 @@
-use Rattle.std.proofs.Common.{List, ℕ, Ok, refl, inr, ap, subst, sym, ◌∙◌}
+use Rattle.std.proofs.Common.{false, List, ℕ, Ok, refl, inr, ap, subst, sym, ◌∙◌}
 use Rattle.std.specs.Io.KnownBytes.{Appends}
 use Rattle.std.proofs.KnownBytes.{Keeps-refl}
 use Rattle.vol_tree.specs.Tree.{Tree, entry}
@@ -7,6 +7,10 @@ use Rattle.volume_tasks.specs.Tasks.{facts_at, serial_named}
 use Rattle.volume_tasks.proofs.Described.{facts_told}
 use Rattle.volume_tasks.proofs.Handed.{part_none}
 use Rattle.volume_tasks.proofs.Printed.{named_prints, stream_refused, tree_refused, walk_refused}
+use Rattle.path_walk.proofs.Chaining.{asked_then}
+use Rattle.volume_tasks.specs.Blame.{blames_device}
+use Rattle.volume_tasks.specs.declared.failure.Failure.TheVariants as failure
+use Rattle.volume_tasks.proofs.Asking.{asked_on}
 use Rattle.volume_tasks.proofs.printing.describe.Goals as goal
 
 -- the path names no entry
@@ -50,3 +54,14 @@ returns-clause-prints g c h =
     let told = facts_told T s is.0 c.in_ok-stat.stat (ap (λ (U : Tree). entry U s) (sym (named.asked.tree h)) ∙ is.1) is.2 in
     named_prints (serial_named T c.args.path.now) (facts_at T) s (out c.args.out.now) (out c.print_facts.new.out) (Ok tt) (named.answer h)
     (facts_at T s, refl, subst (λ (text : List ℕ). Appends (out c.args.out.now) (out c.print_facts.new.out) text) told c.in_ok-print_facts.ensures.all)
+
+pub returns-clause-asked : goal.returns-clause-asked
+returns-clause-asked g c =
+    let told = c.in_ok-stat.ensures in
+    asked_then g.D.Device.honest g.D.Device.disk g.D.Device.size g.D.Device.failures c.args.volume.now c.serial_named.new.volume c.stat.new.self false c.in_ok-serial.ensures.asked (record { tree = λ h. (told.answer h).1; crash = told.crash; kept = told.kept })
+
+pub returns-in_err-stat-clause-asked : goal.returns-in_err-stat-clause-asked
+returns-in_err-stat-clause-asked g c =
+    let told = c.in_err-stat.ensures in
+    asked_on g.D.Device.honest g.D.Device.disk g.D.Device.size g.D.Device.failures blames_device c.from_residual-in_err-stat.result (failure.Tree c.in_err-stat.field-0.0) c.from_residual-in_err-stat.ensures.1 c.args.volume.now c.stat.new.self
+    (asked_then g.D.Device.honest g.D.Device.disk g.D.Device.size g.D.Device.failures c.args.volume.now c.serial_named.new.volume c.stat.new.self _ c.in_ok-serial.ensures.asked (record { tree = λ h. (told.answer h).1; crash = told.crash; kept = told.kept }))
