@@ -1,6 +1,5 @@
 //! A guest's calls, one after another, and what they answer.
 
-use super::linking::{Import, is_linked};
 use super::streams::{Feeding, Taking};
 use std::alloc::Global;
 use std::process::Abort;
@@ -24,10 +23,6 @@ pub enum Step<'a> {
     On(HostCall, &'a [u8], u16),
     /// Renames a path to another, both from descriptor 3.
     Rename(&'a [u8], &'a [u8], u16),
-    /// Makes a call with these arguments, which ends the guest with this status.
-    Ends(HostCall, &'a [u64], u32),
-    /// Asks what an import links to.
-    Links(&'a Import<'a>),
 }
 
 /// Where a path stands in memory, the second path of a call, a number of `path_open`, and what `path_filestat_get` tells.
@@ -149,17 +144,6 @@ fn answers<H: Host>(
     guest.call(memory, USED, call, arguments) == Answer::Value(Errno(errno))
 }
 
-/// Whether a call ends the guest with this status.
-fn ends<H: Host>(
-    guest: &mut H,
-    memory: &mut Memory,
-    call: HostCall,
-    arguments: &[u64],
-    status: u32,
-) -> bool {
-    guest.call(memory, USED, call, arguments) == Answer::Exit(status)
-}
-
 /// Makes a call on a path, and says whether it answers this errno.
 fn answers_on<H: Host>(
     guest: &mut H,
@@ -215,12 +199,7 @@ fn renames<H: Host>(
 }
 
 /// Does a step, and says whether it is as wanted.
-fn is_as_wanted<H: Host>(
-    alloc: Global,
-    guest: &mut H,
-    memory: &mut Memory,
-    step: &Step<'_>,
-) -> bool {
+fn is_as_wanted<H: Host>(guest: &mut H, memory: &mut Memory, step: &Step<'_>) -> bool {
     match step {
         Step::Put(address, bytes) => memory.write(*address, bytes),
         Step::Call(call, arguments, errno) => answers(guest, memory, *call, arguments, *errno),
@@ -228,53 +207,20 @@ fn is_as_wanted<H: Host>(
         Step::Open(path, oflags, errno) => opens(guest, memory, path, *oflags, *errno),
         Step::On(call, path, errno) => answers_on(guest, memory, *call, path, *errno),
         Step::Rename(from, to, errno) => renames(guest, memory, from, to, *errno),
-        Step::Ends(call, arguments, status) => ends(guest, memory, *call, arguments, *status),
-        Step::Links(import) => is_linked(alloc, guest, import),
     }
 }
 
-fn assert_all<H: Host>(
-    rt: &impl Abort,
-    alloc: Global,
-    guest: &mut H,
-    memory: &mut Memory,
-    steps: &[Step<'_>],
-) {
+fn assert_all<H: Host>(rt: &impl Abort, guest: &mut H, memory: &mut Memory, steps: &[Step<'_>]) {
     for (i, step) in steps.iter().enumerate() {
-        assert!(rt; is_as_wanted(alloc, guest, memory, step), "step {i}");
+        assert!(rt; is_as_wanted(guest, memory, step), "step {i}");
     }
 }
 
-/// Does the steps in turn, in so many pages of memory.
-pub fn assert_steps<H: Host>(
-    rt: &impl Abort,
-    alloc: Global,
-    guest: &mut H,
-    pages: u32,
-    steps: &[Step<'_>],
-) {
-    let mut memory = Memory::new(alloc, pages).expect(rt, "no memory");
-    assert_all(rt, alloc, guest, &mut memory, steps);
+/// Does the steps in turn, in a page of memory.
+pub fn assert_steps<H: Host>(rt: &impl Abort, alloc: Global, guest: &mut H, steps: &[Step<'_>]) {
+    let mut memory = Memory::new(alloc, 1).expect(rt, "no memory");
+    assert_all(rt, guest, &mut memory, steps);
     drop(memory);
-}
-
-/// Does the steps in turn over a volume, in as many pages of memory as the settings allow; with random bytes from a seed
-/// where there is one. (Each function that owns a guest costs its proof several seconds, so this one is for all.)
-pub fn assert_over(
-    rt: &impl Abort,
-    alloc: Global,
-    settings: Settings<'_, '_>,
-    volume: Flaky,
-    input: Feeding,
-    seed: Option<u64>,
-    steps: &[Step<'_>],
-) {
-    let mut guest = over(rt, alloc, settings, volume, input, Taking::all(alloc));
-    if let Some(seed) = seed {
-        guest.seed(seed);
-    }
-    assert_steps(rt, alloc, &mut guest, settings.pages, steps);
-    drop(guest);
 }
 
 /// Does the steps in turn over a fresh volume with these settings, preopened directories and input.
@@ -285,22 +231,17 @@ pub fn assert_fed(
     input: Feeding,
     steps: &[Step<'_>],
 ) {
-    let volume = opened(alloc, 0).expect(rt, "no volume");
-    assert_over(rt, alloc, settings, volume, input, None, steps);
+    let mut guest = fresh(rt, alloc, settings, input, Taking::all(alloc));
+    assert_steps(rt, alloc, &mut guest, steps);
+    drop(guest);
 }
 
 /// Does the steps in turn over a fresh volume, with random bytes from this seed.
 pub fn assert_seeded(rt: &impl Abort, alloc: Global, seed: u64, steps: &[Step<'_>]) {
-    let volume = opened(alloc, 0).expect(rt, "no volume");
-    assert_over(
-        rt,
-        alloc,
-        PLAIN,
-        volume,
-        Feeding::new(&[]),
-        Some(seed),
-        steps,
-    );
+    let mut guest = fresh(rt, alloc, PLAIN, Feeding::new(&[]), Taking::all(alloc));
+    guest.seed(seed);
+    assert_steps(rt, alloc, &mut guest, steps);
+    drop(guest);
 }
 
 /// The same without input.

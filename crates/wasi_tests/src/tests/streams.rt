@@ -189,7 +189,7 @@ const WRITES: &[Step<'static>] = &[
 fn assert_written(rt: &impl Abort, alloc: Global, takes: usize, refusal: Refusal, stands: &[u8]) {
     let out = Taking::new(alloc, takes, refusal);
     let mut guest = fresh(rt, alloc, PLAIN, Feeding::new(&[]), out);
-    assert_steps(rt, alloc, &mut guest, 1, WRITES);
+    assert_steps(rt, alloc, &mut guest, WRITES);
     let parts = guest.into_parts();
     assert!(rt; parts.out.held.as_slice() == stands);
     assert!(rt; parts.err.held.as_slice() == b"abcd".as_slice());
