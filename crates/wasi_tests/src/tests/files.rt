@@ -1,8 +1,8 @@
 //! Files: their bytes, sizes and positions.
 
 use super::guest::Step::{Call, Has, Open, Put};
-use super::guest::{PLAIN, Step, assert_plain, assert_steps, opened_on, over};
-use super::streams::{Feeding, Taking};
+use super::guest::{PLAIN, assert_over, assert_plain, opened_on};
+use super::streams::Feeding;
 use wasm_store::HostCall::{
     FdFilestatGet, FdFilestatSetSize, FdPread, FdPwrite, FdRead, FdSeek, FdTell, FdWrite, PathOpen,
 };
@@ -27,29 +27,25 @@ fn a_size_takes_space(rt: HostRuntime) {
     );
 }
 
-/// Makes a file as long as it can be, and then longer, where there are sectors enough.
-const LONGEST: &[Step<'static>] = &[
-    Open(b"a", 1, 0),
-    Call(FdFilestatSetSize, &[4, 95_232], 0),
-    Call(FdFilestatSetSize, &[4, 95_233], 22),
-    Call(FdFilestatGet, &[4, 200], 0),
-    Has(232, b"\x00\x74\x01\0\0\0\0\0"),
-];
-
+/// A file as long as it can be, and then longer, where there are sectors enough.
 #[test]
 fn a_size_has_a_limit(rt: HostRuntime) {
-    let alloc = rt.alloc();
-    let volume = opened_on(alloc, 1_000, 0).expect(&rt, "no volume");
-    let mut guest = over(
+    let volume = opened_on(rt.alloc(), 1_000, 0).expect(&rt, "no volume");
+    assert_over(
         &rt,
-        alloc,
+        rt.alloc(),
         PLAIN,
         volume,
         Feeding::new(&[]),
-        Taking::all(alloc),
+        None,
+        &[
+            Open(b"a", 1, 0),
+            Call(FdFilestatSetSize, &[4, 95_232], 0),
+            Call(FdFilestatSetSize, &[4, 95_233], 22),
+            Call(FdFilestatGet, &[4, 200], 0),
+            Has(232, b"\x00\x74\x01\0\0\0\0\0"),
+        ],
     );
-    assert_steps(&rt, alloc, &mut guest, LONGEST);
-    drop(guest);
 }
 
 #[test]

@@ -223,6 +223,25 @@ pub fn assert_steps<H: Host>(rt: &impl Abort, alloc: Global, guest: &mut H, step
     drop(memory);
 }
 
+/// Does the steps in turn over a volume, with random bytes from a seed where there is one. (Each function that owns a guest
+/// costs its proof several seconds, so this one is for most tests.)
+pub fn assert_over(
+    rt: &impl Abort,
+    alloc: Global,
+    settings: Settings<'_, '_>,
+    volume: Flaky,
+    input: Feeding,
+    seed: Option<u64>,
+    steps: &[Step<'_>],
+) {
+    let mut guest = over(rt, alloc, settings, volume, input, Taking::all(alloc));
+    if let Some(seed) = seed {
+        guest.seed(seed);
+    }
+    assert_steps(rt, alloc, &mut guest, steps);
+    drop(guest);
+}
+
 /// Does the steps in turn over a fresh volume with these settings, preopened directories and input.
 pub fn assert_fed(
     rt: &impl Abort,
@@ -231,17 +250,22 @@ pub fn assert_fed(
     input: Feeding,
     steps: &[Step<'_>],
 ) {
-    let mut guest = fresh(rt, alloc, settings, input, Taking::all(alloc));
-    assert_steps(rt, alloc, &mut guest, steps);
-    drop(guest);
+    let volume = opened(alloc, 0).expect(rt, "no volume");
+    assert_over(rt, alloc, settings, volume, input, None, steps);
 }
 
 /// Does the steps in turn over a fresh volume, with random bytes from this seed.
 pub fn assert_seeded(rt: &impl Abort, alloc: Global, seed: u64, steps: &[Step<'_>]) {
-    let mut guest = fresh(rt, alloc, PLAIN, Feeding::new(&[]), Taking::all(alloc));
-    guest.seed(seed);
-    assert_steps(rt, alloc, &mut guest, steps);
-    drop(guest);
+    let volume = opened(alloc, 0).expect(rt, "no volume");
+    assert_over(
+        rt,
+        alloc,
+        PLAIN,
+        volume,
+        Feeding::new(&[]),
+        Some(seed),
+        steps,
+    );
 }
 
 /// The same without input.

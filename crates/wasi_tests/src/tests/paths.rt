@@ -254,14 +254,20 @@ fn is_refused(alloc: Global, path: &[u8], want: Option<HostFault>) -> bool {
     }
 }
 
+/// Paths, and why a directory of them is refused.
+static PREOPENED: [(&[u8], Option<HostFault>); 7] = [
+    (b"/", None),
+    (b"/.", None),
+    (b"/d", Some(HostFault::Preopen)),
+    (b"d", Some(HostFault::Preopen)),
+    (b"", Some(HostFault::Preopen)),
+    (b"//", Some(HostFault::Preopen)),
+    (b"/..", Some(HostFault::Preopen)),
+];
+
 #[test]
 fn directories_are_preopened(rt: HostRuntime) {
-    let refused = Some(HostFault::Preopen);
-    assert!(rt; is_refused(rt.alloc(), b"/", None));
-    assert!(rt; is_refused(rt.alloc(), b"/.", None));
-    assert!(rt; is_refused(rt.alloc(), b"/d", refused));
-    assert!(rt; is_refused(rt.alloc(), b"d", refused));
-    assert!(rt; is_refused(rt.alloc(), b"", refused));
-    assert!(rt; is_refused(rt.alloc(), b"//", refused));
-    assert!(rt; is_refused(rt.alloc(), b"/..", refused));
+    for (i, (path, want)) in PREOPENED.iter().enumerate() {
+        assert!(rt; is_refused(rt.alloc(), path, *want), "row {i}");
+    }
 }
