@@ -7,7 +7,7 @@ ghost use Rattle.wasm_module.specs.internal.Reading.{Gives, Reader, byte_at, u32
 use crate::fault::LoadFault;
 use crate::instruction::Instruction;
 use crate::items::{Bytes, Items, Name};
-use crate::number::{Sign, Span, number};
+use crate::number::{Sign, Span, short_number};
 use crate::open_blocks::OpenBlocks;
 use std::alloc::Global;
 use std::marker::Model;
@@ -168,11 +168,12 @@ impl<'a> Cursor<'a> {
         }
     }
 
+    #[inline(always)]
     #[tactic(auto, unfolding(crate::specs::internal::Reading::u32_at))]
     pub fn u32(&mut self) -> Result<u32, LoadFault>
         ensures { Gives (λ x. (x, self.new)) result (u32_at self.old) }
     {
-        let (value, rest) = number(Sign::Unsigned, 32, self.rest, self.span())?;
+        let (value, rest) = short_number(Sign::Unsigned, 32, self.rest, self.span())?;
         self.rest = rest;
         Ok(value as u32)
     }
@@ -182,7 +183,7 @@ impl<'a> Cursor<'a> {
     pub fn s32(&mut self) -> Result<u32, LoadFault>
         ensures { Gives (λ x. (x, self.new)) result (s32_at self.old) }
     {
-        let (value, rest) = number(Sign::Signed, 32, self.rest, self.span())?;
+        let (value, rest) = short_number(Sign::Signed, 32, self.rest, self.span())?;
         self.rest = rest;
         Ok(value as u32)
     }
@@ -192,7 +193,7 @@ impl<'a> Cursor<'a> {
     pub fn s64(&mut self) -> Result<u64, LoadFault>
         ensures { Gives (λ x. (x, self.new)) result (s64_at self.old) }
     {
-        let (value, rest) = number(Sign::Signed, 64, self.rest, self.span())?;
+        let (value, rest) = short_number(Sign::Signed, 64, self.rest, self.span())?;
         self.rest = rest;
         Ok(value)
     }

@@ -57,14 +57,6 @@ impl OpenBlocks {
         Ok(())
     }
 
-    /// Opens a block, and one inside it.
-    fn push_both(&mut self, outer: OpenBlock, inner: OpenBlock) -> Result<(), AllocError>
-        ensures { OnOk result (self.new ≡ inner ∷ (outer ∷ self.old)) }
-    {
-        self.push(outer)?;
-        self.push(inner)
-    }
-
     pub fn pop(&mut self) -> Option<OpenBlock>
         ensures { MatchOption result (self.old ≡ []) (λ f. self.old ≡ f ∷ self.new) }
     {
@@ -76,22 +68,22 @@ impl OpenBlocks {
     pub fn step(&mut self, instruction: &Instruction, offset: u32) -> Result<(), LoadFault>
         ensures { Gives (λ _. self.new) result (after_instruction instruction.now self.old) }
     {
-        let Some(block) = self.pop() else {
+        if self.is_empty() {
             return Err(LoadFault::BadByte { offset });
-        };
+        }
         match instruction {
-            Instruction::Block(_) | Instruction::Loop(_) => {
-                self.push_both(block, OpenBlock::Plain)?;
-            }
-            Instruction::If(_) => self.push_both(block, OpenBlock::Conditional)?,
+            Instruction::Block(_) | Instruction::Loop(_) => self.push(OpenBlock::Plain)?,
+            Instruction::If(_) => self.push(OpenBlock::Conditional)?,
             Instruction::Else => {
-                if block != OpenBlock::Conditional {
+                let Some(OpenBlock::Conditional) = self.pop() else {
                     return Err(LoadFault::BadByte { offset });
-                }
+                };
                 self.push(OpenBlock::Plain)?;
             }
-            Instruction::End => {}
-            _ => self.push(block)?,
+            Instruction::End => {
+                self.pop();
+            }
+            _ => {}
         }
         Ok(())
     }
