@@ -210,9 +210,9 @@ fn variable(cursor: &mut Cursor<'_>, byte: u8, offset: u32) -> Result<Instructio
     ensures { Gives (λ x. (x, cursor.new)) result (variable_after byte cursor.old) }
 {
     match byte {
-        0x20..=0x24 => variable_with(byte, offset, cursor.u32()?),
         0x1A => Ok(Instruction::Drop),
         0x1B => Ok(Instruction::Select),
+        0x20..=0x24 => variable_with(byte, offset, cursor.u32()?),
         _ => Err(unknown(byte, offset)),
     }
 }
@@ -362,13 +362,12 @@ impl<'a> Decode<'a> for Instruction {
     fn decode(alloc: Global, cursor: &mut Cursor<'a>) -> Result<Instruction, LoadFault> {
         let offset = cursor.offset();
         let byte = cursor.byte()?;
-        // The most frequent come first.
         match byte {
-            0x12..=0x27 => variable(cursor, byte, offset),
             0x41 => Ok(Instruction::I32Const(cursor.s32()?)),
             0x42 => Ok(Instruction::I64Const(cursor.s64()?)),
             0xFC => bulk(cursor),
             0x00..=0x11 => control(alloc, cursor, byte, offset),
+            0x12..=0x27 => variable(cursor, byte, offset),
             0x28..=0x35 => load(alloc, cursor, byte, offset),
             0x36..=0x3E => store(alloc, cursor, byte, offset),
             0x3F..=0x40 => memory_size(cursor, byte, offset),

@@ -2,12 +2,12 @@
 
 ghost use Rattle.std.specs.Prelude.{◌≡◌, ◌==◌, ◌^◌, ◌<◌, ◌≤◌, [], length, IfOk, MatchResult};
 ghost use Rattle.wasm_module.specs.internal.CodeReading.{s32_at, s64_at, one_more_at, code_at};
-ghost use Rattle.wasm_module.specs.internal.Reading.{Gives, Reader, byte_at, u32_at, next_at, begins, many_at, vector_at, piece_at, whole, sized_at, raw_of, text_of, name_at, custom_of, customs_at, section_at};
+ghost use Rattle.wasm_module.specs.internal.Reading.{Gives, Reader, byte_at, number_at, u32_at, next_at, begins, many_at, vector_at, piece_at, whole, sized_at, raw_of, text_of, name_at, custom_of, customs_at, section_at};
 
 use crate::fault::LoadFault;
 use crate::instruction::Instruction;
 use crate::items::{Bytes, Items, Name};
-use crate::number::{Sign, Span, short_number};
+use crate::number::{Sign, Span, last, number};
 use crate::open_blocks::OpenBlocks;
 use std::alloc::Global;
 use std::marker::Model;
@@ -16,7 +16,12 @@ use std::marker::Model;
 #[derive(Drop)]
 pub struct Cursor<'a> {
     rest: &'a [u8],
-    end: usize,
+    end: u32,
+}
+
+/// A number of bytes as part of an offset. What is decoded is far shorter than 2 ^ 32 bytes.
+fn part_of_offset(len: usize) -> u32 {
+    (len & 0xFFFF_FFFF) as u32
 }
 
 impl<'a> Model for Cursor<'a> {
@@ -74,7 +79,7 @@ impl<'a> Cursor<'a> {
     {
         Cursor {
             rest: bytes,
-            end: bytes.len(),
+            end: part_of_offset(bytes.len()),
         }
     }
 
@@ -82,25 +87,25 @@ impl<'a> Cursor<'a> {
     pub fn at(input: &'a [u8], offset: u32) -> Cursor<'a> {
         Cursor {
             rest: input.get(offset as usize..).unwrap_or(&[]),
-            end: input.len(),
+            end: part_of_offset(input.len()),
         }
     }
 
     /// The beginning of these bytes.
     pub fn of(bytes: &Bytes<'a>) -> Cursor<'a> {
         let rest = bytes.as_slice();
-        let end = rest.len().saturating_add(bytes.offset() as usize);
+        let end = bytes.offset().wrapping_add(part_of_offset(rest.len()));
         Cursor { rest, end }
     }
 
     /// Where the next byte stands, in bytes from the first of the input.
     pub fn offset(&self) -> u32 {
-        u32::try_from(self.end.saturating_sub(self.rest.len())).unwrap_or(u32::MAX)
+        self.end.wrapping_sub(part_of_offset(self.rest.len()))
     }
 
     /// Where the bytes end.
     pub fn end(&self) -> u32 {
-        u32::try_from(self.end).unwrap_or(u32::MAX)
+        self.end
     }
 
     /// The bytes that are left.
@@ -168,14 +173,35 @@ impl<'a> Cursor<'a> {
         }
     }
 
+    /// The next number of this many bits, modulo 2 to that power. Most are one byte, which is read
+    /// without a call.
+    #[inline(always)]
+    fn number(&mut self, sign: Sign, bits: u32) -> Result<u64, LoadFault>
+        requires some { 0 < bits }
+        requires fits { bits ≤ 64 }
+        ensures value { Gives (λ x. (x, self.new)) result (number_at sign bits self.old) }
+        ensures within { IfOk result (λ x. x < 2 ^ bits) }
+    {
+        match self.rest.split_first() {
+            Some((first, rest)) if *first < 128 => {
+                let value = last(sign, bits, *first, self.span())?;
+                self.rest = rest;
+                Ok(value)
+            }
+            _ => {
+                let (value, rest) = number(sign, bits, self.rest, self.span())?;
+                self.rest = rest;
+                Ok(value)
+            }
+        }
+    }
+
     #[inline(always)]
     #[tactic(auto, unfolding(crate::specs::internal::Reading::u32_at))]
     pub fn u32(&mut self) -> Result<u32, LoadFault>
         ensures { Gives (λ x. (x, self.new)) result (u32_at self.old) }
     {
-        let (value, rest) = short_number(Sign::Unsigned, 32, self.rest, self.span())?;
-        self.rest = rest;
-        Ok(value as u32)
+        Ok(self.number(Sign::Unsigned, 32)? as u32)
     }
 
     /// A signed number, modulo 2 ^ 32.
@@ -183,9 +209,7 @@ impl<'a> Cursor<'a> {
     pub fn s32(&mut self) -> Result<u32, LoadFault>
         ensures { Gives (λ x. (x, self.new)) result (s32_at self.old) }
     {
-        let (value, rest) = short_number(Sign::Signed, 32, self.rest, self.span())?;
-        self.rest = rest;
-        Ok(value as u32)
+        Ok(self.number(Sign::Signed, 32)? as u32)
     }
 
     /// A signed number, modulo 2 ^ 64.
@@ -193,9 +217,7 @@ impl<'a> Cursor<'a> {
     pub fn s64(&mut self) -> Result<u64, LoadFault>
         ensures { Gives (λ x. (x, self.new)) result (s64_at self.old) }
     {
-        let (value, rest) = short_number(Sign::Signed, 64, self.rest, self.span())?;
-        self.rest = rest;
-        Ok(value)
+        self.number(Sign::Signed, 64)
     }
 
     /// The next bytes, by themselves.
@@ -207,7 +229,7 @@ impl<'a> Cursor<'a> {
             return Err(LoadFault::Truncated { offset: self.end() });
         }
         let (front, rest) = self.rest.split_at(len);
-        let end = self.end.saturating_sub(rest.len());
+        let end = self.end.wrapping_sub(part_of_offset(rest.len()));
         self.rest = rest;
         Ok(Cursor { rest: front, end })
     }

@@ -24,7 +24,7 @@ pub struct Span {
 /// The number of this many bits that ends in this byte.
 #[inline(always)]
 #[tactic(auto, using(crate::proofs::Powers::double, crate::proofs::Powers::half_is))]
-fn last(sign: Sign, bits: u32, byte: u8, span: Span) -> Result<u64, LoadFault>
+pub fn last(sign: Sign, bits: u32, byte: u8, span: Span) -> Result<u64, LoadFault>
     requires byte { byte < 128 }
     requires some { 0 < bits }
     requires fits { bits ≤ 64 }
@@ -62,23 +62,4 @@ pub fn number(sign: Sign, bits: u32, bytes: &[u8], span: Span) -> Result<(u64, &
     }
     let (high, rest) = number(sign, bits - 7, rest, span)?;
     Ok((u64::from(first) - 128 + 128 * high, rest))
-}
-
-/// The same as `number`. Most numbers are one byte, and that is read with no call.
-#[inline(always)]
-pub fn short_number(
-    sign: Sign,
-    bits: u32,
-    bytes: &[u8],
-    span: Span,
-) -> Result<(u64, &[u8]), LoadFault>
-    requires some { 0 < bits }
-    requires fits { bits ≤ 64 }
-    ensures value { Gives (λ x. (x.0, x.1.now)) result (number_at sign bits bytes.now) }
-    ensures within { IfOk result (λ x. x.0 < 2 ^ bits) }
-{
-    match bytes.split_first() {
-        Some((first, rest)) if *first < 128 => Ok((last(sign, bits, *first, span)?, rest)),
-        _ => number(sign, bits, bytes, span),
-    }
 }
