@@ -3,3 +3,4 @@ pub mod Operators
 pub mod Configuration
 pub mod Steps
 pub mod Outcomes
+pub mod Units
