@@ -2,6 +2,7 @@
 use Rattle.std.specs.Prelude.{◌≡◌, ◌≢◌, ◌≤◌, ◌<◌, ◌^◌, ℕ, List, All, length, take, drop, nat_lt, slice_index, if◌then◌else◌}
 use Rattle.vol_inode.specs.declared.entry.Entry.{Entry}
 use Rattle.vol_inode.specs.declared.entry.Kind.TheVariants.{Directory}
+use Rattle.vol_inode.specs.declared.pointers.TheConstants.{DOUBLE_INDIRECT, LISTED}
 use Rattle.vol_inode.specs.declared.version.Version.{Version}
 use Rattle.vol_inode.specs.Name.{IsName}
 use Rattle.vol_inode.specs.Space.{blocks_for_size, size_limit}
@@ -12,7 +13,7 @@ name_of e = take e.name_length e.name
 
 -- the first data block of a file that this pointer serves
 abbrev pub first_block_of_pointer : ℕ → ℕ
-first_block_of_pointer k = if nat_lt k 59 then k else 186
+first_block_of_pointer k = if nat_lt k DOUBLE_INDIRECT then k else LISTED
 
 -- the fields have their widths
 pub record HasWidths (e : Entry) : Type 0 where

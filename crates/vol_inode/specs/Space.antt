@@ -1,5 +1,6 @@
 -- The space that files take (`docs/VOLUME.md`, "Space").
 use Rattle.std.specs.Prelude.{◌+◌, ◌-◌, ◌/◌, ℕ, nat_le, if◌then◌else◌}
+use Rattle.vol_inode.specs.declared.pointers.TheConstants.{DIRECT, LISTED, NUMBERS}
 use Rattle.vol_inode.specs.declared.version.TheConstants.{LARGEST_SIZE}
 use Rattle.vol_inode.specs.declared.version.Version.{Version}
 use Rattle.vol_inode.specs.declared.version.Version.TheVariants.{One, Two}
@@ -10,13 +11,13 @@ blocks_for_size size = (size + 511) / 512
 
 -- how many inner blocks hold this many numbers
 abbrev pub inner_blocks_for : ℕ → ℕ
-inner_blocks_for count = (count + 127) / 128
+inner_blocks_for count = (count + (NUMBERS - 1)) / NUMBERS
 
--- The sectors that a file of this size may take: those of its bytes; after the first 58 an indirect block with the numbers of
--- the next 128; after these a double-indirect block and its inner blocks for all others.
+-- The sectors that a file of this size may take: those of its bytes; after the direct ones an indirect block with the
+-- numbers of the next ones; after these a double-indirect block and its inner blocks for all others.
 abbrev pub need_of : ℕ → ℕ
 need_of size = let count = blocks_for_size size in
-    if nat_le count 58 then count else (if nat_le count 186 then count + 1 else count + 2 + inner_blocks_for (count - 186))
+    if nat_le count DIRECT then count else (if nat_le count LISTED then count + 1 else count + 2 + inner_blocks_for (count - LISTED))
 
 -- the greatest size of a file
 abbrev pub size_limit : Version → ℕ

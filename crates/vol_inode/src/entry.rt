@@ -35,8 +35,8 @@ pub struct Entry {
     pub size: u32,
     /// The name, then zeros.
     pub name: [u8; 255],
-    /// The sectors of a file. Pointers 0 to 57 name its first parts, pointer 58 a sector of 128
-    /// numbers for the next ones, and pointer 59 a sector of 128 numbers of such sectors. A pointer
-    /// 0 is a part that was never written.
+    /// The sectors of a file: of its first data blocks, then that of the indirect block, which names
+    /// the next ones, and last that of the double-indirect block, which names inner blocks for all
+    /// others. 0 stands for a block that was never written.
     pub pointers: [u32; 60],
 }

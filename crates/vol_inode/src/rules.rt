@@ -4,6 +4,7 @@ ghost use Rattle.std.specs.Prelude.{◌≡◌, ◌<◌, ◌↔◌, All, IsTrue};
 ghost use Rattle.vol_inode.specs.Entry.{HasName, HasSize, UnusedPointersAreZero, KeepsRules, first_block_of_pointer};
 
 use crate::names::is_name;
+use crate::pointers::{DOUBLE_INDIRECT, LISTED};
 use crate::{Entry, Kind, Version};
 
 /// Whether the entry keeps the rules that its own sector shows.
@@ -58,9 +59,13 @@ fn unused_pointers_are_zero(entry: &Entry) -> bool
 }
 
 /// The first data block of a file that the pointer serves.
-fn first_block_of_pointer(k: usize) -> u32
+pub fn first_block_of_pointer(k: usize) -> u32
     requires { k < 60 }
     ensures { result ≡ first_block_of_pointer k }
 {
-    if k < 59 { k as u32 } else { 186 }
+    if k < DOUBLE_INDIRECT as usize {
+        k as u32
+    } else {
+        LISTED
+    }
 }

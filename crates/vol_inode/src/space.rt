@@ -3,11 +3,7 @@
 ghost use Rattle.std.specs.Prelude.{◌≡◌};
 ghost use Rattle.vol_inode.specs.Space.{need_of};
 
-// How many parts of a file the entry itself names.
-const DIRECT: u32 = 58;
-
-// How many parts are named by the entry and its first pointer sector.
-const LISTED: u32 = 186;
+use crate::pointers::{DIRECT, LISTED, NUMBERS};
 
 /// How many data sectors a file of this size in bytes reserves: one for each 512 bytes, and those
 /// that list them.
@@ -20,6 +16,6 @@ pub fn need(size: u32) -> u32
     } else if count <= LISTED {
         count + 1
     } else {
-        count + 2 + (count - LISTED).div_ceil(128)
+        count + 2 + (count - LISTED).div_ceil(NUMBERS)
     }
 }
