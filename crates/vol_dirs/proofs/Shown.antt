@@ -11,8 +11,8 @@ use Rattle.vol_inode.specs.Entry.{IsEntry, name_of}
 use Rattle.vol_inode.specs.Spelling.{spelling, kind_byte, unused}
 use Rattle.vol_inode.proofs.Fields.{parent_is, name_is}
 use Rattle.vol_dirs.specs.declared.dirs.Dirs.{Dirs}
+use Rattle.vol_dirs.specs.Slots.{slot_sector}
 use Rattle.vol_dirs.specs.Names.{Names, IsFree, IsNameOf, IsSpelled, IsInSlot, Shows}
-use Rattle.vol_log.specs.declared.layout.TheConstants.{FIRST_AFTER_LOG}
 
 put_same : (at k : ℕ) (bytes : List ℕ) (image : Image) → k ≡ at → put at bytes image k ≡ bytes
 put_same at k bytes image same = grind (arith, nat_tests)
@@ -38,7 +38,7 @@ not_unused : (e : Entry) → spelling e ≡ unused → ⊥
 not_unused e same = some_kind e.kind (ap (λ (l : List ℕ). get_or l 0 0) same)
 
 -- what is in a slot is seen in an image with the same sector there
-same_slot : (v : Version) (one other : Image) (slots more p : ℕ) (n : List ℕ) (t : ℕ) → other (121 + t) ≡ one (121 + t) → t ≤ more → IsInSlot v one slots p n t → IsInSlot v other more p n t
+same_slot : (v : Version) (one other : Image) (slots more p : ℕ) (n : List ℕ) (t : ℕ) → other (slot_sector t) ≡ one (slot_sector t) → t ≤ more → IsInSlot v one slots p n t → IsInSlot v other more p n t
 same_slot v one other slots more p n t same last slot = record {
   first = slot.first;
   last = last;
@@ -49,11 +49,11 @@ pub spelled_by : (v : Version) (bytes : List ℕ) (e : Entry) (s p : ℕ) (n : L
 spelled_by v bytes e s p n t right is that = record { entry = e; right = right; spelled = is; parent_is = that.parent_is; name_is = that.name_is }
 
 -- the entry is in its slot
-own_slot : (v : Version) (image : Image) (slots s : ℕ) (e : Entry) (p : ℕ) (n : List ℕ) (t : ℕ) → IsEntry v e → 1 ≤ s → s ≤ slots → image (121 + s) ≡ spelling e → IsNameOf e s p n t → IsInSlot v image slots p n t
+own_slot : (v : Version) (image : Image) (slots s : ℕ) (e : Entry) (p : ℕ) (n : List ℕ) (t : ℕ) → IsEntry v e → 1 ≤ s → s ≤ slots → image (slot_sector s) ≡ spelling e → IsNameOf e s p n t → IsInSlot v image slots p n t
 own_slot v image slots s e p n t right first last is that = record {
   first = subst (λ (x : ℕ). 1 ≤ x) (sym that.serial_is) first;
   last = subst (λ (x : ℕ). x ≤ slots) (sym that.serial_is) last;
-  spelled = spelled_by v (image (121 + t)) e s p n t right (ap (λ (x : ℕ). image (121 + x)) that.serial_is ∙ is) that;
+  spelled = spelled_by v (image (slot_sector t)) e s p n t right (ap (λ (x : ℕ). image (slot_sector x)) that.serial_is ∙ is) that;
 }
 
 -- and no other is
@@ -62,11 +62,11 @@ spelled_is v bytes e s p n t right is at spelled =
     let same = same_entry v spelled.entry e spelled.right right (sym spelled.spelled ∙ is) in
     record { parent_is = spelled.parent_is ∙ same.0; name_is = spelled.name_is ∙ same.1; serial_is = at }
 
-slot_is_own : (v : Version) (image : Image) (slots s : ℕ) (e : Entry) (p : ℕ) (n : List ℕ) (t : ℕ) → IsEntry v e → image (121 + s) ≡ spelling e → t ≡ s → IsInSlot v image slots p n t → IsNameOf e s p n t
-slot_is_own v image slots s e p n t right is at slot = spelled_is v (image (121 + t)) e s p n t right (ap (λ (x : ℕ). image (121 + x)) at ∙ is) at slot.spelled
+slot_is_own : (v : Version) (image : Image) (slots s : ℕ) (e : Entry) (p : ℕ) (n : List ℕ) (t : ℕ) → IsEntry v e → image (slot_sector s) ≡ spelling e → t ≡ s → IsInSlot v image slots p n t → IsNameOf e s p n t
+slot_is_own v image slots s e p n t right is at slot = spelled_is v (image (slot_sector t)) e s p n t right (ap (λ (x : ℕ). image (slot_sector x)) at ∙ is) at slot.spelled
 
 module _ (v : Version) (slots s : ℕ) (before after : Image) (old new : Dirs) (shown : Shows v before slots old) where
-  pub shown_put : (e : Entry) → IsEntry v e → 1 ≤ s → s ≤ slots → after ≡ put (121 + s) (spelling e) before
+  pub shown_put : (e : Entry) → IsEntry v e → 1 ≤ s → s ≤ slots → after ≡ put (slot_sector s) (spelling e) before
       → ((p : ℕ) (n : List ℕ) (t : ℕ) → Names new p n t ↔ (Names old p n t × (t ≢ s) ⊎ IsNameOf e s p n t)) → Shows v after slots new
   shown_put e right first last is names p n t = (
     λ held. elim ((names p n t).0 held) [
@@ -79,13 +79,13 @@ module _ (v : Version) (slots s : ℕ) (before after : Image) (old new : Dirs) (
     ],
   )
     where
-      here : after (121 + s) ≡ spelling e
-      here = ap (λ (m : Image). m (121 + s)) is ∙ put_same (121 + s) (121 + s) (spelling e) before refl
+      here : after (slot_sector s) ≡ spelling e
+      here = ap (λ (m : Image). m (slot_sector s)) is ∙ put_same (slot_sector s) (slot_sector s) (spelling e) before refl
 
-      elsewhere : (u : ℕ) → u ≢ s → after (121 + u) ≡ before (121 + u)
-      elsewhere u differ = ap (λ (m : Image). m (121 + u)) is ∙ put_other (121 + s) (121 + u) (spelling e) before (λ same. differ (omega arith))
+      elsewhere : (u : ℕ) → u ≢ s → after (slot_sector u) ≡ before (slot_sector u)
+      elsewhere u differ = ap (λ (m : Image). m (slot_sector u)) is ∙ put_other (slot_sector s) (slot_sector u) (spelling e) before (λ same. differ (omega arith))
 
-  pub shown_added : (e : Entry) → IsEntry v e → 1 ≤ s → s ≤ slots → IsFree old s → after ≡ put (121 + s) (spelling e) before
+  pub shown_added : (e : Entry) → IsEntry v e → 1 ≤ s → s ≤ slots → IsFree old s → after ≡ put (slot_sector s) (spelling e) before
       → ((p : ℕ) (n : List ℕ) (t : ℕ) → Names new p n t ↔ (Names old p n t ⊎ IsNameOf e s p n t)) → Shows v after slots new
   shown_added e right first last free is names = shown_put e right first last is (λ p n t. (
     λ held. elim ((names p n t).0 held) [
@@ -95,25 +95,25 @@ module _ (v : Version) (slots s : ℕ) (before after : Image) (old new : Dirs) (
     λ either. (names p n t).1 (elim either [ inl (h, differ) ↦ inl h | inr that ↦ inr that ]),
   ))
 
-  pub shown_removed : after ≡ put (121 + s) unused before → ((p : ℕ) (n : List ℕ) (t : ℕ) → Names new p n t ↔ Names old p n t × (t ≢ s)) → Shows v after slots new
+  pub shown_removed : after ≡ put (slot_sector s) unused before → ((p : ℕ) (n : List ℕ) (t : ℕ) → Names new p n t ↔ Names old p n t × (t ≢ s)) → Shows v after slots new
   shown_removed is names p n t = (
     λ held. let h = (names p n t).0 held in let slot = (shown p n t).0 h.0 in same_slot v before after slots slots p n t (elsewhere t h.1) slot.last slot,
     λ slot. elim (cases_eq t s) [
-      | inl same ↦ let spelled = slot.spelled in absurd (not_unused spelled.entry (sym spelled.spelled ∙ ap (λ (x : ℕ). after (121 + x)) same ∙ here))
+      | inl same ↦ let spelled = slot.spelled in absurd (not_unused spelled.entry (sym spelled.spelled ∙ ap (λ (x : ℕ). after (slot_sector x)) same ∙ here))
       | inr differ ↦ (names p n t).1 ((shown p n t).1 (same_slot v after before slots slots p n t (sym (elsewhere t differ)) slot.last slot), differ)
     ],
   )
     where
-      here : after (121 + s) ≡ unused
-      here = ap (λ (m : Image). m (121 + s)) is ∙ put_same (121 + s) (121 + s) unused before refl
+      here : after (slot_sector s) ≡ unused
+      here = ap (λ (m : Image). m (slot_sector s)) is ∙ put_same (slot_sector s) (slot_sector s) unused before refl
 
-      elsewhere : (u : ℕ) → u ≢ s → after (121 + u) ≡ before (121 + u)
-      elsewhere u differ = ap (λ (m : Image). m (121 + u)) is ∙ put_other (121 + s) (121 + u) unused before (λ same. differ (omega arith))
+      elsewhere : (u : ℕ) → u ≢ s → after (slot_sector u) ≡ before (slot_sector u)
+      elsewhere u differ = ap (λ (m : Image). m (slot_sector u)) is ∙ put_other (slot_sector s) (slot_sector u) unused before (λ same. differ (omega arith))
 
-pub free_slot : (v : Version) (image : Image) (slots s : ℕ) (dirs : Dirs) → Shows v image slots dirs → image (121 + s) ≡ unused → IsFree dirs s
+pub free_slot : (v : Version) (image : Image) (slots s : ℕ) (dirs : Dirs) → Shows v image slots dirs → image (slot_sector s) ≡ unused → IsFree dirs s
 free_slot v image slots s dirs shown is p n held = let slot = (shown p n s).0 held in let spelled = slot.spelled in not_unused spelled.entry (sym spelled.spelled ∙ is)
 
-pub same_shown : (v : Version) (one other : Image) (slots : ℕ) (dirs : Dirs) → Shows v one slots dirs → ((s : ℕ) → 1 ≤ s → s ≤ slots → other (121 + s) ≡ one (121 + s)) → Shows v other slots dirs
+pub same_shown : (v : Version) (one other : Image) (slots : ℕ) (dirs : Dirs) → Shows v one slots dirs → ((s : ℕ) → 1 ≤ s → s ≤ slots → other (slot_sector s) ≡ one (slot_sector s)) → Shows v other slots dirs
 same_shown v one other slots dirs shown same p n t = (
   λ held. let slot = (shown p n t).0 held in same_slot v one other slots slots p n t (same t slot.first slot.last) slot.last slot,
   λ slot. (shown p n t).1 (same_slot v other one slots slots p n t (sym (same t slot.first slot.last)) slot.last slot),
@@ -125,7 +125,7 @@ shown_first v image dirs free p n t = (λ held. absurd (free t p n held), λ slo
 
 -- one slot more was read
 pub shown_next : (v : Version) (image : Image) (k : ℕ) (old new : Dirs) → Shows v image k old
-    → ((p : ℕ) (n : List ℕ) (t : ℕ) → Names new p n t ↔ (Names old p n t ⊎ (t ≡ k + 1) × IsSpelled v (image (FIRST_AFTER_LOG + k)) p n)) → Shows v image (k + 1) new
+    → ((p : ℕ) (n : List ℕ) (t : ℕ) → Names new p n t ↔ (Names old p n t ⊎ (t ≡ k + 1) × IsSpelled v (image (slot_sector (k + 1))) p n)) → Shows v image (k + 1) new
 shown_next v image k old new shown names p n t = (
   λ held. elim ((names p n t).0 held) [
     | inl h ↦ let slot = (shown p n t).0 h in same_slot v image image k (k + 1) p n t refl (omega (arith, slot.last)) slot
@@ -138,8 +138,8 @@ shown_next v image k old new shown names p n t = (
 )
 
 -- the entry in a slot is another one with the same parent and name
-rewritten_slot : (v : Version) (one other : Image) (slots s : ℕ) (d e : Entry) → IsEntry v d → IsEntry v e → one (121 + s) ≡ spelling d → other (121 + s) ≡ spelling e
-    → d.parent ≡ e.parent → name_of d ≡ name_of e → ((t : ℕ) → 1 ≤ t → t ≤ slots → t ≢ s → other (121 + t) ≡ one (121 + t))
+rewritten_slot : (v : Version) (one other : Image) (slots s : ℕ) (d e : Entry) → IsEntry v d → IsEntry v e → one (slot_sector s) ≡ spelling d → other (slot_sector s) ≡ spelling e
+    → d.parent ≡ e.parent → name_of d ≡ name_of e → ((t : ℕ) → 1 ≤ t → t ≤ slots → t ≢ s → other (slot_sector t) ≡ one (slot_sector t))
     → (p : ℕ) (n : List ℕ) (t : ℕ) → IsInSlot v one slots p n t → IsInSlot v other slots p n t
 rewritten_slot v one other slots s d e right too is now parents names same p n t slot = elim (cases_eq t s) [
   | inl here ↦
@@ -149,15 +149,15 @@ rewritten_slot v one other slots s d e right too is now parents names same p n t
   | inr differ ↦ same_slot v one other slots slots p n t (same t slot.first slot.last differ) slot.last slot
 ]
 
-pub rewritten_shown : (v : Version) (one other : Image) (slots s : ℕ) (d e : Entry) (dirs : Dirs) → Shows v one slots dirs → IsEntry v d → IsEntry v e → one (121 + s) ≡ spelling d → other (121 + s) ≡ spelling e
-    → d.parent ≡ e.parent → name_of d ≡ name_of e → ((t : ℕ) → 1 ≤ t → t ≤ slots → t ≢ s → other (121 + t) ≡ one (121 + t)) → Shows v other slots dirs
+pub rewritten_shown : (v : Version) (one other : Image) (slots s : ℕ) (d e : Entry) (dirs : Dirs) → Shows v one slots dirs → IsEntry v d → IsEntry v e → one (slot_sector s) ≡ spelling d → other (slot_sector s) ≡ spelling e
+    → d.parent ≡ e.parent → name_of d ≡ name_of e → ((t : ℕ) → 1 ≤ t → t ≤ slots → t ≢ s → other (slot_sector t) ≡ one (slot_sector t)) → Shows v other slots dirs
 rewritten_shown v one other slots s d e dirs shown right too is now parents names same p n t = (
   λ held. rewritten_slot v one other slots s d e right too is now parents names same p n t ((shown p n t).0 held),
   λ slot. (shown p n t).1 (rewritten_slot v other one slots s e d too right now is (sym parents) (sym names) (λ u first last differ. sym (same u first last differ)) p n t slot),
 )
 
 -- only the first slot was taken up, and no other is used
-pub shown_alone : (v : Version) (image : Image) (slots : ℕ) (e : Entry) (dirs : Dirs) → IsEntry v e → 1 ≤ slots → image 122 ≡ spelling e → ((s : ℕ) → 2 ≤ s → s ≤ slots → image (121 + s) ≡ unused)
+pub shown_alone : (v : Version) (image : Image) (slots : ℕ) (e : Entry) (dirs : Dirs) → IsEntry v e → 1 ≤ slots → image (slot_sector 1) ≡ spelling e → ((s : ℕ) → 2 ≤ s → s ≤ slots → image (slot_sector s) ≡ unused)
     → ((p : ℕ) (n : List ℕ) (t : ℕ) → Names dirs p n t → IsNameOf e 1 p n t) → ((p : ℕ) (n : List ℕ) (t : ℕ) → IsNameOf e 1 p n t → Names dirs p n t) → Shows v image slots dirs
 shown_alone v image slots e dirs right some first others only held p n t = (
   λ names. own_slot v image slots 1 e p n t right (omega arith) some first (only p n t names),
@@ -170,15 +170,15 @@ shown_alone v image slots e dirs right some first others only held p n t = (
 )
 
 -- one slot more, which holds this entry
-pub shown_more : (v : Version) (image : Image) (k : ℕ) (e : Entry) (old new : Dirs) → Shows v image k old → IsEntry v e → image (FIRST_AFTER_LOG + k) ≡ spelling e
+pub shown_more : (v : Version) (image : Image) (k : ℕ) (e : Entry) (old new : Dirs) → Shows v image k old → IsEntry v e → image (slot_sector (k + 1)) ≡ spelling e
     → ((p : ℕ) (n : List ℕ) (t : ℕ) → Names new p n t ↔ (Names old p n t ⊎ IsNameOf e (k + 1) p n t)) → Shows v image (k + 1) new
 shown_more v image k e old new shown right is names = shown_next v image k old new shown (λ p n t. (
-  λ held. elim ((names p n t).0 held) [ inl h ↦ inl h | inr that ↦ inr (that.serial_is, spelled_by v (image (FIRST_AFTER_LOG + k)) e (k + 1) p n t right is that) ],
-  λ either. (names p n t).1 (elim either [ inl h ↦ inl h | inr (same, spelled) ↦ inr (spelled_is v (image (FIRST_AFTER_LOG + k)) e (k + 1) p n t right is same spelled) ]),
+  λ held. elim ((names p n t).0 held) [ inl h ↦ inl h | inr that ↦ inr (that.serial_is, spelled_by v (image (slot_sector (k + 1))) e (k + 1) p n t right is that) ],
+  λ either. (names p n t).1 (elim either [ inl h ↦ inl h | inr (same, spelled) ↦ inr (spelled_is v (image (slot_sector (k + 1))) e (k + 1) p n t right is same spelled) ]),
 ))
 
 -- one slot more, which isn't used
-pub shown_past : (v : Version) (image : Image) (k : ℕ) (dirs : Dirs) → Shows v image k dirs → image (FIRST_AFTER_LOG + k) ≡ unused → Shows v image (k + 1) dirs
+pub shown_past : (v : Version) (image : Image) (k : ℕ) (dirs : Dirs) → Shows v image k dirs → image (slot_sector (k + 1)) ≡ unused → Shows v image (k + 1) dirs
 shown_past v image k dirs shown is = shown_next v image k dirs dirs shown (λ p n t. (
   λ held. inl held,
   λ either. elim either [ inl h ↦ h | inr (same, spelled) ↦ absurd (not_unused spelled.entry (sym spelled.spelled ∙ is)) ],

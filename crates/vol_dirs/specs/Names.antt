@@ -1,10 +1,11 @@
 -- What a caller sees of the names of a volume (`docs/VOLUME.md`, "Entry").
-use Rattle.std.specs.Prelude.{◌≡◌, ◌↔◌, ◌+◌, ◌≤◌, ◌<◌, ℕ, List}
+use Rattle.std.specs.Prelude.{◌≡◌, ◌↔◌, ◌≤◌, ◌<◌, ℕ, List}
 use Rattle.vol_sector.specs.Disk.{Image}
 use Rattle.vol_inode.specs.declared.entry.Entry.{Entry}
 use Rattle.vol_inode.specs.declared.version.Version.{Version}
 use Rattle.vol_inode.specs.Entry.{IsEntry, name_of}
 use Rattle.vol_inode.specs.Spelling.{spelling}
+use Rattle.vol_dirs.specs.Slots.{slot_sector}
 use Rattle.vol_dirs.specs.Listing.{Holds}
 use Rattle.vol_dirs.specs.declared.dirs.Dirs.{Dirs}
 
@@ -56,7 +57,7 @@ pub record IsSpelled (version : Version) (bytes : List ℕ) (parent : ℕ) (name
 pub record IsInSlot (version : Version) (image : Image) (slots parent : ℕ) (name : List ℕ) (serial : ℕ) : Type 0 where
   pub first : 1 ≤ serial
   pub last : serial ≤ slots
-  pub spelled : IsSpelled version (image (121 + serial)) parent name
+  pub spelled : IsSpelled version (image (slot_sector serial)) parent name
 
 -- exactly the entries in the slots are held
 abbrev pub Shows : Version → Image → ℕ → Dirs → Type 0

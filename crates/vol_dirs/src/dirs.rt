@@ -9,9 +9,11 @@ ghost use Rattle.vol_inode.specs.Name.{IsName};
 ghost use Rattle.vol_inode.specs.Entry.{IsEntry, HasName, name_of};
 ghost use Rattle.vol_inode.specs.Spelling.{spelling, unused};
 ghost use Rattle.vol_inode.specs.declared.version.Version.{Version};
+ghost use Rattle.vol_dirs.specs.Slots.{slot_sector};
 ghost use Rattle.vol_dirs.specs.internal.Listing.{IsListing, AreMarked};
 
 use crate::keys::key_of;
+use crate::slots::slot_sector;
 use crate::sorted::{insert, least_over, remove};
 use std::alloc::{AllocError, Global};
 use vol_inode::{Entry, Version, read_entry, write_entry};
@@ -23,8 +25,8 @@ const MOST_SLOTS: u32 = u32::MAX - FIRST_AFTER_LOG;
 
 /// The names of a volume's entries.
 ///
-/// The slot of the entry with serial s, which counts from 1, is sector 121 + s: it holds the entry,
-/// or zeros where it isn't used. What the slots hold is kept in memory too, in two sorted vectors
+/// The slot of an entry is the sector that `slot_sector` gives for its serial: it holds the entry, or
+/// zeros where it isn't used. What the slots hold is kept in memory too, in two sorted vectors
 /// with room for all slots: the keys of the names with their serials, and the parents with their
 /// serials. A flag for each slot says whether it is used.
 #[derive(Drop)]
@@ -70,7 +72,7 @@ impl Dirs {
         }
         let mut dirs = Dirs::reserve(alloc, slots)?;
         for slot in 0..slots {
-            let image = log.read(FIRST_AFTER_LOG + slot)?;
+            let image = log.read(slot_sector(slot + 1))?;
             dirs.hold_image(version, slot + 1, &image);
         }
         Ok(dirs)
@@ -151,11 +153,11 @@ impl Dirs {
         ensures names { (p : ℕ) (n : List ℕ) (s : ℕ) → Names self.new p n s
             ↔ (Names self.old p n s ⊎ IsNameOf entry.now serial p n s) }
         ensures slots { slots_of self.new ≡ slots_of self.old }
-        ensures view { view log.new ≡ put (121 + serial) (spelling entry.now) (view log.old) }
-        ensures room { room_of log.new ≡ (if is_staged log.old (121 + serial)
+        ensures view { view log.new ≡ put (slot_sector serial) (spelling entry.now) (view log.old) }
+        ensures room { room_of log.new ≡ (if is_staged log.old (slot_sector serial)
             then room_of log.old else room_of log.old - 1) }
         ensures staged { (k : ℕ) → is_staged log.new k
-            ≡ (if k == 121 + serial then true else is_staged log.old k) }
+            ≡ (if k == slot_sector serial then true else is_staged log.old k) }
         ensures device { device_of log.new ≡ device_of log.old }
         ensures failed { has_failed log.new ≡ false }
         ensures sectors { log_sectors log.new ≡ log_sectors log.old }
@@ -163,7 +165,7 @@ impl Dirs {
             → Shows version (view log.old) (slots_of self.old) self.old
             → Shows version (view log.new) (slots_of self.new) self.new }
     {
-        log.stage(121 + serial, &write_entry(entry));
+        log.stage(slot_sector(serial), &write_entry(entry));
         self.hold(serial, entry);
     }
 
@@ -176,11 +178,11 @@ impl Dirs {
         ensures names { (p : ℕ) (n : List ℕ) (s : ℕ) → Names self.new p n s
             ↔ (Names self.old p n s × (s ≢ serial)) }
         ensures slots { slots_of self.new ≡ slots_of self.old }
-        ensures view { view log.new ≡ put (121 + serial) unused (view log.old) }
-        ensures room { room_of log.new ≡ (if is_staged log.old (121 + serial)
+        ensures view { view log.new ≡ put (slot_sector serial) unused (view log.old) }
+        ensures room { room_of log.new ≡ (if is_staged log.old (slot_sector serial)
             then room_of log.old else room_of log.old - 1) }
         ensures staged { (k : ℕ) → is_staged log.new k
-            ≡ (if k == 121 + serial then true else is_staged log.old k) }
+            ≡ (if k == slot_sector serial then true else is_staged log.old k) }
         ensures device { device_of log.new ≡ device_of log.old }
         ensures failed { has_failed log.new ≡ false }
         ensures sectors { log_sectors log.new ≡ log_sectors log.old }
@@ -188,7 +190,7 @@ impl Dirs {
             → Shows version (view log.old) (slots_of self.old) self.old
             → Shows version (view log.new) (slots_of self.new) self.new }
     {
-        log.stage(121 + serial, &[0; 512]);
+        log.stage(slot_sector(serial), &[0; 512]);
         self.forget(serial, entry);
     }
 
@@ -202,11 +204,11 @@ impl Dirs {
         ensures names { (p : ℕ) (n : List ℕ) (s : ℕ) → Names self.new p n s
             ↔ ((Names self.old p n s × (s ≢ serial)) ⊎ IsNameOf to.now serial p n s) }
         ensures slots { slots_of self.new ≡ slots_of self.old }
-        ensures view { view log.new ≡ put (121 + serial) (spelling to.now) (view log.old) }
-        ensures room { room_of log.new ≡ (if is_staged log.old (121 + serial)
+        ensures view { view log.new ≡ put (slot_sector serial) (spelling to.now) (view log.old) }
+        ensures room { room_of log.new ≡ (if is_staged log.old (slot_sector serial)
             then room_of log.old else room_of log.old - 1) }
         ensures staged { (k : ℕ) → is_staged log.new k
-            ≡ (if k == 121 + serial then true else is_staged log.old k) }
+            ≡ (if k == slot_sector serial then true else is_staged log.old k) }
         ensures device { device_of log.new ≡ device_of log.old }
         ensures failed { has_failed log.new ≡ false }
         ensures sectors { log_sectors log.new ≡ log_sectors log.old }
@@ -214,7 +216,7 @@ impl Dirs {
             → Shows version (view log.old) (slots_of self.old) self.old
             → Shows version (view log.new) (slots_of self.new) self.new }
     {
-        log.stage(121 + serial, &write_entry(to));
+        log.stage(slot_sector(serial), &write_entry(to));
         self.forget(serial, from);
         self.hold(serial, to);
     }

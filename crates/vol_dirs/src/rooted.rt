@@ -1,10 +1,11 @@
 //! The names of a new volume.
 
-ghost use Rattle.std.specs.Prelude.{◌≡◌, ◌≤◌, ◌+◌, ℕ, IfOk};
+ghost use Rattle.std.specs.Prelude.{◌≡◌, ◌≤◌, ℕ, IfOk};
 ghost use Rattle.vol_sector.specs.Disk.{Image};
 ghost use Rattle.vol_inode.specs.declared.version.Version.{Version};
 ghost use Rattle.vol_inode.specs.Entry.{IsEntry, HasName};
 ghost use Rattle.vol_inode.specs.Spelling.{spelling, unused};
+ghost use Rattle.vol_dirs.specs.Slots.{slot_sector};
 ghost use Rattle.vol_dirs.specs.Names.{slots_of, Shows};
 
 use crate::Dirs;
@@ -21,8 +22,8 @@ impl Dirs {
         requires some { 1 ≤ slots }
         requires named { HasName root.now }
         ensures shows { (version : Version) (image : Image) → IsEntry version root.now
-            → image 122 ≡ spelling root.now
-            → ((s : ℕ) → 2 ≤ s → s ≤ slots → image (121 + s) ≡ unused)
+            → image (slot_sector 1) ≡ spelling root.now
+            → ((s : ℕ) → 2 ≤ s → s ≤ slots → image (slot_sector s) ≡ unused)
             → IfOk result (λ dirs. Shows version image slots dirs) }
         ensures slots { IfOk result (λ dirs. slots_of dirs ≡ slots) }
     {

@@ -9,7 +9,7 @@ use Rattle.vol_sector.specs.declared.fault.VolumeFault.TheVariants as faults
 use Rattle.vol_dirs.proofs.Faults.{handed_on, failed_on}
 use Rattle.vol_dirs.proofs.Shown.{shown_first, shown_next}
 use Rattle.vol_dirs.proofs.dirs.Dirs.open.Goals as goal
-use Rattle.vol_log.specs.declared.layout.TheConstants.{FIRST_AFTER_LOG}
+use Rattle.vol_dirs.specs.Slots.{slot_sector}
 
 pub loop-slot-init : goal.loop-slot-init
 loop-slot-init g c =
@@ -23,7 +23,7 @@ loop-slot-init g c =
     }
 
 pub read-requires : goal.read-requires
-read-requires g c = omega (arith, c.requires, c.loop-slot.invariant.reads.sectors, c.loop-slot-test.true)
+read-requires g c = omega (arith, c.requires, c.loop-slot.invariant.reads.sectors, c.loop-slot-test.true, c.slot_sector.ensures)
 
 pub hold_image-requires : goal.hold_image-requires
 hold_image-requires g c =
@@ -58,7 +58,7 @@ loop-slot-preserved g c =
       ];
       shown = λ honest.
           let content = view c.args.log.now in
-          let bytes : c.in_ok-image.image ≡ content (FIRST_AFTER_LOG + c.loop-slot.slot) = read.value (so_far.reads.honest.0 honest) ∙ ap (λ (m : Image). m (FIRST_AFTER_LOG + c.loop-slot.slot)) (so_far.reads.view honest) in
+          let bytes : c.in_ok-image.image ≡ content (slot_sector (c.loop-slot.slot + 1)) = read.value (so_far.reads.honest.0 honest) ∙ ap (λ (m : Image). m c.slot_sector.result) (so_far.reads.view honest) ∙ ap content c.slot_sector.ensures in
           let names = subst (λ (b : List ℕ). (p : ℕ) (n : List ℕ) (t : ℕ) → Names c.hold_image.new.self p n t ↔ (Names c.loop-slot.dirs p n t ⊎ (t ≡ c.loop-slot.slot + 1) × IsSpelled c.args.version b p n)) bytes c.hold_image.ensures.names in
           shown_next c.args.version content c.loop-slot.slot c.loop-slot.dirs c.hold_image.new.self (so_far.shown honest) names;
     }

@@ -1,27 +1,28 @@
-use Rattle.std.proofs.Common.{◌≡◌, ◌≢◌, ◌∙◌, ◌+◌, ℕ, List, ◌⊎◌, ◌↔◌, inl, inr, refl, sym, ap, subst, arith}
+use Rattle.std.proofs.Common.{◌≡◌, ◌≢◌, ◌∙◌, ◌-◌, ◌==◌, ℕ, true, if◌then◌else◌, List, ◌⊎◌, ◌↔◌, inl, inr, refl, sym, ap, subst, arith}
 use Rattle.vol_sector.specs.Disk.{put}
-use Rattle.vol_log.specs.Log.{view}
+use Rattle.vol_log.specs.Log.{view, room_of, is_staged}
 use Rattle.vol_inode.specs.Entry.{name_of}
 use Rattle.vol_dirs.specs.Key.{key_of}
 use Rattle.vol_inode.specs.Spelling.{spelling}
+use Rattle.vol_dirs.specs.Slots.{slot_sector}
 use Rattle.vol_dirs.specs.Names.{slots_of, Names, IsNameOf, Shows}
 use Rattle.vol_dirs.proofs.Shown.{shown_put}
 use Rattle.vol_dirs.proofs.dirs.Dirs.relocate.Goals as goal
 
-pub overflow_add-serial : goal.overflow_add-serial
-overflow_add-serial g c =
+pub slot_sector-requires : goal.slot_sector-requires
+slot_sector-requires g c =
     let bounds = c.args.self.now.listing.numbered (key_of c.args.from.now.parent (name_of c.args.from.now)) c.args.serial c.requires.held.held in
     omega (arith, bounds.0, bounds.1)
 
 pub stage-requires-clause-place : goal.stage-requires-clause-place
 stage-requires-clause-place g c =
     let bounds = c.args.self.now.listing.numbered (key_of c.args.from.now.parent (name_of c.args.from.now)) c.args.serial c.requires.held.held in
-    omega (arith, bounds.0, bounds.1)
+    omega (arith, bounds.0, bounds.1, c.slot_sector.ensures)
 
 pub stage-requires-clause-there : goal.stage-requires-clause-there
 stage-requires-clause-there g c =
     let bounds = c.args.self.now.listing.numbered (key_of c.args.from.now.parent (name_of c.args.from.now)) c.args.serial c.requires.held.held in
-    omega (arith, bounds.0, bounds.1)
+    omega (arith, bounds.0, bounds.1, c.slot_sector.ensures)
 
 pub hold-requires-clause-first : goal.hold-requires-clause-first
 hold-requires-clause-first g c =
@@ -48,21 +49,23 @@ returns g c =
     record {
       names = λ p n s.
           let first = c.forget.ensures.names p n s in
-          let then = c.hold.ensures.names p n s in (
-            λ h. elim (then.0 h) [ inl kept ↦ inl (first.0 kept) | inr that ↦ inr that ],
-            λ either. then.1 (elim either [ inl kept ↦ inl (first.1 kept) | inr that ↦ inr that ]),
+          let next = c.hold.ensures.names p n s in (
+            λ h. elim (next.0 h) [ inl kept ↦ inl (first.0 kept) | inr that ↦ inr that ],
+            λ either. next.1 (elim either [ inl kept ↦ inl (first.1 kept) | inr that ↦ inr that ]),
           );
       slots = c.hold.ensures.slots ∙ c.forget.ensures.slots;
-      view = c.stage.ensures.view ∙ ap (λ (b : List ℕ). put (121 + c.args.serial) b (view c.args.log.now)) c.write_entry.ensures.bytes;
-      room = staged.room;
-      staged = staged.staged;
+      view = c.stage.ensures.view ∙ ap (λ (k : ℕ). put k c.write_entry.result (view c.args.log.now)) c.slot_sector.ensures
+          ∙ ap (λ (b : List ℕ). put (slot_sector c.args.serial) b (view c.args.log.now)) c.write_entry.ensures.bytes;
+      room = subst (λ (k : ℕ). room_of c.stage.new.self ≡ (if is_staged c.args.log.now k then room_of c.args.log.now else room_of c.args.log.now - 1)) c.slot_sector.ensures staged.room;
+      staged = λ k. staged.staged k ∙ ap (λ (n : ℕ). if k == n then true else is_staged c.args.log.now k) c.slot_sector.ensures;
       device = staged.device;
       failed = staged.failed;
       sectors = staged.sectors;
       shows = λ v right shown.
           let old = c.args.self.now in
           let bounds = old.listing.numbered (key_of c.args.from.now.parent (name_of c.args.from.now)) c.args.serial c.requires.held.held in
-          let is : view c.stage.new.self ≡ put (121 + c.args.serial) (spelling c.args.to.now) (view c.args.log.now) = c.stage.ensures.view ∙ ap (λ (b : List ℕ). put (121 + c.args.serial) b (view c.args.log.now)) c.write_entry.ensures.bytes in
+          let is : view c.stage.new.self ≡ put (slot_sector c.args.serial) (spelling c.args.to.now) (view c.args.log.now) = c.stage.ensures.view ∙ ap (λ (k : ℕ). put k c.write_entry.result (view c.args.log.now)) c.slot_sector.ensures
+          ∙ ap (λ (b : List ℕ). put (slot_sector c.args.serial) b (view c.args.log.now)) c.write_entry.ensures.bytes in
           let same : slots_of c.hold.new.self ≡ slots_of old = c.hold.ensures.slots ∙ c.forget.ensures.slots in
           let names : (p : ℕ) (n : List ℕ) (s : ℕ) → Names c.hold.new.self p n s ↔ (Names old p n s × (s ≢ c.args.serial) ⊎ IsNameOf c.args.to.now c.args.serial p n s) = λ p n s. (
             λ h. elim ((c.hold.ensures.names p n s).0 h) [ inl kept ↦ inl ((c.forget.ensures.names p n s).0 kept) | inr that ↦ inr that ],
