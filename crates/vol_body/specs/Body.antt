@@ -5,30 +5,30 @@ use Rattle.byteorder.specs.Endian.{little_number}
 use Rattle.vol_sector.specs.Disk.{Image}
 use Rattle.vol_inode.specs.declared.entry.Entry.{Entry}
 use Rattle.vol_inode.specs.Space.{blocks_for_size, inner_blocks_for}
+use Rattle.vol_inode.specs.declared.pointers.TheConstants.{DIRECT, INDIRECT, DOUBLE_INDIRECT, LISTED, MOST_BLOCKS, NUMBERS}
 use Rattle.vol_inode.specs.declared.version.TheConstants.{LARGEST_SIZE}
 
--- Where a file names a sector: for the j-th data block, 512 of its bytes; for the indirect block, which names data blocks
--- 58 to 185; for the double-indirect block, and for the i-th of the blocks that it names, which names the 128 data blocks
--- from 186 + 128 * i on.
+-- Where a file names a sector: for the j-th data block, 512 of its bytes; for the indirect block, which names the data blocks
+-- after the direct ones; for the double-indirect block, and for the i-th of the inner blocks that it names, which name all others.
 pub data BlockPosition : Type 0 where
   data_block : ℕ → BlockPosition
   indirect_block : BlockPosition
   double_indirect_block : BlockPosition
   inner_block : ℕ → BlockPosition
 
--- a file has 16,570 data blocks and 128 inner blocks at most
+-- a file has so many data blocks and inner blocks at most
 abbrev pub IsPosition : BlockPosition → Type 0
-IsPosition (data_block j) = j < 16570
+IsPosition (data_block j) = j < MOST_BLOCKS
 IsPosition indirect_block = Unit {0}
 IsPosition double_indirect_block = Unit {0}
-IsPosition (inner_block i) = i < 128
+IsPosition (inner_block i) = i < NUMBERS
 
 -- the first data block of the file that the position serves
 abbrev pub first_served : BlockPosition → ℕ
 first_served (data_block j) = j
-first_served indirect_block = 58
-first_served double_indirect_block = 186
-first_served (inner_block i) = 186 + 128 * i
+first_served indirect_block = DIRECT
+first_served double_indirect_block = LISTED
+first_served (inner_block i) = LISTED + NUMBERS * i
 
 -- the i-th number in a sector; sector 0 stands for none
 abbrev pub number_in : Image → ℕ → ℕ → ℕ
@@ -36,11 +36,11 @@ number_in content n i = if n == 0 then 0 else little_number 4 (drop (4 * i) (con
 
 -- the sector that the file names at this position, or 0
 abbrev pub named : Image → Entry → BlockPosition → ℕ
-named content e indirect_block = slice_index e.pointers 58
-named content e double_indirect_block = slice_index e.pointers 59
-named content e (inner_block i) = number_in content (slice_index e.pointers 59) i
-named content e (data_block j) = if nat_lt j 58 then slice_index e.pointers j else (if nat_lt j 186 then number_in content (slice_index e.pointers 58) (j - 58)
-    else number_in content (number_in content (slice_index e.pointers 59) ((j - 186) / 128)) ((j - 186) % 128))
+named content e indirect_block = slice_index e.pointers INDIRECT
+named content e double_indirect_block = slice_index e.pointers DOUBLE_INDIRECT
+named content e (inner_block i) = number_in content (slice_index e.pointers DOUBLE_INDIRECT) i
+named content e (data_block j) = if nat_lt j DIRECT then slice_index e.pointers j else (if nat_lt j LISTED then number_in content (slice_index e.pointers INDIRECT) (j - DIRECT)
+    else number_in content (number_in content (slice_index e.pointers DOUBLE_INDIRECT) ((j - LISTED) / NUMBERS)) ((j - LISTED) % NUMBERS))
 
 -- the bytes of a sector; a data block that names none was never written, and reads as zeros
 abbrev pub block_bytes : Image → ℕ → List ℕ
@@ -82,5 +82,5 @@ pub record IsBody (content : Image) (e : Entry) : Type 0 where
 abbrev pub positions_of : ℕ → List BlockPosition
 positions_of size = let count = blocks_for_size size in
     map data_block (range_with_len 0 count)
-    ++ (if nat_lt 58 count then indirect_block ∷ [] else [])
-    ++ (if nat_lt 186 count then double_indirect_block ∷ map inner_block (range_with_len 0 (inner_blocks_for (count - 186))) else [])
+    ++ (if nat_lt DIRECT count then indirect_block ∷ [] else [])
+    ++ (if nat_lt LISTED count then double_indirect_block ∷ map inner_block (range_with_len 0 (inner_blocks_for (count - LISTED))) else [])

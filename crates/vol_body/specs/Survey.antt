@@ -6,6 +6,7 @@ use Rattle.vol_sector.specs.Disk.{Image}
 use Rattle.vol_inode.specs.declared.entry.Entry.{Entry}
 use Rattle.vol_inode.specs.Space.{blocks_for_size}
 use Rattle.vol_body.specs.Body.{BlockPosition, data_block, indirect_block, double_indirect_block, inner_block, IsPosition, first_served, named, byte_at}
+use Rattle.vol_inode.specs.declared.pointers.TheConstants.{DIRECT, LISTED, NUMBERS}
 use Rattle.vol_inode.specs.declared.version.TheConstants.{LARGEST_SIZE}
 
 -- this many data blocks, from one on
@@ -14,15 +15,15 @@ data_blocks_from first count = map data_block (range_with_len first count)
 
 -- an inner block, and the data blocks that it lists
 abbrev pub inner_positions : ℕ → List BlockPosition
-inner_positions i = inner_block i ∷ data_blocks_from (186 + 128 * i) 128
+inner_positions i = inner_block i ∷ data_blocks_from (LISTED + NUMBERS * i) NUMBERS
 
 -- all inner blocks, each before the data blocks that it lists
 unfoldable pub all_inner_positions : List BlockPosition
-all_inner_positions = flat_map inner_positions (range_with_len 0 128)
+all_inner_positions = flat_map inner_positions (range_with_len 0 NUMBERS)
 
 -- each position of a file, once
 abbrev pub every_position : List BlockPosition
-every_position = (data_blocks_from 0 58 ++ (indirect_block ∷ data_blocks_from 58 128)) ++ (double_indirect_block ∷ all_inner_positions)
+every_position = (data_blocks_from 0 DIRECT ++ (indirect_block ∷ data_blocks_from DIRECT NUMBERS)) ++ (double_indirect_block ∷ all_inner_positions)
 
 -- the numbers of sectors; 0 stands for none
 abbrev pub nonzero : List ℕ → List ℕ

@@ -12,10 +12,10 @@ ghost use Rattle.vol_body.specs.internal.Holding.{IsHeld};
 ghost use Rattle.vol_body.specs.declared.locate.TheConstants.{LAST};
 
 use crate::holding::{Held, read_unless_held};
-use crate::locate::{number_at, taken_or_zero};
+use crate::locate::{Numbers, number_at, taken_or_zero};
 use crate::pointer_sectors::PointerSector;
 use vol_alloc::Alloc;
-use vol_inode::Entry;
+use vol_inode::{DIRECT, Entry, INDIRECT, LISTED, NUMBERS};
 use vol_log::Log;
 use vol_sector::{Device, DeviceFault};
 
@@ -33,11 +33,11 @@ fn free_taken(sectors: &mut Alloc, n: u32)
 /// Frees the sectors that the entry itself names for data blocks from one on.
 fn free_direct(sectors: &mut Alloc, entry: &Entry, from: u32)
     ensures frees { Frees (taken_of sectors.old) (taken_of sectors.new)
-        (IsAmong (slice_index entry.now.pointers) from 58) }
+        (IsAmong (slice_index entry.now.pointers) from DIRECT) }
     ensures range { (first_of sectors.new ≡ first_of sectors.old)
         × (end_of sectors.new ≡ end_of sectors.old) }
 {
-    for j in from.min(58)..58 {
+    for j in from.min(DIRECT)..DIRECT {
         free_taken(sectors, entry.pointers[j as usize]);
     }
 }
@@ -45,11 +45,11 @@ fn free_direct(sectors: &mut Alloc, entry: &Entry, from: u32)
 /// Frees the sectors whose numbers a pointer sector has from one on.
 fn free_listed(sectors: &mut Alloc, image: &[u8; 512], from: u32)
     ensures frees { Frees (taken_of sectors.old) (taken_of sectors.new)
-        (IsAmong (λ i. little_number 4 (drop (4 * i) image.now)) from 128) }
+        (IsAmong (λ i. little_number 4 (drop (4 * i) image.now)) from NUMBERS) }
     ensures range { (first_of sectors.new ≡ first_of sectors.old)
         × (end_of sectors.new ≡ end_of sectors.old) }
 {
-    for i in from.min(128)..128 {
+    for i in from.min(NUMBERS)..NUMBERS {
         free_taken(sectors, number_at(image, i));
     }
 }
@@ -78,7 +78,7 @@ fn free_indirect_block<D: Device>(
     if indirect_block == 0 {
         return Ok(());
     }
-    if from >= 128 {
+    if from >= NUMBERS {
         return Ok(());
     }
     let image = read_unless_held(log, held, indirect_block)?;
@@ -90,12 +90,12 @@ fn free_indirect_block<D: Device>(
 }
 
 /// The numbers of a pointer sector, those of taken sectors; the others are 0.
-fn known_numbers(sectors: &Alloc, image: &[u8; 512]) -> [u32; 128]
-    ensures { (i : ℕ) → i < 128 → let m = little_number 4 (drop (4 * i) image.now) in
+fn known_numbers(sectors: &Alloc, image: &[u8; 512]) -> Numbers
+    ensures { (i : ℕ) → i < NUMBERS → let m = little_number 4 (drop (4 * i) image.now) in
         slice_index result i ≡ (if taken_of sectors.now m then m else 0) }
 {
-    let mut numbers = [0; 128];
-    for i in 0..128u32 {
+    let mut numbers = [0; NUMBERS as usize];
+    for i in 0..NUMBERS {
         numbers[i as usize] = taken_or_zero(sectors, number_at(image, i));
     }
     numbers
@@ -107,30 +107,31 @@ fn free_inner_blocks<D: Device>(
     log: &mut Log<D>,
     sectors: &mut Alloc,
     held: &PointerSector,
-    inner_blocks: &[u32; 128],
+    inner_blocks: &Numbers,
     count: u32,
 ) -> Result<(), DeviceFault>
-    requires there { (i : ℕ) → i < 128 → slice_index inner_blocks.now i ≢ 0
+    requires there { (i : ℕ) → i < NUMBERS → slice_index inner_blocks.now i ≢ 0
         → slice_index inner_blocks.now i < log_sectors log.old }
     requires working { has_failed log.old ≡ false }
     requires data { 0 < first_of sectors.old }
     ensures frees { D.honest (device_of log.old)
         → held.now.image ≡ block_bytes (view log.old) held.now.number
         → OnOk result (Frees (taken_of sectors.old) (taken_of sectors.new)
-        (IsFreedWithLater (view log.old) (slice_index inner_blocks.now) count 128)) }
+        (IsFreedWithLater (view log.old) (slice_index inner_blocks.now) count NUMBERS)) }
     ensures range { (first_of sectors.new ≡ first_of sectors.old)
         × (end_of sectors.new ≡ end_of sectors.old) }
     ensures reads { OnlyReads log.old log.new }
     ensures failed { has_failed log.new ≡ is_err result }
 {
-    for i in 0..128u32 {
-        let from = count.saturating_sub(186 + 128 * i);
+    for i in 0..NUMBERS {
+        let from = count.saturating_sub(LISTED + NUMBERS * i);
         free_indirect_block(log, sectors, held, inner_blocks[i as usize], from)?;
     }
     Ok(())
 }
 
-/// Frees what the file names for data blocks from 186 on that it doesn't keep.
+/// Frees what the file names for the data blocks that the inner blocks list and that it doesn't
+/// keep.
 fn free_double_indirect_block<D: Device>(
     log: &mut Log<D>,
     sectors: &mut Alloc,
@@ -143,11 +144,11 @@ fn free_double_indirect_block<D: Device>(
     ensures frees { D.honest (device_of log.old)
         → held.now.top.image ≡ block_bytes (view log.old) held.now.top.number
         → held.now.above.image ≡ block_bytes (view log.old) held.now.above.number
-        → ((i : ℕ) → i < 128 → number_in (view log.old) held.now.top.number i ≢ 0
+        → ((i : ℕ) → i < NUMBERS → number_in (view log.old) held.now.top.number i ≢ 0
         → taken_of sectors.old (number_in (view log.old) held.now.top.number i) ≡ true)
         → OnOk result (Frees (taken_of sectors.old) (taken_of sectors.new)
-        (λ n. IsFreedWithLater (view log.old) (number_in (view log.old) held.now.top.number) count 128 n
-        ⊎ ((count ≤ 186) × (held.now.top.number ≡ n)))) }
+        (λ n. IsFreedWithLater (view log.old) (number_in (view log.old) held.now.top.number) count NUMBERS n
+        ⊎ ((count ≤ LISTED) × (held.now.top.number ≡ n)))) }
     ensures range { (first_of sectors.new ≡ first_of sectors.old)
         × (end_of sectors.new ≡ end_of sectors.old) }
     ensures reads { OnlyReads log.old log.new }
@@ -158,7 +159,7 @@ fn free_double_indirect_block<D: Device>(
     }
     let numbers = known_numbers(sectors, &held.top.image);
     free_inner_blocks(log, sectors, &held.above, &numbers, count)?;
-    if count <= 186 {
+    if count <= LISTED {
         free_taken(sectors, held.top.number);
     }
     Ok(())
@@ -175,7 +176,7 @@ pub fn free_unkept<D: Device>(
     requires there { end_of sectors.old ≤ log_sectors log.old }
     requires working { has_failed log.old ≡ false }
     requires data { 0 < first_of sectors.old }
-    requires group { held.now.group < 129 }
+    requires group { held.now.group < NUMBERS + 1 }
     ensures frees { D.honest (device_of log.old)
         → NamesTaken (taken_of sectors.old) (view log.old) entry.now
         → IsHeld (view log.old) entry.now held.now LAST
@@ -186,9 +187,9 @@ pub fn free_unkept<D: Device>(
     ensures reads { OnlyReads log.old log.new }
     ensures failed { has_failed log.new ≡ is_err result }
 {
-    let indirect_block = taken_or_zero(sectors, entry.pointers[58]);
+    let indirect_block = taken_or_zero(sectors, entry.pointers[INDIRECT as usize]);
     free_double_indirect_block(log, sectors, held, count)?;
-    let from = count.saturating_sub(58);
+    let from = count.saturating_sub(DIRECT);
     free_indirect_block(log, sectors, &held.above, indirect_block, from)?;
     free_direct(sectors, entry, count);
     Ok(())

@@ -6,22 +6,23 @@ ghost use Rattle.vol_alloc.specs.Alloc.{end_of, taken_of};
 ghost use Rattle.vol_body.specs.Body.{NamesTaken, data_block, named, block_bytes};
 ghost use Rattle.vol_log.specs.Reading.{OnlyReads};
 ghost use Rattle.vol_sector.specs.Disk.{Image};
+ghost use Rattle.vol_inode.specs.declared.pointers.TheConstants.{MOST_BLOCKS};
 ghost use Rattle.vol_body.specs.internal.Writing.{segment_of};
 ghost use Rattle.vol_body.specs.internal.Holding.{IsHeld, KnowsHeld};
 
-use crate::locate::{DIRECT, NUMBERS, read_taken, taken_or_zero};
+use crate::locate::{read_taken, taken_or_zero};
 use crate::pointer_sectors::{PointerSector, listed_sector, load_segment, load_top};
 use vol_alloc::Alloc;
-use vol_inode::Entry;
+use vol_inode::{DIRECT, Entry, NUMBERS};
 use vol_log::Log;
 use vol_sector::{Device, DeviceFault};
 
 /// The pointer sectors that are held.
 #[derive(Drop)]
 pub struct Held {
-    /// The one that pointer 59 names.
+    /// The double-indirect block.
     pub top: PointerSector,
-    /// Which 128 data blocks `above` lists: those from 58 + 128 * `group` on.
+    /// Which data blocks `above` lists: those from `DIRECT + NUMBERS * group` on.
     pub group: u32,
     /// The one that lists these.
     pub above: PointerSector,
@@ -36,7 +37,7 @@ pub fn hold<D: Device>(
     first: u32,
     last: u32,
 ) -> Result<Held, DeviceFault>
-    requires small { last < 16570 }
+    requires small { last < MOST_BLOCKS }
     requires there { end_of sectors.now ≤ log_sectors log.old }
     requires working { has_failed log.old ≡ false }
     ensures held { D.honest (device_of log.old)
@@ -56,7 +57,7 @@ pub fn hold<D: Device>(
 /// The sector of a data block, or 0 where it was never written, where the pointer sector that lists it
 /// is held.
 pub fn held_sector(sectors: &Alloc, entry: &Entry, held: &Held, j: u32) -> u32
-    requires place { j < 16570 }
+    requires place { j < MOST_BLOCKS }
     requires group { held.now.group ≡ segment_of j }
     ensures number { (content : Image) (last : ℕ) → j ≤ last
         → NamesTaken (taken_of sectors.now) content entry.now
@@ -101,7 +102,7 @@ pub fn read_held<D: Device>(
     last: u32,
 ) -> Result<[u8; 512], DeviceFault>
     requires place { j ≤ last }
-    requires small { last < 16570 }
+    requires small { last < MOST_BLOCKS }
     requires there { end_of sectors.now ≤ log_sectors log.old }
     requires working { has_failed log.old ≡ false }
     ensures bytes { D.honest (device_of log.old)
@@ -131,7 +132,7 @@ fn hold_group<D: Device>(
     group: u32,
     last: u32,
 ) -> Result<(), DeviceFault>
-    requires small { last < 16570 }
+    requires small { last < MOST_BLOCKS }
     requires there { end_of sectors.now ≤ log_sectors log.old }
     requires working { has_failed log.old ≡ false }
     ensures held { D.honest (device_of log.old)

@@ -10,20 +10,15 @@ ghost use Rattle.vol_log.specs.Reading.{OnlyReads};
 
 use byteorder::{ByteOrder, LittleEndian};
 use vol_alloc::Alloc;
+use vol_inode::{MOST_BLOCKS, NUMBERS};
 use vol_log::Log;
 use vol_sector::{Device, DeviceFault};
 
-/// How many data blocks of a file the entry itself names.
-pub const DIRECT: u32 = 58;
-
-/// How many data blocks are named by the entry and by the indirect block.
-pub const LISTED: u32 = 186;
-
 /// The last data block that a file may have.
-pub const LAST: u32 = 16569;
+pub const LAST: u32 = MOST_BLOCKS - 1;
 
-/// How many numbers a pointer sector has.
-pub const NUMBERS: u32 = 128;
+/// The numbers of a pointer sector.
+pub type Numbers = [u32; NUMBERS as usize];
 
 /// The number, if it is that of a taken sector, else 0. A device that isn't honest may give any.
 pub fn taken_or_zero(sectors: &Alloc, n: u32) -> u32
@@ -34,7 +29,7 @@ pub fn taken_or_zero(sectors: &Alloc, n: u32) -> u32
 
 /// The `i`-th number of a pointer sector.
 pub fn number_at(image: &[u8; 512], i: u32) -> u32
-    requires { i < 128 }
+    requires { i < NUMBERS }
     ensures { result ≡ little_number 4 (drop (4 * i) image.now) }
 {
     LittleEndian::read_u32(&image[4 * i as usize..])

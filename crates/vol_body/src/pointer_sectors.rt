@@ -8,11 +8,12 @@ ghost use Rattle.vol_inode.specs.declared.entry.Entry.{Entry};
 ghost use Rattle.vol_body.specs.Body.{BlockPosition, NamesTaken, data_block, double_indirect_block, block_bytes, named};
 ghost use Rattle.vol_log.specs.Reading.{OnlyReads};
 ghost use Rattle.vol_sector.specs.Disk.{Image};
+ghost use Rattle.vol_inode.specs.declared.pointers.TheConstants.{MOST_BLOCKS};
 ghost use Rattle.vol_body.specs.internal.Writing.{Mirrors, MirrorsAll, KnowsAll, ListedAt, segment};
 
-use crate::locate::{DIRECT, LISTED, NUMBERS, number_at, read_taken, taken_or_zero};
+use crate::locate::{number_at, read_taken, taken_or_zero};
 use vol_alloc::Alloc;
-use vol_inode::{Entry, put_number};
+use vol_inode::{DIRECT, DOUBLE_INDIRECT, Entry, INDIRECT, LISTED, NUMBERS, put_number};
 use vol_log::Log;
 use vol_sector::{Device, DeviceFault};
 
@@ -27,19 +28,19 @@ pub struct PointerSector {
 /// The pointer sectors that a write uses.
 #[derive(Drop)]
 pub struct PointerSectors {
-    /// The one that pointer 59 names.
+    /// The double-indirect block.
     pub double_indirect_block: PointerSector,
-    /// The one that lists the first data block past the first 58 that is written.
+    /// The one that lists the first data block past the direct ones that is written.
     pub early: PointerSector,
-    /// The one that lists the 128 data blocks after those of `early`.
+    /// The one that lists the data blocks after those of `early`.
     pub late: PointerSector,
 }
 
 /// The pointer sector with another `i`-th number.
 pub fn with_number(image: &[u8; 512], i: u32, n: u32) -> [u8; 512]
-    requires { i < 128 }
+    requires { i < NUMBERS }
     ensures one { little_number 4 (drop (4 * i) result) ≡ n }
-    ensures rest { (k : ℕ) → k < 128 → k ≢ i
+    ensures rest { (k : ℕ) → k < NUMBERS → k ≢ i
         → little_number 4 (drop (4 * k) result) ≡ little_number 4 (drop (4 * k) image.now) }
 {
     let mut image = *image;
@@ -56,7 +57,7 @@ pub fn load_pointer_sectors<D: Device>(
     last: u32,
 ) -> Result<PointerSectors, DeviceFault>
     requires some { first ≤ last }
-    requires small { last < 16570 }
+    requires small { last < MOST_BLOCKS }
     requires there { end_of sectors.now ≤ log_sectors log.old }
     requires working { has_failed log.old ≡ false }
     ensures right { D.honest (device_of log.old)
@@ -97,7 +98,7 @@ fn load<D: Device>(
     Ok(PointerSector { number, image })
 }
 
-/// Reads the pointer sector of pointer 59, if a call that goes up to the data block `last` needs it.
+/// Reads the double-indirect block, if a call that goes up to the data block `last` needs it.
 pub fn load_top<D: Device>(
     log: &mut Log<D>,
     sectors: &Alloc,
@@ -107,7 +108,7 @@ pub fn load_top<D: Device>(
     requires there { end_of sectors.now ≤ log_sectors log.old }
     requires working { has_failed log.old ≡ false }
     ensures right { D.honest (device_of log.old)
-        → NamesTaken (taken_of sectors.now) (view log.old) entry.now → 186 ≤ last
+        → NamesTaken (taken_of sectors.now) (view log.old) entry.now → LISTED ≤ last
         → IfOk result (λ s. Mirrors (view log.old) entry.now double_indirect_block s.number s.image) }
     ensures known { IfOk result (λ s. s.number ≢ 0 → taken_of sectors.now s.number ≡ true) }
     ensures reads { OnlyReads log.old log.new }
@@ -116,12 +117,12 @@ pub fn load_top<D: Device>(
     if last < LISTED {
         return load(log, sectors, 0);
     }
-    let number = taken_or_zero(sectors, entry.pointers[59]);
+    let number = taken_or_zero(sectors, entry.pointers[DOUBLE_INDIRECT as usize]);
     load(log, sectors, number)
 }
 
-/// Reads the pointer sector that lists the 128 data blocks from 58 + 128 * `group` on, if a call that
-/// goes up to the data block `last` reaches them.
+/// Reads the pointer sector that lists the data blocks from `DIRECT + NUMBERS * group` on, if a call
+/// that goes up to the data block `last` reaches them.
 pub fn load_segment<D: Device>(
     log: &mut Log<D>,
     sectors: &Alloc,
@@ -130,12 +131,12 @@ pub fn load_segment<D: Device>(
     group: u32,
     last: u32,
 ) -> Result<PointerSector, DeviceFault>
-    requires small { last < 16570 }
+    requires small { last < MOST_BLOCKS }
     requires there { end_of sectors.now ≤ log_sectors log.old }
     requires working { has_failed log.old ≡ false }
     ensures right { D.honest (device_of log.old)
-        → NamesTaken (taken_of sectors.now) (view log.old) entry.now → 58 + 128 * group ≤ last
-        → (186 ≤ last → Mirrors (view log.old) entry.now double_indirect_block above.now.number above.now.image)
+        → NamesTaken (taken_of sectors.now) (view log.old) entry.now → DIRECT + NUMBERS * group ≤ last
+        → (LISTED ≤ last → Mirrors (view log.old) entry.now double_indirect_block above.now.number above.now.image)
         → IfOk result (λ s. Mirrors (view log.old) entry.now (segment group) s.number s.image) }
     ensures known { IfOk result (λ s. s.number ≢ 0 → taken_of sectors.now s.number ≡ true) }
     ensures reads { OnlyReads log.old log.new }
@@ -145,7 +146,7 @@ pub fn load_segment<D: Device>(
         return load(log, sectors, 0);
     }
     if group == 0 {
-        let first = taken_or_zero(sectors, entry.pointers[58]);
+        let first = taken_or_zero(sectors, entry.pointers[INDIRECT as usize]);
         return load(log, sectors, first);
     }
     let number = taken_or_zero(sectors, number_at(&above.image, group - 1));
@@ -155,9 +156,9 @@ pub fn load_segment<D: Device>(
 /// The sector of a data block, or 0 where it was never written, from the pointer sector that lists
 /// it at i.
 pub fn listed_sector(sectors: &Alloc, above: &PointerSector, i: u32) -> u32
-    requires { i < 128 }
+    requires { i < NUMBERS }
     ensures number { (content : Image) (e : Entry) (q : BlockPosition) (j : ℕ)
-        → ListedAt q i (data_block j) → j < 16570 → NamesTaken (taken_of sectors.now) content e
+        → ListedAt q i (data_block j) → j < MOST_BLOCKS → NamesTaken (taken_of sectors.now) content e
         → Mirrors content e q above.now.number above.now.image
         → result ≡ named content e (data_block j) }
     ensures taken { result ≢ 0 → taken_of sectors.now result ≡ true }
@@ -168,9 +169,9 @@ pub fn listed_sector(sectors: &Alloc, above: &PointerSector, i: u32) -> u32
 /// The sector of a data block, or 0 where it was never written, by the pointer sectors of a write
 /// that begins at the data block `first`.
 pub fn sector_by(sectors: &Alloc, entry: &Entry, all: &PointerSectors, first: u32, j: u32) -> u32
-    requires place { j < 16570 }
+    requires place { j < MOST_BLOCKS }
     requires from { first ≤ j }
-    requires near { j ≤ first + 128 }
+    requires near { j ≤ first + NUMBERS }
     ensures number { (content : Image) (last : ℕ) → j ≤ last
         → NamesTaken (taken_of sectors.now) content entry.now
         → MirrorsAll content entry.now all.now first last

@@ -18,7 +18,7 @@ use crate::holding::hold;
 use crate::locate::LAST;
 use crate::truncation::{read_truncation, stage_truncation};
 use vol_alloc::Alloc;
-use vol_inode::{Entry, write_entry};
+use vol_inode::{Entry, first_block_of_pointer, write_entry};
 use vol_log::Log;
 use vol_sector::{Device, DeviceFault};
 
@@ -29,8 +29,7 @@ fn kept_pointers(pointers: &[u32; 60], count: u32) -> [u32; 60]
 {
     let mut kept = [0; 60];
     for j in 0..60 {
-        let first = if j < 59 { j as u32 } else { 186 };
-        if first < count {
+        if first_block_of_pointer(j) < count {
             kept[j] = pointers[j];
         }
     }

@@ -12,10 +12,11 @@ ghost use Rattle.vol_body.specs.Survey.{every_position, sectors_named, AreInside
 ghost use Rattle.vol_body.specs.internal.Surveying.{listed, with_listed, all_listed, Pushes, Overflows};
 ghost use Rattle.vol_body.specs.internal.Surveying.{ListsNoneFrom, LaterListNone, LaterNone};
 ghost use Rattle.vol_body.specs.internal.Surveying.{NamesNonePast, NamesBelow, EndsInZeros};
+ghost use Rattle.vol_inode.specs.declared.pointers.TheConstants.{MOST_BLOCKS};
 ghost use Rattle.vol_inode.specs.declared.version.TheConstants.{LARGEST_SIZE};
 
-use crate::locate::{DIRECT, LISTED, NUMBERS, number_at};
-use vol_inode::Entry;
+use crate::locate::{Numbers, number_at};
+use vol_inode::{DIRECT, DOUBLE_INDIRECT, Entry, INDIRECT, LISTED, NUMBERS};
 use vol_log::Log;
 use vol_sector::{Device, DeviceFault, VolumeFault};
 
@@ -59,25 +60,25 @@ fn push_all(named: &mut Vec<u32>, numbers: &[u32], first: u32, end: u32) -> Resu
 }
 
 /// The numbers of a pointer sector.
-fn numbers_in(image: &[u8; 512]) -> [u32; 128]
-    ensures { (i : ℕ) → i < 128
+fn numbers_in(image: &[u8; 512]) -> Numbers
+    ensures { (i : ℕ) → i < NUMBERS
         → slice_index result i ≡ little_number 4 (drop (4 * i) image.now) }
 {
-    let mut numbers = [0; 128];
-    for i in 0..128u32 {
+    let mut numbers = [0; NUMBERS as usize];
+    for i in 0..NUMBERS {
         numbers[i as usize] = number_at(image, i);
     }
     numbers
 }
 
 /// Whether the numbers from one place on are all 0.
-fn none_from(numbers: &[u32; 128], from: u32) -> bool
-    ensures yes { IsTrue result → (i : ℕ) → from ≤ i → i < 128
+fn none_from(numbers: &Numbers, from: u32) -> bool
+    ensures yes { IsTrue result → (i : ℕ) → from ≤ i → i < NUMBERS
         → slice_index numbers.now i ≡ 0 }
-    ensures no { ((i : ℕ) → from ≤ i → i < 128 → slice_index numbers.now i ≡ 0)
+    ensures no { ((i : ℕ) → from ≤ i → i < NUMBERS → slice_index numbers.now i ≡ 0)
         → IsTrue result }
 {
-    for i in from.min(128)..128 {
+    for i in from.min(NUMBERS)..NUMBERS {
         if numbers[i as usize] != 0 {
             return false;
         }
@@ -91,7 +92,7 @@ fn read_numbers<D: Device>(
     log: &mut Log<D>,
     indirect_block: u32,
     from: u32,
-) -> Result<[u32; 128], VolumeFault>
+) -> Result<Numbers, VolumeFault>
     requires there { indirect_block ≢ 0 → indirect_block < log_sectors log.old }
     requires working { has_failed log.old ≡ false }
     ensures numbers { D.honest (device_of log.old)
@@ -107,7 +108,7 @@ fn read_numbers<D: Device>(
     ensures failed { has_failed log.new ≡ device_failed result }
 {
     if indirect_block == 0 {
-        return Ok([0; 128]);
+        return Ok([0; NUMBERS as usize]);
     }
     let image = log.read(indirect_block)?;
     let numbers = numbers_in(&image);
@@ -155,7 +156,7 @@ fn survey_indirect_block<D: Device>(
 /// Pushes the numbers of the inner blocks and those that they list.
 fn survey_inner_blocks<D: Device>(
     log: &mut Log<D>,
-    inner_blocks: &[u32; 128],
+    inner_blocks: &Numbers,
     count: u32,
     first: u32,
     end: u32,
@@ -178,8 +179,8 @@ fn survey_inner_blocks<D: Device>(
     ensures reads { OnlyReads log.old log.new }
     ensures failed { has_failed log.new ≡ device_failed result }
 {
-    for i in 0..128u32 {
-        let from = count.saturating_sub(186 + 128 * i);
+    for i in 0..NUMBERS {
+        let from = count.saturating_sub(LISTED + NUMBERS * i);
         survey_indirect_block(log, inner_blocks[i as usize], from, first, end, named)?;
     }
     Ok(())
@@ -217,7 +218,7 @@ fn survey_double_indirect_block<D: Device>(
         return Ok(()); // nor are there any inner blocks
     }
     push_number(named, double_indirect_block, first, end)?;
-    let kept = count.saturating_sub(186).div_ceil(128);
+    let kept = count.saturating_sub(LISTED).div_ceil(NUMBERS);
     let numbers = read_numbers(log, double_indirect_block, kept)?;
     survey_inner_blocks(log, &numbers, count, first, end, named)
 }
@@ -249,10 +250,24 @@ fn survey_sectors<D: Device>(
     ensures failed { has_failed log.new ≡ device_failed result }
 {
     let count = entry.size.div_ceil(512);
-    push_all(named, &entry.pointers[..58], first, end)?;
-    let from = count.saturating_sub(58);
-    survey_indirect_block(log, entry.pointers[58], from, first, end, named)?;
-    survey_double_indirect_block(log, entry.pointers[59], count, first, end, named)
+    push_all(named, &entry.pointers[..DIRECT as usize], first, end)?;
+    let from = count.saturating_sub(DIRECT);
+    survey_indirect_block(
+        log,
+        entry.pointers[INDIRECT as usize],
+        from,
+        first,
+        end,
+        named,
+    )?;
+    survey_double_indirect_block(
+        log,
+        entry.pointers[DOUBLE_INDIRECT as usize],
+        count,
+        first,
+        end,
+        named,
+    )
 }
 
 /// Whether the bytes from one place on are all 0.
@@ -276,7 +291,7 @@ fn number_of<D: Device>(
     i: u32,
     end: u32,
 ) -> Result<u32, DeviceFault>
-    requires place { i < 128 }
+    requires place { i < NUMBERS }
     requires there { end ≤ log_sectors log.old }
     requires working { has_failed log.old ≡ false }
     ensures number { D.honest (device_of log.old) → (indirect_block ≢ 0 → indirect_block < end)
@@ -301,7 +316,7 @@ fn block_sector<D: Device>(
     j: u32,
     end: u32,
 ) -> Result<u32, DeviceFault>
-    requires place { j < 16570 }
+    requires place { j < MOST_BLOCKS }
     requires there { end ≤ log_sectors log.old }
     requires working { has_failed log.old ≡ false }
     ensures sector { D.honest (device_of log.old) → NamesBelow (view log.old) entry.now end
@@ -313,9 +328,14 @@ fn block_sector<D: Device>(
         return Ok(entry.pointers[j as usize]);
     }
     if j < LISTED {
-        return number_of(log, entry.pointers[58], j - DIRECT, end);
+        return number_of(log, entry.pointers[INDIRECT as usize], j - DIRECT, end);
     }
-    let indirect_block = number_of(log, entry.pointers[59], (j - LISTED) / NUMBERS, end)?;
+    let indirect_block = number_of(
+        log,
+        entry.pointers[DOUBLE_INDIRECT as usize],
+        (j - LISTED) / NUMBERS,
+        end,
+    )?;
     number_of(log, indirect_block, (j - LISTED) % NUMBERS, end)
 }
 

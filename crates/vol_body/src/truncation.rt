@@ -16,9 +16,9 @@ ghost use Rattle.vol_log.specs.declared.layout.TheConstants.{FIRST_AFTER_LOG};
 ghost use Rattle.vol_inode.specs.declared.version.TheConstants.{LARGEST_SIZE};
 
 use crate::holding::{Held, held_sector};
-use crate::locate::{DIRECT, LISTED, NUMBERS, read_taken};
+use crate::locate::read_taken;
 use vol_alloc::Alloc;
-use vol_inode::Entry;
+use vol_inode::{DIRECT, Entry, LISTED, NUMBERS};
 use vol_log::Log;
 use vol_sector::{Device, DeviceFault};
 

@@ -11,6 +11,7 @@ ghost use Rattle.vol_body.specs.Change.{used_of, IfSound, FileBecomes, LosesNoSe
 ghost use Rattle.vol_log.specs.Reading.{OnlyReads};
 ghost use Rattle.vol_body.specs.Reading.{StagesAtMost};
 ghost use Rattle.vol_body.specs.internal.Writing.{MirrorsAll, WriteLeaves};
+ghost use Rattle.vol_inode.specs.declared.pointers.TheConstants.{MOST_BLOCKS, NUMBERS};
 ghost use Rattle.vol_log.specs.declared.layout.TheConstants.{FIRST_AFTER_LOG};
 ghost use Rattle.vol_inode.specs.declared.version.TheConstants.{LARGEST_SIZE};
 
@@ -170,9 +171,9 @@ fn read_edge<D: Device>(
     end: u32,
     j: u32,
 ) -> Result<[u8; 512], DeviceFault>
-    requires place { j < 16570 }
+    requires place { j < MOST_BLOCKS }
     requires from { offset / 512 ≤ j }
-    requires near { j ≤ offset / 512 + 128 }
+    requires near { j ≤ offset / 512 + NUMBERS }
     requires there { end_of sectors.now ≤ log_sectors log.old }
     requires working { has_failed log.old ≡ false }
     ensures bytes { (last : ℕ) → j ≤ last → D.honest (device_of log.old)

@@ -8,6 +8,7 @@ ghost use Rattle.vol_inode.specs.declared.entry.Entry.{Entry};
 ghost use Rattle.vol_body.specs.Body.{BlockPosition, data_block, IsPosition, named, block_bytes};
 ghost use Rattle.vol_body.specs.internal.Writing.{Mirrors, IsReady, IsMissing, Changes, Adds, OnlyPuts};
 ghost use Rattle.vol_body.specs.internal.Writing.{SameRange, PointedAt, ListedAt, IsBlank, placed};
+ghost use Rattle.vol_inode.specs.declared.pointers.TheConstants.{DIRECT, MOST_BLOCKS, NUMBERS};
 ghost use Rattle.vol_log.specs.declared.layout.TheConstants.{FIRST_AFTER_LOG};
 
 use crate::locate::{number_at, taken_or_zero};
@@ -60,7 +61,7 @@ pub fn add_number<D: Device>(
     i: u32,
     image: &[u8; 512],
 ) -> u32
-    requires place { i < 128 }
+    requires place { i < NUMBERS }
     requires after_log { FIRST_AFTER_LOG ≤ first_of sectors.old }
     requires there { end_of sectors.old ≤ log_sectors log.old }
     requires known { taken_of sectors.old above.old.number ≡ true }
@@ -99,7 +100,7 @@ pub fn write_direct_block<D: Device>(
     j: u32,
     image: &[u8; 512],
 )
-    requires direct { j < 58 }
+    requires direct { j < DIRECT }
     requires after_log { FIRST_AFTER_LOG ≤ first_of sectors.old }
     requires there { end_of sectors.old ≤ log_sectors log.old }
     requires room { 0 < room_of log.old }
@@ -130,14 +131,14 @@ pub fn write_listed_block<D: Device>(
     i: u32,
     image: &[u8; 512],
 )
-    requires place { i < 128 }
+    requires place { i < NUMBERS }
     requires after_log { FIRST_AFTER_LOG ≤ first_of sectors.old }
     requires there { end_of sectors.old ≤ log_sectors log.old }
     requires known { taken_of sectors.old above.old.number ≡ true }
     requires room { 1 < room_of log.old }
     requires working { has_failed log.old ≡ false }
     ensures written { (e : Entry) (q : BlockPosition) (j : ℕ) → ListedAt q i (data_block j) → IsPosition q
-        → j < 16570 → j < blocks_for_size e.size → IsReady sectors.old (view log.old) e
+        → j < MOST_BLOCKS → j < blocks_for_size e.size → IsReady sectors.old (view log.old) e
         → Mirrors (view log.old) e q above.old.number above.old.image
         → Changes sectors.old sectors.new (view log.old) (view log.new) e e
         (λ x. (x ≡ data_block j) ⊎ (x ≡ q))

@@ -9,16 +9,16 @@ ghost use Rattle.vol_body.specs.Body.{BlockPosition, double_indirect_block, firs
 ghost use Rattle.vol_body.specs.internal.Writing.{Mirrors, IsReady, Changes, Adds, IsBlockIn, HasBlocks};
 ghost use Rattle.vol_body.specs.internal.Writing.{OnlyPuts, SameRange, segment, placed, image_of};
 ghost use Rattle.vol_body.specs.internal.Writing.{MirrorsAll, KnowsAll, IsPointer, PointedAt};
+ghost use Rattle.vol_inode.specs.declared.pointers.TheConstants.{MOST_BLOCKS};
 ghost use Rattle.vol_log.specs.declared.layout.TheConstants.{FIRST_AFTER_LOG};
 ghost use Rattle.vol_inode.specs.declared.version.TheConstants.{LARGEST_SIZE};
 
-use crate::locate::{DIRECT, LISTED, NUMBERS};
 use crate::pointer_sectors::{PointerSector, PointerSectors};
 use crate::source::Source;
 use crate::writing_blocks::{add_number, add_pointer, write_direct_block, write_listed_block};
 use crate::writing_image::{Piece, bytes_from, image_of_block};
 use vol_alloc::Alloc;
-use vol_inode::Entry;
+use vol_inode::{DIRECT, DOUBLE_INDIRECT, Entry, INDIRECT, LISTED, NUMBERS};
 use vol_log::Log;
 use vol_sector::Device;
 
@@ -39,7 +39,7 @@ pub fn write_blocks<D: Device>(
     requires working { has_failed log.old ≡ false }
     requires few { last < first + 33 }
     requires some { first ≤ last }
-    requires last { last < 16570 }
+    requires last { last < MOST_BLOCKS }
     requires touched_first { piece.now.offset < 512 * first + 512 }
     requires touched_last { 512 * last < piece.now.offset + length bytes.now }
     requires small { piece.now.offset + length bytes.now ≤ LARGEST_SIZE }
@@ -102,7 +102,7 @@ fn write_direct<D: Device>(
     from: u32,
     to: u32,
 )
-    requires direct { to ≤ 58 }
+    requires direct { to ≤ DIRECT }
     requires after_log { FIRST_AFTER_LOG ≤ first_of sectors.old }
     requires there { end_of sectors.old ≤ log_sectors log.old }
     requires room { to - from ≤ room_of log.old }
@@ -145,9 +145,9 @@ fn write_segment<D: Device>(
     requires there { end_of sectors.old ≤ log_sectors log.old }
     requires room { to - from + 3 ≤ room_of log.old + placed log.old all.old.number }
     requires working { has_failed log.old ≡ false }
-    requires starts { 58 + 128 * group ≤ from }
-    requires ends { to ≤ 186 + 128 * group }
-    requires last { to ≤ 16570 }
+    requires starts { DIRECT + NUMBERS * group ≤ from }
+    requires ends { to ≤ LISTED + NUMBERS * group }
+    requires last { to ≤ MOST_BLOCKS }
     requires touched_first { piece.now.offset < 512 * from + 512 }
     requires touched_last { 512 * to < piece.now.offset + length bytes.now + 512 }
     requires small { piece.now.offset + length bytes.now ≤ LARGEST_SIZE }
@@ -155,7 +155,7 @@ fn write_segment<D: Device>(
     requires known_all { all.old.number ≢ 0 → taken_of sectors.old all.old.number ≡ true }
     ensures written { IsReady sectors.old (view log.old) entry.old → to ≤ blocks_for_size entry.old.size
         → (from < to → Mirrors (view log.old) entry.old (segment group) above.old.number above.old.image)
-        → (186 < to → Mirrors (view log.old) entry.old double_indirect_block all.old.number all.old.image)
+        → (LISTED < to → Mirrors (view log.old) entry.old double_indirect_block all.old.number all.old.image)
         → Changes sectors.old sectors.new (view log.old) (view log.new) entry.old entry.new
         (λ p. IsBlockIn from to p ⊎ ((p ≡ segment group) ⊎ (p ≡ double_indirect_block)))
         × HasBlocks (view log.new) entry.new from to
@@ -206,12 +206,12 @@ fn write_listed<D: Device>(
     requires room { to - from + 2 ≤ room_of log.old + placed log.old above.old.number }
     requires working { has_failed log.old ≡ false }
     requires starts { start ≤ from }
-    requires ends { to ≤ start + 128 }
-    requires last { to ≤ 16570 }
+    requires ends { to ≤ start + NUMBERS }
+    requires last { to ≤ MOST_BLOCKS }
     requires touched_first { piece.now.offset < 512 * from + 512 }
     requires touched_last { 512 * to < piece.now.offset + length bytes.now + 512 }
     requires small { piece.now.offset + length bytes.now ≤ LARGEST_SIZE }
-    ensures written { (e : Entry) (g : ℕ) → start ≡ 58 + 128 * g → to ≤ blocks_for_size e.size
+    ensures written { (e : Entry) (g : ℕ) → start ≡ DIRECT + NUMBERS * g → to ≤ blocks_for_size e.size
         → IsReady sectors.old (view log.old) e
         → Mirrors (view log.old) e (segment g) above.old.number above.old.image
         → Changes sectors.old sectors.new (view log.old) (view log.new) e e
@@ -240,7 +240,7 @@ fn open_segment<D: Device>(
     above: &mut PointerSector,
     group: u32,
 )
-    requires place { group < 129 }
+    requires place { group < NUMBERS + 1 }
     requires after_log { FIRST_AFTER_LOG ≤ first_of sectors.old }
     requires there { end_of sectors.old ≤ log_sectors log.old }
     requires room { 3 ≤ room_of log.old + placed log.old all.old.number }
@@ -248,7 +248,7 @@ fn open_segment<D: Device>(
     requires known { above.old.number ≢ 0 → taken_of sectors.old above.old.number ≡ true }
     requires known_all { all.old.number ≢ 0 → taken_of sectors.old all.old.number ≡ true }
     ensures opened { IsReady sectors.old (view log.old) entry.old
-        → 58 + 128 * group < blocks_for_size entry.old.size
+        → DIRECT + NUMBERS * group < blocks_for_size entry.old.size
         → Mirrors (view log.old) entry.old (segment group) above.old.number above.old.image
         → (1 ≤ group → Mirrors (view log.old) entry.old double_indirect_block all.old.number all.old.image)
         → Adds sectors.old sectors.new (view log.old) (view log.new) entry.old entry.new
@@ -265,16 +265,16 @@ fn open_segment<D: Device>(
     ensures range { SameRange sectors.old sectors.new }
 {
     if group == 0 {
-        open_pointer(log, sectors, entry, 58, above);
+        open_pointer(log, sectors, entry, INDIRECT, above);
         return;
     }
-    open_pointer(log, sectors, entry, 59, all);
+    open_pointer(log, sectors, entry, DOUBLE_INDIRECT, all);
     if above.number == 0 && all.number != 0 {
         above.number = add_number(log, sectors, all, group - 1, &[0; 512]);
     }
 }
 
-/// Makes the pointer sector that pointer 58 or 59 of the entry names, where there is none.
+/// Makes the indirect or the double-indirect block, which the entry names, where there is none.
 fn open_pointer<D: Device>(
     log: &mut Log<D>,
     sectors: &mut Alloc,
@@ -288,7 +288,7 @@ fn open_pointer<D: Device>(
     requires room { 0 < room_of log.old }
     requires working { has_failed log.old ≡ false }
     requires known { above.old.number ≢ 0 → taken_of sectors.old above.old.number ≡ true }
-    ensures opened { (p : BlockPosition) → PointedAt slot p → 58 ≤ slot
+    ensures opened { (p : BlockPosition) → PointedAt slot p → INDIRECT ≤ slot
         → IsReady sectors.old (view log.old) entry.old → first_served p < blocks_for_size entry.old.size
         → Mirrors (view log.old) entry.old p above.old.number above.old.image
         → Adds sectors.old sectors.new (view log.old) (view log.new) entry.old entry.new

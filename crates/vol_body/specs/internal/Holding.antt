@@ -4,14 +4,15 @@ use Rattle.vol_sector.specs.Disk.{Image}
 use Rattle.vol_alloc.specs.Alloc.{taken_of}
 use Rattle.vol_alloc.specs.declared.sectors.Alloc.{Alloc}
 use Rattle.vol_inode.specs.declared.entry.Entry.{Entry}
+use Rattle.vol_inode.specs.declared.pointers.TheConstants.{DIRECT, LISTED, NUMBERS}
 use Rattle.vol_body.specs.declared.holding.Held.{Held}
 use Rattle.vol_body.specs.Body.{double_indirect_block}
 use Rattle.vol_body.specs.internal.Writing.{Mirrors, segment}
 
 -- Where a call goes up to the data block `last`: the double-indirect block is held, and so is the block of the group.
 pub record IsHeld (content : Image) (e : Entry) (held : Held) (last : ℕ) : Type 0 where
-  pub top : 186 ≤ last → Mirrors content e double_indirect_block held.top.number held.top.image
-  pub above : 58 + 128 * held.group ≤ last → Mirrors content e (segment held.group) held.above.number held.above.image
+  pub top : LISTED ≤ last → Mirrors content e double_indirect_block held.top.number held.top.image
+  pub above : DIRECT + NUMBERS * held.group ≤ last → Mirrors content e (segment held.group) held.above.number held.above.image
 
 -- those that are there are taken
 pub record KnowsHeld (a : Alloc) (held : Held) : Type 0 where

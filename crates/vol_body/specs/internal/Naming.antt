@@ -4,6 +4,7 @@ use Rattle.byteorder.specs.Endian.{little_number}
 use Rattle.vol_sector.specs.Disk.{Image}
 use Rattle.vol_inode.specs.declared.entry.Entry.{Entry}
 use Rattle.vol_inode.specs.Space.{blocks_for_size}
+use Rattle.vol_inode.specs.declared.pointers.TheConstants.{MOST_BLOCKS, NUMBERS}
 use Rattle.vol_body.specs.Body.{BlockPosition, data_block, IsPosition, first_served, named, block_bytes}
 
 -- The rules on the sectors of a file: no two positions name the same one; a position that serves only data blocks at or past the size
@@ -17,7 +18,7 @@ pub record NamesOneMore (content after : Image) (e changed : Entry) (p : BlockPo
   pub one : named after changed p ≡ n
   pub rest : (q : BlockPosition) → IsPosition q → (q ≡ p → ⊥) → named after changed q ≡ named content e q
   pub size : changed.size ≡ e.size
-  pub bytes : (j : ℕ) → j < 16570 → (data_block j ≡ p → ⊥) → block_bytes after (named after changed (data_block j)) ≡ block_bytes content (named content e (data_block j))
+  pub bytes : (j : ℕ) → j < MOST_BLOCKS → (data_block j ≡ p → ⊥) → block_bytes after (named after changed (data_block j)) ≡ block_bytes content (named content e (data_block j))
 
 -- one pointer of the entry is set
 pub record SetsPointer (e changed : Entry) (s n : ℕ) : Type 0 where
@@ -28,5 +29,5 @@ pub record SetsPointer (e changed : Entry) (s n : ℕ) : Type 0 where
 -- The i-th number of the pointer sector m becomes n. Other sectors stay but for the sector n.
 pub record ListsOneMore (content after : Image) (m i n : ℕ) : Type 0 where
   pub one : little_number 4 (drop (4 * i) (after m)) ≡ n
-  pub rest : (k : ℕ) → k < 128 → k ≢ i → little_number 4 (drop (4 * k) (after m)) ≡ little_number 4 (drop (4 * k) (content m))
+  pub rest : (k : ℕ) → k < NUMBERS → k ≢ i → little_number 4 (drop (4 * k) (after m)) ≡ little_number 4 (drop (4 * k) (content m))
   pub stays : (x : ℕ) → x ≢ n → x ≢ m → after x ≡ content x

@@ -4,12 +4,13 @@ use Rattle.std.specs.List.{range_with_len, flat_map}
 use Rattle.vol_sector.specs.Disk.{Image}
 use Rattle.vol_inode.specs.declared.entry.Entry.{Entry}
 use Rattle.vol_inode.specs.Space.{blocks_for_size, inner_blocks_for}
+use Rattle.vol_inode.specs.declared.pointers.TheConstants.{LISTED, NUMBERS}
 use Rattle.vol_body.specs.Body.{BlockPosition, data_block, IsPosition, first_served, named, number_in, block_bytes}
 use Rattle.vol_body.specs.Survey.{nonzero, AreInside}
 
 -- the numbers that a pointer sector lists
 unfoldable pub listed : Image → ℕ → List ℕ
-listed content n = map (number_in content n) (range_with_len 0 128)
+listed content n = map (number_in content n) (range_with_len 0 NUMBERS)
 
 -- the number of a pointer sector, and those that it lists
 abbrev pub with_listed : Image → ℕ → List ℕ
@@ -30,15 +31,15 @@ Overflows first end old numbers = AreInside first end (old ++ nonzero numbers) �
 
 -- a pointer sector lists none from one position on
 abbrev pub ListsNoneFrom : Image → ℕ → ℕ → Type 0
-ListsNoneFrom content n from = (i : ℕ) → from ≤ i → i < 128 → number_in content n i ≡ 0
+ListsNoneFrom content n from = (i : ℕ) → from ≤ i → i < NUMBERS → number_in content n i ≡ 0
 
--- the same of these pointer sectors, which list the data blocks from 186 on
+-- the same of these inner blocks
 abbrev pub LaterListNone : Image → List ℕ → ℕ → Type 0
-LaterListNone content numbers count = (i : ℕ) → i < 128 → ListsNoneFrom content (slice_index numbers i) (count - (186 + 128 * i))
+LaterListNone content numbers count = (i : ℕ) → i < NUMBERS → ListsNoneFrom content (slice_index numbers i) (count - (LISTED + NUMBERS * i))
 
--- the pointer sector of pointer 59 lists no inner block for data blocks from a number on, and neither do these
+-- the double-indirect block lists no inner block for data blocks from a number on, and neither do these
 pub record LaterNone (content : Image) (double_indirect_block count : ℕ) : Type 0 where
-  pub own : ListsNoneFrom content double_indirect_block (inner_blocks_for (count - 186))
+  pub own : ListsNoneFrom content double_indirect_block (inner_blocks_for (count - LISTED))
   pub later : LaterListNone content (listed content double_indirect_block) count
 
 -- a position that serves only data blocks at or past the size names no sector

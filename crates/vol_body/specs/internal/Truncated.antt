@@ -3,6 +3,7 @@ use Rattle.std.specs.Prelude.{◌≡◌, ◌≢◌, ◌≤◌, ◌<◌, ◌+◌,
 use Rattle.vol_sector.specs.Disk.{Image, put}
 use Rattle.vol_inode.specs.Space.{blocks_for_size, inner_blocks_for}
 use Rattle.vol_inode.specs.declared.entry.Entry.{Entry}
+use Rattle.vol_inode.specs.declared.pointers.TheConstants.{DIRECT, LISTED, NUMBERS}
 use Rattle.vol_body.specs.declared.truncation.Cut.{Cut}
 use Rattle.vol_body.specs.declared.truncation.Truncation.{Truncation}
 use Rattle.vol_body.specs.Body.{BlockPosition, data_block, indirect_block, double_indirect_block, inner_block, IsPosition, first_served, named, number_in}
@@ -11,9 +12,9 @@ use Rattle.vol_body.specs.internal.Writing.{segment, segment_of}
 -- how many bytes of the sector at this position a file of this size keeps
 abbrev pub kept_bytes : ℕ → BlockPosition → ℕ
 kept_bytes size (data_block j) = min 512 (size - 512 * j)
-kept_bytes size indirect_block = 4 * min 128 (blocks_for_size size - 58)
-kept_bytes size double_indirect_block = 4 * min 128 (inner_blocks_for (blocks_for_size size - 186))
-kept_bytes size (inner_block i) = 4 * min 128 (blocks_for_size size - (186 + 128 * i))
+kept_bytes size indirect_block = 4 * min NUMBERS (blocks_for_size size - DIRECT)
+kept_bytes size double_indirect_block = 4 * min NUMBERS (inner_blocks_for (blocks_for_size size - LISTED))
+kept_bytes size (inner_block i) = 4 * min NUMBERS (blocks_for_size size - (LISTED + NUMBERS * i))
 
 -- the only positions of which a file of this size keeps only a beginning, beside the double-indirect block
 abbrev pub cut_data_block : ℕ → BlockPosition
@@ -64,11 +65,11 @@ IsAmong numbers from end n = (i : ℕ) × (from ≤ i) × (i < end) × (numbers 
 
 -- the number stands in the block from this position on, or is that of the block itself where it keeps none
 abbrev pub IsFreedWithBlock : Image → ℕ → ℕ → ℕ → Type 0
-IsFreedWithBlock content of_list from n = (IsAmong (number_in content of_list) from 128 n) ⊎ ((from ≡ 0) × (of_list ≡ n))
+IsFreedWithBlock content of_list from n = (IsAmong (number_in content of_list) from NUMBERS n) ⊎ ((from ≡ 0) × (of_list ≡ n))
 
 -- the number goes with one of the inner blocks before one, where the file keeps this many data blocks
 abbrev pub IsFreedWithLater : Image → (ℕ → ℕ) → ℕ → ℕ → ℕ → Type 0
-IsFreedWithLater content numbers count end n = (i : ℕ) × (i < end) × IsFreedWithBlock content (numbers i) (count - (186 + 128 * i)) n
+IsFreedWithLater content numbers count end n = (i : ℕ) × (i < end) × IsFreedWithBlock content (numbers i) (count - (LISTED + NUMBERS * i)) n
 
 -- the number is that of a sector whose position serves no data block that is kept
 abbrev pub IsFreed : Image → Entry → ℕ → ℕ → Type 0

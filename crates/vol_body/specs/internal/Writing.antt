@@ -13,24 +13,25 @@ use Rattle.vol_body.specs.Body.{BlockPosition, data_block, indirect_block, doubl
 use Rattle.vol_body.specs.Bytes.{written_bytes}
 use Rattle.vol_body.specs.Change.{used_of, OthersStay, TakesAndGives}
 use Rattle.vol_body.specs.internal.Naming.{IsNaming}
+use Rattle.vol_inode.specs.declared.pointers.TheConstants.{DIRECT, INDIRECT, DOUBLE_INDIRECT, LISTED, NUMBERS}
 use Rattle.vol_inode.specs.declared.version.TheConstants.{LARGEST_SIZE}
 
--- the position of the pointer sector that lists the 128 data blocks from 58 + 128 * g on
+-- the position of the pointer sector that lists the data blocks from DIRECT + NUMBERS * g on
 abbrev pub segment : ℕ → BlockPosition
 segment zero = indirect_block
 segment (suc i) = inner_block i
 
 -- the entry's pointer s is for this position
 abbrev pub PointedAt : ℕ → BlockPosition → Type 0
-PointedAt s (data_block j) = (s ≡ j) × (j < 58)
-PointedAt s indirect_block = s ≡ 58
-PointedAt s double_indirect_block = s ≡ 59
+PointedAt s (data_block j) = (s ≡ j) × (j < DIRECT)
+PointedAt s indirect_block = s ≡ INDIRECT
+PointedAt s double_indirect_block = s ≡ DOUBLE_INDIRECT
 PointedAt s (inner_block i) = ⊥
 
 -- the pointer sector of the first position has the number of the second one at i
 abbrev pub ListedAt : BlockPosition → ℕ → BlockPosition → Type 0
-ListedAt indirect_block i (data_block j) = 58 + i ≡ j
-ListedAt (inner_block k) i (data_block j) = 186 + 128 * k + i ≡ j
+ListedAt indirect_block i (data_block j) = DIRECT + i ≡ j
+ListedAt (inner_block k) i (data_block j) = LISTED + NUMBERS * k + i ≡ j
 ListedAt double_indirect_block i (inner_block k) = i ≡ k
 ListedAt p i q = ⊥
 
@@ -120,15 +121,15 @@ IsPointer indirect_block = Unit {0}
 IsPointer double_indirect_block = Unit {0}
 IsPointer (inner_block i) = Unit {0}
 
--- the segment that lists the first data block, of those past the first 58
+-- the segment that lists this data block, or the first one past the direct ones
 abbrev pub segment_of : ℕ → ℕ
-segment_of first = (first - 58) / 128
+segment_of first = (first - DIRECT) / NUMBERS
 
 -- the pointer sectors that a write of the data blocks from one to another uses, in memory
 pub record MirrorsAll (content : Image) (e : Entry) (all : PointerSectors) (first last : ℕ) : Type 0 where
-  pub double_indirect_block : 186 ≤ last → Mirrors content e double_indirect_block all.double_indirect_block.number all.double_indirect_block.image
-  pub early : 58 + 128 * segment_of first ≤ last → Mirrors content e (segment (segment_of first)) all.early.number all.early.image
-  pub late : 186 + 128 * segment_of first ≤ last → Mirrors content e (segment (segment_of first + 1)) all.late.number all.late.image
+  pub double_indirect_block : LISTED ≤ last → Mirrors content e double_indirect_block all.double_indirect_block.number all.double_indirect_block.image
+  pub early : DIRECT + NUMBERS * segment_of first ≤ last → Mirrors content e (segment (segment_of first)) all.early.number all.early.image
+  pub late : LISTED + NUMBERS * segment_of first ≤ last → Mirrors content e (segment (segment_of first + 1)) all.late.number all.late.image
 
 -- those that are there are taken
 pub record KnowsAll (a : Alloc) (all : PointerSectors) : Type 0 where

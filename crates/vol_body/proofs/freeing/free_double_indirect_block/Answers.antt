@@ -48,8 +48,8 @@ returns-in_err-free_inner_blocks g c =
       failed = e.failed ∙ sym is_err_now;
     }
 
-pub returns-then-count-le186 : goal.returns-then-count-le186
-returns-then-count-le186 g c = record {
+pub returns-then-count-le-LISTED : goal.returns-then-count-le-LISTED
+returns-then-count-le-LISTED g c = record {
   frees = λ h top above names.
       let a = taken_of c.args.sectors.now in
       let b = taken_of c.free_inner_blocks.new.sectors in
@@ -61,15 +61,15 @@ returns-then-count-le186 g c = record {
       let listed : Frees a b P = frees_lists a b content numbers (number_in content c.args.held.now.top.number) c.args.count same (c.in_ok-free_inner_blocks.ensures.frees h above) in
       frees_these a d (λ n. P n ⊎ (n ≡ c.args.held.now.top.number)) (λ n. P n ⊎ ((c.args.count ≤ 186) × (c.args.held.now.top.number ≡ n)))
       (frees_then a b d P (λ n. n ≡ c.args.held.now.top.number) listed c.free_taken.ensures.frees)
-      (λ n either. ⊎_elim (λ s. inl s) (λ is. inr (c.if-count-le186.true, sym is)) either)
+      (λ n either. ⊎_elim (λ s. inl s) (λ is. inr (c.if-count-le-LISTED.true, sym is)) either)
       (λ n either. ⊎_elim (λ s. inl s) (λ s. inr (sym s.1)) either);
   range = (c.free_taken.ensures.range.0 ∙ c.in_ok-free_inner_blocks.ensures.range.0, c.free_taken.ensures.range.1 ∙ c.in_ok-free_inner_blocks.ensures.range.1);
   reads = c.in_ok-free_inner_blocks.ensures.reads;
   failed = c.in_ok-free_inner_blocks.ensures.failed;
 }
 
-pub returns-else-count-le186 : goal.returns-else-count-le186
-returns-else-count-le186 g c = record {
+pub returns-else-count-le-LISTED : goal.returns-else-count-le-LISTED
+returns-else-count-le-LISTED g c = record {
   frees = λ h top above names.
       let a = taken_of c.args.sectors.now in
       let b = taken_of c.free_inner_blocks.new.sectors in
@@ -80,7 +80,7 @@ returns-else-count-le186 g c = record {
       let listed : Frees a b P = frees_lists a b content numbers (number_in content c.args.held.now.top.number) c.args.count same (c.in_ok-free_inner_blocks.ensures.frees h above) in
       frees_these a b P (λ n. P n ⊎ ((c.args.count ≤ 186) × (c.args.held.now.top.number ≡ n))) listed
       (λ n s. inl s)
-      (λ n either. ⊎_elim (λ s. s) (λ s. absurd (omega (arith, s.0, c.if-count-le186.false))) either);
+      (λ n either. ⊎_elim (λ s. s) (λ s. absurd (omega (arith, s.0, c.if-count-le-LISTED.false))) either);
   range = c.in_ok-free_inner_blocks.ensures.range;
   reads = c.in_ok-free_inner_blocks.ensures.reads;
   failed = c.in_ok-free_inner_blocks.ensures.failed;

@@ -17,14 +17,14 @@ returns-then-indirect_block-eq0-clause-reads g c = reads_same c.args.log.now
 pub returns-then-indirect_block-eq0-clause-failed : goal.returns-then-indirect_block-eq0-clause-failed
 returns-then-indirect_block-eq0-clause-failed g c = c.requires.working
 
-pub returns-then-from-ge128-clause-range : goal.returns-then-from-ge128-clause-range
-returns-then-from-ge128-clause-range g c = (refl, refl)
+pub returns-then-from-ge-NUMBERS-clause-range : goal.returns-then-from-ge-NUMBERS-clause-range
+returns-then-from-ge-NUMBERS-clause-range g c = (refl, refl)
 
-pub returns-then-from-ge128-clause-reads : goal.returns-then-from-ge128-clause-reads
-returns-then-from-ge128-clause-reads g c = reads_same c.args.log.now
+pub returns-then-from-ge-NUMBERS-clause-reads : goal.returns-then-from-ge-NUMBERS-clause-reads
+returns-then-from-ge-NUMBERS-clause-reads g c = reads_same c.args.log.now
 
-pub returns-then-from-ge128-clause-failed : goal.returns-then-from-ge128-clause-failed
-returns-then-from-ge128-clause-failed g c = c.requires.working
+pub returns-then-from-ge-NUMBERS-clause-failed : goal.returns-then-from-ge-NUMBERS-clause-failed
+returns-then-from-ge-NUMBERS-clause-failed g c = c.requires.working
 
 pub read_unless_held-requires : goal.read_unless_held-requires
 read_unless_held-requires g c = record { some = c.if-indirect_block-eq0.false; there = c.requires.there c.if-indirect_block-eq0.false; working = c.requires.working }
