@@ -29,6 +29,7 @@ use Rattle.vol_tree.proofs.SlotChange.{OtherSlots, FitsIn, set_tree, set_slots, 
 use Rattle.vol_tree.proofs.SlotTaken.{taken_set}
 use Rattle.vol_tree.proofs.Finding.{entry_at, length_tree}
 use Rattle.vol_log.specs.declared.layout.TheConstants.{FIRST_AFTER_LOG}
+use Rattle.vol_dirs.specs.Slots.{slot_sector}
 
 -- what a creation answers
 pub created_is : (T : Tree) (parent serial : ℕ) (name : Name) (node : Node) → lookup T parent name ≡ None → least_from 1 is_unused T ≡ Some serial
@@ -86,7 +87,7 @@ no_need kinds.Directory bytes none = refl
 no_need kinds.File bytes none = ap (λ (l : List ℕ). need_of (length l)) none
 
 module _ (a b : Image) (v : Superblock) (is : IsContent a v) (s : ℕ) (lt : s < v.slots) (free : tree.entry (tree_in a v) (suc s) ≡ None)
-    (e : Entry) (right : IsEntry v.version e) (none : (k : ℕ) → get_or e.pointers k 0 ≡ 0) (empty : e.size ≡ 0) (is_put : b ≡ put (FIRST_AFTER_LOG + s) (spelling e) a) (ranges : FIRST_AFTER_LOG + v.slots < v.sectors) where
+    (e : Entry) (right : IsEntry v.version e) (none : (k : ℕ) → get_or e.pointers k 0 ≡ 0) (empty : e.size ≡ 0) (is_put : b ≡ put (slot_sector (s + 1)) (spelling e) a) (ranges : FIRST_AFTER_LOG + v.slots < v.sectors) where
   abbrev slots : Slots
   slots = slots_in a v.slots
 
@@ -96,8 +97,8 @@ module _ (a b : Image) (v : Superblock) (is : IsContent a v) (s : ℕ) (lt : s <
   abbrev added : tree.Entry
   added = entry_of b e
 
-  elsewhere : (k : ℕ) → k ≢ FIRST_AFTER_LOG + s → b k ≡ a k
-  elsewhere k differ = at_once k b (put (FIRST_AFTER_LOG + s) (spelling e) a) is_put ∙ put_other (FIRST_AFTER_LOG + s) k (spelling e) a differ
+  elsewhere : (k : ℕ) → k ≢ slot_sector (s + 1) → b k ≡ a k
+  elsewhere k differ = at_once k b (put (slot_sector (s + 1)) (spelling e) a) is_put ∙ put_other (slot_sector (s + 1)) k (spelling e) a differ
 
   unused_slot : (o : Option Entry) → get_or slots s None ≡ o → o ≡ None
   unused_slot None at = refl
@@ -105,7 +106,7 @@ module _ (a b : Image) (v : Superblock) (is : IsContent a v) (s : ℕ) (lt : s <
 
   others : OtherSlots a b v slots s
   others = record {
-    bytes = λ t l differ. elsewhere (FIRST_AFTER_LOG + t) (λ same. differ (omega arith));
+    bytes = λ t l differ. elsewhere (slot_sector (t + 1)) (λ same. differ (omega arith));
     files = λ t d at differ p place some.
         let after_slots : FIRST_AFTER_LOG + v.slots ≤ named a d p = is.volume.sectors.after_slots t d p at place some in
         elsewhere (named a d p) (λ same. omega arith);
@@ -116,7 +117,7 @@ module _ (a b : Image) (v : Superblock) (is : IsContent a v) (s : ℕ) (lt : s <
 
   fits : FitsIn a b v slots s (Some e)
   fits = record {
-    bytes = λ l. at_once (FIRST_AFTER_LOG + s) b (put (FIRST_AFTER_LOG + s) (spelling e) a) is_put ∙ put_same (FIRST_AFTER_LOG + s) (spelling e) a;
+    bytes = λ l. at_once (slot_sector (s + 1)) b (put (slot_sector (s + 1)) (spelling e) a) is_put ∙ put_same (slot_sector (s + 1)) (spelling e) a;
     entry = λ d same. subst (IsEntry v.version) (own d same) right;
     body = λ d same. subst (IsBody b) (own d same) (body_of_none b e none);
     after_slots = λ d p same place some. absurd (some (ap (λ (x : Entry). named b x p) (sym (own d same)) ∙ names_none b e none p));

@@ -18,14 +18,14 @@ use Rattle.vol_tree.specs.declared.reading.Entries.{Entries}
 use Rattle.vol_tree.specs.Opened.{slots_in, slot_in}
 use Rattle.vol_tree.specs.internal.Reads.{held_at, parent_in, directory_in, named_in, reserved_in, IsPlaced, IsNew, IsRight, Adds, FitIn, HaveRead}
 use Rattle.vol_tree.proofs.SlotsRead.{slots_at, slot_read, slots_count}
-use Rattle.vol_log.specs.declared.layout.TheConstants.{FIRST_AFTER_LOG}
+use Rattle.vol_dirs.specs.Slots.{slot_sector}
 
 pub at_some : {X : Type 0} (o : Option X) (x : X) (P : X → Type 0) → o ≡ Some x → ((y : X) → o ≡ Some y → P y) → P x
 at_some o x P is all = all x is
 
 module _ (content : Image) (v : Superblock) (s : ℕ) (lt : s < v.slots) where
   -- a slot that isn't used
-  module _ (none : content (FIRST_AFTER_LOG + s) ≡ unused) where
+  module _ (none : content (slot_sector (s + 1)) ≡ unused) where
     pub held_none : held_at content v s ≡ None
     held_none = slots_at content v.slots s lt ∙ ap slot_in none ∙ slot_read None (λ e is. absurd (none-some e is))
 
@@ -38,7 +38,7 @@ module _ (content : Image) (v : Superblock) (s : ℕ) (lt : s < v.slots) where
     })
 
   -- an entry
-  module _ (e : Entry) (right : IsEntry v.version e) (spelled : content (FIRST_AFTER_LOG + s) ≡ spelling e) where
+  module _ (e : Entry) (right : IsEntry v.version e) (spelled : content (slot_sector (s + 1)) ≡ spelling e) where
     pub held_some : held_at content v s ≡ Some e
     held_some = slots_at content v.slots s lt ∙ ap slot_in spelled ∙ slot_read (Some e) (λ d is. subst HasWidths (same_Some e d is) right.widths)
 
@@ -71,7 +71,7 @@ module _ (content : Image) (v : Superblock) (s : ℕ) (lt : s < v.slots) where
       some_contradicts found none is fits = none (placed_new (is.placed e held_some)) (is.trimmed e held_some) (subst (λ (o : Option Entry). FitIn content v o found) held_some fits)
 
 -- the slot that no entry is read from
-pub refused_contradicts : (content : Image) (v : Superblock) (s : ℕ) → ((e : Entry) → IsEntry v.version e → content (FIRST_AFTER_LOG + s) ≡ spelling e → ⊥) → (content (FIRST_AFTER_LOG + s) ≡ unused → ⊥)
+pub refused_contradicts : (content : Image) (v : Superblock) (s : ℕ) → ((e : Entry) → IsEntry v.version e → content (slot_sector (s + 1)) ≡ spelling e → ⊥) → (content (slot_sector (s + 1)) ≡ unused → ⊥)
     → IsRight content v s (held_at content v s) → ⊥
 refused_contradicts content v s no_entry not_unused is = go (held_at content v s) is
   where

@@ -25,6 +25,7 @@ use Rattle.vol_tree.proofs.Creates.{created_least}
 use Rattle.vol_tree.proofs.Grows.{created_grows}
 use Rattle.vol_tree.proofs.Adding.{created_is, created_exists, added_tree, added_reserved, added_front, added_content, added_taken, added_is, zero_at}
 use Rattle.vol_log.specs.declared.layout.TheConstants.{FIRST_AFTER_LOG}
+use Rattle.vol_dirs.specs.Slots.{slot_sector}
 
 pub found_exists : (T : Tree) (parent : ℕ) (name : Name) (node : Node) (o : Option ℕ) → o ≡ lookup T parent name → is_some o ≡ true → created T parent name node ≡ Err errno.Exist
 found_exists T parent name node None is some = absurd (false≢true some)
@@ -108,7 +109,7 @@ pub record Created (a b : Image) (v : Superblock) (sectors : Alloc) (parent : �
 pub creates : (a b : Image) (v : Superblock) (sectors : Alloc) (parent : ℕ) (name : Name) (kind : Kind) (serial : ℕ) (e : Entry) → FIRST_AFTER_LOG + v.slots < v.sectors → IsContent a v → 1 ≤ serial → serial ≤ v.slots
     → lookup (tree_in a v) parent name ≡ None → least_from 1 is_unused (tree_in a v) ≡ Some serial → IsName name → IsDirectory (tree_in a v) parent
     → IsEntry v.version e → e.parent ≡ parent → name_of e ≡ name → e.kind ≡ kind → e.size ≡ 0 → e.pointers ≡ replicate 60 0
-    → b ≡ put (121 + serial) (spelling e) a → AreTaken a v (slots_in a v.slots) sectors → Created a b v sectors parent name kind serial
+    → b ≡ put (slot_sector serial) (spelling e) a → AreTaken a v (slots_in a v.slots) sectors → Created a b v sectors parent name kind serial
 creates a b v sectors parent name kind zero e ranges is first last missing least is_name inside right p n k empty pointers is_put taken = absurd (omega arith)
 creates a b v sectors parent name kind (suc s) e ranges is first last missing least is_name inside right p n k empty pointers is_put taken =
     let T : Tree = tree_in a v in
@@ -119,8 +120,8 @@ creates a b v sectors parent name kind (suc s) e ranges is first last missing le
     let grown : IsTree U = created_grows T U parent (suc s) name (node_by kind []) is.volume.tree is_name inside made in
     let lt : s < v.slots = omega arith in
     let each : (i : ℕ) → get_or e.pointers i 0 ≡ 0 = λ i. ap (λ (l : List ℕ). get_or l i 0) pointers ∙ zero_at 60 i in
-    let here : 121 + suc s ≡ FIRST_AFTER_LOG + s = omega arith in
-    let put_is : b ≡ put (FIRST_AFTER_LOG + s) (spelling e) a = is_put ∙ ap (λ (x : ℕ). put x (spelling e) a) here in
+    let here : slot_sector (suc s) ≡ slot_sector (s + 1) = omega arith in
+    let put_is : b ≡ put (slot_sector (s + 1)) (spelling e) a = is_put ∙ ap (λ (x : ℕ). put x (spelling e) a) here in
     let added : entry_of b e ≡ new = added_is a b v is s lt fresh.unused e right each empty put_is ranges parent name p n ∙ ap (λ (x : Kind). (let r : tree.Entry = record { parent = parent; name = name; node = node_by x [] } in r)) k in
     let tree_is : tree_in b v ≡ U = added_tree a b v is s lt fresh.unused e right each empty put_is ranges ∙ ap (λ (x : tree.Entry). changed T (suc s) (Some x)) added in
     record {

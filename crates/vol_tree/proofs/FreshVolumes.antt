@@ -38,6 +38,7 @@ use Rattle.vol_tree.proofs.OneTree.{one_tree}
 use Rattle.vol_tree.proofs.Openings.{Finds, finds_stands, has_same, stands_volume}
 use Rattle.vol_tree.proofs.SlotsRead.{slots_read}
 use Rattle.vol_log.specs.declared.layout.TheConstants.{FIRST_AFTER_LOG}
+use Rattle.vol_dirs.specs.Slots.{slot_sector}
 
 -- numbers that aren't refused are in their ranges
 pub in_ranges : (v : Superblock) → ((HasRanges v → ⊥) → ⊥) → HasRanges v
@@ -93,10 +94,10 @@ module _ (content : Image) (v : Superblock) (ranges : HasRanges v) (written : Ha
   tree_empty : tree_in content v ≡ empty_tree v.slots
   tree_empty = ap (tree_of content) slots_are ∙ tree_is content v.slots
 
-  pub first_slot : content 122 ≡ spelling root_entry
+  pub first_slot : content (slot_sector 1) ≡ spelling root_entry
   first_slot = ap content (omega arith) ∙ written 0 ranges.some_slots
 
-  pub other_slots : (s : ℕ) → 2 ≤ s → s ≤ v.slots → content (121 + s) ≡ unused
+  pub other_slots : (s : ℕ) → 2 ≤ s → s ≤ v.slots → content (slot_sector s) ≡ unused
   other_slots s from to =
       let lt : s - 1 < v.slots = omega arith in
       ap content (omega arith) ∙ written (s - 1) lt ∙ later_slot (s - 1) (omega arith)

@@ -25,6 +25,7 @@ use Rattle.vol_tree.specs.Tree as tree
 use Rattle.vol_tree.specs.Tree.{Tree}
 use Rattle.vol_tree.specs.Stands.{Slots, slot, Holds, entry_of, tree_of, node_by, KeepApart, StandsAs}
 use Rattle.vol_log.specs.declared.layout.TheConstants.{FIRST_AFTER_LOG}
+use Rattle.vol_dirs.specs.Slots.{slot_sector}
 use Rattle.vol_inode.specs.declared.version.TheConstants.{LARGEST_SIZE}
 
 -- ---- the superblock
@@ -106,9 +107,9 @@ same_slot version (Some d) (Some e) one other same = ap Some (same_entry d e (on
 pub same_slots : (version : Version) (a b : Image) (one other : Slots) → length one ≡ length other → SameContent a b → Holds a version one → Holds b version other → one ≡ other
 same_slots version a b one other long same has too = ext_get_or None one other long (λ s lt.
     let l : s < length other = omega arith in
-    let after_log : FIRST_AFTER_LOG ≤ FIRST_AFTER_LOG + s = omega arith in
+    let after_log : FIRST_AFTER_LOG ≤ slot_sector (s + 1) = omega arith in
     same_slot version (get_or one s None) (get_or other s None) (has.entries s) (too.entries s)
-    (sym (has.bytes s lt) ∙ same (FIRST_AFTER_LOG + s) (inr after_log) ∙ too.bytes s l))
+    (sym (has.bytes s lt) ∙ same (slot_sector (s + 1)) (inr after_log) ∙ too.bytes s l))
 
 -- ---- the tree
 

@@ -14,6 +14,7 @@ use Rattle.vol_tree.specs.Space.{space}
 use Rattle.vol_tree.specs.Stands.{Slots, tree_of, IsVolume, StandsAs}
 use Rattle.vol_tree.proofs.OneTree.{same_tree_entry, same_options}
 use Rattle.vol_log.specs.declared.layout.TheConstants.{FIRST_AFTER_LOG}
+use Rattle.vol_dirs.specs.Slots.{slot_sector}
 
 -- ---- the log's images
 
@@ -46,9 +47,9 @@ module _ (a b : Image) (v : Superblock) (room : FIRST_AFTER_LOG + v.slots < v.se
     count = is.count;
     holds = record {
       bytes = λ s lt.
-          let after_log : FIRST_AFTER_LOG ≤ FIRST_AFTER_LOG + s = omega arith in
-          let there : FIRST_AFTER_LOG + s < v.sectors = omega (arith, room, is.count, lt) in
-          same (FIRST_AFTER_LOG + s) after_log there ∙ is.holds.bytes s lt;
+          let after_log : FIRST_AFTER_LOG ≤ slot_sector (s + 1) = omega arith in
+          let there : slot_sector (s + 1) < v.sectors = omega (arith, room, is.count, lt) in
+          same (slot_sector (s + 1)) after_log there ∙ is.holds.bytes s lt;
       entries = is.holds.entries;
     };
     sectors = record {

@@ -35,6 +35,7 @@ use Rattle.vol_tree.proofs.Finding.{entry_at, slot_within, slot_of_entry}
 use Rattle.vol_tree.proofs.AllNamed.{in_flat, from_flat, one_distinct, apart_in}
 use Rattle.vol_inode.specs.Spelling.{spelling}
 use Rattle.vol_tree.proofs.Passes.{space_is}
+use Rattle.vol_dirs.specs.Slots.{slot_sector}
 
 -- what every check that passed gives
 pub record HasPassed (content : Image) (v : Superblock) (found : Entries) : Type 0 where
@@ -180,7 +181,7 @@ module _ (content : Image) (v : Superblock) (found : Entries) (p : HasPassed con
     ]
     | inr some ↦ elim (cases_lt t s) [
       | inl before ↦
-          let is : content (121 + (t + 1)) ≡ spelling e = ap content (omega arith) ∙ (right t e at_e).bytes in
+          let is : content (slot_sector (t + 1)) ≡ spelling e = ap content (omega arith) ∙ (right t e at_e).bytes in
           absurd ((placed s d at_d).first some (t + 1) (record {
             first = omega arith;
             last = omega (arith, before);

@@ -39,6 +39,7 @@ use Rattle.vol_tree.proofs.Finding.{entry_at, slot_within, slot_of_entry, size_b
 use Rattle.vol_tree.proofs.Within.{within_below}
 use Rattle.vol_tree.proofs.AllNamed.{from_flat, all_distinct, inside_so_far}
 use Rattle.vol_log.specs.declared.layout.TheConstants.{FIRST_AFTER_LOG}
+use Rattle.vol_dirs.specs.Slots.{slot_sector}
 
 -- ---- the space
 
@@ -83,7 +84,7 @@ module _ (content : Image) (v : Superblock) (is : IsContent content v) where
         let spelled = before.spelled in
         let d = spelled.entry in
         let lt : t - 1 < v.slots = omega (arith, before.first, before.last, slot_within content v.slots s e at) in
-        let own : content (FIRST_AFTER_LOG + (t - 1)) ≡ spelling d = ap content (omega (arith, before.first)) ∙ spelled.spelled in
+        let own : content (slot_sector (t - 1 + 1)) ≡ spelling d = ap content (omega (arith, before.first)) ∙ spelled.spelled in
         let at_d : get_or slots (t - 1) None ≡ Some d = held_some content v (t - 1) lt d spelled.right own in
         let same = is.volume.tree.apart (suc s) (suc (t - 1)) (entry_of content e) (entry_of content d) (there s e at) (there (t - 1) d at_d) spelled.parent_is spelled.name_is in
         omega (arith, same, before.first, before.last);

@@ -35,6 +35,7 @@ use Rattle.vol_sector.specs.declared.fault.VolumeFault.TheVariants as faults
 use Rattle.vol_tree.proofs.SlotsRead.{slot_read}
 use Rattle.vol_tree.proofs.SameContents.{same_is_content, same_tree_in, same_shows, same_taken, stands_with}
 use Rattle.vol_log.specs.declared.layout.TheConstants.{FIRST_AFTER_LOG}
+use Rattle.vol_dirs.specs.Slots.{slot_sector}
 
 -- what version 1 allows, version 2 does
 entry_raised : (e : Entry) → IsEntry One e → IsEntry Two e
@@ -67,11 +68,11 @@ module _ (content : Image) (v : Superblock) (one : v.version ≡ One) (is : IsCo
   taken_raised sectors taken = record { named = taken.named; only = taken.only }
 
   -- an entry that a slot spells is one that version 1 allows
-  entry_lowered : (s : ℕ) (e : Entry) → s < v.slots → IsEntry Two e → content (FIRST_AFTER_LOG + s) ≡ spelling e → IsEntry v.version e
+  entry_lowered : (s : ℕ) (e : Entry) → s < v.slots → IsEntry Two e → content (slot_sector (s + 1)) ≡ spelling e → IsEntry v.version e
   entry_lowered s e lt right spelled =
       let o = get_or (slots_in content v.slots) s None in
-      let own : slot_in (content (FIRST_AFTER_LOG + s)) ≡ o = ap slot_in (is.volume.holds.bytes s (omega (arith, is.volume.count))) ∙ slot_read o (λ d at. (is.volume.holds.entries s d at).widths) in
-      let read : slot_in (content (FIRST_AFTER_LOG + s)) ≡ Some e = ap slot_in spelled ∙ slot_read (Some e) (λ d same. subst HasWidths (same_Some e d same) right.widths) in
+      let own : slot_in (content (slot_sector (s + 1))) ≡ o = ap slot_in (is.volume.holds.bytes s (omega (arith, is.volume.count))) ∙ slot_read o (λ d at. (is.volume.holds.entries s d at).widths) in
+      let read : slot_in (content (slot_sector (s + 1))) ≡ Some e = ap slot_in spelled ∙ slot_read (Some e) (λ d same. subst HasWidths (same_Some e d same) right.widths) in
       is.volume.holds.entries s e (sym own ∙ read)
 
   pub shows_raised : (dirs : Dirs) → Shows v.version content v.slots dirs → Shows Two content v.slots dirs
@@ -90,7 +91,7 @@ module _ (content : Image) (v : Superblock) (one : v.version ≡ One) (is : IsCo
           };
         },
     λ at.
-        let here : FIRST_AFTER_LOG + (s - 1) ≡ 121 + s = omega (arith, at.first) in
+        let here : slot_sector (s - 1 + 1) ≡ slot_sector s = omega (arith, at.first) in
         (shows p n s).1 (record {
           first = at.first;
           last = at.last;

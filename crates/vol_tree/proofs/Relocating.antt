@@ -31,6 +31,7 @@ use Rattle.vol_tree.proofs.SlotTaken.{taken_set}
 use Rattle.vol_tree.proofs.Finding.{slot_within, entry_at, length_tree}
 use Rattle.vol_tree.proofs.Trees.{moved_is_tree}
 use Rattle.vol_log.specs.declared.layout.TheConstants.{FIRST_AFTER_LOG}
+use Rattle.vol_dirs.specs.Slots.{slot_sector}
 
 -- entries with the same pointers name the same sectors
 named_by : (content : Image) (d e : Entry) → e.pointers ≡ d.pointers → (p : BlockPosition) → named content e p ≡ named content d p
@@ -51,7 +52,7 @@ pub moved_to : (T : Tree) (s parent : ℕ) (name : Name) (e : tree.Entry) → tr
 moved_to T s parent name e h = ap (λ (o : Option tree.Entry). option_map_or (λ (e : tree.Entry). changed T s (Some (record e { parent = parent; name = name }))) o T) h
 
 module _ (a c : Image) (v : Superblock) (s : ℕ) (d to : Entry) (is : IsContent a v) (at : get_or (slots_in a v.slots) s None ≡ Some d) (low : FIRST_AFTER_LOG + v.slots < v.sectors) (right : IsEntry v.version to)
-    (pointers : to.pointers ≡ d.pointers) (size : to.size ≡ d.size) (kind : to.kind ≡ d.kind) (put_is : c ≡ put (FIRST_AFTER_LOG + s) (spelling to) a) where
+    (pointers : to.pointers ≡ d.pointers) (size : to.size ≡ d.size) (kind : to.kind ≡ d.kind) (put_is : c ≡ put (slot_sector (s + 1)) (spelling to) a) where
   abbrev slots : Slots
   slots = slots_in a v.slots
 
@@ -61,8 +62,8 @@ module _ (a c : Image) (v : Superblock) (s : ℕ) (d to : Entry) (is : IsContent
   lt : s < v.slots
   lt = slot_within a v.slots s d at
 
-  elsewhere : (k : ℕ) → k ≢ FIRST_AFTER_LOG + s → c k ≡ a k
-  elsewhere k differ = at_once k c (put (FIRST_AFTER_LOG + s) (spelling to) a) put_is ∙ put_other (FIRST_AFTER_LOG + s) k (spelling to) a differ
+  elsewhere : (k : ℕ) → k ≢ slot_sector (s + 1) → c k ≡ a k
+  elsewhere k differ = at_once k c (put (slot_sector (s + 1)) (spelling to) a) put_is ∙ put_other (slot_sector (s + 1)) k (spelling to) a differ
 
   sectors_stay : (t : ℕ) (f : Entry) → get_or slots t None ≡ Some f → SameSectors a c f
   sectors_stay t f is_f p place some =
@@ -71,7 +72,7 @@ module _ (a c : Image) (v : Superblock) (s : ℕ) (d to : Entry) (is : IsContent
 
   others : OtherSlots a c v slots s
   others = record {
-    bytes = λ t l differ. elsewhere (FIRST_AFTER_LOG + t) (λ same. differ (omega arith));
+    bytes = λ t l differ. elsewhere (slot_sector (t + 1)) (λ same. differ (omega arith));
     files = λ t f is_f differ. sectors_stay t f is_f;
   }
 
@@ -89,7 +90,7 @@ module _ (a c : Image) (v : Superblock) (s : ℕ) (d to : Entry) (is : IsContent
 
   fits : FitsIn a c v slots s (Some to)
   fits = record {
-    bytes = λ l. at_once (FIRST_AFTER_LOG + s) c (put (FIRST_AFTER_LOG + s) (spelling to) a) put_is ∙ put_same (FIRST_AFTER_LOG + s) (spelling to) a;
+    bytes = λ l. at_once (slot_sector (s + 1)) c (put (slot_sector (s + 1)) (spelling to) a) put_is ∙ put_same (slot_sector (s + 1)) (spelling to) a;
     entry = λ e same. subst (IsEntry v.version) (own e same) right;
     body = λ e same. subst (IsBody c) (own e same) (body_by c d to pointers size (same_rules a c d same_d (is.volume.sectors.bodies s d at)));
     after_slots = λ e p same place some.

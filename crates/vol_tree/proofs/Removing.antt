@@ -26,25 +26,26 @@ use Rattle.vol_tree.proofs.SlotTaken.{TakenFollows, taken_set}
 use Rattle.vol_tree.proofs.Rewriting.{Rewrites, rewritten_others, rewritten_front}
 use Rattle.vol_tree.proofs.Finding.{slot_within, entry_at, length_tree, size_back}
 use Rattle.vol_log.specs.declared.layout.TheConstants.{FIRST_AFTER_LOG}
+use Rattle.vol_dirs.specs.Slots.{slot_sector}
 
 module _ (a b c : Image) (v : Superblock) (s : ℕ) (d e : Entry) (old new : Alloc) (is : IsContent a v) (at : get_or (slots_in a v.slots) s None ≡ Some d)
     (first : first_of old ≡ FIRST_AFTER_LOG + v.slots) (end : end_of old ≡ v.sectors) (low : FIRST_AFTER_LOG + v.slots < v.sectors) (taken : AreTaken a v (slots_in a v.slots) old) (r : Rewrites a b v s d e old new)
-    (empty : e.size ≡ 0) (put_is : c ≡ put (FIRST_AFTER_LOG + s) unused b) where
+    (empty : e.size ≡ 0) (put_is : c ≡ put (slot_sector (s + 1)) unused b) where
   abbrev slots : Slots
   slots = slots_in a v.slots
 
   lt : s < v.slots
   lt = slot_within a v.slots s d at
 
-  elsewhere : (k : ℕ) → k ≢ FIRST_AFTER_LOG + s → c k ≡ b k
-  elsewhere k differ = at_once k c (put (FIRST_AFTER_LOG + s) unused b) put_is ∙ put_other (FIRST_AFTER_LOG + s) k unused b differ
+  elsewhere : (k : ℕ) → k ≢ slot_sector (s + 1) → c k ≡ b k
+  elsewhere k differ = at_once k c (put (slot_sector (s + 1)) unused b) put_is ∙ put_other (slot_sector (s + 1)) k unused b differ
 
   before : OtherSlots a b v slots s
   before = rewritten_others a b v s d e old new is at first end low taken r
 
   others : OtherSlots a c v slots s
   others = record {
-    bytes = λ t l differ. elsewhere (FIRST_AFTER_LOG + t) (λ same. differ (omega arith)) ∙ before.bytes t l differ;
+    bytes = λ t l differ. elsewhere (slot_sector (t + 1)) (λ same. differ (omega arith)) ∙ before.bytes t l differ;
     files = λ t f is_f differ p place some.
         let after_slots : FIRST_AFTER_LOG + v.slots ≤ named a f p = is.volume.sectors.after_slots t f p is_f place some in
         elsewhere (named a f p) (λ same. omega (arith, lt)) ∙ before.files t f is_f differ p place some;
@@ -52,7 +53,7 @@ module _ (a b c : Image) (v : Superblock) (s : ℕ) (d e : Entry) (old new : All
 
   fits : FitsIn a c v slots s None
   fits = record {
-    bytes = λ l. at_once (FIRST_AFTER_LOG + s) c (put (FIRST_AFTER_LOG + s) unused b) put_is ∙ put_same (FIRST_AFTER_LOG + s) unused b;
+    bytes = λ l. at_once (slot_sector (s + 1)) c (put (slot_sector (s + 1)) unused b) put_is ∙ put_same (slot_sector (s + 1)) unused b;
     entry = λ x none. absurd (cc);
     body = λ x none. absurd (cc);
     after_slots = λ x p none. absurd (cc);

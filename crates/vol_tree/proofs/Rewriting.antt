@@ -28,6 +28,7 @@ use Rattle.vol_tree.proofs.SlotTaken.{TakenFollows, taken_set}
 use Rattle.vol_tree.proofs.Entries.{entry-changed_same, entry-changed_other}
 use Rattle.vol_tree.proofs.Finding.{slot_within}
 use Rattle.vol_log.specs.declared.layout.TheConstants.{FIRST_AFTER_LOG}
+use Rattle.vol_dirs.specs.Slots.{slot_sector}
 
 -- ---- the tree
 
@@ -100,8 +101,8 @@ pub record Rewrites (a b : Image) (v : Superblock) (s : ℕ) (d e : Entry) (old 
   pub parent : e.parent ≡ d.parent
   pub name : name_of e ≡ name_of d
   pub body : IsBody b e
-  pub staged : b (FIRST_AFTER_LOG + s) ≡ spelling e
-  pub others : OthersStay (FIRST_AFTER_LOG + s) (first_of old) (end_of old) (taken_of old) a b d
+  pub staged : b (slot_sector (s + 1)) ≡ spelling e
+  pub others : OthersStay (slot_sector (s + 1)) (first_of old) (end_of old) (taken_of old) a b d
   pub taken : TakesAndGives (taken_of old) (taken_of new) a b d e
   pub first : first_of new ≡ first_of old
   pub end : end_of new ≡ end_of old
@@ -120,7 +121,7 @@ module _ (a b : Image) (v : Superblock) (s : ℕ) (d e : Entry) (old new : Alloc
 
   pub rewritten_others : OtherSlots a b v slots s
   rewritten_others = record {
-    bytes = λ t l differ. r.others.outside (FIRST_AFTER_LOG + t) (λ same. differ (omega (arith, lt))) (inl (omega (arith, lt)));
+    bytes = λ t l differ. r.others.outside (slot_sector (t + 1)) (λ same. differ (omega (arith, lt))) (inl (omega (arith, lt)));
     files = λ t f is_f differ p place some.
         let after_slots : FIRST_AFTER_LOG + v.slots ≤ named a f p = is.volume.sectors.after_slots t f p is_f place some in
         r.others.taken (named a f p) (λ same. omega (arith, lt)) (taken.named t f is_f p place some) (not_own t f p is_f differ place some);
@@ -193,7 +194,7 @@ module _ (a b : Image) (v : Superblock) (s : ℕ) (d e : Entry) (old new : Alloc
 
   pub rewritten_shows : (dirs : Dirs) → Shows v.version a v.slots dirs → Shows v.version b v.slots dirs
   rewritten_shows dirs shows =
-      let here : 121 + suc s ≡ FIRST_AFTER_LOG + s = omega (arith, lt) in
+      let here : slot_sector (suc s) ≡ slot_sector (s + 1) = omega (arith, lt) in
       rewritten_shown v.version a b v.slots (suc s) d e dirs shows (is.volume.holds.entries s d at) r.entry
       (ap a here ∙ is.volume.holds.bytes s (omega (arith, is.volume.count, lt)) ∙ ap slot at) (ap b here ∙ r.staged) (sym r.parent) (sym r.name)
-      (λ t from last differ. r.others.outside (121 + t) (λ same. differ (omega (arith, lt))) (inl (omega (arith, lt))))
+      (λ t from last differ. r.others.outside (slot_sector t) (λ same. differ (omega (arith, lt))) (inl (omega (arith, lt))))

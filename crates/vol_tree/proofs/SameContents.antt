@@ -25,6 +25,7 @@ use Rattle.vol_tree.specs.internal.Parts.{IsContent, AreTaken}
 use Rattle.vol_tree.proofs.SlotsRead.{slots_count}
 use Rattle.vol_tree.proofs.SlotChange.{OtherSlots, FitsIn, set_tree, set_slots, set_volume}
 use Rattle.vol_log.specs.declared.layout.TheConstants.{FIRST_AFTER_LOG}
+use Rattle.vol_dirs.specs.Slots.{slot_sector}
 
 -- ---- an image with the same content
 
@@ -39,7 +40,7 @@ module _ (a b : Image) (v : Superblock) (same : (k : ℕ) → FIRST_AFTER_LOG �
 
   others : OtherSlots a b v slots v.slots
   others = record {
-    bytes = λ t lt differ. let after_log : FIRST_AFTER_LOG ≤ FIRST_AFTER_LOG + t = omega arith in sym (same (FIRST_AFTER_LOG + t) after_log);
+    bytes = λ t lt differ. let after_log : FIRST_AFTER_LOG ≤ slot_sector (t + 1) = omega arith in sym (same (slot_sector (t + 1)) after_log);
     files = λ t e at differ. same_sectors t e at;
   }
 
@@ -91,7 +92,7 @@ module _ (a b : Image) (v : Superblock) (same : (k : ℕ) → FIRST_AFTER_LOG �
   })
 
   pub same_shows : (dirs : Dirs) → Shows v.version a v.slots dirs → Shows v.version b v.slots dirs
-  same_shows dirs shows = same_shown v.version a b v.slots dirs shows (λ s first last. let after_log : FIRST_AFTER_LOG ≤ 121 + s = omega arith in sym (same (121 + s) after_log))
+  same_shows dirs shows = same_shown v.version a b v.slots dirs shows (λ s first last. let after_log : FIRST_AFTER_LOG ≤ slot_sector s = omega arith in sym (same (slot_sector s) after_log))
 
 -- ---- what images stand for
 

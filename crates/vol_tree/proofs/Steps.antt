@@ -11,6 +11,7 @@ use Rattle.vol_tree.specs.Fresh.{IsNoneOrEmpty}
 use Rattle.vol_tree.specs.internal.Formatting.{fresh_slot, HasFreshSlots, IsFresh, OnlyAfterLogChanges, OnlyAfterFrontChanges}
 use Rattle.vol_tree.proofs.Empty.{stands_empty}
 use Rattle.vol_log.specs.declared.layout.TheConstants.{FIRST_AFTER_LOG}
+use Rattle.vol_dirs.specs.Slots.{slot_sector}
 
 -- a write after the log
 pub wrote_after_log : (n : ℕ) (bytes : List ℕ) → FIRST_AFTER_LOG ≤ n → (x y : Image) → Wrote n bytes x y → OnlyAfterLogChanges x y
@@ -20,10 +21,10 @@ pub after_log_joins : (x y z : Image) → OnlyAfterLogChanges x y → OnlyAfterL
 after_log_joins x y z one two k low = two k low ∙ one k low
 
 -- one slot more
-pub slots_more : (s : ℕ) (bytes : List ℕ) (x y : Image) → y ≡ put (FIRST_AFTER_LOG + s) bytes x → bytes ≡ fresh_slot s → HasFreshSlots s x → HasFreshSlots (s + 1) y
-slots_more s bytes x y written spelled so_far t lt = at_once (FIRST_AFTER_LOG + t) y (put (FIRST_AFTER_LOG + s) bytes x) written ∙ elim (cases_eq t s) [
-  | inl same ↦ ap (λ (k : ℕ). put (FIRST_AFTER_LOG + s) bytes x (FIRST_AFTER_LOG + k)) same ∙ put_same (FIRST_AFTER_LOG + s) bytes x ∙ spelled ∙ ap fresh_slot (sym same)
-  | inr other ↦ let apart : FIRST_AFTER_LOG + t ≢ FIRST_AFTER_LOG + s = omega arith in put_other (FIRST_AFTER_LOG + s) (FIRST_AFTER_LOG + t) bytes x apart ∙ so_far t (omega arith)
+pub slots_more : (s : ℕ) (bytes : List ℕ) (x y : Image) → y ≡ put (slot_sector (s + 1)) bytes x → bytes ≡ fresh_slot s → HasFreshSlots s x → HasFreshSlots (s + 1) y
+slots_more s bytes x y written spelled so_far t lt = at_once (slot_sector (t + 1)) y (put (slot_sector (s + 1)) bytes x) written ∙ elim (cases_eq t s) [
+  | inl same ↦ ap (λ (k : ℕ). put (slot_sector (s + 1)) bytes x (slot_sector (k + 1))) same ∙ put_same (slot_sector (s + 1)) bytes x ∙ spelled ∙ ap fresh_slot (sym same)
+  | inr other ↦ let apart : slot_sector (t + 1) ≢ slot_sector (s + 1) = omega arith in put_other (slot_sector (s + 1)) (slot_sector (t + 1)) bytes x apart ∙ so_far t (omega arith)
 ]
 
 -- steps that leave the first sector
@@ -47,7 +48,7 @@ is_fresh slots bytes a b c written spelled after_log entries = record {
 pub still_fresh : (slots : ℕ) (bytes : List ℕ) (a b : Image) → b ≡ put 0 bytes a → IsFresh slots a → IsFresh slots b
 still_fresh slots bytes a b written fresh = record {
   log = let other : 1 ≢ 0 = omega arith in at_once 1 b (put 0 bytes a) written ∙ put_other 0 1 bytes a other ∙ fresh.log;
-  entries = λ s lt. let other : FIRST_AFTER_LOG + s ≢ 0 = omega arith in at_once (FIRST_AFTER_LOG + s) b (put 0 bytes a) written ∙ put_other 0 (FIRST_AFTER_LOG + s) bytes a other ∙ fresh.entries s lt;
+  entries = λ s lt. let other : slot_sector (s + 1) ≢ 0 = omega arith in at_once (slot_sector (s + 1)) b (put 0 bytes a) written ∙ put_other 0 (slot_sector (s + 1)) bytes a other ∙ fresh.entries s lt;
 }
 
 -- ---- no volume, or the empty one

@@ -13,6 +13,7 @@ use Rattle.vol_tree.specs.Space.{Geometry}
 use Rattle.vol_tree.specs.Tree.{Tree}
 use Rattle.vol_tree.specs.Stands.{Slots, tree_of, StandsAs}
 use Rattle.vol_log.specs.declared.layout.TheConstants.{FIRST_AFTER_LOG}
+use Rattle.vol_dirs.specs.Slots.{slot_sector}
 
 -- ---- the slots that sectors spell (`docs/VOLUME.md`, "Entry")
 
@@ -31,7 +32,7 @@ abbrev pub slot_in : List ℕ → Option Entry
 slot_in bytes = if slice_index bytes 0 == 0 then None else Some (entry_in bytes)
 
 abbrev pub slots_in : Image → ℕ → Slots
-slots_in content slots = map (λ s. slot_in (content (FIRST_AFTER_LOG + s))) (range_with_len 0 slots)
+slots_in content slots = map (λ s. slot_in (content (slot_sector (s + 1)))) (range_with_len 0 slots)
 
 -- the tree of a volume with these numbers
 abbrev pub tree_in : Image → Superblock → Tree

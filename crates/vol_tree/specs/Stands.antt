@@ -16,6 +16,7 @@ use Rattle.vol_tree.specs.Tree as tree
 use Rattle.vol_tree.specs.Tree.{Tree, Node, Directory, File, IsTree}
 use Rattle.vol_tree.specs.Space.{space}
 use Rattle.vol_log.specs.declared.layout.TheConstants.{FIRST_AFTER_LOG}
+use Rattle.vol_dirs.specs.Slots.{slot_sector}
 
 -- the slots of a volume: serial s + 1 stands at place s
 abbrev pub Slots : Type 0
@@ -28,7 +29,7 @@ slot (Some e) = spelling e
 
 -- The slots hold these entries, each of which keeps the rules that its own sector shows.
 pub record Holds (content : Image) (version : Version) (slots : Slots) : Type 0 where
-  pub bytes : (s : ℕ) → s < length slots → content (FIRST_AFTER_LOG + s) ≡ slot (get_or slots s None)
+  pub bytes : (s : ℕ) → s < length slots → content (slot_sector (s + 1)) ≡ slot (get_or slots s None)
   pub entries : (s : ℕ) (e : Entry) → get_or slots s None ≡ Some e → IsEntry version e
 
 -- ---- the tree of the entries

@@ -10,6 +10,7 @@ ghost use Rattle.vol_tree.specs.Opened.{data_sectors, geometry};
 use crate::Errno;
 use crate::parts::Parts;
 use vol_body::{Source, set_size, write_at};
+use vol_dirs::slot_sector;
 use vol_inode::{Version, need};
 use vol_log::FIRST_AFTER_LOG;
 use vol_sector::Device;
@@ -44,7 +45,7 @@ impl<D: Device> Parts<D> {
         write_at(
             &mut self.log,
             &mut self.sectors,
-            121 + file,
+            slot_sector(file),
             &mut entry,
             end - count as u32,
             bytes,
@@ -74,7 +75,7 @@ impl<D: Device> Parts<D> {
         set_size(
             &mut self.log,
             &mut self.sectors,
-            121 + file,
+            slot_sector(file),
             &mut entry,
             size,
         )?;

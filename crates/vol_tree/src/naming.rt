@@ -13,6 +13,7 @@ use crate::Errno;
 use crate::parts::Parts;
 use crate::stat::ROOT;
 use vol_body::set_size;
+use vol_dirs::slot_sector;
 use vol_inode::{Entry, is_name, need};
 use vol_sector::{Device, DeviceFault};
 
@@ -111,7 +112,7 @@ impl<D: Device> Parts<D> {
         set_size(
             &mut self.log,
             &mut self.sectors,
-            121 + serial,
+            slot_sector(serial),
             &mut entry,
             0, // a directory has no bytes, and gives nothing back
         )?;

@@ -18,7 +18,7 @@ use crate::stat::ROOT;
 use crate::superblock::Superblock;
 use std::alloc::{AllocError, Global};
 use vol_body::survey;
-use vol_dirs::Dirs;
+use vol_dirs::{Dirs, slot_sector};
 use vol_inode::{Entry, Kind, need, read_entry};
 use vol_log::{FIRST_AFTER_LOG, Log};
 use vol_sector::{Device, VolumeFault};
@@ -202,7 +202,7 @@ fn read_slot<D: Device>(
     ensures reads { OnlyReads log.old log.new }
     ensures failed { has_failed log.new ≡ device_failed result }
 {
-    let image = log.read(FIRST_AFTER_LOG + slot)?;
+    let image = log.read(slot_sector(slot + 1))?;
     match read_entry(numbers.version, &image) {
         Ok(Some(entry)) => take_up(log, numbers, dirs, slot + 1, &entry, found),
         Ok(None) => found.pass(),

@@ -6,6 +6,7 @@ use Rattle.vol_inode.specs.declared.entry.Entry.{Entry}
 use Rattle.vol_inode.specs.declared.entry.Kind.TheVariants.{Directory}
 use Rattle.vol_inode.specs.Spelling.{spelling, unused}
 use Rattle.vol_log.specs.declared.layout.TheConstants.{FIRST_AFTER_LOG}
+use Rattle.vol_dirs.specs.Slots.{slot_sector}
 
 -- the root, as a volume keeps it
 abbrev pub root_entry : Entry
@@ -17,7 +18,7 @@ fresh_slot s = if s == 0 then spelling root_entry else unused
 
 -- the slots hold only the root
 abbrev pub HasFreshSlots : ℕ → Image → Type 0
-HasFreshSlots slots image = (s : ℕ) → s < slots → image (FIRST_AFTER_LOG + s) ≡ fresh_slot s
+HasFreshSlots slots image = (s : ℕ) → s < slots → image (slot_sector (s + 1)) ≡ fresh_slot s
 
 -- the log is empty, and the slots hold only the root
 pub record IsFresh (slots : ℕ) (image : Image) : Type 0 where

@@ -18,6 +18,7 @@ use Rattle.vol_tree.specs.internal.Parts.{IsContent, AreTaken}
 use Rattle.vol_tree.specs.internal.Climbs.{AllLeadUp, AllLeadUpSoon, StandInDirectories}
 use Rattle.vol_tree.specs.internal.Replacing.{kind_is_directory}
 use Rattle.vol_log.specs.declared.layout.TheConstants.{FIRST_AFTER_LOG}
+use Rattle.vol_dirs.specs.Slots.{slot_sector}
 
 -- what the slot at this place holds
 abbrev pub held_at : Image → Superblock → ℕ → Option Entry
@@ -56,7 +57,7 @@ pub record IsNew (dirs : Dirs) (serial : ℕ) (e : Entry) : Type 0 where
 
 -- the slot keeps the rules that it shows, by itself and with the names of those before
 pub record IsRight (content : Image) (v : Superblock) (s : ℕ) (o : Option Entry) : Type 0 where
-  pub bytes : content (FIRST_AFTER_LOG + s) ≡ slot o
+  pub bytes : content (slot_sector (s + 1)) ≡ slot o
   pub entry : (e : Entry) → o ≡ Some e → IsEntry v.version e
   pub placed : (e : Entry) → o ≡ Some e → IsPlaced content v s e
   pub trimmed : (e : Entry) → o ≡ Some e → IsTrimmed content e

@@ -1,4 +1,5 @@
-use Rattle.std.proofs.Common.{◌+◌, ◌≤◌, arith, rules}
+use Rattle.std.proofs.Common.{◌≤◌, ◌∙◌, ℕ, ap, arith, rules}
+use Rattle.vol_sector.specs.Disk.{put}
 use Rattle.vol_tree.specs.internal.Formatting.{OnlyAfterLogChanges}
 use Rattle.vol_log.proofs.Moments.{leaves_step}
 use Rattle.vol_tree.proofs.Steps.{wrote_after_log, after_log_joins, slots_more}
@@ -7,12 +8,12 @@ use Rattle.vol_log.specs.declared.layout.TheConstants.{FIRST_AFTER_LOG}
 
 pub loop-s-preserved : goal.loop-s-preserved
 loop-s-preserved g c =
-    let after_log : FIRST_AFTER_LOG ≤ FIRST_AFTER_LOG + c.loop-s.s = omega arith in
+    let after_log : FIRST_AFTER_LOG ≤ c.slot_sector.result = omega (arith, c.slot_sector.ensures) in
     let so_far = c.loop-s.invariant in
     let e = c.write.ensures in
     let w = c.in_ok-write.ensures.written in
     record {
-      written = λ h. slots_more c.loop-s.s _ _ _ (w (so_far.honest.0 h)) c.fresh_slot.ensures (so_far.written h);
+      written = λ h. slots_more c.loop-s.s _ _ _ (w (so_far.honest.0 h) ∙ ap (λ (k : ℕ). put k c.fresh_slot.result (g.D.Device.disk c.loop-s.device).seen) c.slot_sector.ensures) c.fresh_slot.ensures (so_far.written h);
       beside = λ h. after_log_joins _ _ _ (so_far.beside h) (wrote_after_log _ _ after_log _ _ (e.seen (so_far.honest.0 h)));
       crash = λ h. leaves_step _ _ _ OnlyAfterLogChanges _ (wrote_after_log _ _ after_log) after_log_joins (so_far.crash h) (e.crash (so_far.honest.0 h));
       honest = search rules;
@@ -22,12 +23,12 @@ loop-s-preserved g c =
 
 pub returns-in_err-write-clause-crash : goal.returns-in_err-write-clause-crash
 returns-in_err-write-clause-crash g c h =
-    let after_log : FIRST_AFTER_LOG ≤ FIRST_AFTER_LOG + c.loop-s.s = omega arith in
+    let after_log : FIRST_AFTER_LOG ≤ c.slot_sector.result = omega (arith, c.slot_sector.ensures) in
     let so_far = c.loop-s.invariant in
     leaves_step _ _ _ OnlyAfterLogChanges _ (wrote_after_log _ _ after_log) after_log_joins (so_far.crash h) (c.write.ensures.crash (so_far.honest.0 h))
 
 pub returns-in_err-write-clause-beside : goal.returns-in_err-write-clause-beside
 returns-in_err-write-clause-beside g c h =
-    let after_log : FIRST_AFTER_LOG ≤ FIRST_AFTER_LOG + c.loop-s.s = omega arith in
+    let after_log : FIRST_AFTER_LOG ≤ c.slot_sector.result = omega (arith, c.slot_sector.ensures) in
     let so_far = c.loop-s.invariant in
     after_log_joins _ _ _ (so_far.beside h) (wrote_after_log _ _ after_log _ _ (c.write.ensures.seen (so_far.honest.0 h)))

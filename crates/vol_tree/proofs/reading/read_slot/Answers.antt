@@ -17,9 +17,13 @@ use Rattle.vol_tree.proofs.Committing.{at_ok, on_ok}
 use Rattle.vol_tree.proofs.Refusals.{memory_not_damage, err_not_ok}
 use Rattle.vol_tree.proofs.reading.read_slot.Goals as goal
 use Rattle.vol_log.specs.declared.layout.TheConstants.{FIRST_AFTER_LOG}
+use Rattle.vol_dirs.specs.Slots.{slot_sector}
+
+pub slot_sector-requires : goal.slot_sector-requires
+slot_sector-requires g c = omega (arith, c.requires.slot, c.requires.ranges.few_slots)
 
 pub read-requires : goal.read-requires
-read-requires g c = omega (arith, c.requires.there, c.requires.ranges.room, c.requires.slot)
+read-requires g c = omega (arith, c.requires.there, c.requires.ranges.room, c.requires.slot, c.slot_sector.ensures)
 
 pub take_up-requires : goal.take_up-requires
 take_up-requires g c =
@@ -67,7 +71,7 @@ returns-in-Ok-Some g c =
     let r = c.take_up.result in
     let taken = c.take_up.ensures in
     let both = subst (λ (o : Option Entry). IfSome o (λ d. IsEntry v.version d × (c.in_ok-image.image ≡ spelling d))) c.in-Ok-Some.field-0-is c.in-Ok-Some.ensures.right in
-    let spelled = λ (h : g.D.Device.honest (device_of c.args.log.now)). let is : content (FIRST_AFTER_LOG + c.args.slot) ≡ spelling e = sym (read.value h) ∙ both.1 in is in
+    let spelled = λ (h : g.D.Device.honest (device_of c.args.log.now)). let is : content (slot_sector (c.args.slot + 1)) ≡ spelling e = ap content (sym c.slot_sector.ensures) ∙ sym (read.value h) ∙ both.1 in is in
     record {
       adds = λ h.
           let is = held_some content v c.args.slot c.requires.slot e both.0 (spelled h) in
@@ -103,7 +107,7 @@ returns-in-Ok-None g c =
     let found = c.args.found.now in
     let r = c.pass.result in
     let passed = c.pass.ensures in
-    let none = λ (h : g.D.Device.honest (device_of c.args.log.now)). let is : content (FIRST_AFTER_LOG + c.args.slot) ≡ unused = sym (read.value h) ∙ c.in-Ok-None.ensures.unused.0 (ap Ok c.in-Ok-None.field-0-is) in is in
+    let none = λ (h : g.D.Device.honest (device_of c.args.log.now)). let is : content (slot_sector (c.args.slot + 1)) ≡ unused = ap content (sym c.slot_sector.ensures) ∙ sym (read.value h) ∙ c.in-Ok-None.ensures.unused.0 (ap Ok c.in-Ok-None.field-0-is) in is in
     record {
       adds = λ h.
           let is = held_none content v c.args.slot c.requires.slot (none h) in
@@ -137,8 +141,8 @@ returns-in-Err g c =
       shows = λ h. tt;
       right = λ h. tt;
       damaged = λ h is right fits.
-          refused_contradicts (view c.args.log.now) c.args.numbers.now c.args.slot (λ d is_entry spelled. err_not_ok why (Some d) (e.every d is_entry (read.value h ∙ spelled)))
-          (λ none. err_not_ok why None (e.unused.1 (read.value h ∙ none))) right;
+          refused_contradicts (view c.args.log.now) c.args.numbers.now c.args.slot (λ d is_entry spelled. err_not_ok why (Some d) (e.every d is_entry (read.value h ∙ ap (view c.args.log.now) c.slot_sector.ensures ∙ spelled)))
+          (λ none. err_not_ok why None (e.unused.1 (read.value h ∙ ap (view c.args.log.now) c.slot_sector.ensures ∙ none))) right;
       refused = inl refl;
       reads = reads_of c.args.log.now c.read.new.self false read.view read.staged read.seen read.crash read.sectors read.honest read.size read.failures read.failed;
       failed = read.failed;

@@ -10,7 +10,7 @@ use Rattle.vol_tree.specs.internal.Moves.{Moves}
 use Rattle.vol_tree.proofs.Changing.{stages, staged_open}
 use Rattle.vol_tree.proofs.Relocating.{relocated_tree, relocated_space, relocated_content, relocated_is_tree, relocated_taken, relocated_front}
 use Rattle.vol_tree.proofs.parts.Parts.relocate.Goals as goal
-use Rattle.vol_log.specs.declared.layout.TheConstants.{FIRST_AFTER_LOG}
+use Rattle.vol_dirs.specs.Slots.{slot_sector}
 
 pub returns : goal.returns
 returns g c =
@@ -26,8 +26,8 @@ returns g c =
     let z = view c.relocate.new.log in
     let new = record old { log = c.relocate.new.log; dirs = c.relocate.new.self } in
     let here : suc s ≡ n = omega (arith, c.requires.first) in
-    let place : 121 + n ≡ FIRST_AFTER_LOG + s = omega (arith, c.requires.first) in
-    let put_is : z ≡ put (FIRST_AFTER_LOG + s) (spelling to) a = c.relocate.ensures.view ∙ ap (λ (k : ℕ). put k (spelling to) a) place in
+    let place : slot_sector n ≡ slot_sector (s + 1) = omega (arith, c.requires.first) in
+    let put_is : z ≡ put (slot_sector (s + 1)) (spelling to) a = c.relocate.ensures.view ∙ ap (λ (k : ℕ). put k (spelling to) a) place in
     let all_stages = stages old new c.relocate.ensures.device c.relocate.ensures.failed c.relocate.ensures.sectors refl refl c.relocate.ensures.slots in
     let right = is_to.right v.version c.requires.right in
     let k : slots_of old.dirs ≡ v.slots = is.slots in

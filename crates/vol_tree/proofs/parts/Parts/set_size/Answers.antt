@@ -22,7 +22,7 @@ use Rattle.vol_body.proofs.Rights.{not_both}
 use Rattle.vol_tree.specs.Tree.{Tree}
 use Rattle.vol_inode.specs.Entry.{name_of}
 use Rattle.vol_tree.proofs.parts.Parts.set_size.Goals as goal
-use Rattle.vol_log.specs.declared.layout.TheConstants.{FIRST_AFTER_LOG}
+use Rattle.vol_dirs.specs.Slots.{slot_sector}
 
 pub entry-requires : goal.entry-requires
 entry-requires g c = record { is_open = c.requires.is_open; first = c.requires.first; last = c.requires.last }
@@ -74,6 +74,9 @@ returns-in_err-make_room g c =
     let commits = commits_then old c.entry.new.self c.make_room.new.self true c.in_ok-entry.ensures.commits c.in_err-make_room.ensures.commits in
     refused_io _ old c.make_room.new.self c.from_residual-in_err-make_room.result c.from_residual-in_err-make_room.ensures.1 commits
 
+pub slot_sector-requires : goal.slot_sector-requires
+slot_sector-requires g c = omega (arith, c.requires.last, c.requires.is_open.ranges.few_slots)
+
 pub set_size-requires : goal.set_size-requires
 set_size-requires g c =
     let first = c.in_ok-entry.ensures.commits in
@@ -81,10 +84,11 @@ set_size-requires g c =
     let is = second.is_open in
     let last = subst (λ (w : Superblock). c.args.file ≤ w.slots) (sym (second.kept.numbers ∙ first.kept.numbers)) c.requires.last in
     let limit = limit_small c.entry.new.self.numbers.version in
+    let at = c.slot_sector.ensures in
     record {
-      after_log = omega (arith, c.requires.first);
-      slot = omega (arith, last, is.first);
-      within = omega (arith, last, is.sectors, is.ranges.room);
+      after_log = omega (arith, c.requires.first, at);
+      slot = omega (arith, last, is.first, at);
+      within = omega (arith, last, is.sectors, is.ranges.room, at);
       there = omega (arith, is.end, is.sectors);
       room = omega (arith, c.in_ok-make_room.ensures.room);
       small_before = omega (arith, c.in_ok-entry.ensures.right.rules.size.small, limit_small c.args.self.now.numbers.version);
@@ -113,7 +117,7 @@ returns g c =
     let a = view mid.log in
     let b = view c.set_size.new.log in
     let done = c.in_ok-set_size.ensures in
-    let place : 121 + n ≡ FIRST_AFTER_LOG + (n - 1) = omega (arith, c.requires.first) in
+    let place : c.slot_sector.result ≡ slot_sector (n - 1 + 1) = omega (arith, c.requires.first, c.slot_sector.ensures) in
     let same_v : v ≡ c.entry.new.self.numbers = c.in_ok-make_room.ensures.commits.kept.numbers in
     let same_r : mid.reserved ≡ c.entry.new.self.reserved = c.in_ok-make_room.ensures.commits.reserved in
     let entry_is = done.entry.entry in

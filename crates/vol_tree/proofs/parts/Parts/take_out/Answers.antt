@@ -21,7 +21,7 @@ use Rattle.vol_tree.proofs.Removing.{removed_slots, removed_tree, removed_taken,
 use Rattle.vol_tree.proofs.Trees.{without_is_tree}
 use Rattle.vol_tree.proofs.Taking.{err_is, room_left}
 use Rattle.vol_tree.proofs.parts.Parts.take_out.Goals as goal
-use Rattle.vol_log.specs.declared.layout.TheConstants.{FIRST_AFTER_LOG}
+use Rattle.vol_dirs.specs.Slots.{slot_sector}
 
 pub returns-in_err-set_size : goal.returns-in_err-set_size
 returns-in_err-set_size g c =
@@ -49,12 +49,13 @@ returns g c =
     let one = record old { log = c.set_size.new.log; sectors = sectors; reserved = c.saturating_sub-self.result } in
     let new = record one { log = c.remove.new.log; dirs = c.remove.new.self } in
     let here : suc s ≡ n = omega (arith, c.requires.first) in
-    let place : 121 + n ≡ FIRST_AFTER_LOG + s = omega (arith, c.requires.first) in
+    let place : slot_sector n ≡ slot_sector (s + 1) = omega (arith, c.requires.first) in
+    let at : c.slot_sector.result ≡ slot_sector (s + 1) = c.slot_sector.ensures ∙ place in
     let entry_is = done.entry.entry in
     let first_stages = file_stages old c.set_size.new.log sectors c.saturating_sub-self.result c.set_size.ensures.steps.log c.requires.working done.steps.failed c.set_size.ensures.steps.range.0 c.set_size.ensures.steps.range.1 in
     let second_stages = stages one new c.remove.ensures.device c.remove.ensures.failed c.remove.ensures.sectors refl refl c.remove.ensures.slots in
     let all_stages = stages_then old one new first_stages second_stages in
-    let put_is : z ≡ put (FIRST_AFTER_LOG + s) unused b = c.remove.ensures.view ∙ ap (λ (k : ℕ). put k unused b) place in
+    let put_is : z ≡ put (slot_sector (s + 1)) unused b = c.remove.ensures.view ∙ ap (λ (k : ℕ). put k unused b) place in
     let empty : e.size ≡ 0 = ap (λ (x : Entry). x.size) entry_is in
     let removes = c.requires.removes in
     let rewrites = λ (h : g.D.Device.honest (device_of old.log)).
@@ -68,8 +69,8 @@ returns g c =
       parent = ap (λ (x : Entry). x.parent) entry_is;
       name = ap name_of entry_is;
       body = file.rules;
-      staged = ap b (sym place) ∙ done.entry.staged;
-      others = subst (λ (k : ℕ). OthersStay k (first_of old.sectors) (end_of old.sectors) (taken_of old.sectors) a b d) place file.others;
+      staged = ap b (sym at) ∙ done.entry.staged;
+      others = subst (λ (k : ℕ). OthersStay k (first_of old.sectors) (end_of old.sectors) (taken_of old.sectors) a b d) at file.others;
       taken = file.taken;
       first = c.set_size.ensures.steps.range.0;
       end = c.set_size.ensures.steps.range.1;

@@ -23,7 +23,7 @@ use Rattle.vol_tree.specs.Tree.{Tree}
 use Rattle.vol_body.proofs.Rights.{not_both}
 use Rattle.vol_inode.specs.Entry.{name_of}
 use Rattle.vol_tree.proofs.parts.Parts.write.Goals as goal
-use Rattle.vol_log.specs.declared.layout.TheConstants.{FIRST_AFTER_LOG}
+use Rattle.vol_dirs.specs.Slots.{slot_sector}
 
 pub entry-requires : goal.entry-requires
 entry-requires g c = record { is_open = c.requires.is_open; first = c.requires.first; last = c.requires.last }
@@ -82,6 +82,9 @@ returns-in_err-make_room g c =
     let commits = commits_then old c.entry.new.self c.make_room.new.self true c.in_ok-entry.ensures.commits c.in_err-make_room.ensures.commits in
     refused_io _ old c.make_room.new.self c.from_residual-in_err-make_room.result c.from_residual-in_err-make_room.ensures.1 commits
 
+pub slot_sector-requires : goal.slot_sector-requires
+slot_sector-requires g c = omega (arith, c.requires.last, c.requires.is_open.ranges.few_slots)
+
 pub write_at-requires : goal.write_at-requires
 write_at-requires g c =
     let first = c.in_ok-entry.ensures.commits in
@@ -89,10 +92,11 @@ write_at-requires g c =
     let is = second.is_open in
     let last = subst (λ (w : Superblock). c.args.file ≤ w.slots) (sym (second.kept.numbers ∙ first.kept.numbers)) c.requires.last in
     let limit = limit_small c.entry.new.self.numbers.version in
+    let at = c.slot_sector.ensures in
     record {
-      after_log = omega (arith, c.requires.first);
-      slot = omega (arith, last, is.first);
-      within = omega (arith, last, is.sectors, is.ranges.room);
+      after_log = omega (arith, c.requires.first, at);
+      slot = omega (arith, last, is.first, at);
+      within = omega (arith, last, is.sectors, is.ranges.room, at);
       there = omega (arith, is.end, is.sectors);
       room = omega (arith, c.in_ok-make_room.ensures.room);
       small_before = omega (arith, c.in_ok-entry.ensures.right.rules.size.small, limit_small c.args.self.now.numbers.version);
@@ -150,7 +154,7 @@ returns g c =
     let a = view mid.log in
     let b = view c.write_at.new.log in
     let done = c.in_ok-write_at.ensures in
-    let place : 121 + n ≡ FIRST_AFTER_LOG + (n - 1) = omega (arith, c.requires.first) in
+    let place : c.slot_sector.result ≡ slot_sector (n - 1 + 1) = omega (arith, c.requires.first, c.slot_sector.ensures) in
     let len_is = c.len-count.ensures in
     let end_is : c.in-Some.end ≡ offset + length bytes = c.in-Some.ensures.0 ∙ ap (λ (k : ℕ). offset + k) len_is in
     let at : c.in-Some.end - c.len-count.result ≡ offset = omega (arith, c.in-Some.ensures.0) in
