@@ -8,3 +8,4 @@ pub mod Lookups
 pub mod Shown
 pub mod Marks
 pub mod Faults
+pub mod StagedSlots

@@ -1,15 +1,14 @@
 //! The names of a volume, answered from memory.
 
-ghost use Rattle.std.specs.Prelude.{◌≡◌, ◌≤◌, ◌<◌, ◌+◌, ◌-◌, ◌==◌, ◌⊎◌, if◌then◌else◌, ◌↔◌, ◌≢◌, ℕ, List, vec_capacity};
+ghost use Rattle.std.specs.Prelude.{◌≡◌, ◌≤◌, ◌+◌, ◌⊎◌, ◌↔◌, ◌≢◌, ℕ, List, vec_capacity};
 ghost use Rattle.std.specs.Prelude.{true, false, IsTrue, IfOk, IfErr, IfSome, is_err, MatchOption};
-ghost use Rattle.vol_sector.specs.Disk.{put};
 ghost use Rattle.vol_sector.specs.Fault.{device_failed};
-ghost use Rattle.vol_log.specs.Log.{view, device_of, log_sectors, room_of, is_staged, has_failed};
+ghost use Rattle.vol_log.specs.Log.{view, device_of, log_sectors, has_failed};
 ghost use Rattle.vol_inode.specs.Name.{IsName};
 ghost use Rattle.vol_inode.specs.Entry.{IsEntry, HasName, name_of};
 ghost use Rattle.vol_inode.specs.Spelling.{spelling, unused};
 ghost use Rattle.vol_inode.specs.declared.version.Version.{Version};
-ghost use Rattle.vol_dirs.specs.Slots.{slot_sector};
+ghost use Rattle.vol_dirs.specs.Slots.{CanStageSlot, StagesSlot};
 ghost use Rattle.vol_dirs.specs.internal.Listing.{IsListing, AreMarked};
 
 use crate::keys::key_of;
@@ -147,20 +146,11 @@ impl Dirs {
         requires last { serial ≤ slots_of self.old }
         requires free { IsFree self.old serial }
         requires named { HasName entry.now }
-        requires there { FIRST_AFTER_LOG + slots_of self.old ≤ log_sectors log.old }
-        requires room { 0 < room_of log.old }
-        requires working { has_failed log.old ≡ false }
+        requires can { CanStageSlot log.old (slots_of self.old) }
         ensures names { (p : ℕ) (n : List ℕ) (s : ℕ) → Names self.new p n s
             ↔ (Names self.old p n s ⊎ IsNameOf entry.now serial p n s) }
         ensures slots { slots_of self.new ≡ slots_of self.old }
-        ensures view { view log.new ≡ put (slot_sector serial) (spelling entry.now) (view log.old) }
-        ensures room { room_of log.new ≡ (if is_staged log.old (slot_sector serial)
-            then room_of log.old else room_of log.old - 1) }
-        ensures staged { (k : ℕ) → is_staged log.new k
-            ≡ (if k == slot_sector serial then true else is_staged log.old k) }
-        ensures device { device_of log.new ≡ device_of log.old }
-        ensures failed { has_failed log.new ≡ false }
-        ensures sectors { log_sectors log.new ≡ log_sectors log.old }
+        ensures stages { StagesSlot serial (spelling entry.now) log.old log.new }
         ensures shows { (version : Version) → IsEntry version entry.now
             → Shows version (view log.old) (slots_of self.old) self.old
             → Shows version (view log.new) (slots_of self.new) self.new }
@@ -172,20 +162,11 @@ impl Dirs {
     /// Stages an unused slot in an entry's place.
     pub fn remove<D: Device>(&mut self, log: &mut Log<D>, serial: u32, entry: &Entry)
         requires held { Names self.old entry.now.parent (name_of entry.now) serial }
-        requires there { FIRST_AFTER_LOG + slots_of self.old ≤ log_sectors log.old }
-        requires room { 0 < room_of log.old }
-        requires working { has_failed log.old ≡ false }
+        requires can { CanStageSlot log.old (slots_of self.old) }
         ensures names { (p : ℕ) (n : List ℕ) (s : ℕ) → Names self.new p n s
             ↔ (Names self.old p n s × (s ≢ serial)) }
         ensures slots { slots_of self.new ≡ slots_of self.old }
-        ensures view { view log.new ≡ put (slot_sector serial) unused (view log.old) }
-        ensures room { room_of log.new ≡ (if is_staged log.old (slot_sector serial)
-            then room_of log.old else room_of log.old - 1) }
-        ensures staged { (k : ℕ) → is_staged log.new k
-            ≡ (if k == slot_sector serial then true else is_staged log.old k) }
-        ensures device { device_of log.new ≡ device_of log.old }
-        ensures failed { has_failed log.new ≡ false }
-        ensures sectors { log_sectors log.new ≡ log_sectors log.old }
+        ensures stages { StagesSlot serial unused log.old log.new }
         ensures shows { (version : Version)
             → Shows version (view log.old) (slots_of self.old) self.old
             → Shows version (view log.new) (slots_of self.new) self.new }
@@ -198,20 +179,11 @@ impl Dirs {
     pub fn relocate<D: Device>(&mut self, log: &mut Log<D>, serial: u32, from: &Entry, to: &Entry)
         requires held { Names self.old from.now.parent (name_of from.now) serial }
         requires named { HasName to.now }
-        requires there { FIRST_AFTER_LOG + slots_of self.old ≤ log_sectors log.old }
-        requires room { 0 < room_of log.old }
-        requires working { has_failed log.old ≡ false }
+        requires can { CanStageSlot log.old (slots_of self.old) }
         ensures names { (p : ℕ) (n : List ℕ) (s : ℕ) → Names self.new p n s
             ↔ ((Names self.old p n s × (s ≢ serial)) ⊎ IsNameOf to.now serial p n s) }
         ensures slots { slots_of self.new ≡ slots_of self.old }
-        ensures view { view log.new ≡ put (slot_sector serial) (spelling to.now) (view log.old) }
-        ensures room { room_of log.new ≡ (if is_staged log.old (slot_sector serial)
-            then room_of log.old else room_of log.old - 1) }
-        ensures staged { (k : ℕ) → is_staged log.new k
-            ≡ (if k == slot_sector serial then true else is_staged log.old k) }
-        ensures device { device_of log.new ≡ device_of log.old }
-        ensures failed { has_failed log.new ≡ false }
-        ensures sectors { log_sectors log.new ≡ log_sectors log.old }
+        ensures stages { StagesSlot serial (spelling to.now) log.old log.new }
         ensures shows { (version : Version) → IsEntry version to.now
             → Shows version (view log.old) (slots_of self.old) self.old
             → Shows version (view log.new) (slots_of self.new) self.new }
