@@ -2,12 +2,14 @@
 use Rattle.std.specs.Prelude.{◌≡◌, ◌≢◌, ◌≤◌, ◌<◌, ◌+◌, ◌==◌, ◌⊎◌, ℕ, Bool, true, false, not, List, count_by}
 use Rattle.vol_sector.specs.Disk.{Image}
 use Rattle.vol_sector.specs.declared.device.Device.{Ghosts}
-use Rattle.vol_log.specs.Log.{view, device_of}
+use Rattle.vol_log.specs.Log.{view, device_of, log_sectors, room_of}
 use Rattle.vol_log.specs.declared.log.Log.{Log}
 use Rattle.vol_alloc.specs.Alloc.{first_of, end_of, taken_of, free_of}
 use Rattle.vol_alloc.specs.declared.sectors.Alloc.{Alloc}
 use Rattle.vol_inode.specs.declared.entry.Entry.{Entry}
 use Rattle.vol_inode.specs.declared.entry.Kind.TheVariants.{Directory}
+use Rattle.vol_log.specs.declared.layout.TheConstants.{FIRST_AFTER_LOG}
+use Rattle.vol_inode.specs.declared.version.TheConstants.{LARGEST_SIZE}
 use Rattle.vol_inode.specs.declared.version.Version.{Version}
 use Rattle.vol_inode.specs.Entry.{IsEntry}
 use Rattle.vol_inode.specs.Space.{size_limit}
@@ -38,6 +40,16 @@ pub record TakesAndGives (before now : ℕ → Bool) (content after : Image) (e 
   pub given : (n : ℕ) → Names content e n → NamesOthers after changed n → now n ≡ false
   -- all others stay
   pub others : (n : ℕ) → NamesOthers content e n → NamesOthers after changed n → now n ≡ before n
+
+-- A file may be changed, by staging this many sectors: its entry is in a sector after the log and before the data sectors, and these
+-- are on the disk; the log has the room; the file is no greater than files may be.
+pub record CanChange {D : Type 0} {g : Ghosts D} (most inode_sector : ℕ) (log : Log D g) (sectors : Alloc) (e : Entry) : Type 0 where
+  pub after_log : FIRST_AFTER_LOG ≤ inode_sector
+  pub slot : inode_sector < first_of sectors
+  pub within : inode_sector < log_sectors log
+  pub there : end_of sectors ≤ log_sectors log
+  pub room : most ≤ room_of log
+  pub small_before : e.size ≤ LARGEST_SIZE
 
 -- The fact holds where the device keeps its model, the file names only taken sectors, and it keeps the rules on them.
 abbrev pub IfSound : {D : Type 0} {g : Ghosts D} → Log D g → Alloc → Entry → Type 0 → Type 0

@@ -25,8 +25,7 @@ pub fn grow<D: Device>(
     requires after_log { FIRST_AFTER_LOG ≤ inode_sector }
     requires there { inode_sector < log_sectors log.old }
     requires room { 0 < room_of log.old }
-    requires grows { entry.old.size ≤ size }
-    requires small { size ≤ LARGEST_SIZE }
+    requires sizes { (entry.old.size ≤ size) × (size ≤ LARGEST_SIZE) }
     ensures bytes { IsBody (view log.old) entry.old → NamesOthers (view log.old) entry.old inode_sector
         → OnOk result (bytes_of (view log.new) entry.new
         ≡ bytes_of (view log.old) entry.old ++ replicate (size - entry.old.size) 0) }
@@ -37,9 +36,8 @@ pub fn grow<D: Device>(
         (view log.new ≡ put inode_sector (spelling entry.new) (view log.old)) }
     ensures room { OnOk result (room_of log.new
         ≡ (if is_staged log.old inode_sector then room_of log.old else room_of log.old - 1)) }
-    ensures device { device_of log.new ≡ device_of log.old }
-    ensures sectors { log_sectors log.new ≡ log_sectors log.old }
-    ensures failed { has_failed log.new ≡ has_failed log.old }
+    ensures log { (device_of log.new ≡ device_of log.old)
+        × (log_sectors log.new ≡ log_sectors log.old) × (has_failed log.new ≡ has_failed log.old) }
     ensures refused { OnErr result ((log.new ≡ log.old) × (entry.new ≡ entry.old)) }
     ensures fails { is_err result ≡ has_failed log.old }
 {

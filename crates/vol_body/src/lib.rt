@@ -26,4 +26,4 @@ pub use reading::read_at;
 pub use resizing::set_size;
 pub use source::{Source, Span};
 pub use surveying::survey;
-pub use writing::write_at;
+pub use writing::{PIECE, write_at};

@@ -1,14 +1,12 @@
 //! Setting the size of a file.
 
-ghost use Rattle.std.specs.Prelude.{◌≡◌, ◌≤◌, ◌<◌, true, OnOk, OnErr, IsErr, is_err};
-ghost use Rattle.vol_log.specs.Log.{view, log_sectors, room_of, has_failed};
-ghost use Rattle.vol_alloc.specs.Alloc.{first_of, end_of};
+ghost use Rattle.std.specs.Prelude.{◌≡◌, ◌≤◌, true, OnOk, OnErr, IsErr, is_err};
+ghost use Rattle.vol_log.specs.Log.{view, has_failed};
 ghost use Rattle.vol_body.specs.Body.{bytes_of};
 ghost use Rattle.vol_body.specs.Bytes.{resized_bytes};
-ghost use Rattle.vol_body.specs.Change.{IfSound, FileBecomes, LosesNoSector, EntryBecomes};
+ghost use Rattle.vol_body.specs.Change.{CanChange, IfSound, FileBecomes, LosesNoSector, EntryBecomes};
 ghost use Rattle.vol_log.specs.Reading.{OnlyReads};
 ghost use Rattle.vol_body.specs.Reading.{StagesAtMost};
-ghost use Rattle.vol_log.specs.declared.layout.TheConstants.{FIRST_AFTER_LOG};
 ghost use Rattle.vol_inode.specs.declared.version.TheConstants.{LARGEST_SIZE};
 
 use crate::growing::grow;
@@ -31,12 +29,7 @@ pub fn set_size<D: Device>(
     entry: &mut Entry,
     size: u32,
 ) -> Result<(), DeviceFault>
-    requires after_log { FIRST_AFTER_LOG ≤ inode_sector }
-    requires slot { inode_sector < first_of sectors.old }
-    requires within { inode_sector < log_sectors log.old }
-    requires there { end_of sectors.old ≤ log_sectors log.old }
-    requires room { 4 ≤ room_of log.old }
-    requires small_before { entry.old.size ≤ LARGEST_SIZE }
+    requires can { CanChange 4 inode_sector log.old sectors.old entry.old }
     requires small { size ≤ LARGEST_SIZE }
     // Read as a list, the file is cut or has zeros after it; no free sector is lost.
     ensures file { IfSound log.old sectors.old entry.old (OnOk result

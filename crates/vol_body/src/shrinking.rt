@@ -1,17 +1,14 @@
 //! Shortening a file.
 
-ghost use Rattle.std.specs.Prelude.{◌≡◌, ◌≤◌, ◌<◌, ◌-◌, ℕ, true, OnOk, OnErr, IsErr, is_err};
+ghost use Rattle.std.specs.Prelude.{◌≡◌, ◌<◌, ℕ, true, OnOk, OnErr, IsErr, is_err};
 ghost use Rattle.std.specs.Prelude.{nat_lt, slice_index, if◌then◌else◌};
-ghost use Rattle.vol_log.specs.Log.{view, log_sectors, room_of, has_failed};
-ghost use Rattle.vol_alloc.specs.Alloc.{first_of, end_of};
+ghost use Rattle.vol_log.specs.Log.{view, has_failed};
 ghost use Rattle.vol_body.specs.Body.{bytes_of};
 ghost use Rattle.vol_body.specs.Bytes.{resized_bytes};
-ghost use Rattle.vol_body.specs.Change.{IfSound, FileBecomes, LosesNoSector, EntryBecomes};
+ghost use Rattle.vol_body.specs.Change.{CanChange, IfSound, FileBecomes, LosesNoSector, EntryBecomes};
 ghost use Rattle.vol_inode.specs.Entry.{first_block_of_pointer};
 ghost use Rattle.vol_log.specs.Reading.{OnlyReads};
 ghost use Rattle.vol_body.specs.Reading.{StagesAtMost};
-ghost use Rattle.vol_log.specs.declared.layout.TheConstants.{FIRST_AFTER_LOG};
-ghost use Rattle.vol_inode.specs.declared.version.TheConstants.{LARGEST_SIZE};
 
 use crate::freeing::free_unkept;
 use crate::holding::hold;
@@ -49,13 +46,8 @@ pub fn shrink<D: Device>(
     entry: &mut Entry,
     size: u32,
 ) -> Result<(), DeviceFault>
-    requires after_log { FIRST_AFTER_LOG ≤ inode_sector }
-    requires slot { inode_sector < first_of sectors.old }
-    requires within { inode_sector < log_sectors log.old }
-    requires there { end_of sectors.old ≤ log_sectors log.old }
-    requires room { 4 ≤ room_of log.old }
+    requires can { CanChange 4 inode_sector log.old sectors.old entry.old }
     requires shorter { size < entry.old.size }
-    requires small_before { entry.old.size ≤ LARGEST_SIZE }
     ensures file { IfSound log.old sectors.old entry.old (OnOk result
         (FileBecomes inode_sector sectors.old sectors.new (view log.old) (view log.new) entry.old
         entry.new (resized_bytes size (bytes_of (view log.old) entry.old)))) }

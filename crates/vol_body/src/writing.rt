@@ -1,18 +1,17 @@
 //! Writing the bytes of a file.
 
 ghost use Rattle.std.specs.Prelude.{◌≡◌, ◌≤◌, ◌<◌, ◌+◌, ◌-◌, ◌*◌, ◌/◌, ℕ, true, false, length, max, OnOk, OnErr, IfOk, IsErr, is_err};
-ghost use Rattle.vol_log.specs.Log.{view, log_sectors, room_of, has_failed, device_of};
-ghost use Rattle.vol_alloc.specs.Alloc.{first_of, end_of, taken_of, free_of};
+ghost use Rattle.vol_log.specs.Log.{view, log_sectors, has_failed, device_of};
+ghost use Rattle.vol_alloc.specs.Alloc.{end_of, taken_of, free_of};
 ghost use Rattle.vol_inode.specs.Space.{need_of};
 ghost use Rattle.vol_inode.specs.Entry.{HasWidths};
 ghost use Rattle.vol_body.specs.Body.{data_block, named, block_bytes, NamesTaken, bytes_of};
 ghost use Rattle.vol_body.specs.Bytes.{written_bytes};
-ghost use Rattle.vol_body.specs.Change.{used_of, IfSound, FileBecomes, LosesNoSector, EntryBecomes};
+ghost use Rattle.vol_body.specs.Change.{CanChange, used_of, IfSound, FileBecomes, LosesNoSector, EntryBecomes};
 ghost use Rattle.vol_log.specs.Reading.{OnlyReads};
 ghost use Rattle.vol_body.specs.Reading.{StagesAtMost};
 ghost use Rattle.vol_body.specs.internal.Writing.{MirrorsAll, WriteLeaves};
 ghost use Rattle.vol_inode.specs.declared.pointers.TheConstants.{MOST_BLOCKS, NUMBERS};
-ghost use Rattle.vol_log.specs.declared.layout.TheConstants.{FIRST_AFTER_LOG};
 ghost use Rattle.vol_inode.specs.declared.version.TheConstants.{LARGEST_SIZE};
 
 use crate::locate::read_taken;
@@ -25,7 +24,10 @@ use vol_inode::{Entry, write_entry};
 use vol_log::Log;
 use vol_sector::{Device, DeviceFault};
 
-/// Writes the bytes, at most 16,384, at the offset of the file whose entry is in the sector
+/// The most bytes that one call of `write_at` writes.
+pub const PIECE: usize = 16_384;
+
+/// Writes the bytes, at most `PIECE`, at the offset of the file whose entry is in the sector
 /// `inode_sector`. A gap before them reads as zeros. Of no bytes nothing changes.
 ///
 /// It is refused where a device operation failed, or had failed before, and then nothing was
@@ -38,14 +40,9 @@ pub fn write_at<D: Device>(
     offset: u32,
     bytes: &Source<'_>,
 ) -> Result<(), DeviceFault>
-    requires after_log { FIRST_AFTER_LOG ≤ inode_sector }
-    requires slot { inode_sector < first_of sectors.old }
-    requires within { inode_sector < log_sectors log.old }
-    requires there { end_of sectors.old ≤ log_sectors log.old }
-    requires room { 37 ≤ room_of log.old }
-    requires small_before { entry.old.size ≤ LARGEST_SIZE }
+    requires can { CanChange 37 inode_sector log.old sectors.old entry.old }
     requires small { offset + length bytes.now ≤ LARGEST_SIZE }
-    requires few { length bytes.now ≤ 16384 }
+    requires few { length bytes.now ≤ PIECE }
     requires space { IfSound log.old sectors.old entry.old
         (need_of (max entry.old.size (offset + length bytes.now))
         ≤ free_of sectors.old + used_of (view log.old) entry.old) }
@@ -82,15 +79,10 @@ fn write_some<D: Device>(
     offset: u32,
     bytes: &Source<'_>,
 ) -> Result<(), DeviceFault>
-    requires after_log { FIRST_AFTER_LOG ≤ inode_sector }
-    requires slot { inode_sector < first_of sectors.old }
-    requires within { inode_sector < log_sectors log.old }
-    requires there { end_of sectors.old ≤ log_sectors log.old }
-    requires room { 37 ≤ room_of log.old }
+    requires can { CanChange 37 inode_sector log.old sectors.old entry.old }
     requires working { has_failed log.old ≡ false }
-    requires small_before { entry.old.size ≤ LARGEST_SIZE }
     requires small { offset + length bytes.now ≤ LARGEST_SIZE }
-    requires few { length bytes.now ≤ 16384 }
+    requires few { length bytes.now ≤ PIECE }
     requires some { 0 < length bytes.now }
     ensures done { IfSound log.old sectors.old entry.old
         (need_of (max entry.old.size (offset + length bytes.now))
@@ -131,7 +123,7 @@ fn read_edges<D: Device>(
     end: u32,
 ) -> Result<([u8; 512], [u8; 512]), DeviceFault>
     requires some { offset < end }
-    requires few { end ≤ offset + 16384 }
+    requires few { end ≤ offset + PIECE }
     requires small { end ≤ LARGEST_SIZE }
     requires there { end_of sectors.now ≤ log_sectors log.old }
     requires working { has_failed log.old ≡ false }

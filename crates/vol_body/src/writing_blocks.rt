@@ -1,15 +1,14 @@
 //! Writing data blocks of a file, once everything that it needs was read.
 
-ghost use Rattle.std.specs.Prelude.{◌≡◌, ◌≢◌, ◌⊎◌, ◌≤◌, ◌<◌, ◌+◌, ℕ, true, false};
-ghost use Rattle.vol_log.specs.Log.{view, log_sectors, room_of, has_failed};
-ghost use Rattle.vol_alloc.specs.Alloc.{first_of, end_of, taken_of};
+ghost use Rattle.std.specs.Prelude.{◌≡◌, ◌⊎◌, ◌≤◌, ◌<◌, ◌+◌, ℕ, true};
+ghost use Rattle.vol_log.specs.Log.{view, room_of};
+ghost use Rattle.vol_alloc.specs.Alloc.{taken_of};
 ghost use Rattle.vol_inode.specs.Space.{blocks_for_size};
 ghost use Rattle.vol_inode.specs.declared.entry.Entry.{Entry};
 ghost use Rattle.vol_body.specs.Body.{BlockPosition, data_block, IsPosition, named, block_bytes};
 ghost use Rattle.vol_body.specs.internal.Writing.{Mirrors, IsReady, IsMissing, Changes, Adds, OnlyPuts};
-ghost use Rattle.vol_body.specs.internal.Writing.{SameRange, PointedAt, ListedAt, IsBlank, placed};
+ghost use Rattle.vol_body.specs.internal.Writing.{CanStage, IsKnown, SameRange, PointedAt, ListedAt, IsBlank, placed};
 ghost use Rattle.vol_inode.specs.declared.pointers.TheConstants.{DIRECT, MOST_BLOCKS, NUMBERS};
-ghost use Rattle.vol_log.specs.declared.layout.TheConstants.{FIRST_AFTER_LOG};
 
 use crate::locate::{number_at, taken_or_zero};
 use crate::pointer_sectors::{PointerSector, with_number};
@@ -28,15 +27,13 @@ pub fn add_pointer<D: Device>(
     image: &[u8; 512],
 ) -> u32
     requires pointer { slot < 60 }
-    requires after_log { FIRST_AFTER_LOG ≤ first_of sectors.old }
-    requires there { end_of sectors.old ≤ log_sectors log.old }
+    requires can { CanStage log.old sectors.old }
     requires room { 0 < room_of log.old }
-    requires working { has_failed log.old ≡ false }
     ensures added { (p : BlockPosition) → PointedAt slot p → IsBlank p image.now
         → IsMissing sectors.old (view log.old) entry.old p
         → Adds sectors.old sectors.new (view log.old) (view log.new) entry.old entry.new
         (λ q. q ≡ p) p result image.now }
-    ensures known { result ≢ 0 → taken_of sectors.new result ≡ true }
+    ensures known { IsKnown sectors.new result }
     ensures keeps { (n : ℕ) → taken_of sectors.old n ≡ true → taken_of sectors.new n ≡ true }
     ensures entry { entry.new ≡ record entry.old { pointers = entry.new.pointers } }
     ensures room { room_of log.old ≤ room_of log.new + placed log.new result }
@@ -62,18 +59,16 @@ pub fn add_number<D: Device>(
     image: &[u8; 512],
 ) -> u32
     requires place { i < NUMBERS }
-    requires after_log { FIRST_AFTER_LOG ≤ first_of sectors.old }
-    requires there { end_of sectors.old ≤ log_sectors log.old }
+    requires can { CanStage log.old sectors.old }
     requires known { taken_of sectors.old above.old.number ≡ true }
     requires room { 1 < room_of log.old }
-    requires working { has_failed log.old ≡ false }
     ensures added { (e : Entry) (q p : BlockPosition) → ListedAt q i p → IsPosition q → IsPosition p
         → IsBlank p image.now → IsMissing sectors.old (view log.old) e p
         → Mirrors (view log.old) e q above.old.number above.old.image
         → Adds sectors.old sectors.new (view log.old) (view log.new) e e
         (λ x. (x ≡ p) ⊎ (x ≡ q)) p result image.now
         × Mirrors (view log.new) e q above.new.number above.new.image }
-    ensures known { result ≢ 0 → taken_of sectors.new result ≡ true }
+    ensures known { IsKnown sectors.new result }
     ensures keeps { (n : ℕ) → taken_of sectors.old n ≡ true → taken_of sectors.new n ≡ true }
     ensures number { above.new.number ≡ above.old.number }
     ensures room { room_of log.old + placed log.old above.old.number
@@ -101,10 +96,8 @@ pub fn write_direct_block<D: Device>(
     image: &[u8; 512],
 )
     requires direct { j < DIRECT }
-    requires after_log { FIRST_AFTER_LOG ≤ first_of sectors.old }
-    requires there { end_of sectors.old ≤ log_sectors log.old }
+    requires can { CanStage log.old sectors.old }
     requires room { 0 < room_of log.old }
-    requires working { has_failed log.old ≡ false }
     ensures written { IsReady sectors.old (view log.old) entry.old → j < blocks_for_size entry.old.size
         → Changes sectors.old sectors.new (view log.old) (view log.new) entry.old entry.new
         (λ q. q ≡ data_block j)
@@ -132,11 +125,9 @@ pub fn write_listed_block<D: Device>(
     image: &[u8; 512],
 )
     requires place { i < NUMBERS }
-    requires after_log { FIRST_AFTER_LOG ≤ first_of sectors.old }
-    requires there { end_of sectors.old ≤ log_sectors log.old }
+    requires can { CanStage log.old sectors.old }
     requires known { taken_of sectors.old above.old.number ≡ true }
     requires room { 1 < room_of log.old }
-    requires working { has_failed log.old ≡ false }
     ensures written { (e : Entry) (q : BlockPosition) (j : ℕ) → ListedAt q i (data_block j) → IsPosition q
         → j < MOST_BLOCKS → j < blocks_for_size e.size → IsReady sectors.old (view log.old) e
         → Mirrors (view log.old) e q above.old.number above.old.image

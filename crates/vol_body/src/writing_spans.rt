@@ -1,17 +1,16 @@
 //! Writing all the data blocks that a write touches.
 
-ghost use Rattle.std.specs.Prelude.{◌≡◌, ◌≢◌, ◌⊎◌, ◌≤◌, ◌<◌, ◌+◌, ◌-◌, ◌*◌, ℕ, true, false, length};
-ghost use Rattle.vol_log.specs.Log.{view, log_sectors, room_of, has_failed};
-ghost use Rattle.vol_alloc.specs.Alloc.{first_of, end_of, taken_of};
+ghost use Rattle.std.specs.Prelude.{◌≡◌, ◌⊎◌, ◌≤◌, ◌<◌, ◌+◌, ◌-◌, ◌*◌, ℕ, true, length};
+ghost use Rattle.vol_log.specs.Log.{view, room_of};
+ghost use Rattle.vol_alloc.specs.Alloc.{taken_of};
 ghost use Rattle.vol_inode.specs.Space.{blocks_for_size};
 ghost use Rattle.vol_inode.specs.declared.entry.Entry.{Entry};
 ghost use Rattle.vol_body.specs.Body.{BlockPosition, double_indirect_block, first_served};
 ghost use Rattle.vol_body.specs.internal.Writing.{Mirrors, IsReady, Changes, Adds, IsBlockIn, HasBlocks};
+ghost use Rattle.vol_body.specs.internal.Writing.{CanStage, AreTouched, AreListed, IsKnown};
 ghost use Rattle.vol_body.specs.internal.Writing.{OnlyPuts, SameRange, segment, placed, image_of};
 ghost use Rattle.vol_body.specs.internal.Writing.{MirrorsAll, KnowsAll, IsPointer, PointedAt};
 ghost use Rattle.vol_inode.specs.declared.pointers.TheConstants.{MOST_BLOCKS};
-ghost use Rattle.vol_log.specs.declared.layout.TheConstants.{FIRST_AFTER_LOG};
-ghost use Rattle.vol_inode.specs.declared.version.TheConstants.{LARGEST_SIZE};
 
 use crate::pointer_sectors::{PointerSector, PointerSectors};
 use crate::source::Source;
@@ -33,16 +32,12 @@ pub fn write_blocks<D: Device>(
     first: u32,
     last: u32,
 )
-    requires after_log { FIRST_AFTER_LOG ≤ first_of sectors.old }
-    requires there { end_of sectors.old ≤ log_sectors log.old }
+    requires can { CanStage log.old sectors.old }
     requires room { 37 ≤ room_of log.old }
-    requires working { has_failed log.old ≡ false }
     requires few { last < first + 33 }
     requires some { first ≤ last }
     requires last { last < MOST_BLOCKS }
-    requires touched_first { piece.now.offset < 512 * first + 512 }
-    requires touched_last { 512 * last < piece.now.offset + length bytes.now }
-    requires small { piece.now.offset + length bytes.now ≤ LARGEST_SIZE }
+    requires touched { AreTouched piece.now.offset (length bytes.now) first (last + 1) }
     requires known { KnowsAll sectors.old all.old }
     ensures written { IsReady sectors.old (view log.old) entry.old → last < blocks_for_size entry.old.size
         → MirrorsAll (view log.old) entry.old all.old first last
@@ -103,13 +98,9 @@ fn write_direct<D: Device>(
     to: u32,
 )
     requires direct { to ≤ DIRECT }
-    requires after_log { FIRST_AFTER_LOG ≤ first_of sectors.old }
-    requires there { end_of sectors.old ≤ log_sectors log.old }
+    requires can { CanStage log.old sectors.old }
     requires room { to - from ≤ room_of log.old }
-    requires working { has_failed log.old ≡ false }
-    requires touched_first { piece.now.offset < 512 * from + 512 }
-    requires touched_last { 512 * to < piece.now.offset + length bytes.now + 512 }
-    requires small { piece.now.offset + length bytes.now ≤ LARGEST_SIZE }
+    requires touched { AreTouched piece.now.offset (length bytes.now) from to }
     ensures written { IsReady sectors.old (view log.old) entry.old → to ≤ blocks_for_size entry.old.size
         → Changes sectors.old sectors.new (view log.old) (view log.new) entry.old entry.new
         (IsBlockIn from to)
@@ -141,18 +132,11 @@ fn write_segment<D: Device>(
     from: u32,
     to: u32,
 )
-    requires after_log { FIRST_AFTER_LOG ≤ first_of sectors.old }
-    requires there { end_of sectors.old ≤ log_sectors log.old }
+    requires can { CanStage log.old sectors.old }
     requires room { to - from + 3 ≤ room_of log.old + placed log.old all.old.number }
-    requires working { has_failed log.old ≡ false }
-    requires starts { DIRECT + NUMBERS * group ≤ from }
-    requires ends { to ≤ LISTED + NUMBERS * group }
-    requires last { to ≤ MOST_BLOCKS }
-    requires touched_first { piece.now.offset < 512 * from + 512 }
-    requires touched_last { 512 * to < piece.now.offset + length bytes.now + 512 }
-    requires small { piece.now.offset + length bytes.now ≤ LARGEST_SIZE }
-    requires known { above.old.number ≢ 0 → taken_of sectors.old above.old.number ≡ true }
-    requires known_all { all.old.number ≢ 0 → taken_of sectors.old all.old.number ≡ true }
+    requires listed { AreListed (DIRECT + NUMBERS * group) from to }
+    requires touched { AreTouched piece.now.offset (length bytes.now) from to }
+    requires known { IsKnown sectors.old above.old.number × IsKnown sectors.old all.old.number }
     ensures written { IsReady sectors.old (view log.old) entry.old → to ≤ blocks_for_size entry.old.size
         → (from < to → Mirrors (view log.old) entry.old (segment group) above.old.number above.old.image)
         → (LISTED < to → Mirrors (view log.old) entry.old double_indirect_block all.old.number all.old.image)
@@ -163,7 +147,7 @@ fn write_segment<D: Device>(
         × (Mirrors (view log.old) entry.old double_indirect_block all.old.number all.old.image
         → Mirrors (view log.new) entry.new double_indirect_block all.new.number all.new.image) }
     ensures keeps { (n : ℕ) → taken_of sectors.old n ≡ true → taken_of sectors.new n ≡ true }
-    ensures known_all { all.new.number ≢ 0 → taken_of sectors.new all.new.number ≡ true }
+    ensures known_all { IsKnown sectors.new all.new.number }
     ensures entry { entry.new ≡ record entry.old { pointers = entry.new.pointers } }
     ensures room { room_of log.old + placed log.old all.old.number
         ≤ room_of log.new + placed log.new all.new.number + (to - from) + 1 }
@@ -200,17 +184,11 @@ fn write_listed<D: Device>(
     from: u32,
     to: u32,
 )
-    requires after_log { FIRST_AFTER_LOG ≤ first_of sectors.old }
-    requires there { end_of sectors.old ≤ log_sectors log.old }
+    requires can { CanStage log.old sectors.old }
     requires known { taken_of sectors.old above.old.number ≡ true }
     requires room { to - from + 2 ≤ room_of log.old + placed log.old above.old.number }
-    requires working { has_failed log.old ≡ false }
-    requires starts { start ≤ from }
-    requires ends { to ≤ start + NUMBERS }
-    requires last { to ≤ MOST_BLOCKS }
-    requires touched_first { piece.now.offset < 512 * from + 512 }
-    requires touched_last { 512 * to < piece.now.offset + length bytes.now + 512 }
-    requires small { piece.now.offset + length bytes.now ≤ LARGEST_SIZE }
+    requires listed { AreListed start from to }
+    requires touched { AreTouched piece.now.offset (length bytes.now) from to }
     ensures written { (e : Entry) (g : ℕ) → start ≡ DIRECT + NUMBERS * g → to ≤ blocks_for_size e.size
         → IsReady sectors.old (view log.old) e
         → Mirrors (view log.old) e (segment g) above.old.number above.old.image
@@ -241,12 +219,9 @@ fn open_segment<D: Device>(
     group: u32,
 )
     requires place { group < NUMBERS + 1 }
-    requires after_log { FIRST_AFTER_LOG ≤ first_of sectors.old }
-    requires there { end_of sectors.old ≤ log_sectors log.old }
+    requires can { CanStage log.old sectors.old }
     requires room { 3 ≤ room_of log.old + placed log.old all.old.number }
-    requires working { has_failed log.old ≡ false }
-    requires known { above.old.number ≢ 0 → taken_of sectors.old above.old.number ≡ true }
-    requires known_all { all.old.number ≢ 0 → taken_of sectors.old all.old.number ≡ true }
+    requires known { IsKnown sectors.old above.old.number × IsKnown sectors.old all.old.number }
     ensures opened { IsReady sectors.old (view log.old) entry.old
         → DIRECT + NUMBERS * group < blocks_for_size entry.old.size
         → Mirrors (view log.old) entry.old (segment group) above.old.number above.old.image
@@ -255,8 +230,8 @@ fn open_segment<D: Device>(
         (λ p. (p ≡ segment group) ⊎ (p ≡ double_indirect_block)) (segment group) above.new.number above.new.image
         × (Mirrors (view log.old) entry.old double_indirect_block all.old.number all.old.image
         → Mirrors (view log.new) entry.new double_indirect_block all.new.number all.new.image) }
-    ensures known { above.new.number ≢ 0 → taken_of sectors.new above.new.number ≡ true }
-    ensures known_all { all.new.number ≢ 0 → taken_of sectors.new all.new.number ≡ true }
+    ensures known { IsKnown sectors.new above.new.number }
+    ensures known_all { IsKnown sectors.new all.new.number }
     ensures keeps { (n : ℕ) → taken_of sectors.old n ≡ true → taken_of sectors.new n ≡ true }
     ensures entry { entry.new ≡ record entry.old { pointers = entry.new.pointers } }
     ensures room { room_of log.old + placed log.old all.old.number + placed log.old above.old.number
@@ -283,17 +258,15 @@ fn open_pointer<D: Device>(
     above: &mut PointerSector,
 )
     requires pointer { slot < 60 }
-    requires after_log { FIRST_AFTER_LOG ≤ first_of sectors.old }
-    requires there { end_of sectors.old ≤ log_sectors log.old }
+    requires can { CanStage log.old sectors.old }
     requires room { 0 < room_of log.old }
-    requires working { has_failed log.old ≡ false }
-    requires known { above.old.number ≢ 0 → taken_of sectors.old above.old.number ≡ true }
+    requires known { IsKnown sectors.old above.old.number }
     ensures opened { (p : BlockPosition) → PointedAt slot p → INDIRECT ≤ slot
         → IsReady sectors.old (view log.old) entry.old → first_served p < blocks_for_size entry.old.size
         → Mirrors (view log.old) entry.old p above.old.number above.old.image
         → Adds sectors.old sectors.new (view log.old) (view log.new) entry.old entry.new
         (λ q. q ≡ p) p above.new.number above.new.image }
-    ensures known { above.new.number ≢ 0 → taken_of sectors.new above.new.number ≡ true }
+    ensures known { IsKnown sectors.new above.new.number }
     ensures keeps { (n : ℕ) → taken_of sectors.old n ≡ true → taken_of sectors.new n ≡ true }
     ensures entry { entry.new ≡ record entry.old { pointers = entry.new.pointers } }
     ensures room { room_of log.old + placed log.old above.old.number

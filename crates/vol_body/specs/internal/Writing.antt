@@ -1,5 +1,5 @@
 -- Steps of a write: what changes of a file, and how its pointer sectors stand in memory.
-use Rattle.std.specs.Prelude.{◌≡◌, ◌≢◌, ◌≤◌, ◌<◌, ◌+◌, ◌-◌, ◌*◌, ◌/◌, ◌==◌, ◌++◌, ℕ, zero, suc, true, List, length, take, drop, replicate, nat_lt, min, max, if◌then◌else◌}
+use Rattle.std.specs.Prelude.{◌≡◌, ◌≢◌, ◌≤◌, ◌<◌, ◌+◌, ◌-◌, ◌*◌, ◌/◌, ◌==◌, ◌++◌, ℕ, zero, suc, true, false, List, length, take, drop, replicate, nat_lt, min, max, if◌then◌else◌}
 use Rattle.vol_sector.specs.Disk.{Image}
 use Rattle.vol_sector.specs.declared.device.Device.{Ghosts}
 use Rattle.vol_log.specs.Log.{device_of, log_sectors, has_failed, is_staged}
@@ -13,7 +13,8 @@ use Rattle.vol_body.specs.Body.{BlockPosition, data_block, indirect_block, doubl
 use Rattle.vol_body.specs.Bytes.{written_bytes}
 use Rattle.vol_body.specs.Change.{used_of, OthersStay, TakesAndGives}
 use Rattle.vol_body.specs.internal.Naming.{IsNaming}
-use Rattle.vol_inode.specs.declared.pointers.TheConstants.{DIRECT, INDIRECT, DOUBLE_INDIRECT, LISTED, NUMBERS}
+use Rattle.vol_inode.specs.declared.pointers.TheConstants.{DIRECT, INDIRECT, DOUBLE_INDIRECT, LISTED, MOST_BLOCKS, NUMBERS}
+use Rattle.vol_log.specs.declared.layout.TheConstants.{FIRST_AFTER_LOG}
 use Rattle.vol_inode.specs.declared.version.TheConstants.{LARGEST_SIZE}
 
 -- the position of the pointer sector that lists the data blocks from DIRECT + NUMBERS * g on
@@ -96,6 +97,28 @@ pub record OnlyPuts {D : Type 0} {g : Ghosts D} (old new : Log D g) : Type 0 whe
   pub failed : has_failed new ≡ has_failed old
   pub staged : (n : ℕ) → is_staged old n ≡ true → is_staged new n ≡ true
 
+-- Sectors may be taken and staged: they are after the log and on the disk, and the log works.
+pub record CanStage {D : Type 0} {g : Ghosts D} (log : Log D g) (a : Alloc) : Type 0 where
+  pub after_log : FIRST_AFTER_LOG ≤ first_of a
+  pub there : end_of a ≤ log_sectors log
+  pub working : has_failed log ≡ false
+
+-- So many bytes from an offset on touch each data block between two, and end where a file may.
+pub record AreTouched (offset count from to : ℕ) : Type 0 where
+  pub first : offset < 512 * from + 512
+  pub last : 512 * to < offset + count + 512
+  pub small : offset + count ≤ LARGEST_SIZE
+
+-- The pointer sector that has the number of the data block `start` first lists each data block between two.
+pub record AreListed (start from to : ℕ) : Type 0 where
+  pub starts : start ≤ from
+  pub ends : to ≤ start + NUMBERS
+  pub last : to ≤ MOST_BLOCKS
+
+-- the sector is taken; 0 stands for none
+abbrev pub IsKnown : Alloc → ℕ → Type 0
+IsKnown a n = n ≢ 0 → taken_of a n ≡ true
+
 -- one for a sector that has a place of the log already
 abbrev pub placed : {D : Type 0} {g : Ghosts D} → Log D g → ℕ → ℕ
 placed log n = if n == 0 then 0 else (if is_staged log n then 1 else 0)
@@ -133,9 +156,9 @@ pub record MirrorsAll (content : Image) (e : Entry) (all : PointerSectors) (firs
 
 -- those that are there are taken
 pub record KnowsAll (a : Alloc) (all : PointerSectors) : Type 0 where
-  pub double_indirect_block : all.double_indirect_block.number ≢ 0 → taken_of a all.double_indirect_block.number ≡ true
-  pub early : all.early.number ≢ 0 → taken_of a all.early.number ≡ true
-  pub late : all.late.number ≢ 0 → taken_of a all.late.number ≡ true
+  pub double_indirect_block : IsKnown a all.double_indirect_block.number
+  pub early : IsKnown a all.early.number
+  pub late : IsKnown a all.late.number
 
 -- What a write of some bytes leaves.
 pub record WriteLeaves (inode_sector : ℕ) (a b : Alloc) (content after : Image) (e changed : Entry) (offset : ℕ) (new : List ℕ) : Type 0 where

@@ -20,8 +20,8 @@ returns-clause-bytes g c body others =
     let after = put c.args.inode_sector (spelling longer) content in
     let same = same_file content after longer (put_elsewhere content e size c.args.inode_sector (spelling longer) others) in
     ap (λ (m : Image). bytes_of m longer) (returns-clause-staged g c)
-    ∙ same_list content after longer same c.requires.small
-    ∙ grown_bytes content e size body c.requires.grows c.requires.small
+    ∙ same_list content after longer same c.requires.sizes.1
+    ∙ grown_bytes content e size body c.requires.sizes.0 c.requires.sizes.1
 
 pub returns-clause-rules : goal.returns-clause-rules
 returns-clause-rules g c body others =
@@ -32,4 +32,4 @@ returns-clause-rules g c body others =
     let after = put c.args.inode_sector (spelling longer) content in
     let same = same_file content after longer (put_elsewhere content e size c.args.inode_sector (spelling longer) others) in
     subst (λ (m : Image). IsBody m longer) (sym (returns-clause-staged g c))
-    (same_rules content after longer same (grown_rules content e size body c.requires.grows))
+    (same_rules content after longer same (grown_rules content e size body c.requires.sizes.0))

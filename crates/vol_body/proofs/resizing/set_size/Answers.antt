@@ -35,7 +35,7 @@ returns-clause-file g c h names body =
     let place = c.args.inode_sector in
     let after = view c.grow.new.log in
     let changed = c.grow.new.entry in
-    let others = slot_is_other c.args.sectors.now content e place (omega (arith, c.requires.after_log)) c.requires.slot names in
+    let others = slot_is_other c.args.sectors.now content e place (omega (arith, c.requires.can.after_log)) c.requires.can.slot names in
     let first = first_of c.args.sectors.now in
     let end = end_of c.args.sectors.now in
     let taken = taken_of c.args.sectors.now in
@@ -54,19 +54,11 @@ returns-clause-file g c h names body =
 pub returns-clause-none_lost : goal.returns-clause-none_lost
 returns-clause-none_lost g c h names body =
     let sectors = c.args.sectors.now in
-    let some : 0 < first_of sectors = omega (arith, c.requires.slot) in
-    one c.grow.result _ _ (λ file. none_lost sectors sectors (view c.args.log.now) (view c.grow.new.log) c.args.entry.now c.grow.new.entry some (λ i. first_of sectors, λ i. end_of sectors) c.requires.small_before names body file.rules file.taken) (returns-clause-file g c h names body)
+    let some : 0 < first_of sectors = omega (arith, c.requires.can.slot) in
+    one c.grow.result _ _ (λ file. none_lost sectors sectors (view c.args.log.now) (view c.grow.new.log) c.args.entry.now c.grow.new.entry some (λ i. first_of sectors, λ i. end_of sectors) c.requires.can.small_before names body file.rules file.taken) (returns-clause-file g c h names body)
 
 pub shrink-requires : goal.shrink-requires
-shrink-requires g c = record {
-  after_log = c.requires.after_log;
-  slot = c.requires.slot;
-  within = c.requires.within;
-  there = c.requires.there;
-  room = c.requires.room;
-  shorter = c.if-size-entry.true;
-  small_before = c.requires.small_before;
-}
+shrink-requires g c = record { can = c.requires.can; shorter = c.if-size-entry.true }
 
 pub returns-then-size-entry : goal.returns-then-size-entry
 returns-then-size-entry g c =
@@ -82,17 +74,16 @@ returns-then-size-entry g c =
 
 pub grow-requires : goal.grow-requires
 grow-requires g c = record {
-  after_log = c.requires.after_log;
-  there = c.requires.within;
-  room = omega (arith, c.requires.room);
-  grows = c.if-size-entry.false;
-  small = c.requires.small;
+  after_log = c.requires.can.after_log;
+  there = c.requires.can.within;
+  room = omega (arith, c.requires.can.room);
+  sizes = (c.if-size-entry.false, c.requires.small);
 }
 
 pub returns-clause-steps : goal.returns-clause-steps
 returns-clause-steps g c =
     let grown = c.grow.ensures in
-    stages_one 4 c.args.log.now c.grow.new.log c.args.sectors.now c.grow.result (is_staged c.args.log.now c.args.inode_sector) (omega arith) grown.device grown.sectors grown.failed grown.fails grown.room
+    stages_one 4 c.args.log.now c.grow.new.log c.args.sectors.now c.grow.result (is_staged c.args.log.now c.args.inode_sector) (omega arith) grown.log.0 grown.log.1 grown.log.2 grown.fails grown.room
     (on_err_weaker c.grow.result (λ same. ap room_of same.0) grown.refused)
 
 pub returns-clause-refused : goal.returns-clause-refused

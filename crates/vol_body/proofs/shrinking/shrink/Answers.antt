@@ -42,7 +42,7 @@ returns-then-failed g c = record {
 }
 
 pub hold-requires : goal.hold-requires
-hold-requires g c = record { small = omega arith; there = c.requires.there; working = sym c.failed.ensures ∙ c.if-failed.false }
+hold-requires g c = record { small = omega arith; there = c.requires.can.there; working = sym c.failed.ensures ∙ c.if-failed.false }
 
 pub returns-in_err-held : goal.returns-in_err-held
 returns-in_err-held g c =
@@ -63,9 +63,9 @@ pub read_truncation-requires : goal.read_truncation-requires
 read_truncation-requires g c =
     let e = c.in_ok-held.ensures in
     record {
-      there = omega (arith, c.requires.there, e.reads.sectors);
+      there = omega (arith, c.requires.can.there, e.reads.sectors);
       working = e.failed;
-      small = omega (arith, c.requires.shorter, c.requires.small_before);
+      small = omega (arith, c.requires.shorter, c.requires.can.small_before);
       group = e.group;
       known = e.known;
     }
@@ -92,10 +92,10 @@ free_unkept-requires g c =
     let first = c.in_ok-held.ensures in
     let second = c.in_ok-truncation.ensures in
     record {
-      there = omega (arith, c.requires.there, first.reads.sectors, second.reads.sectors);
+      there = omega (arith, c.requires.can.there, first.reads.sectors, second.reads.sectors);
       working = second.failed;
-      «data» = omega (arith, c.requires.slot);
-      group = omega (arith, first.group, c.requires.shorter, c.requires.small_before);
+      «data» = omega (arith, c.requires.can.slot);
+      group = omega (arith, first.group, c.requires.shorter, c.requires.can.small_before);
     }
 
 pub returns-in_err-free_unkept : goal.returns-in_err-free_unkept
@@ -127,8 +127,8 @@ stage_truncation-requires g c =
     let three = room_read c.read_truncation.new.log c.free_unkept.new.log third.reads in
     record {
       there = wider (first_of c.args.sectors.now) (end_of c.args.sectors.now) (log_sectors c.free_unkept.new.log) c.in_ok-truncation.truncation
-          (omega (arith, c.requires.after_log, c.requires.slot)) (omega (arith, c.requires.there, first.reads.sectors, second.reads.sectors, third.reads.sectors)) second.within;
-      room = omega (arith, one, two, three, c.requires.room);
+          (omega (arith, c.requires.can.after_log, c.requires.can.slot)) (omega (arith, c.requires.can.there, first.reads.sectors, second.reads.sectors, third.reads.sectors)) second.within;
+      room = omega (arith, one, two, three, c.requires.can.room);
       working = third.failed;
     }
 
@@ -141,9 +141,9 @@ stage-requires g c =
     let two = room_read c.hold.new.log c.read_truncation.new.log second.reads in
     let three = room_read c.read_truncation.new.log c.free_unkept.new.log third.reads in
     record {
-      place = c.requires.after_log;
-      there = omega (arith, c.requires.within, first.reads.sectors, second.reads.sectors, third.reads.sectors, c.stage_truncation.ensures.sectors);
-      room = omega (arith, one, two, three, c.requires.room, c.stage_truncation.ensures.room);
+      place = c.requires.can.after_log;
+      there = omega (arith, c.requires.can.within, first.reads.sectors, second.reads.sectors, third.reads.sectors, c.stage_truncation.ensures.sectors);
+      room = omega (arith, one, two, three, c.requires.can.room, c.stage_truncation.ensures.room);
       working = c.stage_truncation.ensures.failed;
     }
 
@@ -214,8 +214,8 @@ made g c h names body =
       new_size = λ i. c.args.size;
       pointers = λ j lt. c.kept_pointers-entry.ensures j lt ∙ ap (λ (k : ℕ). if nat_lt (first_block_of_pointer j) k then get_or c.args.entry.now.pointers j 0 else 0) count;
       shorter = c.requires.shorter;
-      small = c.requires.small_before;
-      slot = λ n is same. let within = in_range c.args.sectors.now n is in omega (arith, within.0, same, c.requires.slot);
+      small = c.requires.can.small_before;
+      slot = λ n is same. let within = in_range c.args.sectors.now n is in omega (arith, within.0, same, c.requires.can.slot);
     }
 
 after_is : (g : Over) (c : goal.After-stage g) → g.D.Device.honest (device_of c.args.log.now) → view c.stage.new.self ≡ put c.args.inode_sector c.write_entry.result (with_truncation c.in_ok-truncation.truncation (view c.args.log.now))
@@ -252,5 +252,5 @@ returns-clause-file g c h names body =
 pub returns-clause-none_lost : goal.returns-clause-none_lost
 returns-clause-none_lost g c h names body =
     let file = returns-clause-file g c h names body in
-    let some : 0 < first_of c.args.sectors.now = omega (arith, c.requires.slot) in
-    none_lost c.args.sectors.now c.free_unkept.new.sectors (view c.args.log.now) (view c.stage.new.self) c.args.entry.now (changed_of g c) some c.free_unkept.ensures.range c.requires.small_before names body file.rules file.taken
+    let some : 0 < first_of c.args.sectors.now = omega (arith, c.requires.can.slot) in
+    none_lost c.args.sectors.now c.free_unkept.new.sectors (view c.args.log.now) (view c.stage.new.self) c.args.entry.now (changed_of g c) some c.free_unkept.ensures.range c.requires.can.small_before names body file.rules file.taken

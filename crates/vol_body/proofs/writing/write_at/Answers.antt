@@ -63,23 +63,8 @@ returns-clause-idle g c failed = absurd (true≢false (sym failed ∙ sym c.fail
 pub write_some-requires-clause-working : goal.write_some-requires-clause-working
 write_some-requires-clause-working g c = sym c.failed.ensures ∙ c.if-failed.false
 
-pub write_some-requires-clause-after_log : goal.write_some-requires-clause-after_log
-write_some-requires-clause-after_log g c = c.requires.after_log
-
-pub write_some-requires-clause-slot : goal.write_some-requires-clause-slot
-write_some-requires-clause-slot g c = c.requires.slot
-
-pub write_some-requires-clause-within : goal.write_some-requires-clause-within
-write_some-requires-clause-within g c = c.requires.within
-
-pub write_some-requires-clause-there : goal.write_some-requires-clause-there
-write_some-requires-clause-there g c = c.requires.there
-
-pub write_some-requires-clause-room : goal.write_some-requires-clause-room
-write_some-requires-clause-room g c = c.requires.room
-
-pub write_some-requires-clause-small_before : goal.write_some-requires-clause-small_before
-write_some-requires-clause-small_before g c = c.requires.small_before
+pub write_some-requires-clause-can : goal.write_some-requires-clause-can
+write_some-requires-clause-can g c = c.requires.can
 
 pub write_some-requires-clause-small : goal.write_some-requires-clause-small
 write_some-requires-clause-small g c = c.requires.small

@@ -20,7 +20,7 @@ pub load_pointer_sectors-requires : goal.load_pointer_sectors-requires
 load_pointer_sectors-requires g c = record {
   some = omega (arith, c.len.ensures, c.requires.some);
   small = omega (arith, c.len.ensures, c.requires.small, c.requires.some);
-  there = c.requires.there;
+  there = c.requires.can.there;
   working = c.requires.working;
 }
 
@@ -44,7 +44,7 @@ read_edges-requires g c =
       some = omega (arith, c.len.ensures, c.requires.some);
       few = omega (arith, c.len.ensures, c.requires.few);
       small = omega (arith, c.len.ensures, c.requires.small);
-      there = omega (arith, c.requires.there, e.reads.sectors);
+      there = omega (arith, c.requires.can.there, e.reads.sectors);
       working = e.failed;
     }
 
@@ -69,16 +69,16 @@ write_blocks-requires g c =
     let one = room_read c.args.log.now c.load_pointer_sectors.new.log first.reads in
     let two = room_read c.load_pointer_sectors.new.log c.read_edges.new.log second.reads in
     record {
-      after_log = omega (arith, c.requires.after_log, c.requires.slot);
-      there = omega (arith, c.requires.there, first.reads.sectors, second.reads.sectors);
-      room = omega (arith, one, two, c.requires.room);
-      working = second.failed;
+      can = record {
+        after_log = omega (arith, c.requires.can.after_log, c.requires.can.slot);
+        there = omega (arith, c.requires.can.there, first.reads.sectors, second.reads.sectors);
+        working = second.failed;
+      };
+      room = omega (arith, one, two, c.requires.can.room);
       few = omega (arith, c.len.ensures, c.requires.few, c.requires.some);
       some = omega (arith, c.len.ensures, c.requires.some);
       last = omega (arith, c.len.ensures, c.requires.small, c.requires.some);
-      touched_first = omega arith;
-      touched_last = omega (arith, c.len.ensures, c.requires.some);
-      small = c.requires.small;
+      touched = record { first = omega arith; last = omega (arith, c.len.ensures, c.requires.some); small = c.requires.small };
       known = first.known;
     }
 
@@ -90,9 +90,9 @@ stage-requires g c =
     let two = room_read c.load_pointer_sectors.new.log c.read_edges.new.log second.reads in
     let puts = c.write_blocks.ensures.puts in
     record {
-      place = c.requires.after_log;
-      there = omega (arith, c.requires.within, first.reads.sectors, second.reads.sectors, puts.sectors);
-      room = omega (arith, one, two, c.requires.room, c.write_blocks.ensures.room);
+      place = c.requires.can.after_log;
+      there = omega (arith, c.requires.can.within, first.reads.sectors, second.reads.sectors, puts.sectors);
+      room = omega (arith, one, two, c.requires.can.room, c.write_blocks.ensures.room);
       working = puts.failed ∙ second.failed;
     }
 
@@ -142,7 +142,7 @@ returns-clause-done g c h names body space =
     let three : start ≡ content = c.in_ok-first_image.ensures.reads.view h1 ∙ one in
     let names_in = λ (m : Image) (same : m ≡ content). subst (λ (k : Image). NamesTaken (taken_of a) k e) (sym same) names in
     let size_is : size ≡ max e.size (offset + length bytes) = c.max-entry.ensures ∙ ap (λ (n : ℕ). max e.size (offset + n)) len_is in
-    let small : size ≤ LARGEST_SIZE = omega (arith, size_is, c.requires.small, c.requires.small_before) in
+    let small : size ≤ LARGEST_SIZE = omega (arith, size_is, c.requires.small, c.requires.can.small_before) in
     let ready : IsReady a content longer = ready_to_write a content e size body names (omega (arith, size_is)) small (subst (λ (s : ℕ). need_of s ≤ free_of a + used_of content e) (sym size_is) space) in
     let mirrors : MirrorsAll content longer all first last = mirrors_all_by content e longer all first last refl (c.in_ok-all.ensures.right h names) in
     let written = c.write_blocks.ensures.written (subst (λ (k : Image). IsReady a k longer) (sym three) ready) (omega (arith, size_is, len_is, c.requires.some))
@@ -156,7 +156,7 @@ returns-clause-done g c h names body space =
     let held : MirrorsAll (view c.load_pointer_sectors.new.log) e all first last = subst (λ (k : Image). MirrorsAll k e all first last) (sym one) (c.in_ok-all.ensures.right h names) in
     let read : edge c.len.result = λ partly. c.in_ok-first_image.ensures.last h1 there held partly ∙ ap (λ (m : Image). block_bytes m (named m e (data_block last))) one in
     write_leaves c.args.inode_sector offset bytes c.in_ok-first_image.first_image c.in_ok-first_image.last_image c.write_entry.result a b content between (view c.stage.new.self) e changed size
-    c.requires.after_log c.requires.slot c.write_blocks.ensures.range c.requires.small_before c.requires.small c.requires.some size_is body names
+    c.requires.can.after_log c.requires.can.slot c.write_blocks.ensures.range c.requires.can.small_before c.requires.small c.requires.some size_is body names
     (subst (λ (k : ℕ). Changes a b content between longer changed (λ p. IsBlockIn first (k + 1) p ⊎ IsPointer p)) is_last changes)
     (subst (λ (k : ℕ). HasBlocks between changed first (k + 1) image) is_last written.1) c.stage.ensures.view
     (search rules) (search rules)

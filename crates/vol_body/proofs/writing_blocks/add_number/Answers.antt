@@ -35,7 +35,7 @@ returns g c =
     let t1 = taken_of c.take-n.new.self in
     let one = c.stage.ensures in
     let two = c.stage-2.ensures in
-    let first_puts = puts_one log0 log1 c.take-n.result one.device one.sectors c.requires.working one.failed one.staged in
+    let first_puts = puts_one log0 log1 c.take-n.result one.device one.sectors c.requires.can.working one.failed one.staged in
     let second_puts = puts_one log1 log2 c.args.above.now.number two.device two.sectors one.failed two.failed two.staged in
     record {
       added = λ e q p at q_there p_there blank missing mirror.
@@ -51,7 +51,7 @@ returns g c =
           let between : view c.stage.new.self ≡ put n image content = c.stage.ensures.view in
           let is : after ≡ put m numbers (view c.stage.new.self) = c.stage-2.ensures.view in
           let takes : TakesSector a b n = record {
-            some = λ zero. omega (arith, c.requires.after_log, c.take-n.ensures.from, zero);
+            some = λ zero. omega (arith, c.requires.can.after_log, c.take-n.ensures.from, zero);
             from = c.take-n.ensures.from;
             below = c.take-n.ensures.below;
             free = c.take-n.ensures.free;
@@ -59,7 +59,7 @@ returns g c =
             count = c.take-n.ensures.count;
           } in
           let range = taken_range a m c.requires.known in
-          let some : m ≢ 0 = λ zero. omega (arith, c.requires.after_log, range.0, zero) in
+          let some : m ≢ 0 = λ zero. omega (arith, c.requires.can.after_log, range.0, zero) in
           let other : m ≢ n = λ same. both_ways (taken_of a n) takes.free (sym (ap (taken_of a) same) ∙ c.requires.known) in
           let at_m : after m ≡ numbers = ap (λ (k : Image). k m) is ∙ put_here m numbers (view c.stage.new.self) in
           let at_n : after n ≡ image = ap (λ (k : Image). k n) is ∙ put_other m n numbers (view c.stage.new.self) (λ same. other (sym same)) ∙ ap (λ (k : Image). k n) between ∙ put_here n image content in
@@ -80,8 +80,8 @@ returns g c =
           let n = c.take-n.result in
           let m = c.args.above.now.number in
           let range = taken_range c.args.sectors.now m c.requires.known in
-          let n_some : n ≢ 0 = λ zero. omega (arith, c.requires.after_log, c.take-n.ensures.from, zero) in
-          let m_some : m ≢ 0 = λ zero. omega (arith, c.requires.after_log, range.0, zero) in
+          let n_some : n ≢ 0 = λ zero. omega (arith, c.requires.can.after_log, c.take-n.ensures.from, zero) in
+          let m_some : m ≢ 0 = λ zero. omega (arith, c.requires.can.after_log, range.0, zero) in
           let one = room_placed c.args.log.now c.stage.new.self n (room_of c.args.log.now) (room_of c.stage.new.self) n_some (staged_here n (is_staged c.args.log.now) (is_staged c.stage.new.self) c.stage.ensures.staged) c.stage.ensures.room in
           let two = room_placed c.stage.new.self c.stage-2.new.self m (room_of c.stage.new.self) (room_of c.stage-2.new.self) m_some (staged_here m (is_staged c.stage.new.self) (is_staged c.stage-2.new.self) c.stage-2.ensures.staged) c.stage-2.ensures.room in
           let kept_m = placed_stays c.args.log.now c.stage.new.self m (staged_still n m (is_staged c.args.log.now) (is_staged c.stage.new.self) c.stage.ensures.staged) in
@@ -93,10 +93,10 @@ returns g c =
 
 pub stage-requires : goal.stage-requires
 stage-requires g c = record {
-  place = omega (arith, c.requires.after_log, c.take-n.ensures.from);
-  there = omega (arith, c.requires.there, c.take-n.ensures.below);
+  place = omega (arith, c.requires.can.after_log, c.take-n.ensures.from);
+  there = omega (arith, c.requires.can.there, c.take-n.ensures.below);
   room = omega (arith, c.requires.room);
-  working = c.requires.working;
+  working = c.requires.can.working;
 }
 
 pub stage-requires-2 : goal.stage-requires-2
@@ -104,8 +104,8 @@ stage-requires-2 g c =
     let range = taken_range c.args.sectors.now c.args.above.now.number c.requires.known in
     let less = room_left _ (room_of c.args.log.now) (room_of c.stage.new.self) c.stage.ensures.room in
     record {
-      place = omega (arith, c.requires.after_log, range.0);
-      there = omega (arith, c.requires.there, range.1, c.stage.ensures.sectors);
+      place = omega (arith, c.requires.can.after_log, range.0);
+      there = omega (arith, c.requires.can.there, range.1, c.stage.ensures.sectors);
       room = omega (arith, c.requires.room, less);
       working = c.stage.ensures.failed;
     }

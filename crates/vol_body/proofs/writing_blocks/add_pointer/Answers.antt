@@ -44,7 +44,7 @@ returns g c =
           let changed : Entry = record e { pointers = set e.pointers s n } in
           let is : view c.stage.new.self ≡ put n image content = c.stage.ensures.view in
           let takes : TakesSector a b n = record {
-            some = λ zero. omega (arith, c.requires.after_log, c.take-n.ensures.from, zero);
+            some = λ zero. omega (arith, c.requires.can.after_log, c.take-n.ensures.from, zero);
             from = c.take-n.ensures.from;
             below = c.take-n.ensures.below;
             free = c.take-n.ensures.free;
@@ -61,17 +61,17 @@ returns g c =
       keeps = λ k is. staged_still number k t0 t1 c.take-n.ensures.taken is;
       entry = refl;
       room =
-          let some : number ≢ 0 = λ zero. omega (arith, c.requires.after_log, c.take-n.ensures.from, zero) in
+          let some : number ≢ 0 = λ zero. omega (arith, c.requires.can.after_log, c.take-n.ensures.from, zero) in
           let place = room_placed log0 log1 number (room_of log0) (room_of log1) some (staged_here number (is_staged log0) (is_staged log1) one.staged) one.room in
           omega (arith, place);
-      puts = puts_one log0 log1 number one.device one.sectors c.requires.working one.failed one.staged;
+      puts = puts_one log0 log1 number one.device one.sectors c.requires.can.working one.failed one.staged;
       range = record { first = c.take-n.ensures.range.0; end = c.take-n.ensures.range.1 };
     }
 
 pub stage-requires : goal.stage-requires
 stage-requires g c = record {
-  place = omega (arith, c.requires.after_log, c.take-n.ensures.from);
-  there = omega (arith, c.requires.there, c.take-n.ensures.below);
+  place = omega (arith, c.requires.can.after_log, c.take-n.ensures.from);
+  there = omega (arith, c.requires.can.there, c.take-n.ensures.below);
   room = omega (arith, c.requires.room);
-  working = c.requires.working;
+  working = c.requires.can.working;
 }

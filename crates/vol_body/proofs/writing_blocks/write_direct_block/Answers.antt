@@ -34,7 +34,7 @@ returns-else-n-eq0 g c =
     let log0 = c.args.log.now in
     let log1 = c.stage.new.self in
     let one = c.stage.ensures in
-    let puts = puts_one log0 log1 c.taken_or_zero-n.result one.device one.sectors c.requires.working one.failed one.staged in
+    let puts = puts_one log0 log1 c.taken_or_zero-n.result one.device one.sectors c.requires.can.working one.failed one.staged in
     let less = room_left _ (room_of log0) (room_of log1) one.room in
     record {
       written = λ ready serves.
@@ -55,14 +55,14 @@ returns-else-n-eq0 g c =
     }
 
 pub add_pointer-requires : goal.add_pointer-requires
-add_pointer-requires g c = record { pointer = omega (arith, c.requires.direct); after_log = c.requires.after_log; there = c.requires.there; room = c.requires.room; working = c.requires.working }
+add_pointer-requires g c = record { pointer = omega (arith, c.requires.direct); can = c.requires.can; room = c.requires.room }
 
 pub stage-requires : goal.stage-requires
 stage-requires g c =
     let range = taken_range c.args.sectors.now c.taken_or_zero-n.result (known_taken (taken_of c.args.sectors.now) (get_or c.args.entry.now.pointers c.args.j 0) c.taken_or_zero-n.result c.taken_or_zero-n.ensures c.if-n-eq0.false) in
     record {
-      place = omega (arith, c.requires.after_log, range.0);
-      there = omega (arith, c.requires.there, range.1);
+      place = omega (arith, c.requires.can.after_log, range.0);
+      there = omega (arith, c.requires.can.there, range.1);
       room = omega (arith, c.requires.room);
-      working = c.requires.working;
+      working = c.requires.can.working;
     }

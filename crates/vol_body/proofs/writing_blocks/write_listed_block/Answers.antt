@@ -34,7 +34,7 @@ returns-else-n-eq0 g c =
     let log0 = c.args.log.now in
     let log1 = c.stage.new.self in
     let one = c.stage.ensures in
-    let puts = puts_one log0 log1 c.taken_or_zero-n.result one.device one.sectors c.requires.working one.failed one.staged in
+    let puts = puts_one log0 log1 c.taken_or_zero-n.result one.device one.sectors c.requires.can.working one.failed one.staged in
     let less = room_left _ (room_of log0) (room_of log1) one.room in
     let number = c.args.above.now.number in
     let stays = placed_stays log0 log1 number (puts.staged number) in
@@ -63,14 +63,14 @@ returns-else-n-eq0 g c =
     }
 
 pub add_number-requires : goal.add_number-requires
-add_number-requires g c = record { place = c.requires.place; after_log = c.requires.after_log; there = c.requires.there; known = c.requires.known; room = c.requires.room; working = c.requires.working }
+add_number-requires g c = record { place = c.requires.place; can = c.requires.can; known = c.requires.known; room = c.requires.room }
 
 pub stage-requires : goal.stage-requires
 stage-requires g c =
     let range = taken_range c.args.sectors.now c.taken_or_zero-n.result (known_taken (taken_of c.args.sectors.now) c.number_at.result c.taken_or_zero-n.result c.taken_or_zero-n.ensures c.if-n-eq0.false) in
     record {
-      place = omega (arith, c.requires.after_log, range.0);
-      there = omega (arith, c.requires.there, range.1);
+      place = omega (arith, c.requires.can.after_log, range.0);
+      there = omega (arith, c.requires.can.there, range.1);
       room = omega (arith, c.requires.room);
-      working = c.requires.working;
+      working = c.requires.can.working;
     }

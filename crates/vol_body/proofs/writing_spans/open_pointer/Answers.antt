@@ -37,4 +37,4 @@ returns-else-above-eq0 g c = record {
 }
 
 pub add_pointer-above-requires : goal.add_pointer-above-requires
-add_pointer-above-requires g c = record { pointer = c.requires.pointer; after_log = c.requires.after_log; there = c.requires.there; room = c.requires.room; working = c.requires.working }
+add_pointer-above-requires g c = record { pointer = c.requires.pointer; can = c.requires.can; room = c.requires.room }

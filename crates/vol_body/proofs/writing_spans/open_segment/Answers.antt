@@ -16,11 +16,9 @@ open_pointer-requires g c =
     let most = placed_most c.args.log.now c.args.all.now.number in
     record {
       pointer = omega arith;
-      after_log = c.requires.after_log;
-      there = c.requires.there;
+      can = c.requires.can;
       room = omega (arith, c.requires.room, most);
-      working = c.requires.working;
-      known = c.requires.known;
+      known = c.requires.known.0;
     }
 
 pub open_pointer-requires-2 : goal.open_pointer-requires-2
@@ -28,11 +26,9 @@ open_pointer-requires-2 g c =
     let most = placed_most c.args.log.now c.args.all.now.number in
     record {
       pointer = omega arith;
-      after_log = c.requires.after_log;
-      there = c.requires.there;
+      can = c.requires.can;
       room = omega (arith, c.requires.room, most);
-      working = c.requires.working;
-      known = c.requires.known_all;
+      known = c.requires.known.1;
     }
 
 pub add_number-above-requires : goal.add_number-above-requires
@@ -41,11 +37,13 @@ add_number-above-requires g c =
     let e = c.open_pointer-2.ensures in
     record {
       place = omega (arith, c.requires.place, c.if-group-eq0.false);
-      after_log = subst (λ (n : ℕ). FIRST_AFTER_LOG ≤ n) (sym e.range.first) c.requires.after_log;
-      there = omega (arith, c.requires.there, e.range.end, e.puts.sectors);
+      can = record {
+        after_log = subst (λ (n : ℕ). FIRST_AFTER_LOG ≤ n) (sym e.range.first) c.requires.can.after_log;
+        there = omega (arith, c.requires.can.there, e.range.end, e.puts.sectors);
+        working = e.puts.failed ∙ c.requires.can.working;
+      };
       known = e.known c.if-all-ne0.true;
       room = omega (arith, c.requires.room, e.room, most);
-      working = e.puts.failed ∙ c.requires.working;
     }
 
 pub returns-then-group-eq0 : goal.returns-then-group-eq0
@@ -72,7 +70,7 @@ returns-then-group-eq0 g c =
             λ held. mirror_stays c0 c1 e0 e1 double_indirect_block all.number all.image (adds.changes.stays double_indirect_block tt (λ same. cc)) held,
           );
       known = one.known;
-      known_all = λ some. one.keeps all_number (c.requires.known_all some);
+      known_all = λ some. one.keeps all_number (c.requires.known.1 some);
       keeps = one.keeps;
       entry = one.entry;
       room = omega (arith, one.room, stays);
@@ -114,7 +112,7 @@ returns-then-all-ne0 g c =
           let missing : IsMissing b c1 e1 p = record { ready = top.changes.ready; none = sym still.names ∙ c.if-above-eq0.true; serves = omega (arith, serves, size, c.if-group-eq0.false) } in
           let zeros : above.image ≡ replicate 512 0 = held_zeros c1 e1 p above.number above.image still c.if-above-eq0.true in
           let added = c.add_number-above.ensures.added e1 double_indirect_block p refl tt below (blank_zeros p) missing top.mirror in
-          let changes = changes_then a b d c0 c1 c2 e0 e1 e1 (λ x. x ≡ double_indirect_block) (λ x. (x ≡ p) ⊎ (x ≡ double_indirect_block)) (λ x. (x ≡ p) ⊎ (x ≡ double_indirect_block)) c.requires.after_log c.open_pointer-2.ensures.range c.add_number-above.ensures.range
+          let changes = changes_then a b d c0 c1 c2 e0 e1 e1 (λ x. x ≡ double_indirect_block) (λ x. (x ≡ p) ⊎ (x ≡ double_indirect_block)) (λ x. (x ≡ p) ⊎ (x ≡ double_indirect_block)) c.requires.can.after_log c.open_pointer-2.ensures.range c.add_number-above.ensures.range
           (λ x same. inr same) (λ x touched. touched) top.changes added.0.changes in
           let B = λ (q : BlockPosition). Adds a d c0 c2 e0 e1 (λ x. (x ≡ q) ⊎ (x ≡ double_indirect_block)) q c.add_number-above.result above.image × (Mirrors c0 e0 double_indirect_block all.number all.image → Mirrors c2 e1 double_indirect_block new_all.number new_all.image) in
           subst B (sym is) (
@@ -162,7 +160,7 @@ returns-else-above-eq0 g c =
             record { changes = changes_wider a b c0 c1 e0 e1 (λ x. x ≡ double_indirect_block) (λ x. (x ≡ p) ⊎ (x ≡ double_indirect_block)) (λ x same. inr same) top.changes; mirror = still; some = some },
             λ held. top.mirror,
           );
-      known = λ some. one.keeps above_number (c.requires.known some);
+      known = λ some. one.keeps above_number (c.requires.known.0 some);
       known_all = one.known;
       keeps = one.keeps;
       entry = one.entry;

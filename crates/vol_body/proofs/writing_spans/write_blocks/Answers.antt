@@ -87,10 +87,10 @@ returns g c =
           (subst (λ (x : ℕ). Mirrors c0 e0 (segment (x + 1)) late.number late.image) (sym group) (all.late (omega (arith, reaches, group))))))
           (λ later. two.2 (lists_one (omega arith))) in
           let Both = λ (p : BlockPosition). IsBlockIn first (last + 1) p ⊎ IsPointer p in
-          let first_two = changes_then a b d c0 c1 c2 e0 e1 e2 (IsBlockIn first to1) (λ p. IsBlockIn from2 to2 p ⊎ ((p ≡ segment s) ⊎ (p ≡ double_indirect_block))) Both c.requires.after_log c.write_direct.ensures.range c.write_segment.ensures.range
+          let first_two = changes_then a b d c0 c1 c2 e0 e1 e2 (IsBlockIn first to1) (λ p. IsBlockIn from2 to2 p ⊎ ((p ≡ segment s) ⊎ (p ≡ double_indirect_block))) Both c.requires.can.after_log c.write_direct.ensures.range c.write_segment.ensures.range
           (λ p there. inl (part_in_span first to1 first last p (omega arith) (omega (arith, low)) there))
           (λ p touched. span_touched from2 to2 first last s p (omega (arith, middle_from)) (omega (arith, middle_to)) touched) one.0 two.0 in
-          let changes = changes_then a d f c0 c2 c3 e0 e2 e3 Both (λ p. IsBlockIn from3 (last + 1) p ⊎ ((p ≡ segment (s + 1)) ⊎ (p ≡ double_indirect_block))) Both c.requires.after_log
+          let changes = changes_then a d f c0 c2 c3 e0 e2 e3 Both (λ p. IsBlockIn from3 (last + 1) p ⊎ ((p ≡ segment (s + 1)) ⊎ (p ≡ double_indirect_block))) Both c.requires.can.after_log
           (range_then a b d c.write_direct.ensures.range c.write_segment.ensures.range) c.write_segment-2.ensures.range
           (λ p touched. touched)
           (λ p touched. span_touched from3 (last + 1) first last (s + 1) p (omega (arith, c.saturating_sub-group.ensures)) (omega arith) touched) first_two three.0 in
@@ -115,13 +115,13 @@ returns g c =
 pub write_direct-requires : goal.write_direct-requires
 write_direct-requires g c = record {
   direct = omega (arith, c.min.ensures);
-  after_log = c.requires.after_log;
-  there = c.requires.there;
+  can = c.requires.can;
   room = omega (arith, c.requires.room, c.requires.few, c.min.ensures);
-  working = c.requires.working;
-  touched_first = c.requires.touched_first;
-  touched_last = omega (arith, c.requires.touched_last, c.min.ensures);
-  small = c.requires.small;
+  touched = record {
+    first = c.requires.touched.first;
+    last = omega (arith, c.requires.touched.last, c.min.ensures);
+    small = c.requires.touched.small;
+  };
 }
 
 pub write_segment-requires : goal.write_segment-requires
@@ -129,18 +129,23 @@ write_segment-requires g c =
     let one = c.write_direct.ensures in
     let all = c.args.all.now in
     record {
-      after_log = subst (λ (n : ℕ). FIRST_AFTER_LOG ≤ n) (sym one.range.first) c.requires.after_log;
-      there = omega (arith, c.requires.there, one.range.end, one.puts.sectors);
+      can = record {
+        after_log = subst (λ (n : ℕ). FIRST_AFTER_LOG ≤ n) (sym one.range.first) c.requires.can.after_log;
+        there = omega (arith, c.requires.can.there, one.range.end, one.puts.sectors);
+        working = one.puts.failed ∙ c.requires.can.working;
+      };
       room = omega (arith, c.requires.room, c.requires.few, one.room, c.min.ensures, c.max.ensures, c.min-2.ensures);
-      working = one.puts.failed ∙ c.requires.working;
-      starts = omega (arith, c.max.ensures, c.saturating_sub-group.ensures);
-      ends = omega (arith, c.min-2.ensures);
-      last = omega (arith, c.requires.last, c.min-2.ensures);
-      touched_first = omega (arith, c.requires.touched_first, c.max.ensures);
-      touched_last = omega (arith, c.requires.touched_last, c.min-2.ensures);
-      small = c.requires.small;
-      known = λ some. one.keeps all.early.number (c.requires.known.early some);
-      known_all = λ some. one.keeps all.double_indirect_block.number (c.requires.known.double_indirect_block some);
+      listed = record {
+        starts = omega (arith, c.max.ensures, c.saturating_sub-group.ensures);
+        ends = omega (arith, c.min-2.ensures);
+        last = omega (arith, c.requires.last, c.min-2.ensures);
+      };
+      touched = record {
+        first = omega (arith, c.requires.touched.first, c.max.ensures);
+        last = omega (arith, c.requires.touched.last, c.min-2.ensures);
+        small = c.requires.touched.small;
+      };
+      known = (λ some. one.keeps all.early.number (c.requires.known.early some), λ some. one.keeps all.double_indirect_block.number (c.requires.known.double_indirect_block some));
     }
 
 pub write_segment-requires-2 : goal.write_segment-requires-2
@@ -149,16 +154,21 @@ write_segment-requires-2 g c =
     let two = c.write_segment.ensures in
     let late = c.args.all.now.late.number in
     record {
-      after_log = subst (λ (n : ℕ). FIRST_AFTER_LOG ≤ n) (sym (two.range.first ∙ one.range.first)) c.requires.after_log;
-      there = omega (arith, c.requires.there, one.range.end, two.range.end, one.puts.sectors, two.puts.sectors);
+      can = record {
+        after_log = subst (λ (n : ℕ). FIRST_AFTER_LOG ≤ n) (sym (two.range.first ∙ one.range.first)) c.requires.can.after_log;
+        there = omega (arith, c.requires.can.there, one.range.end, two.range.end, one.puts.sectors, two.puts.sectors);
+        working = two.puts.failed ∙ one.puts.failed ∙ c.requires.can.working;
+      };
       room = omega (arith, c.requires.room, c.requires.few, one.room, two.room, c.min.ensures, c.max.ensures, c.min-2.ensures);
-      working = two.puts.failed ∙ one.puts.failed ∙ c.requires.working;
-      starts = omega arith;
-      ends = omega (arith, c.requires.few, c.saturating_sub-group.ensures);
-      last = omega (arith, c.requires.last);
-      touched_first = omega (arith, c.requires.touched_first, c.saturating_sub-group.ensures);
-      touched_last = omega (arith, c.requires.touched_last);
-      small = c.requires.small;
-      known = λ some. two.keeps late (one.keeps late (c.requires.known.late some));
-      known_all = two.known_all;
+      listed = record {
+        starts = omega arith;
+        ends = omega (arith, c.requires.few, c.saturating_sub-group.ensures);
+        last = omega (arith, c.requires.last);
+      };
+      touched = record {
+        first = omega (arith, c.requires.touched.first, c.saturating_sub-group.ensures);
+        last = omega (arith, c.requires.touched.last);
+        small = c.requires.touched.small;
+      };
+      known = (λ some. two.keeps late (one.keeps late (c.requires.known.late some)), two.known_all);
     }

@@ -41,7 +41,7 @@ loop-j-preserved g c =
           let before = so_far.written ready fits in
           let size : blocks_for_size e1.size ≡ blocks_for_size e0.size = ap blocks_for_size before.0.size in
           let now = step.written before.0.ready (omega (arith, size)) in (
-            changes_then a b d c0 c1 c2 e0 e1 e2 (IsBlockIn from j) (λ q. q ≡ data_block j) (IsBlockIn from (j + 1)) c.requires.after_log so_far.range step.range
+            changes_then a b d c0 c1 c2 e0 e1 e2 (IsBlockIn from j) (λ q. q ≡ data_block j) (IsBlockIn from (j + 1)) c.requires.can.after_log so_far.range step.range
                 (part_in_more from j) (λ q is. part_in_here from j q from_j is) before.0 now.0,
             parts_more b d c1 c2 e1 e2 (λ q. q ≡ data_block j) from j image now.0 (λ k below is. different k j below is) (omega (arith, c.requires.direct)) before.1 (now.1 ∙ c.image_of_block-image.ensures.image),
           );
@@ -52,9 +52,9 @@ loop-j-preserved g c =
 
 pub image_of_block-image-requires : goal.image_of_block-image-requires
 image_of_block-image-requires g c = record {
-  before = omega (arith, c.requires.touched_last, c.loop-j-test.true);
-  starts_before = omega (arith, c.requires.touched_first, c.loop-j.auto.j);
-  small = c.requires.small;
+  before = omega (arith, c.requires.touched.last, c.loop-j-test.true);
+  starts_before = omega (arith, c.requires.touched.first, c.loop-j.auto.j);
+  small = c.requires.touched.small;
   rest = c.loop-j.invariant.rest;
 }
 
@@ -63,10 +63,12 @@ write_direct_block-requires g c =
     let so_far = c.loop-j.invariant in
     record {
       direct = omega (arith, c.requires.direct, c.loop-j-test.true);
-      after_log = subst (λ (n : ℕ). FIRST_AFTER_LOG ≤ n) (sym so_far.range.first) c.requires.after_log;
-      there = omega (arith, c.requires.there, so_far.range.end, so_far.puts.sectors);
+      can = record {
+        after_log = subst (λ (n : ℕ). FIRST_AFTER_LOG ≤ n) (sym so_far.range.first) c.requires.can.after_log;
+        there = omega (arith, c.requires.can.there, so_far.range.end, so_far.puts.sectors);
+        working = so_far.working;
+      };
       room = omega (arith, c.requires.room, so_far.room, c.loop-j-test.true, c.loop-j.auto.j);
-      working = so_far.working;
     }
 
 pub returns : goal.returns

@@ -39,10 +39,10 @@ loop-j-preserved g c =
       written = λ e s starts fits ready mirror.
           let before = so_far.written e s starts fits ready mirror in
           let q = segment s in
-          let small : j < 16570 = omega (arith, c.requires.last) in
-          let le : start ≤ j = omega (arith, c.requires.starts) in
+          let small : j < 16570 = omega (arith, c.requires.listed.last) in
+          let le : start ≤ j = omega (arith, c.requires.listed.starts) in
           let now = step.written e q j (segment_lists s start j starts le) (segment_place s start c.args.to j starts le small) small (omega (arith, fits)) before.0.ready before.2 in (
-            changes_then a b d c0 c1 c2 e e e (λ p. IsBlockIn from j p ⊎ (p ≡ q)) (λ p. (p ≡ data_block j) ⊎ (p ≡ q)) (λ p. IsBlockIn from (j + 1) p ⊎ (p ≡ q)) c.requires.after_log so_far.range step.range
+            changes_then a b d c0 c1 c2 e e e (λ p. IsBlockIn from j p ⊎ (p ≡ q)) (λ p. (p ≡ data_block j) ⊎ (p ≡ q)) (λ p. IsBlockIn from (j + 1) p ⊎ (p ≡ q)) c.requires.can.after_log so_far.range step.range
                 (λ p touched. widened from j q p touched) (λ p touched. one_more from j q p from_j touched) before.0 now.0,
             parts_more b d c1 c2 e e (λ p. (p ≡ data_block j) ⊎ (p ≡ q)) from j image now.0 (λ k below touched. different k j s below touched) small before.1 (now.1 ∙ c.image_of_block-image.ensures.image),
             now.2,
@@ -67,9 +67,9 @@ shorter from to j p q few (inr is) = inr is
 
 pub image_of_block-image-requires : goal.image_of_block-image-requires
 image_of_block-image-requires g c = record {
-  before = omega (arith, c.requires.touched_last, c.loop-j-test.true);
-  starts_before = omega (arith, c.requires.touched_first, c.loop-j.auto.j);
-  small = c.requires.small;
+  before = omega (arith, c.requires.touched.last, c.loop-j-test.true);
+  starts_before = omega (arith, c.requires.touched.first, c.loop-j.auto.j);
+  small = c.requires.touched.small;
   rest = c.loop-j.invariant.rest;
 }
 
@@ -79,12 +79,14 @@ write_listed_block-requires g c =
     let number = c.args.above.now.number in
     let most = placed_most c.loop-j.log number in
     record {
-      place = omega (arith, c.requires.starts, c.requires.ends, c.loop-j-test.true, c.loop-j.auto.j);
-      after_log = subst (λ (n : ℕ). FIRST_AFTER_LOG ≤ n) (sym so_far.range.first) c.requires.after_log;
-      there = omega (arith, c.requires.there, so_far.range.end, so_far.puts.sectors);
+      place = omega (arith, c.requires.listed.starts, c.requires.listed.ends, c.loop-j-test.true, c.loop-j.auto.j);
+      can = record {
+        after_log = subst (λ (n : ℕ). FIRST_AFTER_LOG ≤ n) (sym so_far.range.first) c.requires.can.after_log;
+        there = omega (arith, c.requires.can.there, so_far.range.end, so_far.puts.sectors);
+        working = so_far.working;
+      };
       known = subst (λ (n : ℕ). taken_of c.loop-j.sectors n ≡ true) (sym so_far.number) (so_far.keeps number c.requires.known);
       room = omega (arith, c.requires.room, so_far.room, most, c.loop-j-test.true, c.loop-j.auto.j);
-      working = so_far.working;
     }
 
 pub returns : goal.returns

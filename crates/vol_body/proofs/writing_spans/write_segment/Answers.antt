@@ -43,10 +43,10 @@ returns-then-above-ne0 g c =
           let to = c.args.to in
           let some : from < to = c.if-to-from.false in
           let new_all = c.open_segment.new.all in
-          let opened = c.open_segment.ensures.opened ready (omega (arith, some, c.requires.starts, fits)) (mirror some) (λ later. mirror_all (omega (arith, some, c.requires.starts, later))) in
+          let opened = c.open_segment.ensures.opened ready (omega (arith, some, c.requires.listed.starts, fits)) (mirror some) (λ later. mirror_all (omega (arith, some, c.requires.listed.starts, later))) in
           let size : blocks_for_size e1.size ≡ blocks_for_size e0.size = ap blocks_for_size opened.0.changes.size in
           let listed = c.write_listed.ensures.written e1 s refl (omega (arith, size, fits)) opened.0.changes.ready opened.0.mirror in (
-            changes_then a b d c0 c1 c2 e0 e1 e1 (λ p. (p ≡ q) ⊎ (p ≡ double_indirect_block)) (λ p. IsBlockIn from to p ⊎ (p ≡ q)) (λ p. IsBlockIn from to p ⊎ ((p ≡ q) ⊎ (p ≡ double_indirect_block))) c.requires.after_log c.open_segment.ensures.range c.write_listed.ensures.range
+            changes_then a b d c0 c1 c2 e0 e1 e1 (λ p. (p ≡ q) ⊎ (p ≡ double_indirect_block)) (λ p. IsBlockIn from to p ⊎ (p ≡ q)) (λ p. IsBlockIn from to p ⊎ ((p ≡ q) ⊎ (p ≡ double_indirect_block))) c.requires.can.after_log c.open_segment.ensures.range c.write_listed.ensures.range
                 (λ p touched. inr touched) (λ p touched. parts_or from to q p touched) opened.0.changes listed.0,
             listed.1,
             λ held. mirror_stays c1 c2 e1 e1 double_indirect_block new_all.number new_all.image (listed.0.stays double_indirect_block tt (λ touched. apart from to s touched)) (opened.1 held),
@@ -67,7 +67,7 @@ returns-then-to-from g c = record {
     λ held. held,
   );
   keeps = λ n is. is;
-  known_all = c.requires.known_all;
+  known_all = c.requires.known.1;
   entry = refl;
   room = omega arith;
   puts = puts_none c.args.log.now;
@@ -76,13 +76,10 @@ returns-then-to-from g c = record {
 
 pub open_segment-requires : goal.open_segment-requires
 open_segment-requires g c = record {
-  place = omega (arith, c.requires.starts, c.requires.last, c.if-to-from.false);
-  after_log = c.requires.after_log;
-  there = c.requires.there;
+  place = omega (arith, c.requires.listed.starts, c.requires.listed.last, c.if-to-from.false);
+  can = c.requires.can;
   room = omega (arith, c.requires.room, c.if-to-from.false);
-  working = c.requires.working;
   known = c.requires.known;
-  known_all = c.requires.known_all;
 }
 
 pub write_listed-requires : goal.write_listed-requires
@@ -90,17 +87,19 @@ write_listed-requires g c =
     let one = c.open_segment.ensures in
     let most = placed_most c.open_segment.new.log c.open_segment.new.all.number in
     record {
-      after_log = subst (λ (n : ℕ). FIRST_AFTER_LOG ≤ n) (sym one.range.first) c.requires.after_log;
-      there = omega (arith, c.requires.there, one.range.end, one.puts.sectors);
+      can = record {
+        after_log = subst (λ (n : ℕ). FIRST_AFTER_LOG ≤ n) (sym one.range.first) c.requires.can.after_log;
+        there = omega (arith, c.requires.can.there, one.range.end, one.puts.sectors);
+        working = one.puts.failed ∙ c.requires.can.working;
+      };
       known = one.known c.if-above-ne0.true;
       room = omega (arith, c.requires.room, one.room, most, c.if-to-from.false);
-      working = one.puts.failed ∙ c.requires.working;
-      starts = c.requires.starts;
-      ends = omega (arith, c.requires.ends);
-      last = c.requires.last;
-      touched_first = c.requires.touched_first;
-      touched_last = c.requires.touched_last;
-      small = c.requires.small;
+      listed = record {
+        starts = c.requires.listed.starts;
+        ends = omega (arith, c.requires.listed.ends);
+        last = c.requires.listed.last;
+      };
+      touched = c.requires.touched;
     }
 
 -- There was no sector left for a pointer sector.
@@ -111,7 +110,7 @@ returns-else-above-ne0 g c =
     record {
       written = λ ready fits mirror mirror_all.
           let some : c.args.from < c.args.to = c.if-to-from.false in
-          let opened = one.opened ready (omega (arith, some, c.requires.starts, fits)) (mirror some) (λ later. mirror_all (omega (arith, some, c.requires.starts, later))) in
+          let opened = one.opened ready (omega (arith, some, c.requires.listed.starts, fits)) (mirror some) (λ later. mirror_all (omega (arith, some, c.requires.listed.starts, later))) in
           absurd (opened.0.some c.if-above-ne0.false);
       keeps = one.keeps;
       known_all = one.known_all;
