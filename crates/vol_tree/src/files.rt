@@ -3,6 +3,7 @@
 ghost use Rattle.std.specs.Prelude.{◌≡◌, ◌≤◌, ◌<◌, ◌+◌, IsTrue, MatchOption, length};
 ghost use Rattle.vol_inode.specs.Space.{need_of, size_limit};
 ghost use Rattle.vol_log.specs.Log.{device_of};
+ghost use Rattle.vol_body.specs.declared.writing.TheConstants.{PIECE};
 ghost use Rattle.vol_tree.specs.Superblock.{HasRanges};
 ghost use Rattle.vol_tree.specs.Calls.{written, resized, with_unit, is_file_at};
 ghost use Rattle.vol_tree.specs.Opened.{data_sectors, geometry};
@@ -26,7 +27,7 @@ impl<D: Device> Parts<D> {
         requires first { 1 ≤ file }
         requires last { file ≤ self.old.numbers.slots }
         requires some { 0 < length bytes.now }
-        requires piece { length bytes.now ≤ 16384 }
+        requires piece { length bytes.now ≤ PIECE }
         requires used { D.honest (device_of self.old.log)
             → IsTrue (is_file_at (opened self.old).tree file) }
         ensures { Changes (with_unit (written (geometry self.old.numbers) (opened self.old).tree
@@ -105,7 +106,7 @@ impl<D: Device> Parts<D> {
 
 /// The end of a write, where no file's limit is passed.
 fn end_of_write(version: Version, offset: u64, count: usize) -> Option<u32>
-    requires { count ≤ 16384 }
+    requires { count ≤ PIECE }
     ensures { MatchOption result (size_limit version < offset + count)
         (λ end. (end ≡ offset + count) × (end ≤ size_limit version)) }
 {

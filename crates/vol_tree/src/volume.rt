@@ -3,6 +3,7 @@
 ghost use Rattle.std.specs.Prelude.{◌≡◌, ◌≤◌, ◌<◌, ◌⊎◌, ◌↔◌, ⊤, [], Ok, Err, OnOk, OnErr, IfOk, IfErr, MatchResult, IfSome, IsSome, IsTrue, is_err, false, true, length};
 ghost use Rattle.std.specs.Option.{MatchOption};
 ghost use Rattle.vol_sector.specs.Disk.{Image, Leaves, counted};
+ghost use Rattle.vol_body.specs.declared.writing.TheConstants.{PIECE};
 ghost use Rattle.vol_tree.specs.Tree.{File, Directory, IsTree, IsDirectory, entry, lookup};
 ghost use Rattle.vol_tree.specs.Stat.{TellsStat};
 ghost use Rattle.vol_tree.specs.Stats.{IsStats};
@@ -297,7 +298,7 @@ impl<D: Device> Volume<D> {
     pub fn write(&mut self, file: u32, offset: u64, bytes: &[u8]) -> Result<(), Errno>
         requires first { 1 ≤ file }
         requires last { file ≤ self.old.numbers.slots }
-        requires piece { length bytes.now ≤ 16384 }
+        requires piece { length bytes.now ≤ PIECE }
         requires used { D.honest self.old.device → IsTrue (is_file_at self.old.tree file) }
         ensures answer { D.honest self.old.device
             → Answers (with_unit (written (geometry self.old.numbers) self.old.tree file offset
@@ -317,7 +318,7 @@ impl<D: Device> Volume<D> {
     pub fn write_from(&mut self, file: u32, offset: u64, bytes: &Source<'_>) -> Result<(), Errno>
         requires first { 1 ≤ file }
         requires last { file ≤ self.old.numbers.slots }
-        requires piece { length bytes.now ≤ 16384 }
+        requires piece { length bytes.now ≤ PIECE }
         requires used { D.honest self.old.device → IsTrue (is_file_at self.old.tree file) }
         ensures answer { D.honest self.old.device
             → Answers (with_unit (written (geometry self.old.numbers) self.old.tree file offset

@@ -75,9 +75,11 @@ add-requires g c =
       last = subst (λ (d : Dirs). c.in-Some.serial ≤ slots_of d) (sym commits.dirs) c.in-Some.ensures.last;
       free = subst (λ (d : Dirs). IsFree d c.in-Some.serial) (sym commits.dirs) c.in-Some.ensures.free;
       named = (c.new_entry.ensures.right c.args.self.now.numbers.version).rules.name;
-      there = omega (arith, is.sectors, is.ranges.room, is.slots);
-      room = omega (arith, c.in_ok-make_room.ensures.room);
-      working = commits.kept.failed;
+      can = record {
+        there = omega (arith, is.sectors, is.ranges.room, is.slots);
+        room = omega (arith, c.in_ok-make_room.ensures.room);
+        working = commits.kept.failed;
+      };
     }
 
 pub returns : goal.returns
@@ -105,11 +107,11 @@ returns g c =
     creates (view mid.log) (view new.log) mid.numbers mid.sectors c.args.parent c.args.name.now c.args.kind serial c.new_entry.result commits.is_open.ranges.room content1 c.in-Some.ensures.first last
     (ap (λ (U : Tree). lookup U c.args.parent c.args.name.now) same ∙ missing) (ap (λ (U : Tree). least_from 1 is_unused U) same ∙ least)
     c.requires.name (subst (λ (U : Tree). IsDirectory U c.args.parent) (sym same) (c.requires.directory h)) (c.new_entry.ensures.right mid.numbers.version) c.new_entry.ensures.parent c.new_entry.ensures.name
-    c.new_entry.ensures.kind c.new_entry.ensures.size c.new_entry.ensures.pointers c.add.ensures.view working1.taken
+    c.new_entry.ensures.kind c.new_entry.ensures.size c.new_entry.ensures.pointers c.add.ensures.stages.view working1.taken
     in
     record {
       changes = done _ old mid new serial commits
-          (stages mid new c.add.ensures.device c.add.ensures.failed c.add.ensures.sectors refl refl c.add.ensures.slots)
+          (stages mid new c.add.ensures.stages.device c.add.ensures.stages.failed c.add.ensures.stages.sectors refl refl c.add.ensures.slots)
           (λ h.
           let h1 = commits.kept.honest.0 h in
           let working1 = commits.is_open.working h1 commits.kept.failed in

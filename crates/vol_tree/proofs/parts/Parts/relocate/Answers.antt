@@ -27,8 +27,8 @@ returns g c =
     let new = record old { log = c.relocate.new.log; dirs = c.relocate.new.self } in
     let here : suc s ≡ n = omega (arith, c.requires.first) in
     let place : slot_sector n ≡ slot_sector (s + 1) = omega (arith, c.requires.first) in
-    let put_is : z ≡ put (slot_sector (s + 1)) (spelling to) a = c.relocate.ensures.view ∙ ap (λ (k : ℕ). put k (spelling to) a) place in
-    let all_stages = stages old new c.relocate.ensures.device c.relocate.ensures.failed c.relocate.ensures.sectors refl refl c.relocate.ensures.slots in
+    let put_is : z ≡ put (slot_sector (s + 1)) (spelling to) a = c.relocate.ensures.stages.view ∙ ap (λ (k : ℕ). put k (spelling to) a) place in
+    let all_stages = stages old new c.relocate.ensures.stages.device c.relocate.ensures.stages.failed c.relocate.ensures.stages.sectors refl refl c.relocate.ensures.slots in
     let right = is_to.right v.version c.requires.right in
     let k : slots_of old.dirs ≡ v.slots = is.slots in
     let slot = c.requires.slot in
@@ -52,3 +52,8 @@ returns g c =
 
 pub relocate-requires-clause-named : goal.relocate-requires-clause-named
 relocate-requires-clause-named c = grind (arith, common_steps)
+
+pub relocate-requires-clause-can : goal.relocate-requires-clause-can
+relocate-requires-clause-can g c =
+    let is = c.requires.is_open in
+    record { there = omega (arith, is.slots, is.ranges.room, is.sectors); room = omega (arith, c.requires.room); working = c.requires.working }

@@ -86,12 +86,14 @@ set_size-requires g c =
     let limit = limit_small c.entry.new.self.numbers.version in
     let at = c.slot_sector.ensures in
     record {
-      after_log = omega (arith, c.requires.first, at);
-      slot = omega (arith, last, is.first, at);
-      within = omega (arith, last, is.sectors, is.ranges.room, at);
-      there = omega (arith, is.end, is.sectors);
-      room = omega (arith, c.in_ok-make_room.ensures.room);
-      small_before = omega (arith, c.in_ok-entry.ensures.right.rules.size.small, limit_small c.args.self.now.numbers.version);
+      can = record {
+        after_log = omega (arith, c.requires.first, at);
+        slot = omega (arith, last, is.first, at);
+        within = omega (arith, last, is.sectors, is.ranges.room, at);
+        there = omega (arith, is.end, is.sectors);
+        room = omega (arith, c.in_ok-make_room.ensures.room);
+        small_before = omega (arith, c.in_ok-entry.ensures.right.rules.size.small, limit_small c.args.self.now.numbers.version);
+      };
       small = omega (arith, c.in-Some.ensures.1, limit);
     }
 

@@ -19,6 +19,7 @@ use Rattle.vol_tree.proofs.Finding.{tree_entry}
 use Rattle.vol_tree.proofs.Rewriting.{Rewrites, rewritten_shows}
 use Rattle.vol_tree.proofs.Removing.{removed_slots, removed_tree, removed_taken, removed_front, removed_space, removed_content}
 use Rattle.vol_tree.proofs.Trees.{without_is_tree}
+use Rattle.vol_tree.proofs.OneTree.{limit_small}
 use Rattle.vol_tree.proofs.Taking.{err_is, room_left}
 use Rattle.vol_tree.proofs.parts.Parts.take_out.Goals as goal
 use Rattle.vol_dirs.specs.Slots.{slot_sector}
@@ -53,9 +54,9 @@ returns g c =
     let at : c.slot_sector.result ≡ slot_sector (s + 1) = c.slot_sector.ensures ∙ place in
     let entry_is = done.entry.entry in
     let first_stages = file_stages old c.set_size.new.log sectors c.saturating_sub-self.result c.set_size.ensures.steps.log c.requires.working done.steps.failed c.set_size.ensures.steps.range.0 c.set_size.ensures.steps.range.1 in
-    let second_stages = stages one new c.remove.ensures.device c.remove.ensures.failed c.remove.ensures.sectors refl refl c.remove.ensures.slots in
+    let second_stages = stages one new c.remove.ensures.stages.device c.remove.ensures.stages.failed c.remove.ensures.stages.sectors refl refl c.remove.ensures.slots in
     let all_stages = stages_then old one new first_stages second_stages in
-    let put_is : z ≡ put (slot_sector (s + 1)) unused b = c.remove.ensures.view ∙ ap (λ (k : ℕ). put k unused b) place in
+    let put_is : z ≡ put (slot_sector (s + 1)) unused b = c.remove.ensures.stages.view ∙ ap (λ (k : ℕ). put k unused b) place in
     let empty : e.size ≡ 0 = ap (λ (x : Entry). x.size) entry_is in
     let removes = c.requires.removes in
     let rewrites = λ (h : g.D.Device.honest (device_of old.log)).
@@ -105,7 +106,7 @@ returns g c =
         stages = all_stages;
         tree = λ h. tree_is h ∙ ap (λ (m : ℕ). changed (tree_in a v) m None) here;
         slots = λ h. removed_slots a b z v s d e old.sectors sectors (is.content h) (removes h).slot is.first is.end is.ranges.room (is.working h c.requires.working).taken (rewrites h) empty put_is;
-        room = let less = room_left _ (room_of c.set_size.new.log) (room_of c.remove.new.log) c.remove.ensures.room in omega (arith, less, c.set_size.ensures.steps.room);
+        room = let less = room_left _ (room_of c.set_size.new.log) (room_of c.remove.new.log) c.remove.ensures.stages.room in omega (arith, less, c.set_size.ensures.steps.room);
         names = c.remove.ensures.names;
       };
       fails = λ io. absurd (cc);
@@ -113,3 +114,26 @@ returns g c =
 
 pub remove-requires-clause-held : goal.remove-requires-clause-held
 remove-requires-clause-held c = grind (arith, common_steps)
+
+pub remove-requires-clause-can : goal.remove-requires-clause-can
+remove-requires-clause-can g c =
+    let is = c.requires.is_open in
+    let steps = c.set_size.ensures.steps in
+    record {
+      there = omega (arith, is.slots, is.ranges.room, is.sectors, steps.log.sectors);
+      room = omega (arith, c.requires.room, steps.room);
+      working = c.in_ok-set_size.ensures.steps.failed;
+    }
+
+pub set_size-requires-clause-can : goal.set_size-requires-clause-can
+set_size-requires-clause-can g c =
+    let is = c.requires.is_open in
+    let at = c.slot_sector.ensures in
+    record {
+      after_log = omega (arith, c.requires.first, at);
+      slot = omega (arith, c.requires.last, is.first, at);
+      within = omega (arith, c.requires.last, is.ranges.room, is.sectors, at);
+      there = omega (arith, is.end, is.sectors);
+      room = omega (arith, c.requires.room);
+      small_before = omega (arith, c.requires.right.rules.size.small, limit_small c.args.self.now.numbers.version);
+    }
