@@ -2,13 +2,12 @@
 
 ghost use Rattle.std.specs.Prelude.{◌≡◌, ◌⊎◌, ◌≤◌, ◌<◌, ◌+◌, ℕ, IsTrue, IfOk, IfErr, false, length};
 ghost use Rattle.vol_sector.specs.Fault.{device_failed};
-ghost use Rattle.vol_log.specs.Log.{view, log_sectors, has_failed, device_of};
+ghost use Rattle.vol_log.specs.Log.{view, has_failed, device_of};
 ghost use Rattle.vol_log.specs.Reading.{OnlyReads};
 ghost use Rattle.vol_alloc.specs.Alloc.{first_of, end_of};
 ghost use Rattle.vol_dirs.specs.Names.{slots_of, IsFree};
-ghost use Rattle.vol_tree.specs.Superblock.{HasRanges};
 ghost use Rattle.vol_tree.specs.internal.Parts.{IsContent};
-ghost use Rattle.vol_tree.specs.internal.Reads.{HaveTree, HaveTreeSoon, HasParts};
+ghost use Rattle.vol_tree.specs.internal.Reads.{CanRead, HaveTree, HaveTreeSoon, HasParts};
 
 use crate::reaching::{has_flag, lead_to_root, stand_in_directories};
 use crate::reading::{Entries, read_entries};
@@ -45,9 +44,7 @@ fn check_entries<D: Device>(
     numbers: &Superblock,
     dirs: &mut Dirs,
 ) -> Result<(Alloc, u32), VolumeFault>
-    requires there { numbers.now.sectors ≤ log_sectors log.old }
-    requires ranges { HasRanges numbers.now }
-    requires working { has_failed log.old ≡ false }
+    requires can { CanRead log.old numbers.now }
     requires slots { slots_of dirs.old ≡ numbers.now.slots }
     requires free { (s : ℕ) → IsFree dirs.old s }
     ensures slots { slots_of dirs.new ≡ slots_of dirs.old }
@@ -82,9 +79,7 @@ pub(crate) fn read_parts<D: Device>(
     log: &mut Log<D>,
     numbers: &Superblock,
 ) -> Result<(Dirs, Alloc, u32), VolumeFault>
-    requires there { numbers.now.sectors ≤ log_sectors log.old }
-    requires ranges { HasRanges numbers.now }
-    requires working { has_failed log.old ≡ false }
+    requires can { CanRead log.old numbers.now }
     ensures slots { IfOk result (λ p. slots_of p.0 ≡ numbers.now.slots) }
     ensures first { IfOk result (λ p. first_of p.1 ≡ FIRST_AFTER_LOG + numbers.now.slots) }
     ensures end { IfOk result (λ p. end_of p.1 ≡ numbers.now.sectors) }

@@ -3,16 +3,15 @@
 ghost use Rattle.std.specs.Prelude.{◌≡◌, ◌≢◌, ◌⊎◌, ◌≤◌, ◌<◌, ◌+◌, ◌∷◌, ◌++◌, ◌↔◌, ℕ, List, [], IsTrue, IfOk, OnOk, IfErr, false, Some, None, length};
 ghost use Rattle.vol_sector.specs.Disk.{Image};
 ghost use Rattle.vol_sector.specs.Fault.{device_failed};
-ghost use Rattle.vol_log.specs.Log.{view, log_sectors, has_failed, device_of};
+ghost use Rattle.vol_log.specs.Log.{view, has_failed, device_of};
 ghost use Rattle.vol_log.specs.Reading.{OnlyReads};
 ghost use Rattle.vol_inode.specs.Entry.{IsEntry, HasName};
 ghost use Rattle.vol_inode.specs.Space.{need_of};
 ghost use Rattle.vol_body.specs.Survey.{IsTrimmed};
 ghost use Rattle.vol_dirs.specs.Names.{slots_of, Names, IsFree, IsNameOf, Shows};
-ghost use Rattle.vol_tree.specs.Superblock.{HasRanges};
 ghost use Rattle.vol_tree.specs.internal.Parts.{IsContent};
 ghost use Rattle.vol_tree.specs.internal.Replacing.{kind_is_directory};
-ghost use Rattle.vol_tree.specs.internal.Reads.{held_at, IsNew, IsRight, AreBelow, Adds, AreWithin, FitIn, HaveRead};
+ghost use Rattle.vol_tree.specs.internal.Reads.{CanRead, held_at, IsNew, IsRight, AreBelow, Adds, AreWithin, FitIn, HaveRead};
 
 use crate::stat::ROOT;
 use crate::superblock::Superblock;
@@ -127,9 +126,7 @@ fn take_up<D: Device>(
     entry: &Entry,
     found: &mut Entries,
 ) -> Result<(), VolumeFault>
-    requires there { numbers.now.sectors ≤ log_sectors log.old }
-    requires ranges { HasRanges numbers.now }
-    requires working { has_failed log.old ≡ false }
+    requires can { CanRead log.old numbers.now }
     requires first { 1 ≤ serial }
     requires last { serial ≤ slots_of dirs.old }
     requires free { IsFree dirs.old serial }
@@ -172,9 +169,7 @@ fn read_slot<D: Device>(
     slot: u32,
     found: &mut Entries,
 ) -> Result<(), VolumeFault>
-    requires there { numbers.now.sectors ≤ log_sectors log.old }
-    requires ranges { HasRanges numbers.now }
-    requires working { has_failed log.old ≡ false }
+    requires can { CanRead log.old numbers.now }
     requires slot { slot < numbers.now.slots }
     requires slots { slots_of dirs.old ≡ numbers.now.slots }
     requires before { AreBelow dirs.old slot }
@@ -217,9 +212,7 @@ pub(crate) fn read_entries<D: Device>(
     numbers: &Superblock,
     dirs: &mut Dirs,
 ) -> Result<Entries, VolumeFault>
-    requires there { numbers.now.sectors ≤ log_sectors log.old }
-    requires ranges { HasRanges numbers.now }
-    requires working { has_failed log.old ≡ false }
+    requires can { CanRead log.old numbers.now }
     requires slots { slots_of dirs.old ≡ numbers.now.slots }
     requires free { (s : ℕ) → IsFree dirs.old s }
     ensures read { D.honest (device_of log.old) → IfOk result

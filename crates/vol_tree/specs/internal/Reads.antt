@@ -2,6 +2,9 @@
 use Rattle.std.specs.Prelude.{◌≡◌, ◌≢◌, ◌+◌, ◌≤◌, ◌<◌, ℕ, Bool, true, false, List, [], ◌∷◌, ◌++◌, take, map, get_or, Option, Some, None}
 use Rattle.std.specs.List.{sum_by, flat_map}
 use Rattle.vol_sector.specs.Disk.{Image}
+use Rattle.vol_sector.specs.declared.device.Device.{Ghosts}
+use Rattle.vol_log.specs.Log.{log_sectors, has_failed}
+use Rattle.vol_log.specs.declared.log.Log.{Log}
 use Rattle.vol_inode.specs.declared.entry.Entry.{Entry}
 use Rattle.vol_inode.specs.Entry.{IsEntry, name_of}
 use Rattle.vol_inode.specs.Space.{need_of}
@@ -11,6 +14,7 @@ use Rattle.vol_dirs.specs.Names.{Names, IsInSlot, Shows}
 use Rattle.vol_alloc.specs.declared.sectors.Alloc.{Alloc}
 use Rattle.vol_tree.specs.declared.superblock.Superblock.{Superblock}
 use Rattle.vol_tree.specs.declared.reading.Entries.{Entries}
+use Rattle.vol_tree.specs.Superblock.{HasRanges}
 use Rattle.vol_tree.specs.Stands.{slot}
 use Rattle.vol_tree.specs.Space.{space}
 use Rattle.vol_tree.specs.Opened.{slots_in, tree_in, data_sectors}
@@ -19,6 +23,12 @@ use Rattle.vol_tree.specs.internal.Climbs.{AllLeadUp, AllLeadUpSoon, StandInDire
 use Rattle.vol_tree.specs.internal.Replacing.{kind_is_directory}
 use Rattle.vol_log.specs.declared.layout.TheConstants.{FIRST_AFTER_LOG}
 use Rattle.vol_dirs.specs.Slots.{slot_sector}
+
+-- The slots may be read: the volume's numbers are in their ranges, its sectors are on the disk, and the log works.
+pub record CanRead {D : Type 0} {g : Ghosts D} (log : Log D g) (v : Superblock) : Type 0 where
+  pub there : v.sectors ≤ log_sectors log
+  pub ranges : HasRanges v
+  pub working : has_failed log ≡ false
 
 -- what the slot at this place holds
 abbrev pub held_at : Image → Superblock → ℕ → Option Entry

@@ -13,7 +13,7 @@ use Rattle.vol_log.specs.declared.layout.TheConstants.{FIRST_AFTER_LOG}
 
 pub make_a_tree-requires : goal.make_a_tree-requires
 make_a_tree-requires g c =
-    let ranges = c.requires.ranges in
+    let ranges = c.requires.can.ranges in
     let count = c.in_ok-found.ensures.count in
     record {
       some = subst (λ (n : ℕ). 0 < n) (sym count) ranges.some_slots;
@@ -104,7 +104,7 @@ returns g c =
     let tree = c.in_ok-make_a_tree.ensures.yes c.if-not-branch.false in
     let passed = λ (h : g.D.Device.honest (device_of c.args.log.now)).
     let is : HasPassed content v found = record {
-      ranges = c.requires.ranges;
+      ranges = c.requires.can.ranges;
       read = read.read h;
       within = read.within;
       distinct = subst AreDistinct same e.right.distinct;

@@ -8,9 +8,7 @@ use Rattle.vol_tree.proofs.checking.read_parts.Goals as goal
 
 pub check_entries-requires : goal.check_entries-requires
 check_entries-requires g c = record {
-  there = c.requires.there;
-  ranges = c.requires.ranges;
-  working = c.requires.working;
+  can = c.requires.can;
   slots = c.in_ok-dirs.ensures.slots;
   free = c.in_ok-dirs.ensures.free;
 }
@@ -28,7 +26,7 @@ returns-in_err-dirs g c =
       damaged = λ h. handed_on r _ Memory is (λ damaged. memory_not_damage damaged);
       refused = handed_on r _ Memory is (inr (inr refl));
       reads = reads_same c.args.log.now;
-      failed = failed_on r Memory _ is c.requires.working;
+      failed = failed_on r Memory _ is c.requires.can.working;
     }
 
 pub returns-in_err-sectors : goal.returns-in_err-sectors

@@ -42,9 +42,11 @@ pub read_slot-requires : goal.read_slot-requires
 read_slot-requires g c =
     let so_far = c.loop-slot.invariant in
     record {
-      there = subst (λ (n : ℕ). c.args.numbers.now.sectors ≤ n) (sym so_far.reads.sectors) c.requires.there;
-      ranges = c.requires.ranges;
-      working = so_far.working;
+      can = record {
+        there = subst (λ (n : ℕ). c.args.numbers.now.sectors ≤ n) (sym so_far.reads.sectors) c.requires.can.there;
+        ranges = c.requires.can.ranges;
+        working = so_far.working;
+      };
       slot = c.loop-slot-test.true;
       slots = so_far.slots ∙ c.requires.slots;
       before = so_far.below;
@@ -102,7 +104,7 @@ loop-slot-init g c =
     let v = c.args.numbers.now in
     let found : Entries = record { named = c.new.result; parents = c.new-2.result; directories = c.new-3.result; reserved = 0 } in
     record {
-      working = c.requires.working;
+      working = c.requires.can.working;
       reads = reads_same c.args.log.now;
       count = ap length c.new-2.ensures.items;
       slots = refl;

@@ -20,19 +20,21 @@ use Rattle.vol_log.specs.declared.layout.TheConstants.{FIRST_AFTER_LOG}
 use Rattle.vol_dirs.specs.Slots.{slot_sector}
 
 pub slot_sector-requires : goal.slot_sector-requires
-slot_sector-requires g c = omega (arith, c.requires.slot, c.requires.ranges.few_slots)
+slot_sector-requires g c = omega (arith, c.requires.slot, c.requires.can.ranges.few_slots)
 
 pub read-requires : goal.read-requires
-read-requires g c = omega (arith, c.requires.there, c.requires.ranges.room, c.requires.slot, c.slot_sector.ensures)
+read-requires g c = omega (arith, c.requires.can.there, c.requires.can.ranges.room, c.requires.slot, c.slot_sector.ensures)
 
 pub take_up-requires : goal.take_up-requires
 take_up-requires g c =
     let v = c.args.numbers.now in
     let both = subst (λ (o : Option Entry). IfSome o (λ d. IsEntry v.version d × (c.in_ok-image.image ≡ spelling d))) c.in-Ok-Some.field-0-is c.in-Ok-Some.ensures.right in
     record {
-      there = subst (λ (n : ℕ). v.sectors ≤ n) (sym c.in_ok-image.ensures.sectors) c.requires.there;
-      ranges = c.requires.ranges;
-      working = c.in_ok-image.ensures.failed;
+      can = record {
+        there = subst (λ (n : ℕ). v.sectors ≤ n) (sym c.in_ok-image.ensures.sectors) c.requires.can.there;
+        ranges = c.requires.can.ranges;
+        working = c.in_ok-image.ensures.failed;
+      };
       first = omega arith;
       last = omega (arith, c.requires.slot, c.requires.slots);
       free = λ p n held. let le = c.requires.before p n _ held in omega (arith, le);

@@ -10,14 +10,14 @@ use Rattle.vol_tree.proofs.reading.take_up.Goals as goal
 use Rattle.vol_log.specs.declared.layout.TheConstants.{FIRST_AFTER_LOG}
 
 pub is_placed-requires : goal.is_placed-requires
-is_placed-requires g c = record { working = c.requires.working; named = c.requires.right.rules.name }
+is_placed-requires g c = record { working = c.requires.can.working; named = c.requires.right.rules.name }
 
 pub hold-requires : goal.hold-requires
 hold-requires g c = record { first = c.requires.first; last = c.requires.last; free = c.requires.free; named = c.requires.right.rules.name }
 
 pub survey-requires : goal.survey-requires
 survey-requires g c = record {
-  there = c.requires.there;
+  there = c.requires.can.there;
   pointers = c.requires.right.rules.pointers;
   small = omega (arith, c.requires.right.rules.size.small, limit_small c.args.numbers.now.version);
   inside = c.requires.within.inside;
@@ -38,7 +38,7 @@ returns-then-not-is_placed g c = record {
   damaged = λ h is placed trimmed fits. true≢false (sym (c.is_placed.ensures.no placed) ∙ c.if-not-is_placed.true);
   refused = inl refl;
   reads = reads_same c.args.log.now;
-  failed = c.requires.working;
+  failed = c.requires.can.working;
 }
 
 pub returns-in_err-survey : goal.returns-in_err-survey

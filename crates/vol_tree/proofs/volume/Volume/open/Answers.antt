@@ -51,9 +51,11 @@ pub read_parts-requires : goal.read_parts-requires
 read_parts-requires g c =
     let installed = c.in-Ok-open.ensures in
     record {
-      there = subst (λ (n : ℕ). c.in-Ok.numbers.sectors ≤ n) (sym installed.fresh.2) (omega arith);
-      ranges = c.in-Ok.ensures.ranges;
-      working = installed.fresh.0;
+      can = record {
+        there = subst (λ (n : ℕ). c.in-Ok.numbers.sectors ≤ n) (sym installed.fresh.2) (omega arith);
+        ranges = c.in-Ok.ensures.ranges;
+        working = installed.fresh.0;
+      };
     }
 
 -- ---- the log was refused
