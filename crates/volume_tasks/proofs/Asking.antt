@@ -1,6 +1,6 @@
 -- Steps that only ask a volume.
-use Rattle.std.proofs.Common.{ℕ, Bool, false, OnErr, OnOk, Result, Ok, Err, IsErrAnd, ◌≡◌, sym, ap, ◌∙◌, subst}
-use Rattle.vol_sector.specs.Disk.{Disk, counted}
+use Rattle.std.proofs.Common.{ℕ, Bool, false, OnOk, Result, Ok, Err, IsErrAnd, ◌≡◌, sym, subst}
+use Rattle.vol_sector.specs.Disk.{Disk}
 use Rattle.vol_tree.specs.declared.superblock.Superblock.{Superblock}
 use Rattle.vol_tree.specs.Superblock.{HasRanges}
 use Rattle.vol_tree.specs.Opened.{Opened, Keeps}
@@ -20,25 +20,12 @@ on_ok (Ok x) P Q f p = f p
 on_ok (Err e) P Q f p = tt
 
 module _ {D : Type 0} (honest : D → Type 0) (size failures : D → ℕ) where
-  pub keeps_then : (a b c : Opened D) (io : Bool) → Keeps honest size failures a b false → Keeps honest size failures b c io → Keeps honest size failures a c io
-  keeps_then a b c io f s = record {
-    numbers = s.numbers ∙ f.numbers;
-    failed = s.failed;
-    failures = λ ok. s.failures f.failed ∙ ap (counted io) (f.failures ok);
-    idle = λ failed. absurd (let i = (f.idle failed).1 in cc);
-    honest = (λ h. s.honest.0 (f.honest.0 h), λ h. f.honest.1 (s.honest.1 h));
-    size = s.size ∙ f.size;
-  }
-
+  -- and after one that changed the tree
   pub works_after : (a b : Opened D) → IsWorking a → Keeps honest size failures a b false → IsWorking b
   works_after a b working kept = record {
     working = kept.failed;
     ranges = subst (λ (v : Superblock). HasRanges v) (sym kept.numbers) working.ranges;
   }
-
-pub on_err : {X E : Type 0} (r : Result X E) (P : Type 0) → P → OnErr r P
-on_err (Ok x) P p = tt
-on_err (Err e) P p = p
 
 -- whom a refusal blames, where it goes on as an error
 module _ {D : Type 0} (honest : D → Type 0) (disk : D → Disk) (size failures : D → ℕ) {X E : Type 0} (blames : Result X E → Bool) where

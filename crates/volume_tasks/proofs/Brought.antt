@@ -9,7 +9,7 @@ use Rattle.path_walk.specs.Walk.{Asked}
 use Rattle.volume_archive.specs.Import.{IsPartOfImport}
 use Rattle.volume_tasks.specs.Importing.{IsPartOfBringing}
 use Rattle.volume_tasks.specs.Tasks.{ReflectsAny, directory_named}
-use Rattle.volume_tasks.proofs.Beginning.{any_after, leaves_more}
+use Rattle.volume_archive.proofs.Moments.{any_after, leaves_more}
 
 -- a volume is opened, and then something is done with it
 pub opened_then : (a : Disk) (v : Superblock) (these : Tree → Type 0) (b d : Disk) (T : Tree) → these T → Leaves a b (λ c. StandsAs c v T) → Leaves b d (ReflectsAny b v these) → Leaves a d (ReflectsAny a v these)

@@ -17,9 +17,10 @@ use Rattle.volume_tasks.specs.declared.failure.Failure.TheVariants as failure
 use Rattle.volume_tasks.specs.Tasks.{ReflectsAny}
 use Rattle.volume_tasks.specs.Changes.{Changes, IsPartOfChange, meant}
 use Rattle.volume_tasks.specs.internal.Changing.{AnswersOrStops, Changed}
-use Rattle.volume_tasks.proofs.Asking.{keeps_then}
-use Rattle.volume_tasks.proofs.Beginning.{any_then, leaves_more, quiet_or}
-use Rattle.volume_tasks.proofs.Filled.{synced_not, with_ok}
+use Rattle.volume_archive.proofs.Kept.{keeps_then}
+use Rattle.volume_archive.proofs.Moments.{any_then, leaves_more, quiet_or}
+use Rattle.volume_archive.proofs.Filled.{with_ok}
+use Rattle.volume_tasks.proofs.Filled.{synced_not}
 
 abbrev Meaning : Type 0
 Meaning = Tree → Result Tree Errno

@@ -5,7 +5,6 @@ pub mod Flushed
 mod Asking
 mod Listing
 mod Texts
-mod Pieces
 mod Filled
 mod Beginning
 mod Missing

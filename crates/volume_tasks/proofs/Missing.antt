@@ -74,10 +74,10 @@ begun_missing v T M U path found wants parent name result same is missing plain 
 -- and taking away what it has, where it is there
 pub begun_found : (v w : Superblock) (T M U : Tree) (path : List ℕ) (found : Reached) (wants : Bool) (serial : ℕ) (result : Result ℕ Errno) → M ≡ T → w ≡ v
     → reached T path ≡ Ok (found, wants) → found ≡ Found serial
-    → Answers (emptied w M serial) M U result → Answers (begun v T path) T U result
+    → Answers (emptied (geometry w) M serial) M U result → Answers (begun v T path) T U result
 begun_found v w T M U path found wants serial result same numbers is there answer =
-    let begins : begun v T path ≡ emptied v T serial =
+    let begins : begun v T path ≡ emptied (geometry v) T serial =
     ap (λ (x : Both). x >>= begun_at v T) (is ∙ ap (λ (x : Reached). let a : Both = Ok (x, wants) in a) there) in
     subst (λ (meant : Result (Tree × ℕ) Errno). Answers meant T U result) (sym begins)
-    (subst (λ (n : Superblock). Answers (emptied n T serial) T U result) numbers
-    (subst (λ (X : Tree). Answers (emptied w X serial) X U result) same answer))
+    (subst (λ (n : Superblock). Answers (emptied (geometry n) T serial) T U result) numbers
+    (subst (λ (X : Tree). Answers (emptied (geometry w) X serial) X U result) same answer))

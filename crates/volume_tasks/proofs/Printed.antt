@@ -10,7 +10,8 @@ use Rattle.volume_tasks.specs.declared.failure.Failure.{Failure}
 use Rattle.volume_tasks.specs.declared.failure.Failure.TheVariants as failure
 use Rattle.volume_tasks.specs.Streams.{AppendsPart}
 use Rattle.volume_tasks.specs.Tasks.{Prints, PrintsPart}
-use Rattle.volume_tasks.proofs.Handed.{part_kept, part_none}
+use Rattle.volume_archive.proofs.Handed.{part_none}
+use Rattle.volume_tasks.proofs.Handed.{part_kept}
 
 -- a call on the tree is refused
 pub tree_refused : (meant : Result Text Errno) (before after : Option (List ℕ)) (e : Errno) (r : Result (Unit {0}) Failure)

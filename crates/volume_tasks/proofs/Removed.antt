@@ -12,9 +12,9 @@ use Rattle.path_walk.specs.Walk.{Asked}
 use Rattle.volume_tasks.specs.Tasks.{ReflectsAny, serial_named}
 use Rattle.volume_tasks.specs.Changes.{IsThinned, top_named, tree_removed, without}
 use Rattle.volume_tasks.specs.internal.Changing.{Applied, AnswersOrStops, Changed, IsLeafBelow}
-use Rattle.volume_tasks.proofs.Asking.{keeps_then}
-use Rattle.volume_tasks.proofs.Beginning.{any_after, any_same, any_then, leaves_more}
-use Rattle.volume_tasks.proofs.Filled.{with_err, with_ok}
+use Rattle.volume_archive.proofs.Kept.{keeps_then}
+use Rattle.volume_archive.proofs.Moments.{any_after, any_same, any_then, leaves_more}
+use Rattle.volume_archive.proofs.Filled.{with_err, with_ok}
 use Rattle.volume_tasks.proofs.Thinned.{IsAmid, amid_last, amid_next, leaf_gone, next_used}
 
 abbrev Meaning : Type 0

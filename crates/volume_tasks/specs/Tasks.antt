@@ -19,6 +19,8 @@ use Rattle.path_walk.specs.Rooted.{reached_from_root}
 use Rattle.sandbox_words.specs.Request.{Text}
 use Rattle.volume_tasks.specs.declared.failure.Failure.{Failure}
 use Rattle.volume_tasks.specs.declared.failure.Failure.TheVariants as failure
+pub use Rattle.volume_archive.specs.Import.{ReflectsAny}
+pub use Rattle.volume_archive.specs.Placing.{BeginWith, emptied}
 use Rattle.volume_tasks.specs.Streams.{AppendsPart}
 
 -- ---- paths
@@ -110,24 +112,14 @@ Prints meant before after (Err failure.Stream) = (text : Text) × (meant ≡ Ok 
 
 -- ---- putting
 
--- what a file has is taken away; the answer is its serial
-abbrev pub emptied : Superblock → Tree → ℕ → Result (Tree × ℕ) Errno
-emptied v T serial = if directory_at T serial then Err errno.IsDirectory
-    else (resized (geometry v) T serial 0 >>= λ U. Ok (U, serial))
-
 -- What `put` begins with: the file is made, or what it has is taken away.
 abbrev pub begun_at : Superblock → Tree → Reached × Bool → Result (Tree × ℕ) Errno
-begun_at v T (Found serial, wants) = emptied v T serial
+begun_at v T (Found serial, wants) = emptied (geometry v) T serial
 begun_at v T (Missing parent name, true) = Err errno.IsDirectory
 begun_at v T (Missing parent name, false) = created T parent name (File [])
 
 abbrev pub begun : Superblock → Tree → Text → Result (Tree × ℕ) Errno
 begun v T path = reached T path >>= begun_at v T
-
--- known bytes begin with these
-abbrev pub BeginWith : Option (List ℕ) → List ℕ → Type 0
-BeginWith None bytes = Unit {0}
-BeginWith (Some all) bytes = (rest : List ℕ) × (all ≡ bytes ++ rest)
 
 -- the tree with a beginning of the known bytes in the file
 abbrev pub HasBeginning : Tree → ℕ → Option (List ℕ) → Tree → Type 0
@@ -151,7 +143,3 @@ Puts v T path before after U result =
 -- what a stop inside `put` may leave: the tree before it, or the file with a beginning of the input
 abbrev pub IsPartOfPut : Superblock → Tree → Text → Option (List ℕ) → Tree → Type 0
 IsPartOfPut v T path known U = (U ≡ T) ⊎ ((B : Tree) × (file : ℕ) × (begun v T path ≡ Ok (B, file)) × HasBeginning B file known U)
-
--- the image stands for a tree that a crash could leave, or for one of these, under these numbers
-abbrev pub ReflectsAny : Disk → Superblock → (Tree → Type 0) → Image → Type 0
-ReflectsAny disk v these image = Reflects disk v image ⊎ ((U : Tree) × these U × StandsAs image v U)

@@ -5,7 +5,7 @@ use Rattle.vol_tree.specs.Tree.{Tree}
 use Rattle.vol_tree.specs.declared.superblock.Superblock.{Superblock}
 use Rattle.vol_tree.specs.Opened.{geometry}
 use Rattle.volume_archive.specs.Import.{Imports}
-use Rattle.volume_tasks.proofs.Asking.{keeps_then}
+use Rattle.volume_archive.proofs.Kept.{keeps_then}
 use Rattle.volume_tasks.proofs.importing.bring.Goals as goal
 
 pub returns-clause-crash : goal.returns-clause-crash

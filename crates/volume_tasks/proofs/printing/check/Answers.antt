@@ -7,7 +7,7 @@ use Rattle.volume_tasks.specs.Tasks.{summary}
 use Rattle.volume_tasks.proofs.Printed.{line_holds, stream_refused}
 use Rattle.volume_tasks.proofs.Texts.{summary_told}
 use Rattle.std.proofs.KnownBytes.{Keeps-refl}
-use Rattle.volume_tasks.proofs.Handed.{part_none}
+use Rattle.volume_archive.proofs.Handed.{part_none}
 use Rattle.volume_tasks.proofs.printing.check.Goals as goal
 
 pub returns-clause-prints : goal.returns-clause-prints

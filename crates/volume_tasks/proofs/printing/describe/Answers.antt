@@ -5,7 +5,7 @@ use Rattle.vol_tree.specs.Tree.{Tree, entry}
 use Rattle.volume_tasks.specs.Streams.{AppendsPart}
 use Rattle.volume_tasks.specs.Tasks.{facts_at, serial_named}
 use Rattle.volume_tasks.proofs.Described.{facts_told}
-use Rattle.volume_tasks.proofs.Handed.{part_none}
+use Rattle.volume_archive.proofs.Handed.{part_none}
 use Rattle.volume_tasks.proofs.Printed.{named_prints, stream_refused, tree_refused, walk_refused}
 use Rattle.path_walk.proofs.Chaining.{asked_then}
 use Rattle.volume_tasks.specs.Blame.{blames_device}

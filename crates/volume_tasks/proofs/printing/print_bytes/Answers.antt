@@ -5,12 +5,12 @@ use Rattle.vol_tree.specs.Calls.{bytes_at}
 use Rattle.path_walk.specs.Walk.{Asked}
 use Rattle.path_walk.proofs.Chaining.{asked_then}
 use Rattle.volume_tasks.proofs.Asking.{asked_on, works_on}
-use Rattle.volume_tasks.proofs.Pieces.{piece_broken, piece_printed, pieces_so_far}
+use Rattle.volume_archive.proofs.ReadPieces.{piece_broken, piece_printed, pieces_so_far}
 use Rattle.volume_tasks.proofs.Printed.{stream_refused, tree_refused}
 use Rattle.std.proofs.KnownBytes.{Keeps-refl}
 use Rattle.volume_tasks.specs.Blame.{blames_device}
 use Rattle.volume_tasks.specs.declared.failure.Failure.TheVariants as failure
-use Rattle.volume_tasks.proofs.Handed.{part_none}
+use Rattle.volume_archive.proofs.Handed.{part_none}
 use Rattle.volume_tasks.proofs.printing.print_bytes.Goals as goal
 
 pub loop-n-preserved : goal.loop-n-preserved

@@ -13,7 +13,7 @@ use Rattle.volume_tasks.specs.Streams.{AppendsPart}
 use Rattle.volume_tasks.specs.Tasks.{line_in, line_of, listing}
 use Rattle.volume_tasks.proofs.Asking.{works_on}
 use Rattle.volume_tasks.proofs.Listing.{next_child_is, no_child_left}
-use Rattle.volume_tasks.proofs.Handed.{part_then}
+use Rattle.volume_archive.proofs.Handed.{part_then}
 use Rattle.volume_tasks.proofs.Printed.{stream_refused}
 use Rattle.volume_tasks.proofs.Texts.{line_told}
 use Rattle.volume_tasks.proofs.printing.print_entries.Goals as goal

@@ -4,8 +4,8 @@ use Rattle.std.specs.Io.KnownBytes.{Appends}
 use Rattle.std.proofs.KnownBytes.{Keeps-refl}
 use Rattle.volume_tasks.specs.Streams.{AppendsPart}
 use Rattle.volume_tasks.specs.internal.Lines.{stat_line}
-use Rattle.volume_tasks.proofs.Asking.{on_err}
-use Rattle.volume_tasks.proofs.Handed.{part_none}
+use Rattle.volume_archive.proofs.Results.{on_err}
+use Rattle.volume_archive.proofs.Handed.{part_none}
 use Rattle.volume_tasks.proofs.Printed.{line_holds}
 use Rattle.volume_tasks.proofs.Texts.{line_written}
 use Rattle.volume_tasks.proofs.printing.print_entry.Goals as goal

@@ -5,8 +5,8 @@ use Rattle.volume_tasks.specs.internal.Lines.{stat_facts}
 use Rattle.volume_tasks.proofs.Described.{facts_written}
 use Rattle.volume_tasks.proofs.Printed.{line_holds}
 use Rattle.std.proofs.KnownBytes.{Keeps-refl}
-use Rattle.volume_tasks.proofs.Asking.{on_err}
-use Rattle.volume_tasks.proofs.Handed.{part_none}
+use Rattle.volume_archive.proofs.Results.{on_err}
+use Rattle.volume_archive.proofs.Handed.{part_none}
 use Rattle.volume_tasks.proofs.printing.print_facts.Goals as goal
 
 pub returns-clause-all : goal.returns-clause-all

@@ -7,9 +7,12 @@ use Rattle.vol_tree.specs.declared.errno.Errno.TheVariants as errno
 use Rattle.vol_tree.specs.Calls.{with_unit, written}
 use Rattle.vol_tree.specs.Opened.{geometry}
 use Rattle.volume_tasks.specs.Tasks.{HasBeginning}
-use Rattle.volume_tasks.proofs.Asking.{keeps_then, works_after}
-use Rattle.volume_tasks.proofs.Beginning.{any_then}
-use Rattle.volume_tasks.proofs.Filled.{consumed_begins, file_there, fill_refused, piece_written}
+use Rattle.volume_archive.proofs.Kept.{keeps_then}
+use Rattle.volume_tasks.proofs.Asking.{works_after}
+use Rattle.volume_archive.proofs.Moments.{any_then}
+use Rattle.volume_archive.proofs.Filled.{file_there, piece_written}
+use Rattle.volume_archive.proofs.Results.{consumed_begins}
+use Rattle.volume_tasks.proofs.Filled.{fill_refused}
 use Rattle.volume_tasks.proofs.Filled.{fill_stopped}
 use Rattle.volume_tasks.proofs.putting.write_input.Goals as goal
 

@@ -1,7 +1,7 @@
-use Rattle.volume_tasks.proofs.Beginning.{quiet_or}
+use Rattle.volume_archive.proofs.Moments.{quiet_or}
 use Rattle.std.proofs.Common.{false}
 use Rattle.vol_log.proofs.Moments.{leaves_any}
-use Rattle.volume_tasks.proofs.Asking.{keeps_then}
+use Rattle.volume_archive.proofs.Kept.{keeps_then}
 use Rattle.volume_tasks.proofs.removing.remove_leaf.Goals as goal
 
 pub returns-in_err-rmdir-in-Directory-clause-crash : goal.returns-in_err-rmdir-in-Directory-clause-crash

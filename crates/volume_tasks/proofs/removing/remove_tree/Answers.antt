@@ -4,7 +4,8 @@ use Rattle.vol_tree.specs.Tree.{Tree, changed}
 use Rattle.vol_tree.specs.Calls.{parent_at}
 use Rattle.vol_tree.specs.Opened.{IsSerial}
 use Rattle.volume_tasks.specs.Changes.{IsThinned, without}
-use Rattle.volume_tasks.proofs.Asking.{keeps_then, works_after}
+use Rattle.volume_archive.proofs.Kept.{keeps_then}
+use Rattle.volume_tasks.proofs.Asking.{works_after}
 use Rattle.volume_tasks.proofs.Removed.{only_io, quiet_left, stopped, turn_left, turned}
 use Rattle.volume_tasks.proofs.Thinned.{amid_ends, leaf_not_root}
 use Rattle.volume_tasks.proofs.removing.remove_tree.Goals as goal

@@ -6,7 +6,8 @@ use Rattle.sandbox_words.specs.declared.request.Task.{Task}
 use Rattle.volume_tasks.specs.Tasks.{ReflectsAny, IsPartOfPut}
 use Rattle.volume_tasks.specs.Changes.{IsPartOfChange}
 use Rattle.volume_tasks.specs.Doing.{IsPartOf, IsRaised}
-use Rattle.volume_tasks.proofs.Beginning.{leaves_more, upgrade_any}
+use Rattle.volume_archive.proofs.Moments.{leaves_more}
+use Rattle.volume_tasks.proofs.Beginning.{upgrade_any}
 use Rattle.volume_tasks.proofs.tasks.done_with.Goals as goal
 
 pub returns-in-Put-clause-crash : goal.returns-in-Put-clause-crash
