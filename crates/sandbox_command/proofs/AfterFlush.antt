@@ -8,7 +8,7 @@ use Rattle.vol_tree.specs.Tree.{Tree}
 use Rattle.wasm_module.specs.declared.fault.LoadFault.{LoadFault}
 use Rattle.wasm_store.specs.Instantiation.{LinksOf}
 use Rattle.module_survey.specs.Printing.{Begins, Tells}
-use Rattle.wasi_calls.specs.Links.{link}
+use Rattle.wasi_calls.specs.host.Links.{link}
 use Rattle.sandbox_command.specs.Inspecting.{Inspects, refused_status, survey_status}
 use Rattle.sandbox_words.specs.Request.{Text}
 use Rattle.volume_tasks.specs.declared.exporting.ExportFailure.{ExportFailure}

@@ -2,7 +2,7 @@
 use Rattle.std.proofs.Common.{◌≡◌, ℕ, Option, None, Some, refl, ap, sym, subst}
 use Rattle.vol_sector.specs.Disk.{Disk}
 use Rattle.wasm_module.specs.declared.module.Module.{Module}
-use Rattle.wasi_calls.specs.declared.wasi_host.HostParts.{HostParts}
+use Rattle.wasi_calls.specs.declared.host.wasi_host.HostParts.{HostParts}
 use Rattle.sandbox_core.specs.Session.{Opens, OpensWith, SessionState, Shares, seeded_by}
 use Rattle.sandbox_command.specs.internal.Seeds.{with_seed}
 

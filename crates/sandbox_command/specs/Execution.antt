@@ -11,7 +11,7 @@ use Rattle.wasm_module.specs.declared.module.Module.{Module}
 use Rattle.wasm_module.specs.Module.{Spells}
 use Rattle.wasm_valid.specs.Validity.{IsValid}
 use Rattle.wasm_valid.specs.Refusal.{IsRefusal}
-use Rattle.wasi_calls.specs.declared.settings.Settings.{Settings}
+use Rattle.wasi_calls.specs.declared.host.settings.Settings.{Settings}
 use Rattle.sandbox_core.specs.declared.fault.SessionFault.{SessionFault}
 use Rattle.sandbox_core.specs.Session.{given}
 use Rattle.sandbox_words.specs.declared.request.Run.{Run}

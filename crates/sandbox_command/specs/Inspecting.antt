@@ -3,7 +3,7 @@ use Rattle.std.specs.Prelude.{◌≡◌, ◌⊎◌, ℕ, List, Bool, Option, Res
 use Rattle.std.specs.declared.io.ErrorKind.{ErrorKind}
 use Rattle.std.specs.declared.io.ErrorKind.TheVariants.{OutOfMemory}
 use Rattle.wasm_module.specs.declared.fault.LoadFault.{LoadFault}
-use Rattle.wasi_calls.specs.Links.{link}
+use Rattle.wasi_calls.specs.host.Links.{link}
 use Rattle.module_survey.specs.Printing.{Begins, Tells}
 
 -- 0 where the bytes load and the output could be flushed

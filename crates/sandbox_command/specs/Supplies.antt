@@ -1,8 +1,8 @@
 -- What a guest is given by the words of its command line (`README.md`, "The program").
 use Rattle.std.specs.Prelude.{◌≡◌, ◌⊎◌, ◌==◌, ℕ, Bool, List, [], ◌∷◌, length, map, Option, Some, None, if◌then◌else◌, nat_lt, codes}
 use Rattle.std.specs.List.{Contains, position_or_len, before_first, after_first}
-use Rattle.wasi_calls.specs.declared.settings.Preopen.{Preopen}
-use Rattle.wasi_calls.specs.declared.settings.Settings.{Settings}
+use Rattle.wasi_calls.specs.declared.host.settings.Preopen.{Preopen}
+use Rattle.wasi_calls.specs.declared.host.settings.Settings.{Settings}
 use Rattle.sandbox_core.specs.declared.fault.SessionFault.{SessionFault}
 use Rattle.sandbox_core.specs.declared.fault.SessionFault.TheVariants.{Setting, Memory}
 use Rattle.sandbox_words.specs.declared.request.Run.{Run}

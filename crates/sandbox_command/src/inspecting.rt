@@ -18,7 +18,7 @@ use wasm_store::HostCall;
 struct Served;
 
 impl Links for Served {
-    ghost use Rattle.wasi_calls.specs.Links.{link};
+    ghost use Rattle.wasi_calls.specs.host.Links.{link};
 
     ghost links = { link };
 

@@ -14,17 +14,17 @@ use Rattle.wasi_fd.specs.declared.descriptor.Descriptor.TheVariants.{Entry}
 use Rattle.wasi_fd.specs.declared.descriptor.EntryKind.TheVariants as kinds
 use Rattle.wasi_fd.specs.declared.descriptor.Opened.{Opened as OpenedEntry}
 use Rattle.wasi_fd.specs.Table.{table_of, streams}
-use Rattle.wasi_calls.specs.declared.settings.Preopen.{Preopen}
-use Rattle.wasi_calls.specs.declared.settings.Settings.{Settings}
-use Rattle.wasi_calls.specs.declared.wasi_host.HostParts.{HostParts}
-use Rattle.wasi_calls.specs.Settings.{settings_fit}
-use Rattle.wasi_calls.specs.Moments.{CountsMoments, Kept, Turns, IsSafe, PauseSynced, is_sync}
-use Rattle.wasi_calls.specs.Confined.{Begins}
-use Rattle.wasi_calls.proofs.Entries.{no_entries}
-use Rattle.wasi_calls.proofs.Hosting.{are_rows}
-use Rattle.wasi_calls.proofs.Moments.{keeps_all}
-use Rattle.wasi_calls.proofs.Confinement.{confines_host}
-use Rattle.wasi_calls.specs.Making.{found_directory, from_root, directory_named, preopened, preopens_of, table_with}
+use Rattle.wasi_calls.specs.declared.host.settings.Preopen.{Preopen}
+use Rattle.wasi_calls.specs.declared.host.settings.Settings.{Settings}
+use Rattle.wasi_calls.specs.declared.host.wasi_host.HostParts.{HostParts}
+use Rattle.wasi_calls.specs.host.Settings.{settings_fit}
+use Rattle.wasi_calls.specs.laws.Moments.{CountsMoments, Kept, Turns, IsSafe, PauseSynced, is_sync}
+use Rattle.wasi_calls.specs.laws.Confined.{Begins}
+use Rattle.wasi_calls.proofs.descriptors.OpenEntries.{no_entries}
+use Rattle.wasi_calls.proofs.laws.HostLaws.{are_rows}
+use Rattle.wasi_calls.proofs.laws.Moments.{keeps_all}
+use Rattle.wasi_calls.proofs.laws.Confinement.{confines_host}
+use Rattle.wasi_calls.specs.host.Making.{found_directory, from_root, directory_named, preopened, preopens_of, table_with}
 use Rattle.vol_tree.specs.Opened.{Opened}
 use Rattle.vol_tree.specs.Stands.{StandsAs}
 use Rattle.vol_tree.specs.declared.superblock.Superblock.{Superblock}
@@ -37,8 +37,8 @@ use Rattle.wasm_steps.specs.Configuration.{Instance, Configuration, first_config
 use Rattle.wasm_steps.specs.Steps.{CallsOf, Event, Step, plain_step, free_step, host_answers, host_exits, in_label, in_frame, Reach, stays, goes}
 use Rattle.wasi_calls.specs.World.{World, places}
 use Rattle.wasi_calls.specs.Calls as world
-use Rattle.wasi_calls.specs.Host.{HostState, HostCalls, StreamBytes, LeavesNone, StreamsMove, MayFollow, before_moving, after_moving, Shows, world_of}
-use Rattle.wasi_calls.proofs.Served.{nothing}
+use Rattle.wasi_calls.specs.host.Worlds.{HostState, HostCalls, StreamBytes, LeavesNone, StreamsMove, MayFollow, before_moving, after_moving, Shows, world_of}
+use Rattle.wasi_calls.proofs.bodies.PlainCalls.{nothing}
 use Rattle.std.specs.Io.KnownBytes.{Consumes, Appends}
 use Rattle.std.proofs.KnownBytes.{Consumes-nil, Consumes-trans, Appends-nil, Appends-trans}
 use Rattle.sandbox_core.specs.Session.{SessionState, OpensWith, Shares, History, Follow, is_synced, pauses_of, seeded_by}

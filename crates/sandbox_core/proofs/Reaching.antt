@@ -16,7 +16,7 @@ use Rattle.wasm_interp.specs.Machine.{Snapshot, Represents, outcome_of}
 use Rattle.wasm_steps.specs.declared.pause.Outcome.{Outcome}
 use Rattle.wasm_steps.specs.declared.pause.Outcome.TheVariants.{Exited, Trapped, OutOfFuel, OutOfMemory}
 use Rattle.wasm_interp.specs.Promise.{EndsAs, Paused, Resumed, HasItsUnit}
-use Rattle.wasi_calls.specs.Moments.{IsTurn}
+use Rattle.wasi_calls.specs.laws.Moments.{IsTurn}
 use Rattle.sandbox_core.specs.Runs.{answered, PausesFollow, ResumesFollow, StopsAt, LastStopsAt, StopsAs, RunsWithin, Left, Passed}
 
 module _ (H : Type 0) (Calls : CallsOf H) (i : Instance) where

@@ -10,13 +10,13 @@ use Rattle.wasm_steps.specs.Configuration.{Instance, Store, Configuration, first
 use Rattle.wasm_steps.specs.Configuration as configuration
 use Rattle.wasm_interp.specs.Machine.{Represents}
 use Rattle.wasm_steps.specs.Steps.{Reach}
-use Rattle.wasi_calls.specs.declared.wasi_host.HostParts.{HostParts}
-use Rattle.wasi_calls.specs.Links.{link}
+use Rattle.wasi_calls.specs.declared.host.wasi_host.HostParts.{HostParts}
+use Rattle.wasi_calls.specs.host.Links.{link}
 use Rattle.wasi_calls.specs.World.{World}
 use Rattle.wasi_calls.specs.Calls as world
-use Rattle.wasi_calls.specs.Host.{HostState, HostCalls, StreamBytes, StreamsMove, MayFollow, before_moving, after_moving, Shows, world_of}
-use Rattle.wasi_calls.specs.Moments.{Turn, IsSafe, AllKept}
-use Rattle.wasi_calls.specs.Confined.{IsConfined, named_by}
+use Rattle.wasi_calls.specs.host.Worlds.{HostState, HostCalls, StreamBytes, StreamsMove, MayFollow, before_moving, after_moving, Shows, world_of}
+use Rattle.wasi_calls.specs.laws.Moments.{Turn, IsSafe, AllKept}
+use Rattle.wasi_calls.specs.laws.Confined.{IsConfined, named_by}
 use Rattle.sandbox_core.specs.Session.{SessionState, Opens, Shares, History, pauses_of, is_synced, Follow, used_by, seeded_by}
 use Rattle.sandbox_core.specs.Runs.{answered, LastStopsAt}
 

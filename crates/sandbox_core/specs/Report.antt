@@ -8,7 +8,7 @@ use Rattle.wasm_interp.specs.Machine.{Represents, outcome_of}
 use Rattle.wasm_interp.specs.Promise.{HasItsUnit}
 use Rattle.wasm_steps.specs.Steps.{CallsOf}
 use Rattle.wasm_steps.specs.declared.pause.Pause.TheVariants.{Ended}
-use Rattle.wasi_calls.specs.Host.{HostState, HostCalls, stream_failed}
+use Rattle.wasi_calls.specs.host.Worlds.{HostState, HostCalls, stream_failed}
 use Rattle.sandbox_core.specs.declared.report.Report.{Report}
 use Rattle.sandbox_core.specs.Session.{SessionState, Commits, History, Follow, used_by}
 use Rattle.sandbox_core.specs.Runs.{RunsWithin, Passed}

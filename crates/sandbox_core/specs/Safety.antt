@@ -6,8 +6,8 @@ use Rattle.vol_tree.specs.Tree.{Tree}
 use Rattle.vol_tree.specs.Opened.{Opened}
 use Rattle.vol_tree.specs.Stands.{StandsAs}
 use Rattle.wasm_steps.specs.declared.pause.Pause.{Pause}
-use Rattle.wasi_calls.specs.declared.wasi_host.HostParts.{HostParts}
-use Rattle.wasi_calls.specs.Moments.{Kept, IsSafe}
+use Rattle.wasi_calls.specs.declared.host.wasi_host.HostParts.{HostParts}
+use Rattle.wasi_calls.specs.laws.Moments.{Kept, IsSafe}
 use Rattle.sandbox_core.specs.declared.session.Finished.{Finished}
 use Rattle.sandbox_core.specs.Session.{SessionState, Shares, Resumes, Finishes, is_refused, is_synced}
 

@@ -15,15 +15,15 @@ use Rattle.wasm_steps.specs.declared.pause.Pause.TheVariants.{Called, Spent, End
 use Rattle.wasm_interp.specs.Machine.{Snapshot}
 use Rattle.wasm_interp.specs.Promise.{Starts, Resumed}
 use Rattle.wasi_fd.specs.Table.{table_of}
-use Rattle.wasi_calls.specs.declared.settings.Settings.{Settings}
-use Rattle.wasi_calls.specs.declared.wasi_host.HostParts.{HostParts}
-use Rattle.wasi_calls.specs.Settings.{settings_fit}
-use Rattle.wasi_calls.specs.Links.{link}
-use Rattle.wasi_calls.specs.Random.{seeded}
-use Rattle.wasi_calls.specs.Host.{HostState, HostCalls}
+use Rattle.wasi_calls.specs.declared.host.settings.Settings.{Settings}
+use Rattle.wasi_calls.specs.declared.host.wasi_host.HostParts.{HostParts}
+use Rattle.wasi_calls.specs.host.Settings.{settings_fit}
+use Rattle.wasi_calls.specs.host.Links.{link}
+use Rattle.wasi_calls.specs.supplies.Random.{seeded}
+use Rattle.wasi_calls.specs.host.Worlds.{HostState, HostCalls}
 use Rattle.path_walk.specs.Walk.{Asked}
-use Rattle.wasi_calls.specs.Making.{HasPreopens, preopens_of}
-use Rattle.wasi_calls.specs.Moments.{IsTurn, PauseSynced, is_sync}
+use Rattle.wasi_calls.specs.host.Making.{HasPreopens, preopens_of}
+use Rattle.wasi_calls.specs.laws.Moments.{IsTurn, PauseSynced, is_sync}
 use Rattle.sandbox_core.specs.declared.fault.SessionFault.{SessionFault}
 use Rattle.sandbox_core.specs.declared.fault.SessionFault.TheVariants.{Setting, Instance as NoInstance, Device, Preopen, Memory}
 use Rattle.sandbox_core.specs.declared.session.RefusedSession.{RefusedSession}

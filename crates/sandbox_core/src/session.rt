@@ -71,7 +71,7 @@ where
     W1: Write + Drop,
     W2: Write + Drop,
 {
-    ghost use Rattle.wasi_calls.specs.Host.{stream_failed};
+    ghost use Rattle.wasi_calls.specs.host.Worlds.{stream_failed};
     ghost use Rattle.sandbox_core.specs.Session.{used_by, seeded_by, Opens, Shares, HandsBack, IsRefused, Resumes, Finishes};
 
     /// A session of the module, which has used nothing yet. The streams are the descriptors 0 to 2, and the preopened

@@ -2,7 +2,7 @@
 
 ghost use Rattle.std.specs.Prelude.{◌≡◌, if◌then◌else◌};
 ghost use Rattle.wasm_steps.specs.declared.pause.Pause.TheVariants.{Called};
-ghost use Rattle.wasi_calls.specs.Moments.{is_sync};
+ghost use Rattle.wasi_calls.specs.laws.Moments.{is_sync};
 ghost use Rattle.sandbox_core.specs.internal.Tallying.{Adds};
 
 use wasm_interp::{Errno, HostCall};

@@ -7,7 +7,7 @@ use Rattle.vol_sector.specs.declared.fault.Refused.{Refused}
 use Rattle.vol_tree.specs.Opened.{Opened}
 use Rattle.wasm_module.specs.declared.module.Module.{Module}
 use Rattle.wasm_steps.specs.declared.pause.Pause.{Pause}
-use Rattle.wasi_calls.specs.declared.wasi_host.HostParts.{HostParts}
+use Rattle.wasi_calls.specs.declared.host.wasi_host.HostParts.{HostParts}
 use Rattle.sandbox_device.specs.declared.recorded_device.RecordedDevice.{RecordedDevice}
 use Rattle.sandbox_device.specs.contracts.recorded_device.RecordedDeviceDevice.TheImpl.{ghosts}
 use Rattle.sandbox_core.specs.Session as core

@@ -1,5 +1,5 @@
 -- What a host hands in of a guest, as the settings of a session.
-use Rattle.wasi_calls.specs.declared.settings.Settings.{Settings}
+use Rattle.wasi_calls.specs.declared.host.settings.Settings.{Settings}
 use Rattle.sandbox_host.specs.declared.supplies.Supplies.{Supplies}
 
 abbrev pub settings_of : Supplies → Settings

@@ -1,12 +1,14 @@
 //! The checks that a call makes, one after another: the first that fails answers.
 
+pub mod buffers;
+
 ghost use Rattle.std.specs.Prelude.{◌≡◌, ◌+◌, ◌≤◌, length, Ok, Err, MatchResult, OnOk, true};
 ghost use Rattle.wasm_store.specs.Bytes.{written};
 ghost use Rattle.wasi_fd.specs.Table.{table_of};
 ghost use Rattle.wasi_fd.specs.Rights.{bits_of};
 ghost use Rattle.wasi_calls.specs.World.{World};
 ghost use Rattle.wasi_calls.specs.Checks.{guard, range, get, of_kind, has, descriptor, opened, entry_at as entry};
-ghost use Rattle.wasi_calls.specs.internal.Serving.{refusals_of};
+ghost use Rattle.wasi_calls.specs.internal.Bodies.{refusals_of};
 
 use crate::errno::{ISDIR, NOTCAPABLE, NOTDIR, SPIPE};
 use bitflags::Flags;
@@ -29,7 +31,7 @@ pub(crate) enum Takes {
 }
 
 /// A check that answers this errno where it fails.
-#[tactic(auto, using(crate::proofs::Yields::guard_passes, crate::proofs::Yields::guard_fails))]
+#[tactic(auto, using(crate::proofs::checks::Chains::guard_passes, crate::proofs::checks::Chains::guard_fails))]
 pub(crate) fn check_that(holds: bool, errno: Errno) -> Result<(), Errno>
     ensures meaning { MatchResult result (λ u. guard holds errno.0 ≡ Ok u) (λ e. guard holds errno.0 ≡ Err e.0) }
     ensures passed { OnOk result (holds ≡ true) }
@@ -38,7 +40,7 @@ pub(crate) fn check_that(holds: bool, errno: Errno) -> Result<(), Errno>
 }
 
 /// Whether the range lies in memory, also one of no bytes.
-#[tactic(auto, using(crate::proofs::Yields::guard_passes, crate::proofs::Yields::guard_fails))]
+#[tactic(auto, using(crate::proofs::checks::Chains::guard_passes, crate::proofs::checks::Chains::guard_fails))]
 pub(crate) fn check_range(memory: &Memory, pointer: u32, len: u32) -> Result<(), Errno>
     ensures range { MatchResult result (λ u. range memory.now pointer len ≡ Ok u)
         (λ e. range memory.now pointer len ≡ Err e.0) }
@@ -72,7 +74,7 @@ pub(crate) fn described<'t>(descriptors: &Descriptors<'t>, fd: u32) -> Result<De
 }
 
 impl Takes {
-    ghost use Rattle.wasi_calls.specs.internal.Serving.{refusals_of};
+    ghost use Rattle.wasi_calls.specs.internal.Bodies.{refusals_of};
 
     /// Whether a call that takes these kinds takes the descriptor.
     pub fn check(self, descriptor: &Descriptor<'_>) -> Result<(), Errno>
@@ -101,7 +103,7 @@ impl Takes {
 }
 
 /// Whether the descriptor has these rights.
-#[tactic(auto, using(crate::proofs::Yields::guard_passes, crate::proofs::Yields::guard_fails))]
+#[tactic(auto, using(crate::proofs::checks::Chains::guard_passes, crate::proofs::checks::Chains::guard_fails))]
 pub(crate) fn check_rights(descriptor: &Descriptor<'_>, rights: Rights) -> Result<(), Errno>
     ensures { MatchResult result (λ u. guard (has descriptor.now (bits_of rights)) 76 ≡ Ok u)
         (λ e. guard (has descriptor.now (bits_of rights)) 76 ≡ Err e.0) }
@@ -114,7 +116,7 @@ pub(crate) fn check_rights(descriptor: &Descriptor<'_>, rights: Rights) -> Resul
 }
 
 /// What an open number of these kinds stands for, where it has the rights.
-#[tactic(auto, using(crate::proofs::Yields::goes_on, crate::proofs::Yields::stops))]
+#[tactic(auto, using(crate::proofs::checks::Chains::goes_on, crate::proofs::checks::Chains::stops))]
 pub(crate) fn allowed<'t>(
     descriptors: &Descriptors<'t>,
     fd: u32,
@@ -145,7 +147,7 @@ pub(crate) fn opened_of<'t>(descriptor: Descriptor<'t>) -> Result<Opened<'t>, Er
 }
 
 /// An open entry of these kinds, where its descriptor has the rights.
-#[tactic(auto, using(crate::proofs::Yields::goes_on, crate::proofs::Yields::stops))]
+#[tactic(auto, using(crate::proofs::checks::Chains::goes_on, crate::proofs::checks::Chains::stops))]
 pub(crate) fn entry_at<'t>(
     descriptors: &Descriptors<'t>,
     fd: u32,

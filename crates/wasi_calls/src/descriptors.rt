@@ -1,24 +1,27 @@
-//! Descriptors: closing them, what they are and where they stand.
+//! Descriptors: closing them, and what they are.
 
-ghost use Rattle.std.specs.Prelude.{◌≡◌, ℕ, ◌++◌, ◌||◌, ◌^◌, Ok, Err, MatchResult, replicate};
+pub mod calls;
+pub mod positions;
+pub mod stat;
+
+ghost use Rattle.std.specs.Prelude.{◌≡◌, ℕ, ◌++◌, Ok, Err, MatchResult, replicate};
 ghost use Rattle.std.specs.Option.{ok_or};
 ghost use Rattle.byteorder.specs.Endian.{little_bytes};
 ghost use Rattle.wasi_fd.specs.Table.{table_of};
 ghost use Rattle.wasi_calls.specs.World.{World};
-ghost use Rattle.wasi_calls.specs.Checks.{guard, has};
-ghost use Rattle.wasi_calls.specs.Descriptors.{fd_close as close, fd_fdstat_get as stat, fdstat, type_of, flags_of, fd_tell as tell, fd_prestat_get as prestat, fd_prestat_dir_name as dir_name, guest_name};
+ghost use Rattle.wasi_calls.specs.descriptors.Rows.{fd_close as close, fd_fdstat_get as stat, fdstat, type_of, flags_of, fd_prestat_get as prestat, fd_prestat_dir_name as dir_name, guest_name};
 ghost use Rattle.wasi_calls.specs.Calls.{Answers};
-ghost use Rattle.wasi_calls.specs.internal.Serving.{NoMoreEntries, errno_of};
+ghost use Rattle.wasi_calls.specs.internal.Bodies.{NoMoreEntries, errno_of};
 
-use crate::checks::{Takes, check_range, check_that, described, opened_of, write_bytes};
-use crate::errno::{NAMETOOLONG, NOTCAPABLE};
+use crate::checks::{check_range, check_that, described, write_bytes};
+use crate::errno::NAMETOOLONG;
 use crate::numbers::{le64, low32};
 use bitflags::Flags;
-use wasi_fd::{Descriptor, Descriptors, EntryKind, Rights};
+use wasi_fd::{Descriptor, Descriptors, EntryKind};
 use wasm_store::{Errno, Memory};
 
 /// `fd_close(fd)`: any descriptor. Nothing is committed.
-#[tactic(auto, using(crate::proofs::Yields::goes_on, crate::proofs::Yields::stops, crate::proofs::Served::no_more, crate::proofs::Served::no_more_closed))]
+#[tactic(auto, using(crate::proofs::checks::Chains::goes_on, crate::proofs::checks::Chains::stops, crate::proofs::bodies::PlainCalls::no_more, crate::proofs::bodies::PlainCalls::no_more_closed))]
 pub(crate) fn fd_close(descriptors: &mut Descriptors<'_>, fd: u32) -> Result<(), Errno>
     ensures entries { NoMoreEntries (table_of descriptors.old) (table_of descriptors.new) }
     ensures answers { (w : World) (m : _) → w.table ≡ table_of descriptors.old → Answers (close w fd) w m (record w { table = table_of descriptors.new }) m (errno_of result) }
@@ -66,7 +69,7 @@ fn fdstat(descriptor: &Descriptor<'_>) -> [u8; 24]
 }
 
 /// `fd_fdstat_get(fd, result)`.
-#[tactic(auto, using(crate::proofs::Yields::goes_on, crate::proofs::Yields::stops))]
+#[tactic(auto, using(crate::proofs::checks::Chains::goes_on, crate::proofs::checks::Chains::stops))]
 pub(crate) fn fd_fdstat_get(
     descriptors: &Descriptors<'_>,
     memory: &mut Memory,
@@ -105,7 +108,7 @@ fn prestat(len: usize) -> [u8; 8]
 }
 
 /// `fd_prestat_get(fd, result)`.
-#[tactic(auto, using(crate::proofs::Yields::goes_on, crate::proofs::Yields::stops))]
+#[tactic(auto, using(crate::proofs::checks::Chains::goes_on, crate::proofs::checks::Chains::stops))]
 pub(crate) fn fd_prestat_get(
     descriptors: &Descriptors<'_>,
     memory: &mut Memory,
@@ -122,7 +125,7 @@ pub(crate) fn fd_prestat_get(
 }
 
 /// `fd_prestat_dir_name(fd, path, length)`: the name, where it fits in the length.
-#[tactic(auto, using(crate::proofs::Yields::goes_on, crate::proofs::Yields::stops))]
+#[tactic(auto, using(crate::proofs::checks::Chains::goes_on, crate::proofs::checks::Chains::stops))]
 pub(crate) fn fd_prestat_dir_name(
     descriptors: &Descriptors<'_>,
     memory: &mut Memory,
@@ -137,38 +140,5 @@ pub(crate) fn fd_prestat_dir_name(
     check_range(memory, path, len)?;
     check_that(name.len() <= len as usize, NAMETOOLONG)?;
     write_bytes(memory, path, name);
-    Ok(())
-}
-
-/// Whether the descriptor may be asked where it stands.
-#[tactic(auto, using(crate::proofs::Yields::guard_passes, crate::proofs::Yields::guard_fails))]
-fn check_tell(descriptor: &Descriptor<'_>) -> Result<(), Errno>
-    ensures { MatchResult result (λ u. guard (has descriptor.now (2 ^ 2) || has descriptor.now (2 ^ 5)) 76 ≡ Ok u)
-        (λ e. guard (has descriptor.now (2 ^ 2) || has descriptor.now (2 ^ 5)) 76 ≡ Err e.0) }
-{
-    let base = descriptor.base();
-    if base.contains(Rights::FD_SEEK) || base.contains(Rights::FD_TELL) {
-        Ok(())
-    } else {
-        Err(NOTCAPABLE)
-    }
-}
-
-/// `fd_tell(fd, result)`.
-#[tactic(auto, using(crate::proofs::Yields::goes_on, crate::proofs::Yields::stops))]
-pub(crate) fn fd_tell(
-    descriptors: &Descriptors<'_>,
-    memory: &mut Memory,
-    fd: u32,
-    result_at: u32,
-) -> Result<(), Errno>
-    ensures { (w : World) → w.table ≡ table_of descriptors.now → Answers (tell w memory.old fd result_at) w memory.old w memory.new (errno_of result) }
-{
-    let descriptor = described(descriptors, fd)?;
-    Takes::Files.check(&descriptor)?;
-    check_tell(&descriptor)?;
-    check_range(memory, result_at, 8)?;
-    let opened = opened_of(descriptor)?;
-    write_bytes(memory, result_at, &le64(opened.position));
     Ok(())
 }

@@ -1,5 +1,8 @@
 //! Error numbers of WASI preview 1 that calls answer.
 
+ghost use Rattle.std.specs.Prelude.{◌≡◌};
+ghost use Rattle.vol_tree.specs.Numbers.{number_of};
+
 use wasm_store::Errno;
 
 /// Fewer random bytes are left than were asked for.
@@ -43,3 +46,10 @@ pub(crate) const NOTCAPABLE: Errno = Errno(76);
 
 /// A directory has entries in it.
 pub(crate) const NOTEMPTY: Errno = Errno(55);
+
+/// The number of a refusal.
+pub(crate) fn refused(errno: vol_tree::Errno) -> Errno
+    ensures { result.0 ≡ number_of errno }
+{
+    Errno(errno.number())
+}

@@ -1,5 +1,10 @@
 //! Calls on paths.
 
+pub mod calls;
+pub mod opening;
+pub mod removing;
+pub mod renaming;
+
 ghost use Rattle.std.specs.Prelude.{true, ◌≡◌, ◌+◌, ◌≤◌, length, Ok, Err, MatchResult, IfOk, OnOk};
 ghost use Rattle.vol_tree.specs.Opened.{is_io};
 ghost use Rattle.wasi_calls.specs.Calls.{Answered};
@@ -8,14 +13,14 @@ ghost use Rattle.wasi_fd.specs.Table.{table_of};
 ghost use Rattle.wasi_fd.specs.Rights.{bits_of};
 ghost use Rattle.path_walk.specs.Walk.{IsEntryOf, IsReached};
 ghost use Rattle.wasi_calls.specs.World.{World};
-ghost use Rattle.wasi_calls.specs.Host.{VolumeStep};
-ghost use Rattle.wasi_calls.specs.internal.Serving.{with_volume, KnowsEntries, errno_of};
-ghost use Rattle.wasi_calls.specs.internal.Reaching.{StillWorks, Reaches, Places, Finds, entered};
-ghost use Rattle.wasi_calls.specs.Paths.{path_filestat_get as stat_row, path_create_directory as create_row};
+ghost use Rattle.wasi_calls.specs.host.Worlds.{VolumeStep};
+ghost use Rattle.wasi_calls.specs.internal.Bodies.{with_volume, KnowsEntries, errno_of};
+ghost use Rattle.wasi_calls.specs.internal.paths.Walks.{StillWorks, Reaches, Places, Finds, entered};
+ghost use Rattle.wasi_calls.specs.paths.Rows.{path_filestat_get as stat_row, path_create_directory as create_row};
 
 use crate::checks::{Takes, check_range, entry_at, write_bytes};
-use crate::errno::{EXIST, NOENT};
-use crate::files::{refused, stat_entry};
+use crate::descriptors::stat::stat_entry;
+use crate::errno::{EXIST, NOENT, refused};
 use path_walk::{Path, Reached, walk};
 use vol_sector::Device;
 use vol_tree::Volume;
@@ -45,7 +50,7 @@ pub(crate) fn reach<'p, D: Device>(
 
 /// The checks of a call on a path before it is walked: an open directory whose descriptor has the
 /// rights, and a path that lies in memory.
-#[tactic(auto, using(crate::proofs::Yields::goes_on, crate::proofs::Yields::stops))]
+#[tactic(auto, using(crate::proofs::checks::Chains::goes_on, crate::proofs::checks::Chains::stops))]
 pub(crate) fn enter<'t, 'm>(
     descriptors: &Descriptors<'t>,
     memory: &'m Memory,

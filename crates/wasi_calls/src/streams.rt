@@ -1,5 +1,8 @@
 //! The streams of a guest.
 
+pub mod inputs;
+pub mod outputs;
+
 /// A reader.
 #[derive(Drop)]
 pub struct Input<R> {

@@ -1,6 +1,6 @@
 -- A session with the random bytes of a seed.
 use Rattle.std.specs.Prelude.{ℕ, Option, option_map}
-use Rattle.wasi_calls.specs.Random.{seeded}
+use Rattle.wasi_calls.specs.supplies.Random.{seeded}
 use Rattle.sandbox_core.specs.Session.{SessionState}
 
 -- the same session, whose random bytes are those of a generator where there is a seed

@@ -1,6 +1,6 @@
 -- Why a session is refused, by why its host or its machine is.
-use Rattle.wasi_calls.specs.declared.fault.HostFault.{HostFault}
-use Rattle.wasi_calls.specs.declared.fault.HostFault.TheVariants as host
+use Rattle.wasi_calls.specs.declared.host.fault.HostFault.{HostFault}
+use Rattle.wasi_calls.specs.declared.host.fault.HostFault.TheVariants as host
 use Rattle.wasm_store.specs.declared.fault.InstanceFault.{InstanceFault}
 use Rattle.wasm_store.specs.declared.fault.InstanceFault.TheVariants.{Memory as NoMemory}
 use Rattle.sandbox_core.specs.declared.fault.SessionFault.{SessionFault}

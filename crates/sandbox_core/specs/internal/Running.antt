@@ -6,7 +6,7 @@ use Rattle.wasm_steps.specs.declared.pause.Pause.TheVariants.{Ended}
 use Rattle.wasm_steps.specs.Configuration.{Instance, Configuration}
 use Rattle.wasm_interp.specs.Machine.{Snapshot, Represents, outcome_of}
 use Rattle.wasm_interp.specs.Promise.{HasItsUnit}
-use Rattle.wasi_calls.specs.Host.{HostState}
+use Rattle.wasi_calls.specs.host.Worlds.{HostState}
 use Rattle.sandbox_core.specs.Session.{SessionState, History, Follow, used_by}
 use Rattle.sandbox_core.specs.Runs.{RunsWithin, Passed}
 use Rattle.sandbox_core.specs.Report.{Calls, disk_of, numbers_of, tree_of}

@@ -4,7 +4,7 @@ use Rattle.vol_tree.specs.Opened.{Opened}
 use Rattle.wasm_store.specs.declared.call.Errno.{Errno as Number}
 use Rattle.wasi_calls.specs.World.{World, volume_gone}
 use Rattle.wasi_calls.specs.Checks.{Checked}
-use Rattle.wasi_calls.specs.internal.Serving.{with_volume}
+use Rattle.wasi_calls.specs.internal.Bodies.{with_volume}
 
 module _ {D X : Type 0} where
   -- the part is gone through in the same world, and needs the volume

@@ -3,7 +3,7 @@ use Rattle.std.specs.Io.KnownBytes.{Keeps}
 use Rattle.std.proofs.KnownBytes.{Keeps-refl}
 use Rattle.vol_sector.specs.Disk.{Leaves}
 use Rattle.wasm_steps.specs.Configuration.{first_configuration}
-use Rattle.wasi_calls.specs.declared.wasi_host.HostParts.{HostParts}
+use Rattle.wasi_calls.specs.declared.host.wasi_host.HostParts.{HostParts}
 use Rattle.sandbox_core.specs.Session.{IsRefused, Opens, Shares}
 use Rattle.sandbox_core.proofs.Headline.{reach_moves}
 use Rattle.run_report.specs.declared.counted.Counted.{Counted}

@@ -1,5 +1,5 @@
 use Rattle.std.proofs.Common.{subst, inr}
-use Rattle.wasi_calls.specs.declared.settings.Settings.{Settings}
+use Rattle.wasi_calls.specs.declared.host.settings.Settings.{Settings}
 use Rattle.sandbox_core.specs.Session.{given, IsRefused}
 use Rattle.sandbox_host.specs.Host.{State, Opens, Shares, IsHonest}
 use Rattle.sandbox_host.proofs.Working.{no_device}

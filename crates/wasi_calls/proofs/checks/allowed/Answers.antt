@@ -1,6 +1,6 @@
 use Rattle.std.proofs.Common.{◌∙◌}
-use Rattle.wasi_calls.proofs.Yields.{goes_on, stops}
-use Rattle.wasi_calls.proofs.Serving.{refusal_told}
+use Rattle.wasi_calls.proofs.checks.Chains.{goes_on, stops}
+use Rattle.wasi_calls.proofs.bodies.Answering.{refusal_told}
 use Rattle.wasi_calls.proofs.checks.allowed.Goals as goal
 
 pub returns-in-Ok : goal.returns-in-Ok

@@ -1,5 +1,5 @@
 use Rattle.std.proofs.Common.{rules}
-use Rattle.wasi_calls.proofs.Yields.{guard_fails}
+use Rattle.wasi_calls.proofs.checks.Chains.{guard_fails}
 use Rattle.wasi_calls.proofs.checks.check_range.Goals as goal
 
 pub returns-else-pointer-len-clause-range : goal.returns-else-pointer-len-clause-range

@@ -1,5 +1,5 @@
-use Rattle.wasi_calls.proofs.Serving.{refusal_told, last_told}
-use Rattle.wasi_calls.proofs.Yields.{goes_on, stops}
+use Rattle.wasi_calls.proofs.bodies.Answering.{refusal_told, last_told}
+use Rattle.wasi_calls.proofs.checks.Chains.{goes_on, stops}
 use Rattle.wasi_calls.proofs.checks.entry_at.Goals as goal
 
 pub returns : goal.returns

@@ -1,9 +1,9 @@
 use Rattle.std.proofs.Common.{refl, ap, ◌∙◌}
 use Rattle.wasm_store.specs.Bytes.{written}
 use Rattle.wasi_calls.specs.Checks.{with_result}
-use Rattle.wasi_calls.specs.Descriptors.{fdstat}
-use Rattle.wasi_calls.proofs.Yields.{goes_on, stops}
-use Rattle.wasi_calls.proofs.Serving.{answers_done, refusal_answers}
+use Rattle.wasi_calls.specs.descriptors.Rows.{fdstat}
+use Rattle.wasi_calls.proofs.checks.Chains.{goes_on, stops}
+use Rattle.wasi_calls.proofs.bodies.Answering.{answers_done, refusal_answers}
 use Rattle.wasi_calls.proofs.descriptors.fd_fdstat_get.Goals as goal
 
 pub returns : goal.returns

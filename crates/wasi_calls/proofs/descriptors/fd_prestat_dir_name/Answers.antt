@@ -1,8 +1,8 @@
 use Rattle.std.proofs.Common.{refl, ◌∙◌, arith}
 use Rattle.std.proofs.lemmas.Bool.{leb-true}
 use Rattle.wasi_calls.specs.Checks.{with_result}
-use Rattle.wasi_calls.proofs.Yields.{goes_on, stops}
-use Rattle.wasi_calls.proofs.Serving.{answers_done, refusal_answers}
+use Rattle.wasi_calls.proofs.checks.Chains.{goes_on, stops}
+use Rattle.wasi_calls.proofs.bodies.Answering.{answers_done, refusal_answers}
 use Rattle.wasi_calls.proofs.descriptors.fd_prestat_dir_name.Goals as goal
 
 pub returns : goal.returns

@@ -2,17 +2,17 @@ use Rattle.std.proofs.Common.{◌^◌, ℕ, refl, sym, subst, ◌∙◌}
 use Rattle.vol_tree.specs.Calls.{resized}
 use Rattle.wasi_fd.specs.Table.{table_of}
 use Rattle.wasi_calls.specs.declared.checks.Takes.TheVariants as takes
-use Rattle.wasi_calls.proofs.Causes.{asked_29, check_not_29, no_29_at_0}
-use Rattle.wasi_calls.proofs.Checking.{entry_never}
+use Rattle.wasi_calls.proofs.checks.CausesOf29.{asked_29, check_not_29, no_29_at_0}
+use Rattle.wasi_calls.proofs.checks.NoneAnswers29.{entry_never}
 use Rattle.wasi_calls.specs.World.{volume_gone}
-use Rattle.wasi_calls.specs.Files.{fd_filestat_set_size}
+use Rattle.wasi_calls.specs.files.Rows.{fd_filestat_set_size}
 use Rattle.wasi_calls.specs.Calls.{Answered}
 use Rattle.wasi_calls.specs.Checks.{sized, entry_at}
-use Rattle.wasi_calls.specs.internal.Serving.{with_volume, refusals_of}
-use Rattle.wasi_calls.proofs.Yields.{goes_on, stops}
-use Rattle.wasi_calls.proofs.Entries.{file_of}
-use Rattle.wasi_calls.proofs.Volumes.{steps, refused_first, changed_ok, changed_err, resized_never}
-use Rattle.wasi_calls.proofs.Served.{volume_rests}
+use Rattle.wasi_calls.specs.internal.Bodies.{with_volume, refusals_of}
+use Rattle.wasi_calls.proofs.checks.Chains.{goes_on, stops}
+use Rattle.wasi_calls.proofs.descriptors.OpenEntries.{file_of}
+use Rattle.wasi_calls.proofs.bodies.VolumeCalls.{steps, refused_first, changed_ok, changed_err, resized_never}
+use Rattle.wasi_calls.proofs.bodies.PlainCalls.{volume_rests}
 use Rattle.wasi_calls.proofs.files.set_size.Goals as goal
 
 pub set_size-requires : goal.set_size-requires

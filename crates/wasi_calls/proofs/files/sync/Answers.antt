@@ -2,20 +2,20 @@ use Rattle.std.proofs.Common.{◌≡◌, ℕ, false, not, Ok, Err, inl, inr, ref
 use Rattle.vol_tree.specs.declared.errno.Errno.TheVariants as errno
 use Rattle.wasi_fd.specs.Rights.{bits_of}
 use Rattle.wasi_calls.specs.declared.checks.Takes.TheVariants as takes
-use Rattle.wasi_calls.proofs.Causes.{asked_29, check_not_29, no_29_at_0}
-use Rattle.wasi_calls.proofs.Checking.{entry_never}
+use Rattle.wasi_calls.proofs.checks.CausesOf29.{asked_29, check_not_29, no_29_at_0}
+use Rattle.wasi_calls.proofs.checks.NoneAnswers29.{entry_never}
 use Rattle.wasi_calls.specs.World.{World, volume_gone}
 use Rattle.wasi_calls.specs.Checks.{only_world, entry_at, no_streams}
 use Rattle.wasi_fd.specs.declared.descriptor.Opened.{Opened}
-use Rattle.wasi_calls.specs.Files.{fd_sync}
+use Rattle.wasi_calls.specs.files.Rows.{fd_sync}
 use Rattle.wasi_calls.specs.Calls.{Answered}
-use Rattle.wasi_calls.specs.internal.Serving.{with_volume, refusals_of}
-use Rattle.wasi_calls.proofs.Yields.{guard_passes, guard_fails, goes_on, stops}
-use Rattle.wasi_calls.proofs.Volumes.{steps, is_no_err, same_tree, was_working, same_volume, refused_first, done_by, tree_refuses}
+use Rattle.wasi_calls.specs.internal.Bodies.{with_volume, refusals_of}
+use Rattle.wasi_calls.proofs.checks.Chains.{guard_passes, guard_fails, goes_on, stops}
+use Rattle.wasi_calls.proofs.bodies.VolumeCalls.{steps, is_no_err, same_tree, was_working, same_volume, refused_first, done_by, tree_refuses}
 use Rattle.wasi_fd.specs.Table.{table_of}
-use Rattle.wasi_calls.proofs.Entries.{some_world}
-use Rattle.wasi_calls.proofs.Refusals.{not_zero, entry_never_zero, number_never_zero, ok_no_err}
-use Rattle.wasi_calls.proofs.Served.{volume_rests}
+use Rattle.wasi_calls.proofs.descriptors.OpenEntries.{some_world}
+use Rattle.wasi_calls.proofs.checks.NoneAnswers0.{not_zero, entry_never_zero, number_never_zero, ok_no_err}
+use Rattle.wasi_calls.proofs.bodies.PlainCalls.{volume_rests}
 use Rattle.wasi_calls.proofs.files.sync.Goals as goal
 
 pub returns-in-Err-clause-answered : goal.returns-in-Err-clause-answered

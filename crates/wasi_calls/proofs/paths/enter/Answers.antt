@@ -1,7 +1,7 @@
 use Rattle.std.proofs.lemmas.Result.{IfOk-from_err}
 use Rattle.std.proofs.Common.{◌∙◌}
-use Rattle.wasi_calls.proofs.Serving.{refusal_told}
-use Rattle.wasi_calls.proofs.Yields.{goes_on, stops}
+use Rattle.wasi_calls.proofs.bodies.Answering.{refusal_told}
+use Rattle.wasi_calls.proofs.checks.Chains.{goes_on, stops}
 use Rattle.wasi_calls.proofs.paths.enter.Goals as goal
 
 pub returns-in-Some : goal.returns-in-Some

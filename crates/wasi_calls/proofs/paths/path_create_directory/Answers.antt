@@ -8,19 +8,19 @@ use Rattle.path_walk.specs.Walk.{reached_as, IsReached}
 use Rattle.path_walk.specs.Paths.{Reached}
 use Rattle.wasi_fd.specs.Table.{table_of}
 use Rattle.wasi_fd.specs.declared.descriptor.Opened.{Opened}
-use Rattle.wasi_calls.proofs.Causes.{asked_29, check_not_29}
-use Rattle.wasi_calls.proofs.Checking.{entered_never}
+use Rattle.wasi_calls.proofs.checks.CausesOf29.{asked_29, check_not_29}
+use Rattle.wasi_calls.proofs.checks.NoneAnswers29.{entered_never}
 use Rattle.wasi_calls.specs.World.{World, volume_gone}
 use Rattle.wasi_calls.specs.Checks.{Checked, Done, and_then, walk}
-use Rattle.wasi_calls.specs.Paths.{path_create_directory, path_at, missing}
+use Rattle.wasi_calls.specs.paths.Rows.{path_create_directory, path_at, missing}
 use Rattle.wasi_calls.specs.Calls.{Answered}
-use Rattle.wasi_calls.specs.internal.Serving.{with_volume}
-use Rattle.wasi_calls.specs.internal.Reaching.{entered, Places}
-use Rattle.wasi_calls.proofs.Yields.{goes_on, stops}
-use Rattle.wasi_calls.proofs.Entries.{entered_row, entry_of}
-use Rattle.wasi_calls.proofs.Walked.{missing_name_never}
-use Rattle.wasi_calls.proofs.Volumes.{never_after, was_working, same_volume, refused_first, refused_by, tree_refuses, steps, steps_after, created_never, making, making_never, made_ok, made_err}
-use Rattle.wasi_calls.proofs.Served.{volume_rests}
+use Rattle.wasi_calls.specs.internal.Bodies.{with_volume}
+use Rattle.wasi_calls.specs.internal.paths.Walks.{entered, Places}
+use Rattle.wasi_calls.proofs.checks.Chains.{goes_on, stops}
+use Rattle.wasi_calls.proofs.descriptors.OpenEntries.{entered_row, entry_of}
+use Rattle.wasi_calls.proofs.paths.Walks.{missing_name_never}
+use Rattle.wasi_calls.proofs.bodies.VolumeCalls.{never_after, was_working, same_volume, refused_first, refused_by, tree_refuses, steps, steps_after, created_never, making, making_never, made_ok, made_err}
+use Rattle.wasi_calls.proofs.bodies.PlainCalls.{volume_rests}
 use Rattle.wasi_calls.proofs.paths.path_create_directory.Goals as goal
 
 -- the row from the walk on

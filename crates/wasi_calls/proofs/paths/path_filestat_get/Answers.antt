@@ -1,6 +1,6 @@
 use Rattle.wasi_calls.specs.Checks.{with_result}
-use Rattle.wasi_calls.specs.Paths.{path_filestat_get}
-use Rattle.wasi_calls.proofs.Volumes.{done_by}
+use Rattle.wasi_calls.specs.paths.Rows.{path_filestat_get}
+use Rattle.wasi_calls.proofs.bodies.VolumeCalls.{done_by}
 use Rattle.wasi_calls.proofs.paths.path_filestat_get.Goals as goal
 
 pub returns-in-Ok-clause-answered : goal.returns-in-Ok-clause-answered

@@ -2,9 +2,9 @@ use Rattle.std.proofs.Common.{◌≡◌, ℕ, List, refl, sym, ap, ◌∙◌, su
 use Rattle.path_walk.specs.Paths.{components_of, wants_directory, resolved, stays_inside}
 use Rattle.path_walk.specs.Walk.{Gives}
 use Rattle.path_walk.specs.declared.walking.Reached.{Reached as ReachedValue}
-use Rattle.wasi_calls.proofs.Causes.{no_text_io, walk_io}
-use Rattle.wasi_calls.proofs.Walked.{by_text, reaches_by, step_by, places}
-use Rattle.wasi_calls.proofs.Served.{volume_rests}
+use Rattle.wasi_calls.proofs.checks.CausesOf29.{no_text_io, walk_io}
+use Rattle.wasi_calls.proofs.paths.Walks.{by_text, reaches_by, step_by, places}
+use Rattle.wasi_calls.proofs.bodies.PlainCalls.{volume_rests}
 use Rattle.wasi_calls.proofs.paths.reach.Goals as goal
 
 pub returns-in-Ok-clause-reaches : goal.returns-in-Ok-clause-reaches

@@ -6,22 +6,22 @@ use Rattle.path_walk.specs.Walk.{reached_as, IsReached}
 use Rattle.path_walk.specs.Paths.{Reached}
 use Rattle.wasi_fd.specs.Table.{table_of}
 use Rattle.wasi_fd.specs.declared.descriptor.Opened.{Opened}
-use Rattle.wasi_calls.proofs.Causes.{asked_29, check_not_29, no_29_at_0, not_29}
-use Rattle.wasi_calls.proofs.Checking.{entered_never, range_never}
+use Rattle.wasi_calls.proofs.checks.CausesOf29.{asked_29, check_not_29, no_29_at_0, not_29}
+use Rattle.wasi_calls.proofs.checks.NoneAnswers29.{entered_never, range_never}
 use Rattle.wasi_calls.specs.World.{World, volume_gone}
 use Rattle.wasi_calls.specs.Checks.{Checked, Done, and_then, range, walk, found, tree_call, with_result}
-use Rattle.wasi_calls.specs.Descriptors.{entry_stat}
-use Rattle.wasi_calls.specs.Paths.{path_filestat_get, path_at}
+use Rattle.wasi_calls.specs.descriptors.Rows.{entry_stat}
+use Rattle.wasi_calls.specs.paths.Rows.{path_filestat_get, path_at}
 use Rattle.wasi_calls.specs.Calls.{Answered}
-use Rattle.wasi_calls.specs.internal.Serving.{with_volume}
-use Rattle.wasi_calls.specs.internal.Reaching.{entered}
-use Rattle.wasi_calls.proofs.Yields.{goes_on, stops}
-use Rattle.wasi_calls.proofs.Entries.{entered_row, entry_of}
-use Rattle.wasi_calls.proofs.Walked.{found_never}
-use Rattle.wasi_calls.proofs.Volumes.{is_no_err, never_after, was_working, same_volume, refused_first, refused_by, failed_by, tree_refuses, tree_called_alive}
-use Rattle.wasi_calls.proofs.Served.{volume_rests}
-use Rattle.wasi_calls.proofs.Asking.{asked_after}
-use Rattle.wasi_calls.proofs.Refusals.{ok_no_err}
+use Rattle.wasi_calls.specs.internal.Bodies.{with_volume}
+use Rattle.wasi_calls.specs.internal.paths.Walks.{entered}
+use Rattle.wasi_calls.proofs.checks.Chains.{goes_on, stops}
+use Rattle.wasi_calls.proofs.descriptors.OpenEntries.{entered_row, entry_of}
+use Rattle.wasi_calls.proofs.paths.Walks.{found_never}
+use Rattle.wasi_calls.proofs.bodies.VolumeCalls.{is_no_err, never_after, was_working, same_volume, refused_first, refused_by, failed_by, tree_refuses, tree_called_alive}
+use Rattle.wasi_calls.proofs.bodies.PlainCalls.{volume_rests}
+use Rattle.wasi_calls.proofs.bodies.AskingCalls.{asked_after}
+use Rattle.wasi_calls.proofs.checks.NoneAnswers0.{ok_no_err}
 use Rattle.wasi_calls.proofs.paths.stat_path.Goals as goal
 
 -- the row from the walk on

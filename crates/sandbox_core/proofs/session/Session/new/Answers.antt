@@ -4,14 +4,14 @@ use Rattle.wasm_module.specs.declared.module.Module.{Module}
 use Rattle.wasm_store.specs.declared.fault.InstanceFault.{InstanceFault}
 use Rattle.wasm_store.specs.declared.fault.InstanceFault.TheVariants as instance
 use Rattle.wasm_store.specs.Instantiation.{RefusedFor}
-use Rattle.wasi_calls.specs.declared.fault.HostFault.{HostFault}
-use Rattle.wasi_calls.specs.declared.fault.HostFault.TheVariants as host
-use Rattle.wasi_calls.specs.declared.settings.Settings.{Settings}
-use Rattle.wasi_calls.specs.declared.wasi_host.HostParts.{HostParts}
-use Rattle.wasi_calls.specs.Host.{HostState}
-use Rattle.wasi_calls.specs.Making.{IsRefusedPreopen, preopens_of}
-use Rattle.wasi_calls.specs.Settings.{settings_fit}
-use Rattle.wasi_calls.specs.Links.{link}
+use Rattle.wasi_calls.specs.declared.host.fault.HostFault.{HostFault}
+use Rattle.wasi_calls.specs.declared.host.fault.HostFault.TheVariants as host
+use Rattle.wasi_calls.specs.declared.host.settings.Settings.{Settings}
+use Rattle.wasi_calls.specs.declared.host.wasi_host.HostParts.{HostParts}
+use Rattle.wasi_calls.specs.host.Worlds.{HostState}
+use Rattle.wasi_calls.specs.host.Making.{IsRefusedPreopen, preopens_of}
+use Rattle.wasi_calls.specs.host.Settings.{settings_fit}
+use Rattle.wasi_calls.specs.host.Links.{link}
 use Rattle.sandbox_core.specs.Session.{IsInstantiable, IsRefused, given}
 use Rattle.sandbox_core.specs.declared.fault.SessionFault.{SessionFault}
 use Rattle.sandbox_core.specs.internal.Faults.{of_host, of_instance}

@@ -1,0 +1,12 @@
+use Rattle.std.proofs.Common.{Err, refl}
+use Rattle.wasi_fd.specs.Table.{table_of}
+use Rattle.wasm_store.specs.declared.call.HostCall.TheVariants as call
+use Rattle.wasi_calls.proofs.bodies.PlainCalls.{no_more, serves_plain}
+use Rattle.wasi_calls.proofs.host.inner.Inner.nosys.Goals as goal
+
+pub returns : goal.returns
+returns g c = λ m used arguments.
+    let s = c.args.self.now in
+    serves_plain g.D.Device.honest g.D.Device.disk g.D.Device.size g.D.Device.failures g.R.Read.remaining g.W1.Write.contents g.W2.Write.contents
+    call.Nosys used arguments (λ b. Err 52) s s.descriptors s.settings m m 52 (λ o. refl) c.requires c.requires.settings refl (no_more (table_of s.descriptors))
+    (λ b. refl) (λ b. (refl, refl, refl))

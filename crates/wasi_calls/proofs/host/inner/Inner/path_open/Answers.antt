@@ -1,0 +1,16 @@
+use Rattle.std.proofs.Common.{refl, sym}
+use Rattle.wasm_store.specs.declared.call.HostCall.TheVariants as call
+use Rattle.wasi_calls.specs.host.Worlds.{world_of}
+use Rattle.wasi_calls.specs.internal.Bodies.{state_of}
+use Rattle.wasi_calls.proofs.bodies.PlainCalls.{serves_both}
+use Rattle.wasi_calls.proofs.paths.OpenCalls.{open_by}
+use Rattle.wasi_calls.proofs.host.inner.Inner.path_open.Goals as goal
+
+pub returns : goal.returns
+returns g c = λ used.
+    let s = c.args.self.now in
+    let m = c.args.memory.now in
+    serves_both g.D.Device.honest g.D.Device.disk g.D.Device.size g.D.Device.failures g.R.Read.remaining g.W1.Write.contents g.W2.Write.contents
+    call.PathOpen used c.args.arguments.now _ s c.path_open.new.volume c.path_open.new.descriptors m c.path_open.new.memory _ refl c.path_open.ensures.io c.requires.set_up c.path_open.ensures.step c.path_open.ensures.serials
+    (λ w i. open_by w m (sym c.read-asked.ensures i))
+    (λ h b. c.path_open.ensures.answered h (world_of (state_of s) b) refl refl)

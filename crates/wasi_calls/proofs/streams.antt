@@ -1,0 +1,5 @@
+-- Bytes of streams.
+pub mod InputCalls
+pub mod OutputCalls
+pub mod ReaderBytes
+pub mod WriterBytes

@@ -1,0 +1,10 @@
+use Rattle.std.proofs.Common.{drop}
+use Rattle.wasi_calls.specs.Checks.{gathered}
+use Rattle.wasi_calls.specs.internal.checks.Buffers.{list_of}
+use Rattle.wasi_calls.proofs.streams.WriterBytes.{Begun}
+use Rattle.wasi_calls.proofs.streams.outputs.hand_buffers.Given as goal
+
+abbrev pub invariant-loop-buffer : goal.invariant-loop-buffer
+invariant-loop-buffer g l =
+    Begun (g.W.Write.contents l.initial.writer) (g.W.Write.contents l.writer)
+    (gathered l.memory (list_of l.buffers)) (gathered l.memory (list_of (drop l.buffer-index l.buffers)))

@@ -1,0 +1,36 @@
+use Rattle.std.proofs.Common.{sym, ap, ◌∙◌, refl}
+use Rattle.std.proofs.lemmas.Bool.{false≢true}
+use Rattle.byteorder.specs.Endian.{little_bytes}
+use Rattle.wasm_store.specs.Bytes.{written}
+use Rattle.wasi_calls.specs.internal.checks.Buffers.{list_of}
+use Rattle.wasi_calls.proofs.checks.BufferArrays.{gathered_length}
+use Rattle.wasi_calls.proofs.streams.outputs.write_stream.Goals as goal
+
+pub returns-in-Ok : goal.returns-in-Ok
+returns-in-Ok g c = record {
+  idle = λ failed. absurd (false≢true (sym c.if-output.false ∙ failed));
+  took = let m = c.args.memory.now in (
+    c.if-output.false,
+    c.if-output.false,
+    c.in-Ok.ensures.all,
+    c.write_bytes.ensures.bytes ∙ ap (written m c.args.result_at) (c.le32.ensures ∙ ap (little_bytes 4) (c.total_len-len.ensures ∙ sym (gathered_length m (list_of c.args.buffers.now) c.requires.usable.inside))),
+  );
+  broke = tt;
+  answer = tt;
+}
+
+pub returns-then-output : goal.returns-then-output
+returns-then-output g c = record {
+  idle = λ failed. (refl, refl);
+  took = tt;
+  broke = λ worked. absurd (false≢true (sym worked ∙ c.if-output.true));
+  answer = (refl, refl);
+}
+
+pub returns-in-Err : goal.returns-in-Err
+returns-in-Err g c = record {
+  idle = λ failed. absurd (false≢true (sym c.if-output.false ∙ failed));
+  took = tt;
+  broke = λ worked. (refl, c.in-Err.ensures.some);
+  answer = (refl, refl);
+}

@@ -1,0 +1,2 @@
+-- Descriptors and their positions.
+pub mod Rows

@@ -1,0 +1,2 @@
+-- Bytes of files and streams, and lists of directories.
+pub mod Rows

@@ -1,0 +1,5 @@
+pub mod Walks
+pub mod Climbing
+pub mod Opening
+pub mod Removing
+pub mod Renaming

@@ -1,0 +1,53 @@
+-- What a reader gave.
+use Rattle.std.specs.Prelude.{◌≡◌, ◌≤◌, ℕ, List, [], ◌∷◌, ◌||◌, nat_lt, length, true, false, Option, Ok}
+use Rattle.std.specs.Io.KnownBytes.{Consumes}
+use Rattle.byteorder.specs.Endian.{little_bytes}
+use Rattle.wasm_store.specs.Bytes.{written}
+use Rattle.wasi_fd.specs.declared.descriptor.Descriptor.{Descriptor}
+use Rattle.wasi_calls.specs.declared.streams.Input.{Input}
+use Rattle.wasi_calls.specs.World.{World}
+use Rattle.wasi_calls.specs.Checks.{Checked, Done, ◌>>=◌, Buffer, put, total, scattered}
+use Rattle.wasi_calls.specs.files.Rows.{read_from}
+
+-- this many bytes came, which stand in memory from a place on
+pub record Came (before after : Option (List ℕ)) (old : List ℕ) (place most : ℕ) (memory : List ℕ) (count : ℕ) : Type 0 where
+  pub bytes : List ℕ
+  pub consumed : Consumes before after bytes
+  pub many : length bytes ≡ count
+  pub few : count ≤ most
+  pub stand : memory ≡ written old place bytes
+
+-- some came, before the reader failed
+pub record SomeCame (before after : Option (List ℕ)) (old : List ℕ) (place most : ℕ) (memory : List ℕ) : Type 0 where
+  pub count : ℕ
+  pub came : Came before after old place most memory count
+
+-- this many bytes came, which stand in the buffers, one after another
+pub record Dealt (before after : Option (List ℕ)) (old : List ℕ) (bs : List Buffer) (memory : List ℕ) (count : ℕ) : Type 0 where
+  pub bytes : List ℕ
+  pub consumed : Consumes before after bytes
+  pub many : length bytes ≡ count
+  pub few : count ≤ total bs
+  pub stand : memory ≡ put old (scattered bytes bs)
+
+pub record SomeDealt (before after : Option (List ℕ)) (old : List ℕ) (bs : List Buffer) (memory : List ℕ) : Type 0 where
+  pub count : ℕ
+  pub dealt : Dealt before after old bs memory count
+
+-- They fill the buffers, but for those that no bytes came for since the input ended; and how many came is written.
+pub record IsRead {R : Type 0} (remaining : R → Option (List ℕ)) (old new : Input R) (m : List ℕ) (bs : List Buffer) (result : ℕ) (memory : List ℕ) : Type 0 where
+  pub worked : old.failed ≡ false
+  pub works : new.failed ≡ false
+  pub count : ℕ
+  pub filled : List ℕ
+  pub dealt : Dealt (remaining old.reader) (remaining new.reader) m bs filled count
+  pub full : new.ended ≡ false → count ≡ total bs
+  pub none : old.ended ≡ true → count ≡ 0
+  pub ended : new.ended ≡ (old.ended || nat_lt count (total bs))
+  pub stand : memory ≡ written filled result (little_bytes 4 count)
+
+-- the bytes of what a number stands for, in the buffers
+abbrev pub read_to : World → ℕ → Descriptor → List Buffer → ℕ → Checked Done
+read_to w fd d bs result = do
+  r ← read_from w fd d (total bs)
+  Ok (record { world = r.0; fills = scattered r.1 bs; results = (result, little_bytes 4 (length r.1)) ∷ [] })

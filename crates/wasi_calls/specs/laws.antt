@@ -1,0 +1,3 @@
+-- What runs keep.
+pub mod Confined
+pub mod Moments

@@ -1,0 +1,2 @@
+-- Calls on paths.
+pub mod Rows

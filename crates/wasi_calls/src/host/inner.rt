@@ -1,0 +1,71 @@
+//! What a host keeps, of which nothing is known.
+
+ghost use Rattle.std.specs.Prelude.{◌≡◌};
+
+use crate::host::settings::Settings;
+use crate::host::wasi_host::HostParts;
+use crate::streams::{Input, Output};
+use rand_chacha::ChaCha20Rng;
+use vol_sector::Device;
+use vol_tree::{Span, Volume};
+use wasi_fd::Descriptors;
+
+/// What a host keeps, of which nothing is known.
+#[derive(Drop)]
+pub(crate) struct Inner<'s, 't, D: Device, R, W1, W2> {
+    pub volume: Volume<D>,
+    pub descriptors: Descriptors<'t>,
+    pub input: Input<R>,
+    pub out: Output<W1>,
+    pub err: Output<W2>,
+    /// The random bytes are those that are left.
+    pub settings: Settings<'s, 't>,
+    /// What random bytes come from where the host is seeded.
+    pub generator: Option<ChaCha20Rng>,
+    /// Place for the buffers of a call.
+    pub buffers: Vec<Span>,
+    /// Place for the bytes of a call.
+    pub piece: Vec<u8>,
+}
+
+impl<'s, 't, D: Device, R: Drop, W1: Drop, W2: Drop> Inner<'s, 't, D, R, W1, W2> {
+    ghost use Rattle.wasi_calls.specs.host.Making.{parts_of};
+    ghost use Rattle.wasi_calls.specs.internal.Bodies.{state_of};
+
+    /// What it was made of, as it is now.
+    pub fn into_parts(self) -> HostParts<'s, 't, D, R, W1, W2>
+        ensures { result ≡ parts_of (state_of self.entry) }
+    {
+        let Inner {
+            volume,
+            descriptors: _,
+            input,
+            out,
+            err,
+            settings,
+            generator: _,
+            buffers: _,
+            piece: _,
+        } = self;
+        let Input {
+            reader: input,
+            failed: _,
+            ended: _,
+        } = input;
+        let Output {
+            writer: out,
+            failed: _,
+        } = out;
+        let Output {
+            writer: err,
+            failed: _,
+        } = err;
+        HostParts {
+            settings,
+            volume,
+            input,
+            out,
+            err,
+        }
+    }
+}

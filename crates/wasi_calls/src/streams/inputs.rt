@@ -1,0 +1,216 @@
+//! Bytes that a call reads from a stream.
+
+ghost use Rattle.std.specs.Prelude.{◌≡◌, ◌<◌, ◌≤◌, ◌+◌, ◌^◌, length, take, [], true, false, Ok, Err, OnOk, OnErr, IfOk, IfErr, vec_len, vec_capacity};
+ghost use Rattle.std.specs.List.{list_all};
+ghost use Rattle.std.specs.Io.KnownBytes.{Consumes, IsAtEnd};
+ghost use Rattle.wasm_store.specs.Bytes.{written};
+ghost use Rattle.wasi_calls.specs.Checks.{is_inside, total};
+ghost use Rattle.wasi_calls.specs.internal.checks.Buffers.{list_of, AreUsable};
+ghost use Rattle.wasi_calls.specs.internal.streams.Inputs.{Came, SomeCame, Dealt, SomeDealt, IsRead};
+
+use crate::checks::write_bytes;
+use crate::numbers::le32;
+use crate::streams::Input;
+use std::io::Read;
+use vol_tree::Span;
+use wasm_store::{Errno, Memory};
+
+/// How many bytes a call takes from the input at once.
+pub(crate) const PIECE: usize = 16_384;
+
+/// A reader has failed.
+#[derive(Clone, Copy)]
+struct ReaderFailed;
+
+/// Gives the piece all of its bytes, for which it has the place: zeros at the first call that reads, and none where it has them.
+pub(crate) fn fill_up(piece: &mut Vec<u8>)
+    requires { 16384 ≤ vec_capacity piece.old }
+    ensures len { vec_len piece.new ≡ 16384 }
+    ensures place { 16384 ≤ vec_capacity piece.new }
+{
+    let Ok(()) = piece.resize(PIECE, 0) else {
+        unreachable!()
+    };
+}
+
+/// Reads once into the piece, at most this many bytes, and says how many: none only at the reader's end. Any error of the
+/// reader counts as failure, an interruption too.
+fn read_piece<R: Read>(reader: &mut R, piece: &mut [u8], most: usize) -> Result<usize, ReaderFailed>
+    requires room { 0 < length piece.old }
+    requires some { 0 < most }
+    ensures few { IfOk result (λ n. (n ≤ most) × (n ≤ length piece.old)) }
+    ensures came { IfOk result (λ n. Consumes (R.remaining reader.old) (R.remaining reader.new) (take n piece.new)) }
+    ensures end { IfOk result (λ n. n ≡ 0 → IsAtEnd (R.remaining reader.new)) }
+    ensures broke { OnErr result (Consumes (R.remaining reader.old) (R.remaining reader.new) []) }
+{
+    let room = most.min(piece.len());
+    match reader.read(&mut piece[..room]) {
+        Ok(count) => Ok(count),
+        Err(_) => Err(ReaderFailed),
+    }
+}
+
+/// Writes the bytes into memory, from a place on.
+fn put_at(memory: &mut Memory, place: usize, bytes: &[u8])
+    requires { place + length bytes.now ≤ length memory.old }
+    ensures bytes { memory.new ≡ written memory.old place bytes.now }
+    ensures length { length memory.new ≡ length memory.old }
+{
+    let part = memory.part_mut(place, bytes.len());
+    part.copy_from_slice(bytes);
+}
+
+/// Reads once into memory from a place on, at most this many bytes, and says how many: none only at the reader's end.
+fn read_some<R: Read>(
+    reader: &mut R,
+    piece: &mut [u8],
+    memory: &mut Memory,
+    place: usize,
+    most: usize,
+) -> Result<usize, ReaderFailed>
+    requires room { 0 < length piece.old }
+    requires some { 0 < most }
+    requires inside { place + most ≤ length memory.old }
+    ensures long { length memory.new ≡ length memory.old }
+    ensures came { IfOk result (λ n. Came (R.remaining reader.old) (R.remaining reader.new) memory.old place most memory.new n) }
+    ensures end { IfOk result (λ n. n ≡ 0 → IsAtEnd (R.remaining reader.new)) }
+    ensures broke { OnErr result (Consumes (R.remaining reader.old) (R.remaining reader.new) []) }
+    ensures kept { OnErr result (memory.new ≡ memory.old) }
+{
+    match read_piece(reader, piece, most) {
+        Ok(count) => {
+            put_at(memory, place, &piece[..count]);
+            Ok(count)
+        }
+        Err(failed) => Err(failed),
+    }
+}
+
+/// Reads into memory from a place on until this many bytes came or the input ends, and says how many came.
+fn fill<R: Read>(
+    input: &mut Input<R>,
+    piece: &mut [u8],
+    memory: &mut Memory,
+    start: usize,
+    len: usize,
+) -> Result<usize, ReaderFailed>
+    requires room { 0 < length piece.old }
+    requires small { start + len < 2 ^ 64 }
+    requires inside { start + len ≤ length memory.old }
+    requires goes_on { input.old.ended ≡ false }
+    ensures long { length memory.new ≡ length memory.old }
+    ensures came { IfOk result (λ n. Came (R.remaining input.old.reader) (R.remaining input.new.reader) memory.old start len memory.new n) }
+    ensures full { IfOk result (λ n. input.new.ended ≡ false → n ≡ len) }
+    ensures short { IfOk result (λ n. input.new.ended ≡ true → n < len) }
+    ensures still { OnErr result (input.new.ended ≡ false) }
+    ensures end { input.new.ended ≡ true → IsAtEnd (R.remaining input.new.reader) }
+    ensures broke { OnErr result (SomeCame (R.remaining input.old.reader) (R.remaining input.new.reader) memory.old start len memory.new) }
+    ensures mark { input.new.failed ≡ input.old.failed }
+{
+    let mut filled: usize = 0;
+    while filled < len {
+        let reader = &mut input.reader;
+        match read_some(reader, piece, memory, start + filled, len - filled) {
+            Ok(0) => {
+                input.ended = true;
+                return Ok(filled);
+            }
+            Ok(count) => filled += count,
+            Err(failed) => return Err(failed),
+        }
+    }
+    Ok(filled)
+}
+
+/// Reads into a buffer until it is full or the input ends, and says how many bytes came: none after the end.
+fn fill_next<R: Read>(
+    input: &mut Input<R>,
+    piece: &mut [u8],
+    memory: &mut Memory,
+    buffer: Span,
+) -> Result<usize, ReaderFailed>
+    requires room { 0 < length piece.old }
+    requires inside { buffer.pointer + buffer.len ≤ length memory.old }
+    requires end { input.old.ended ≡ true → IsAtEnd (R.remaining input.old.reader) }
+    ensures long { length memory.new ≡ length memory.old }
+    ensures came { IfOk result (λ n. Came (R.remaining input.old.reader) (R.remaining input.new.reader) memory.old buffer.pointer buffer.len memory.new n) }
+    ensures full { IfOk result (λ n. input.new.ended ≡ false → n ≡ buffer.len) }
+    ensures short { IfOk result (λ n. input.old.ended ≡ false → input.new.ended ≡ true → n < buffer.len) }
+    ensures still { OnErr result (input.new.ended ≡ false) }
+    ensures small { IfOk result (λ n. n < 2 ^ 32) }
+    ensures none { input.old.ended ≡ true → (result ≡ Ok 0) × (input.new.ended ≡ true) }
+    ensures end { input.new.ended ≡ true → IsAtEnd (R.remaining input.new.reader) }
+    ensures broke { OnErr result (SomeCame (R.remaining input.old.reader) (R.remaining input.new.reader) memory.old buffer.pointer buffer.len memory.new) }
+    ensures mark { input.new.failed ≡ input.old.failed }
+{
+    if input.ended {
+        return Ok(0);
+    }
+    let (start, len) = (buffer.pointer as usize, buffer.len as usize);
+    fill(input, piece, memory, start, len)
+}
+
+/// Reads into the buffers, one after another, until they are full or the input ends, and says how many bytes came.
+fn fill_buffers<R: Read>(
+    input: &mut Input<R>,
+    piece: &mut [u8],
+    memory: &mut Memory,
+    buffers: &[Span],
+) -> Result<usize, ReaderFailed>
+    requires room { 0 < length piece.old }
+    requires few { length buffers.now ≤ 1024 }
+    requires inside { list_all (is_inside memory.old) (list_of buffers.now) ≡ true }
+    requires end { input.old.ended ≡ true → IsAtEnd (R.remaining input.old.reader) }
+    ensures long { length memory.new ≡ length memory.old }
+    ensures dealt { IfOk result (λ n. Dealt (R.remaining input.old.reader) (R.remaining input.new.reader) memory.old (list_of buffers.now) memory.new n) }
+    ensures full { IfOk result (λ n. input.new.ended ≡ false → n ≡ total (list_of buffers.now)) }
+    ensures short { IfOk result (λ n. input.old.ended ≡ false → input.new.ended ≡ true → n < total (list_of buffers.now)) }
+    ensures still { OnErr result (input.new.ended ≡ false) }
+    ensures none { input.old.ended ≡ true → (result ≡ Ok 0) × (input.new.ended ≡ true) }
+    ensures end { input.new.ended ≡ true → IsAtEnd (R.remaining input.new.reader) }
+    ensures broke { OnErr result (SomeDealt (R.remaining input.old.reader) (R.remaining input.new.reader) memory.old (list_of buffers.now) memory.new) }
+    ensures mark { input.new.failed ≡ input.old.failed }
+{
+    let mut count: usize = 0;
+    for buffer in buffers {
+        match fill_next(input, piece, memory, *buffer) {
+            Ok(more) => count += more,
+            Err(failed) => return Err(failed),
+        }
+    }
+    Ok(count)
+}
+
+/// Reads from a stream into the buffers until they are full or it ends, and then writes how many bytes came.
+pub(crate) fn read_stream<R: Read>(
+    input: &mut Input<R>,
+    piece: &mut [u8],
+    memory: &mut Memory,
+    buffers: &[Span],
+    result_at: u32,
+) -> Result<(), Errno>
+    requires room { 0 < length piece.old }
+    requires few { length buffers.now ≤ 1024 }
+    requires usable { AreUsable memory.old (list_of buffers.now) result_at }
+    requires end { input.old.ended ≡ true → IsAtEnd (R.remaining input.old.reader) }
+    ensures idle { input.old.failed ≡ true → (input.new ≡ input.old) × (memory.new ≡ memory.old) × (result ≡ Err Errno.IO) }
+    ensures took { OnOk result (IsRead R.remaining input.old input.new memory.old (list_of buffers.now) result_at memory.new) }
+    ensures broke { OnErr result (input.old.failed ≡ false → (input.new.failed ≡ true) × (input.old.ended ≡ false) × (input.new.ended ≡ false)
+        × SomeDealt (R.remaining input.old.reader) (R.remaining input.new.reader) memory.old (list_of buffers.now) memory.new) }
+    ensures answer { IfErr result (λ e. e.0 ≡ 29) }
+    ensures end { input.new.ended ≡ true → IsAtEnd (R.remaining input.new.reader) }
+{
+    if input.failed {
+        return Err(Errno::IO);
+    }
+    match fill_buffers(input, piece, memory, buffers) {
+        Ok(count) => {
+            write_bytes(memory, result_at, &le32(count as u32));
+            Ok(())
+        }
+        Err(ReaderFailed) => {
+            input.failed = true;
+            Err(Errno::IO)
+        }
+    }
+}
