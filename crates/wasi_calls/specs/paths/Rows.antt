@@ -1,5 +1,5 @@
 -- Calls on paths (`path_*` of WASI preview 1; `docs/DECISIONS.md`, "WASI calls").
-use Rattle.std.specs.Prelude.{ℕ, ◌+◌, ◌^◌, Bool, not, ◌==◌, ◌&&◌, ◌||◌, nat_le, List, [], length, Some, None, Ok, Err, if◌then◌else◌, bit_and}
+use Rattle.std.specs.Prelude.{ℕ, ◌+◌, Bool, not, ◌==◌, ◌&&◌, ◌||◌, nat_le, List, [], length, Some, None, Ok, Err, if◌then◌else◌, bit_and}
 use Rattle.std.specs.Option.{ok_or}
 use Rattle.byteorder.specs.Endian.{little_bytes}
 use Rattle.wasm_store.specs.Bytes.{bytes_at}
