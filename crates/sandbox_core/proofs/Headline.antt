@@ -20,10 +20,10 @@ use Rattle.wasi_calls.specs.declared.host.wasi_host.HostParts.{HostParts}
 use Rattle.wasi_calls.specs.host.Settings.{settings_fit}
 use Rattle.wasi_calls.specs.laws.Moments.{CountsMoments, Kept, Turns, IsSafe, PauseSynced, is_sync}
 use Rattle.wasi_calls.specs.laws.Confined.{Begins}
-use Rattle.wasi_calls.proofs.descriptors.OpenEntries.{no_entries}
-use Rattle.wasi_calls.proofs.laws.HostLaws.{are_rows}
-use Rattle.wasi_calls.proofs.laws.Moments.{keeps_all}
-use Rattle.wasi_calls.proofs.laws.Confinement.{confines_host}
+use Rattle.wasi_calls.proofs.OpenEntries.{no_entries}
+use Rattle.wasi_calls.proofs.runs.HostLaws.{are_rows}
+use Rattle.wasi_calls.proofs.runs.Moments.{keeps_all}
+use Rattle.wasi_calls.proofs.runs.Confinement.{confines_host}
 use Rattle.wasi_calls.specs.host.Making.{found_directory, from_root, directory_named, preopened, preopens_of, table_with}
 use Rattle.vol_tree.specs.Opened.{Opened}
 use Rattle.vol_tree.specs.Stands.{StandsAs}

@@ -10,7 +10,7 @@ use Rattle.wasm_interp.specs.Machine.{Snapshot, Represents}
 use Rattle.wasm_interp.specs.Promise.{Paused, Resumed}
 use Rattle.wasm_steps.specs.Steps.{CallsOf, silent, answers, Reach, stays, goes}
 use Rattle.wasi_calls.specs.host.Worlds.{HostState, HostCalls}
-use Rattle.wasi_calls.proofs.laws.Moments.{step_changes}
+use Rattle.wasi_calls.proofs.runs.Moments.{step_changes}
 
 module _ {D R W1 W2 : Type 0} (honest : D → Type 0) (disk : D → Disk) (sectors_on failures : D → ℕ)
     (remaining : R → Option (List ℕ)) (out_contents : W1 → Option (List ℕ)) (err_contents : W2 → Option (List ℕ)) where

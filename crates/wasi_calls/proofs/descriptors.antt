@@ -1,5 +1,4 @@
--- Open entries, and positions.
+-- Held entries, and positions.
 pub mod HeldEntries
 pub mod MovingCalls
-pub mod OpenEntries
 pub mod Shifts

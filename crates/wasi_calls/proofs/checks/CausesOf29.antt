@@ -12,7 +12,7 @@ use Rattle.wasi_calls.specs.World.{World}
 use Rattle.wasm_store.specs.declared.call.Errno.{Errno as Number}
 use Rattle.wasi_calls.specs.Checks.{Checked}
 use Rattle.wasi_calls.specs.internal.Bodies.{errno_of}
-use Rattle.wasi_calls.proofs.descriptors.OpenEntries.{some_world}
+use Rattle.wasi_calls.proofs.OpenEntries.{some_world}
 use Rattle.wasi_calls.proofs.bodies.VolumeCalls.{io_or, never_if, ok_no_io}
 
 -- ---- the volume

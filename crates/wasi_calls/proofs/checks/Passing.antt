@@ -16,7 +16,7 @@ use Rattle.wasi_fd.specs.Table.{Table}
 use Rattle.wasi_calls.specs.World.{World, least_closed, holds_below, is_of}
 use Rattle.wasi_calls.specs.Checks.{Checked, numbered, get, of_kind, has, opened, descriptor, entry_at, Refusals, by_kind, walk, tree_call, found}
 use Rattle.wasi_calls.proofs.checks.Chains.{bound, passed}
-use Rattle.wasi_calls.proofs.laws.HeldAlongRuns.{is_directory_kind}
+use Rattle.wasi_calls.proofs.runs.HeldAlongRuns.{is_directory_kind}
 
 pub same_Ok : {X : Type 0} (x y : X) → ◌≡◌ {A = Checked X} (Ok x) (Ok y) → x ≡ y
 same_Ok x y h = cc

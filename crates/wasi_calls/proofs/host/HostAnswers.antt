@@ -15,7 +15,7 @@ use Rattle.wasi_calls.specs.host.Worlds.{StreamBytes, before_moving, after_movin
 use Rattle.wasi_calls.specs.laws.Moments.{IsSynced}
 use Rattle.wasi_calls.specs.internal.Bodies.{state_of, IsSetUp, IsReady, KnowsEntries, Serves}
 use Rattle.wasi_calls.proofs.bodies.PlainCalls.{nothing, same_after, streams_rest, volume_rests}
-use Rattle.wasi_calls.proofs.laws.EntriesStay.{still_there, few_open}
+use Rattle.wasi_calls.proofs.runs.EntriesStay.{still_there, few_open}
 
 -- a call that doesn't end the guest means its row
 by_row_of : (c : HostCall) (w : World) (m : List ℕ) (used : ℕ) (args : List ℕ) (w' : World) (m' : List ℕ) (e : Errno) (answer : Answer) → c ≢ call.ProcExit → answer ≡ value e

@@ -27,7 +27,7 @@ use Rattle.path_walk.specs.Walk.{Asked}
 use Rattle.wasi_calls.specs.host.Making.{HasPreopens, is_device, directory_named, from_root, found_directory, preopens_of, preopened, table_with}
 use Rattle.wasi_calls.specs.internal.host.Preopening.{fault_as, Finds, FindsAll, AreFound, AreNumbers, AreOpen, FoundSoFar, opened_from}
 use Rattle.wasi_calls.specs.internal.Bodies.{IsThere, KnowsEntries, is_directory_kind}
-use Rattle.wasi_calls.proofs.descriptors.OpenEntries.{no_entries}
+use Rattle.wasi_calls.proofs.OpenEntries.{no_entries}
 use Rattle.wasi_calls.proofs.checks.Passing.{same_entry}
 
 module _ {D : Type 0} (honest : D → Type 0) (disk : D → Disk) (sectors_on failures : D → ℕ) where

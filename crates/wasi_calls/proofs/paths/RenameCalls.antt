@@ -21,7 +21,7 @@ use Rattle.wasi_calls.specs.internal.Bodies.{with_volume}
 use Rattle.wasi_calls.specs.internal.Asking.{StopsNext}
 use Rattle.wasi_calls.specs.internal.paths.Renaming.{AreFacts, facts_of, replace_checked, replace_row, ReplacesAs, RenamesTo}
 use Rattle.wasi_calls.proofs.checks.Chains.{goes_on, stops, guard_passes, guard_fails, passed}
-use Rattle.wasi_calls.proofs.laws.ReachedEntries.{only_itself}
+use Rattle.wasi_calls.proofs.runs.ReachedEntries.{only_itself}
 use Rattle.wasi_calls.proofs.bodies.VolumeCalls.{io_or, same_volume, gone, never_after, never_guard, never_if, ok_no_io, numbered_io, tree_called_alive}
 use Rattle.wasi_calls.proofs.bodies.AskingCalls.{and_then_assoc, ok_then}
 

@@ -10,7 +10,7 @@ use Rattle.wasi_calls.specs.Calls.{Answered}
 use Rattle.wasi_calls.specs.Checks.{sized, entry_at}
 use Rattle.wasi_calls.specs.internal.Bodies.{with_volume, refusals_of}
 use Rattle.wasi_calls.proofs.checks.Chains.{goes_on, stops}
-use Rattle.wasi_calls.proofs.descriptors.OpenEntries.{file_of}
+use Rattle.wasi_calls.proofs.OpenEntries.{file_of}
 use Rattle.wasi_calls.proofs.bodies.VolumeCalls.{steps, refused_first, changed_ok, changed_err, resized_never}
 use Rattle.wasi_calls.proofs.bodies.PlainCalls.{volume_rests}
 use Rattle.wasi_calls.proofs.files.set_size.Goals as goal

@@ -13,7 +13,7 @@ use Rattle.wasi_calls.specs.internal.Bodies.{with_volume, refusals_of}
 use Rattle.wasi_calls.proofs.checks.Chains.{guard_passes, guard_fails, goes_on, stops}
 use Rattle.wasi_calls.proofs.bodies.VolumeCalls.{steps, is_no_err, same_tree, was_working, same_volume, refused_first, done_by, tree_refuses}
 use Rattle.wasi_fd.specs.Table.{table_of}
-use Rattle.wasi_calls.proofs.descriptors.OpenEntries.{some_world}
+use Rattle.wasi_calls.proofs.OpenEntries.{some_world}
 use Rattle.wasi_calls.proofs.checks.NoneAnswers0.{not_zero, entry_never_zero, number_never_zero, ok_no_err}
 use Rattle.wasi_calls.proofs.bodies.PlainCalls.{volume_rests}
 use Rattle.wasi_calls.proofs.files.sync.Goals as goal

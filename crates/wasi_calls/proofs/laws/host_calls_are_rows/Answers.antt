@@ -1,4 +1,4 @@
-use Rattle.wasi_calls.proofs.laws.HostLaws.{are_rows}
+use Rattle.wasi_calls.proofs.runs.HostLaws.{are_rows}
 use Rattle.wasi_calls.proofs.laws.host_calls_are_rows.Goals as goal
 
 pub returns : goal.returns

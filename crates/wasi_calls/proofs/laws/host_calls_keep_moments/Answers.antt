@@ -1,4 +1,4 @@
-use Rattle.wasi_calls.proofs.laws.HostLaws.{keep_moments}
+use Rattle.wasi_calls.proofs.runs.HostLaws.{keep_moments}
 use Rattle.wasi_calls.proofs.laws.host_calls_keep_moments.Goals as goal
 
 pub returns : goal.returns

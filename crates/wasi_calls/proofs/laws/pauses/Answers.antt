@@ -1,4 +1,4 @@
-use Rattle.wasi_calls.proofs.laws.Moments.{pauses_keep}
+use Rattle.wasi_calls.proofs.runs.Moments.{pauses_keep}
 use Rattle.wasi_calls.proofs.laws.pauses.Goals as goal
 
 pub returns : goal.returns

@@ -17,7 +17,7 @@ use Rattle.wasi_calls.specs.Calls.{Answered}
 use Rattle.wasi_calls.specs.internal.Bodies.{with_volume}
 use Rattle.wasi_calls.specs.internal.paths.Walks.{entered, Places}
 use Rattle.wasi_calls.proofs.checks.Chains.{goes_on, stops}
-use Rattle.wasi_calls.proofs.descriptors.OpenEntries.{entered_row, entry_of}
+use Rattle.wasi_calls.proofs.OpenEntries.{entered_row, entry_of}
 use Rattle.wasi_calls.proofs.paths.Walks.{missing_name_never}
 use Rattle.wasi_calls.proofs.bodies.VolumeCalls.{never_after, was_working, same_volume, refused_first, refused_by, tree_refuses, steps, steps_after, created_never, making, making_never, made_ok, made_err}
 use Rattle.wasi_calls.proofs.bodies.PlainCalls.{volume_rests}

@@ -16,7 +16,7 @@ use Rattle.wasi_calls.specs.Calls.{Answered}
 use Rattle.wasi_calls.specs.internal.Bodies.{with_volume}
 use Rattle.wasi_calls.specs.internal.paths.Walks.{entered}
 use Rattle.wasi_calls.proofs.checks.Chains.{goes_on, stops}
-use Rattle.wasi_calls.proofs.descriptors.OpenEntries.{entered_row, entry_of}
+use Rattle.wasi_calls.proofs.OpenEntries.{entered_row, entry_of}
 use Rattle.wasi_calls.proofs.paths.Walks.{found_never}
 use Rattle.wasi_calls.proofs.bodies.VolumeCalls.{is_no_err, never_after, was_working, same_volume, refused_first, refused_by, failed_by, tree_refuses, tree_called_alive}
 use Rattle.wasi_calls.proofs.bodies.PlainCalls.{volume_rests}

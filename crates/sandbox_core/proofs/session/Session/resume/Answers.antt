@@ -1,6 +1,6 @@
 use Rattle.wasi_calls.specs.host.Worlds.{HostState, HostCalls}
-use Rattle.wasi_calls.proofs.laws.HostLaws.{keep_moments}
-use Rattle.wasi_calls.proofs.laws.Moments.{pauses_keep}
+use Rattle.wasi_calls.proofs.runs.HostLaws.{keep_moments}
+use Rattle.wasi_calls.proofs.runs.Moments.{pauses_keep}
 use Rattle.sandbox_core.proofs.Places.{stays_there}
 use Rattle.sandbox_core.proofs.session.Session.resume.Goals as goal
 

@@ -12,7 +12,7 @@ use Rattle.wasi_calls.specs.descriptors.Rows.{fd_seek}
 use Rattle.wasi_calls.specs.Calls.{Answered, by_row}
 use Rattle.wasi_calls.specs.internal.Bodies.{with_volume, with_table}
 use Rattle.wasi_calls.proofs.checks.Chains.{goes_on, stops}
-use Rattle.wasi_calls.proofs.descriptors.OpenEntries.{seek_open, file_at}
+use Rattle.wasi_calls.proofs.OpenEntries.{seek_open, file_at}
 use Rattle.wasi_calls.proofs.bodies.Answering.{answers_done, answers_refused}
 use Rattle.wasi_calls.proofs.bodies.VolumeCalls.{refused_first, failed_by}
 use Rattle.wasi_calls.proofs.descriptors.Shifts.{row_of_seek, sought_never, in_table, table_moved, never_position}

@@ -10,7 +10,7 @@ use Rattle.wasi_calls.specs.descriptors.Rows.{fd_filestat_get, filestat, entry_s
 use Rattle.wasi_calls.specs.Calls.{Answered}
 use Rattle.wasi_calls.specs.internal.Bodies.{with_volume, refusals_of}
 use Rattle.wasi_calls.proofs.checks.Chains.{goes_on, stops}
-use Rattle.wasi_calls.proofs.descriptors.OpenEntries.{at_descriptor, is_used}
+use Rattle.wasi_calls.proofs.OpenEntries.{at_descriptor, is_used}
 use Rattle.wasi_calls.proofs.bodies.VolumeCalls.{is_no_err, was_working, same_volume, refused_first, done_by, tree_refuses, tree_called_alive, tree_called_gone}
 use Rattle.wasi_calls.proofs.bodies.PlainCalls.{volume_rests}
 use Rattle.wasi_calls.proofs.bodies.AskingCalls.{asked_step}

@@ -13,7 +13,7 @@ use Rattle.wasi_calls.specs.paths.Rows.{path_at}
 use Rattle.wasi_calls.specs.internal.Asking.{Stops}
 use Rattle.wasi_calls.specs.internal.paths.Opening.{open_part, ChecksAs, open_entered}
 use Rattle.wasi_calls.proofs.checks.Chains.{goes_on, stops}
-use Rattle.wasi_calls.proofs.descriptors.OpenEntries.{opened_at}
+use Rattle.wasi_calls.proofs.OpenEntries.{opened_at}
 use Rattle.wasi_calls.proofs.checks.Passing.{walked_to}
 use Rattle.wasi_calls.proofs.bodies.VolumeCalls.{steps_after}
 use Rattle.wasi_calls.proofs.bodies.AskingCalls.{ends_part, stops_as, passes_as, passes_on, refuses_on, walk_passes, walk_stops, works_on}

@@ -13,7 +13,7 @@ use Rattle.wasi_calls.specs.internal.Asking.{Stops}
 use Rattle.wasi_calls.specs.internal.paths.Walks.{entered}
 use Rattle.wasi_calls.specs.internal.paths.Removing.{found_at}
 use Rattle.wasi_calls.proofs.checks.Chains.{goes_on, stops}
-use Rattle.wasi_calls.proofs.descriptors.OpenEntries.{entered_row, entry_of}
+use Rattle.wasi_calls.proofs.OpenEntries.{entered_row, entry_of}
 use Rattle.wasi_calls.proofs.paths.Walks.{found_never}
 use Rattle.wasi_calls.proofs.bodies.AskingCalls.{passes_on, refuses_on, ends_part, passes_as, stops_as, walk_passes, walk_stops}
 use Rattle.wasi_calls.proofs.bodies.PlainCalls.{volume_rests}

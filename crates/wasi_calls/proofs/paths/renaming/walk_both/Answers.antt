@@ -13,7 +13,7 @@ use Rattle.wasi_calls.specs.paths.Rows.{path_at}
 use Rattle.wasi_calls.specs.internal.Asking.{Stops}
 use Rattle.wasi_calls.specs.internal.paths.Renaming.{rename_part, rename_entered}
 use Rattle.wasi_calls.proofs.checks.Chains.{goes_on, stops}
-use Rattle.wasi_calls.proofs.descriptors.OpenEntries.{renames_at}
+use Rattle.wasi_calls.proofs.OpenEntries.{renames_at}
 use Rattle.wasi_calls.proofs.checks.Passing.{walked_to}
 use Rattle.wasi_calls.proofs.bodies.VolumeCalls.{steps_after}
 use Rattle.wasi_calls.proofs.bodies.AskingCalls.{entry_still, ends_part, stops_as, stops_on, passes_as, passes_on, refuses_on, walk_passes, walk_stops, asked_after, works_as, works_on}

@@ -17,7 +17,7 @@ use Rattle.wasi_calls.specs.internal.Bodies.{state_of, errno_of}
 use Rattle.wasi_calls.specs.internal.checks.Buffers.{list_of, AreUsable}
 use Rattle.wasi_calls.specs.internal.files.Reading.{read_into}
 use Rattle.wasi_calls.proofs.checks.Chains.{goes_on, stops}
-use Rattle.wasi_calls.proofs.descriptors.OpenEntries.{file_of}
+use Rattle.wasi_calls.proofs.OpenEntries.{file_of}
 use Rattle.wasi_calls.proofs.bodies.VolumeCalls.{refused_first}
 use Rattle.wasi_calls.proofs.bodies.PlainCalls.{no_more, volume_rests}
 use Rattle.wasi_calls.proofs.descriptors.MovingCalls.{serves_roomy}

@@ -22,7 +22,7 @@ use Rattle.wasi_calls.specs.internal.checks.Buffers.{list_of, AreUsable}
 use Rattle.wasi_calls.specs.internal.streams.Inputs.{read_to}
 use Rattle.wasi_calls.proofs.checks.Chains.{goes_on, stops}
 use Rattle.wasi_calls.proofs.checks.Passing.{described}
-use Rattle.wasi_calls.proofs.descriptors.OpenEntries.{at_descriptor, file_at}
+use Rattle.wasi_calls.proofs.OpenEntries.{at_descriptor, file_at}
 use Rattle.wasi_calls.proofs.bodies.VolumeCalls.{refused_first}
 use Rattle.wasi_calls.proofs.bodies.PlainCalls.{no_more, volume_rests}
 use Rattle.wasi_calls.proofs.descriptors.MovingCalls.{serves_roomy}

@@ -24,9 +24,9 @@ use Rattle.wasi_calls.specs.Checks.{Checked, Done}
 use Rattle.wasi_calls.specs.Calls.{row, Calls, Answers, Answered, by_row, volume_fails, input_fails, output_fails, errors_fail}
 use Rattle.wasi_calls.specs.laws.Confined.{Tops, IsOutside, IsWithin, StandsWithin, end_of, IsConfined, named_by, Begins, Confines, IsHostOf, ConfinesHost}
 use Rattle.wasi_calls.proofs.checks.Chains.{Yields, known}
-use Rattle.wasi_calls.proofs.laws.HeldAlongRuns.{is_directory_kind, Holds, below_not_root, outside_above}
-use Rattle.wasi_calls.proofs.laws.ReachedEntries.{IsFound, found_from}
-use Rattle.wasi_calls.proofs.laws.RowsKeep.{row_keeps}
+use Rattle.wasi_calls.proofs.runs.HeldAlongRuns.{is_directory_kind, Holds, below_not_root, outside_above}
+use Rattle.wasi_calls.proofs.runs.ReachedEntries.{IsFound, found_from}
+use Rattle.wasi_calls.proofs.runs.RowsKeep.{row_keeps}
 
 -- ---- which entries are open can be decided
 

@@ -9,9 +9,9 @@ use Rattle.wasi_calls.specs.World.{World, places}
 use Rattle.wasi_calls.specs.Calls.{row, Answered}
 use Rattle.wasi_calls.specs.laws.Confined.{Tops, IsOutside}
 use Rattle.wasi_calls.specs.internal.Bodies.{AreThere}
-use Rattle.wasi_calls.proofs.laws.HeldAlongRuns.{Holds}
-use Rattle.wasi_calls.proofs.laws.Confinement.{answered_keeps}
-use Rattle.wasi_calls.proofs.laws.RowsKeep.{row_keeps}
+use Rattle.wasi_calls.proofs.runs.HeldAlongRuns.{Holds}
+use Rattle.wasi_calls.proofs.runs.Confinement.{answered_keeps}
+use Rattle.wasi_calls.proofs.runs.RowsKeep.{row_keeps}
 use Rattle.vol_tree.specs.Calls.{is_directory, directory_at}
 use Rattle.vol_tree.proofs.Trees.{directory_is}
 use Rattle.std.specs.Option.{option_map_or}

@@ -24,7 +24,7 @@ use Rattle.wasi_calls.specs.World.{World, places, held_open, is_of}
 use Rattle.wasi_calls.specs.Checks.{walk}
 use Rattle.wasi_calls.specs.laws.Confined.{Tops, IsOutside}
 use Rattle.vol_tree.proofs.Trees.{Childless, is_directory_at, directory_is, empty_childless, file_childless}
-use Rattle.wasi_calls.proofs.laws.HeldAlongRuns.{Holds, below_not_root, inside_below, keeps_rewritten, keeps_removed, keeps_moved}
+use Rattle.wasi_calls.proofs.runs.HeldAlongRuns.{Holds, below_not_root, inside_below, keeps_rewritten, keeps_removed, keeps_moved}
 use Rattle.wasi_calls.proofs.checks.Passing.{passes_on, not_held, walked_to}
 
 pub live_below : (T : Tree) (d s : ℕ) (e : TreeEntry) → entry T d ≡ Some e → (path : Path) → Leads T d path s → (f : TreeEntry) × (entry T s ≡ Some f)

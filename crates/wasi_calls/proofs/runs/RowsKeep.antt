@@ -29,9 +29,9 @@ use Rattle.wasi_calls.specs.Calls.{row, word, long}
 use Rattle.wasi_calls.specs.laws.Confined.{Tops, IsOutside}
 use Rattle.wasi_calls.proofs.checks.Chains.{Yields, after, guarded, yields, known, chosen, answered}
 use Rattle.vol_tree.proofs.Trees.{Childless, is_directory_at, empty_childless, file_childless}
-use Rattle.wasi_calls.proofs.laws.HeldAlongRuns.{is_directory_kind, IsGood, Holds, keeps_at, keeps_created}
+use Rattle.wasi_calls.proofs.runs.HeldAlongRuns.{is_directory_kind, IsGood, Holds, keeps_at, keeps_created}
 use Rattle.wasi_calls.proofs.checks.Passing.{same_Ok, ok_or_some, tree_called, passes_on, not_true, not_false, described, entered, opened_is, is_file_kind, same_entry, least_closed_below, found_is}
-use Rattle.wasi_calls.proofs.laws.ReachedEntries.{W, IsFound, IsReached, IsBelow, reaches, is_below, not_its_own, removes, writes, resizes, renames_free, renames_onto, fits}
+use Rattle.wasi_calls.proofs.runs.ReachedEntries.{W, IsFound, IsReached, IsBelow, reaches, is_below, not_its_own, removes, writes, resizes, renames_free, renames_onto, fits}
 
 module _ (T0 : Tree) (t0 : IsTree T0) (tops : Tops) (directories : (top : ℕ) → tops top → IsDirectory T0 top) where
   abbrev D : Done → Type 0
