@@ -3,11 +3,11 @@ use Rattle.std.proofs.Common.{ℕ, List, [], ◌++◌, Option, Result, Ok, Err, 
 use Rattle.std.specs.Io.KnownBytes.{Appends, Keeps}
 use Rattle.std.proofs.KnownBytes.{Appends-trans, Appends-kept}
 use Rattle.volume_tasks.specs.Streams.{AppendsPart}
-use Rattle.volume_tasks.proofs.Handed.{appends_kept}
+use Rattle.volume_archive.proofs.Handed.{part_none}
 use Rattle.sandbox_command.specs.Streams.{AppendsSome}
 
 pub no_line : (a b : Option (List ℕ)) → Keeps a b → AppendsSome a b
-no_line a b kept = ([], appends_kept a b kept)
+no_line a b kept = let p = part_none a b [] kept in (p.part, p.appended)
 
 pub line_printed : {E : Type 0} (a b : Option (List ℕ)) (line : List ℕ) (r : Result (Unit {0}) E) → OnOk r (Appends a b line) → OnErr r (AppendsPart a b line) → AppendsSome a b
 line_printed a b line (Ok x) all part = (line, all)
