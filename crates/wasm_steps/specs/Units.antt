@@ -7,12 +7,7 @@ use Rattle.wasm_steps.specs.Steps.{CallsOf, Event, Step}
 abbrev pub TakesItsUnit : Configuration → Configuration → Type 0
 TakesItsUnit c d = (NextIsPlain (code_of c) × (used_by d ≡ suc (used_by c))) ⊎ ((NextIsPlain (code_of c) → ⊥) × (used_by d ≡ used_by c))
 
-module _ (H : Type 0) where
-  -- a host that may answer each call in any way: each step with another host of these states is a step with it
-  abbrev pub AnyCalls : CallsOf H
-  AnyCalls h memory used call arguments h' memory' answer = Unit {0}
-
-  -- each step takes its unit, whatever the host's calls mean
-  abbrev pub StepsTakeTheirUnits : Type 0
-  StepsTakeTheirUnits = (i : Instance) (n : ℕ) (h h' : H) (c d : Configuration) (ev : Event)
-      → Step H AnyCalls i n h c ev h' d → TakesItsUnit c d
+-- Each step takes its unit, whatever the host's calls mean.
+abbrev pub StepsTakeTheirUnits : (H : Type 0) → CallsOf H → Type 0
+StepsTakeTheirUnits H Calls = (i : Instance) (n : ℕ) (h h' : H) (c d : Configuration) (ev : Event)
+    → Step H Calls i n h c ev h' d → TakesItsUnit c d
