@@ -12,7 +12,7 @@ ghost use Rattle.wasi_calls.specs.internal.Bodies.{refusals_of};
 
 use crate::errno::{ISDIR, NOTCAPABLE, NOTDIR, SPIPE};
 use bitflags::Flags;
-use wasi_fd::{Descriptor, Descriptors, EntryKind, Opened, Rights};
+use wasi_fd::{Descriptor, Descriptors, EntryKind, Fd, Opened, Rights};
 use wasm_store::{Errno, Memory};
 
 /// The kinds of descriptors that a call takes.
@@ -63,7 +63,7 @@ pub(crate) fn write_bytes(memory: &mut Memory, at: u32, bytes: &[u8])
 }
 
 /// What an open number stands for.
-pub(crate) fn described<'t>(descriptors: &Descriptors<'t>, fd: u32) -> Result<Descriptor<'t>, Errno>
+pub(crate) fn described<'t>(descriptors: &Descriptors<'t>, fd: Fd) -> Result<Descriptor<'t>, Errno>
     ensures { (w : World) → w.table ≡ table_of descriptors.now → MatchResult result
         (λ d. get w fd ≡ Ok d) (λ e. get w fd ≡ Err e.0) }
 {
@@ -119,7 +119,7 @@ pub(crate) fn check_rights(descriptor: &Descriptor<'_>, rights: Rights) -> Resul
 #[tactic(auto, using(crate::proofs::checks::Chains::goes_on, crate::proofs::checks::Chains::stops))]
 pub(crate) fn allowed<'t>(
     descriptors: &Descriptors<'t>,
-    fd: u32,
+    fd: Fd,
     takes: Takes,
     rights: Rights,
 ) -> Result<Descriptor<'t>, Errno>
@@ -150,7 +150,7 @@ pub(crate) fn opened_of<'t>(descriptor: Descriptor<'t>) -> Result<Opened<'t>, Er
 #[tactic(auto, using(crate::proofs::checks::Chains::goes_on, crate::proofs::checks::Chains::stops))]
 pub(crate) fn entry_at<'t>(
     descriptors: &Descriptors<'t>,
-    fd: u32,
+    fd: Fd,
     takes: Takes,
     rights: Rights,
 ) -> Result<Opened<'t>, Errno>

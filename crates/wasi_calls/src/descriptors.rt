@@ -17,12 +17,12 @@ use crate::checks::{check_range, check_that, described, write_bytes};
 use crate::errno::NAMETOOLONG;
 use crate::numbers::{le64, low32};
 use bitflags::Flags;
-use wasi_fd::{Descriptor, Descriptors, EntryKind};
+use wasi_fd::{Descriptor, Descriptors, EntryKind, Fd};
 use wasm_store::{Errno, Memory};
 
 /// `fd_close(fd)`: any descriptor. Nothing is committed.
 #[tactic(auto, using(crate::proofs::checks::Chains::goes_on, crate::proofs::checks::Chains::stops, crate::proofs::bodies::PlainCalls::no_more, crate::proofs::bodies::PlainCalls::no_more_closed))]
-pub(crate) fn fd_close(descriptors: &mut Descriptors<'_>, fd: u32) -> Result<(), Errno>
+pub(crate) fn fd_close(descriptors: &mut Descriptors<'_>, fd: Fd) -> Result<(), Errno>
     ensures entries { NoMoreEntries (table_of descriptors.old) (table_of descriptors.new) }
     ensures answers { (w : World) (m : _) → w.table ≡ table_of descriptors.old → Answers (close w fd) w m (record w { table = table_of descriptors.new }) m (errno_of result) }
 {
@@ -73,7 +73,7 @@ fn fdstat(descriptor: &Descriptor<'_>) -> [u8; 24]
 pub(crate) fn fd_fdstat_get(
     descriptors: &Descriptors<'_>,
     memory: &mut Memory,
-    fd: u32,
+    fd: Fd,
     result_at: u32,
 ) -> Result<(), Errno>
     ensures { (w : World) → w.table ≡ table_of descriptors.now → Answers (stat w memory.old fd result_at) w memory.old w memory.new (errno_of result) }
@@ -112,7 +112,7 @@ fn prestat(len: usize) -> [u8; 8]
 pub(crate) fn fd_prestat_get(
     descriptors: &Descriptors<'_>,
     memory: &mut Memory,
-    fd: u32,
+    fd: Fd,
     result_at: u32,
 ) -> Result<(), Errno>
     ensures { (w : World) → w.table ≡ table_of descriptors.now → Answers (prestat w memory.old fd result_at) w memory.old w memory.new (errno_of result) }
@@ -129,7 +129,7 @@ pub(crate) fn fd_prestat_get(
 pub(crate) fn fd_prestat_dir_name(
     descriptors: &Descriptors<'_>,
     memory: &mut Memory,
-    fd: u32,
+    fd: Fd,
     path: u32,
     len: u32,
 ) -> Result<(), Errno>

@@ -20,14 +20,14 @@ use crate::checks::{Takes, entry_at};
 use crate::errno::refused;
 use vol_sector::Device;
 use vol_tree::Volume;
-use wasi_fd::{Descriptors, Rights};
+use wasi_fd::{Descriptors, Fd, Rights};
 use wasm_store::Errno;
 
 /// `fd_sync(fd)` and `fd_datasync(fd)`: a sync of the whole volume.
 pub(crate) fn sync<D: Device>(
     volume: &mut Volume<D>,
     descriptors: &Descriptors<'_>,
-    fd: u32,
+    fd: Fd,
     right: Rights,
 ) -> Result<(), Errno>
     ensures step { VolumeStep D.honest D.disk D.size D.failures volume.old volume.new }
@@ -51,7 +51,7 @@ pub(crate) fn sync<D: Device>(
 pub(crate) fn set_size<D: Device>(
     volume: &mut Volume<D>,
     descriptors: &Descriptors<'_>,
-    fd: u32,
+    fd: Fd,
     size: u64,
 ) -> Result<(), Errno>
     requires { KnowsEntries D.honest volume.old (table_of descriptors.now) }

@@ -24,7 +24,7 @@ use crate::errno::{EXIST, NOENT, refused};
 use path_walk::{Path, Reached, walk};
 use vol_sector::Device;
 use vol_tree::Volume;
-use wasi_fd::{Descriptors, Opened, Rights};
+use wasi_fd::{Descriptors, Fd, Opened, Rights};
 use wasm_store::{Errno, Memory};
 
 /// What a path of the guest reaches from a directory.
@@ -54,7 +54,7 @@ pub(crate) fn reach<'p, D: Device>(
 pub(crate) fn enter<'t, 'm>(
     descriptors: &Descriptors<'t>,
     memory: &'m Memory,
-    fd: u32,
+    fd: Fd,
     path: u32,
     len: u32,
     rights: Rights,
@@ -77,7 +77,7 @@ fn stat_path<D: Device>(
     volume: &mut Volume<D>,
     descriptors: &Descriptors<'_>,
     memory: &Memory,
-    fd: u32,
+    fd: Fd,
     path: u32,
     len: u32,
     result_at: u32,
@@ -118,7 +118,7 @@ pub(crate) fn path_filestat_get<D: Device>(
     volume: &mut Volume<D>,
     descriptors: &Descriptors<'_>,
     memory: &mut Memory,
-    fd: u32,
+    fd: Fd,
     path: u32,
     len: u32,
     result_at: u32,
@@ -143,7 +143,7 @@ pub(crate) fn path_create_directory<D: Device>(
     volume: &mut Volume<D>,
     descriptors: &Descriptors<'_>,
     memory: &Memory,
-    fd: u32,
+    fd: Fd,
     path: u32,
     len: u32,
 ) -> Result<(), Errno>

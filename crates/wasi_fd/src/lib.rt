@@ -3,10 +3,12 @@
 
 mod descriptor;
 mod fault;
+mod fd;
 mod rights;
 mod table;
 
 pub use descriptor::{Descriptor, EntryKind, Opened, Stream};
 pub use fault::DescriptorFault;
+pub use fd::Fd;
 pub use rights::Rights;
 pub use table::{Descriptors, PLACES};

@@ -4,7 +4,7 @@ ghost use Rattle.std.specs.Prelude.{◌≡◌, ◌≢◌, ◌≤◌, ◌<◌, �
 ghost use Rattle.std.specs.Prelude.{Some, None, length, vec_len, slice_index_or, if◌then◌else◌};
 
 use crate::descriptor::is_of;
-use crate::{Descriptor, DescriptorFault, Stream};
+use crate::{Descriptor, DescriptorFault, Fd, Stream};
 use std::alloc::{AllocError, Global};
 
 /// How many descriptors can be open.
@@ -41,12 +41,12 @@ impl<'g> Descriptors<'g> {
     }
 
     /// What the number stands for. It is refused as `NotOpen`.
-    pub fn get(&self, fd: u32) -> Result<Descriptor<'g>, DescriptorFault>
+    pub fn get(&self, fd: Fd) -> Result<Descriptor<'g>, DescriptorFault>
         ensures open { IfOk result (λ d. table_of self.now fd ≡ Some d) }
         ensures closed { IfErr result (λ fault. (fault ≡ DescriptorFault.NotOpen)
             × (table_of self.now fd ≡ None)) }
     {
-        match self.places.get(fd as usize) {
+        match self.places.get(fd.number() as usize) {
             Some(Some(descriptor)) => Ok(*descriptor),
             _ => Err(DescriptorFault::NotOpen),
         }
@@ -54,7 +54,7 @@ impl<'g> Descriptors<'g> {
 
     /// Opens the descriptor under the least number that stands for nothing. It is refused as `Full`
     /// where all 256 numbers are open.
-    pub fn open(&mut self, descriptor: Descriptor<'g>) -> Result<u32, DescriptorFault>
+    pub fn open(&mut self, descriptor: Descriptor<'g>) -> Result<Fd, DescriptorFault>
         ensures least { IfOk result (λ n. (n < 256) × (table_of self.old n ≡ None)
             × ((k : ℕ) → k < n → table_of self.old k ≢ None)) }
         ensures opened { IfOk result (λ n. (k : ℕ)
@@ -66,14 +66,14 @@ impl<'g> Descriptors<'g> {
         match self.places.iter().position(|place| place.is_none()) {
             Some(n) => {
                 self.places[n] = Some(descriptor);
-                Ok(n as u32)
+                Ok(Fd::new(n as u32))
             }
             None => Err(DescriptorFault::Full),
         }
     }
 
     /// Lets an open number stand for another descriptor. It is refused as `NotOpen`.
-    pub fn replace(&mut self, fd: u32, descriptor: Descriptor<'g>) -> Result<(), DescriptorFault>
+    pub fn replace(&mut self, fd: Fd, descriptor: Descriptor<'g>) -> Result<(), DescriptorFault>
         ensures replaced { OnOk result ((k : ℕ)
             → table_of self.new k ≡ with_at fd (Some descriptor.entry) (table_of self.old) k) }
         ensures open { OnOk result (table_of self.old fd ≢ None) }
@@ -82,12 +82,12 @@ impl<'g> Descriptors<'g> {
         ensures refused { OnErr result (self.new ≡ self.old) }
     {
         self.get(fd)?;
-        self.places[fd as usize] = Some(descriptor);
+        self.places[fd.number() as usize] = Some(descriptor);
         Ok(())
     }
 
     /// Closes the number. It is refused as `NotOpen`.
-    pub fn close(&mut self, fd: u32) -> Result<(), DescriptorFault>
+    pub fn close(&mut self, fd: Fd) -> Result<(), DescriptorFault>
         ensures closed { OnOk result ((k : ℕ)
             → table_of self.new k ≡ with_at fd None (table_of self.old) k) }
         ensures open { OnOk result (table_of self.old fd ≢ None) }
@@ -96,7 +96,7 @@ impl<'g> Descriptors<'g> {
         ensures refused { OnErr result (self.new ≡ self.old) }
     {
         self.get(fd)?;
-        self.places[fd as usize] = None;
+        self.places[fd.number() as usize] = None;
         Ok(())
     }
 

@@ -12,8 +12,10 @@ use Rattle.byteorder.specs.Endian.{little_number}
 use Rattle.wasm_store.specs.Bytes.{bytes_at}
 use Rattle.vol_body.specs.Source as source
 use Rattle.vol_body.specs.declared.source.Span.{Span}
+use Rattle.vol_body.specs.declared.writing.TheConstants.{PIECE}
 use Rattle.wasi_calls.specs.Checks.{Checked, Buffer, buffers, and_then, guard, range, buffers_in, total, is_inside, gathered}
 use Rattle.wasi_calls.specs.internal.checks.Buffers.{pair_of, list_of}
+use Rattle.wasi_calls.specs.declared.checks.buffers.TheConstants.{MOST_BUFFERS}
 
 abbrev pub buffer_at : List ℕ → Buffer
 buffer_at bytes = (little_number 4 bytes, little_number 4 (drop 4 bytes))
@@ -67,13 +69,13 @@ gathered_push memory (x ∷ bs) b =
 
 -- ---- the row
 
-pub found_row : (m : List ℕ) (iovs count result : ℕ) (all : List Buffer) → guard (nat_le count 1024) 28 ≡ Ok tt → range m iovs (8 * count) ≡ Ok tt
+pub found_row : (m : List ℕ) (iovs count result : ℕ) (all : List Buffer) → guard (nat_le count MOST_BUFFERS) 28 ≡ Ok tt → range m iovs (8 * count) ≡ Ok tt
     → all ≡ buffers_in count (bytes_at m iovs (8 * count)) → usable m iovs count result ≡ and_then (fit m all) (λ bs. and_then (range m result 4) (λ _. Ok bs))
 found_row m iovs count result all few inside is =
     let read : List Buffer = buffers_in count (bytes_at m iovs (8 * count)) in
     let rest : List Buffer → Checked (List Buffer) = λ bs. and_then (range m result 4) (λ _. Ok bs) in
     let passed : buffers m iovs count ≡ fit m read =
-    goes_on (guard (nat_le count 1024) 28) (λ _. and_then (range m iovs (8 * count)) (λ _. fit m read)) tt few ∙ goes_on (range m iovs (8 * count)) (λ _. fit m read) tt inside in
+    goes_on (guard (nat_le count MOST_BUFFERS) 28) (λ _. and_then (range m iovs (8 * count)) (λ _. fit m read)) tt few ∙ goes_on (range m iovs (8 * count)) (λ _. fit m read) tt inside in
     ap (λ (r : Checked (List Buffer)). and_then r rest) passed ∙ ap (λ (all : List Buffer). and_then (fit m all) rest) (sym is)
 
 -- ---- from one buffer on
@@ -110,14 +112,14 @@ source_inside memory (b ∷ bs) h =
     (leb-true _ _ both.0, source_inside memory bs both.1)
 
 -- the bytes that are written at once
-pub source_taken : (memory : List ℕ) (bs : List Span) (len : ℕ) → list_all (is_inside memory) (list_of bs) ≡ true → len ≡ min (total (list_of bs)) 16384
-    → (len ≤ length (source.gathered memory bs)) × (take len (source.gathered memory bs) ≡ take 16384 (gathered memory (list_of bs))) × (len ≡ length (take 16384 (gathered memory (list_of bs))))
+pub source_taken : (memory : List ℕ) (bs : List Span) (len : ℕ) → list_all (is_inside memory) (list_of bs) ≡ true → len ≡ min (total (list_of bs)) PIECE
+    → (len ≤ length (source.gathered memory bs)) × (take len (source.gathered memory bs) ≡ take PIECE (gathered memory (list_of bs))) × (len ≡ length (take PIECE (gathered memory (list_of bs))))
 source_taken memory bs len inside is =
     let all : List ℕ = gathered memory (list_of bs) in
     let long : length all ≡ total (list_of bs) = gathered_length memory (list_of bs) inside in
     let same : length (source.gathered memory bs) ≡ length all = ap length (source_bytes memory bs) in
-    let least : len ≡ min 16384 (length all) = omega (arith, is, long) in (
+    let least : len ≡ min PIECE (length all) = omega (arith, is, long) in (
       omega (arith, same, least),
-      (λ i. take (least i) (source_bytes memory bs i)) ∙ take_min 16384 all,
-      least ∙ sym (length-take 16384 all),
+      (λ i. take (least i) (source_bytes memory bs i)) ∙ take_min PIECE all,
+      least ∙ sym (length-take PIECE all),
     )

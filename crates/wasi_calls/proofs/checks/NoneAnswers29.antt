@@ -22,6 +22,7 @@ use Rattle.wasi_calls.specs.internal.paths.Renaming.{rename_allowed, rename_ente
 use Rattle.wasi_calls.specs.internal.descriptors.Positions.{seekable}
 use Rattle.wasi_calls.specs.internal.files.Listing.{listable}
 use Rattle.wasi_calls.specs.internal.checks.Buffers.{usable}
+use Rattle.wasi_calls.specs.declared.checks.buffers.TheConstants.{MOST_BUFFERS}
 use Rattle.wasi_calls.proofs.bodies.VolumeCalls.{never_after, never_guard}
 
 pub guards : (b : Bool) (e : ℕ) → nat_lt e 29 || nat_lt 29 e ≡ true → guard b e ≢ Err 29
@@ -128,7 +129,7 @@ listable_never m a w =
 buffers_never : (m : List ℕ) (iovs count : ℕ) → buffers m iovs count ≢ Err 29
 buffers_never m iovs count =
     let all = buffers_in count (bytes_at m iovs (8 * count)) in
-    never_after (guard (nat_le count 1024) 28) _ (guards _ 28 refl)
+    never_after (guard (nat_le count MOST_BUFFERS) 28) _ (guards _ 28 refl)
     (λ _ _. never_after (range m iovs (8 * count)) _ (range_never m iovs (8 * count))
     (λ _ _. never_after (guard (nat_lt (total all) (2 ^ 32)) 28) _ (guards _ 28 refl)
     (λ _ _. never_after (guard (list_all (is_inside m) all) 21) _ (guards _ 21 refl) (λ _ _. ends_never all))))

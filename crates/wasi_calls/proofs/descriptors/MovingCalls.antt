@@ -14,6 +14,8 @@ use Rattle.wasi_calls.specs.host.Worlds.{HostState, HasFailed, StreamsMove, Stre
 use Rattle.wasi_calls.specs.internal.Bodies.{NoMoreEntries, state_of, with_volume, with_table, IsSetUp, Serves}
 use Rattle.std.specs.Io.KnownBytes.{IsAtEnd}
 use Rattle.wasi_calls.specs.host.Settings.{settings_fit}
+use Rattle.wasi_calls.specs.declared.checks.buffers.TheConstants.{MOST_BUFFERS}
+use Rattle.wasi_calls.specs.declared.streams.inputs.TheConstants.{INPUT_PIECE}
 use Rattle.wasi_calls.proofs.bodies.PlainCalls.{nothing, same_after, streams_rest, settings_rest}
 
 module _ {D R W1 W2 : Type 0} (honest : D → Type 0) (disk : D → Disk) (sectors_on failures : D → ℕ)
@@ -58,7 +60,7 @@ module _ {D R W1 W2 : Type 0} (honest : D → Type 0) (disk : D → Disk) (secto
   -- A call that changes the volume and positions, and leaves what it likes in the room for its bytes.
   pub serves_roomy : (c : HostCall) (used : ℕ) (args : List ℕ) (old new : Inner D R W1 W2) (m m' : List ℕ) (e : ℕ)
       → (e ≡ 29 → HasFailed c (state_of new))
-      → IsSetUp remaining old → 1024 ≤ vec_capacity new.buffers → 16384 ≤ vec_capacity new.piece
+      → IsSetUp remaining old → MOST_BUFFERS ≤ vec_capacity new.buffers → INPUT_PIECE ≤ vec_capacity new.piece
       → state_of new ≡ state_of (record old { volume = new.volume; descriptors = new.descriptors })
       → VolumeStep honest disk sectors_on failures old.volume new.volume → NoMoreEntries (table_of old.descriptors) (table_of new.descriptors)
       → ((IsTrue (reaches_volume c (table_of old.descriptors) args) → honest old.volume.device) → (b : StreamBytes)

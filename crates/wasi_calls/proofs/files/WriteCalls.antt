@@ -17,6 +17,7 @@ use Rattle.std.proofs.lemmas.Bool.{ltb-false}
 use Rattle.vol_tree.specs.Space.{Geometry}
 use Rattle.vol_body.specs.Bytes.{written_bytes}
 use Rattle.vol_body.proofs.Written.{length-written}
+use Rattle.vol_body.specs.declared.writing.TheConstants.{PIECE}
 use Rattle.vol_tree.specs.Calls.{with_unit, written, bytes_at}
 use Rattle.wasi_calls.specs.World.{World, volume_gone, with_descriptor, moved_to}
 use Rattle.wasi_calls.specs.Checks.{Checked, Done, and_then, put, tree_call, numbered, with_result}
@@ -77,7 +78,7 @@ leaving_never r k w alive never is =
     never_after (tree_call w (r w)) (λ T. Ok (k w T)) (λ h. numbered_io (r w) never (sym (tree_called_alive w (r w) alive) ∙ h)) (λ T _ h. cc) is
 
 abbrev pub part_of : List ℕ → List ℕ
-part_of bytes = take 16384 bytes
+part_of bytes = take PIECE bytes
 
 abbrev pub tree_on : Opened' → List ℕ → World → Result Tree Errno
 tree_on o bytes v = written v.volume v.tree o.serial o.position (part_of bytes)

@@ -23,12 +23,13 @@ use Rattle.wasi_calls.specs.World.{World, with_descriptor, moved_to, with_output
 use Rattle.wasi_calls.specs.Checks.{Done, walk, found, no_directories, only_files, sized, of_kind}
 use Rattle.wasi_calls.specs.supplies.Rows.{sizes_get, texts_get, clock_res_get, clock_time_get, random_get}
 use Rattle.wasi_calls.specs.descriptors.Rows.{fd_close, fd_fdstat_get, fd_filestat_get, fd_prestat_get, fd_prestat_dir_name, fd_seek, fd_tell}
-use Rattle.wasi_calls.specs.files.Rows.{fd_read, fd_pread, fd_write, fd_pwrite, fd_filestat_set_size, fd_sync, fd_readdir, read_from, write_to, stream_write, file_write, piece}
+use Rattle.wasi_calls.specs.files.Rows.{fd_read, fd_pread, fd_write, fd_pwrite, fd_filestat_set_size, fd_sync, fd_readdir, read_from, write_to, stream_write, file_write}
 use Rattle.wasi_calls.specs.paths.Rows.{path_create_directory, path_filestat_get, path_open, path_remove_directory, path_rename, path_unlink_file, missing, open_entry, rename_to, is_set, trunc}
 use Rattle.wasi_calls.specs.Calls.{row, word, long}
 use Rattle.wasi_calls.specs.laws.Confined.{Tops, IsOutside}
 use Rattle.wasi_calls.proofs.checks.Chains.{Yields, after, guarded, yields, known, chosen, answered}
 use Rattle.vol_tree.proofs.Trees.{Childless, is_directory_at, empty_childless, file_childless}
+use Rattle.vol_body.specs.declared.writing.TheConstants.{PIECE}
 use Rattle.wasi_calls.proofs.runs.HeldAlongRuns.{is_directory_kind, IsGood, Holds, keeps_at, keeps_created}
 use Rattle.wasi_calls.proofs.checks.Passing.{same_Ok, ok_or_some, tree_called, passes_on, not_true, not_false, described, entered, opened_is, is_file_kind, same_entry, least_closed_below, found_is}
 use Rattle.wasi_calls.proofs.runs.ReachedEntries.{W, IsFound, IsReached, IsBelow, reaches, is_below, not_its_own, removes, writes, resizes, renames_free, renames_onto, fits}
@@ -119,7 +120,7 @@ module _ (T0 : Tree) (t0 : IsTree T0) (tops : Tops) (directories : (top : ℕ) �
       → Yields (Kept w) (file_write w o at bytes)
   file_writes w fd o at bytes h g file = after _ _ _ (λ U is.
       let f = file_of w fd o h g file in
-      yields _ _ (writes T0 t0 tops directories w o.serial f.0 at (take piece bytes) U h f.3 f.1 f.2 (tree_called w _ U is), refl))
+      yields _ _ (writes T0 t0 tops directories w o.serial f.0 at (take PIECE bytes) U h f.3 f.1 f.2 (tree_called w _ U is), refl))
 
   stream_writes : (w : World) (s : StreamValue) (bytes : List ℕ) → H w → Yields (λ (r : World × ℕ). H r.0) (stream_write w (Stream s) bytes)
   stream_writes w s bytes h = guarded _ _ _ _ (λ p. yields _ _ (output_holds w s bytes h))

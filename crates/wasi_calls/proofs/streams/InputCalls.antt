@@ -29,6 +29,8 @@ use Rattle.wasi_calls.proofs.bodies.PlainCalls.{nothing, same_after, from_in, af
 use Rattle.wasi_calls.proofs.bodies.VolumeCalls.{is_no_err}
 use Rattle.wasi_calls.proofs.checks.CausesOf29.{no_29_at_0}
 use Rattle.wasi_calls.specs.declared.streams.Input.{Input as InputValue}
+use Rattle.wasi_calls.specs.declared.checks.buffers.TheConstants.{MOST_BUFFERS}
+use Rattle.wasi_calls.specs.declared.streams.inputs.TheConstants.{INPUT_PIECE}
 use Rattle.wasi_calls.proofs.streams.ReaderBytes.{ended_or, none_long}
 
 -- ---- the bytes before a read and after it
@@ -90,7 +92,7 @@ unread_ended w is = ap (λ (b : Bool). cond b [] w.input) is
 module _ {D R W1 W2 : Type 0} (honest : D → Type 0) (disk : D → Disk) (sectors_on failures : D → ℕ)
     (remaining : R → Option (List ℕ)) (out_contents : W1 → Option (List ℕ)) (err_contents : W2 → Option (List ℕ))
     (c : HostCall) (used : ℕ) (args : List ℕ) (old new : Inner D R W1 W2) (m m' : List ℕ) (fd : ℕ) (bs : List Buffer) (result : ℕ)
-    (h : IsSetUp remaining old) (buffers : 1024 ≤ vec_capacity new.buffers) (piece : 16384 ≤ vec_capacity new.piece)
+    (h : IsSetUp remaining old) (buffers : MOST_BUFFERS ≤ vec_capacity new.buffers) (piece : INPUT_PIECE ≤ vec_capacity new.piece)
     (end : new.input.ended ≡ true → IsAtEnd (remaining new.input.reader))
     (state : state_of new ≡ state_of (record old { input = new.input }))
     (same : (v : World) → v.table ≡ table_of old.descriptors → row c v m used args ≡ read_to v fd (Stream Input) bs result)

@@ -28,6 +28,8 @@ use Rattle.wasi_calls.proofs.bodies.PlainCalls.{nothing, same_after, to_out, to_
 use Rattle.wasi_calls.proofs.bodies.VolumeCalls.{is_no_err}
 use Rattle.wasi_calls.proofs.checks.CausesOf29.{no_29_at_0}
 use Rattle.wasi_calls.specs.declared.streams.Output.{Output as OutputValue}
+use Rattle.wasi_calls.specs.declared.checks.buffers.TheConstants.{MOST_BUFFERS}
+use Rattle.wasi_calls.specs.declared.streams.inputs.TheConstants.{INPUT_PIECE}
 
 either : (b : Bool) → (b ≡ true) ⊎ (b ≡ false)
 either true = inl refl
@@ -38,7 +40,7 @@ either false = inr refl
 module _ {D R W1 W2 : Type 0} (honest : D → Type 0) (disk : D → Disk) (sectors_on failures : D → ℕ)
     (remaining : R → Option (List ℕ)) (out_contents : W1 → Option (List ℕ)) (err_contents : W2 → Option (List ℕ))
     (c : HostCall) (used : ℕ) (args : List ℕ) (old new : Inner D R W1 W2) (m m' : List ℕ) (fd : ℕ) (all : List ℕ) (result : ℕ)
-    (h : IsSetUp remaining old) (buffers : 1024 ≤ vec_capacity new.buffers) (piece : 16384 ≤ vec_capacity new.piece)
+    (h : IsSetUp remaining old) (buffers : MOST_BUFFERS ≤ vec_capacity new.buffers) (piece : INPUT_PIECE ≤ vec_capacity new.piece)
     (state : state_of new ≡ state_of (record old { out = new.out }))
     (same : (v : World) → v.table ≡ table_of old.descriptors → row c v m used args ≡ written_to v fd (Stream Output) all result)
     (cause : new.out.failed ≡ true → HasFailed c (state_of new)) where
@@ -159,7 +161,7 @@ module _ {D R W1 W2 : Type 0} (honest : D → Type 0) (disk : D → Disk) (secto
 module _ {D R W1 W2 : Type 0} (honest : D → Type 0) (disk : D → Disk) (sectors_on failures : D → ℕ)
     (remaining : R → Option (List ℕ)) (out_contents : W1 → Option (List ℕ)) (err_contents : W2 → Option (List ℕ))
     (c : HostCall) (used : ℕ) (args : List ℕ) (old new : Inner D R W1 W2) (m m' : List ℕ) (fd : ℕ) (all : List ℕ) (result : ℕ)
-    (h : IsSetUp remaining old) (buffers : 1024 ≤ vec_capacity new.buffers) (piece : 16384 ≤ vec_capacity new.piece)
+    (h : IsSetUp remaining old) (buffers : MOST_BUFFERS ≤ vec_capacity new.buffers) (piece : INPUT_PIECE ≤ vec_capacity new.piece)
     (state : state_of new ≡ state_of (record old { err = new.err }))
     (same : (v : World) → v.table ≡ table_of old.descriptors → row c v m used args ≡ written_to v fd (Stream Error) all result)
     (cause : new.err.failed ≡ true → HasFailed c (state_of new)) where

@@ -22,6 +22,8 @@ use Rattle.wasi_calls.specs.host.Settings.{settings_fit}
 use Rattle.wasi_calls.specs.World.{World}
 use Rattle.wasi_calls.specs.Calls.{row, reaches_volume, Answered}
 use Rattle.wasi_calls.specs.host.Worlds.{HostState, StreamBytes, world_of, HasFailed, StreamsMove, MayFollow, before_moving, after_moving, VolumeStep}
+use Rattle.wasi_calls.specs.declared.checks.buffers.TheConstants.{MOST_BUFFERS}
+use Rattle.wasi_calls.specs.declared.streams.inputs.TheConstants.{INPUT_PIECE}
 
 -- `filetype`
 abbrev pub type_of_entry : Kind → ℕ
@@ -59,8 +61,8 @@ module _ {D R W1 W2 : Type 0} where
   -- tells, and each open entry has a number of the volume.
   pub record IsSetUp (remaining : R → Option (List ℕ)) (p : Inner D R W1 W2) : Type 0 where
     pub settings : settings_fit p.settings ≡ true
-    pub buffers : 1024 ≤ vec_capacity p.buffers
-    pub piece : 16384 ≤ vec_capacity p.piece
+    pub buffers : MOST_BUFFERS ≤ vec_capacity p.buffers
+    pub piece : INPUT_PIECE ≤ vec_capacity p.piece
     pub ended : p.input.ended ≡ true → IsAtEnd (remaining p.input.reader)
     pub serials : (fd : ℕ) (o : OpenedEntry) → table_of p.descriptors fd ≡ Some (Entry o) → IsSerial p.volume.numbers o.serial
 

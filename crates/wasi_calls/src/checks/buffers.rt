@@ -7,14 +7,15 @@ ghost use Rattle.wasm_store.specs.Bytes.{bytes_at};
 ghost use Rattle.wasi_calls.specs.Checks.{buffers_in, total, is_inside};
 ghost use Rattle.wasi_calls.specs.internal.checks.Buffers.{pair_of, list_of, fit};
 
-use crate::arguments::word;
+use crate::arguments::{descriptor, word};
 use crate::checks::{check_range, check_that};
 use byteorder::{ByteOrder, LittleEndian};
 use vol_tree::Span;
+use wasi_fd::Fd;
 use wasm_store::{Errno, Memory};
 
 /// How many buffers a call can name.
-const MOST_BUFFERS: u32 = 1_024;
+pub(crate) const MOST_BUFFERS: usize = 1_024;
 
 /// How many bytes of an array stand for a buffer.
 const ENTRY_BYTES: u32 = 8;
@@ -46,7 +47,7 @@ fn read_buffers(room: &mut Vec<Span>, array: &[u8], count: usize)
 
 /// How many bytes all of them have.
 pub(crate) fn total_len(buffers: &[Span]) -> u64
-    requires { length buffers.now ≤ 1024 }
+    requires { length buffers.now ≤ MOST_BUFFERS }
     ensures { result ≡ total (list_of buffers.now) }
 {
     let mut total = 0;
@@ -72,8 +73,8 @@ fn are_inside(buffers: &[Span], memory: &Memory) -> bool
 
 /// Reads an array of buffers of this length and at this address.
 fn read_array(room: &mut Vec<Span>, memory: &Memory, iovs: u32, count: u32)
-    requires place { 1024 ≤ vec_capacity room.old }
-    requires few { count ≤ 1024 }
+    requires place { MOST_BUFFERS ≤ vec_capacity room.old }
+    requires few { count ≤ MOST_BUFFERS }
     requires inside { iovs + 8 * count ≤ length memory.now }
     ensures read { list_of room.new.items ≡ buffers_in count (bytes_at memory.now iovs (8 * count)) }
     ensures len { vec_len room.new ≡ count }
@@ -88,7 +89,7 @@ fn read_array(room: &mut Vec<Span>, memory: &Memory, iovs: u32, count: u32)
 /// Whether the buffers have few enough bytes and lie in memory.
 #[tactic(auto, using(crate::proofs::checks::Chains::goes_on, crate::proofs::checks::Chains::stops))]
 fn check_buffers(buffers: &[Span], memory: &Memory) -> Result<(), Errno>
-    requires { length buffers.now ≤ 1024 }
+    requires { length buffers.now ≤ MOST_BUFFERS }
     ensures fit { MatchResult result (λ _. fit memory.now (list_of buffers.now) ≡ Ok (list_of buffers.now))
         (λ e. fit memory.now (list_of buffers.now) ≡ Err e.0) }
     ensures small { OnOk result (total (list_of buffers.now) < 2 ^ 32) }
@@ -104,7 +105,7 @@ fn check_buffers(buffers: &[Span], memory: &Memory) -> Result<(), Errno>
 /// What a call on buffers is asked: a descriptor, an array of this many buffers, and where its result is to stand.
 #[derive(Clone, Copy)]
 pub(crate) struct Request {
-    pub fd: u32,
+    pub fd: Fd,
     pub iovs: u32,
     pub count: u32,
     pub result_at: u32,
@@ -122,7 +123,7 @@ impl Request {
         ensures result_at { result.result_at ≡ word arguments.now result_index }
     {
         Request {
-            fd: word(arguments, 0),
+            fd: descriptor(arguments, 0),
             iovs: word(arguments, 1),
             count: word(arguments, 2),
             result_at: word(arguments, result_index),
@@ -133,15 +134,15 @@ impl Request {
     /// has the place for as many as a call can name.
     #[tactic(auto, using(crate::proofs::checks::Chains::goes_on, crate::proofs::checks::Chains::stops))]
     pub fn find_buffers(&self, room: &mut Vec<Span>, memory: &Memory) -> Result<(), Errno>
-        requires { 1024 ≤ vec_capacity room.old }
+        requires { MOST_BUFFERS ≤ vec_capacity room.old }
         ensures found { MatchResult result
             (λ _. usable memory.now self.now.iovs self.now.count self.now.result_at ≡ Ok (list_of room.new.items))
             (λ e. usable memory.now self.now.iovs self.now.count self.now.result_at ≡ Err e.0) }
         ensures usable { OnOk result (AreUsable memory.now (list_of room.new.items) self.now.result_at) }
-        ensures few { OnOk result (vec_len room.new ≤ 1024) }
-        ensures place { 1024 ≤ vec_capacity room.new }
+        ensures few { OnOk result (vec_len room.new ≤ MOST_BUFFERS) }
+        ensures place { MOST_BUFFERS ≤ vec_capacity room.new }
     {
-        if let Err(errno) = check_that(self.count <= MOST_BUFFERS, Errno::INVAL) {
+        if let Err(errno) = check_that(self.count as usize <= MOST_BUFFERS, Errno::INVAL) {
             return Err(errno);
         }
         if let Err(errno) = check_range(memory, self.iovs, ENTRY_BYTES * self.count) {

@@ -3,7 +3,7 @@
 ghost use Rattle.wasi_fd.specs.Table.{table_of};
 ghost use Rattle.wasm_store.specs.declared.call.HostCall.TheVariants as call;
 
-use crate::arguments::{long, word};
+use crate::arguments::{descriptor, long, word};
 use crate::descriptors;
 use crate::descriptors::{positions, stat};
 use crate::host::inner::Inner;
@@ -19,7 +19,7 @@ impl<'s, 't, D: Device, R: Read, W1: Write, W2: Write> Inner<'s, 't, D, R, W1, W
         requires { IsSetUp R.remaining self.old }
         ensures { (m : _) (used : _) → Serves D.honest D.disk D.size D.failures R.remaining W1.contents W2.contents call.FdClose used arguments.now self.old m self.new m (errno_of result) }
     {
-        descriptors::fd_close(&mut self.descriptors, word(arguments, 0))
+        descriptors::fd_close(&mut self.descriptors, descriptor(arguments, 0))
     }
 
     /// `fd_fdstat_get(fd, result)`.
@@ -27,7 +27,7 @@ impl<'s, 't, D: Device, R: Read, W1: Write, W2: Write> Inner<'s, 't, D, R, W1, W
         requires { IsSetUp R.remaining self.now }
         ensures { (used : _) → Serves D.honest D.disk D.size D.failures R.remaining W1.contents W2.contents call.FdFdstatGet used arguments.now self.now memory.old self.now memory.new (errno_of result) }
     {
-        let (fd, result_at) = (word(arguments, 0), word(arguments, 1));
+        let (fd, result_at) = (descriptor(arguments, 0), word(arguments, 1));
         descriptors::fd_fdstat_get(&self.descriptors, memory, fd, result_at)
     }
 
@@ -37,7 +37,7 @@ impl<'s, 't, D: Device, R: Read, W1: Write, W2: Write> Inner<'s, 't, D, R, W1, W
         requires known { KnowsEntries D.honest self.old.volume (table_of self.old.descriptors) }
         ensures { (used : _) → Serves D.honest D.disk D.size D.failures R.remaining W1.contents W2.contents call.FdFilestatGet used arguments.now self.old memory.old self.new memory.new (errno_of result) }
     {
-        let (fd, result_at) = (word(arguments, 0), word(arguments, 1));
+        let (fd, result_at) = (descriptor(arguments, 0), word(arguments, 1));
         stat::filestat_get(&mut self.volume, &self.descriptors, memory, fd, result_at)
     }
 
@@ -46,7 +46,7 @@ impl<'s, 't, D: Device, R: Read, W1: Write, W2: Write> Inner<'s, 't, D, R, W1, W
         requires { IsSetUp R.remaining self.now }
         ensures { (used : _) → Serves D.honest D.disk D.size D.failures R.remaining W1.contents W2.contents call.FdPrestatGet used arguments.now self.now memory.old self.now memory.new (errno_of result) }
     {
-        let (fd, result_at) = (word(arguments, 0), word(arguments, 1));
+        let (fd, result_at) = (descriptor(arguments, 0), word(arguments, 1));
         descriptors::fd_prestat_get(&self.descriptors, memory, fd, result_at)
     }
 
@@ -55,7 +55,7 @@ impl<'s, 't, D: Device, R: Read, W1: Write, W2: Write> Inner<'s, 't, D, R, W1, W
         requires { IsSetUp R.remaining self.now }
         ensures { (used : _) → Serves D.honest D.disk D.size D.failures R.remaining W1.contents W2.contents call.FdPrestatDirName used arguments.now self.now memory.old self.now memory.new (errno_of result) }
     {
-        let fd = word(arguments, 0);
+        let fd = descriptor(arguments, 0);
         let path = word(arguments, 1);
         let len = word(arguments, 2);
         descriptors::fd_prestat_dir_name(&self.descriptors, memory, fd, path, len)
@@ -67,7 +67,7 @@ impl<'s, 't, D: Device, R: Read, W1: Write, W2: Write> Inner<'s, 't, D, R, W1, W
         requires known { KnowsEntries D.honest self.old.volume (table_of self.old.descriptors) }
         ensures { (used : _) → Serves D.honest D.disk D.size D.failures R.remaining W1.contents W2.contents call.FdSeek used arguments.now self.old memory.old self.new memory.new (errno_of result) }
     {
-        let (fd, delta) = (word(arguments, 0), long(arguments, 1));
+        let (fd, delta) = (descriptor(arguments, 0), long(arguments, 1));
         let (whence, result_at) = (word(arguments, 2), word(arguments, 3));
         let (volume, descriptors) = (&mut self.volume, &mut self.descriptors);
         positions::fd_seek(volume, descriptors, memory, fd, delta, whence, result_at)
@@ -78,7 +78,7 @@ impl<'s, 't, D: Device, R: Read, W1: Write, W2: Write> Inner<'s, 't, D, R, W1, W
         requires { IsSetUp R.remaining self.now }
         ensures { (used : _) → Serves D.honest D.disk D.size D.failures R.remaining W1.contents W2.contents call.FdTell used arguments.now self.now memory.old self.now memory.new (errno_of result) }
     {
-        let (fd, result_at) = (word(arguments, 0), word(arguments, 1));
+        let (fd, result_at) = (descriptor(arguments, 0), word(arguments, 1));
         positions::fd_tell(&self.descriptors, memory, fd, result_at)
     }
 }

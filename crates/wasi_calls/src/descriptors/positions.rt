@@ -19,7 +19,7 @@ use crate::numbers::le64;
 use bitflags::Flags;
 use vol_sector::Device;
 use vol_tree::Volume;
-use wasi_fd::{Descriptor, Descriptors, Opened, Rights};
+use wasi_fd::{Descriptor, Descriptors, Fd, Opened, Rights};
 use wasm_store::{Errno, Memory};
 
 /// The last position.
@@ -46,7 +46,7 @@ fn check_seek(descriptor: &Descriptor<'_>, delta: u64, whence: u32) -> Result<()
 fn file_to_move<'t>(
     descriptors: &Descriptors<'t>,
     memory: &Memory,
-    fd: u32,
+    fd: Fd,
     delta: u64,
     whence: u32,
     result_at: u32,
@@ -139,7 +139,7 @@ fn position_at(from: u64, delta: u64) -> Result<u64, Errno>
 /// Lets an open file stand at another position.
 pub(crate) fn move_to<'t>(
     descriptors: &mut Descriptors<'t>,
-    fd: u32,
+    fd: Fd,
     opened: &Opened<'t>,
     position: u64,
 )
@@ -162,7 +162,7 @@ pub(crate) fn fd_seek<D: Device>(
     volume: &mut Volume<D>,
     descriptors: &mut Descriptors<'_>,
     memory: &mut Memory,
-    fd: u32,
+    fd: Fd,
     delta: u64,
     whence: u32,
     result_at: u32,
@@ -212,7 +212,7 @@ fn check_tell(descriptor: &Descriptor<'_>) -> Result<(), Errno>
 pub(crate) fn fd_tell(
     descriptors: &Descriptors<'_>,
     memory: &mut Memory,
-    fd: u32,
+    fd: Fd,
     result_at: u32,
 ) -> Result<(), Errno>
     ensures { (w : World) → w.table ≡ table_of descriptors.now → Answers (tell w memory.old fd result_at) w memory.old w memory.new (errno_of result) }

@@ -17,7 +17,7 @@ use crate::numbers::le64;
 use vol_inode::Kind;
 use vol_sector::Device;
 use vol_tree::Volume;
-use wasi_fd::{Descriptor, Descriptors, Rights};
+use wasi_fd::{Descriptor, Descriptors, Fd, Rights};
 use wasm_store::{Errno, Memory};
 
 /// `filestat`: the serial at 8, the type at 16, one link at 24 and the size at 32.
@@ -67,7 +67,7 @@ pub(crate) fn filestat_get<D: Device>(
     volume: &mut Volume<D>,
     descriptors: &Descriptors<'_>,
     memory: &mut Memory,
-    fd: u32,
+    fd: Fd,
     result_at: u32,
 ) -> Result<(), Errno>
     requires { KnowsEntries D.honest volume.old (table_of descriptors.now) }

@@ -6,7 +6,7 @@ ghost use Rattle.vol_tree.specs.Stands.{StandsAs};
 ghost use Rattle.wasi_fd.specs.Table.{table_of};
 ghost use Rattle.wasm_store.specs.declared.call.HostCall.TheVariants as call;
 
-use crate::arguments::{long, word};
+use crate::arguments::{descriptor, long};
 use crate::checks::buffers::Request;
 use crate::checks::{Takes, allowed};
 use crate::errno::NOTCAPABLE;
@@ -132,7 +132,7 @@ impl<'s, 't, D: Device, R: Read, W1: Write, W2: Write> Inner<'s, 't, D, R, W1, W
         requires known { KnowsEntries D.honest self.old.volume (table_of self.old.descriptors) }
         ensures { (m : _) (used : _) → Serves D.honest D.disk D.size D.failures R.remaining W1.contents W2.contents call.FdFilestatSetSize used arguments.now self.old m self.new m (errno_of result) }
     {
-        let fd = word(arguments, 0);
+        let fd = descriptor(arguments, 0);
         let size = long(arguments, 1);
         files::set_size(&mut self.volume, &self.descriptors, fd, size)
     }
@@ -144,7 +144,7 @@ impl<'s, 't, D: Device, R: Read, W1: Write, W2: Write> Inner<'s, 't, D, R, W1, W
         ensures durable { D.honest self.old.volume.device → errno_of result ≡ 0 → (c : Image)
             → (D.disk self.new.volume.device).may_leave c → StandsAs c self.new.volume.numbers self.new.volume.tree }
     {
-        let fd = word(arguments, 0);
+        let fd = descriptor(arguments, 0);
         files::sync(&mut self.volume, &self.descriptors, fd, Rights::FD_SYNC)
     }
 
@@ -155,7 +155,7 @@ impl<'s, 't, D: Device, R: Read, W1: Write, W2: Write> Inner<'s, 't, D, R, W1, W
         ensures durable { D.honest self.old.volume.device → errno_of result ≡ 0 → (c : Image)
             → (D.disk self.new.volume.device).may_leave c → StandsAs c self.new.volume.numbers self.new.volume.tree }
     {
-        let fd = word(arguments, 0);
+        let fd = descriptor(arguments, 0);
         files::sync(&mut self.volume, &self.descriptors, fd, Rights::FD_DATASYNC)
     }
 

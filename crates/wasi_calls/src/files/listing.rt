@@ -16,20 +16,20 @@ ghost use Rattle.path_walk.specs.Walk.{Asked};
 ghost use Rattle.wasi_calls.specs.internal.files.Reading.{IsBegun};
 ghost use Rattle.wasi_calls.specs.internal.files.Listing.{listable, header, told_bytes, TellsNext};
 
-use crate::arguments::{long, word};
+use crate::arguments::{descriptor, long, word};
 use crate::checks::{Takes, check_range, entry_at, write_bytes};
 use crate::descriptors::stat::type_of_entry;
 use crate::errno::refused;
 use crate::numbers::{le32, le64};
 use vol_sector::Device;
 use vol_tree::{Stat, Volume};
-use wasi_fd::{Descriptors, Opened, Rights};
+use wasi_fd::{Descriptors, Fd, Opened, Rights};
 use wasm_store::{Errno, Memory};
 
 /// What a `fd_readdir` asks for.
 #[derive(Clone, Copy)]
 pub(crate) struct ListCall {
-    pub fd: u32,
+    pub fd: Fd,
     pub buffer: u32,
     pub len: u32,
     pub cookie: u64,
@@ -44,7 +44,7 @@ impl ListCall {
         ensures { result ≡ list_call arguments.now }
     {
         ListCall {
-            fd: word(arguments, 0),
+            fd: descriptor(arguments, 0),
             buffer: word(arguments, 1),
             len: word(arguments, 2),
             cookie: long(arguments, 3),

@@ -15,6 +15,7 @@ ghost use Rattle.wasi_calls.specs.internal.Bodies.{IsFileOf, NoMoreEntries, errn
 ghost use Rattle.path_walk.specs.Walk.{Asked};
 ghost use Rattle.wasi_calls.specs.internal.checks.Buffers.{list_of, AreUsable};
 ghost use Rattle.wasi_calls.specs.internal.files.Reading.{cut, IsStretch, IsBegun, BufferFilled, BufferBegun, wanted, received, read_into, read_file_to};
+ghost use Rattle.wasi_calls.specs.declared.checks.buffers.TheConstants.{MOST_BUFFERS};
 
 use crate::checks::buffers::{Request, total_len};
 use crate::checks::{Takes, entry_at, write_bytes};
@@ -24,7 +25,7 @@ use crate::numbers::le32;
 use bitflags::Flags;
 use vol_sector::Device;
 use vol_tree::{Span, Volume};
-use wasi_fd::{Descriptor, Descriptors, Opened, Rights};
+use wasi_fd::{Descriptor, Descriptors, Fd, Opened, Rights};
 use wasm_store::{Errno, Memory};
 
 /// Cuts the buffers to this many bytes in all.
@@ -214,7 +215,7 @@ pub(crate) fn read_at<D: Device>(
     buffers: &mut [Span],
 ) -> Result<u32, vol_tree::Errno>
     requires file { IsFileOf D.honest volume.old serial }
-    requires few { length buffers.old ≤ 1024 }
+    requires few { length buffers.old ≤ MOST_BUFFERS }
     requires small { total (list_of buffers.old) < 2 ^ 32 }
     requires inside { list_all (is_inside memory.old) (list_of buffers.old) ≡ true }
     ensures long { length memory.new ≡ length memory.old }
@@ -242,7 +243,7 @@ pub(crate) fn read_at<D: Device>(
 }
 
 /// An open file that can be read at a place of its own.
-pub(crate) fn file_to_read<'t>(descriptors: &Descriptors<'t>, fd: u32) -> Result<Opened<'t>, Errno>
+pub(crate) fn file_to_read<'t>(descriptors: &Descriptors<'t>, fd: Fd) -> Result<Opened<'t>, Errno>
     ensures { (w : World) → w.table ≡ table_of descriptors.now → MatchResult result
         (λ o. entry w fd only_files (2 ^ 1 + 2 ^ 2) ≡ Ok o)
         (λ e. entry w fd only_files (2 ^ 1 + 2 ^ 2) ≡ Err e.0) }
@@ -262,7 +263,7 @@ pub(crate) fn read_placed<D: Device>(
     buffers: &mut [Span],
 ) -> Result<(), Errno>
     requires file { IsFileOf D.honest volume.old opened.now.serial }
-    requires few { length buffers.old ≤ 1024 }
+    requires few { length buffers.old ≤ MOST_BUFFERS }
     requires usable { AreUsable memory.old (list_of buffers.old) request.now.result_at }
     ensures step { VolumeStep D.honest D.disk D.size D.failures volume.old volume.new }
     ensures io { errno_of result ≡ 29 → volume.new.failed ≡ true }
@@ -290,7 +291,7 @@ pub(crate) fn read_file<'t, D: Device>(
 ) -> Result<(), Errno>
     requires file { IsFileOf D.honest volume.old opened.now.serial }
     requires open { table_of descriptors.old request.now.fd ≡ Some (Descriptor.Entry opened.now) }
-    requires few { length buffers.old ≤ 1024 }
+    requires few { length buffers.old ≤ MOST_BUFFERS }
     requires usable { AreUsable memory.old (list_of buffers.old) request.now.result_at }
     ensures step { VolumeStep D.honest D.disk D.size D.failures volume.old volume.new }
     ensures io { errno_of result ≡ 29 → volume.new.failed ≡ true }

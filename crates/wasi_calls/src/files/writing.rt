@@ -15,6 +15,7 @@ ghost use Rattle.wasi_calls.specs.internal.Bodies.{IsFileOf, NoMoreEntries, errn
 ghost use Rattle.wasi_calls.specs.internal.checks.Buffers.{list_of, AreUsable};
 ghost use Rattle.wasi_calls.specs.internal.files.Writing.{placed, written_on, written_to};
 ghost use Rattle.wasi_calls.specs.internal.descriptors.Positions.{IsOpenAs};
+ghost use Rattle.wasi_calls.specs.declared.checks.buffers.TheConstants.{MOST_BUFFERS};
 
 use crate::checks::buffers::{Request, total_len};
 use crate::checks::{Takes, entry_at, write_bytes};
@@ -22,13 +23,11 @@ use crate::descriptors::positions::{move_to, size_of};
 use crate::errno::refused;
 use crate::numbers::le32;
 use bitflags::Flags;
+use vol_body::PIECE;
 use vol_sector::Device;
 use vol_tree::{Source, Span, Volume};
-use wasi_fd::{Descriptor, Descriptors, Opened, Rights};
+use wasi_fd::{Descriptor, Descriptors, Fd, Opened, Rights};
 use wasm_store::{Errno, Memory};
-
-/// How many bytes a call writes to a file at most.
-const MOST_WRITTEN: u64 = 16_384;
 
 /// Writes what stands in the buffers to a file, or as much of it as is written at once, and says how many bytes that is.
 fn put_bytes<D: Device>(
@@ -39,18 +38,18 @@ fn put_bytes<D: Device>(
     buffers: &[Span],
 ) -> Result<u32, vol_tree::Errno>
     requires file { IsFileOf D.honest volume.old serial }
-    requires few { length buffers.now ≤ 1024 }
+    requires few { length buffers.now ≤ MOST_BUFFERS }
     requires inside { list_all (is_inside memory.now) (list_of buffers.now) ≡ true }
-    ensures written { D.honest volume.old.device → IfOk result (λ n. (n ≡ length (take 16384 (gathered memory.now (list_of buffers.now))))
-        × (tree_with (geometry volume.old.numbers) volume.old.tree serial at (take 16384 (gathered memory.now (list_of buffers.now))) ≡ Ok volume.new.tree)) }
+    ensures written { D.honest volume.old.device → IfOk result (λ n. (n ≡ length (take PIECE (gathered memory.now (list_of buffers.now))))
+        × (tree_with (geometry volume.old.numbers) volume.old.tree serial at (take PIECE (gathered memory.now (list_of buffers.now))) ≡ Ok volume.new.tree)) }
     ensures refused { D.honest volume.old.device → IfErr result (λ e. (volume.new.tree ≡ volume.old.tree)
-        × ((tree_with (geometry volume.old.numbers) volume.old.tree serial at (take 16384 (gathered memory.now (list_of buffers.now))) ≡ Err e) ⊎ (e ≡ vol_errno.Io))) }
+        × ((tree_with (geometry volume.old.numbers) volume.old.tree serial at (take PIECE (gathered memory.now (list_of buffers.now))) ≡ Err e) ⊎ (e ≡ vol_errno.Io))) }
     ensures crash { D.honest volume.old.device
         → Leaves (D.disk volume.old.device) (D.disk volume.new.device)
         (ReflectsOr (D.disk volume.old.device) volume.old.numbers volume.old.tree) }
     ensures kept { Keeps D.honest D.size D.failures volume.old volume.new (is_io result) }
 {
-    let len = total_len(buffers).min(MOST_WRITTEN) as u32;
+    let len = total_len(buffers).min(PIECE as u64) as u32;
     let bytes = Source::gather(memory.as_slice(), buffers, len as usize);
     match volume.write_from(serial, at, &bytes) {
         Ok(()) => Ok(len),
@@ -59,7 +58,7 @@ fn put_bytes<D: Device>(
 }
 
 /// An open file that can be written at a place of its own.
-pub(crate) fn file_to_write<'t>(descriptors: &Descriptors<'t>, fd: u32) -> Result<Opened<'t>, Errno>
+pub(crate) fn file_to_write<'t>(descriptors: &Descriptors<'t>, fd: Fd) -> Result<Opened<'t>, Errno>
     ensures { (w : World) → w.table ≡ table_of descriptors.now → MatchResult result
         (λ o. entry w fd only_files (2 ^ 6 + 2 ^ 2) ≡ Ok o)
         (λ e. entry w fd only_files (2 ^ 6 + 2 ^ 2) ≡ Err e.0) }
@@ -78,7 +77,7 @@ pub(crate) fn write_at<D: Device>(
     result_at: u32,
 ) -> Result<(), Errno>
     requires file { IsFileOf D.honest volume.old opened.now.serial }
-    requires few { length buffers.now ≤ 1024 }
+    requires few { length buffers.now ≤ MOST_BUFFERS }
     requires usable { AreUsable memory.old (list_of buffers.now) result_at }
     ensures step { VolumeStep D.honest D.disk D.size D.failures volume.old volume.new }
     ensures io { errno_of result ≡ 29 → volume.new.failed ≡ true }
@@ -133,7 +132,7 @@ fn write_on<'t, D: Device>(
 ) -> Result<(), Errno>
     requires file { IsFileOf D.honest volume.old opened.now.serial }
     requires open { IsOpenAs (table_of descriptors.old) request.now.fd opened.now }
-    requires few { length buffers.now ≤ 1024 }
+    requires few { length buffers.now ≤ MOST_BUFFERS }
     requires usable { AreUsable memory.old (list_of buffers.now) request.now.result_at }
     ensures step { VolumeStep D.honest D.disk D.size D.failures volume.old volume.new }
     ensures io { errno_of result ≡ 29 → volume.new.failed ≡ true }
@@ -165,7 +164,7 @@ pub(crate) fn write_file<'t, D: Device>(
 ) -> Result<(), Errno>
     requires file { IsFileOf D.honest volume.old opened.now.serial }
     requires open { table_of descriptors.old request.now.fd ≡ Some (Descriptor.Entry opened.now) }
-    requires few { length buffers.now ≤ 1024 }
+    requires few { length buffers.now ≤ MOST_BUFFERS }
     requires usable { AreUsable memory.old (list_of buffers.now) request.now.result_at }
     ensures step { VolumeStep D.honest D.disk D.size D.failures volume.old volume.new }
     ensures io { errno_of result ≡ 29 → volume.new.failed ≡ true }

@@ -4,11 +4,12 @@ ghost use Rattle.std.specs.Prelude.{◌≡◌, IfOk, IfErr};
 ghost use Rattle.wasi_calls.specs.internal.Bodies.{errno_of};
 
 use crate::arguments::word;
+use crate::checks::buffers::MOST_BUFFERS;
 use crate::host::fault::HostFault;
 use crate::host::inner::Inner;
 use crate::host::settings::Settings;
 use crate::host::{VolumeHost, linking};
-use crate::streams::inputs::PIECE;
+use crate::streams::inputs::INPUT_PIECE;
 use crate::streams::{Input, Output};
 use rand_chacha::ChaCha20Rng;
 use rand_core::SeedableRng;
@@ -20,9 +21,6 @@ use vol_tree::Volume;
 use wasi_fd::Descriptors;
 use wasm_module::FuncType;
 use wasm_store::{Answer, Errno, Host, HostCall, Memory};
-
-/// How many buffers a call can name.
-const MOST_BUFFERS: usize = 1_024;
 
 /// The host of a guest, which answers its calls.
 #[derive(Drop)]
@@ -102,7 +100,7 @@ impl<'s, 't, D: Device, R: Read + Drop, W1: Write + Drop, W2: Write + Drop> Wasi
                 fault: HostFault::Memory,
             });
         };
-        let Ok(piece) = Vec::with_capacity(alloc, PIECE) else {
+        let Ok(piece) = Vec::with_capacity(alloc, INPUT_PIECE) else {
             return Err(RefusedHost {
                 parts,
                 fault: HostFault::Memory,

@@ -3,7 +3,7 @@
 ghost use Rattle.wasi_fd.specs.Table.{table_of};
 ghost use Rattle.wasm_store.specs.declared.call.HostCall.TheVariants as call;
 
-use crate::arguments::word;
+use crate::arguments::{descriptor, word};
 use crate::host::inner::Inner;
 use crate::paths;
 use crate::paths::opening::OpenCall;
@@ -22,7 +22,8 @@ impl<'s, 't, D: Device, R: Read, W1: Write, W2: Write> Inner<'s, 't, D, R, W1, W
         requires known { KnowsEntries D.honest self.old.volume (table_of self.old.descriptors) }
         ensures { (used : _) → Serves D.honest D.disk D.size D.failures R.remaining W1.contents W2.contents call.PathCreateDirectory used arguments.now self.old memory.now self.new memory.now (errno_of result) }
     {
-        let (fd, path, len) = (word(arguments, 0), word(arguments, 1), word(arguments, 2));
+        let fd = descriptor(arguments, 0);
+        let (path, len) = (word(arguments, 1), word(arguments, 2));
         paths::path_create_directory(&mut self.volume, &self.descriptors, memory, fd, path, len)
     }
 
@@ -32,7 +33,7 @@ impl<'s, 't, D: Device, R: Read, W1: Write, W2: Write> Inner<'s, 't, D, R, W1, W
         requires known { KnowsEntries D.honest self.old.volume (table_of self.old.descriptors) }
         ensures { (used : _) → Serves D.honest D.disk D.size D.failures R.remaining W1.contents W2.contents call.PathFilestatGet used arguments.now self.old memory.old self.new memory.new (errno_of result) }
     {
-        let (fd, path) = (word(arguments, 0), word(arguments, 2));
+        let (fd, path) = (descriptor(arguments, 0), word(arguments, 2));
         let (len, result_at) = (word(arguments, 3), word(arguments, 4));
         let volume = &mut self.volume;
         paths::path_filestat_get(volume, &self.descriptors, memory, fd, path, len, result_at)
@@ -54,7 +55,8 @@ impl<'s, 't, D: Device, R: Read, W1: Write, W2: Write> Inner<'s, 't, D, R, W1, W
         requires known { KnowsEntries D.honest self.old.volume (table_of self.old.descriptors) }
         ensures { (used : _) → Serves D.honest D.disk D.size D.failures R.remaining W1.contents W2.contents call.PathRemoveDirectory used arguments.now self.old memory.now self.new memory.now (errno_of result) }
     {
-        let (fd, path, len) = (word(arguments, 0), word(arguments, 1), word(arguments, 2));
+        let fd = descriptor(arguments, 0);
+        let (path, len) = (word(arguments, 1), word(arguments, 2));
         removing::path_remove_directory(&mut self.volume, &self.descriptors, memory, fd, path, len)
     }
 
@@ -74,7 +76,8 @@ impl<'s, 't, D: Device, R: Read, W1: Write, W2: Write> Inner<'s, 't, D, R, W1, W
         requires known { KnowsEntries D.honest self.old.volume (table_of self.old.descriptors) }
         ensures { (used : _) → Serves D.honest D.disk D.size D.failures R.remaining W1.contents W2.contents call.PathUnlinkFile used arguments.now self.old memory.now self.new memory.now (errno_of result) }
     {
-        let (fd, path, len) = (word(arguments, 0), word(arguments, 1), word(arguments, 2));
+        let fd = descriptor(arguments, 0);
+        let (path, len) = (word(arguments, 1), word(arguments, 2));
         removing::path_unlink_file(&mut self.volume, &self.descriptors, memory, fd, path, len)
     }
 }

@@ -19,7 +19,7 @@ ghost use Rattle.wasi_calls.specs.internal.paths.Walks.{StillWorks, Places};
 ghost use Rattle.path_walk.specs.Walk.{Asked};
 ghost use Rattle.wasi_calls.specs.internal.paths.Opening.{flags_checked, found_checked, missing_checked, open_entered, IsTarget, IsAt, CanOpen, made, ChecksAs, Targets, AreSerials, with_both};
 
-use crate::arguments::{long, word};
+use crate::arguments::{descriptor, long, word};
 use crate::checks::{Takes, check_range, check_that, entry_at, write_bytes};
 use crate::errno::{EXIST, ISDIR, MFILE, NOENT, NOTDIR, NOTSUP, refused};
 use crate::numbers::le32;
@@ -29,7 +29,7 @@ use bitflags::Flags;
 use path_walk::{Path, Reached};
 use vol_sector::Device;
 use vol_tree::Volume;
-use wasi_fd::{Descriptor, Descriptors, EntryKind, Opened, Rights};
+use wasi_fd::{Descriptor, Descriptors, EntryKind, Fd, Opened, Rights};
 use wasm_store::{Errno, Memory};
 
 const CREAT: u32 = 1;
@@ -48,7 +48,7 @@ const SYNCS: u32 = 26;
 /// What a `path_open` asks for.
 #[derive(Clone, Copy)]
 pub(crate) struct OpenCall {
-    pub fd: u32,
+    pub fd: Fd,
     pub path: u32,
     pub len: u32,
     pub oflags: u32,
@@ -66,7 +66,7 @@ impl OpenCall {
         ensures { result ≡ open_call arguments.now }
     {
         OpenCall {
-            fd: word(arguments, 0),
+            fd: descriptor(arguments, 0),
             path: word(arguments, 2),
             len: word(arguments, 3),
             oflags: word(arguments, 4),
@@ -385,8 +385,8 @@ pub(crate) fn path_open<D: Device>(
     };
     let descriptor = new_descriptor(&directory, serial, target.is_directory(), asked);
     match descriptors.open(descriptor) {
-        Ok(number) => {
-            write_bytes(memory, asked.result_at, &le32(number));
+        Ok(fd) => {
+            write_bytes(memory, asked.result_at, &le32(fd.number()));
             Ok(())
         }
         Err(_) => Err(MFILE),

@@ -23,7 +23,7 @@ use path_walk::Reached;
 use vol_inode::Kind;
 use vol_sector::Device;
 use vol_tree::Volume;
-use wasi_fd::{Descriptors, Rights};
+use wasi_fd::{Descriptors, Fd, Rights};
 use wasm_store::{Errno, Memory};
 
 /// What a path finds.
@@ -31,7 +31,7 @@ pub(crate) fn find<D: Device>(
     volume: &mut Volume<D>,
     descriptors: &Descriptors<'_>,
     memory: &Memory,
-    fd: u32,
+    fd: Fd,
     path: u32,
     len: u32,
     rights: Rights,
@@ -92,7 +92,7 @@ fn removable<D: Device>(
     volume: &mut Volume<D>,
     descriptors: &Descriptors<'_>,
     memory: &Memory,
-    fd: u32,
+    fd: Fd,
     path: u32,
     len: u32,
     rights: Rights,
@@ -129,7 +129,7 @@ pub(crate) fn path_unlink_file<D: Device>(
     volume: &mut Volume<D>,
     descriptors: &Descriptors<'_>,
     memory: &Memory,
-    fd: u32,
+    fd: Fd,
     path: u32,
     len: u32,
 ) -> Result<(), Errno>
@@ -163,7 +163,7 @@ pub(crate) fn path_remove_directory<D: Device>(
     volume: &mut Volume<D>,
     descriptors: &Descriptors<'_>,
     memory: &Memory,
-    fd: u32,
+    fd: Fd,
     path: u32,
     len: u32,
 ) -> Result<(), Errno>

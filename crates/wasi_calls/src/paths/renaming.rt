@@ -21,7 +21,7 @@ ghost use Rattle.path_walk.specs.Walk.{Asked};
 ghost use Rattle.wasi_calls.specs.internal.paths.Renaming.{AreFacts, replace_checked, ReplacesAs, RenamesTo, rename_allowed, rename_entered, source_checked, WalksBoth};
 ghost use Rattle.wasi_calls.specs.internal.paths.Climbing.{IsAbove};
 
-use crate::arguments::word;
+use crate::arguments::{descriptor, word};
 use crate::checks::{Takes, check_range, check_rights, check_that, described, opened_of};
 use crate::errno::{BUSY, ISDIR, NOENT, NOTDIR, NOTEMPTY, refused};
 use crate::paths::opening::ends_open;
@@ -31,7 +31,7 @@ use path_walk::Reached;
 use vol_inode::is_name;
 use vol_sector::Device;
 use vol_tree::Volume;
-use wasi_fd::{Descriptor, Descriptors, Opened, Rights};
+use wasi_fd::{Descriptor, Descriptors, Fd, Opened, Rights};
 use wasm_store::{Errno, Memory};
 
 /// The serial of the root.
@@ -40,10 +40,10 @@ const ROOT: u32 = 1;
 /// What a `path_rename` asks for.
 #[derive(Clone, Copy)]
 pub(crate) struct RenameCall {
-    pub from_fd: u32,
+    pub from_fd: Fd,
     pub from_path: u32,
     pub from_len: u32,
-    pub to_fd: u32,
+    pub to_fd: Fd,
     pub to_path: u32,
     pub to_len: u32,
 }
@@ -85,10 +85,10 @@ impl RenameCall {
         ensures { result ≡ rename_call arguments.now }
     {
         RenameCall {
-            from_fd: word(arguments, 0),
+            from_fd: descriptor(arguments, 0),
             from_path: word(arguments, 1),
             from_len: word(arguments, 2),
-            to_fd: word(arguments, 3),
+            to_fd: descriptor(arguments, 3),
             to_path: word(arguments, 4),
             to_len: word(arguments, 5),
         }

@@ -7,6 +7,7 @@ ghost use Rattle.wasm_store.specs.Bytes.{written};
 ghost use Rattle.wasi_calls.specs.Checks.{is_inside, total};
 ghost use Rattle.wasi_calls.specs.internal.checks.Buffers.{list_of, AreUsable};
 ghost use Rattle.wasi_calls.specs.internal.streams.Inputs.{Came, SomeCame, Dealt, SomeDealt, IsRead};
+ghost use Rattle.wasi_calls.specs.declared.checks.buffers.TheConstants.{MOST_BUFFERS};
 
 use crate::checks::write_bytes;
 use crate::numbers::le32;
@@ -16,7 +17,7 @@ use vol_tree::Span;
 use wasm_store::{Errno, Memory};
 
 /// How many bytes a call takes from the input at once.
-pub(crate) const PIECE: usize = 16_384;
+pub(crate) const INPUT_PIECE: usize = 16_384;
 
 /// A reader has failed.
 #[derive(Clone, Copy)]
@@ -24,11 +25,11 @@ struct ReaderFailed;
 
 /// Gives the piece all of its bytes, for which it has the place: zeros at the first call that reads, and none where it has them.
 pub(crate) fn fill_up(piece: &mut Vec<u8>)
-    requires { 16384 ≤ vec_capacity piece.old }
-    ensures len { vec_len piece.new ≡ 16384 }
-    ensures place { 16384 ≤ vec_capacity piece.new }
+    requires { INPUT_PIECE ≤ vec_capacity piece.old }
+    ensures len { vec_len piece.new ≡ INPUT_PIECE }
+    ensures place { INPUT_PIECE ≤ vec_capacity piece.new }
 {
-    let Ok(()) = piece.resize(PIECE, 0) else {
+    let Ok(()) = piece.resize(INPUT_PIECE, 0) else {
         unreachable!()
     };
 }
@@ -158,7 +159,7 @@ fn fill_buffers<R: Read>(
     buffers: &[Span],
 ) -> Result<usize, ReaderFailed>
     requires room { 0 < length piece.old }
-    requires few { length buffers.now ≤ 1024 }
+    requires few { length buffers.now ≤ MOST_BUFFERS }
     requires inside { list_all (is_inside memory.old) (list_of buffers.now) ≡ true }
     requires end { input.old.ended ≡ true → IsAtEnd (R.remaining input.old.reader) }
     ensures long { length memory.new ≡ length memory.old }
@@ -190,7 +191,7 @@ pub(crate) fn read_stream<R: Read>(
     result_at: u32,
 ) -> Result<(), Errno>
     requires room { 0 < length piece.old }
-    requires few { length buffers.now ≤ 1024 }
+    requires few { length buffers.now ≤ MOST_BUFFERS }
     requires usable { AreUsable memory.old (list_of buffers.now) result_at }
     requires end { input.old.ended ≡ true → IsAtEnd (R.remaining input.old.reader) }
     ensures idle { input.old.failed ≡ true → (input.new ≡ input.old) × (memory.new ≡ memory.old) × (result ≡ Err Errno.IO) }

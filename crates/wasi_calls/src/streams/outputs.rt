@@ -8,6 +8,7 @@ ghost use Rattle.wasm_store.specs.Bytes.{written};
 ghost use Rattle.wasi_calls.specs.Checks.{is_inside, gathered};
 ghost use Rattle.wasi_calls.specs.internal.checks.Buffers.{list_of, AreUsable};
 ghost use Rattle.wasi_calls.specs.internal.streams.Outputs.{AppendsSome};
+ghost use Rattle.wasi_calls.specs.declared.checks.buffers.TheConstants.{MOST_BUFFERS};
 
 use crate::checks::buffers::total_len;
 use crate::checks::write_bytes;
@@ -66,7 +67,7 @@ pub(crate) fn write_stream<W: Write>(
     buffers: &[Span],
     result_at: u32,
 ) -> Result<(), Errno>
-    requires few { length buffers.now ≤ 1024 }
+    requires few { length buffers.now ≤ MOST_BUFFERS }
     requires usable { AreUsable memory.old (list_of buffers.now) result_at }
     ensures idle { output.old.failed ≡ true → (output.new ≡ output.old) × (result ≡ Err Errno.IO) }
     ensures took { OnOk result ((output.old.failed ≡ false) × (output.new.failed ≡ false)

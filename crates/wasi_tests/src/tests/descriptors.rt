@@ -3,7 +3,7 @@
 use bitflags::Flags;
 use std::process::Abort;
 use std::test::Fail;
-use wasi_fd::{Descriptor, DescriptorFault, Descriptors, EntryKind, Opened, Rights, Stream};
+use wasi_fd::{Descriptor, DescriptorFault, Descriptors, EntryKind, Fd, Opened, Rights, Stream};
 
 // An entry that is open with all rights of a file.
 fn file(serial: u32) -> Descriptor<'static> {
@@ -30,9 +30,9 @@ use Act::{Close, Holds, Open, Replace};
 
 fn is_answered(descriptors: &mut Descriptors<'_>, act: &Act) -> bool {
     match act {
-        Open(serial, answer) => descriptors.open(file(*serial)) == *answer,
-        Close(fd, answer) => descriptors.close(*fd) == *answer,
-        Replace(fd, serial, answer) => descriptors.replace(*fd, file(*serial)) == *answer,
+        Open(serial, answer) => descriptors.open(file(*serial)).map(Fd::number) == *answer,
+        Close(fd, answer) => descriptors.close(Fd::new(*fd)) == *answer,
+        Replace(fd, serial, answer) => descriptors.replace(Fd::new(*fd), file(*serial)) == *answer,
         Holds(serial, answer) => descriptors.holds(*serial) == *answer,
     }
 }
@@ -71,7 +71,7 @@ fn numbers_are_taken_and_given_back(rt: HostRuntime) -> Result<(), Fail> {
 /// Opens all numbers that no stream has.
 fn assert_opens(rt: &impl Abort, descriptors: &mut Descriptors<'_>) {
     for n in 3..256 {
-        assert!(rt; descriptors.open(file(n)) == Ok(n));
+        assert!(rt; descriptors.open(file(n)) == Ok(Fd::new(n)));
     }
 }
 

@@ -1,6 +1,7 @@
 use Rattle.std.proofs.Common.{◌≡◌, ℕ, false, List, length, take, refl, sym, ap, ◌∙◌, subst}
 use Rattle.byteorder.specs.Endian.{little_bytes}
 use Rattle.wasm_store.specs.Bytes.{written}
+use Rattle.vol_body.specs.declared.writing.TheConstants.{PIECE}
 use Rattle.vol_tree.specs.Opened.{geometry}
 use Rattle.vol_tree.specs.Calls.{written as tree_with}
 use Rattle.wasi_calls.proofs.checks.CausesOf29.{asked_29, no_29_at_0}
@@ -23,7 +24,7 @@ returns-in-Ok g c = record {
       let o = c.args.opened.now in
       let at = c.args.at in
       let all = gathered m (list_of c.args.buffers.now) in
-      let part : List ℕ = take 16384 all in
+      let part : List ℕ = take PIECE all in
       let result = c.args.result_at in
       let kept = c.in-Ok.ensures.kept in
       let (count, gives) = c.in-Ok.ensures.written h in
@@ -48,7 +49,7 @@ returns-in-Err g c = record {
       let o = c.args.opened.now in
       let at = c.args.at in
       let all = gathered m (list_of c.args.buffers.now) in
-      let part : List ℕ = take 16384 all in
+      let part : List ℕ = take PIECE all in
       let result = c.args.result_at in
       let (tree, meant) = c.in-Err.ensures.refused h in
       subst (λ (n : ℕ). Answered (λ v. placed v o at all result) w m (with_volume new w) m n) (sym c.refused.ensures)

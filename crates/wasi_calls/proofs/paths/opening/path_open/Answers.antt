@@ -73,7 +73,7 @@ returns-in-Ok-open g c = record {
   step = steps_after g.D.Device.honest g.D.Device.disk g.D.Device.size g.D.Device.failures c.args.volume.now c.find_target.new.volume c.settle.new.volume c.in-Ok.ensures.works
       (steps g.D.Device.honest g.D.Device.disk g.D.Device.size g.D.Device.failures c.find_target.new.volume c.settle.new.volume _ c.in-Ok-settle.ensures.kept c.in-Ok-settle.ensures.crash);
   serials = let numbers : c.settle.new.volume.numbers ≡ c.args.volume.now.numbers = c.in-Ok-settle.ensures.kept.numbers ∙ c.in-Ok.ensures.works.kept.numbers in
-      serials_stand c.settle.new.volume.numbers (table_of c.args.descriptors.now) (table_of c.open.new.self) c.in-Ok-open.number c.new_descriptor-descriptor.result c.in-Ok-settle.serial
+      serials_stand c.settle.new.volume.numbers (table_of c.args.descriptors.now) (table_of c.open.new.self) c.in-Ok-open.fd c.new_descriptor-descriptor.result c.in-Ok-settle.serial
       (λ fd o is. subst (λ (n : _). IsSerial n o.serial) (sym numbers) (c.requires.numbers fd o is))
       c.in-Ok-open.ensures.opened
       (subst (λ (n : _). IsSerial n c.in-Ok-settle.serial) (sym c.in-Ok-settle.ensures.kept.numbers) c.in-Ok-settle.ensures.range)
@@ -84,7 +84,7 @@ returns-in-Ok-open g c = record {
       let between = c.find_target.new.volume in
       let new = c.settle.new.volume in
       let serial = c.in-Ok-settle.serial in
-      let number = c.in-Ok-open.number in
+      let number = c.in-Ok-open.fd in
       let run : World → Checked Done = λ v. open_by v m a in
       let r = c.in-Ok.ensures.targets h w table shown in
       let passes = r.passes in
@@ -100,7 +100,7 @@ returns-in-Ok-open g c = record {
       (to_opening w m a ∙ (goes_on _ _ p passes.is ∙ goes_on _ _ (new.tree, serial) (opens_as w a.oflags r.reached t passes.working r.target ∙ ap numbered made_is)))
       (opened_world w between new (table_of c.args.descriptors.now) (table_of c.open.new.self) r.number number c.new_descriptor-descriptor.result _ passes.same c.in-Ok-settle.ensures.kept.numbers
       c.in-Ok-settle.ensures.kept.failed passes.working table same (c.new_descriptor-descriptor.ensures.rights new.tree kind) c.in-Ok-open.ensures.opened)
-      (c.write_bytes.ensures.bytes ∙ ap (written m a.result_at) (c.le32.ensures ∙ ap (little_bytes 4) same)));
+      (c.write_bytes.ensures.bytes ∙ ap (written m a.result_at) (c.le32.ensures ∙ ap (little_bytes 4) (c.number.ensures ∙ same))));
   io = no_29_at_0;
 }
 

@@ -11,5 +11,5 @@ returns g c = λ m used.
     let s = c.args.self.now in
     serves_plain g.D.Device.honest g.D.Device.disk g.D.Device.size g.D.Device.failures g.R.Read.remaining g.W1.Write.contents g.W2.Write.contents
     call.FdClose used c.args.arguments.now _ s c.fd_close.new.descriptors s.settings m _ _ (λ o. refl) c.requires c.requires.settings refl c.fd_close.ensures.entries
-    (λ b i. fd_close (world_of (state_of s) b) (sym c.word.ensures i))
+    (λ b i. fd_close (world_of (state_of s) b) (sym c.descriptor.ensures i))
     (λ b. c.fd_close.ensures.answers (world_of (state_of s) b) m refl)

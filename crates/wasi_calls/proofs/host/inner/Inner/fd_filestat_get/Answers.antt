@@ -12,5 +12,5 @@ returns g c = λ used.
     let m = c.args.memory.now in
     serves_volume g.D.Device.honest g.D.Device.disk g.D.Device.size g.D.Device.failures g.R.Read.remaining g.W1.Write.contents g.W2.Write.contents
     call.FdFilestatGet used c.args.arguments.now _ s c.filestat_get.new.volume m _ _ refl c.filestat_get.ensures.io c.requires.set_up c.filestat_get.ensures.step
-    (λ w i. fd_filestat_get w m (sym c.word-fd.ensures i) (sym c.word-result_at.ensures i))
+    (λ w i. fd_filestat_get w m (sym c.descriptor-fd.ensures i) (sym c.word-result_at.ensures i))
     (λ h b. c.filestat_get.ensures.answered h (world_of (state_of s) b) refl refl)

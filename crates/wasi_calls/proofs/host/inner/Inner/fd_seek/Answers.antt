@@ -12,5 +12,5 @@ returns g c = λ used.
     let m = c.args.memory.now in
     serves_moved g.D.Device.honest g.D.Device.disk g.D.Device.size g.D.Device.failures g.R.Read.remaining g.W1.Write.contents g.W2.Write.contents
     call.FdSeek used c.args.arguments.now _ s c.fd_seek.new.volume c.fd_seek.new.descriptors m _ _ refl c.fd_seek.ensures.io c.requires.set_up c.fd_seek.ensures.step c.fd_seek.ensures.entries
-    (λ w i. fd_seek w m (sym c.word-fd.ensures i) (sym c.long-delta.ensures i) (sym c.word-whence.ensures i) (sym c.word-result_at.ensures i))
+    (λ w i. fd_seek w m (sym c.descriptor-fd.ensures i) (sym c.long-delta.ensures i) (sym c.word-whence.ensures i) (sym c.word-result_at.ensures i))
     (λ h b. c.fd_seek.ensures.answered h (world_of (state_of s) b) refl refl)

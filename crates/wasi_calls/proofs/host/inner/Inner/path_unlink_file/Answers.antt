@@ -12,5 +12,5 @@ returns g c = λ used.
     let m = c.args.memory.now in
     serves_volume g.D.Device.honest g.D.Device.disk g.D.Device.size g.D.Device.failures g.R.Read.remaining g.W1.Write.contents g.W2.Write.contents
     call.PathUnlinkFile used c.args.arguments.now _ s c.path_unlink_file.new.volume m m _ refl c.path_unlink_file.ensures.io c.requires.set_up c.path_unlink_file.ensures.step
-    (λ w i. path_unlink_file w m (sym c.word-fd.ensures i) (sym c.word-path.ensures i) (sym c.word-len.ensures i))
+    (λ w i. path_unlink_file w m (sym c.descriptor-fd.ensures i) (sym c.word-path.ensures i) (sym c.word-len.ensures i))
     (λ h b. c.path_unlink_file.ensures.answered h (world_of (state_of s) b) refl refl)
