@@ -7,10 +7,7 @@ ghost use Rattle.path_walk.specs.Rooted.{reached_from_root};
 
 use crate::{Path, Reached, walk};
 use vol_sector::Device;
-use vol_tree::{Errno, Volume};
-
-/// The serial of the root.
-const ROOT: u32 = 1;
+use vol_tree::{Errno, Serial, Volume};
 
 /// What a path reaches from the root, and whether it wants a directory. The empty path is the root;
 /// of any other all is said by `Path::read` and `walk`.
@@ -26,9 +23,9 @@ pub fn walk_from_root<'p, D: Device>(
 {
     volume.is_a_tree(); // a law: the root is there
     if path.is_empty() {
-        return Ok((Reached::Found(ROOT), false));
+        return Ok((Reached::Found(Serial::ROOT.number()), false));
     }
     let read = Path::read(path)?;
-    let found = walk(volume, ROOT, &read)?;
+    let found = walk(volume, Serial::ROOT, &read)?;
     Ok((found, read.wants_dir()))
 }

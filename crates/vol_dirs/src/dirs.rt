@@ -15,7 +15,7 @@ use crate::keys::key_of;
 use crate::slots::slot_sector;
 use crate::sorted::{insert, least_over, remove};
 use std::alloc::{AllocError, Global};
-use vol_inode::{Entry, Version, read_entry, write_entry};
+use vol_inode::{Entry, Serial, Version, read_entry, write_entry};
 use vol_log::{FIRST_AFTER_LOG, Log};
 use vol_sector::{Device, DeviceFault, VolumeFault};
 
@@ -71,8 +71,9 @@ impl Dirs {
         }
         let mut dirs = Dirs::reserve(alloc, slots)?;
         for slot in 0..slots {
-            let image = log.read(slot_sector(slot + 1))?;
-            dirs.hold_image(version, slot + 1, &image);
+            let serial = Serial::new(slot + 1);
+            let image = log.read(slot_sector(serial))?;
+            dirs.hold_image(version, serial, &image);
         }
         Ok(dirs)
     }
@@ -82,9 +83,9 @@ impl Dirs {
     pub fn lookup<D: Device>(
         &self,
         log: &Log<D>,
-        parent: u32,
+        parent: Serial,
         name: &[u8],
-    ) -> Result<Option<u32>, DeviceFault>
+    ) -> Result<Option<Serial>, DeviceFault>
         requires { IsName name.now }
         ensures failed { is_err result ≡ has_failed log.now }
         ensures found { IfOk result (λ found. MatchOption found
@@ -99,14 +100,14 @@ impl Dirs {
         Ok(self.serial_of(parent, name))
     }
 
-    /// The least serial over `after` of an entry in a directory. Where the log has failed, it
+    /// The least serial over the number `after` of an entry in a directory. Where the log has failed, it
     /// answers that.
     pub fn next_child<D: Device>(
         &self,
         log: &Log<D>,
-        parent: u32,
+        parent: Serial,
         after: u32,
-    ) -> Result<Option<u32>, DeviceFault>
+    ) -> Result<Option<Serial>, DeviceFault>
         ensures failed { is_err result ≡ has_failed log.now }
         ensures found { IfOk result (λ found. MatchOption found
             (NoChildOver self.now parent after)
@@ -119,29 +120,29 @@ impl Dirs {
     }
 
     /// Whether a serial is in use.
-    pub fn is_used(&self, serial: u32) -> bool
+    pub fn is_used(&self, serial: Serial) -> bool
         requires first { 1 ≤ serial }
         requires last { serial ≤ slots_of self.now }
         ensures used { IsTrue result → IsFree self.now serial → ⊥ }
         ensures free { result ≡ false → IsFree self.now serial }
     {
-        self.used[(serial - 1) as usize]
+        self.used[(serial.number() - 1) as usize]
     }
 
     /// The least serial that isn't in use, if there is one.
-    pub fn least_free(&self) -> Option<u32>
+    pub fn least_free(&self) -> Option<Serial>
         ensures { MatchOption result (NoneIsFree self.now) (λ s. IsLeastFree self.now s) }
     {
         for slot in 0..self.slots {
             if !self.used[slot as usize] {
-                return Some(slot + 1);
+                return Some(Serial::new(slot + 1));
             }
         }
         None
     }
 
     /// Stages an entry in an unused slot.
-    pub fn add<D: Device>(&mut self, log: &mut Log<D>, serial: u32, entry: &Entry)
+    pub fn add<D: Device>(&mut self, log: &mut Log<D>, serial: Serial, entry: &Entry)
         requires first { 1 ≤ serial }
         requires last { serial ≤ slots_of self.old }
         requires free { IsFree self.old serial }
@@ -160,7 +161,7 @@ impl Dirs {
     }
 
     /// Stages an unused slot in an entry's place.
-    pub fn remove<D: Device>(&mut self, log: &mut Log<D>, serial: u32, entry: &Entry)
+    pub fn remove<D: Device>(&mut self, log: &mut Log<D>, serial: Serial, entry: &Entry)
         requires held { Names self.old entry.now.parent (name_of entry.now) serial }
         requires can { CanStageSlot log.old (slots_of self.old) }
         ensures names { (p : ℕ) (n : List ℕ) (s : ℕ) → Names self.new p n s
@@ -176,7 +177,13 @@ impl Dirs {
     }
 
     /// Stages an entry with another parent or name in its place.
-    pub fn relocate<D: Device>(&mut self, log: &mut Log<D>, serial: u32, from: &Entry, to: &Entry)
+    pub fn relocate<D: Device>(
+        &mut self,
+        log: &mut Log<D>,
+        serial: Serial,
+        from: &Entry,
+        to: &Entry,
+    )
         requires held { Names self.old from.now.parent (name_of from.now) serial }
         requires named { HasName to.now }
         requires can { CanStageSlot log.old (slots_of self.old) }
@@ -194,24 +201,24 @@ impl Dirs {
     }
 
     /// The least serial that a name in a directory is held with.
-    fn serial_of(&self, parent: u32, name: &[u8]) -> Option<u32>
+    fn serial_of(&self, parent: Serial, name: &[u8]) -> Option<Serial>
         requires { IsName name.now }
         ensures found { MatchOption result ((s : ℕ) → Names self.now parent name.now s → ⊥)
             (λ s. Names self.now parent name.now s) }
         ensures least { IfSome result (λ s. IsLeastOf self.now parent name.now s) }
     {
-        let key = key_of(parent, name);
+        let key = key_of(parent.number(), name);
         let (found, serial) = least_over(&self.keys, &(key, 0))?;
-        (found == key).then_some(serial)
+        (found == key).then_some(Serial::new(serial))
     }
 
-    /// The least serial over `after` that is held with a directory.
-    fn child_over(&self, parent: u32, after: u32) -> Option<u32>
+    /// The least serial over the number `after` that is held with a directory.
+    fn child_over(&self, parent: Serial, after: u32) -> Option<Serial>
         ensures { MatchOption result (NoChildOver self.now parent after)
             (λ s. IsNextChild self.now parent after s) }
     {
-        let (found, serial) = least_over(&self.children, &(parent, after))?;
-        (found == parent).then_some(serial)
+        let (found, serial) = least_over(&self.children, &(parent.number(), after))?;
+        (found == parent.number()).then_some(Serial::new(serial))
     }
 
     /// No names, with the memory for those of all slots. It is refused where there is none.
@@ -231,7 +238,7 @@ impl Dirs {
     }
 
     /// Takes up the name of the entry that a slot holds, if it holds one.
-    fn hold_image(&mut self, version: Version, serial: u32, image: &[u8; 512])
+    fn hold_image(&mut self, version: Version, serial: Serial, image: &[u8; 512])
         requires first { 1 ≤ serial }
         requires last { serial ≤ slots_of self.old }
         requires free { IsFree self.old serial }
@@ -246,7 +253,7 @@ impl Dirs {
     }
 
     /// Takes up the name of the entry that a slot holds. Nothing is staged.
-    pub fn hold(&mut self, serial: u32, entry: &Entry)
+    pub fn hold(&mut self, serial: Serial, entry: &Entry)
         requires first { 1 ≤ serial }
         requires last { serial ≤ slots_of self.old }
         requires free { IsFree self.old serial }
@@ -256,21 +263,23 @@ impl Dirs {
         ensures slots { slots_of self.new ≡ slots_of self.old }
     {
         let key = key_of(entry.parent, &entry.name[..entry.name_length as usize]);
-        insert(&mut self.keys, (key, serial));
-        insert(&mut self.children, (entry.parent, serial));
-        self.used[(serial - 1) as usize] = true;
+        let number = serial.number();
+        insert(&mut self.keys, (key, number));
+        insert(&mut self.children, (entry.parent, number));
+        self.used[(number - 1) as usize] = true;
     }
 
     /// Gives up the name of an entry that is held.
-    fn forget(&mut self, serial: u32, entry: &Entry)
+    fn forget(&mut self, serial: Serial, entry: &Entry)
         requires held { Names self.old entry.now.parent (name_of entry.now) serial }
         ensures names { (p : ℕ) (n : List ℕ) (s : ℕ) → Names self.new p n s
             ↔ (Names self.old p n s × (s ≢ serial)) }
         ensures slots { slots_of self.new ≡ slots_of self.old }
     {
         let key = key_of(entry.parent, &entry.name[..entry.name_length as usize]);
-        remove(&mut self.keys, &(key, serial));
-        remove(&mut self.children, &(entry.parent, serial));
-        self.used[(serial - 1) as usize] = false;
+        let number = serial.number();
+        remove(&mut self.keys, &(key, number));
+        remove(&mut self.children, &(entry.parent, number));
+        self.used[(number - 1) as usize] = false;
     }
 }

@@ -10,7 +10,7 @@ ghost use Rattle.vol_dirs.specs.Names.{slots_of, Shows};
 
 use crate::Dirs;
 use std::alloc::{AllocError, Global};
-use vol_inode::Entry;
+use vol_inode::{Entry, Serial};
 
 impl Dirs {
     /// The names of a volume whose first slot holds this entry, and whose other slots aren't used.
@@ -28,7 +28,7 @@ impl Dirs {
         ensures slots { IfOk result (λ dirs. slots_of dirs ≡ slots) }
     {
         let mut dirs = Dirs::reserve(alloc, slots)?;
-        dirs.hold(1, root);
+        dirs.hold(Serial::ROOT, root);
         Ok(dirs)
     }
 }

@@ -7,6 +7,7 @@ mod image;
 mod names;
 mod pointers;
 mod rules;
+mod serial;
 mod space;
 mod version;
 
@@ -16,5 +17,6 @@ pub use image::{put_bytes, put_number};
 pub use names::is_name;
 pub use pointers::{DIRECT, DOUBLE_INDIRECT, INDIRECT, LISTED, MOST_BLOCKS, NUMBERS};
 pub use rules::first_block_of_pointer;
+pub use serial::Serial;
 pub use space::need;
 pub use version::{LARGEST_SIZE, Version};

@@ -1,14 +1,13 @@
 -- An image stands for its tree by the volume's own sectors alone.
-use Rattle.std.proofs.Common.{◌≡◌, ◌≢◌, ℕ, zero, suc, ◌+◌, ◌≤◌, ◌<◌, List, [], ◌∷◌, length, get_or, Option, Some, None, refl, sym, ◌∙◌, ap, subst, arith, inl, inr}
+use Rattle.std.proofs.Common.{◌≡◌, ℕ, ◌+◌, ◌≤◌, ◌<◌, List, [], ◌∷◌, length, get_or, Some, None, refl, sym, ◌∙◌, ap, subst, arith, inr}
 use Rattle.std.specs.Prelude.{◌==◌, if◌then◌else◌}
 use Rattle.vol_sector.specs.Disk.{Image}
 use Rattle.vol_log.specs.Header.{IsHeader}
 use Rattle.vol_log.specs.Batch.{over, logged}
 use Rattle.vol_inode.specs.declared.entry.Entry.{Entry}
-use Rattle.vol_body.specs.Body.{BlockPosition, IsPosition, named, IsSameFile, SameSectors}
+use Rattle.vol_body.specs.Body.{named, IsSameFile, SameSectors}
 use Rattle.vol_body.proofs.Same.{same_file, same_rules}
 use Rattle.vol_tree.specs.declared.superblock.Superblock.{Superblock}
-use Rattle.vol_tree.specs.Superblock.{HasRanges, superblock}
 use Rattle.vol_tree.specs.Tree.{Tree, IsTree}
 use Rattle.vol_tree.specs.Space.{space}
 use Rattle.vol_tree.specs.Stands.{Slots, tree_of, IsVolume, StandsAs}

@@ -11,11 +11,11 @@ ghost use Rattle.vol_tree.specs.internal.Reads.{CanRead, HaveTree, HaveTreeSoon,
 
 use crate::reaching::{has_flag, lead_to_root, stand_in_directories};
 use crate::reading::{Entries, read_entries};
-use crate::stat::ROOT;
 use crate::superblock::Superblock;
 use std::alloc::{AllocError, Global};
 use vol_alloc::Alloc;
 use vol_dirs::Dirs;
+use vol_inode::Serial;
 use vol_log::{FIRST_AFTER_LOG, Log};
 use vol_sector::{Device, VolumeFault};
 
@@ -27,7 +27,7 @@ fn make_a_tree(alloc: Global, found: &Entries) -> Result<bool, AllocError>
     ensures yes { IfOk result (λ tree. IsTrue tree → HaveTree found.now) }
     ensures no { IfOk result (λ tree. HaveTreeSoon found.now → IsTrue tree) }
 {
-    if !has_flag(&found.directories, ROOT) {
+    if !has_flag(&found.directories, Serial::ROOT.number()) {
         return Ok(false);
     }
     if !stand_in_directories(&found.parents, &found.directories) {

@@ -12,7 +12,7 @@ use crate::Errno;
 use crate::parts::Parts;
 use vol_body::{Source, set_size, write_at};
 use vol_dirs::slot_sector;
-use vol_inode::{Version, need};
+use vol_inode::{Serial, Version, need};
 use vol_log::FIRST_AFTER_LOG;
 use vol_sector::Device;
 
@@ -22,7 +22,7 @@ impl<D: Device> Parts<D> {
     ghost use Rattle.vol_tree.specs.internal.Parts.{IsOpen};
 
     /// Writes some bytes into a file.
-    pub fn write(&mut self, file: u32, offset: u64, bytes: &Source<'_>) -> Result<(), Errno>
+    pub fn write(&mut self, file: Serial, offset: u64, bytes: &Source<'_>) -> Result<(), Errno>
         requires is_open { IsOpen self.old }
         requires first { 1 ≤ file }
         requires last { file ≤ self.old.numbers.slots }
@@ -56,7 +56,7 @@ impl<D: Device> Parts<D> {
     }
 
     /// Sets the size of a file. Bytes that it gains are zeros.
-    pub fn set_size(&mut self, file: u32, size: u64) -> Result<(), Errno>
+    pub fn set_size(&mut self, file: Serial, size: u64) -> Result<(), Errno>
         requires is_open { IsOpen self.old }
         requires first { 1 ≤ file }
         requires last { file ≤ self.old.numbers.slots }

@@ -14,7 +14,7 @@ use crate::Volume;
 use crate::layout::SUPERBLOCK;
 use crate::superblock::{Superblock, has_ranges, write_superblock};
 use vol_dirs::slot_sector;
-use vol_inode::{Entry, Kind, Version, write_entry};
+use vol_inode::{Entry, Kind, Serial, Version, write_entry};
 use vol_log::{FIRST_AFTER_LOG, HEADER};
 use vol_sector::{Device, DeviceFault, Refused, VolumeFault};
 
@@ -150,7 +150,7 @@ fn write_slots<D: Device>(device: &mut D, slots: u32) -> Result<(), DeviceFault>
     ensures failures { D.failures device.new ≡ counted (is_err result) (D.failures device.old) }
 {
     for s in 0..slots {
-        device.write(slot_sector(s + 1), &fresh_slot(s))?;
+        device.write(slot_sector(Serial::new(s + 1)), &fresh_slot(s))?;
     }
     Ok(())
 }

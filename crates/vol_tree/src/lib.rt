@@ -30,4 +30,5 @@ pub use laws::{
 pub use stat::Stat;
 pub use stats::Stats;
 pub use vol_body::{Source, Span};
+pub use vol_inode::Serial;
 pub use volume::Volume;

@@ -14,8 +14,7 @@ ghost use Rattle.vol_tree.specs.internal.Replacing.{replacing};
 
 use crate::Errno;
 use crate::parts::{Parts, padded};
-use crate::stat::ROOT;
-use vol_inode::{Entry, Kind};
+use vol_inode::{Entry, Kind, Serial};
 use vol_sector::Device;
 
 impl<D: Device> Parts<D> {
@@ -27,7 +26,7 @@ impl<D: Device> Parts<D> {
     ghost use Rattle.vol_tree.specs.internal.Moves.{Moves, MovesIn, IsAbove, MovesTo};
 
     /// Gives an entry another place or name, in place of the one that has it.
-    pub fn rename(&mut self, serial: u32, parent: u32, name: &[u8]) -> Result<(), Errno>
+    pub fn rename(&mut self, serial: Serial, parent: Serial, name: &[u8]) -> Result<(), Errno>
         requires is_open { IsOpen self.old }
         requires first { 1 ≤ serial }
         requires last { serial ≤ self.old.numbers.slots }
@@ -42,7 +41,7 @@ impl<D: Device> Parts<D> {
             self.old self.new result }
     {
         let target = self.dirs.lookup(&self.log, parent, name)?;
-        if serial == ROOT {
+        if serial == Serial::ROOT {
             return Err(Errno::Invalid);
         }
         if self.is_within(serial, parent)? {
@@ -56,7 +55,7 @@ impl<D: Device> Parts<D> {
     }
 
     /// Gives an entry a name that no other has.
-    fn move_to(&mut self, serial: u32, parent: u32, name: &[u8]) -> Result<(), Errno>
+    fn move_to(&mut self, serial: Serial, parent: Serial, name: &[u8]) -> Result<(), Errno>
         requires is_open { IsOpen self.old }
         requires first { 1 ≤ serial }
         requires last { serial ≤ self.old.numbers.slots }
@@ -75,7 +74,13 @@ impl<D: Device> Parts<D> {
 
     /// Gives an entry the name of another one, which goes: a directory that of an empty directory,
     /// a file that of a file.
-    fn move_onto(&mut self, serial: u32, parent: u32, name: &[u8], target: u32) -> Result<(), Errno>
+    fn move_onto(
+        &mut self,
+        serial: Serial,
+        parent: Serial,
+        name: &[u8],
+        target: Serial,
+    ) -> Result<(), Errno>
         requires is_open { IsOpen self.old }
         requires first { 1 ≤ serial }
         requires last { serial ≤ self.old.numbers.slots }
@@ -102,7 +107,7 @@ impl<D: Device> Parts<D> {
     }
 
     /// Whether a directory is the entry, or stands below it.
-    fn is_within(&mut self, serial: u32, directory: u32) -> Result<bool, Errno>
+    fn is_within(&mut self, serial: Serial, directory: Serial) -> Result<bool, Errno>
         requires is_open { IsOpen self.old }
         requires working { has_failed self.old.log ≡ false }
         requires serial { 2 ≤ serial }
@@ -122,7 +127,7 @@ impl<D: Device> Parts<D> {
             if at == serial {
                 return Ok(true);
             }
-            if at == ROOT {
+            if at == Serial::ROOT {
                 return Ok(false);
             }
             at = self.above(at)?;
@@ -133,7 +138,7 @@ impl<D: Device> Parts<D> {
     /// The directory that an entry other than the root is in.
     ///
     /// Where it names none, which no honest device shows, it is refused as `Invalid`.
-    fn above(&mut self, serial: u32) -> Result<u32, Errno>
+    fn above(&mut self, serial: Serial) -> Result<Serial, Errno>
         requires is_open { IsOpen self.old }
         requires first { 1 ≤ serial }
         requires last { serial ≤ self.old.numbers.slots }
@@ -153,11 +158,11 @@ impl<D: Device> Parts<D> {
         if self.numbers.slots < entry.parent {
             return Err(Errno::Invalid);
         }
-        Ok(entry.parent)
+        Ok(Serial::new(entry.parent))
     }
 
     /// Gives an entry a place and a name that no other has.
-    fn relocate(&mut self, serial: u32, entry: &Entry, parent: u32, name: &[u8])
+    fn relocate(&mut self, serial: Serial, entry: &Entry, parent: Serial, name: &[u8])
         requires is_open { IsOpen self.old }
         requires working { has_failed self.old.log ≡ false }
         requires room { 1 ≤ room_of self.old.log }
@@ -178,7 +183,7 @@ impl<D: Device> Parts<D> {
 }
 
 /// The entry, with another place and name.
-fn named_entry(entry: &Entry, parent: u32, name: &[u8]) -> Entry
+fn named_entry(entry: &Entry, parent: Serial, name: &[u8]) -> Entry
     requires parent { 1 ≤ parent }
     requires name { IsName name.now }
     ensures right { (version : Version) → IsEntry version entry.now → IsEntry version result }
@@ -191,7 +196,7 @@ fn named_entry(entry: &Entry, parent: u32, name: &[u8]) -> Entry
     Entry {
         kind: entry.kind,
         name_length: name.len() as u8,
-        parent,
+        parent: parent.number(),
         size: entry.size,
         name: padded(name),
         pointers: entry.pointers,

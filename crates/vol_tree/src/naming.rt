@@ -11,10 +11,9 @@ ghost use Rattle.vol_tree.specs.Opened.{is_io};
 
 use crate::Errno;
 use crate::parts::Parts;
-use crate::stat::ROOT;
 use vol_body::set_size;
 use vol_dirs::slot_sector;
-use vol_inode::{Entry, is_name, need};
+use vol_inode::{Entry, Serial, is_name, need};
 use vol_sector::{Device, DeviceFault};
 
 impl<D: Device> Parts<D> {
@@ -26,7 +25,7 @@ impl<D: Device> Parts<D> {
     ghost use Rattle.vol_tree.specs.internal.Removals.{Removes, TakesOut};
 
     /// Takes a file out of its directory, and its space back.
-    pub fn unlink(&mut self, file: u32) -> Result<(), Errno>
+    pub fn unlink(&mut self, file: Serial) -> Result<(), Errno>
         requires is_open { IsOpen self.old }
         requires first { 1 ≤ file }
         requires last { file ≤ self.old.numbers.slots }
@@ -42,7 +41,7 @@ impl<D: Device> Parts<D> {
     }
 
     /// Takes an empty directory out of the one that it is in.
-    pub fn rmdir(&mut self, directory: u32) -> Result<(), Errno>
+    pub fn rmdir(&mut self, directory: Serial) -> Result<(), Errno>
         requires is_open { IsOpen self.old }
         requires first { 1 ≤ directory }
         requires last { directory ≤ self.old.numbers.slots }
@@ -52,7 +51,7 @@ impl<D: Device> Parts<D> {
             self.old self.new result }
     {
         let child = self.dirs.next_child(&self.log, directory, 0)?;
-        if directory == ROOT {
+        if directory == Serial::ROOT {
             return Err(Errno::Invalid);
         }
         if child.is_some() {
@@ -67,7 +66,7 @@ impl<D: Device> Parts<D> {
     /// The entry of a serial other than the root's, which the names hold too.
     ///
     /// Where they don't, which no honest device shows, it is refused as `Invalid`.
-    pub(crate) fn held_entry(&mut self, serial: u32) -> Result<Entry, Errno>
+    pub(crate) fn held_entry(&mut self, serial: Serial) -> Result<Entry, Errno>
         requires is_open { IsOpen self.old }
         requires first { 1 ≤ serial }
         requires last { serial ≤ self.old.numbers.slots }
@@ -89,14 +88,17 @@ impl<D: Device> Parts<D> {
         if !is_name(name) {
             return Err(Errno::Invalid);
         }
-        match self.dirs.lookup(&self.log, entry.parent, name)? {
+        match self
+            .dirs
+            .lookup(&self.log, Serial::new(entry.parent), name)?
+        {
             Some(found) if found == serial => Ok(entry),
             _ => Err(Errno::Invalid),
         }
     }
 
     /// Takes an entry out that nothing stands in, with the sectors that it names.
-    pub(crate) fn take_out(&mut self, serial: u32, mut entry: Entry) -> Result<(), DeviceFault>
+    pub(crate) fn take_out(&mut self, serial: Serial, mut entry: Entry) -> Result<(), DeviceFault>
         requires is_open { IsOpen self.old }
         requires working { has_failed self.old.log ≡ false }
         requires room { 5 ≤ room_of self.old.log }

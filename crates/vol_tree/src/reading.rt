@@ -13,12 +13,11 @@ ghost use Rattle.vol_tree.specs.internal.Parts.{IsContent};
 ghost use Rattle.vol_tree.specs.internal.Replacing.{kind_is_directory};
 ghost use Rattle.vol_tree.specs.internal.Reads.{CanRead, held_at, IsNew, IsRight, AreBelow, Adds, AreWithin, FitIn, HaveRead};
 
-use crate::stat::ROOT;
 use crate::superblock::Superblock;
 use std::alloc::{AllocError, Global};
 use vol_body::survey;
 use vol_dirs::{Dirs, slot_sector};
-use vol_inode::{Entry, Kind, need, read_entry};
+use vol_inode::{Entry, Kind, Serial, need, read_entry};
 use vol_log::{FIRST_AFTER_LOG, Log};
 use vol_sector::{Device, VolumeFault};
 
@@ -100,17 +99,18 @@ fn is_directory(entry: &Entry) -> bool
 
 /// Whether the entry has a parent, unless it is the root's, and a name that no entry before has
 /// there.
-fn is_placed<D: Device>(log: &Log<D>, dirs: &Dirs, serial: u32, entry: &Entry) -> bool
+fn is_placed<D: Device>(log: &Log<D>, dirs: &Dirs, serial: Serial, entry: &Entry) -> bool
     requires working { has_failed log.now ≡ false }
     requires named { HasName entry.now }
     ensures yes { IsTrue result → IsNew dirs.now serial entry.now }
     ensures no { IsNew dirs.now serial entry.now → IsTrue result }
 {
-    if serial == ROOT || entry.parent == 0 {
-        return serial == ROOT && entry.parent == 0;
+    let is_root = serial == Serial::ROOT;
+    if is_root || entry.parent == 0 {
+        return is_root && entry.parent == 0;
     }
     let name = &entry.name[..entry.name_length as usize];
-    match dirs.lookup(log, entry.parent, name) {
+    match dirs.lookup(log, Serial::new(entry.parent), name) {
         Ok(Some(_)) => false,
         Ok(None) => true,
         Err(_) => false,
@@ -122,7 +122,7 @@ fn take_up<D: Device>(
     log: &mut Log<D>,
     numbers: &Superblock,
     dirs: &mut Dirs,
-    serial: u32,
+    serial: Serial,
     entry: &Entry,
     found: &mut Entries,
 ) -> Result<(), VolumeFault>
@@ -197,9 +197,10 @@ fn read_slot<D: Device>(
     ensures reads { OnlyReads log.old log.new }
     ensures failed { has_failed log.new ≡ device_failed result }
 {
-    let image = log.read(slot_sector(slot + 1))?;
+    let serial = Serial::new(slot + 1);
+    let image = log.read(slot_sector(serial))?;
     match read_entry(numbers.version, &image) {
-        Ok(Some(entry)) => take_up(log, numbers, dirs, slot + 1, &entry, found),
+        Ok(Some(entry)) => take_up(log, numbers, dirs, serial, &entry, found),
         Ok(None) => found.pass(),
         Err(_) => Err(VolumeFault::Damaged),
     }

@@ -4,6 +4,7 @@ ghost use Rattle.vol_log.specs.Log.{device_of};
 ghost use Rattle.std.specs.Prelude.{◌≡◌};
 
 use crate::parts::Parts;
+use vol_inode::Serial;
 use vol_sector::Device;
 
 /// What is told of a volume.
@@ -31,7 +32,7 @@ impl<D: Device> Parts<D> {
     {
         let mut count = 0;
         for slot in 0..self.numbers.slots {
-            if self.dirs.is_used(slot + 1) {
+            if self.dirs.is_used(Serial::new(slot + 1)) {
                 count += 1;
             }
         }

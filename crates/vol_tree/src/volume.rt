@@ -30,7 +30,7 @@ use std::alloc::Global;
 use std::marker::Model;
 use vol_body::{Source, read_at};
 use vol_dirs::each_serial_has_one_name;
-use vol_inode::{Kind, Version};
+use vol_inode::{Kind, Serial, Version};
 use vol_log::{FIRST_AFTER_LOG, Log};
 use vol_sector::{Device, Refused, VolumeFault};
 
@@ -200,7 +200,7 @@ impl<D: Device> Volume<D> {
     }
 
     /// The serial of a name in a directory.
-    pub fn lookup(&mut self, directory: u32, name: &[u8]) -> Result<Option<u32>, Errno>
+    pub fn lookup(&mut self, directory: Serial, name: &[u8]) -> Result<Option<Serial>, Errno>
         requires name { IsName name.now }
         ensures answer { D.honest self.old.device
             → Tells (lookup self.old.tree directory name.now) self.old.tree self.new.tree result }
@@ -215,8 +215,8 @@ impl<D: Device> Volume<D> {
         Ok(found)
     }
 
-    /// The least serial over `after` of an entry in a directory.
-    pub fn list_next(&mut self, directory: u32, after: u32) -> Result<Option<u32>, Errno>
+    /// The least serial over the number `after` of an entry in a directory.
+    pub fn list_next(&mut self, directory: Serial, after: u32) -> Result<Option<Serial>, Errno>
         ensures answer { D.honest self.old.device
             → Tells (next_child self.old.tree directory after) self.old.tree self.new.tree
             result }
@@ -230,7 +230,7 @@ impl<D: Device> Volume<D> {
     }
 
     /// What an entry is, and where it stands.
-    pub fn stat(&mut self, serial: u32) -> Result<Stat, Errno>
+    pub fn stat(&mut self, serial: Serial) -> Result<Stat, Errno>
         requires first { 1 ≤ serial }
         requires last { serial ≤ self.old.numbers.slots }
         requires used { D.honest self.old.device → IsSome (entry self.old.tree serial) }
@@ -256,7 +256,7 @@ impl<D: Device> Volume<D> {
     }
 
     /// Makes an empty file.
-    pub fn create_file(&mut self, parent: u32, name: &[u8]) -> Result<u32, Errno>
+    pub fn create_file(&mut self, parent: Serial, name: &[u8]) -> Result<Serial, Errno>
         requires serial { 1 ≤ parent }
         requires name { IsName name.now }
         requires directory { D.honest self.old.device → IsDirectory self.old.tree parent }
@@ -275,7 +275,7 @@ impl<D: Device> Volume<D> {
     }
 
     /// Makes an empty directory.
-    pub fn create_dir(&mut self, parent: u32, name: &[u8]) -> Result<u32, Errno>
+    pub fn create_dir(&mut self, parent: Serial, name: &[u8]) -> Result<Serial, Errno>
         requires serial { 1 ≤ parent }
         requires name { IsName name.now }
         requires directory { D.honest self.old.device → IsDirectory self.old.tree parent }
@@ -295,7 +295,7 @@ impl<D: Device> Volume<D> {
 
     /// Writes at most 16,384 bytes into a file. A gap before them reads as zeros; of no bytes
     /// nothing changes.
-    pub fn write(&mut self, file: u32, offset: u64, bytes: &[u8]) -> Result<(), Errno>
+    pub fn write(&mut self, file: Serial, offset: u64, bytes: &[u8]) -> Result<(), Errno>
         requires first { 1 ≤ file }
         requires last { file ≤ self.old.numbers.slots }
         requires piece { length bytes.now ≤ PIECE }
@@ -315,7 +315,7 @@ impl<D: Device> Volume<D> {
 
     /// Writes at most 16,384 bytes, which stand in one slice or in several, into a file, as `write`
     /// does.
-    pub fn write_from(&mut self, file: u32, offset: u64, bytes: &Source<'_>) -> Result<(), Errno>
+    pub fn write_from(&mut self, file: Serial, offset: u64, bytes: &Source<'_>) -> Result<(), Errno>
         requires first { 1 ≤ file }
         requires last { file ≤ self.old.numbers.slots }
         requires piece { length bytes.now ≤ PIECE }
@@ -340,7 +340,7 @@ impl<D: Device> Volume<D> {
     }
 
     /// Sets the size of a file in bytes. Bytes that it gains are zeros.
-    pub fn set_size(&mut self, file: u32, size: u64) -> Result<(), Errno>
+    pub fn set_size(&mut self, file: Serial, size: u64) -> Result<(), Errno>
         requires first { 1 ≤ file }
         requires last { file ≤ self.old.numbers.slots }
         requires used { D.honest self.old.device → IsTrue (is_file_at self.old.tree file) }
@@ -359,7 +359,7 @@ impl<D: Device> Volume<D> {
 
     /// Reads the bytes of a file from an offset on into the buffer, as many as there are and fit,
     /// and says how many. Where it is refused, a beginning of them may stand in the buffer.
-    pub fn read(&mut self, file: u32, offset: u64, buffer: &mut [u8]) -> Result<usize, Errno>
+    pub fn read(&mut self, file: Serial, offset: u64, buffer: &mut [u8]) -> Result<usize, Errno>
         requires first { 1 ≤ file }
         requires last { file ≤ self.old.numbers.slots }
         requires used { D.honest self.old.device → IsTrue (is_file_at self.old.tree file) }
@@ -376,7 +376,7 @@ impl<D: Device> Volume<D> {
     }
 
     /// Takes a file out of its directory, and gives its space back.
-    pub fn unlink(&mut self, file: u32) -> Result<(), Errno>
+    pub fn unlink(&mut self, file: Serial) -> Result<(), Errno>
         requires first { 1 ≤ file }
         requires last { file ≤ self.old.numbers.slots }
         requires used { D.honest self.old.device → IsTrue (is_file_at self.old.tree file) }
@@ -392,7 +392,7 @@ impl<D: Device> Volume<D> {
     }
 
     /// Takes an empty directory out of the one that it is in. The root stays.
-    pub fn rmdir(&mut self, directory: u32) -> Result<(), Errno>
+    pub fn rmdir(&mut self, directory: Serial) -> Result<(), Errno>
         requires first { 1 ≤ directory }
         requires last { directory ≤ self.old.numbers.slots }
         requires used { D.honest self.old.device → IsDirectory self.old.tree directory }
@@ -412,7 +412,7 @@ impl<D: Device> Volume<D> {
     /// Gives an entry another place or name. The entry that has it goes: an empty directory where a
     /// directory comes, a file where a file comes. Neither the root may move, nor an entry into
     /// itself or below.
-    pub fn rename(&mut self, serial: u32, parent: u32, name: &[u8]) -> Result<(), Errno>
+    pub fn rename(&mut self, serial: Serial, parent: Serial, name: &[u8]) -> Result<(), Errno>
         requires first { 1 ≤ serial }
         requires last { serial ≤ self.old.numbers.slots }
         requires parent_first { 1 ≤ parent }

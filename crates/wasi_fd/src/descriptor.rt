@@ -5,6 +5,7 @@ ghost use Rattle.wasi_fd.specs.Table.{IsOf};
 
 use crate::Rights;
 use bitflags::Flags;
+use vol_inode::Serial;
 
 /// A stream that the host was given.
 #[derive(Clone, Copy)]
@@ -24,7 +25,7 @@ pub enum EntryKind {
 /// An entry of the volume that is open.
 #[derive(Clone, Copy)]
 pub struct Opened<'g> {
-    /// The entry's serial.
+    /// The number of the entry's serial: a value with a reference beside a `Serial` isn't copied.
     pub serial: u32,
     pub kind: EntryKind,
     /// Where a file is read or written next, in bytes, at most 2^63 - 1.
@@ -73,11 +74,11 @@ impl<'g> Descriptor<'g> {
 }
 
 /// Whether the place has a descriptor of the entry with this serial.
-pub fn is_of(place: &Option<Descriptor<'_>>, serial: u32) -> bool
+pub fn is_of(place: &Option<Descriptor<'_>>, serial: Serial) -> bool
     ensures { IsTrue result ↔ IsOf serial place.now }
 {
     match place {
-        Some(Descriptor::Entry(opened)) => opened.serial == serial,
+        Some(Descriptor::Entry(opened)) => opened.serial == serial.number(),
         _ => false,
     }
 }

@@ -6,6 +6,7 @@ ghost use Rattle.std.specs.Prelude.{Some, None, length, vec_len, slice_index_or,
 use crate::descriptor::is_of;
 use crate::{Descriptor, DescriptorFault, Fd, Stream};
 use std::alloc::{AllocError, Global};
+use vol_inode::Serial;
 
 /// How many descriptors can be open.
 pub const PLACES: usize = 256;
@@ -101,7 +102,7 @@ impl<'g> Descriptors<'g> {
     }
 
     /// Whether some descriptor is one of the entry with this serial.
-    pub fn holds(&self, serial: u32) -> bool
+    pub fn holds(&self, serial: Serial) -> bool
         ensures { IsTrue result ↔ ((n : ℕ) × IsOf serial (table_of self.now n)) }
     {
         self.places.iter().any(|place| is_of(place, serial))

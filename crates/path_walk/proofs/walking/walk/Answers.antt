@@ -18,7 +18,7 @@ pub returns-in-Err-clause-answer : goal.returns-in-Err-clause-answer
 returns-in-Err-clause-answer g c h =
     let text = c.path.inside.text.now in
     let inside : stays_inside 0 (components_of text) ≡ true = sym c.stays_inside.ensures ∙ c.if-not-stays_inside.false in
-    let r = walk_refused c.args.volume.now.tree c.args.directory (wants_directory text) text (c.is_a_tree.ensures.tree h) c.requires.directory.number.first inside c.in-Err.e (c.in-Err.ensures.answer h) in
+    let r = walk_refused c.args.volume.now.tree c.args.directory (wants_directory text) text (c.is_a_tree.ensures.tree h) c.requires.directory.number.first inside c.in-Err.e (rw c.number.ensures at c.in-Err.ensures.answer h) in
     rw (← c.path.view_is) r
 
 pub returns-in-Ok-Found-clause-answer : goal.returns-in-Ok-Found-clause-answer
@@ -27,14 +27,14 @@ returns-in-Ok-Found-clause-answer g c h =
     let inside : stays_inside 0 (components_of text) ≡ true = sym c.stays_inside.ensures ∙ c.if-not-stays_inside.false in
     let asked = c.in-Ok-Found.ensures.asked in
     let r = walk_finds c.args.volume.now.tree c.args.directory c.wants_dir.result text (c.is_a_tree.ensures.tree h) c.requires.directory.number.first inside c.walk_down.new.volume.tree c.in-Ok-Found.serial c.found.result (asked.tree h)
-    (c.in-Ok-Found.ensures.answer h ∙ as_read c.in-Ok-Found.field-0-is) (c.found.ensures.answer (asked.kept.honest.0 h)) in
+    ((rw c.number.ensures at c.in-Ok-Found.ensures.answer h) ∙ as_read c.in-Ok-Found.field-0-is) (c.found.ensures.answer (asked.kept.honest.0 h)) in
     subst (λ wants. Gives (resolved c.args.volume.now.tree c.args.directory wants (components_of c.args.path.now)) c.found.result) c.wants_dir.ensures (rw (← c.path.view_is) r)
 
 pub returns-in-Ok-Missing-clause-answer : goal.returns-in-Ok-Missing-clause-answer
 returns-in-Ok-Missing-clause-answer g c h =
     let text = c.path.inside.text.now in
     let inside : stays_inside 0 (components_of text) ≡ true = sym c.stays_inside.ensures ∙ c.if-not-stays_inside.false in
-    let r = walk_misses c.args.volume.now.tree c.args.directory (wants_directory text) text (c.is_a_tree.ensures.tree h) c.requires.directory.number.first inside c.in-Ok-Missing.parent c.in-Ok-Missing.name.now (c.in-Ok-Missing.ensures.answer h ∙ as_read c.in-Ok-Missing.field-0-is) in
+    let r = walk_misses c.args.volume.now.tree c.args.directory (wants_directory text) text (c.is_a_tree.ensures.tree h) c.requires.directory.number.first inside c.in-Ok-Missing.parent c.in-Ok-Missing.name.now ((rw c.number.ensures at c.in-Ok-Missing.ensures.answer h) ∙ as_read c.in-Ok-Missing.field-0-is) in
     rw (← c.path.view_is) r
 
 pub walk_down-requires-clause-working : goal.walk_down-requires-clause-working

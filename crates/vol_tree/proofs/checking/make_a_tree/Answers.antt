@@ -6,10 +6,11 @@ use Rattle.vol_tree.proofs.checking.make_a_tree.Goals as goal
 
 pub returns-then-not-has_flag : goal.returns-then-not-has_flag
 returns-then-not-has_flag c =
+    let some = rw c.number.ensures at c.has_flag.ensures.some in
     let flag = λ (l : List Bool). get_or l 0 false in
     record {
       yes = λ tree. absurd (false≢true tree);
-      no = λ soon. sym c.if-not-has_flag.true ∙ c.has_flag.ensures.some (omega arith) ∙ ap flag c.deref.ensures.value ∙ soon.top;
+      no = λ soon. sym c.if-not-has_flag.true ∙ some (omega arith) ∙ ap flag c.deref.ensures.value ∙ soon.top;
     }
 
 pub returns-then-not-stand_in_directories : goal.returns-then-not-stand_in_directories
@@ -30,8 +31,9 @@ lead_to_root-requires c =
 
 pub returns : goal.returns
 returns c =
+    let some = rw c.number.ensures at c.has_flag.ensures.some in
     let flag = λ (l : List Bool). get_or l 0 false in
-    let top = ap flag (sym c.deref.ensures.value) ∙ sym (c.has_flag.ensures.some (omega arith)) ∙ c.if-not-has_flag.false in
+    let top = ap flag (sym c.deref.ensures.value) ∙ sym (some (omega arith)) ∙ c.if-not-has_flag.false in
     let stand = subst (λ (ps : List ℕ). StandInDirectories ps c.args.found.now.directories.items) c.deref-2.ensures.value
     (subst (StandInDirectories c.deref-2.result.now) c.deref-3.ensures.value (c.stand_in_directories.ensures.yes c.if-not-stand_in_directories.false)) in
     record {

@@ -1,5 +1,6 @@
 use Rattle.std.proofs.Common.{◌≤◌, ◌∙◌, ℕ, ap, arith, rules}
 use Rattle.vol_sector.specs.Disk.{put}
+use Rattle.vol_dirs.specs.Slots.{slot_sector}
 use Rattle.vol_tree.specs.internal.Formatting.{OnlyAfterLogChanges}
 use Rattle.vol_log.proofs.Moments.{leaves_step}
 use Rattle.vol_tree.proofs.Steps.{wrote_after_log, after_log_joins, slots_more}
@@ -13,7 +14,7 @@ loop-s-preserved g c =
     let e = c.write.ensures in
     let w = c.in_ok-write.ensures.written in
     record {
-      written = λ h. slots_more c.loop-s.s _ _ _ (w (so_far.honest.0 h) ∙ ap (λ (k : ℕ). put k c.fresh_slot.result (g.D.Device.disk c.loop-s.device).seen) c.slot_sector.ensures) c.fresh_slot.ensures (so_far.written h);
+      written = λ h. slots_more c.loop-s.s _ _ _ (w (so_far.honest.0 h) ∙ ap (λ (k : ℕ). put k c.fresh_slot.result (g.D.Device.disk c.loop-s.device).seen) (c.slot_sector.ensures ∙ ap slot_sector c.new.ensures)) c.fresh_slot.ensures (so_far.written h);
       beside = λ h. after_log_joins _ _ _ (so_far.beside h) (wrote_after_log _ _ after_log _ _ (e.seen (so_far.honest.0 h)));
       crash = λ h. leaves_step _ _ _ OnlyAfterLogChanges _ (wrote_after_log _ _ after_log) after_log_joins (so_far.crash h) (e.crash (so_far.honest.0 h));
       honest = search rules;

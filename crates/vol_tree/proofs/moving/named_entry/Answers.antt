@@ -10,10 +10,10 @@ pub returns : goal.returns
 returns c =
     let n = c.args.name.now in
     let was = c.args.entry.now in
-    let e : Entry = record { kind = was.kind; name_length = length n; parent = c.args.parent; size = was.size; name = c.padded.result; pointers = was.pointers } in
+    let e : Entry = record { kind = was.kind; name_length = length n; parent = c.number.result; size = was.size; name = c.padded.result; pointers = was.pointers } in
     record {
-      right = λ version is. renamed_is_entry version was e n is c.requires.parent (omega arith) refl refl refl c.padded.ensures c.requires.name refl;
-      parent = refl;
+      right = λ version is. renamed_is_entry version was e n is (omega (arith, c.requires.parent, c.number.ensures)) (omega arith) refl refl refl c.padded.ensures c.requires.name refl;
+      parent = c.number.ensures;
       name = name_kept e n refl c.padded.ensures;
       kind = refl;
       size = refl;

@@ -64,6 +64,7 @@ returns-in_err-image g c =
 
 pub returns-in-Ok-Some : goal.returns-in-Ok-Some
 returns-in-Ok-Some g c =
+    let slot_is : c.slot_sector.result ≡ slot_sector (c.args.slot + 1) = c.slot_sector.ensures ∙ ap slot_sector c.new-serial.ensures in
     let content = view c.args.log.now in
     let read = c.in_ok-image.ensures in
     let v = c.args.numbers.now in
@@ -72,8 +73,10 @@ returns-in-Ok-Some g c =
     let e = c.in-Ok-Some.entry in
     let r = c.take_up.result in
     let taken = c.take_up.ensures in
+    let names = rw c.new-serial.ensures at taken.names in
+    let placed = rw c.new-serial.ensures at taken.placed in
     let both = subst (λ (o : Option Entry). IfSome o (λ d. IsEntry v.version d × (c.in_ok-image.image ≡ spelling d))) c.in-Ok-Some.field-0-is c.in-Ok-Some.ensures.right in
-    let spelled = λ (h : g.D.Device.honest (device_of c.args.log.now)). let is : content (slot_sector (c.args.slot + 1)) ≡ spelling e = ap content (sym c.slot_sector.ensures) ∙ sym (read.value h) ∙ both.1 in is in
+    let spelled = λ (h : g.D.Device.honest (device_of c.args.log.now)). let is : content (slot_sector (c.args.slot + 1)) ≡ spelling e = ap content (sym slot_is) ∙ sym (read.value h) ∙ both.1 in is in
     record {
       adds = λ h.
           let is = held_some content v c.args.slot c.requires.slot e both.0 (spelled h) in
@@ -82,18 +85,18 @@ returns-in-Ok-Some g c =
       within = taken.within;
       count = taken.count;
       slots = taken.slots;
-      below = on_ok r _ (λ done p n s held. elim ((at_ok r _ taken.names done p n s).0 held) [
+      below = on_ok r _ (λ done p n s held. elim ((at_ok r _ names done p n s).0 held) [
         | inl old ↦ omega (arith, c.requires.before p n s old)
         | inr that ↦ omega (arith, that.serial_is)
       ]);
-      shows = λ h. on_ok r _ (λ done. shown_more v.version content c.args.slot e dirs c.take_up.new.dirs (c.requires.shown h) both.0 (spelled h) (at_ok r _ taken.names done));
+      shows = λ h. on_ok r _ (λ done. shown_more v.version content c.args.slot e dirs c.take_up.new.dirs (c.requires.shown h) both.0 (spelled h) (at_ok r _ names done));
       right = λ h.
           let trimmed = subst (λ (m : Image). OnOk r (IsTrimmed m e)) (read.view h) (taken.trimmed (read.honest.0 h)) in
           on_ok r _ (λ done. right_some content v c.args.slot c.requires.slot e both.0 (spelled h)
-          (new_placed content v c.args.slot c.requires.slot e both.0 (spelled h) dirs (c.requires.shown h) (at_ok r _ taken.placed done)) (at_ok r _ trimmed done));
+          (new_placed content v c.args.slot c.requires.slot e both.0 (spelled h) dirs (c.requires.shown h) (at_ok r _ placed done)) (at_ok r _ trimmed done));
       damaged = λ h.
           let damaged = subst (λ (m : Image). IfErr r (λ fault. fault ≡ Damaged
-          → IsNew dirs (c.args.slot + 1) e → IsTrimmed m e → FitIn m v (Some e) found → ⊥)) (read.view h) (taken.damaged (read.honest.0 h)) in
+          → IsNew dirs (c.args.slot + 1) e → IsTrimmed m e → FitIn m v (Some e) found → ⊥)) (read.view h) (rw c.new-serial.ensures at taken.damaged (read.honest.0 h)) in
           IfErr-weaker r _ _ (λ fault none is. some_contradicts content v c.args.slot c.requires.slot e both.0 (spelled h) dirs (c.requires.shown h) found (none is)) damaged;
       refused = taken.refused;
       reads = reads_then c.args.log.now c.read.new.self c.take_up.new.log read.failed (reads_of c.args.log.now c.read.new.self false read.view read.staged read.seen read.crash read.sectors read.honest read.size read.failures read.failed) taken.reads;
@@ -102,6 +105,7 @@ returns-in-Ok-Some g c =
 
 pub returns-in-Ok-None : goal.returns-in-Ok-None
 returns-in-Ok-None g c =
+    let slot_is : c.slot_sector.result ≡ slot_sector (c.args.slot + 1) = c.slot_sector.ensures ∙ ap slot_sector c.new-serial.ensures in
     let content = view c.args.log.now in
     let read = c.in_ok-image.ensures in
     let v = c.args.numbers.now in
@@ -109,7 +113,7 @@ returns-in-Ok-None g c =
     let found = c.args.found.now in
     let r = c.pass.result in
     let passed = c.pass.ensures in
-    let none = λ (h : g.D.Device.honest (device_of c.args.log.now)). let is : content (slot_sector (c.args.slot + 1)) ≡ unused = ap content (sym c.slot_sector.ensures) ∙ sym (read.value h) ∙ c.in-Ok-None.ensures.unused.0 (ap Ok c.in-Ok-None.field-0-is) in is in
+    let none = λ (h : g.D.Device.honest (device_of c.args.log.now)). let is : content (slot_sector (c.args.slot + 1)) ≡ unused = ap content (sym slot_is) ∙ sym (read.value h) ∙ c.in-Ok-None.ensures.unused.0 (ap Ok c.in-Ok-None.field-0-is) in is in
     record {
       adds = λ h.
           let is = held_none content v c.args.slot c.requires.slot (none h) in
@@ -131,6 +135,7 @@ returns-in-Ok-None g c =
 
 pub returns-in-Err : goal.returns-in-Err
 returns-in-Err g c =
+    let slot_is : c.slot_sector.result ≡ slot_sector (c.args.slot + 1) = c.slot_sector.ensures ∙ ap slot_sector c.new-serial.ensures in
     let read = c.in_ok-image.ensures in
     let e = c.in-Err.ensures in
     let why = c.in-Err.field-0 in
@@ -143,8 +148,8 @@ returns-in-Err g c =
       shows = λ h. tt;
       right = λ h. tt;
       damaged = λ h is right fits.
-          refused_contradicts (view c.args.log.now) c.args.numbers.now c.args.slot (λ d is_entry spelled. err_not_ok why (Some d) (e.every d is_entry (read.value h ∙ ap (view c.args.log.now) c.slot_sector.ensures ∙ spelled)))
-          (λ none. err_not_ok why None (e.unused.1 (read.value h ∙ ap (view c.args.log.now) c.slot_sector.ensures ∙ none))) right;
+          refused_contradicts (view c.args.log.now) c.args.numbers.now c.args.slot (λ d is_entry spelled. err_not_ok why (Some d) (e.every d is_entry (read.value h ∙ ap (view c.args.log.now) slot_is ∙ spelled)))
+          (λ none. err_not_ok why None (e.unused.1 (read.value h ∙ ap (view c.args.log.now) slot_is ∙ none))) right;
       refused = inl refl;
       reads = reads_of c.args.log.now c.read.new.self false read.view read.staged read.seen read.crash read.sectors read.honest read.size read.failures read.failed;
       failed = read.failed;

@@ -28,16 +28,16 @@ invariant_of-self-clause-listing c =
     let old = c.args.self.now in
     let e = c.args.entry.now in
     let free = key_free old.slots old.keys.items old.children.items old.listing c.args.serial c.requires.free in
-    let more = rw c.key_of-key.ensures at c.insert.ensures.adds in
+    let more = rw (c.key_of-key.ensures, c.number-number.ensures) at c.insert.ensures.adds in
     let narrow : e.parent < 2 ^ 32 = omega arith in
     listing_more old.slots old.keys.items old.children.items old.listing e.parent c.args.serial (name_of e) narrow (plain_name_of e c.requires.named) c.insert.new.items.items c.insert-2.new.items.items
-    c.requires.first c.requires.last free more c.insert-2.ensures.adds c.insert.ensures.rises c.insert-2.ensures.rises
+    c.requires.first c.requires.last free more (rw c.number-number.ensures at c.insert-2.ensures.adds) c.insert.ensures.rises c.insert-2.ensures.rises
 
 pub returns-clause-names : goal.returns-clause-names
 returns-clause-names c p n s =
     let old = c.args.self.now in
     let e = c.args.entry.now in
-    let more = rw c.key_of-key.ensures at c.insert.ensures.adds in
+    let more = rw (c.key_of-key.ensures, c.number-number.ensures) at c.insert.ensures.adds in
     let narrow : e.parent < 2 ^ 32 = omega arith in
     let names = names_more old.slots old.keys.items old.children.items old.listing e.parent c.args.serial (name_of e) narrow (plain_name_of e c.requires.named) c.insert.new.items.items c.insert-2.new.items.items more p n s in (
       λ h. elim (names.0 h) [ inl kept ↦ inl kept | inr (parent, name, serial) ↦ inr (record { parent_is = parent; name_is = name; serial_is = serial }) ],
@@ -48,6 +48,6 @@ pub invariant_of-self-clause-marked : goal.invariant_of-self-clause-marked
 invariant_of-self-clause-marked c =
     let old = c.args.self.now in
     let e = c.args.entry.now in
-    let more = rw c.key_of-key.ensures at c.insert.ensures.adds in
-    marks_more old.slots old.keys.items old.used.items old.marked c.args.serial c.requires.first c.requires.last (key_of e.parent (name_of e)) c.insert.new.items.items
-    (λ key t has. (old.listing.numbered key t has).0) more
+    let more = rw (c.key_of-key.ensures, c.number-number.ensures) at c.insert.ensures.adds in
+    rw c.number-number.ensures (marks_more old.slots old.keys.items old.used.items old.marked c.args.serial c.requires.first c.requires.last (key_of e.parent (name_of e)) c.insert.new.items.items
+    (λ key t has. (old.listing.numbered key t has).0) more)

@@ -1,4 +1,4 @@
-use Rattle.std.proofs.Common.{◌≡◌, ◌≢◌, ◌<◌, ◌^◌, ◌∙◌, ℕ, List, sym, subst, arith}
+use Rattle.std.proofs.Common.{◌≡◌, ◌≢◌, ◌<◌, ◌^◌, ◌∙◌, ℕ, List, sym, ap, subst, arith}
 use Rattle.std.specs.List.{Contains}
 use Rattle.std.proofs.lemmas.Bool.{false≢true}
 use Rattle.std.proofs.lemmas.Slice.Eq.{bytes_eq-Decides}
@@ -12,7 +12,8 @@ use Rattle.vol_dirs.proofs.dirs.Dirs.serial_of.Goals as goal
 pub returns-in_err-found-clause-found : goal.returns-in_err-found-clause-found
 returns-in_err-found-clause-found c = none_at_all _ _ _ c.from_residual.ensures (λ s held.
     let dirs = c.args.self.now in
-    let none = rw (c.deref.ensures.value, c.key_of-key.ensures) at c.in_err-found.ensures.none in
+    let key_is : c.key_of-key.result ≡ key_of c.args.parent c.args.name.now = c.key_of-key.ensures ∙ ap (λ (k : ℕ). key_of k c.args.name.now) c.number.ensures in
+    let none = rw (c.deref.ensures.value, key_is) at c.in_err-found.ensures.none in
     let bounds = dirs.listing.numbered (key_of c.args.parent c.args.name.now) s held.held in
     no_key dirs.keys.items (key_of c.args.parent c.args.name.now) s none bounds.0 held.held)
 
@@ -22,13 +23,14 @@ returns-in_err-found-clause-least c = none_at_all _ _ _ c.from_residual.ensures 
 pub returns-clause-least : goal.returns-clause-least
 returns-clause-least c =
     let dirs = c.args.self.now in
+    let key_is : c.key_of-key.result ≡ key_of c.args.parent c.args.name.now = c.key_of-key.ensures ∙ ap (λ (k : ℕ). key_of k c.args.name.now) c.number.ensures in
     let key = key_of c.args.parent c.args.name.now in
     let serial = c.in_ok-found.serial in
-    let least = rw (c.deref.ensures.value, c.key_of-key.ensures) at c.in_ok-found.ensures.found in
+    let least = rw (c.deref.ensures.value, key_is) at c.in_ok-found.ensures.found in
     let tells = bytes_eq-Decides c.in_ok-found.found c.key_of-key.result in
-    one_or_none _ _ _ _ _ c.then_some.ensures
+    one_or_none _ _ _ _ _ (rw c.new.ensures at c.then_some.ensures)
     (λ test t held.
-    let same : c.in_ok-found.found ≡ key = tells.0 (sym c.eq.ensures ∙ test) ∙ c.key_of-key.ensures in
+    let same : c.in_ok-found.found ≡ key = tells.0 (sym c.eq.ensures ∙ test) ∙ key_is in
     let bounds = dirs.listing.numbered key t held.held in
     least_key dirs.keys.items key serial t (subst (λ (k : List ℕ). IsLeastOver key_order dirs.keys.items (key, 0) (k, serial)) same least) bounds.0 held.held)
     (λ test. tt)
@@ -36,15 +38,16 @@ returns-clause-least c =
 pub returns-clause-found : goal.returns-clause-found
 returns-clause-found c =
     let dirs = c.args.self.now in
+    let key_is : c.key_of-key.result ≡ key_of c.args.parent c.args.name.now = c.key_of-key.ensures ∙ ap (λ (k : ℕ). key_of k c.args.name.now) c.number.ensures in
     let key = key_of c.args.parent c.args.name.now in
-    let least = rw (c.deref.ensures.value, c.key_of-key.ensures) at c.in_ok-found.ensures.found in
+    let least = rw (c.deref.ensures.value, key_is) at c.in_ok-found.ensures.found in
     let tells = bytes_eq-Decides c.in_ok-found.found c.key_of-key.result in
     let narrow : c.args.parent < 2 ^ 32 = omega arith in
-    one_or_none _ _ _ _ _ c.then_some.ensures
+    one_or_none _ _ _ _ _ (rw c.new.ensures at c.then_some.ensures)
     (λ test.
-    let same : c.in_ok-found.found ≡ key = tells.0 (sym c.eq.ensures ∙ test) ∙ c.key_of-key.ensures in
+    let same : c.in_ok-found.found ≡ key = tells.0 (sym c.eq.ensures ∙ test) ∙ key_is in
     record { narrow = narrow; plain = plain_name c.args.name.now c.requires; held = subst (λ (k : List ℕ). Contains dirs.keys.items (k, c.in_ok-found.serial)) same least.there })
     (λ test s held.
-    let differ : c.in_ok-found.found ≢ key = λ same. false≢true (sym test ∙ c.eq.ensures ∙ tells.1 (same ∙ sym c.key_of-key.ensures)) in
+    let differ : c.in_ok-found.found ≢ key = λ same. false≢true (sym test ∙ c.eq.ensures ∙ tells.1 (same ∙ sym key_is)) in
     let bounds = dirs.listing.numbered key s held.held in
     no_key_before dirs.keys.items key c.in_ok-found.found c.in_ok-found.serial s least differ bounds.0 held.held)

@@ -1,4 +1,4 @@
-use Rattle.std.proofs.Common.{◌≡◌, ◌∙◌, ◌-◌, suc, sym, ap, refl, arith}
+use Rattle.std.proofs.Common.{◌≡◌, ◌∙◌, ◌-◌, suc, sym, ap, arith}
 use Rattle.std.proofs.lemmas.Option.{none-some}
 use Rattle.vol_log.specs.Log.{view}
 use Rattle.vol_tree.specs.Tree.{entry}
@@ -35,4 +35,4 @@ returns-clause-answer g c h other used =
     let old = c.args.self.now in
     let d = c.in_ok-entry.entry in
     let found = c.in_ok-entry.ensures.found h used in
-    record { below = entry_of (view old.log) d; at = tree_entry (view old.log) old.numbers c.args.serial d c.requires.first found; is = refl }
+    record { below = entry_of (view old.log) d; at = tree_entry (view old.log) old.numbers c.args.serial d c.requires.first found; is = sym c.new.ensures }

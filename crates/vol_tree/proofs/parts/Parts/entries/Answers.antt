@@ -16,7 +16,7 @@ loop-slot-preserved g c =
     let p = c.args.self.now in
     let T = tree_in (view p.log) p.numbers in
     let slot = c.loop-slot.slot in
-    let next : slot + 1 ≡ suc slot = omega arith in
+    let next : c.new.result ≡ suc slot = omega (arith, c.new.ensures) in
     let was = c.loop-slot.invariant in
     elim c.if-is_used.branch [
       | then-is_used w ↦ record {

@@ -6,6 +6,7 @@ use Rattle.vol_log.specs.Log.{view}
 use Rattle.vol_inode.specs.declared.entry.Entry.{Entry}
 use Rattle.vol_inode.specs.Entry.{name_of}
 use Rattle.vol_dirs.specs.Names.{Names}
+use Rattle.vol_dirs.proofs.Lookups.{equal, different}
 use Rattle.vol_tree.specs.internal.Slots.{slot_of}
 use Rattle.vol_tree.specs.internal.Commits.{Commits}
 use Rattle.vol_tree.specs.Stands.{Slots}
@@ -64,13 +65,13 @@ returns-in-Some g c =
     let dirs = c.entry.new.self.dirs in
     let e = c.in_ok-entry.ensures in
     let d = c.in_ok-entry.entry in
-    let names : Names dirs d.parent (name_of d) c.in-Some.found = subst (λ (o : Option ℕ). MatchOption o ((s : ℕ) → Names dirs d.parent (name_of d) s → ⊥) (λ s. Names dirs d.parent (name_of d) s)) c.in-Some.is c.in_ok-found.ensures.found in
+    let names : Names dirs d.parent (name_of d) c.in-Some.found = subst (λ (o : Option ℕ). MatchOption o ((s : ℕ) → Names dirs d.parent (name_of d) s → ⊥) (λ s. Names dirs d.parent (name_of d) s)) c.in-Some.is (rw c.new.ensures at c.in_ok-found.ensures.found) in
     record {
       commits = e.commits;
       quiet = e.quiet;
       view = e.view;
       right = e.right;
-      held = subst (Names dirs d.parent (name_of d)) c.if-found-serial.true names;
+      held = subst (Names dirs d.parent (name_of d)) (equal c.in-Some.found c.args.serial (sym c.eq.ensures ∙ c.if-eq.true)) names;
       found = λ h other used. e.found h used;
     }
 
@@ -90,8 +91,8 @@ returns-in_default g c =
           let h1 = commits.kept.honest.0 h in
           let slot : slot_of (view mid.log) mid.numbers c.args.serial ≡ Some d = ap (λ (s : Slots). get_or s (c.args.serial - 1) None) (commits.slots h) ∙ e.found h used in
           let there = is_found (view mid.log) mid.numbers mid.dirs (commits.is_open.content h1) (commits.is_open.shows h1) c.args.serial d c.requires.first other slot in
-          let looks = looks_up (view mid.log) mid.numbers mid.dirs (commits.is_open.content h1) (commits.is_open.shows h1) c.in_ok-found.field-0 d.parent (name_of d) c.in_ok-found.ensures.found in
-          absurd (c.if-found-serial.false (same_Some c.in-Some.found c.args.serial (sym c.in-Some.is ∙ looks ∙ there.1)));
+          let looks = looks_up (view mid.log) mid.numbers mid.dirs (commits.is_open.content h1) (commits.is_open.shows h1) c.in_ok-found.field-0 d.parent (name_of d) (rw c.new.ensures at c.in_ok-found.ensures.found) in
+          absurd (different c.in-Some.found c.args.serial (sym c.eq.ensures ∙ c.if-eq.false) (same_Some c.in-Some.found c.args.serial (sym c.in-Some.is ∙ looks ∙ there.1)));
     }
 
 pub returns-in_default-2 : goal.returns-in_default-2
@@ -110,6 +111,6 @@ returns-in_default-2 g c =
           let h1 = commits.kept.honest.0 h in
           let slot : slot_of (view mid.log) mid.numbers c.args.serial ≡ Some d = ap (λ (s : Slots). get_or s (c.args.serial - 1) None) (commits.slots h) ∙ e.found h used in
           let there = is_found (view mid.log) mid.numbers mid.dirs (commits.is_open.content h1) (commits.is_open.shows h1) c.args.serial d c.requires.first other slot in
-          let looks = looks_up (view mid.log) mid.numbers mid.dirs (commits.is_open.content h1) (commits.is_open.shows h1) c.in_ok-found.field-0 d.parent (name_of d) c.in_ok-found.ensures.found in
+          let looks = looks_up (view mid.log) mid.numbers mid.dirs (commits.is_open.content h1) (commits.is_open.shows h1) c.in_ok-found.field-0 d.parent (name_of d) (rw c.new.ensures at c.in_ok-found.ensures.found) in
           absurd (none-some c.args.serial (sym c.in_default.is ∙ looks ∙ there.1));
     }

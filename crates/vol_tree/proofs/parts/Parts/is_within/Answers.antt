@@ -1,5 +1,6 @@
 use Rattle.std.proofs.Common.{is_some, ◌≡◌, ◌∙◌, ◌+◌, ◌-◌, ℕ, suc, Bool, false, true, length, sym, ap, subst, arith}
 use Rattle.vol_log.specs.Log.{view, device_of}
+use Rattle.vol_dirs.proofs.Lookups.{equal, different}
 use Rattle.vol_tree.specs.declared.superblock.Superblock.{Superblock}
 use Rattle.vol_tree.specs.Tree.{Tree, entry}
 use Rattle.vol_tree.specs.Calls.{is_within}
@@ -24,32 +25,32 @@ loop-step-init g c = record {
   same = λ h. ap (λ (k : ℕ). is_within k (tree_in (view c.args.self.now.log) c.args.self.now.numbers) c.args.serial c.args.directory) (omega arith);
 }
 
-pub returns-then-at-serial-clause-commits : goal.returns-then-at-serial-clause-commits
-returns-then-at-serial-clause-commits g c = c.loop-step.invariant.commits
+pub returns-then-eq-clause-commits : goal.returns-then-eq-clause-commits
+returns-then-eq-clause-commits g c = c.loop-step.invariant.commits
 
-pub returns-then-at-serial-clause-quiet : goal.returns-then-at-serial-clause-quiet
-returns-then-at-serial-clause-quiet g c = c.loop-step.invariant.quiet
+pub returns-then-eq-clause-quiet : goal.returns-then-eq-clause-quiet
+returns-then-eq-clause-quiet g c = c.loop-step.invariant.quiet
 
-pub returns-then-at-serial-clause-answer : goal.returns-then-at-serial-clause-answer
-returns-then-at-serial-clause-answer g c h =
+pub returns-then-eq-clause-answer : goal.returns-then-eq-clause-answer
+returns-then-eq-clause-answer g c h =
     let old = c.args.self.now in
     let T = tree_in (view old.log) old.numbers in
     let whole : is_within (length T) T c.args.serial c.args.directory ≡ is_within old.numbers.slots T c.args.serial c.args.directory = ap (λ (k : ℕ). is_within k T c.args.serial c.args.directory) (length_tree (view old.log) old.numbers) in
-    sym (whole ∙ sym (c.loop-step.invariant.same h) ∙ within_here (old.numbers.slots - c.loop-step.step) T c.args.serial c.loop-step.at c.if-at-serial.true)
+    sym (whole ∙ sym (c.loop-step.invariant.same h) ∙ within_here (old.numbers.slots - c.loop-step.step) T c.args.serial c.loop-step.at (equal c.loop-step.at c.args.serial (sym c.eq.ensures ∙ c.if-eq.true)))
 
-pub returns-then-at-eq-ROOT-clause-commits : goal.returns-then-at-eq-ROOT-clause-commits
-returns-then-at-eq-ROOT-clause-commits g c = c.loop-step.invariant.commits
+pub returns-then-eq-2-clause-commits : goal.returns-then-eq-2-clause-commits
+returns-then-eq-2-clause-commits g c = c.loop-step.invariant.commits
 
-pub returns-then-at-eq-ROOT-clause-quiet : goal.returns-then-at-eq-ROOT-clause-quiet
-returns-then-at-eq-ROOT-clause-quiet g c = c.loop-step.invariant.quiet
+pub returns-then-eq-2-clause-quiet : goal.returns-then-eq-2-clause-quiet
+returns-then-eq-2-clause-quiet g c = c.loop-step.invariant.quiet
 
-pub returns-then-at-eq-ROOT-clause-answer : goal.returns-then-at-eq-ROOT-clause-answer
-returns-then-at-eq-ROOT-clause-answer g c h =
+pub returns-then-eq-2-clause-answer : goal.returns-then-eq-2-clause-answer
+returns-then-eq-2-clause-answer g c h =
     let old = c.args.self.now in
     let T = tree_in (view old.log) old.numbers in
     let whole : is_within (length T) T c.args.serial c.args.directory ≡ is_within old.numbers.slots T c.args.serial c.args.directory = ap (λ (k : ℕ). is_within k T c.args.serial c.args.directory) (length_tree (view old.log) old.numbers) in
     let k = old.numbers.slots - c.loop-step.step in
-    sym (whole ∙ sym (c.loop-step.invariant.same h) ∙ ap (is_within k T c.args.serial) c.if-at-eq-ROOT.true ∙ within_root k T c.args.serial (c.requires.is_open.content h).volume.tree c.requires.serial)
+    sym (whole ∙ sym (c.loop-step.invariant.same h) ∙ ap (is_within k T c.args.serial) (equal c.loop-step.at 1 (sym c.eq-in-loop-step.ensures ∙ c.if-eq-2.true)) ∙ within_root k T c.args.serial (c.requires.is_open.content h).volume.tree c.requires.serial)
 
 pub above-requires-clause-is_open : goal.above-requires-clause-is_open
 above-requires-clause-is_open g c = c.loop-step.invariant.commits.is_open
@@ -74,7 +75,7 @@ returns-in_err-at-clause-answer g c h =
     let commits = c.loop-step.invariant.commits in
     let h1 = commits.kept.honest.0 h in
     let at : is_some (entry (tree_in (view c.loop-step.self.log) c.loop-step.self.numbers) c.loop-step.at) ≡ true = ap (λ (T : Tree). is_some (entry T c.loop-step.at)) (commits.tree h) ∙ c.loop-step.invariant.used h in
-    passed_err c.from_residual.result c.in_err-at.field-0.0 _ c.from_residual.ensures.1 (c.in_err-at.ensures.answer h1 c.if-at-eq-ROOT.false at)
+    passed_err c.from_residual.result c.in_err-at.field-0.0 _ c.from_residual.ensures.1 (c.in_err-at.ensures.answer h1 (different c.loop-step.at 1 (sym c.eq-in-loop-step.ensures ∙ c.if-eq-2.false)) at)
 
 pub loop-step-preserved : goal.loop-step-preserved
 loop-step-preserved g c =
@@ -86,18 +87,18 @@ loop-step-preserved g c =
     let above = λ (h : g.D.Device.honest (device_of start.log)).
     let h1 = was.commits.kept.honest.0 h in
     let at : is_some (entry (tree_in (view c.loop-step.self.log) c.loop-step.self.numbers) c.loop-step.at) ≡ true = ap (λ (U : Tree). is_some (entry U c.loop-step.at)) (was.commits.tree h) ∙ was.used h in
-    let up : IsAbove T c.loop-step.at c.in_ok-at.at = subst (λ (U : Tree). IsAbove U c.loop-step.at c.in_ok-at.at) (was.commits.tree h) (done.answer h1 c.if-at-eq-ROOT.false at) in
+    let up : IsAbove T c.loop-step.at c.in_ok-at.at = subst (λ (U : Tree). IsAbove U c.loop-step.at c.in_ok-at.at) (was.commits.tree h) (done.answer h1 (different c.loop-step.at 1 (sym c.eq-in-loop-step.ensures ∙ c.if-eq-2.false)) at) in
     up in
     record {
       commits = commits_then start c.loop-step.self c.above.new.self false was.commits done.commits;
       quiet = quiet_then start c.loop-step.self c.above.new.self was.commits.kept.honest.0 was.quiet done.quiet;
       first = done.range.0;
       last = omega (arith, done.range.1, same_slots);
-      used = λ h. above_used T (c.requires.is_open.content h).volume.tree c.loop-step.at c.in_ok-at.at c.if-at-eq-ROOT.false (above h);
+      used = λ h. above_used T (c.requires.is_open.content h).volume.tree c.loop-step.at c.in_ok-at.at (different c.loop-step.at 1 (sym c.eq-in-loop-step.ensures ∙ c.if-eq-2.false)) (above h);
       same = λ h.
           let k = start.numbers.slots - (c.loop-step.step + 1) in
           let more : start.numbers.slots - c.loop-step.step ≡ suc k = omega (arith, c.loop-step-test.true) in
-          sym (within_step k T c.args.serial c.loop-step.at c.in_ok-at.at c.if-at-serial.false (above h))
+          sym (within_step k T c.args.serial c.loop-step.at c.in_ok-at.at (different c.loop-step.at c.args.serial (sym c.eq.ensures ∙ c.if-eq.false)) (above h))
           ∙ sym (ap (λ (m : ℕ). is_within m T c.args.serial c.loop-step.at) more) ∙ was.same h;
     }
 
@@ -113,4 +114,4 @@ returns-clause-answer g c h =
     let T = tree_in (view old.log) old.numbers in
     let whole : is_within (length T) T c.args.serial c.args.directory ≡ is_within old.numbers.slots T c.args.serial c.args.directory = ap (λ (k : ℕ). is_within k T c.args.serial c.args.directory) (length_tree (view old.log) old.numbers) in
     let none : old.numbers.slots - c.loop-step.step ≡ 0 = omega (arith, c.loop-step-test.false) in
-    sym (whole ∙ sym (c.loop-step.invariant.same h) ∙ ap (λ (k : ℕ). is_within k T c.args.serial c.loop-step.at) none)
+    c.eq-2.ensures ∙ sym (whole ∙ sym (c.loop-step.invariant.same h) ∙ ap (λ (k : ℕ). is_within k T c.args.serial c.loop-step.at) none)

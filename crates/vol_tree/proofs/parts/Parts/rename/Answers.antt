@@ -2,6 +2,7 @@ use Rattle.std.proofs.Common.{MatchOption, ◌≡◌, ◌∙◌, ◌≤◌, ℕ,
 use Rattle.std.proofs.lemmas.Option.{same_Some}
 use Rattle.vol_log.specs.Log.{view}
 use Rattle.vol_dirs.specs.Names.{Names, slots_of}
+use Rattle.vol_dirs.proofs.Lookups.{equal, different}
 use Rattle.vol_tree.specs.declared.superblock.Superblock.{Superblock}
 use Rattle.vol_tree.specs.declared.errno.Errno.TheVariants as errno
 use Rattle.vol_tree.specs.Tree.{Tree, lookup}
@@ -25,17 +26,17 @@ returns-in_err-target g c =
     let old = c.args.self.now in
     refused_io _ old old c.from_residual.result c.from_residual.ensures.1 (no_commit old true c.requires.is_open (sym c.in_err-target.ensures.failed))
 
-pub returns-then-serial-eq-ROOT : goal.returns-then-serial-eq-ROOT
-returns-then-serial-eq-ROOT g c =
+pub returns-then-eq : goal.returns-then-eq
+returns-then-eq g c =
     let old = c.args.self.now in
     refused _ old old errno.Invalid (no_commit old false c.requires.is_open (sym c.in_ok-target.ensures.failed)) (nothing_done old) (λ h.
-    inl (ap with_unit (renamed_root (tree_in (view old.log) old.numbers) c.args.serial c.args.parent c.args.name.now c.if-serial-eq-ROOT.true)))
+    inl (ap with_unit (renamed_root (tree_in (view old.log) old.numbers) c.args.serial c.args.parent c.args.name.now (equal c.args.serial 1 (sym c.eq.ensures ∙ c.if-eq.true)))))
 
 pub is_within-requires : goal.is_within-requires
 is_within-requires g c = record {
   is_open = c.requires.is_open;
   working = sym c.in_ok-target.ensures.failed;
-  serial = omega (arith, c.requires.first, c.if-serial-eq-ROOT.false);
+  serial = let other = different c.args.serial 1 (sym c.eq.ensures ∙ c.if-eq.false) in omega (arith, c.requires.first, other);
   first = c.requires.parent_first;
   last = c.requires.parent_last;
   used = c.requires.directory;
@@ -52,7 +53,7 @@ returns-then-branch g c =
     let old = c.args.self.now in
     let T = tree_in (view old.log) old.numbers in
     refused _ old c.is_within.new.self errno.Invalid c.in_ok-is_within.ensures.commits c.in_ok-is_within.ensures.quiet (λ h.
-    inl (ap with_unit (renamed_within T c.args.serial c.args.parent c.args.name.now c.if-serial-eq-ROOT.false (sym (c.in_ok-is_within.ensures.answer h) ∙ c.if-branch.true))))
+    inl (ap with_unit (renamed_within T c.args.serial c.args.parent c.args.name.now (different c.args.serial 1 (sym c.eq.ensures ∙ c.if-eq.false)) (sym (c.in_ok-is_within.ensures.answer h) ∙ c.if-branch.true))))
 
 -- ---- it moves
 
@@ -72,7 +73,7 @@ move_to-requires g c =
           let content = c.requires.is_open.content h in
           let looks = looks_up (view old.log) old.numbers old.dirs content (c.requires.is_open.shows h) c.in_ok-target.target c.args.parent c.args.name.now c.in_ok-target.ensures.found in
           let apart : is_within (length T) T c.args.serial c.args.parent ≡ false = sym (c.in_ok-is_within.ensures.answer h) ∙ c.if-branch.false in
-          let into = may_move_in T content.volume.tree c.args.serial c.args.parent (c.requires.used h) c.if-serial-eq-ROOT.false (c.requires.directory h) apart in
+          let into = may_move_in T content.volume.tree c.args.serial c.args.parent (c.requires.used h) (different c.args.serial 1 (sym c.eq.ensures ∙ c.if-eq.false)) (c.requires.directory h) apart in
           let none : lookup T c.args.parent c.args.name.now ≡ None = sym looks ∙ c.in-None.is in
           subst (λ (U : Tree). Moves U c.args.serial c.args.parent c.args.name.now) (sym (commits.tree h)) (may_move T c.args.serial c.args.parent c.args.name.now into none);
     }
@@ -93,14 +94,14 @@ move_onto-requires g c =
       last = subst (λ (v : Superblock). c.args.serial ≤ v.slots) (sym commits.kept.numbers) c.requires.last;
       target_first = numbered.0;
       target_last = subst (λ (v : Superblock). target ≤ v.slots) (sym commits.kept.numbers) (omega (arith, last, c.requires.is_open.slots));
-      other = λ same. c.if-target-serial.false (same_Some c.in-Some.target target (sym c.in-Some.is ∙ c.in-Some-2.is) ∙ same);
+      other = λ same. different c.in-Some.target c.args.serial (sym (rw c.in-Some.is at c.if-eq-2.ensures)) (same_Some c.in-Some.target target (sym c.in-Some.is ∙ c.in-Some-2.is) ∙ same);
       parent_first = c.requires.parent_first;
       name = c.requires.name;
       moves = λ h1.
           let h = commits.kept.honest.1 h1 in
           let content = c.requires.is_open.content h in
           let apart : is_within (length T) T c.args.serial c.args.parent ≡ false = sym (c.in_ok-is_within.ensures.answer h) ∙ c.if-branch.false in
-          let into = may_move_in T content.volume.tree c.args.serial c.args.parent (c.requires.used h) c.if-serial-eq-ROOT.false (c.requires.directory h) apart in
+          let into = may_move_in T content.volume.tree c.args.serial c.args.parent (c.requires.used h) (different c.args.serial 1 (sym c.eq.ensures ∙ c.if-eq.false)) (c.requires.directory h) apart in
           subst (λ (U : Tree). MovesIn U c.args.serial c.args.parent) (sym (commits.tree h)) into;
       there = λ h1.
           let h = commits.kept.honest.1 h1 in
@@ -118,10 +119,10 @@ returns-in-None g c =
     let content = c.requires.is_open.content h in
     let looks = looks_up (view old.log) old.numbers old.dirs content (c.requires.is_open.shows h) c.in_ok-target.target c.args.parent c.args.name.now c.in_ok-target.ensures.found in
     let apart : is_within (length T) T c.args.serial c.args.parent ≡ false = sym (c.in_ok-is_within.ensures.answer h) ∙ c.if-branch.false in
-    let into = may_move_in T content.volume.tree c.args.serial c.args.parent (c.requires.used h) c.if-serial-eq-ROOT.false (c.requires.directory h) apart in
+    let into = may_move_in T content.volume.tree c.args.serial c.args.parent (c.requires.used h) (different c.args.serial 1 (sym c.eq.ensures ∙ c.if-eq.false)) (c.requires.directory h) apart in
     let none : lookup T c.args.parent c.args.name.now ≡ None = sym looks ∙ c.in-None.is in
     ap (λ (U : Tree). with_unit (Ok (moved U c.args.serial c.args.parent c.args.name.now))) (commits.tree h)
-    ∙ sym (ap with_unit (renamed_free T c.args.serial c.args.parent c.args.name.now c.if-serial-eq-ROOT.false apart none)))
+    ∙ sym (ap with_unit (renamed_free T c.args.serial c.args.parent c.args.name.now (different c.args.serial 1 (sym c.eq.ensures ∙ c.if-eq.false)) apart none)))
 
 pub returns-in-Some : goal.returns-in-Some
 returns-in-Some g c =
@@ -133,10 +134,10 @@ returns-in-Some g c =
     let content = c.requires.is_open.content h in
     let looks = looks_up (view old.log) old.numbers old.dirs content (c.requires.is_open.shows h) c.in_ok-target.target c.args.parent c.args.name.now c.in_ok-target.ensures.found in
     let apart : is_within (length T) T c.args.serial c.args.parent ≡ false = sym (c.in_ok-is_within.ensures.answer h) ∙ c.if-branch.false in
-    let into = may_move_in T content.volume.tree c.args.serial c.args.parent (c.requires.used h) c.if-serial-eq-ROOT.false (c.requires.directory h) apart in
+    let into = may_move_in T content.volume.tree c.args.serial c.args.parent (c.requires.used h) (different c.args.serial 1 (sym c.eq.ensures ∙ c.if-eq.false)) (c.requires.directory h) apart in
     let found : lookup T c.args.parent c.args.name.now ≡ Some c.in-Some.target = sym looks ∙ c.in-Some.is in
-    ap with_unit (renamed_onto T c.args.serial c.args.parent c.in-Some.target c.args.name.now c.if-serial-eq-ROOT.false apart found
-    ∙ onto_itself T c.args.serial c.args.parent c.in-Some.target c.args.name.now c.if-target-serial.true))
+    ap with_unit (renamed_onto T c.args.serial c.args.parent c.in-Some.target c.args.name.now (different c.args.serial 1 (sym c.eq.ensures ∙ c.if-eq.false)) apart found
+    ∙ onto_itself T c.args.serial c.args.parent c.in-Some.target c.args.name.now (equal c.in-Some.target c.args.serial (sym (rw c.in-Some.is at c.if-eq-2.ensures)))))
 
 pub returns-in-Some-2 : goal.returns-in-Some-2
 returns-in-Some-2 g c =
@@ -148,7 +149,7 @@ returns-in-Some-2 g c =
     let content = c.requires.is_open.content h in
     let looks = looks_up (view old.log) old.numbers old.dirs content (c.requires.is_open.shows h) c.in_ok-target.target c.args.parent c.args.name.now c.in_ok-target.ensures.found in
     let apart : is_within (length T) T c.args.serial c.args.parent ≡ false = sym (c.in_ok-is_within.ensures.answer h) ∙ c.if-branch.false in
-    let into = may_move_in T content.volume.tree c.args.serial c.args.parent (c.requires.used h) c.if-serial-eq-ROOT.false (c.requires.directory h) apart in
+    let into = may_move_in T content.volume.tree c.args.serial c.args.parent (c.requires.used h) (different c.args.serial 1 (sym c.eq.ensures ∙ c.if-eq.false)) (c.requires.directory h) apart in
     let found : lookup T c.args.parent c.args.name.now ≡ Some c.in-Some-2.target = sym looks ∙ c.in-Some-2.is in
     ap (λ (U : Tree). with_unit (moved_onto U c.args.serial c.args.parent c.args.name.now c.in-Some-2.target)) (commits.tree h)
-    ∙ sym (ap with_unit (renamed_onto T c.args.serial c.args.parent c.in-Some-2.target c.args.name.now c.if-serial-eq-ROOT.false apart found)))
+    ∙ sym (ap with_unit (renamed_onto T c.args.serial c.args.parent c.in-Some-2.target c.args.name.now (different c.args.serial 1 (sym c.eq.ensures ∙ c.if-eq.false)) apart found)))

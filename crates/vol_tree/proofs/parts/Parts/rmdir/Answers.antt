@@ -4,6 +4,7 @@ use Rattle.vol_inode.specs.declared.entry.Entry.{Entry}
 use Rattle.vol_inode.specs.Entry.{IsEntry, name_of}
 use Rattle.vol_dirs.specs.declared.dirs.Dirs.{Dirs}
 use Rattle.vol_dirs.specs.Names.{Names}
+use Rattle.vol_dirs.proofs.Lookups.{equal, different}
 use Rattle.vol_tree.specs.declared.superblock.Superblock.{Superblock}
 use Rattle.vol_tree.specs.declared.errno.Errno.TheVariants as errno
 use Rattle.vol_tree.specs.Tree.{Tree, changed}
@@ -25,11 +26,11 @@ returns-in_err-child g c =
     let old = c.args.self.now in
     refused_io _ old old c.from_residual.result c.from_residual.ensures.1 (no_commit old true c.requires.is_open (sym c.in_err-child.ensures.failed))
 
-pub returns-then-directory-eq-ROOT : goal.returns-then-directory-eq-ROOT
-returns-then-directory-eq-ROOT g c =
+pub returns-then-eq : goal.returns-then-eq
+returns-then-eq g c =
     let old = c.args.self.now in
     refused _ old old errno.Invalid (no_commit old false c.requires.is_open (sym c.in_ok-child.ensures.failed)) (nothing_done old) (λ h.
-    inl (ap with_unit (removed_root (tree_in (view old.log) old.numbers) c.args.directory c.if-directory-eq-ROOT.true)))
+    inl (ap with_unit (removed_root (tree_in (view old.log) old.numbers) c.args.directory (equal c.args.directory 1 (sym c.eq.ensures ∙ c.if-eq.true)))))
 
 pub returns-then-is_some : goal.returns-then-is_some
 returns-then-is_some g c =
@@ -37,7 +38,7 @@ returns-then-is_some g c =
     let ok : has_failed old.log ≡ false = sym c.in_ok-child.ensures.failed in
     refused _ old old errno.NotEmpty (no_commit old false c.requires.is_open ok) (nothing_done old) (λ h.
     let full = some_in (view old.log) old.numbers old.dirs (c.requires.is_open.content h) (c.requires.is_open.shows h) c.in_ok-child.child c.args.directory c.in_ok-child.ensures.found (sym c.is_some.ensures ∙ c.if-is_some.true) in
-    inl (ap with_unit (removed_full (tree_in (view old.log) old.numbers) c.args.directory c.if-directory-eq-ROOT.false full)))
+    inl (ap with_unit (removed_full (tree_in (view old.log) old.numbers) c.args.directory (different c.args.directory 1 (sym c.eq.ensures ∙ c.if-eq.false)) full)))
 
 pub held_entry-requires : goal.held_entry-requires
 held_entry-requires g c = record { is_open = c.requires.is_open; first = c.requires.first; last = c.requires.last }
@@ -47,7 +48,7 @@ returns-in_err-entry g c =
     let old = c.args.self.now in
     let T = tree_in (view old.log) old.numbers in
     refused_by Entry _ old c.held_entry.new.self c.from_residual-in_err-entry.result c.in_err-entry.field-0.0 c.from_residual-in_err-entry.ensures.1 c.in_err-entry.ensures.commits c.in_err-entry.ensures.quiet (λ h.
-    inr (c.in_err-entry.ensures.found h c.if-directory-eq-ROOT.false (directory_used T c.args.directory (c.requires.used h))))
+    inr (c.in_err-entry.ensures.found h (different c.args.directory 1 (sym c.eq.ensures ∙ c.if-eq.false)) (directory_used T c.args.directory (c.requires.used h))))
 
 pub make_room-requires : goal.make_room-requires
 make_room-requires g c = record { «open» = c.in_ok-entry.ensures.commits.is_open }
@@ -78,11 +79,11 @@ take_out-requires g c =
       held = subst (λ (dirs : Dirs). Names dirs d.parent (name_of d) n) (sym second.dirs) c.in_ok-entry.ensures.held;
       removes = λ h1.
           let h = commits.kept.honest.1 h1 in
-          let slot : slot_of (view mid.log) mid.numbers n ≡ Some d = ap (λ (s : Slots). get_or s (n - 1) None) (commits.slots h) ∙ c.in_ok-entry.ensures.found h c.if-directory-eq-ROOT.false (directory_used T n (c.requires.used h)) in
+          let slot : slot_of (view mid.log) mid.numbers n ≡ Some d = ap (λ (s : Slots). get_or s (n - 1) None) (commits.slots h) ∙ c.in_ok-entry.ensures.found h (different c.args.directory 1 (sym c.eq.ensures ∙ c.if-eq.false)) (directory_used T n (c.requires.used h)) in
           let bare : Childless T n = none_in (view old.log) old.numbers old.dirs (c.requires.is_open.content h) (c.requires.is_open.shows h) c.in_ok-child.child n c.in_ok-child.ensures.found (sym c.is_some.ensures ∙ c.if-is_some.false) in
           record {
             slot = slot;
-            not_top = c.if-directory-eq-ROOT.false;
+            not_top = (different c.args.directory 1 (sym c.eq.ensures ∙ c.if-eq.false));
             bare = subst (λ (U : Tree). Childless U n) (sym (commits.tree h)) bare;
           };
     }
@@ -104,5 +105,5 @@ returns g c =
     done_open _ old mid c.take_out.new.self tt commits gone.is_open gone.stages (λ h.
     let T = tree_in (view old.log) old.numbers in
     let bare : Childless T n = none_in (view old.log) old.numbers old.dirs (c.requires.is_open.content h) (c.requires.is_open.shows h) c.in_ok-child.child n c.in_ok-child.ensures.found (sym c.is_some.ensures ∙ c.if-is_some.false) in
-    ap with_unit (removed_is T n c.if-directory-eq-ROOT.false (childless_empty T n bare))
+    ap with_unit (removed_is T n (different c.args.directory 1 (sym c.eq.ensures ∙ c.if-eq.false)) (childless_empty T n bare))
     ∙ ap (λ (U : Tree). Ok (U, tt)) (ap (λ (V : Tree). changed V n None) (sym (commits.tree h)) ∙ sym (gone.tree (commits.kept.honest.0 h))))
