@@ -1,9 +1,8 @@
 -- What a task on a volume prints, and which tree it leaves (`README.md`, "The program").
-use Rattle.std.specs.Prelude.{◌≡◌, ◌⊎◌, ◌==◌, ℕ, Bool, List, [], ◌∷◌, ◌++◌, Option, None, Some, Result, Ok, Err, if◌then◌else◌, codes, decimal, false, true}
+use Rattle.std.specs.Prelude.{◌≡◌, ◌⊎◌, ◌==◌, ℕ, Bool, List, [], ◌∷◌, Option, None, Some, Result, Ok, Err, if◌then◌else◌, codes, decimal, false, true}
 use Rattle.std.specs.List.{concat, flat_map}
 use Rattle.std.specs.Option.{option_map_or}
 use Rattle.std.specs.Io.KnownBytes.{Appends, Consumes, IsAtEnd, Keeps}
-use Rattle.vol_sector.specs.Disk.{Image, Disk}
 use Rattle.vol_tree.specs.declared.superblock.Superblock.{Superblock}
 use Rattle.vol_tree.specs.declared.errno.Errno.{Errno}
 use Rattle.vol_tree.specs.declared.errno.Errno.TheVariants as errno
@@ -11,9 +10,8 @@ use Rattle.vol_tree.specs.Superblock.{version_number}
 use Rattle.vol_tree.specs.Tree.{Tree, Node, Directory, File, Entry, entry}
 use Rattle.vol_tree.specs.Space.{Geometry, space, size_of}
 use Rattle.vol_tree.specs.Stats.{entries_of}
-use Rattle.vol_tree.specs.Stands.{StandsAs}
-use Rattle.vol_tree.specs.Calls.{directory_at, bytes_at, with_bytes, created, resized, if_it_fits}
-use Rattle.vol_tree.specs.Opened.{Reflects, data_sectors, geometry}
+use Rattle.vol_tree.specs.Calls.{directory_at, bytes_at, with_bytes, created, if_it_fits}
+use Rattle.vol_tree.specs.Opened.{data_sectors, geometry}
 use Rattle.path_walk.specs.Paths.{Reached, Found, Missing, slash, ◌>>=◌}
 use Rattle.path_walk.specs.Rooted.{reached_from_root}
 use Rattle.sandbox_words.specs.Request.{Text}

@@ -18,12 +18,12 @@ ghost use Rattle.volume_tasks.specs.internal.Working.{IsWorking};
 
 use crate::failure::Failure;
 use crate::removing::remove_all;
-use crate::volume_path::{ROOT, entry_named, reached};
+use crate::volume_path::{entry_named, reached};
 use path_walk::{Reached, is_directory};
 use sandbox_words::Change;
 use vol_inode::is_name;
 use vol_sector::Device;
-use vol_tree::{Errno, Volume};
+use vol_tree::{Errno, Serial, Volume};
 
 /// Makes the directory that a path misses; one that is there is refused with 20.
 fn make_directory<D: Device>(volume: &mut Volume<D>, path: &str) -> Result<(), Errno>
@@ -35,7 +35,7 @@ fn make_directory<D: Device>(volume: &mut Volume<D>, path: &str) -> Result<(), E
     match found {
         Reached::Found(_) => Err(Errno::Exist),
         Reached::Missing { parent, name } => {
-            volume.create_dir(parent, name)?;
+            volume.create_dir(Serial::new(parent), name)?;
             Ok(())
         }
     }
@@ -56,14 +56,14 @@ fn remove<D: Device>(volume: &mut Volume<D>, path: &str) -> Result<(), Errno>
 }
 
 /// Refuses an entry the place of the root, which is never empty; the root itself doesn't move.
-fn replace_root<D: Device>(volume: &mut Volume<D>, source: u32) -> Result<(), Errno>
+fn replace_root<D: Device>(volume: &mut Volume<D>, source: Serial) -> Result<(), Errno>
     requires working { IsWorking volume.old }
     requires source { IsEntryOf D.honest volume.old source }
     ensures { Changed D.honest D.disk D.size D.failures
         (λ T. renamed T source (parent_at T 1) (name_at T 1)) volume.old volume.new result }
 {
     volume.is_a_tree();
-    if source == ROOT {
+    if source == Serial::ROOT {
         return Err(Errno::Invalid);
     }
     if is_directory(volume, source)? {
@@ -74,14 +74,14 @@ fn replace_root<D: Device>(volume: &mut Volume<D>, source: u32) -> Result<(), Er
 }
 
 /// Gives an entry the place and the name of another one, which goes.
-fn move_onto<D: Device>(volume: &mut Volume<D>, source: u32, target: u32) -> Result<(), Errno>
+fn move_onto<D: Device>(volume: &mut Volume<D>, source: Serial, target: Serial) -> Result<(), Errno>
     requires working { IsWorking volume.old }
     requires source { IsEntryOf D.honest volume.old source }
     requires target { IsEntryOf D.honest volume.old target }
     ensures { Changed D.honest D.disk D.size D.failures
         (λ T. renamed T source (parent_at T target) (name_at T target)) volume.old volume.new result }
 {
-    if target == ROOT {
+    if target == Serial::ROOT {
         return replace_root(volume, source);
     }
     volume.is_a_tree(); // a law: the target has a name
@@ -96,8 +96,8 @@ fn move_onto<D: Device>(volume: &mut Volume<D>, source: u32, target: u32) -> Res
 /// Gives an entry a place and a name that no other has; where the path wants a directory, only a directory.
 fn move_into<D: Device>(
     volume: &mut Volume<D>,
-    source: u32,
-    parent: u32,
+    source: Serial,
+    parent: Serial,
     name: &[u8],
     wants_dir: bool,
 ) -> Result<(), Errno>
@@ -118,7 +118,7 @@ fn move_into<D: Device>(
 /// Gives an entry the place and the name that a path has.
 fn move_to<D: Device>(
     volume: &mut Volume<D>,
-    source: u32,
+    source: Serial,
     target: Reached<'_>,
     wants_dir: bool,
 ) -> Result<(), Errno>
@@ -130,8 +130,10 @@ fn move_to<D: Device>(
         (λ T. moved_to T source (reached_as target.entry, wants_dir)) volume.old volume.new result }
 {
     match target {
-        Reached::Found(target) => move_onto(volume, source, target),
-        Reached::Missing { parent, name } => move_into(volume, source, parent, name, wants_dir),
+        Reached::Found(target) => move_onto(volume, source, Serial::new(target)),
+        Reached::Missing { parent, name } => {
+            move_into(volume, source, Serial::new(parent), name, wants_dir)
+        }
     }
 }
 
@@ -145,7 +147,7 @@ fn move_entry<D: Device>(volume: &mut Volume<D>, from: &str, to: &str) -> Result
     let (source, _) = reached(volume, from)?;
     let (target, wants_dir) = reached(volume, to)?;
     match source {
-        Reached::Found(source) => move_to(volume, source, target, wants_dir),
+        Reached::Found(source) => move_to(volume, Serial::new(source), target, wants_dir),
         Reached::Missing { .. } => Err(Errno::NotFound),
     }
 }

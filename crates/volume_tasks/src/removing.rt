@@ -11,13 +11,13 @@ ghost use Rattle.volume_tasks.specs.internal.Changing.{Applied, IsLeafBelow};
 ghost use Rattle.volume_tasks.specs.internal.Working.{IsWorking};
 
 use crate::printing::next_entry;
-use crate::volume_path::{ROOT, serial_named};
+use crate::volume_path::serial_named;
 use vol_inode::Kind;
 use vol_sector::Device;
-use vol_tree::{Errno, Volume};
+use vol_tree::{Errno, Serial, Volume};
 
 /// An entry in which nothing stands: this one or one below it.
-fn leaf_below<D: Device>(volume: &mut Volume<D>, from: u32) -> Result<u32, Errno>
+fn leaf_below<D: Device>(volume: &mut Volume<D>, from: Serial) -> Result<Serial, Errno>
     requires working { IsWorking volume.old }
     requires from { IsEntryOf D.honest volume.old from }
     ensures asked { Asked D.honest D.disk D.size D.failures volume.old volume.new (is_io result) }
@@ -37,7 +37,7 @@ fn leaf_below<D: Device>(volume: &mut Volume<D>, from: u32) -> Result<u32, Errno
 }
 
 /// Takes an entry in which nothing stands out of its directory, and says which that is.
-fn remove_leaf<D: Device>(volume: &mut Volume<D>, leaf: u32) -> Result<u32, Errno>
+fn remove_leaf<D: Device>(volume: &mut Volume<D>, leaf: Serial) -> Result<Serial, Errno>
     requires working { IsWorking volume.old }
     requires leaf { IsEntryOf D.honest volume.old leaf }
     requires root { D.honest volume.old.device → leaf ≢ 1 }
@@ -61,7 +61,7 @@ fn remove_leaf<D: Device>(volume: &mut Volume<D>, leaf: u32) -> Result<u32, Errn
 }
 
 /// Removes an entry, which isn't the root, and all below it: each after what stands in it.
-fn remove_tree<D: Device>(volume: &mut Volume<D>, top: u32) -> Result<(), Errno>
+fn remove_tree<D: Device>(volume: &mut Volume<D>, top: Serial) -> Result<(), Errno>
     requires working { IsWorking volume.old }
     requires top { IsEntryOf D.honest volume.old top }
     requires root { top ≢ 1 }
@@ -87,7 +87,7 @@ pub(crate) fn remove_all<D: Device>(volume: &mut Volume<D>, path: &str) -> Resul
         (λ T. IsPartOfRemoval T path.now) volume.old volume.new result }
 {
     let top = serial_named(volume, path)?;
-    if top == ROOT {
+    if top == Serial::ROOT {
         return Err(Errno::Invalid);
     }
     remove_tree(volume, top)

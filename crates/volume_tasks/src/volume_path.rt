@@ -11,10 +11,7 @@ ghost use Rattle.volume_tasks.specs.internal.Working.{IsWorking};
 
 use path_walk::{Reached, is_directory, walk_from_root};
 use vol_sector::Device;
-use vol_tree::{Errno, Volume};
-
-/// The serial of the root.
-pub(crate) const ROOT: u32 = 1;
+use vol_tree::{Errno, Serial, Volume};
 
 /// What a path reaches, and whether it wants a directory. One that doesn't begin with a slash is
 /// refused with 28; of the rest all is said by `Path::read` and `walk`, and an empty rest is the
@@ -36,7 +33,7 @@ pub(crate) fn reached<'p, D: Device>(
 }
 
 /// The serial of the entry that a path reaches; where it isn't there, 44.
-pub(crate) fn serial_named<D: Device>(volume: &mut Volume<D>, path: &str) -> Result<u32, Errno>
+pub(crate) fn serial_named<D: Device>(volume: &mut Volume<D>, path: &str) -> Result<Serial, Errno>
     requires { IsWorking volume.old }
     ensures answer { D.honest volume.old.device
         → Answered (serial_named volume.old.tree path.now) result }
@@ -44,7 +41,7 @@ pub(crate) fn serial_named<D: Device>(volume: &mut Volume<D>, path: &str) -> Res
     ensures entry { IfOk result (IsEntryOf D.honest volume.new) }
 {
     match reached(volume, path)? {
-        (Reached::Found(serial), _) => Ok(serial),
+        (Reached::Found(serial), _) => Ok(Serial::new(serial)),
         (Reached::Missing { .. }, _) => Err(Errno::NotFound),
     }
 }
@@ -53,7 +50,7 @@ pub(crate) fn serial_named<D: Device>(volume: &mut Volume<D>, path: &str) -> Res
 pub(crate) fn entry_named<D: Device>(
     volume: &mut Volume<D>,
     path: &str,
-) -> Result<(u32, bool), Errno>
+) -> Result<(Serial, bool), Errno>
     requires { IsWorking volume.old }
     ensures answer { D.honest volume.old.device
         → Answered (entry_named volume.old.tree path.now) result }
@@ -68,7 +65,10 @@ pub(crate) fn entry_named<D: Device>(
 }
 
 /// The directory that a path reaches; of a file it is refused with 54.
-pub(crate) fn directory_named<D: Device>(volume: &mut Volume<D>, path: &str) -> Result<u32, Errno>
+pub(crate) fn directory_named<D: Device>(
+    volume: &mut Volume<D>,
+    path: &str,
+) -> Result<Serial, Errno>
     requires { IsWorking volume.old }
     ensures answer { D.honest volume.old.device
         → Answered (directory_named volume.old.tree path.now) result }
@@ -82,7 +82,7 @@ pub(crate) fn directory_named<D: Device>(volume: &mut Volume<D>, path: &str) -> 
 }
 
 /// The file that a path reaches; of a directory it is refused with 31.
-pub(crate) fn file_named<D: Device>(volume: &mut Volume<D>, path: &str) -> Result<u32, Errno>
+pub(crate) fn file_named<D: Device>(volume: &mut Volume<D>, path: &str) -> Result<Serial, Errno>
     requires { IsWorking volume.old }
     ensures answer { D.honest volume.old.device
         → Answered (file_named volume.old.tree path.now) result }

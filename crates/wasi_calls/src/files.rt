@@ -19,7 +19,7 @@ ghost use Rattle.wasi_calls.specs.internal.Bodies.{KnowsEntries, errno_of, with_
 use crate::checks::{Takes, entry_at};
 use crate::errno::refused;
 use vol_sector::Device;
-use vol_tree::Volume;
+use vol_tree::{Serial, Volume};
 use wasi_fd::{Descriptors, Fd, Rights};
 use wasm_store::Errno;
 
@@ -62,7 +62,7 @@ pub(crate) fn set_size<D: Device>(
         → Answered (λ v. set_size_row v fd size) w m (with_volume volume.new w) m (errno_of result) }
 {
     match entry_at(descriptors, fd, Takes::Sized, Rights::FD_FILESTAT_SET_SIZE) {
-        Ok(opened) => match volume.set_size(opened.serial, size) {
+        Ok(opened) => match volume.set_size(Serial::new(opened.serial), size) {
             Ok(()) => Ok(()),
             Err(errno) => Err(refused(errno)),
         },

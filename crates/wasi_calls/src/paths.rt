@@ -23,7 +23,7 @@ use crate::descriptors::stat::stat_entry;
 use crate::errno::{EXIST, NOENT, refused};
 use path_walk::{Path, Reached, walk};
 use vol_sector::Device;
-use vol_tree::Volume;
+use vol_tree::{Serial, Volume};
 use wasi_fd::{Descriptors, Fd, Opened, Rights};
 use wasm_store::{Errno, Memory};
 
@@ -43,7 +43,7 @@ pub(crate) fn reach<'p, D: Device>(
     ensures io { is_io result ≡ true → volume.new.failed ≡ true }
 {
     match Path::read(text) {
-        Ok(path) => walk(volume, directory, &path),
+        Ok(path) => walk(volume, Serial::new(directory), &path),
         Err(errno) => Err(errno),
     }
 }
@@ -159,7 +159,10 @@ pub(crate) fn path_create_directory<D: Device>(
         Err(errno) => return Err(errno),
     };
     match reach(volume, directory.serial, text) {
-        Ok(Reached::Missing { parent, name }) => match volume.create_dir(parent, name) {
+        Ok(Reached::Missing { parent, name }) => match volume.create_dir(
+            Serial::new(parent),
+            name,
+        ) {
             Ok(_) => Ok(()),
             Err(errno) => Err(refused(errno)),
         },

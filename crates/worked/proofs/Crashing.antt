@@ -1,7 +1,7 @@
 -- What reads give of a device that a crash left.
-use Rattle.std.proofs.Common.{◌≡◌, ℕ, ◌≤◌, ◌<◌, List, refl, sym, ◌∙◌, ap, subst, arith}
+use Rattle.std.proofs.Common.{◌≡◌, ℕ, ◌<◌, List, ◌∙◌, ap, arith}
 use Rattle.vol_sector.specs.Disk.{Image}
-use Rattle.vol_sector.specs.Record.{LeftBy, newest}
+use Rattle.vol_sector.specs.Record.{newest}
 use Rattle.vol_sector.specs.Crash.{crashed_image}
 use Rattle.vol_sector.specs.Memory.{first_of, record_of, room_of, sectors_of, disk_of, IsUnused}
 use Rattle.vol_sector.specs.declared.memory.MemoryDevice.{MemoryDevice}

@@ -1,11 +1,11 @@
 -- What a crash leaves over one call after another.
-use Rattle.std.proofs.Common.{◌≡◌, ℕ, ◌≤◌, sym, subst, arith, inl, inr}
+use Rattle.std.proofs.Common.{◌≡◌, ℕ, ◌≤◌, subst, arith, inl, inr}
 use Rattle.std.specs.Prelude.{◌⊎◌}
 use Rattle.vol_sector.specs.Disk.{Image, Disk, Leaves}
 use Rattle.vol_tree.specs.declared.superblock.Superblock.{Superblock}
 use Rattle.vol_tree.specs.Tree.{Tree}
 use Rattle.vol_tree.specs.Stands.{StandsAs}
-use Rattle.vol_tree.specs.Opened.{Reflects, ReflectsOr}
+use Rattle.vol_tree.specs.Opened.{ReflectsOr}
 use Rattle.worked.specs.Stored.{IsFirstPart}
 
 -- an image stands for one tree

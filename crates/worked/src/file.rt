@@ -12,8 +12,8 @@ use std::alloc::{AllocError, Global};
 use thiserror::Error;
 use vol_sector::{MemoryDevice, Refused, VolumeFault, crash_leaves_what_is_picked};
 use vol_tree::{
-    Errno, Volume, created_adds_one_path, created_is_a_tree, one_tree, the_volumes_sectors_decide,
-    written_changes_one_file,
+    Errno, Serial, Volume, created_adds_one_path, created_is_a_tree, one_tree,
+    the_volumes_sectors_decide, written_changes_one_file,
 };
 
 /// Why nothing is found.
@@ -32,7 +32,7 @@ pub enum FileFault {
 /// Then the file stands there with its bytes, and whatever a crash leaves is opened with it. Stopped
 /// at any moment, also inside a call that is refused, an image stands for the tree at first, for that
 /// with the empty file or for that with its bytes.
-pub fn store(volume: &mut Volume<MemoryDevice>, name: &[u8], bytes: &[u8]) -> Result<u32, Errno>
+pub fn store(volume: &mut Volume<MemoryDevice>, name: &[u8], bytes: &[u8]) -> Result<Serial, Errno>
     requires name { IsName name.now }
     requires piece { length bytes.now ≤ 16384 }
     ensures found { IfOk result (λ serial.
@@ -46,7 +46,7 @@ pub fn store(volume: &mut Volume<MemoryDevice>, name: &[u8], bytes: &[u8]) -> Re
     created_adds_one_path();
     written_changes_one_file();
     one_tree();
-    let serial = volume.create_file(1, name)?;
+    let serial = volume.create_file(Serial::ROOT, name)?;
     volume.is_a_tree();
     volume.write(serial, 0, bytes)?;
     volume.sync()?;

@@ -7,7 +7,7 @@ use super::sessions::{
 use sandbox_core::{Outcome, Report, Volume};
 use std::alloc::Global;
 use std::process::Abort;
-use vol_inode::{Version, is_name};
+use vol_inode::{Serial, Version, is_name};
 use vol_sector::{Device, MemoryDevice};
 
 /// More than any guest here uses.
@@ -178,7 +178,7 @@ fn files_are_larger_on_an_upgraded_volume(rt: HostRuntime) {
 /// Whether a file is in the root.
 fn has<D: Device>(rt: &impl Abort, volume: &mut Volume<D>, name: &[u8]) -> bool {
     assert!(rt; is_name(name));
-    let inode = volume.lookup(1, name).ok().expect(rt, "an answer");
+    let inode = volume.lookup(Serial::ROOT, name).ok().expect(rt, "an answer");
     inode.is_some()
 }
 

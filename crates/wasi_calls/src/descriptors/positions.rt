@@ -18,7 +18,7 @@ use crate::errno::{NOTCAPABLE, OVERFLOW, refused};
 use crate::numbers::le64;
 use bitflags::Flags;
 use vol_sector::Device;
-use vol_tree::Volume;
+use vol_tree::{Serial, Volume};
 use wasi_fd::{Descriptor, Descriptors, Fd, Opened, Rights};
 use wasm_store::{Errno, Memory};
 
@@ -77,7 +77,7 @@ pub(crate) fn size_of<D: Device>(
         → Leaves (D.disk volume.old.device) (D.disk volume.new.device) (λ c. ⊥) }
     ensures kept { Keeps D.honest D.size D.failures volume.old volume.new (is_io result) }
 {
-    match volume.stat(serial) {
+    match volume.stat(Serial::new(serial)) {
         Ok(stat) => Ok(stat.size),
         Err(errno) => Err(errno),
     }

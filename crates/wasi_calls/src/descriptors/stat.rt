@@ -16,7 +16,7 @@ use crate::errno::refused;
 use crate::numbers::le64;
 use vol_inode::Kind;
 use vol_sector::Device;
-use vol_tree::Volume;
+use vol_tree::{Serial, Volume};
 use wasi_fd::{Descriptor, Descriptors, Fd, Rights};
 use wasm_store::{Errno, Memory};
 
@@ -56,7 +56,7 @@ pub(crate) fn stat_entry<D: Device>(
         → Leaves (D.disk volume.old.device) (D.disk volume.new.device) (λ c. ⊥) }
     ensures kept { Keeps D.honest D.size D.failures volume.old volume.new (is_io result) }
 {
-    match volume.stat(serial) {
+    match volume.stat(Serial::new(serial)) {
         Ok(stat) => Ok(filestat(serial, type_of_entry(stat.kind), stat.size)),
         Err(errno) => Err(errno),
     }

@@ -22,7 +22,7 @@ use crate::descriptors::stat::type_of_entry;
 use crate::errno::refused;
 use crate::numbers::{le32, le64};
 use vol_sector::Device;
-use vol_tree::{Stat, Volume};
+use vol_tree::{Serial, Stat, Volume};
 use wasi_fd::{Descriptors, Fd, Opened, Rights};
 use wasm_store::{Errno, Memory};
 
@@ -110,9 +110,9 @@ fn next_told<D: Device>(
     ensures least { IfOk result (λ next. IfSome next (λ t. 24 ≤ t.len)) }
     ensures most { IfOk result (λ next. IfSome next (λ t. t.len ≤ 279)) }
 {
-    match volume.list_next(directory, after) {
+    match volume.list_next(Serial::new(directory), after) {
         Ok(Some(serial)) => match volume.stat(serial) {
-            Ok(stat) => Ok(Some(describe(serial, &stat))),
+            Ok(stat) => Ok(Some(describe(serial.number(), &stat))),
             Err(errno) => Err(errno),
         },
         Ok(None) => Ok(None),

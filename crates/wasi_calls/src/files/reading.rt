@@ -24,7 +24,7 @@ use crate::errno::refused;
 use crate::numbers::le32;
 use bitflags::Flags;
 use vol_sector::Device;
-use vol_tree::{Span, Volume};
+use vol_tree::{Serial, Span, Volume};
 use wasi_fd::{Descriptor, Descriptors, Fd, Opened, Rights};
 use wasm_store::{Errno, Memory};
 
@@ -88,7 +88,7 @@ fn read_part<D: Device>(
         × IsBegun memory.old start (read_bytes volume.old.tree serial at len) memory.new) }
     ensures asked { Asked D.honest D.disk D.size D.failures volume.old volume.new (is_io result) }
 {
-    match volume.read(serial, at, memory.part_mut(start, len)) {
+    match volume.read(Serial::new(serial), at, memory.part_mut(start, len)) {
         Ok(_) => Ok(()),
         Err(errno) => Err(errno),
     }

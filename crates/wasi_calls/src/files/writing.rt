@@ -25,7 +25,7 @@ use crate::numbers::le32;
 use bitflags::Flags;
 use vol_body::PIECE;
 use vol_sector::Device;
-use vol_tree::{Source, Span, Volume};
+use vol_tree::{Serial, Source, Span, Volume};
 use wasi_fd::{Descriptor, Descriptors, Fd, Opened, Rights};
 use wasm_store::{Errno, Memory};
 
@@ -51,7 +51,7 @@ fn put_bytes<D: Device>(
 {
     let len = total_len(buffers).min(PIECE as u64) as u32;
     let bytes = Source::gather(memory.as_slice(), buffers, len as usize);
-    match volume.write_from(serial, at, &bytes) {
+    match volume.write_from(Serial::new(serial), at, &bytes) {
         Ok(()) => Ok(len),
         Err(errno) => Err(errno),
     }

@@ -14,11 +14,8 @@ use crate::host::inner::Inner;
 use crate::host::settings::{MOST_PREOPENS, Preopen};
 use path_walk::{Reached, is_directory, walk_from_root};
 use vol_sector::Device;
-use vol_tree::{Errno, Volume};
+use vol_tree::{Errno, Serial, Volume};
 use wasi_fd::{Descriptor, Descriptors, EntryKind, Opened, Rights};
-
-/// The serial of the root.
-const ROOT: u32 = 1;
 
 /// Why no directory is opened where the volume refuses a call.
 fn fault_of(errno: Errno) -> HostFault
@@ -44,7 +41,7 @@ fn reached_directory<D: Device>(
     ensures faults { IfErr result (λ fault. Finds {X = ℕ} None (Err fault)) }
 {
     match reached {
-        Reached::Found(serial) => match is_directory(volume, serial) {
+        Reached::Found(serial) => match is_directory(volume, Serial::new(serial)) {
             Ok(true) => Ok(serial),
             Ok(false) => Err(HostFault::Preopen),
             Err(errno) => Err(fault_of(errno)),
@@ -63,7 +60,7 @@ fn from_root<D: Device>(volume: &mut Volume<D>, rest: &[u8]) -> Result<u32, Host
 {
     volume.is_a_tree(); // a law: the root is there
     if rest.is_empty() {
-        return Ok(ROOT);
+        return Ok(Serial::ROOT.number());
     }
     match walk_from_root(volume, rest) {
         Ok((reached, _)) => reached_directory(volume, reached),

@@ -28,7 +28,7 @@ use crate::paths::removing::is_directory;
 use bitflags::Flags;
 use path_walk::{Path, Reached};
 use vol_sector::Device;
-use vol_tree::Volume;
+use vol_tree::{Serial, Volume};
 use wasi_fd::{Descriptor, Descriptors, EntryKind, Fd, Opened, Rights};
 use wasm_store::{Errno, Memory};
 
@@ -351,11 +351,14 @@ fn settle<D: Device>(volume: &mut Volume<D>, target: &Target<'_>) -> Result<u32,
 {
     match target {
         Target::Entry { serial, kind: _ } => Ok(*serial),
-        Target::Cut(serial) => match volume.set_size(*serial, 0) {
+        Target::Cut(serial) => match volume.set_size(Serial::new(*serial), 0) {
             Ok(()) => Ok(*serial),
             Err(errno) => Err(errno),
         },
-        Target::New { parent, name } => volume.create_file(*parent, name),
+        Target::New { parent, name } => match volume.create_file(Serial::new(*parent), name) {
+            Ok(made) => Ok(made.number()),
+            Err(errno) => Err(errno),
+        },
     }
 }
 

@@ -22,7 +22,7 @@ use crate::paths::{enter, reach};
 use path_walk::Reached;
 use vol_inode::Kind;
 use vol_sector::Device;
-use vol_tree::Volume;
+use vol_tree::{Serial, Volume};
 use wasi_fd::{Descriptors, Fd, Rights};
 use wasm_store::{Errno, Memory};
 
@@ -59,7 +59,7 @@ pub(crate) fn find<D: Device>(
 pub(crate) fn is_held(descriptors: &Descriptors<'_>, serial: u32) -> bool
     ensures { (w : World) → w.table ≡ table_of descriptors.now → result ≡ held_open w serial }
 {
-    descriptors.holds(serial)
+    descriptors.holds(Serial::new(serial))
 }
 
 /// Whether an entry is a directory.
@@ -72,7 +72,7 @@ pub(crate) fn is_directory<D: Device>(
     ensures told { D.honest volume.old.device → MatchResult result
         (λ b. b ≡ directory_at volume.old.tree serial) (λ e. e ≡ tree.Io) }
 {
-    Ok(volume.stat(serial)?.kind == Kind::Directory)
+    Ok(volume.stat(Serial::new(serial))?.kind == Kind::Directory)
 }
 
 /// Whether a call that takes entries of one kind takes a directory, or a file.
@@ -150,7 +150,7 @@ pub(crate) fn path_unlink_file<D: Device>(
         right,
         Kind::File,
     ) {
-        Ok(file) => match volume.unlink(file) {
+        Ok(file) => match volume.unlink(Serial::new(file)) {
             Ok(()) => Ok(()),
             Err(errno) => Err(refused(errno)),
         },
@@ -184,7 +184,7 @@ pub(crate) fn path_remove_directory<D: Device>(
         right,
         Kind::Directory,
     ) {
-        Ok(directory) => match volume.rmdir(directory) {
+        Ok(directory) => match volume.rmdir(Serial::new(directory)) {
             Ok(()) => Ok(()),
             Err(errno) => Err(refused(errno)),
         },

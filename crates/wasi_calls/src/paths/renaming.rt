@@ -30,7 +30,7 @@ use crate::paths::removing::{is_directory, is_held};
 use path_walk::Reached;
 use vol_inode::is_name;
 use vol_sector::Device;
-use vol_tree::Volume;
+use vol_tree::{Serial, Volume};
 use wasi_fd::{Descriptor, Descriptors, Fd, Opened, Rights};
 use wasm_store::{Errno, Memory};
 
@@ -103,7 +103,7 @@ fn above<D: Device>(volume: &mut Volume<D>, serial: u32) -> Result<u32, vol_tree
     ensures told { D.honest volume.old.device → serial ≢ 1 → MatchResult result
         (λ p. IsAbove volume.old.tree serial p) (λ e. e ≡ tree.Io) }
 {
-    Ok(volume.stat(serial)?.parent)
+    Ok(volume.stat(Serial::new(serial))?.parent.number())
 }
 
 /// Whether an entry is another one, or stands below it.
@@ -146,7 +146,7 @@ fn is_empty<D: Device>(volume: &mut Volume<D>, directory: u32) -> Result<bool, v
     ensures told { D.honest volume.old.device → MatchResult result
         (λ b. b ≡ is_empty volume.old.tree directory) (λ e. e ≡ tree.Io) }
 {
-    Ok(volume.list_next(directory, 0)?.is_none())
+    Ok(volume.list_next(Serial::new(directory), 0)?.is_none())
 }
 
 /// What is asked of a source and a target.
@@ -227,7 +227,7 @@ fn rename_onto<D: Device>(
     ensures kept { Keeps D.honest D.size D.failures volume.old volume.new (is_io result) }
 {
     volume.is_a_tree();
-    let stat = match volume.stat(target) {
+    let stat = match volume.stat(Serial::new(target)) {
         Ok(stat) => stat,
         Err(errno) => return Err(errno),
     };
@@ -235,7 +235,7 @@ fn rename_onto<D: Device>(
     if !is_name(name) {
         return Err(vol_tree::Errno::Invalid);
     }
-    volume.rename(source, stat.parent, name)
+    volume.rename(Serial::new(source), stat.parent, name)
 }
 
 /// Renames onto a target that is there, which goes; nothing is done where it is the source.
@@ -303,7 +303,7 @@ fn rename_missing<D: Device>(
     if let Err(errno) = check_slash(slash, is_directory) {
         return Err(errno);
     }
-    match volume.rename(source, parent, name) {
+    match volume.rename(Serial::new(source), Serial::new(parent), name) {
         Ok(()) => Ok(()),
         Err(errno) => Err(refused(errno)),
     }

@@ -29,8 +29,8 @@ pub create_dir-requires-clause-directory : goal.create_dir-requires-clause-direc
 create_dir-requires-clause-directory g c h =
     let asked = c.in_ok-found.ensures.asked in
     let before = asked.kept.honest.1 h in
-    missing_in c.args.volume.now.tree c.reached.new.volume.tree c.args.path.now (reached_as c.in_ok-found.found) _ c.in-Missing.parent c.in-Missing.name.now
-    (asked.tree before) (c.in_ok-found.ensures.answer before) (ap reached_as c.in-Missing.is)
+    rw c.new.ensures (missing_in c.args.volume.now.tree c.reached.new.volume.tree c.args.path.now (reached_as c.in_ok-found.found) _ c.in-Missing.parent c.in-Missing.name.now
+    (asked.tree before) (c.in_ok-found.ensures.answer before) (ap reached_as c.in-Missing.is))
 
 pub returns-in_err-create_dir-in-Missing : goal.returns-in_err-create_dir-in-Missing
 returns-in_err-create_dir-in-Missing g c =
@@ -42,7 +42,7 @@ returns-in_err-create_dir-in-Missing g c =
     means g.D.Device.honest g.D.Device.disk g.D.Device.size g.D.Device.failures place (λ T. directory_made T c.args.path.now) v new r
     (λ h. made_missing v.tree c.args.path.now (reached_as c.in_ok-found.found) _ c.in-Missing.parent c.in-Missing.name.now (c.in_ok-found.ensures.answer h) (ap reached_as c.in-Missing.is))
     (asked_first g.D.Device.honest g.D.Device.disk g.D.Device.size g.D.Device.failures place v mid new r c.in_ok-found.ensures.asked
-    (created_err g.D.Device.honest g.D.Device.disk g.D.Device.size g.D.Device.failures c.in-Missing.parent c.in-Missing.name.now mid new c.in_err-create_dir-in-Missing.field-0.0 r c.in_err-create_dir-in-Missing.ensures.answer c.in_err-create_dir-in-Missing.ensures.crash c.in_err-create_dir-in-Missing.ensures.kept c.from_residual-in_err-create_dir-in-Missing.ensures.1))
+    (created_err g.D.Device.honest g.D.Device.disk g.D.Device.size g.D.Device.failures c.in-Missing.parent c.in-Missing.name.now mid new c.in_err-create_dir-in-Missing.field-0.0 r (λ h. rw c.new.ensures at c.in_err-create_dir-in-Missing.ensures.answer h) c.in_err-create_dir-in-Missing.ensures.crash c.in_err-create_dir-in-Missing.ensures.kept c.from_residual-in_err-create_dir-in-Missing.ensures.1))
 
 pub returns-in_ok-create_dir-in-Missing : goal.returns-in_ok-create_dir-in-Missing
 returns-in_ok-create_dir-in-Missing g c =
@@ -53,7 +53,7 @@ returns-in_ok-create_dir-in-Missing g c =
     means g.D.Device.honest g.D.Device.disk g.D.Device.size g.D.Device.failures place (λ T. directory_made T c.args.path.now) v new (Ok tt)
     (λ h. made_missing v.tree c.args.path.now (reached_as c.in_ok-found.found) _ c.in-Missing.parent c.in-Missing.name.now (c.in_ok-found.ensures.answer h) (ap reached_as c.in-Missing.is))
     (asked_first g.D.Device.honest g.D.Device.disk g.D.Device.size g.D.Device.failures place v mid new (Ok tt) c.in_ok-found.ensures.asked
-    (created_ok g.D.Device.honest g.D.Device.disk g.D.Device.size g.D.Device.failures c.in-Missing.parent c.in-Missing.name.now mid new c.in_ok-create_dir-in-Missing.field-0 c.in_ok-create_dir-in-Missing.ensures.answer c.in_ok-create_dir-in-Missing.ensures.crash c.in_ok-create_dir-in-Missing.ensures.kept))
+    (created_ok g.D.Device.honest g.D.Device.disk g.D.Device.size g.D.Device.failures c.in-Missing.parent c.in-Missing.name.now mid new c.in_ok-create_dir-in-Missing.field-0 (λ h. rw c.new.ensures at c.in_ok-create_dir-in-Missing.ensures.answer h) c.in_ok-create_dir-in-Missing.ensures.crash c.in_ok-create_dir-in-Missing.ensures.kept))
 
 pub create_dir-requires-clause-name : goal.create_dir-requires-clause-name
 create_dir-requires-clause-name g c =

@@ -27,10 +27,10 @@ returns-in-Found g c =
     let first = c.in_ok-source.ensures.asked in
     let second = c.in_ok-target.ensures in
     let target : Reached × Bool = (reached_as c.in_ok-target.target, c.in_ok-target.wants_dir) in
-    means g.D.Device.honest g.D.Device.disk g.D.Device.size g.D.Device.failures (λ T. moved_to T c.in-Found.source target) (λ T. entry_moved T c.args.from.now c.args.to.now) v c.move_to.new.volume c.move_to.result
-    (λ h. moved_found v.tree c.args.from.now c.args.to.now (reached_as c.in_ok-source.source) (reached_as c.in_ok-target.target) _ c.in_ok-target.wants_dir c.in-Found.source
-    (c.in_ok-source.ensures.answer h) (ap (λ (T : Tree). reached T c.args.to.now) (sym (first.tree h)) ∙ second.answer (first.kept.honest.0 h)) (ap reached_as c.in-Found.is))
-    (asked_first g.D.Device.honest g.D.Device.disk g.D.Device.size g.D.Device.failures (λ T. moved_to T c.in-Found.source target) v c.reached-2.new.volume c.move_to.new.volume c.move_to.result
+    means g.D.Device.honest g.D.Device.disk g.D.Device.size g.D.Device.failures (λ T. moved_to T c.new.result target) (λ T. entry_moved T c.args.from.now c.args.to.now) v c.move_to.new.volume c.move_to.result
+    (λ h. rw c.new.ensures (moved_found v.tree c.args.from.now c.args.to.now (reached_as c.in_ok-source.source) (reached_as c.in_ok-target.target) _ c.in_ok-target.wants_dir c.in-Found.source
+    (c.in_ok-source.ensures.answer h) (ap (λ (T : Tree). reached T c.args.to.now) (sym (first.tree h)) ∙ second.answer (first.kept.honest.0 h)) (ap reached_as c.in-Found.is)))
+    (asked_first g.D.Device.honest g.D.Device.disk g.D.Device.size g.D.Device.failures (λ T. moved_to T c.new.result target) v c.reached-2.new.volume c.move_to.new.volume c.move_to.result
     (asked_then g.D.Device.honest g.D.Device.disk g.D.Device.size g.D.Device.failures v c.reached.new.volume c.reached-2.new.volume false first second.asked) c.move_to.ensures)
 
 pub returns-in-Missing : goal.returns-in-Missing
@@ -45,8 +45,8 @@ returns-in-Missing g c =
 
 pub move_to-requires-clause-source : goal.move_to-requires-clause-source
 move_to-requires-clause-source g c =
-    entry_kept g.D.Device.honest g.D.Device.disk g.D.Device.size g.D.Device.failures c.reached.new.volume c.reached-2.new.volume c.in-Found.source c.in_ok-target.ensures.asked
-    (subst (IsReached g.D.Device.honest c.reached.new.volume) c.in-Found.is c.in_ok-source.ensures.reached)
+    rw c.new.ensures (entry_kept g.D.Device.honest g.D.Device.disk g.D.Device.size g.D.Device.failures c.reached.new.volume c.reached-2.new.volume c.in-Found.source c.in_ok-target.ensures.asked
+    (subst (IsReached g.D.Device.honest c.reached.new.volume) c.in-Found.is c.in_ok-source.ensures.reached))
 
 -- what is missing is missing in a directory
 pub move_to-requires-clause-place : goal.move_to-requires-clause-place

@@ -1,16 +1,16 @@
 use Rattle.std.proofs.Common.{◌==◌, ℕ, take, ap, inr, refl, sym, ◌∙◌}
-use Rattle.std.proofs.lemmas.Bool.{cond-false, ne_eqb}
+use Rattle.std.proofs.lemmas.Bool.{cond-false, eqb-true}
 use Rattle.vol_tree.specs.Calls.{renamed, name_at, parent_at}
 use Rattle.volume_tasks.proofs.Changed.{asked_first, means, refused_on}
 use Rattle.volume_tasks.proofs.Meant.{onto_same}
 use Rattle.volume_tasks.proofs.changing.move_onto.Goals as goal
 
-pub returns-then-target-eq-ROOT : goal.returns-then-target-eq-ROOT
-returns-then-target-eq-ROOT g c =
+pub returns-then-eq : goal.returns-then-eq
+returns-then-eq g c =
     let v = c.args.volume.now in
     let s = c.args.source in
     means g.D.Device.honest g.D.Device.disk g.D.Device.size g.D.Device.failures (λ T. renamed T s (parent_at T 1) (name_at T 1)) (λ T. renamed T s (parent_at T c.args.target) (name_at T c.args.target)) v c.replace_root.new.volume c.replace_root.result
-    (λ h. ap (λ (t : ℕ). renamed v.tree s (parent_at v.tree t) (name_at v.tree t)) (sym c.if-target-eq-ROOT.true)) c.replace_root.ensures
+    (λ h. ap (λ (t : ℕ). renamed v.tree s (parent_at v.tree t) (name_at v.tree t)) (sym (eqb-true c.args.target 1 (sym c.eq.ensures ∙ c.if-eq.true)))) c.replace_root.ensures
 
 pub returns : goal.returns
 returns g c =
@@ -24,7 +24,7 @@ returns g c =
     (λ h.
     let is = (told.answer h).0 in
     onto_same v.tree s t stat.parent (take c.from.result stat.name) is.0 is.1
-    (is.2.parent ∙ cond-false (t == 1) 1 is.0.parent (ne_eqb t 1 c.if-target-eq-ROOT.false))
+    (is.2.parent ∙ cond-false (t == 1) 1 is.0.parent (sym c.eq.ensures ∙ c.if-eq.false))
     (ap (λ (k : ℕ). take k stat.name) c.from.ensures ∙ is.2.name))
     (asked_first g.D.Device.honest g.D.Device.disk g.D.Device.size g.D.Device.failures (λ T. renamed T s stat.parent (take c.from.result stat.name)) v c.stat.new.self c.rename.new.self c.rename.result
     (record { tree = λ h. (told.answer h).1; crash = told.crash; kept = told.kept })

@@ -4,6 +4,7 @@ use Rattle.vol_tree.specs.Tree.{Entry, Tree, entry}
 use Rattle.vol_tree.specs.declared.superblock.Superblock.{Superblock}
 use Rattle.vol_tree.specs.Opened.{IsSerial}
 use Rattle.volume_tasks.proofs.Listing.{next_child_is}
+use Rattle.volume_tasks.proofs.printing.next_entry.Goals.{in_default-via-in-Some+else-number-last, in_default-via-in_default}
 use Rattle.volume_tasks.proofs.printing.next_entry.Goals as goal
 
 -- what is given is an entry
@@ -22,9 +23,13 @@ returns-in-Some-clause-range g c =
 -- on a device that keeps its model, what is given is greater
 pub returns-in_default-clause-answer : goal.returns-in_default-clause-answer
 returns-in_default-clause-answer g c h =
-    let told = rw c.in-Some.is at c.in_ok-serial.ensures.answer h in
-    let next = next_child_is c.args.volume.now.tree c.args.directory c.args.last c.in-Some.serial (sym told.0) in
-    absurd (omega (arith, next.later, c.if-serial-last.false))
+    elim c.in_default.branch [
+      | in_default-via-in-Some+else-number-last w ↦
+          let told = rw w.in-Some.is at c.in_ok-serial.ensures.answer h in
+          let next = next_child_is c.args.volume.now.tree c.args.directory c.args.last w.in-Some.serial (sym told.0) in
+          absurd (omega (arith, next.later, w.number.ensures, w.if-number-last.false))
+      | in_default-via-in_default w ↦ rw w.in_default.is at c.in_ok-serial.ensures.answer h
+    ]
 
 pub returns-in-Some-clause-asked : goal.returns-in-Some-clause-asked
 returns-in-Some-clause-asked c = grind (arith, common_steps)

@@ -45,7 +45,7 @@ loop-serial-preserved g c =
             so_far.0 ++ line_of child.entry_is,
             Appends-trans (out c.args.out.now) (out c.loop-serial.out) (out c.print_entry.new.out) _ _ so_far.1
                 (subst (λ (text : List ℕ). Appends (out c.loop-serial.out) (out c.print_entry.new.out) text) line c.in_ok-print_entry.ensures.all),
-            so_far.2 ∙ (ap (λ (xs : List ℕ). so_far.0 ++ xs) child.lines_are ∙ sym (append_assoc so_far.0 (line_of child.entry_is) _)),
+            rw c.number-last.ensures (so_far.2 ∙ (ap (λ (xs : List ℕ). so_far.0 ++ xs) child.lines_are ∙ sym (append_assoc so_far.0 (line_of child.entry_is) _))),
           );
     }
 

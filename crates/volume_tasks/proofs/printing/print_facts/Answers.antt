@@ -13,7 +13,7 @@ pub returns-clause-all : goal.returns-clause-all
 returns-clause-all g c =
     let s = c.args.stat.now in
     let out = g.W.Write.contents in
-    let written = subst (λ (text : List ℕ). Appends (Some c.new-line.result.items) (Some c.writeln.new.self.items) text) (facts_written c.args.serial s c.word.result.now c.word.ensures) c.in_ok-writeln.ensures.bytes in
+    let written = subst (λ (text : List ℕ). Appends (Some c.new-line.result.items) (Some c.writeln.new.self.items) text) (facts_written c.args.serial s c.word.result.now c.word.ensures) (rw c.number.ensures at c.in_ok-writeln.ensures.bytes) in
     let holds : c.as_slice.result.now ≡ stat_facts c.args.serial s = c.as_slice.ensures.value ∙ line_holds c.new-line.result.items c.writeln.new.self.items (stat_facts c.args.serial s) c.new-line.ensures written in
     subst (λ (text : List ℕ). OnOk c.print_all.result (Appends (out c.args.out.now) (out c.print_all.new.out) text)) holds c.print_all.ensures.all
 
@@ -21,7 +21,7 @@ pub returns-clause-part : goal.returns-clause-part
 returns-clause-part g c =
     let s = c.args.stat.now in
     let out = g.W.Write.contents in
-    let written = subst (λ (text : List ℕ). Appends (Some c.new-line.result.items) (Some c.writeln.new.self.items) text) (facts_written c.args.serial s c.word.result.now c.word.ensures) c.in_ok-writeln.ensures.bytes in
+    let written = subst (λ (text : List ℕ). Appends (Some c.new-line.result.items) (Some c.writeln.new.self.items) text) (facts_written c.args.serial s c.word.result.now c.word.ensures) (rw c.number.ensures at c.in_ok-writeln.ensures.bytes) in
     let holds : c.as_slice.result.now ≡ stat_facts c.args.serial s = c.as_slice.ensures.value ∙ line_holds c.new-line.result.items c.writeln.new.self.items (stat_facts c.args.serial s) c.new-line.ensures written in
     subst (λ (text : List ℕ). OnErr c.print_all.result (AppendsPart (out c.args.out.now) (out c.print_all.new.out) text)) holds c.print_all.ensures.part
 

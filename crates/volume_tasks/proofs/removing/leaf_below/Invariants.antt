@@ -10,5 +10,5 @@ invariant-loop-depth g l = record {
   working : IsWorking l.volume;
   asked : Asked g.D.Device.honest g.D.Device.disk g.D.Device.size g.D.Device.failures l.initial.volume l.volume false;
   here : IsEntryOf g.D.Device.honest l.volume l.here;
-  way : g.D.Device.honest l.initial.volume.device → IsWayDown l.initial.volume.tree l.from l.here l._depth;
+  way : g.D.Device.honest l.initial.volume.device → IsWayDown l.initial.volume.tree l.fn.from l.here l._depth;
 }

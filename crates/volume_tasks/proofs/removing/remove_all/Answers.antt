@@ -1,5 +1,6 @@
-use Rattle.std.proofs.Common.{Ok, inl, inr, refl}
+use Rattle.std.proofs.Common.{◌∙◌, Ok, inl, inr, refl, sym}
 use Rattle.std.proofs.lemmas.Result.{IfOk-from_err}
+use Rattle.std.proofs.lemmas.Bool.{eqb-false}
 use Rattle.volume_tasks.specs.Changes.{IsPartOfRemoval, IsThinned, top_named, tree_removed, without}
 use Rattle.volume_tasks.specs.Tasks.{serial_named}
 use Rattle.volume_tasks.proofs.Changed.{refused_on}
@@ -12,7 +13,7 @@ returns g c =
     let v = c.args.volume.now in
     let path = c.args.path.now in
     let top = c.in_ok-top.top in
-    let is = λ (h : g.D.Device.honest v.device). removal_top v.tree path top (c.in_ok-top.ensures.answer h) c.if-top-eq-ROOT.false in
+    let is = λ (h : g.D.Device.honest v.device). removal_top v.tree path top (c.in_ok-top.ensures.answer h) (eqb-false top 1 (sym c.eq.ensures ∙ c.if-eq.false)) in
     applied_after g.D.Device.honest g.D.Device.disk g.D.Device.size g.D.Device.failures (λ T. Ok (without T top)) (λ T. tree_removed T path) (λ T U. IsThinned T top U) (λ T U. IsPartOfRemoval T path U)
     v c.serial_named.new.volume c.remove_tree.new.volume c.remove_tree.result c.in_ok-top.ensures.asked
     (λ h. removal_is v.tree path top (is h)) (λ h U thin. inr (top, is h, thin)) c.remove_tree.ensures

@@ -1,7 +1,5 @@
 use Rattle.volume_archive.proofs.Moments.{quiet_or}
-use Rattle.std.proofs.Common.{false}
 use Rattle.vol_log.proofs.Moments.{leaves_any}
-use Rattle.volume_archive.proofs.Kept.{keeps_then}
 use Rattle.volume_tasks.proofs.removing.remove_leaf.Goals as goal
 
 pub returns-in_err-rmdir-in-Directory-clause-crash : goal.returns-in_err-rmdir-in-Directory-clause-crash
@@ -12,14 +10,6 @@ returns-in_err-rmdir-in-Directory-clause-crash g c h =
     let disk = g.D.Device.disk in
     quiet_or (disk v.device) (disk mid.device) (disk c.rmdir.new.self.device) v.numbers mid.numbers v.tree mid.tree asked.kept.numbers (asked.answer h).1 (asked.crash h) (c.in_err-rmdir-in-Directory.ensures.crash (asked.kept.honest.0 h))
 
-pub returns-in_ok-rmdir-in-Directory-clause-crash : goal.returns-in_ok-rmdir-in-Directory-clause-crash
-returns-in_ok-rmdir-in-Directory-clause-crash g c h =
-    let v = c.args.volume.now in
-    let asked = c.in_ok-stat.ensures in
-    let mid = c.stat.new.self in
-    let disk = g.D.Device.disk in
-    quiet_or (disk v.device) (disk mid.device) (disk c.rmdir.new.self.device) v.numbers mid.numbers v.tree mid.tree asked.kept.numbers (asked.answer h).1 (asked.crash h) (c.in_ok-rmdir-in-Directory.ensures.crash (asked.kept.honest.0 h))
-
 pub returns-in_err-unlink-in-File-clause-crash : goal.returns-in_err-unlink-in-File-clause-crash
 returns-in_err-unlink-in-File-clause-crash g c h =
     let v = c.args.volume.now in
@@ -28,21 +18,5 @@ returns-in_err-unlink-in-File-clause-crash g c h =
     let disk = g.D.Device.disk in
     quiet_or (disk v.device) (disk mid.device) (disk c.unlink.new.self.device) v.numbers mid.numbers v.tree mid.tree asked.kept.numbers (asked.answer h).1 (asked.crash h) (c.in_err-unlink-in-File.ensures.crash (asked.kept.honest.0 h))
 
-pub returns-in_ok-unlink-in-File-clause-crash : goal.returns-in_ok-unlink-in-File-clause-crash
-returns-in_ok-unlink-in-File-clause-crash g c h =
-    let v = c.args.volume.now in
-    let asked = c.in_ok-stat.ensures in
-    let mid = c.stat.new.self in
-    let disk = g.D.Device.disk in
-    quiet_or (disk v.device) (disk mid.device) (disk c.unlink.new.self.device) v.numbers mid.numbers v.tree mid.tree asked.kept.numbers (asked.answer h).1 (asked.crash h) (c.in_ok-unlink-in-File.ensures.crash (asked.kept.honest.0 h))
-
 pub returns-in_err-stat-clause-crash : goal.returns-in_err-stat-clause-crash
 returns-in_err-stat-clause-crash g c h = leaves_any (g.D.Device.disk c.args.volume.now.device) (g.D.Device.disk c.stat.new.self.device) _ (c.in_err-stat.ensures.crash h)
-
-pub returns-in_ok-rmdir-in-Directory-clause-kept : goal.returns-in_ok-rmdir-in-Directory-clause-kept
-returns-in_ok-rmdir-in-Directory-clause-kept g c =
-    keeps_then g.D.Device.honest g.D.Device.size g.D.Device.failures c.args.volume.now c.stat.new.self c.rmdir.new.self false c.in_ok-stat.ensures.kept c.in_ok-rmdir-in-Directory.ensures.kept
-
-pub returns-in_ok-unlink-in-File-clause-kept : goal.returns-in_ok-unlink-in-File-clause-kept
-returns-in_ok-unlink-in-File-clause-kept g c =
-    keeps_then g.D.Device.honest g.D.Device.size g.D.Device.failures c.args.volume.now c.stat.new.self c.unlink.new.self false c.in_ok-stat.ensures.kept c.in_ok-unlink-in-File.ensures.kept

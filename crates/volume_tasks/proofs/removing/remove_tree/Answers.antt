@@ -1,4 +1,5 @@
 use Rattle.std.proofs.Common.{arith, false, sym, subst, ◌∙◌, Ok, None}
+use Rattle.std.proofs.lemmas.Bool.{eqb-true, eqb-false}
 use Rattle.vol_tree.specs.declared.superblock.Superblock.{Superblock}
 use Rattle.vol_tree.specs.Tree.{Tree, changed}
 use Rattle.vol_tree.specs.Calls.{parent_at}
@@ -29,7 +30,7 @@ loop-removed-preserved g c =
         number = subst (λ (s : Superblock). IsSerial s c.in_ok-here.here) (sym gone.kept.numbers) gone.range;
         used = λ h. (turn (kept.honest.1 h)).used;
       };
-      amid = λ h. (turn h).amid c.if-leaf-top.false;
+      amid = λ h. (turn h).amid (eqb-false c.in_ok-leaf.leaf c.args.top (sym c.eq.ensures ∙ c.if-eq.false));
       crash = λ h. turn_left g.D.Device.honest g.D.Device.disk g.D.Device.size g.D.Device.failures v c.loop-removed.volume c.leaf_below.new.volume (IsThinned T c.args.top) before.kept.numbers (before.kept.honest.0 h)
           c.remove_leaf.new.volume leaf.asked (before.amid h).thinned (before.crash h) (gone.crash (first.honest.0 h));
     }
@@ -61,8 +62,8 @@ returns-in_err-here g c =
     c.from_residual-in_err-here.ensures.1
 
 -- the top is gone, the last of all
-pub returns-then-leaf-top : goal.returns-then-leaf-top
-returns-then-leaf-top g c =
+pub returns-then-eq : goal.returns-then-eq
+returns-then-eq g c =
     let v = c.args.volume.now in
     let T = v.tree in
     let before = c.loop-removed.invariant in
@@ -73,7 +74,7 @@ returns-then-leaf-top g c =
     turned T c.args.top c.loop-removed.volume.tree c.leaf_below.new.volume.tree c.remove_leaf.new.volume.tree c.loop-removed.here c.in_ok-leaf.leaf c.in_ok-here.here c.loop-removed._removed
     (before.amid h) (c.is_a_tree.ensures.tree h) c.requires.root (c.requires.top.used h) (leaf.answer (before.kept.honest.0 h)) (leaf.asked.tree (before.kept.honest.0 h)) (leaf.entry.used (first.honest.0 h)) (gone.answer (first.honest.0 h)) in
     record {
-      answer = λ h. (turn h).last c.if-leaf-top.true;
+      answer = λ h. (turn h).last (eqb-true c.in_ok-leaf.leaf c.args.top (sym c.eq.ensures ∙ c.if-eq.true));
       part = λ h. (turn h).thinned;
       crash = λ h. turn_left g.D.Device.honest g.D.Device.disk g.D.Device.size g.D.Device.failures v c.loop-removed.volume c.leaf_below.new.volume (IsThinned T c.args.top) before.kept.numbers (before.kept.honest.0 h)
           c.remove_leaf.new.volume leaf.asked (before.amid h).thinned (before.crash h) (gone.crash (first.honest.0 h));

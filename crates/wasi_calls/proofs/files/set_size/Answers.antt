@@ -18,7 +18,7 @@ use Rattle.wasi_calls.proofs.files.set_size.Goals as goal
 pub set_size-requires : goal.set_size-requires
 set_size-requires g c =
     let f = file_of g.D.Device.honest c.args.volume.now (table_of c.args.descriptors.now) c.requires c.args.fd sized 31 (2 ^ 22) c.in-Ok.opened refl c.in-Ok.ensures in
-    record { first = f.first; last = f.last; used = f.used }
+    rw c.new.ensures (record { first = f.first; last = f.last; used = f.used })
 
 pub returns-in-Err : goal.returns-in-Err
 returns-in-Err g c = record {
@@ -36,7 +36,7 @@ returns-in-Ok-set_size g c = record {
       let size = c.args.size in
       changed_ok g.D.Device.honest g.D.Device.size g.D.Device.failures w m (λ v. fd_filestat_set_size v c.args.fd size) (λ v. resized v.volume v.tree o.serial size)
       c.args.volume.now c.set_size.new.self shown (goes_on _ _ o (c.in-Ok.ensures w table))
-      c.in-Ok-set_size.ensures.kept (c.in-Ok-set_size.ensures.answer h);
+      c.in-Ok-set_size.ensures.kept (rw c.new.ensures at c.in-Ok-set_size.ensures.answer h);
   io = no_29_at_0;
 }
 
@@ -47,7 +47,7 @@ returns-in-Err-set_size g c = record {
       let o = c.in-Ok.opened in
       let size = c.args.size in
       let e = c.in-Err-set_size.errno in
-      let (tree, meant) = c.in-Err-set_size.ensures.answer h in
+      let (tree, meant) = rw c.new.ensures at c.in-Err-set_size.ensures.answer h in
       subst (λ (n : ℕ). Answered (λ v. fd_filestat_set_size v c.args.fd size) w m (with_volume c.set_size.new.self w) m n) (sym c.refused.ensures)
       (changed_err g.D.Device.honest g.D.Device.size g.D.Device.failures w m (λ v. fd_filestat_set_size v c.args.fd size) (λ v. resized v.volume v.tree o.serial size)
       c.args.volume.now c.set_size.new.self shown (goes_on _ _ o (c.in-Ok.ensures w table))

@@ -79,7 +79,7 @@ returns-in-Ok-create_dir-clause-answered g c = λ h w table shown.
     made_ok g.D.Device.honest g.D.Device.size g.D.Device.failures w m run (made_at place) between new here
     (to_rest w m c.args.fd c.args.path c.args.len o (c.in-Ok.ensures.row w table)
     ∙ (goes_on _ _ (reached_as c.in-Ok-Missing.field-0) (ap (walk w o) (sym c.in-Ok.ensures.text) ∙ reaches) ∙ goes_on _ _ place is))
-    c.in-Ok-create_dir.ensures.kept c.in-Ok-create_dir.field-0 (c.in-Ok-create_dir.ensures.answer (walked.kept.honest.0 h))
+    c.in-Ok-create_dir.ensures.kept c.in-Ok-create_dir.field-0 (rw c.new.ensures at c.in-Ok-create_dir.ensures.answer (walked.kept.honest.0 h))
 
 pub returns-in-Err-create_dir-clause-answered : goal.returns-in-Err-create_dir-clause-answered
 returns-in-Err-create_dir-clause-answered g c = λ h w table shown.
@@ -96,7 +96,7 @@ returns-in-Err-create_dir-clause-answered g c = λ h w table shown.
     let reaches = c.in-Ok-Missing.ensures.reaches h w o refl shown in
     let is : missing (reached_as c.in-Ok-Missing.field-0) ≡ Ok place = ap (λ (r : ReachedValue). missing (reached_as r)) c.in-Ok-Missing.field-0-is in
     let here : w ≡ with_volume between w = sym (same_volume w m old between shown walked.kept.numbers (walked.tree h) (walked.kept.failed ∙ sym working)) in
-    let (tree, meant) = c.in-Err-create_dir.ensures.answer (walked.kept.honest.0 h) in
+    let (tree, meant) = rw c.new.ensures at c.in-Err-create_dir.ensures.answer (walked.kept.honest.0 h) in
     subst (λ (n : ℕ). Answered run w m (with_volume new w) m n) (sym c.refused.ensures)
     (made_err g.D.Device.honest g.D.Device.size g.D.Device.failures w m run (made_at place) between new here
     (to_rest w m c.args.fd c.args.path c.args.len o (c.in-Ok.ensures.row w table)
@@ -153,14 +153,14 @@ pub create_dir-requires-clause-name : goal.create_dir-requires-clause-name
 create_dir-requires-clause-name g c = let reached = subst (IsReached g.D.Device.honest c.reach.new.volume) c.in-Ok-Missing.field-0-is c.in-Ok-Missing.ensures.reached in reached.1
 
 pub create_dir-requires-clause-serial : goal.create_dir-requires-clause-serial
-create_dir-requires-clause-serial g c = let reached = subst (IsReached g.D.Device.honest c.reach.new.volume) c.in-Ok-Missing.field-0-is c.in-Ok-Missing.ensures.reached in reached.0.number.first
+create_dir-requires-clause-serial g c = let reached = subst (IsReached g.D.Device.honest c.reach.new.volume) c.in-Ok-Missing.field-0-is c.in-Ok-Missing.ensures.reached in rw c.new.ensures reached.0.number.first
 
 pub create_dir-requires-clause-directory : goal.create_dir-requires-clause-directory
 create_dir-requires-clause-directory g c = λ h.
     let walked = c.in-Ok-Missing.ensures in
     let before = walked.works.kept.honest.1 h in
     let place = subst (λ (r : ReachedValue). Places c.args.volume.now.tree (Ok r)) c.in-Ok-Missing.field-0-is (walked.place before) in
-    subst (λ (T : Tree). IsDirectory T c.in-Ok-Missing.parent) (sym (walked.works.tree before)) place
+    rw c.new.ensures (subst (λ (T : Tree). IsDirectory T c.in-Ok-Missing.parent) (sym (walked.works.tree before)) place)
 
 pub returns-in-Err-create_dir-clause-io : goal.returns-in-Err-create_dir-clause-io
 returns-in-Err-create_dir-clause-io g c = asked_29 ℕ c.in-Err-create_dir.errno _ (λ fails. c.in-Err-create_dir.ensures.kept.failed ∙ fails) c.refused.ensures

@@ -1,4 +1,4 @@
-use Rattle.std.proofs.Common.{◌≡◌, subst}
+use Rattle.std.proofs.Common.{subst}
 use Rattle.vol_sector.specs.Record.{LeftBy}
 use Rattle.vol_sector.specs.Crash.{crashed_image}
 use Rattle.vol_sector.specs.Memory.{first_of, record_of, room_of, sectors_of, IsUnused}

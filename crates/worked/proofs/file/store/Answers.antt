@@ -1,4 +1,4 @@
-use Rattle.std.proofs.Common.{◌≡◌, refl, sym, ◌∙◌, ap, subst, inl, inr, Ok}
+use Rattle.std.proofs.Common.{◌≡◌, refl, ◌∙◌, subst, inl, inr, Ok}
 use Rattle.vol_tree.specs.declared.superblock.Superblock.{Superblock}
 use Rattle.vol_tree.specs.Calls.{written}
 use Rattle.vol_tree.specs.Opened.{geometry}
