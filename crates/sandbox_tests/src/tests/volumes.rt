@@ -178,7 +178,10 @@ fn files_are_larger_on_an_upgraded_volume(rt: HostRuntime) {
 /// Whether a file is in the root.
 fn has<D: Device>(rt: &impl Abort, volume: &mut Volume<D>, name: &[u8]) -> bool {
     assert!(rt; is_name(name));
-    let inode = volume.lookup(Serial::ROOT, name).ok().expect(rt, "an answer");
+    let inode = volume
+        .lookup(Serial::ROOT, name)
+        .ok()
+        .expect(rt, "an answer");
     inode.is_some()
 }
 

@@ -3,6 +3,7 @@
 use bitflags::Flags;
 use std::process::Abort;
 use std::test::Fail;
+use vol_tree::Serial;
 use wasi_fd::{Descriptor, DescriptorFault, Descriptors, EntryKind, Fd, Opened, Rights, Stream};
 
 // An entry that is open with all rights of a file.
@@ -33,7 +34,7 @@ fn is_answered(descriptors: &mut Descriptors<'_>, act: &Act) -> bool {
         Open(serial, answer) => descriptors.open(file(*serial)).map(Fd::number) == *answer,
         Close(fd, answer) => descriptors.close(Fd::new(*fd)) == *answer,
         Replace(fd, serial, answer) => descriptors.replace(Fd::new(*fd), file(*serial)) == *answer,
-        Holds(serial, answer) => descriptors.holds(*serial) == *answer,
+        Holds(serial, answer) => descriptors.holds(Serial::new(*serial)) == *answer,
     }
 }
 
