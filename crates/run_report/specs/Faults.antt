@@ -2,6 +2,8 @@
 use Rattle.std.specs.Prelude.{ℕ, List, [], Option, Some, None, codes}
 use Rattle.vol_sector.specs.declared.fault.VolumeFault.{VolumeFault}
 use Rattle.vol_sector.specs.declared.fault.VolumeFault.TheVariants as volume
+use Rattle.vol_sector.specs.declared.fault.Rule.{Rule}
+use Rattle.vol_sector.specs.declared.fault.Rule.TheVariants as rules
 use Rattle.wasm_module.specs.declared.fault.LoadFault.{LoadFault}
 use Rattle.wasm_module.specs.declared.fault.LoadFault.TheVariants as load
 use Rattle.wasm_store.specs.declared.fault.InstanceFault.{InstanceFault}
@@ -63,7 +65,7 @@ load_text load.Memory = []
 abbrev pub volume_number : VolumeFault → Option ℕ
 volume_number volume.NotAVolume = Some 30
 volume_number volume.Version = Some 31
-volume_number volume.Damaged = Some 32
+volume_number (volume.Damaged damage) = Some 32
 volume_number volume.Device = Some 33
 volume_number volume.TooSmall = Some 34
 volume_number volume.Upgraded = Some 35
@@ -73,12 +75,32 @@ volume_number volume.Memory = None
 abbrev pub volume_text : VolumeFault → Text
 volume_text volume.NotAVolume = codes "the file is no volume"
 volume_text volume.Version = codes "the volume has a version that is not known"
-volume_text volume.Damaged = codes "the volume is damaged"
+volume_text (volume.Damaged damage) = codes "the volume is damaged"
 volume_text volume.Device = codes "the volume's file could not be read, written or synced"
 volume_text volume.TooSmall = codes "the volume's file has too few sectors"
 volume_text volume.Upgraded = codes "the volume has version 2 already"
 volume_text volume.Geometry = codes "SECTORS or SLOTS is out of its range"
 volume_text volume.Memory = []
+
+-- what is wrong where a rule of a volume's format is broken
+abbrev pub rule_text : Rule → Text
+rule_text rules.Superblock = codes "a number of the superblock is out of its range, or its rest is not zeros"
+rule_text rules.DeviceSize = codes "the superblock names more sectors than the file has"
+rule_text rules.LogHeader = codes "the log's header has a wrong count or number, or its rest is not zeros"
+rule_text rules.Kind = codes "the kind of an entry is not 3 or 4, or an unused slot is not zeros"
+rule_text rules.Root = codes "the root is not a directory without a name"
+rule_text rules.Name = codes "a name is not 1 to 255 bytes of UTF-8, has / or NUL, or is . or .."
+rule_text rules.Zeros = codes "a byte between the fields of an entry is not zero"
+rule_text rules.Size = codes "a directory has a size, or a file is larger than the version allows"
+rule_text rules.PointerPastSize = codes "a pointer at or past the size is not 0"
+rule_text rules.RootSerial = codes "serial 1 has a parent, or another entry has none"
+rule_text rules.NameTwice = codes "two entries agree in parent and name"
+rule_text rules.Pointer = codes "a pointer is not the number of a data sector"
+rule_text rules.SectorTwice = codes "a data sector is named twice"
+rule_text rules.LastBlock = codes "a byte of the last block past the size is not zero"
+rule_text rules.Space = codes "the needs of the files add up to more than the data sectors"
+rule_text rules.Parent = codes "the parent of an entry is not a directory"
+rule_text rules.Ancestors = codes "parents do not lead to the root"
 
 -- a fault of instantiating
 abbrev pub instance_number : InstanceFault → Option ℕ

@@ -4,9 +4,9 @@ ghost use Rattle.std.specs.Prelude.{◌≡◌};
 ghost use Rattle.run_report.specs.Faults.{fault_number, fault_offset, fault_text};
 ghost use Rattle.run_report.specs.Faults.{instance_number, instance_text};
 ghost use Rattle.run_report.specs.Faults.{load_number, load_offset, load_text};
-ghost use Rattle.run_report.specs.Faults.{volume_number, volume_text};
+ghost use Rattle.run_report.specs.Faults.{rule_text, volume_number, volume_text};
 
-use vol_sector::VolumeFault;
+use vol_sector::{Rule, VolumeFault};
 use wasm_module::LoadFault;
 use wasm_store::InstanceFault;
 
@@ -101,7 +101,7 @@ fn volume_number(fault: VolumeFault) -> Option<u32>
     match fault {
         VolumeFault::NotAVolume => Some(30),
         VolumeFault::Version => Some(31),
-        VolumeFault::Damaged => Some(32),
+        VolumeFault::Damaged(_) => Some(32),
         VolumeFault::Device => Some(33),
         VolumeFault::TooSmall => Some(34),
         VolumeFault::Upgraded => Some(35),
@@ -117,12 +117,39 @@ fn volume_text(fault: VolumeFault) -> &'static str
     match fault {
         VolumeFault::NotAVolume => "the file is no volume",
         VolumeFault::Version => "the volume has a version that is not known",
-        VolumeFault::Damaged => "the volume is damaged",
+        VolumeFault::Damaged(_) => "the volume is damaged",
         VolumeFault::Device => "the volume's file could not be read, written or synced",
         VolumeFault::TooSmall => "the volume's file has too few sectors",
         VolumeFault::Upgraded => "the volume has version 2 already",
         VolumeFault::Geometry => "SECTORS or SLOTS is out of its range",
         VolumeFault::Memory => "",
+    }
+}
+
+/// What is wrong where a rule of a volume's format is broken, in words.
+pub fn rule_text(rule: Rule) -> &'static str
+    ensures { result.now ≡ rule_text rule }
+{
+    match rule {
+        Rule::Superblock => {
+            "a number of the superblock is out of its range, or its rest is not zeros"
+        }
+        Rule::DeviceSize => "the superblock names more sectors than the file has",
+        Rule::LogHeader => "the log's header has a wrong count or number, or its rest is not zeros",
+        Rule::Kind => "the kind of an entry is not 3 or 4, or an unused slot is not zeros",
+        Rule::Root => "the root is not a directory without a name",
+        Rule::Name => "a name is not 1 to 255 bytes of UTF-8, has / or NUL, or is . or ..",
+        Rule::Zeros => "a byte between the fields of an entry is not zero",
+        Rule::Size => "a directory has a size, or a file is larger than the version allows",
+        Rule::PointerPastSize => "a pointer at or past the size is not 0",
+        Rule::RootSerial => "serial 1 has a parent, or another entry has none",
+        Rule::NameTwice => "two entries agree in parent and name",
+        Rule::Pointer => "a pointer is not the number of a data sector",
+        Rule::SectorTwice => "a data sector is named twice",
+        Rule::LastBlock => "a byte of the last block past the size is not zero",
+        Rule::Space => "the needs of the files add up to more than the data sectors",
+        Rule::Parent => "the parent of an entry is not a directory",
+        Rule::Ancestors => "parents do not lead to the root",
     }
 }
 

@@ -9,6 +9,6 @@ mod summary;
 
 pub use counted::Counted;
 pub use end::End;
-pub use fault::Fault;
+pub use fault::{Fault, rule_text};
 pub use printing::print;
 pub use summary::{Kept, Summary};

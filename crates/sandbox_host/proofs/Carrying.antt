@@ -38,7 +38,7 @@ only_memory sectors numbers tree on few fault.NotAVolume none =
     absurd (⊎_elim (λ short. omega (arith, short, on.room, on.stands.ranges.least)) (λ other. other (ap (take 8) on.stands.front)) none)
 only_memory sectors numbers tree on few fault.Version wrong =
     absurd (known_version numbers (subst IsNoVersion (version_is (image_of sectors 0) numbers on.stands.front) wrong.version))
-only_memory sectors numbers tree on few fault.Damaged wrong = absurd (wrong.none numbers tree on)
+only_memory sectors numbers tree on few (fault.Damaged damage) wrong = absurd (wrong.none numbers tree on)
 only_memory sectors numbers tree on few fault.Device wrong = absurd wrong
 only_memory sectors numbers tree on few fault.TooSmall wrong = absurd wrong
 only_memory sectors numbers tree on few fault.Upgraded wrong = absurd wrong

@@ -57,7 +57,7 @@ session_number opening.Memory = 40
 abbrev pub volume_number : VolumeFault → ℕ
 volume_number volume.NotAVolume = 30
 volume_number volume.Version = 31
-volume_number volume.Damaged = 32
+volume_number (volume.Damaged damage) = 32
 volume_number volume.Device = 33
 volume_number volume.TooSmall = 34
 volume_number volume.Upgraded = 35

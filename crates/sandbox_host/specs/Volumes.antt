@@ -44,7 +44,7 @@ IsVolume (Sectors sectors recorded) v = IsIn sectors.now v
 abbrev pub RefusesSectors : List (List ℕ) → VolumeFault → Type 0
 RefusesSectors sectors fault.NotAVolume = NoVolumeOn (length sectors) (image_of sectors)
 RefusesSectors sectors fault.Version = HasNoVersion (length sectors) (image_of sectors)
-RefusesSectors sectors fault.Damaged = IsDamaged (length sectors) (image_of sectors)
+RefusesSectors sectors (fault.Damaged damage) = IsDamaged (length sectors) (image_of sectors)
 RefusesSectors sectors fault.Device = ⊥
 RefusesSectors sectors fault.TooSmall = ⊥
 RefusesSectors sectors fault.Upgraded = ⊥

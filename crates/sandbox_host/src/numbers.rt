@@ -108,7 +108,7 @@ pub(crate) fn volume_number(fault: VolumeFault) -> u32
     match fault {
         VolumeFault::NotAVolume => 30,
         VolumeFault::Version => 31,
-        VolumeFault::Damaged => 32,
+        VolumeFault::Damaged(_) => 32,
         VolumeFault::Device => DEVICE_FAILED,
         VolumeFault::TooSmall => 34,
         VolumeFault::Upgraded => 35,

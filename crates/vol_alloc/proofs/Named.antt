@@ -2,6 +2,7 @@
 use Rattle.std.proofs.Common.{◌≡◌, ◌≢◌, ◌↔◌, if◌then◌else◌, nat_lt, Result, Ok, Err, IfErr, IsErrAnd, inl, inr, ℕ, ◌+◌, ◌-◌, ◌≤◌, ◌<◌, Bool, true, false, List, [], ◌∷◌, ◌++◌, length, take, get_or, set, sym, refl, ◌∙◌, ap, subst, arith}
 use Rattle.std.proofs.lemmas.List.{length_push, get_or_push, get_or_append_left, length-set, get_or-set_same, get_or-set_other, take_more, length-take-le, get_or-take}
 use Rattle.std.proofs.lemmas.Bool.{cases_eq, false≢true}
+use Rattle.vol_sector.specs.Fault.{IsDamage}
 use Rattle.vol_sector.specs.declared.fault.VolumeFault.{VolumeFault}
 use Rattle.vol_sector.specs.declared.fault.VolumeFault.TheVariants as faults
 use Rattle.vol_alloc.specs.Numbers.{Names, ArePlaces}
@@ -113,5 +114,5 @@ pub handed_on : {T : Type 0} (r : Result T VolumeFault) (P : VolumeFault → Typ
 handed_on (Ok t) P x is holds = tt
 handed_on (Err e) P x is holds = subst P (sym is) holds
 
-pub memory_not_damage : {X : Type 0} → faults.Memory ≡ faults.Damaged → X
-memory_not_damage is = cc
+pub memory_not_damage : {X : Type 0} → IsDamage faults.Memory → X
+memory_not_damage is = absurd is

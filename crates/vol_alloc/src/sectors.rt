@@ -3,11 +3,12 @@
 ghost use Rattle.std.specs.Prelude.{◌≡◌, ◌⊎◌, ◌≤◌, ◌<◌, ◌+◌, ◌-◌, ◌^◌, ◌==◌, ◌↔◌, ℕ, true, false};
 ghost use Rattle.std.specs.Prelude.{length, not, count_by, vec_len, vec_capacity, slice_index_or};
 ghost use Rattle.std.specs.Prelude.{if◌then◌else◌, IsTrue, IfOk, IfErr, OnOk, replicate};
+ghost use Rattle.vol_sector.specs.Fault.{IsDamage};
 ghost use Rattle.vol_alloc.specs.Numbers.{Names, ArePlaces};
 ghost use Rattle.vol_alloc.specs.internal.Numbers.{AreFree};
 
 use std::alloc::{AllocError, Global};
-use vol_sector::VolumeFault;
+use vol_sector::{Damage, Rule, VolumeFault};
 
 /// Which sectors of a range are taken. Each call but `from_named` is constant in time and takes no
 /// memory.
@@ -42,14 +43,17 @@ impl Alloc {
         ensures range { IfOk result (λ a. (first_of a ≡ first) × (end_of a ≡ end)) }
         ensures count { IfOk result (λ a. free_of a + length named.now ≡ end - first) }
         ensures right { OnOk result (ArePlaces first end named.now) }
-        ensures damaged { IfErr result (λ fault. fault ≡ VolumeFault.Damaged
+        ensures damaged { IfErr result (λ fault. IsDamage fault
             → ArePlaces first end named.now → ⊥) }
-        ensures faults_named { IfErr result (λ fault. (fault ≡ VolumeFault.Damaged)
+        ensures faults_named { IfErr result (λ fault. IsDamage fault
             ⊎ (fault ≡ VolumeFault.Memory)) }
     {
         let mut taken = vec![in alloc; false; end.saturating_sub(first) as usize]?;
         if !take_all(first, &mut taken, named) {
-            return Err(VolumeFault::Damaged);
+            return Err(VolumeFault::Damaged(Damage {
+                sector: first_wrong(&taken, named),
+                rule: Rule::SectorTwice,
+            }));
         }
         let free = free_ones(alloc, first, &taken)?;
         Ok(Alloc {
@@ -133,6 +137,12 @@ fn take_all(first: u32, taken: &mut [bool], named: &[u32]) -> bool
         taken[place] = true;
     }
     true
+}
+
+/// The number at which `take_all` stopped: each one before it has a flag of its own.
+fn first_wrong(taken: &[bool], named: &[u32]) -> Option<u32> {
+    let before = taken.iter().filter(|flag| **flag).count();
+    named.get(before).copied()
 }
 
 /// The sectors whose flags aren't set, the first one last.

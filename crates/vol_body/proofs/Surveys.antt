@@ -8,7 +8,8 @@ use Rattle.std.proofs.lemmas.Bool.Decides.{nat_tests}
 use Rattle.std.specs.List.{range_with_len}
 use Rattle.byteorder.specs.Endian.{little_number}
 use Rattle.vol_sector.specs.Disk.{Image}
-use Rattle.vol_sector.specs.Fault.{is_device, device_failed}
+use Rattle.vol_sector.specs.Fault.{is_device, device_failed, IsDamage}
+use Rattle.vol_sector.proofs.Damages.{damage_not_device}
 use Rattle.vol_sector.specs.declared.fault.VolumeFault.{VolumeFault}
 use Rattle.vol_sector.specs.declared.fault.VolumeFault.TheVariants as faults
 use Rattle.vol_body.specs.Body.{number_in}
@@ -83,26 +84,26 @@ pub handed_on : {T : Type 0} (r : Result T VolumeFault) (P : VolumeFault → Typ
 handed_on (Ok t) P x is holds = tt
 handed_on (Err e) P x is holds = subst P (sym is) holds
 
-pub device_not_damaged : {X : Type 0} → faults.Device ≡ faults.Damaged → X
-device_not_damaged is = cc
+pub device_not_damaged : {X : Type 0} → IsDamage faults.Device → X
+device_not_damaged is = absurd is
 
 -- whether the device failed, where the fault is handed on
 pub failed_on : {T : Type 0} (r : Result T VolumeFault) (x : VolumeFault) (failed : Bool) → IsErrAnd r (λ y. y ≡ x) → failed ≡ is_device x → failed ≡ device_failed r
 failed_on (Ok t) x failed is now = absurd is
 failed_on (Err e) x failed is now = now ∙ ap is_device (sym is)
 
-pub not_device : (x : VolumeFault) → (x ≡ faults.Damaged) ⊎ (x ≡ faults.Memory) → is_device x ≡ false
-not_device x is = ⊎_elim (λ damaged. ap is_device damaged) (λ memory. ap is_device memory) is
+pub not_device : (x : VolumeFault) → IsDamage x ⊎ (x ≡ faults.Memory) → is_device x ≡ false
+not_device x is = ⊎_elim (λ damaged. damage_not_device x damaged) (λ memory. ap is_device memory) is
 
-pub no_device_failed : {T : Type 0} (r : Result T VolumeFault) → IfErr r (λ x. (x ≡ faults.Damaged) ⊎ (x ≡ faults.Memory)) → device_failed r ≡ false
+pub no_device_failed : {T : Type 0} (r : Result T VolumeFault) → IfErr r (λ x. IsDamage x ⊎ (x ≡ faults.Memory)) → device_failed r ≡ false
 no_device_failed (Ok t) is = refl
 no_device_failed (Err x) is = not_device x is
 
 -- two of the three faults
-pub or_memory : (x : VolumeFault) → (x ≡ faults.Damaged) ⊎ (x ≡ faults.Memory) → (x ≡ faults.Damaged) ⊎ ((x ≡ faults.Device) ⊎ (x ≡ faults.Memory))
+pub or_memory : (x : VolumeFault) → IsDamage x ⊎ (x ≡ faults.Memory) → IsDamage x ⊎ ((x ≡ faults.Device) ⊎ (x ≡ faults.Memory))
 or_memory x is = ⊎_elim (λ damaged. inl damaged) (λ memory. inr (inr memory)) is
 
-pub or_device : (x : VolumeFault) → (x ≡ faults.Damaged) ⊎ (x ≡ faults.Device) → (x ≡ faults.Damaged) ⊎ ((x ≡ faults.Device) ⊎ (x ≡ faults.Memory))
+pub or_device : (x : VolumeFault) → IsDamage x ⊎ (x ≡ faults.Device) → IsDamage x ⊎ ((x ≡ faults.Device) ⊎ (x ≡ faults.Memory))
 or_device x is = ⊎_elim (λ damaged. inl damaged) (λ device. inr (inl device)) is
 
 -- what holds anyway holds at Ok

@@ -3,7 +3,7 @@
 ghost use Rattle.std.specs.Prelude.{◌≡◌, ◌≢◌, ◌≤◌, ◌<◌, ◌+◌, ◌*◌, ◌++◌, ◌∷◌, ◌⊎◌, ℕ, [], true, false};
 ghost use Rattle.std.specs.Prelude.{IfOk, OnOk, IfErr, IsErr, IsTrue, is_err, drop, map, slice_index};
 ghost use Rattle.byteorder.specs.Endian.{little_number};
-ghost use Rattle.vol_sector.specs.Fault.{device_failed};
+ghost use Rattle.vol_sector.specs.Fault.{device_failed, IsDamage};
 ghost use Rattle.vol_log.specs.Log.{view, log_sectors, has_failed, device_of};
 ghost use Rattle.vol_log.specs.Reading.{OnlyReads};
 ghost use Rattle.vol_inode.specs.Entry.{UnusedPointersAreZero};
@@ -18,7 +18,7 @@ ghost use Rattle.vol_inode.specs.declared.version.TheConstants.{LARGEST_SIZE};
 use crate::locate::{Numbers, number_at};
 use vol_inode::{DIRECT, DOUBLE_INDIRECT, Entry, INDIRECT, LISTED, NUMBERS};
 use vol_log::Log;
-use vol_sector::{Device, DeviceFault, VolumeFault};
+use vol_sector::{Damage, Device, DeviceFault, Rule, VolumeFault};
 
 /// Pushes the number, unless it is 0. It is refused as `Damaged` where it is out of the range, or
 /// where there are as many as the range has sectors.
@@ -26,20 +26,32 @@ fn push_number(named: &mut Vec<u32>, n: u32, first: u32, end: u32) -> Result<(),
     requires { AreInside first end named.old.items }
     ensures pushes { OnOk result (Pushes first end named.old.items named.new.items (n ∷ [])) }
     ensures within { OnOk result (n ≢ 0 → n < end) }
-    ensures damaged { IfErr result (λ fault. fault ≡ VolumeFault.Damaged
+    ensures damaged { IfErr result (λ fault. IsDamage fault
         → Overflows first end named.old.items (n ∷ [])) }
-    ensures refused { IfErr result (λ fault. (fault ≡ VolumeFault.Damaged)
+    ensures refused { IfErr result (λ fault. IsDamage fault
         ⊎ (fault ≡ VolumeFault.Memory)) }
 {
     if n == 0 {
         return Ok(());
     }
     if n < first || end <= n || (end - first) as usize <= named.len() {
-        return Err(VolumeFault::Damaged);
+        return Err(VolumeFault::Damaged(Damage {
+            sector: None,
+            rule: pointer_rule(n, first, end),
+        }));
     }
     match named.push(n) {
         Ok(()) => Ok(()),
         Err(_) => Err(VolumeFault::Memory),
+    }
+}
+
+/// The rule that such a number breaks: more numbers than there are data sectors name one twice.
+fn pointer_rule(n: u32, first: u32, end: u32) -> Rule {
+    if n < first || end <= n {
+        Rule::Pointer
+    } else {
+        Rule::SectorTwice
     }
 }
 
@@ -48,9 +60,9 @@ fn push_all(named: &mut Vec<u32>, numbers: &[u32], first: u32, end: u32) -> Resu
     requires { AreInside first end named.old.items }
     ensures pushes { OnOk result
         (Pushes first end named.old.items named.new.items numbers.now) }
-    ensures damaged { IfErr result (λ fault. fault ≡ VolumeFault.Damaged
+    ensures damaged { IfErr result (λ fault. IsDamage fault
         → Overflows first end named.old.items numbers.now) }
-    ensures refused { IfErr result (λ fault. (fault ≡ VolumeFault.Damaged)
+    ensures refused { IfErr result (λ fault. IsDamage fault
         ⊎ (fault ≡ VolumeFault.Memory)) }
 {
     for n in numbers {
@@ -100,9 +112,9 @@ fn read_numbers<D: Device>(
     ensures past { D.honest (device_of log.old)
         → OnOk result (ListsNoneFrom (view log.old) indirect_block from) }
     ensures damaged { D.honest (device_of log.old)
-        → IfErr result (λ fault. fault ≡ VolumeFault.Damaged
+        → IfErr result (λ fault. IsDamage fault
         → ListsNoneFrom (view log.old) indirect_block from → ⊥) }
-    ensures refused { IfErr result (λ fault. (fault ≡ VolumeFault.Damaged)
+    ensures refused { IfErr result (λ fault. IsDamage fault
         ⊎ (fault ≡ VolumeFault.Device)) }
     ensures reads { OnlyReads log.old log.new }
     ensures failed { has_failed log.new ≡ device_failed result }
@@ -113,7 +125,10 @@ fn read_numbers<D: Device>(
     let image = log.read(indirect_block)?;
     let numbers = numbers_in(&image);
     if !none_from(&numbers, from) {
-        return Err(VolumeFault::Damaged);
+        return Err(VolumeFault::Damaged(Damage {
+            sector: None,
+            rule: Rule::PointerPastSize,
+        }));
     }
     Ok(numbers)
 }
@@ -137,10 +152,10 @@ fn survey_indirect_block<D: Device>(
         → OnOk result (ListsNoneFrom (view log.old) indirect_block from) }
     ensures inside { OnOk result (AreInside first end named.new.items) }
     ensures damaged { D.honest (device_of log.old)
-        → IfErr result (λ fault. fault ≡ VolumeFault.Damaged
+        → IfErr result (λ fault. IsDamage fault
         → ListsNoneFrom (view log.old) indirect_block from
         → Overflows first end named.old.items (with_listed (view log.old) indirect_block)) }
-    ensures refused { IfErr result (λ fault. (fault ≡ VolumeFault.Damaged)
+    ensures refused { IfErr result (λ fault. IsDamage fault
         ⊎ ((fault ≡ VolumeFault.Device) ⊎ (fault ≡ VolumeFault.Memory))) }
     ensures reads { OnlyReads log.old log.new }
     ensures failed { has_failed log.new ≡ device_failed result }
@@ -171,10 +186,10 @@ fn survey_inner_blocks<D: Device>(
         → OnOk result (LaterListNone (view log.old) inner_blocks.now count) }
     ensures inside { OnOk result (AreInside first end named.new.items) }
     ensures damaged { D.honest (device_of log.old)
-        → IfErr result (λ fault. fault ≡ VolumeFault.Damaged
+        → IfErr result (λ fault. IsDamage fault
         → LaterListNone (view log.old) inner_blocks.now count
         → Overflows first end named.old.items (all_listed (view log.old) inner_blocks.now)) }
-    ensures refused { IfErr result (λ fault. (fault ≡ VolumeFault.Damaged)
+    ensures refused { IfErr result (λ fault. IsDamage fault
         ⊎ ((fault ≡ VolumeFault.Device) ⊎ (fault ≡ VolumeFault.Memory))) }
     ensures reads { OnlyReads log.old log.new }
     ensures failed { has_failed log.new ≡ device_failed result }
@@ -206,10 +221,10 @@ fn survey_double_indirect_block<D: Device>(
         → OnOk result (LaterNone (view log.old) double_indirect_block count) }
     ensures inside { OnOk result (AreInside first end named.new.items) }
     ensures damaged { D.honest (device_of log.old)
-        → IfErr result (λ fault. fault ≡ VolumeFault.Damaged
+        → IfErr result (λ fault. IsDamage fault
         → LaterNone (view log.old) double_indirect_block count → Overflows first end named.old.items
         (double_indirect_block ∷ all_listed (view log.old) (listed (view log.old) double_indirect_block))) }
-    ensures refused { IfErr result (λ fault. (fault ≡ VolumeFault.Damaged)
+    ensures refused { IfErr result (λ fault. IsDamage fault
         ⊎ ((fault ≡ VolumeFault.Device) ⊎ (fault ≡ VolumeFault.Memory))) }
     ensures reads { OnlyReads log.old log.new }
     ensures failed { has_failed log.new ≡ device_failed result }
@@ -241,10 +256,10 @@ fn survey_sectors<D: Device>(
         → OnOk result (NamesNonePast (view log.old) entry.now) }
     ensures inside { OnOk result (AreInside first end named.new.items) }
     ensures damaged { D.honest (device_of log.old)
-        → IfErr result (λ fault. fault ≡ VolumeFault.Damaged
+        → IfErr result (λ fault. IsDamage fault
         → NamesNonePast (view log.old) entry.now → Overflows first end named.old.items
         (map (named_at (view log.old) entry.now) every_position)) }
-    ensures refused { IfErr result (λ fault. (fault ≡ VolumeFault.Damaged)
+    ensures refused { IfErr result (λ fault. IsDamage fault
         ⊎ ((fault ≡ VolumeFault.Device) ⊎ (fault ≡ VolumeFault.Memory))) }
     ensures reads { OnlyReads log.old log.new }
     ensures failed { has_failed log.new ≡ device_failed result }
@@ -372,7 +387,8 @@ fn ends_in_zeros<D: Device>(log: &mut Log<D>, entry: &Entry, end: u32) -> Result
 /// It is refused as `Damaged` where a number is out of the data sectors from `first` to the one
 /// before `end`, where there are more numbers than data sectors, where a number stands for a data block
 /// at or past the size, or where a byte past the size is not 0; then some numbers may have been
-/// pushed. It is refused as `Device` where the log has failed, before or now, and as `Memory`.
+/// pushed. It is refused as `Device` where the log has failed, before or now, and as `Memory`. Of a
+/// damage no sector is named: it is that of the entry's slot, which isn't known here.
 pub fn survey<D: Device>(
     log: &mut Log<D>,
     entry: &Entry,
@@ -390,10 +406,10 @@ pub fn survey<D: Device>(
         → OnOk result (IsTrimmed (view log.old) entry.now) }
     ensures inside { OnOk result (AreInside first end named.new.items) }
     ensures damaged { D.honest (device_of log.old)
-        → IfErr result (λ fault. fault ≡ VolumeFault.Damaged
+        → IfErr result (λ fault. IsDamage fault
         → IsTrimmed (view log.old) entry.now
         → AreInside first end (named.old.items ++ sectors_named (view log.old) entry.now) → ⊥) }
-    ensures refused { IfErr result (λ fault. (fault ≡ VolumeFault.Damaged)
+    ensures refused { IfErr result (λ fault. IsDamage fault
         ⊎ ((fault ≡ VolumeFault.Device) ⊎ (fault ≡ VolumeFault.Memory))) }
     ensures reads { OnlyReads log.old log.new }
     ensures failed { has_failed log.new ≡ device_failed result }
@@ -404,7 +420,10 @@ pub fn survey<D: Device>(
     }
     survey_sectors(log, entry, first, end, named)?;
     if !ends_in_zeros(log, entry, end)? {
-        return Err(VolumeFault::Damaged);
+        return Err(VolumeFault::Damaged(Damage {
+            sector: None,
+            rule: Rule::LastBlock,
+        }));
     }
     Ok(())
 }

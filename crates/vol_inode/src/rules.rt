@@ -6,6 +6,7 @@ ghost use Rattle.vol_inode.specs.Entry.{HasName, HasSize, UnusedPointersAreZero,
 use crate::names::is_name;
 use crate::pointers::{DOUBLE_INDIRECT, LISTED};
 use crate::{Entry, Kind, Version};
+use vol_sector::Rule;
 
 /// Whether the entry keeps the rules that its own sector shows.
 pub fn keeps_rules(version: Version, entry: &Entry) -> bool
@@ -15,6 +16,23 @@ pub fn keeps_rules(version: Version, entry: &Entry) -> bool
         && has_zeros(&entry.name[entry.name_length as usize..])
         && has_size(version, entry)
         && unused_pointers_are_zero(entry)
+}
+
+/// The first rule that an entry breaks; where it keeps those of its fields, a byte between them isn't zero.
+pub fn broken_by(version: Version, entry: &Entry) -> Rule {
+    if !has_name(entry) && entry.parent == 0 {
+        return Rule::Root;
+    }
+    if !has_name(entry) {
+        return Rule::Name;
+    }
+    if !has_size(version, entry) {
+        return Rule::Size;
+    }
+    if !unused_pointers_are_zero(entry) {
+        return Rule::PointerPastSize;
+    }
+    Rule::Zeros
 }
 
 /// Whether the name is right.

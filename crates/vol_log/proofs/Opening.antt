@@ -1,11 +1,11 @@
 -- What opening finds and leaves.
-use Rattle.std.proofs.Common.{◌≡◌, ◌⊎◌, inr, ⊎_elim, ℕ, true, List, [], refl, sym, ◌∙◌, ap, subst, Result, Ok, Err}
+use Rattle.std.proofs.Common.{◌≡◌, ◌⊎◌, inr, ⊎_elim, ℕ, true, List, [], refl, sym, ◌∙◌, ap, subst, Result, Err}
 use Rattle.std.proofs.lemmas.Result.{err_from_is_err_and}
-use Rattle.std.specs.Prelude.{IfErr, IsErrAnd, IsErrOf}
+use Rattle.std.specs.Prelude.{IfErr, IsErrAnd}
 use Rattle.vol_sector.specs.Disk.{Image, Disk, Only, Leaves, counted}
-use Rattle.vol_sector.specs.Fault.{device_failed}
+use Rattle.vol_sector.specs.Fault.{device_failed, IsDamage}
 use Rattle.vol_sector.specs.declared.fault.VolumeFault.{VolumeFault}
-use Rattle.vol_sector.specs.declared.fault.VolumeFault.TheVariants.{Damaged, Device}
+use Rattle.vol_sector.specs.declared.fault.VolumeFault.TheVariants.{Device}
 use Rattle.vol_log.specs.Header.{IsHeader}
 use Rattle.vol_log.specs.Batch.{over, logged, SameContent, HasContent, Settled}
 use Rattle.vol_log.specs.internal.Batch.{numbers}
@@ -48,14 +48,11 @@ settled_of s d batch none logs = record { durable = logs.durable; empty = subst 
 pub is_device_err : {T : Type 0} (r : Result T VolumeFault) → IsErrAnd r (λ f. f ≡ Device) → r ≡ Err Device
 is_device_err r is = let e = err_from_is_err_and r is in e.1 ∙ ap (λ (f : VolumeFault). Err f) e.2
 
-pub not_damaged : {T X : Type 0} (r : Result T VolumeFault) → r ≡ Err Device → IsErrOf r Damaged → X
-not_damaged r device damaged = cc
+pub not_damaged : {T X : Type 0} (r : Result T VolumeFault) → r ≡ Err Device → IsErrAnd r IsDamage → X
+not_damaged r device damaged = absurd (subst (λ x. IsErrAnd x IsDamage) device damaged)
 
-pub ok_not_damaged : {T X : Type 0} (x : T) (r : Result T VolumeFault) → r ≡ Ok x → IsErrOf r Damaged → X
-ok_not_damaged x r ok damaged = cc
-
-pub device_named : {T : Type 0} (r : Result T VolumeFault) → r ≡ Err Device → IfErr r (λ f. (f ≡ Damaged) ⊎ (f ≡ Device))
-device_named {T = T} r device = subst (λ (x : Result T VolumeFault). IfErr x (λ f. (f ≡ Damaged) ⊎ (f ≡ Device))) (sym device) (inr refl)
+pub device_named : {T : Type 0} (r : Result T VolumeFault) → r ≡ Err Device → IfErr r (λ f. IsDamage f ⊎ (f ≡ Device))
+device_named {T = T} r device = subst (λ (x : Result T VolumeFault). IfErr x (λ f. IsDamage f ⊎ (f ≡ Device))) (sym device) (inr refl)
 
 -- a failed operation more, after operations that succeeded
 pub counts_device : {T : Type 0} (r : Result T VolumeFault) (before between after : ℕ) → r ≡ Err Device → between ≡ before → after ≡ counted true between → after ≡ counted (device_failed r) before

@@ -6,7 +6,7 @@ ghost use Rattle.std.specs.Prelude.{OnOk, OnErr, IfOk, IfErr, IsOk, IsErr, is_er
 ghost use Rattle.std.specs.Prelude.{if◌then◌else◌};
 ghost use Rattle.std.specs.Prelude.{vec_capacity};
 ghost use Rattle.vol_sector.specs.Disk.{Image, Leaves, put, counted, OneMore};
-ghost use Rattle.vol_sector.specs.Fault.{is_device};
+ghost use Rattle.vol_sector.specs.Fault.{is_device, IsDamage};
 ghost use Rattle.vol_log.specs.Header.{Places};
 ghost use Rattle.vol_log.specs.internal.Index.{IsIndex};
 ghost use Rattle.vol_log.specs.Batch.{SameContent, HasContent, HasEither, Settled};
@@ -51,6 +51,9 @@ impl<D: Device> Log<D> {
     /// It is refused as `Damaged` where sector 1 is no right log header; as `Device` where an
     /// operation failed; and as `Memory`. Where that header is wrong nothing is written. It reserves
     /// the memory for all later calls.
+    // So many clauses, since success and refusal hand back different things: what the log stands for (`fresh` to
+    // `right`), when it is refused (`damaged`, `unwritten`, `faults_named`), what a crash or a refusal leaves
+    // (`crash_ok` to `kept_content`), and what becomes of the device (`kept_ok`, `kept_err`).
     pub fn open(alloc: Global, mut device: D, sectors: u32) -> Result<Log<D>, Refused<D>>
         requires geometry { FIRST_AFTER_LOG < sectors }
         requires on_device { sectors ≤ D.size device }
@@ -63,7 +66,7 @@ impl<D: Device> Log<D> {
             → IfOk result (λ log. Settled sectors (D.disk (device_of log))) }
         ensures right { D.honest device
             → OnOk result ((m : Image) × HasContent sectors (D.disk device).seen m) }
-        ensures damaged { D.honest device → IfErr result (λ r. r.fault ≡ VolumeFault.Damaged
+        ensures damaged { D.honest device → IfErr result (λ r. IsDamage r.fault
             → ((m : Image) → HasContent sectors (D.disk device).seen m → ⊥)
             × Leaves (D.disk device) (D.disk r.device) (λ c. ⊥)) }
         // Where sector 1 is no right header, nothing is written.
@@ -83,7 +86,7 @@ impl<D: Device> Log<D> {
         ensures kept_content { (m : Image) → D.honest device
             → HasContent sectors (D.disk device).seen m
             → IfErr result (λ r. HasContent sectors (D.disk r.device).seen m) }
-        ensures faults_named { IfErr result (λ r. (r.fault ≡ VolumeFault.Damaged)
+        ensures faults_named { IfErr result (λ r. IsDamage r.fault
             ⊎ ((r.fault ≡ VolumeFault.Device) ⊎ (r.fault ≡ VolumeFault.Memory))) }
         ensures kept_ok { IfOk result (λ log. (D.honest device ↔ D.honest (device_of log))
             × (D.size (device_of log) ≡ D.size device)
@@ -129,6 +132,8 @@ impl<D: Device> Log<D> {
 
     /// The sector with what is staged for it. Where the log has failed, it answers that. It does
     /// one device operation, or none where the log has failed or the sector is staged.
+    // So many clauses, since each says of one thing that a read leaves it alone: what the log stands for and has
+    // staged, and what is on the device; besides, how many operations there are, and whether one failed.
     pub fn read(&mut self, n: u32) -> Result<[u8; 512], DeviceFault>
         requires { n < log_sectors self.old }
         ensures value { D.honest (device_of self.old)

@@ -1,9 +1,9 @@
 //! What opening does with a log that a crash may have left.
 
 ghost use Rattle.std.specs.Prelude.{◌≡◌, ◌⊎◌, ◌≤◌, ◌<◌, ◌↔◌, List, ℕ, []};
-ghost use Rattle.std.specs.Prelude.{IsTrue, OnOk, OnErr, IfOk, IfErr, IsErrOf, is_err, vec_capacity};
+ghost use Rattle.std.specs.Prelude.{IsTrue, OnOk, OnErr, IfOk, IfErr, IsErrAnd, is_err, vec_capacity};
 ghost use Rattle.vol_sector.specs.Disk.{Image, Leaves, counted};
-ghost use Rattle.vol_sector.specs.Fault.{device_failed};
+ghost use Rattle.vol_sector.specs.Fault.{device_failed, IsDamage};
 ghost use Rattle.vol_log.specs.Header.{Places, IsHeader};
 ghost use Rattle.vol_log.specs.Batch.{SameContent, HasContent, Settled};
 ghost use Rattle.vol_log.specs.internal.Batch.{numbers};
@@ -14,9 +14,11 @@ use crate::Staged;
 use crate::header::read_header;
 use crate::layout::HEADER;
 use crate::steps::{apply_batch, read_images};
-use vol_sector::{Device, DeviceFault, VolumeFault};
+use vol_sector::{Damage, Device, DeviceFault, Rule, VolumeFault};
 
 /// Puts what the log holds into its places, and empties the log.
+// So many clauses in four groups: what stands at success and when it is refused (`settled` to `quiet`), what a crash
+// or a refusal leaves (`crash`, `kept_content`), what becomes of the device (`honest` to `failures`), and of the batch.
 pub fn replay<D: Device>(
     device: &mut D,
     sectors: u32,
@@ -33,7 +35,7 @@ pub fn replay<D: Device>(
         → OnOk result (SameContent (D.disk device.new).seen m) }
     ensures right { D.honest device.old
         → OnOk result ((m : Image) × HasContent sectors (D.disk device.old).seen m) }
-    ensures damaged { D.honest device.old → IsErrOf result VolumeFault.Damaged
+    ensures damaged { D.honest device.old → IsErrAnd result IsDamage
         → (m : Image) → HasContent sectors (D.disk device.old).seen m → ⊥ }
     ensures quiet { D.honest device.old
         → ((m : Image) → HasContent sectors (D.disk device.old).seen m → ⊥)
@@ -50,7 +52,7 @@ pub fn replay<D: Device>(
 
     ensures honest { D.honest device.old ↔ D.honest device.new }
     ensures size { D.size device.new ≡ D.size device.old }
-    ensures named { IfErr result (λ fault. (fault ≡ VolumeFault.Damaged)
+    ensures named { IfErr result (λ fault. IsDamage fault
         ⊎ (fault ≡ VolumeFault.Device)) }
     ensures failures { D.failures device.new ≡ counted (device_failed result) (D.failures device.old) }
     ensures emptied { OnOk result (batch.new.items ≡ []) }
@@ -58,7 +60,10 @@ pub fn replay<D: Device>(
 {
     let is_right = read_log(device, sectors, batch)?;
     if !is_right {
-        return Err(VolumeFault::Damaged);
+        return Err(VolumeFault::Damaged(Damage {
+            sector: Some(HEADER),
+            rule: Rule::LogHeader,
+        }));
     }
     if batch.is_empty() {
         return Ok(());
@@ -69,6 +74,8 @@ pub fn replay<D: Device>(
 }
 
 /// Syncs and reads what the log holds into the batch, or says that its header is no right one.
+// So many clauses, since four say what the caller owes, four what was read (`full` to `only`, `room_kept`), and the
+// others that the device stays as it was.
 fn read_log<D: Device>(
     device: &mut D,
     sectors: u32,

@@ -1,4 +1,5 @@
 pub mod Counting
 pub mod Crash
+pub mod Damages
 pub mod Records
 pub mod Walks

@@ -6,7 +6,7 @@ use Rattle.vol_sector.specs.declared.fault.VolumeFault.TheVariants.{NotAVolume, 
 abbrev pub is_device : VolumeFault → Bool
 is_device NotAVolume = false
 is_device Version = false
-is_device Damaged = false
+is_device (Damaged damage) = false
 is_device Device = true
 is_device TooSmall = false
 is_device Upgraded = false
@@ -17,3 +17,14 @@ is_device Memory = false
 abbrev pub device_failed : {T : Type 0} → Result T VolumeFault → Bool
 device_failed (Ok x) = false
 device_failed (Err fault) = is_device fault
+
+-- The volume breaks a rule of its format, whichever and wherever.
+abbrev pub IsDamage : VolumeFault → Type 0
+IsDamage NotAVolume = ⊥
+IsDamage Version = ⊥
+IsDamage (Damaged damage) = Unit {0}
+IsDamage Device = ⊥
+IsDamage TooSmall = ⊥
+IsDamage Upgraded = ⊥
+IsDamage Geometry = ⊥
+IsDamage Memory = ⊥

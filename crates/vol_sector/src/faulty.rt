@@ -112,6 +112,8 @@ impl<D: Device, const FAILS_AT: u64> Device for FaultyDevice<D, FAILS_AT> {
         self.device.failures().saturating_add(self.count.failures)
     }
 
+    // So many clauses, since a method's stand in place of its trait's: the first eight, to `failures`, are
+    // those of any device, and the others say which operation fails and what the device inside does.
     fn read(&mut self, n: u32) -> Result<[u8; 512], DeviceFault>
         requires { n < D.size (device_of self.old) }
         ensures bytes { D.honest (device_of self.old)
@@ -144,6 +146,7 @@ impl<D: Device, const FAILS_AT: u64> Device for FaultyDevice<D, FAILS_AT> {
         self.device.read(n)
     }
 
+    // The same groups as of `read`.
     fn write(&mut self, n: u32, image: &[u8; 512]) -> Result<(), DeviceFault>
         requires { n < D.size (device_of self.old) }
         ensures written { D.honest (device_of self.old)

@@ -10,7 +10,7 @@ mod operations;
 mod record;
 
 pub use device::{Device, DeviceFault};
-pub use fault::{Refused, VolumeFault};
+pub use fault::{Damage, Refused, Rule, VolumeFault};
 pub use faulty::{FaultyDevice, FlakyDevice, FuseDevice};
 pub use laws::{crash_leaves_what_is_picked, picks_give_what_a_crash_leaves};
 pub use memory::MemoryDevice;

@@ -254,6 +254,8 @@ impl Device for MemoryDevice {
         Ok(self.current[n as usize])
     }
 
+    // So many clauses, since a method's stand in place of its trait's: the first eight, to `failures`, are
+    // those of any device, and the others say when the record is full and what is recorded.
     fn write(&mut self, n: u32, image: &[u8; 512]) -> Result<(), DeviceFault>
         requires { n < sectors_of self.old }
         ensures written { Unit {0}

@@ -1,7 +1,7 @@
 //! Reading a volume whole, and checking all rules on what it holds.
 
 ghost use Rattle.std.specs.Prelude.{◌≡◌, ◌⊎◌, ◌≤◌, ◌<◌, ◌+◌, ℕ, IsTrue, IfOk, IfErr, false, length};
-ghost use Rattle.vol_sector.specs.Fault.{device_failed};
+ghost use Rattle.vol_sector.specs.Fault.{device_failed, IsDamage};
 ghost use Rattle.vol_log.specs.Log.{view, has_failed, device_of};
 ghost use Rattle.vol_log.specs.Reading.{OnlyReads};
 ghost use Rattle.vol_alloc.specs.Alloc.{first_of, end_of};
@@ -17,7 +17,7 @@ use vol_alloc::Alloc;
 use vol_dirs::Dirs;
 use vol_inode::Serial;
 use vol_log::{FIRST_AFTER_LOG, Log};
-use vol_sector::{Device, VolumeFault};
+use vol_sector::{Damage, Device, Rule, VolumeFault};
 
 /// Whether the entries make a tree: the root is there, and each entry stands in a directory that
 /// leads up to it.
@@ -34,6 +34,30 @@ fn make_a_tree(alloc: Global, found: &Entries) -> Result<bool, AllocError>
         return Ok(false);
     }
     lead_to_root(alloc, &found.parents)
+}
+
+/// Which rule entries break that make no tree, and the slot where it shows, if it is a single one.
+fn broken_tree(found: &Entries) -> Damage {
+    if !has_flag(&found.directories, Serial::ROOT.number()) {
+        return Damage {
+            sector: Some(FIRST_AFTER_LOG),
+            rule: Rule::Root,
+        };
+    }
+    let mut slot = FIRST_AFTER_LOG;
+    for parent in &found.parents {
+        if *parent != 0 && !has_flag(&found.directories, *parent) {
+            return Damage {
+                sector: Some(slot),
+                rule: Rule::Parent,
+            };
+        }
+        slot = slot.saturating_add(1);
+    }
+    Damage {
+        sector: None,
+        rule: Rule::Ancestors,
+    }
 }
 
 /// Reads all entries, holds their names, and checks what they name and where they stand. It gives
@@ -53,16 +77,16 @@ fn check_entries<D: Device>(
     ensures parts { D.honest (device_of log.old)
         → IfOk result (λ p. HasParts (view log.old) numbers.now dirs.new p.0 p.1) }
     ensures damaged { D.honest (device_of log.old)
-        → IfErr result (λ fault. fault ≡ VolumeFault.Damaged
+        → IfErr result (λ fault. IsDamage fault
         → IsContent (view log.old) numbers.now → ⊥) }
-    ensures refused { IfErr result (λ fault. (fault ≡ VolumeFault.Damaged)
+    ensures refused { IfErr result (λ fault. IsDamage fault
         ⊎ ((fault ≡ VolumeFault.Device) ⊎ (fault ≡ VolumeFault.Memory))) }
     ensures reads { OnlyReads log.old log.new }
     ensures failed { has_failed log.new ≡ device_failed result }
 {
     let found = read_entries(alloc, log, numbers, dirs)?;
     if !make_a_tree(alloc, &found)? {
-        return Err(VolumeFault::Damaged);
+        return Err(VolumeFault::Damaged(broken_tree(&found)));
     }
     let first = FIRST_AFTER_LOG + numbers.slots;
     let sectors = Alloc::from_named(alloc, first, numbers.sectors, &found.named)?;
@@ -86,9 +110,9 @@ pub(crate) fn read_parts<D: Device>(
     ensures parts { D.honest (device_of log.old)
         → IfOk result (λ p. HasParts (view log.old) numbers.now p.0 p.1 p.2) }
     ensures damaged { D.honest (device_of log.old)
-        → IfErr result (λ fault. fault ≡ VolumeFault.Damaged
+        → IfErr result (λ fault. IsDamage fault
         → IsContent (view log.old) numbers.now → ⊥) }
-    ensures refused { IfErr result (λ fault. (fault ≡ VolumeFault.Damaged)
+    ensures refused { IfErr result (λ fault. IsDamage fault
         ⊎ ((fault ≡ VolumeFault.Device) ⊎ (fault ≡ VolumeFault.Memory))) }
     ensures reads { OnlyReads log.old log.new }
     ensures failed { has_failed log.new ≡ device_failed result }

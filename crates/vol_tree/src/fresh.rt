@@ -2,7 +2,7 @@
 
 ghost use Rattle.std.specs.Prelude.{◌≡◌, ◌⊎◌, ◌≤◌, ◌<◌, ◌+◌, ◌↔◌, IfOk, IfErr, Err, false};
 ghost use Rattle.vol_sector.specs.Disk.{Image, Leaves, counted};
-ghost use Rattle.vol_sector.specs.Fault.{is_device};
+ghost use Rattle.vol_sector.specs.Fault.{is_device, IsDamage};
 ghost use Rattle.vol_alloc.specs.Alloc.{first_of, end_of};
 ghost use Rattle.vol_dirs.specs.Names.{slots_of};
 ghost use Rattle.vol_tree.specs.Superblock.{HasRanges};
@@ -42,10 +42,10 @@ impl<D: Device> Volume<D> {
         ensures too_small { (HasRanges (fresh sectors slots) × (D.size device < sectors))
             ↔ (result ≡ Err (record { device = device; fault = VolumeFault.TooSmall })) }
         ensures otherwise { HasRanges (fresh sectors slots) → sectors ≤ D.size device
-            → IfErr result (λ r. (r.fault ≡ VolumeFault.Damaged)
+            → IfErr result (λ r. IsDamage r.fault
             ⊎ ((r.fault ≡ VolumeFault.Device) ⊎ (r.fault ≡ VolumeFault.Memory))) }
         ensures undamaged { D.honest device
-            → IfErr result (λ r. r.fault ≡ VolumeFault.Damaged → ⊥) }
+            → IfErr result (λ r. IsDamage r.fault → ⊥) }
         ensures numbers { IfOk result (λ v. v.numbers ≡ fresh sectors slots) }
         ensures working { IfOk result (λ v. v.failed ≡ false) }
         ensures empty { D.honest device → IfOk result (λ v. v.tree ≡ empty_tree slots) }
@@ -77,6 +77,9 @@ impl<D: Device> Volume<D> {
 }
 
 /// Opens the empty volume that a device holds. Its slots aren't read.
+// So many clauses, since success and refusal hand back different things: what the caller owes (`ranges` to `empty`),
+// when it is refused (`refused`, `undamaged`), the volume (`numbers` to `durable`), what a crash leaves (`crash_ok`,
+// `crash_err`), and what becomes of the device (`kept_ok`, `kept_err`).
 fn open_empty<D: Device>(
     alloc: Global,
     device: D,
@@ -86,9 +89,9 @@ fn open_empty<D: Device>(
     requires room { numbers.sectors ≤ D.size device }
     requires empty { D.honest device
         → StandsAs (D.disk device).seen numbers (empty_tree numbers.slots) }
-    ensures refused { IfErr result (λ r. (r.fault ≡ VolumeFault.Damaged)
+    ensures refused { IfErr result (λ r. IsDamage r.fault
         ⊎ ((r.fault ≡ VolumeFault.Device) ⊎ (r.fault ≡ VolumeFault.Memory))) }
-    ensures undamaged { D.honest device → IfErr result (λ r. r.fault ≡ VolumeFault.Damaged → ⊥) }
+    ensures undamaged { D.honest device → IfErr result (λ r. IsDamage r.fault → ⊥) }
     ensures numbers { IfOk result (λ v. v.numbers ≡ numbers) }
     ensures working { IfOk result (λ v. v.failed ≡ false) }
     ensures empty { D.honest device → IfOk result (λ v. v.tree ≡ empty_tree numbers.slots) }

@@ -2,18 +2,20 @@
 
 ghost use Rattle.std.specs.Prelude.{◌≡◌, ◌⊎◌, ◌≤◌, ◌<◌, ◌↔◌, IfOk, IfErr, Err};
 ghost use Rattle.vol_sector.specs.Disk.{Leaves, counted};
-ghost use Rattle.vol_sector.specs.Fault.{device_failed};
+ghost use Rattle.vol_sector.specs.Fault.{device_failed, IsDamage};
 ghost use Rattle.vol_tree.specs.Superblock.{superblock, HasRanges};
 ghost use Rattle.vol_tree.specs.Opening.{NoVolumeOn, HasNoVersion, BeginsRight, IsDamaged};
 
 use crate::layout::SUPERBLOCK;
 use crate::superblock::{Superblock, read_superblock};
-use vol_sector::{Device, VolumeFault};
+use vol_sector::{Damage, Device, Rule, VolumeFault};
 
 // The sectors of the smallest volume.
 const LEAST_SECTORS: u32 = 137;
 
 /// Reads the numbers of the volume from its first sector, and sees that the device has its sectors.
+// So many clauses in three groups: what stands at success (`ranges` to `begins`), when each refusal comes
+// (`not_a_volume` to `refused`), and that the device stays as it was (`seen` to `failures`).
 pub(crate) fn read_front<D: Device>(device: &mut D) -> Result<Superblock, VolumeFault>
     ensures ranges { IfOk result HasRanges }
     ensures room { IfOk result (λ v. v.sectors ≤ D.size device.old) }
@@ -26,11 +28,11 @@ pub(crate) fn read_front<D: Device>(device: &mut D) -> Result<Superblock, Volume
     ensures version { D.honest device.old → IfErr result (λ fault.
         fault ≡ VolumeFault.Version → HasNoVersion (D.size device.old) (D.disk device.old).seen) }
     ensures damaged { D.honest device.old → IfErr result (λ fault.
-        fault ≡ VolumeFault.Damaged → IsDamaged (D.size device.old) (D.disk device.old).seen) }
+        IsDamage fault → IsDamaged (D.size device.old) (D.disk device.old).seen) }
     ensures few_sectors { D.size device.old < 137
         → (device.new ≡ device.old) × (result ≡ Err VolumeFault.NotAVolume) }
     ensures refused { IfErr result (λ fault. (fault ≡ VolumeFault.NotAVolume)
-        ⊎ ((fault ≡ VolumeFault.Version) ⊎ ((fault ≡ VolumeFault.Damaged)
+        ⊎ ((fault ≡ VolumeFault.Version) ⊎ (IsDamage fault
         ⊎ (fault ≡ VolumeFault.Device)))) }
     ensures seen { D.honest device.old → (D.disk device.new).seen ≡ (D.disk device.old).seen }
     ensures crash { D.honest device.old
@@ -45,7 +47,10 @@ pub(crate) fn read_front<D: Device>(device: &mut D) -> Result<Superblock, Volume
     let image = device.read(SUPERBLOCK)?;
     let numbers = read_superblock(&image)?;
     if device.sectors() < numbers.sectors {
-        return Err(VolumeFault::Damaged);
+        return Err(VolumeFault::Damaged(Damage {
+            sector: Some(SUPERBLOCK),
+            rule: Rule::DeviceSize,
+        }));
     }
     Ok(numbers)
 }

@@ -2,7 +2,7 @@
 
 ghost use Rattle.std.specs.Prelude.{◌≡◌, ◌≢◌, ◌⊎◌, ◌≤◌, ◌<◌, ◌+◌, ◌∷◌, ◌++◌, ◌↔◌, ℕ, List, [], IsTrue, IfOk, OnOk, IfErr, false, Some, None, length};
 ghost use Rattle.vol_sector.specs.Disk.{Image};
-ghost use Rattle.vol_sector.specs.Fault.{device_failed};
+ghost use Rattle.vol_sector.specs.Fault.{device_failed, IsDamage};
 ghost use Rattle.vol_log.specs.Log.{view, has_failed, device_of};
 ghost use Rattle.vol_log.specs.Reading.{OnlyReads};
 ghost use Rattle.vol_inode.specs.Entry.{IsEntry, HasName};
@@ -19,7 +19,7 @@ use vol_body::survey;
 use vol_dirs::{Dirs, slot_sector};
 use vol_inode::{Entry, Kind, Serial, need, read_entry};
 use vol_log::{FIRST_AFTER_LOG, Log};
-use vol_sector::{Device, VolumeFault};
+use vol_sector::{Damage, Device, Rule, VolumeFault};
 
 /// What the slots hold.
 #[derive(Drop)]
@@ -61,14 +61,17 @@ impl Entries {
         ensures reserved { OnOk result
             (self.new.reserved ≡ self.old.reserved + need_of entry.now.size) }
         ensures room { OnOk result (self.new.reserved ≤ data_sectors) }
-        ensures damaged { IfErr result (λ fault. fault ≡ VolumeFault.Damaged
+        ensures damaged { IfErr result (λ fault. IsDamage fault
             → data_sectors < self.old.reserved + need_of entry.now.size) }
-        ensures refused { IfErr result (λ fault. (fault ≡ VolumeFault.Damaged)
+        ensures refused { IfErr result (λ fault. IsDamage fault
             ⊎ (fault ≡ VolumeFault.Memory)) }
     {
         let need = need(entry.size);
         if data_sectors - self.reserved < need {
-            return Err(VolumeFault::Damaged);
+            return Err(VolumeFault::Damaged(Damage {
+                sector: None,
+                rule: Rule::Space,
+            }));
         }
         self.reserved += need;
         self.hold(entry.parent, is_directory(entry))?;
@@ -117,7 +120,18 @@ fn is_placed<D: Device>(log: &Log<D>, dirs: &Dirs, serial: Serial, entry: &Entry
     }
 }
 
+/// The rule that an entry breaks that has no right place.
+fn placing_rule(serial: Serial, entry: &Entry) -> Rule {
+    if serial == Serial::ROOT || entry.parent == 0 {
+        Rule::RootSerial
+    } else {
+        Rule::NameTwice
+    }
+}
+
 /// Takes up the entry of a slot, with its name and the sectors that it names.
+// So many clauses, since six say what the caller owes; the others say what is held then (`adds` to `trimmed`), when
+// the entry is refused (`damaged`, `refused`), and that the log only reads (`reads`, `failed`).
 fn take_up<D: Device>(
     log: &mut Log<D>,
     numbers: &Superblock,
@@ -144,16 +158,19 @@ fn take_up<D: Device>(
     ensures trimmed { D.honest (device_of log.old)
         → OnOk result (IsTrimmed (view log.old) entry.now) }
     ensures damaged { D.honest (device_of log.old)
-        → IfErr result (λ fault. fault ≡ VolumeFault.Damaged
+        → IfErr result (λ fault. IsDamage fault
         → IsNew dirs.old serial entry.now → IsTrimmed (view log.old) entry.now
         → FitIn (view log.old) numbers.now (Some entry.now) found.old → ⊥) }
-    ensures refused { IfErr result (λ fault. (fault ≡ VolumeFault.Damaged)
+    ensures refused { IfErr result (λ fault. IsDamage fault
         ⊎ ((fault ≡ VolumeFault.Device) ⊎ (fault ≡ VolumeFault.Memory))) }
     ensures reads { OnlyReads log.old log.new }
     ensures failed { has_failed log.new ≡ device_failed result }
 {
     if !is_placed(log, dirs, serial, entry) {
-        return Err(VolumeFault::Damaged);
+        return Err(VolumeFault::Damaged(Damage {
+            sector: None,
+            rule: placing_rule(serial, entry),
+        }));
     }
     dirs.hold(serial, entry);
     let first = FIRST_AFTER_LOG + numbers.slots;
@@ -161,7 +178,9 @@ fn take_up<D: Device>(
     found.add(entry, numbers.sectors - first)
 }
 
-/// Reads a slot, and takes up what it holds.
+/// Reads a slot, and takes up what it holds. Of a damage it need not name the sector: it is the slot's.
+// So many clauses, since six say what the caller owes; the others say what is held then (`adds` to `right`), when
+// the slot is refused (`damaged`, `refused`), and that the log only reads (`reads`, `failed`).
 fn read_slot<D: Device>(
     log: &mut Log<D>,
     numbers: &Superblock,
@@ -188,11 +207,11 @@ fn read_slot<D: Device>(
     ensures right { D.honest (device_of log.old) → OnOk result (IsRight (view log.old)
         numbers.now slot (held_at (view log.old) numbers.now slot)) }
     ensures damaged { D.honest (device_of log.old)
-        → IfErr result (λ fault. fault ≡ VolumeFault.Damaged
+        → IfErr result (λ fault. IsDamage fault
         → IsRight (view log.old) numbers.now slot (held_at (view log.old) numbers.now slot)
         → FitIn (view log.old) numbers.now (held_at (view log.old) numbers.now slot) found.old
         → ⊥) }
-    ensures refused { IfErr result (λ fault. (fault ≡ VolumeFault.Damaged)
+    ensures refused { IfErr result (λ fault. IsDamage fault
         ⊎ ((fault ≡ VolumeFault.Device) ⊎ (fault ≡ VolumeFault.Memory))) }
     ensures reads { OnlyReads log.old log.new }
     ensures failed { has_failed log.new ≡ device_failed result }
@@ -202,7 +221,7 @@ fn read_slot<D: Device>(
     match read_entry(numbers.version, &image) {
         Ok(Some(entry)) => take_up(log, numbers, dirs, serial, &entry, found),
         Ok(None) => found.pass(),
-        Err(_) => Err(VolumeFault::Damaged),
+        Err(fault) => Err(fault),
     }
 }
 
@@ -224,9 +243,9 @@ pub(crate) fn read_entries<D: Device>(
     ensures shows { D.honest (device_of log.old) → OnOk result
         (Shows numbers.now.version (view log.old) numbers.now.slots dirs.new) }
     ensures damaged { D.honest (device_of log.old)
-        → IfErr result (λ fault. fault ≡ VolumeFault.Damaged
+        → IfErr result (λ fault. IsDamage fault
         → IsContent (view log.old) numbers.now → ⊥) }
-    ensures refused { IfErr result (λ fault. (fault ≡ VolumeFault.Damaged)
+    ensures refused { IfErr result (λ fault. IsDamage fault
         ⊎ ((fault ≡ VolumeFault.Device) ⊎ (fault ≡ VolumeFault.Memory))) }
     ensures reads { OnlyReads log.old log.new }
     ensures failed { has_failed log.new ≡ device_failed result }
@@ -238,7 +257,10 @@ pub(crate) fn read_entries<D: Device>(
         reserved: 0,
     };
     for slot in 0..numbers.slots {
-        read_slot(log, numbers, dirs, slot, &mut found)?;
+        match read_slot(log, numbers, dirs, slot, &mut found) {
+            Ok(()) => {}
+            Err(fault) => return Err(fault.at(FIRST_AFTER_LOG + slot)),
+        }
     }
     Ok(found)
 }

@@ -3,14 +3,16 @@
 ghost use Rattle.std.specs.Prelude.{◌≡◌, ◌≢◌, ◌⊎◌, ◌↔◌, Ok, IfOk, IfErr, IsErrOf, IsTrue};
 ghost use Rattle.std.specs.Prelude.{take, drop};
 ghost use Rattle.byteorder.specs.Endian.{little_number};
+ghost use Rattle.vol_sector.specs.Fault.{IsDamage};
 ghost use Rattle.vol_tree.specs.Superblock.{superblock, HasRanges, IsNoVersion, magic};
 ghost use Rattle.vol_tree.specs.Superblock.{version_number};
 ghost use Rattle.vol_tree.specs.declared.superblock.Superblock.{Superblock};
 
+use crate::layout::SUPERBLOCK;
 use byteorder::{ByteOrder, LittleEndian};
 use vol_inode::{Version, put_bytes, put_number};
 use vol_log::FIRST_AFTER_LOG;
-use vol_sector::VolumeFault;
+use vol_sector::{Damage, Rule, VolumeFault};
 
 /// The bytes that a volume begins with.
 const MAGIC: [u8; 8] = *b"WASMVOLU";
@@ -47,7 +49,7 @@ pub(crate) fn read_superblock(image: &[u8; 512]) -> Result<Superblock, VolumeFau
     ensures version { IsErrOf result VolumeFault.Version ↔ ((take 8 image.now ≡ magic)
         × IsNoVersion (little_number 4 (drop 8 image.now))) }
     ensures named { IfErr result (λ fault. (fault ≡ VolumeFault.NotAVolume)
-        ⊎ ((fault ≡ VolumeFault.Version) ⊎ (fault ≡ VolumeFault.Damaged))) }
+        ⊎ ((fault ≡ VolumeFault.Version) ⊎ IsDamage fault)) }
 {
     if &image[..8] != MAGIC.as_slice() {
         return Err(VolumeFault::NotAVolume);
@@ -65,7 +67,10 @@ pub(crate) fn read_superblock(image: &[u8; 512]) -> Result<Superblock, VolumeFau
     if has_ranges(&numbers) && write_superblock(&numbers) == *image {
         Ok(numbers)
     } else {
-        Err(VolumeFault::Damaged)
+        Err(VolumeFault::Damaged(Damage {
+            sector: Some(SUPERBLOCK),
+            rule: Rule::Superblock,
+        }))
     }
 }
 

@@ -13,7 +13,7 @@ ghost use Rattle.vol_tree.specs.Stands.{StandsAs};
 ghost use Rattle.vol_tree.specs.Superblock.{HasRanges};
 ghost use Rattle.vol_tree.specs.Opening.{StandsOn, HoldsOn, NoVolumeOn, HasNoVersion, IsDamaged};
 ghost use Rattle.vol_tree.specs.declared.superblock.Superblock.{Superblock};
-ghost use Rattle.vol_sector.specs.Fault.{is_device};
+ghost use Rattle.vol_sector.specs.Fault.{is_device, IsDamage};
 ghost use Rattle.vol_tree.specs.Tree.{Tree};
 ghost use Rattle.vol_tree.specs.Opened.{Answers, Tells, TellsBytes, Keeps, ReflectsOr, MayUpgrade};
 ghost use Rattle.vol_tree.specs.Opened.{LeavesAlone, IsSerial};
@@ -68,6 +68,9 @@ impl<D: Device> Volume<D> {
     ///
     /// It may be stopped and begun again any number of times. It takes the memory for all later
     /// calls.
+    // So many clauses, since success and refusal hand back different things: the volume (`stands` to `ranges`), when
+    // each refusal comes (`not_a_volume` to `finds`), what a crash or a refusal leaves (`durable` to `installs`), and
+    // what becomes of the device (`kept_ok`, `kept_err`).
     pub fn open(alloc: Global, mut device: D) -> Result<Volume<D>, Refused<D>>
         // What reads gave stands for the tree, with these numbers.
         ensures stands { D.honest device → IfOk result
@@ -81,12 +84,12 @@ impl<D: Device> Volume<D> {
             → NoVolumeOn (D.size device) (D.disk device).seen) }
         ensures version { D.honest device → IfErr result (λ r. r.fault ≡ VolumeFault.Version
             → HasNoVersion (D.size device) (D.disk device).seen) }
-        ensures damaged { D.honest device → IfErr result (λ r. r.fault ≡ VolumeFault.Damaged
+        ensures damaged { D.honest device → IfErr result (λ r. IsDamage r.fault
             → IsDamaged (D.size device) (D.disk device).seen) }
         ensures few_sectors { D.size device < 137
             → result ≡ Err (record { device = device; fault = VolumeFault.NotAVolume }) }
         ensures faults_named { IfErr result (λ r. (r.fault ≡ VolumeFault.NotAVolume)
-            ⊎ ((r.fault ≡ VolumeFault.Version) ⊎ ((r.fault ≡ VolumeFault.Damaged)
+            ⊎ ((r.fault ≡ VolumeFault.Version) ⊎ (IsDamage r.fault
             ⊎ ((r.fault ≡ VolumeFault.Device) ⊎ (r.fault ≡ VolumeFault.Memory))))) }
         // So where what reads give stands for a tree, it is opened with that tree, or the device or
         // the memory fails.

@@ -2,7 +2,7 @@
 use Rattle.std.proofs.Common.{◌≡◌, ◌⊎◌, ⊎_elim, ◌≤◌, ◌<◌, ◌↔◌, ℕ, Bool, true, nat_lt, ltb-true, Result, Ok, Err, IfOk, IfErr, false, inl, inr, refl, sym, ◌∙◌, ap, subst, arith, take}
 use Rattle.std.proofs.lemmas.Bool.{ltb-false}
 use Rattle.vol_sector.specs.Disk.{Image, Disk, Leaves, counted}
-use Rattle.vol_sector.specs.Fault.{is_device}
+use Rattle.vol_sector.specs.Fault.{is_device, IsDamage}
 use Rattle.vol_sector.specs.declared.fault.Refused.{Refused}
 use Rattle.vol_sector.specs.declared.fault.VolumeFault.{VolumeFault}
 use Rattle.vol_sector.specs.declared.fault.VolumeFault.TheVariants as fault
@@ -17,7 +17,7 @@ use Rattle.vol_tree.specs.Opening.{StandsOn, NoVolumeOn, HasNoVersion, IsDamaged
 use Rattle.vol_tree.proofs.OneTree.{one_volume, same_superblock, version_is}
 use Rattle.volume_tasks.specs.Doing.{HoldsNothing}
 use Rattle.volume_tasks.specs.Volumes.{fresh_numbers, FreshRefusedBy, IsFresh, IsFreshRefused, IsRefused}
-use Rattle.volume_tasks.proofs.Opened.{refused_by}
+use Rattle.volume_tasks.proofs.Opened.{damage_is, refused_by}
 use Rattle.volume_tasks.proofs.Refusals.{holds_nothing}
 
 has_ranges : HasRanges fresh_numbers
@@ -43,8 +43,8 @@ pub has_room : {D : Type 0} (size : ℕ) (made : D) (refused : Refused D) → (H
 has_room size made refused small = as_great size 202 (λ few. let both = small (has_ranges, few) in cc)
 
 -- such a device is refused for no fault of its content
-fresh_refused_by : (f : VolumeFault) (size : ℕ) (c : Image) (T : Tree) → 202 ≤ size → StandsAs c fresh_numbers T → (f ≡ fault.NotAVolume → NoVolumeOn size c) → (f ≡ fault.Version → HasNoVersion size c) → (f ≡ fault.Damaged → IsDamaged size c)
-    → (f ≡ fault.NotAVolume) ⊎ ((f ≡ fault.Version) ⊎ ((f ≡ fault.Damaged) ⊎ ((f ≡ fault.Device) ⊎ (f ≡ fault.Memory)))) → FreshRefusedBy f size
+fresh_refused_by : (f : VolumeFault) (size : ℕ) (c : Image) (T : Tree) → 202 ≤ size → StandsAs c fresh_numbers T → (f ≡ fault.NotAVolume → NoVolumeOn size c) → (f ≡ fault.Version → HasNoVersion size c) → (IsDamage f → IsDamaged size c)
+    → (f ≡ fault.NotAVolume) ⊎ ((f ≡ fault.Version) ⊎ (IsDamage f ⊎ ((f ≡ fault.Device) ⊎ (f ≡ fault.Memory)))) → FreshRefusedBy f size
 fresh_refused_by f size c T room stands none version damaged named =
     let at = λ (x : VolumeFault) (is : f ≡ x) (why : FreshRefusedBy x size). subst (λ (y : VolumeFault). FreshRefusedBy y size) (sym is) why in
     ⊎_elim (λ is. absurd (begins (none is)))
@@ -66,21 +66,21 @@ module _ {D : Type 0} (is_honest : D → Type 0) (disk : D → Disk) (sectors_on
   Answer = Result (Opened D) (Refused D)
 
   abbrev Named : VolumeFault → Type 0
-  Named f = (f ≡ fault.NotAVolume) ⊎ ((f ≡ fault.Version) ⊎ ((f ≡ fault.Damaged) ⊎ ((f ≡ fault.Device) ⊎ (f ≡ fault.Memory))))
+  Named f = (f ≡ fault.NotAVolume) ⊎ ((f ≡ fault.Version) ⊎ (IsDamage f ⊎ ((f ≡ fault.Device) ⊎ (f ≡ fault.Memory))))
 
   -- opening finds no device too small
   never_small : (f : VolumeFault) → f ≡ fault.TooSmall → Named f → ⊥
   never_small f small named =
       ⊎_elim (λ (is : f ≡ fault.NotAVolume). other fault.NotAVolume tt (sym is ∙ small))
       (λ rest. ⊎_elim (λ (is : f ≡ fault.Version). other fault.Version tt (sym is ∙ small))
-      (λ rest. ⊎_elim (λ (is : f ≡ fault.Damaged). other fault.Damaged tt (sym is ∙ small))
+      (λ rest. ⊎_elim (λ (is : IsDamage f). let some = damage_is f is in other (fault.Damaged some.0) tt (sym some.1 ∙ small))
       (λ rest. ⊎_elim (λ (is : f ≡ fault.Device). other fault.Device tt (sym is ∙ small))
       (λ (is : f ≡ fault.Memory). other fault.Memory tt (sym is ∙ small)) rest) rest) rest) named
     where
       IsOther : VolumeFault → Type 0
       IsOther fault.NotAVolume = Unit {0}
       IsOther fault.Version = Unit {0}
-      IsOther fault.Damaged = Unit {0}
+      IsOther (fault.Damaged damage) = Unit {0}
       IsOther fault.Device = Unit {0}
       IsOther fault.TooSmall = ⊥
       IsOther fault.Upgraded = Unit {0}
@@ -94,7 +94,7 @@ module _ {D : Type 0} (is_honest : D → Type 0) (disk : D → Disk) (sectors_on
   pub refused_open : (device : D) (r : Answer)
       → (is_honest device → IfErr r (λ e. e.fault ≡ fault.NotAVolume → NoVolumeOn (sectors_on device) (disk device).seen))
       → (is_honest device → IfErr r (λ e. e.fault ≡ fault.Version → HasNoVersion (sectors_on device) (disk device).seen))
-      → (is_honest device → IfErr r (λ e. e.fault ≡ fault.Damaged → IsDamaged (sectors_on device) (disk device).seen))
+      → (is_honest device → IfErr r (λ e. IsDamage e.fault → IsDamaged (sectors_on device) (disk device).seen))
       → IfErr r (λ e. Named e.fault)
       → ((v : Superblock) (T : Tree) → is_honest device → StandsOn (sectors_on device) (disk device).seen v T → IfErr r (λ e. Leaves (disk device) (disk e.device) (λ c. StandsAs c v T)))
       → (is_honest device → HoldsNothing (sectors_on device) (disk device).seen → IfErr r (λ e. Leaves (disk device) (disk e.device) (λ c. ⊥)))
@@ -125,7 +125,7 @@ module _ {D : Type 0} (is_honest : D → Type 0) (disk : D → Disk) (sectors_on
     pub fresh_refused : (r : Answer)
         → (is_honest made → IfErr r (λ e. e.fault ≡ fault.NotAVolume → NoVolumeOn (sectors_on made) (disk made).seen))
         → (is_honest made → IfErr r (λ e. e.fault ≡ fault.Version → HasNoVersion (sectors_on made) (disk made).seen))
-        → (is_honest made → IfErr r (λ e. e.fault ≡ fault.Damaged → IsDamaged (sectors_on made) (disk made).seen))
+        → (is_honest made → IfErr r (λ e. IsDamage e.fault → IsDamaged (sectors_on made) (disk made).seen))
         → IfErr r (λ e. Named e.fault)
         → ((v : Superblock) (T : Tree) → is_honest made → StandsOn (sectors_on made) (disk made).seen v T → IfErr r (λ e. Leaves (disk made) (disk e.device) (λ c. StandsAs c v T)))
         → IfErr r (λ e. (is_honest made ↔ is_honest e.device) × (sectors_on e.device ≡ sectors_on made) × (failures e.device ≡ counted (is_device e.fault) (failures made)))

@@ -93,7 +93,7 @@ HoldsNothing size image = (v : Superblock) (m : Image) → HoldsOn size image v 
 abbrev pub RefusedBy : VolumeFault → ℕ → Image → Type 0
 RefusedBy fault.NotAVolume size seen = NoVolumeOn size seen
 RefusedBy fault.Version size seen = HasNoVersion size seen
-RefusedBy fault.Damaged size seen = IsDamaged size seen
+RefusedBy (fault.Damaged damage) size seen = IsDamaged size seen
 RefusedBy fault.Device size seen = Unit {0}
 RefusedBy fault.TooSmall size seen = ⊥
 RefusedBy fault.Upgraded size seen = ⊥

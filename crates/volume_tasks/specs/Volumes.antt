@@ -24,7 +24,7 @@ fresh_numbers = fresh 202 16
 abbrev pub FreshRefusedBy : VolumeFault → ℕ → Type 0
 FreshRefusedBy fault.NotAVolume size = ⊥
 FreshRefusedBy fault.Version size = ⊥
-FreshRefusedBy fault.Damaged size = ⊥
+FreshRefusedBy (fault.Damaged damage) size = ⊥
 FreshRefusedBy fault.Device size = Unit {0}
 FreshRefusedBy fault.TooSmall size = size < 202
 FreshRefusedBy fault.Upgraded size = ⊥

@@ -44,7 +44,7 @@ returns-then-not-none_from g c =
           let all = listed_read content c.args.indirect_block c.in_ok-image.image c.numbers_in-numbers.result c.if-indirect_block-eq0.false (c.in_ok-image.ensures.value h) (omega arith) c.numbers_in-numbers.ensures in
           let yes : c.none_from.result ≡ true = c.none_from.ensures.no (λ i le lt. ap (λ (l : List ℕ). get_or l i 0) all ∙ number_listed content c.args.indirect_block i lt ∙ none i le lt) in
           true≢false (sym yes ∙ c.if-not-none_from.true);
-      refused = inl refl;
+      refused = inl tt;
       reads = reads_of c.args.log.now c.read.new.self (is_err c.read.result) e.view e.staged e.seen e.crash e.sectors e.honest e.size e.failures e.failed;
       failed = c.in_ok-image.ensures.failed;
     }

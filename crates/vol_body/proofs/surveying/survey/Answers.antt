@@ -77,7 +77,7 @@ returns-then-not-branch g c =
           let yes : c.in_ok-ends_in_zeros.field-0 ≡ true = second.no (first.reads.honest.0 h) (subst (λ (m : Image). NamesBelow m e c.args.end) (sym same) below)
           (subst (λ (m : Image). EndsInZeros m e) (sym same) (ends_trimmed content e c.requires.small trimmed)) in
           true≢false (sym yes ∙ c.if-not-branch.true);
-      refused = inl refl;
+      refused = inl tt;
       reads = reads_then c.args.log.now c.survey_sectors.new.log c.ends_in_zeros.new.log first.failed first.reads second.reads;
       failed = second.failed;
       idle = λ failed. absurd (true≢false (sym failed ∙ working));

@@ -2,7 +2,7 @@ use Rattle.std.proofs.Common.{◌≡◌, ◌∙◌, ◌-◌, ℕ, List, [], ◌�
 use Rattle.std.proofs.lemmas.Result.{IfOk-from_err, IfErr-weaker, on_ok_weaker}
 use Rattle.std.proofs.lemmas.Grind.{common_steps}
 use Rattle.vol_sector.specs.Disk.{Image}
-use Rattle.vol_sector.specs.declared.fault.VolumeFault.TheVariants as faults
+use Rattle.vol_sector.specs.Fault.{IsDamage}
 use Rattle.vol_inode.specs.Space.{inner_blocks_for}
 use Rattle.vol_log.specs.Log.{view}
 use Rattle.vol_log.proofs.Readings.{reads_same, reads_then}
@@ -91,8 +91,8 @@ returns g c =
           (f.past (e.reads.honest.0 h));
       inside = f.inside;
       damaged = λ h. IfErr-weaker r
-          (λ fault. fault ≡ faults.Damaged → LaterListNone later numbers c.args.count → Overflows first end b (all_listed later numbers))
-          (λ fault. fault ≡ faults.Damaged → LaterNone content n c.args.count → Overflows first end a (n ∷ all_listed content all))
+          (λ fault. IsDamage fault → LaterListNone later numbers c.args.count → Overflows first end b (all_listed later numbers))
+          (λ fault. IsDamage fault → LaterNone content n c.args.count → Overflows first end a (n ∷ all_listed content all))
           (λ fault holds is none. overflows_then first end a b (n ∷ []) (all_listed content all) c.in_ok-push_number.ensures.pushes
           (subst (λ (ns : List ℕ). LaterListNone content ns c.args.count → Overflows first end b (all_listed content ns)) (e.numbers h)
           (subst (λ (m : Image). LaterListNone m numbers c.args.count → Overflows first end b (all_listed m numbers)) (e.reads.view h) (holds is)) none.later))

@@ -1,6 +1,7 @@
 use Rattle.std.proofs.Common.{◌≡◌, ◌∙◌, ◌⊎◌, ℕ, List, ◌∷◌, [], sym, subst, arith}
 use Rattle.std.proofs.lemmas.Result.{IfOk-from_err, IfErr-weaker, on_ok_weaker}
 use Rattle.std.proofs.lemmas.Grind.{common_steps}
+use Rattle.vol_sector.specs.Fault.{IsDamage}
 use Rattle.vol_sector.specs.declared.fault.VolumeFault.TheVariants as faults
 use Rattle.vol_log.specs.Log.{view}
 use Rattle.vol_log.proofs.Readings.{reads_same}
@@ -74,11 +75,11 @@ returns g c =
       past = λ h. at_any_ok r (ListsNoneFrom content n c.args.from) (e.past h);
       inside = on_ok_weaker r (λ (p : Pushes first end b z numbers). p.inside) c.push_all.ensures.pushes;
       damaged = λ h. IfErr-weaker r
-          (λ fault. fault ≡ faults.Damaged → Overflows first end b numbers)
-          (λ fault. fault ≡ faults.Damaged → ListsNoneFrom content n c.args.from → Overflows first end a (with_listed content n))
+          (λ fault. IsDamage fault → Overflows first end b numbers)
+          (λ fault. IsDamage fault → ListsNoneFrom content n c.args.from → Overflows first end a (with_listed content n))
           (λ fault holds is none. overflows_then first end a b (n ∷ []) (listed content n) c.in_ok-push_number.ensures.pushes (subst (Overflows first end b) (e.numbers h) (holds is)))
           c.push_all.ensures.damaged;
-      refused = IfErr-weaker r (λ fault. (fault ≡ faults.Damaged) ⊎ (fault ≡ faults.Memory)) (λ fault. (fault ≡ faults.Damaged) ⊎ ((fault ≡ faults.Device) ⊎ (fault ≡ faults.Memory))) or_memory c.push_all.ensures.refused;
+      refused = IfErr-weaker r (λ fault. IsDamage fault ⊎ (fault ≡ faults.Memory)) (λ fault. IsDamage fault ⊎ ((fault ≡ faults.Device) ⊎ (fault ≡ faults.Memory))) or_memory c.push_all.ensures.refused;
       reads = e.reads;
       failed = e.failed ∙ sym (no_device_failed r c.push_all.ensures.refused);
     }

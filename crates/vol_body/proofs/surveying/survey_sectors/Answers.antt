@@ -1,7 +1,7 @@
 use Rattle.std.proofs.Common.{◌≡◌, ◌≤◌, ◌-◌, ℕ, ◌∷◌, ◌++◌, length, take, map, Result, Ok, Err, OnOk, sym, subst, arith, ◌∙◌}
 use Rattle.std.proofs.lemmas.Result.{IfErr-weaker, IfOk-from_err}
 use Rattle.vol_sector.specs.Disk.{Image}
-use Rattle.vol_sector.specs.declared.fault.VolumeFault.TheVariants as faults
+use Rattle.vol_sector.specs.Fault.{IsDamage}
 use Rattle.vol_inode.specs.Space.{blocks_for_size}
 use Rattle.vol_log.specs.Log.{view}
 use Rattle.vol_body.specs.Body.{indirect_block, double_indirect_block, named}
@@ -100,8 +100,8 @@ returns-clause-damaged g c h =
     let long : length e.pointers ≡ 60 = omega arith in
     let reads = c.in_ok-survey_indirect_block.ensures.reads in
     IfErr-weaker c.survey_double_indirect_block.result
-    (λ fault. fault ≡ faults.Damaged → LaterNone now n count → Overflows first end d (n ∷ all_listed now (listed now n)))
-    (λ fault. fault ≡ faults.Damaged → NamesNonePast content e → Overflows first end a (map (named content e) every_position))
+    (λ fault. IsDamage fault → LaterNone now n count → Overflows first end d (n ∷ all_listed now (listed now n)))
+    (λ fault. IsDamage fault → NamesNonePast content e → Overflows first end a (map (named content e) every_position))
     (λ fault holds is past. subst (Overflows first end a) (at_every content e long)
     (overflows_then first end a d (front ++ next) (n ∷ all_listed content (listed content n)) (pushes_then first end a b d front next c.in_ok-push_all.ensures.pushes (c.in_ok-survey_indirect_block.ensures.pushes h))
     (subst (λ (m : Image). LaterNone m n count → Overflows first end d (n ∷ all_listed m (listed m n))) (reads.view h) (holds is)

@@ -1,4 +1,4 @@
-use Rattle.std.proofs.Common.{◌+◌, length, max, ap, arith, ◌∙◌, false, true≢false, refl, sym, rules}
+use Rattle.std.proofs.Common.{◌+◌, length, max, ap, arith, ◌∙◌, false, true≢false, refl, sym}
 use Rattle.std.proofs.lemmas.Grind.{common_steps}
 use Rattle.vol_body.proofs.Stagings.{stages_none, stages_idle}
 use Rattle.vol_log.proofs.Readings.{reads_same}

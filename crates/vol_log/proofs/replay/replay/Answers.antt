@@ -7,7 +7,7 @@ use Rattle.vol_log.specs.internal.Steps.{Logged}
 use Rattle.vol_log.specs.declared.staged.Staged.{Staged}
 use Rattle.vol_log.proofs.Moments.{leaves_any, leaves_then, both_then, at_ok, at_err}
 use Rattle.vol_log.proofs.Commit.{has_same}
-use Rattle.vol_log.proofs.Opening.{has_of, content_of, settled_of, is_device_err, not_damaged, ok_not_damaged, device_named, counts_device}
+use Rattle.vol_log.proofs.Opening.{has_of, content_of, settled_of, is_device_err, not_damaged, device_named, counts_device}
 use Rattle.vol_log.proofs.replay.replay.Goals as goal
 
 pub returns-in_err-is_right : goal.returns-in_err-is_right
@@ -51,7 +51,7 @@ returns-then-not-is_right g c =
       kept_content = λ m h has. subst (λ (x : Image). HasContent s x m) (sym (e.seen h)) has;
       honest = e.honest;
       size = e.size;
-      named = inl refl;
+      named = inl tt;
       failures = c.in_ok-is_right.ensures.failures;
       emptied = tt;
       room_kept = tt;
@@ -71,7 +71,7 @@ returns-then-is_empty g c =
       content = λ m h has k is.
           ap (λ (l : List Staged). over l b.seen k) (sym none) ∙ content_of s a.seen m b batch (e.seen h) has (e.only has.log h has.header).1 (e.full h yes) k is;
       right = λ h. let logs : Logged s batch b = e.full h yes in has_of s a.seen b.seen batch (e.seen h) logs.header;
-      damaged = λ h is m has. ok_not_damaged tt _ refl is;
+      damaged = λ h is m has. absurd is;
       quiet = λ h none. e.crash h;
       crash = λ m h has. leaves_any a b (λ x. HasContent s x m) (e.crash h);
       kept_content = λ m h has. tt;
@@ -135,7 +135,7 @@ returns g c =
       settled = λ h. (c.in_ok-apply_batch.ensures.settled s (e.honest.0 h) (logs h)).0;
       content = λ m h has k is. (c.in_ok-apply_batch.ensures.settled s (e.honest.0 h) (logs h)).1 k is ∙ content m h has k is;
       right = λ h. let logs1 : Logged s now b = logs h in has_of s a.seen b.seen now (e.seen h) logs1.header;
-      damaged = λ h is m has. ok_not_damaged tt _ refl is;
+      damaged = λ h is m has. absurd is;
       quiet = λ h none. let some = has_of s a.seen b.seen now (e.seen h) (let logs1 : Logged s now b = logs h in logs1.header) in absurd (none some.0 some.1);
       crash = λ m h has.
           leaves_then a b d (λ x. ⊥) (λ x. HasContent s x (over now b.seen)) (λ x. HasContent s x m) (e.crash h) (f.crash s (e.honest.0 h) (logs h))

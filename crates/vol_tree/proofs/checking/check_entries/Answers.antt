@@ -66,7 +66,7 @@ returns-then-not-branch g c =
       damaged = λ h is volume.
           let yes : c.in_ok-make_a_tree.field-0 ≡ true = c.in_ok-make_a_tree.ensures.no (tree_passes (view c.args.log.now) c.args.numbers.now volume c.in_ok-found.found (read.read h)) in
           true≢false (sym yes ∙ c.if-not-branch.true);
-      refused = inl refl;
+      refused = inl tt;
       reads = read.reads;
       failed = read.failed;
     }

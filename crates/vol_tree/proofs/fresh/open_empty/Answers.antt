@@ -7,7 +7,7 @@ use Rattle.vol_tree.specs.Stands.{StandsAs, empty_tree}
 use Rattle.vol_tree.specs.Opened.{Opened}
 use Rattle.vol_tree.proofs.FreshVolumes.{finds_empty, found_empty, found_fresh}
 use Rattle.vol_tree.proofs.Openings.{stands_again, leaves_weaker, finds_lasting, finds_working}
-use Rattle.vol_tree.proofs.Refusals.{memory_not_damage}
+use Rattle.vol_tree.proofs.Refusals.{not_damage}
 use Rattle.vol_tree.proofs.fresh.open_empty.Goals as goal
 
 -- ---- the log was refused
@@ -107,7 +107,7 @@ returns-in-Err-empty_parts g c =
     let before = g.D.Device.failures c.args.device in
     record {
       refused = inr (inr memory);
-      undamaged = λ h is. memory_not_damage (sym memory ∙ is);
+      undamaged = λ h is. not_damage x (inr memory) is;
       numbers = tt;
       working = tt;
       empty = λ h. tt;

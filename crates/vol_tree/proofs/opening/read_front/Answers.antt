@@ -118,7 +118,7 @@ returns-then-sectors-numbers g c =
                 not_enough _ _ v.sectors (c.sectors-2.ensures ∙ read.size) c.if-sectors-numbers.true (subst (λ (s : Superblock). s.sectors ≤ size) same on.room);
           };
       few_sectors = λ few. not_few _ _ c.sectors.ensures c.if-sectors-lt-LEAST_SECTORS.false few;
-      refused = inr (inr (inl refl));
+      refused = inr (inr (inl tt));
       seen = read.seen;
       crash = read.crash;
       honest = read.honest;

@@ -1,23 +1,22 @@
 use Rattle.std.proofs.Common.{◌≡◌, ◌≤◌, ◌∙◌, ◌+◌, ℕ, length, refl, sym, ap, subst, arith}
-use Rattle.std.proofs.lemmas.Result.{IfOk-from_err}
 use Rattle.vol_sector.specs.Disk.{Image}
-use Rattle.vol_sector.specs.declared.fault.VolumeFault.TheVariants.{Damaged}
+use Rattle.vol_sector.specs.Fault.{IsDamage}
 use Rattle.vol_log.specs.Log.{view}
 use Rattle.vol_log.proofs.Readings.{reads_same, reads_then}
-use Rattle.vol_body.proofs.Surveys.{handed_on, failed_on}
 use Rattle.vol_dirs.specs.Names.{Shows}
 use Rattle.vol_dirs.proofs.Shown.{shown_first}
 use Rattle.vol_tree.specs.declared.reading.Entries.{Entries}
 use Rattle.vol_tree.specs.internal.Reads.{held_at, Adds, IsRight, FitIn, HaveRead}
 use Rattle.vol_tree.proofs.Checked.{none_inside, none_read, more_read}
 use Rattle.vol_tree.proofs.Passes.{not_refused}
+use Rattle.vol_tree.proofs.Refusals.{named_at, device_at}
 use Rattle.vol_tree.proofs.reading.read_entries.Goals as goal
 use Rattle.vol_log.specs.declared.layout.TheConstants.{FIRST_AFTER_LOG}
 
 pub loop-slot-preserved : goal.loop-slot-preserved
 loop-slot-preserved g c =
     let so_far = c.loop-slot.invariant in
-    let done = c.in_ok-read_slot.ensures in
+    let done = c.in-Ok.ensures in
     let content = view c.args.log.now in
     let v = c.args.numbers.now in
     let s = c.loop-slot.slot in
@@ -56,30 +55,29 @@ read_slot-requires g c =
       within = so_far.within;
     }
 
-pub returns-in_err-read_slot : goal.returns-in_err-read_slot
-returns-in_err-read_slot g c =
+pub returns-in-Err : goal.returns-in-Err
+returns-in-Err g c =
     let content = view c.args.log.now in
     let v = c.args.numbers.now in
     let s = c.loop-slot.slot in
     let so_far = c.loop-slot.invariant in
-    let r = c.from_residual.result in
-    let is_err_now = c.from_residual.ensures.0 in
-    let is = c.from_residual.ensures.1 in
-    let x = c.in_err-read_slot.field-0.0 in
-    let e = c.in_err-read_slot.ensures in
+    let x = c.in-Err.fault in
+    let y = c.at.result in
+    let at = c.at.ensures in
+    let e = c.in-Err.ensures in
     record {
-      read = λ h. IfOk-from_err r _ is_err_now;
-      within = IfOk-from_err r _ is_err_now;
-      count = IfOk-from_err r _ is_err_now;
+      read = λ h. tt;
+      within = tt;
+      count = tt;
       slots = e.slots ∙ so_far.slots;
-      shows = λ h. IfOk-from_err r _ is_err_now;
-      damaged = λ h.
-          let damaged = subst (λ (m : Image). (x ≡ Damaged → IsRight m v s (held_at m v s) → FitIn m v (held_at m v s) c.loop-slot.found → ⊥)) (so_far.reads.view h)
+      shows = λ h. tt;
+      damaged = λ h yes volume.
+          let damaged = subst (λ (m : Image). (IsDamage x → IsRight m v s (held_at m v s) → FitIn m v (held_at m v s) c.loop-slot.found → ⊥)) (so_far.reads.view h)
           (e.damaged (so_far.reads.honest.0 h)) in
-          handed_on r _ x is (λ yes volume. not_refused content v volume s c.loop-slot.found c.loop-slot-test.true (so_far.read h) (damaged yes));
-      refused = handed_on r _ x is e.refused;
+          not_refused content v volume s c.loop-slot.found c.loop-slot-test.true (so_far.read h) (damaged (at.damage.0 yes));
+      refused = named_at x y at.damage at.other e.refused;
       reads = reads_then c.args.log.now c.loop-slot.log c.read_slot.new.log so_far.working so_far.reads e.reads;
-      failed = failed_on r x _ is e.failed;
+      failed = e.failed ∙ device_at x y at.damage at.other e.refused;
     }
 
 pub returns : goal.returns

@@ -1,7 +1,9 @@
 use Rattle.std.proofs.Common.{◌≡◌, ◌≤◌, ◌+◌, ◌∙◌, ℕ, true, false, inl, inr, refl, Option, Some, None, IfSome, Ok, OnOk, IfErr, sym, ap, subst, arith}
 use Rattle.std.proofs.lemmas.Result.{IfOk-from_err, IfErr-weaker, on_ok_weaker}
 use Rattle.vol_sector.specs.Disk.{Image}
-use Rattle.vol_sector.specs.declared.fault.VolumeFault.TheVariants.{Damaged, Device}
+use Rattle.vol_sector.specs.Fault.{IsDamage}
+use Rattle.vol_sector.proofs.Damages.{damage_not_device, other_than}
+use Rattle.vol_sector.specs.declared.fault.VolumeFault.TheVariants.{Device, Memory}
 use Rattle.vol_inode.specs.declared.entry.Entry.{Entry}
 use Rattle.vol_inode.specs.Entry.{IsEntry}
 use Rattle.vol_inode.specs.Spelling.{spelling, unused}
@@ -14,7 +16,7 @@ use Rattle.vol_tree.specs.Opened.{data_sectors}
 use Rattle.vol_tree.specs.internal.Reads.{Adds, IsNew, FitIn}
 use Rattle.vol_tree.proofs.Checked.{held_none, right_none, held_some, right_some, new_placed, some_contradicts, refused_contradicts}
 use Rattle.vol_tree.proofs.Committing.{at_ok, on_ok}
-use Rattle.vol_tree.proofs.Refusals.{memory_not_damage, err_not_ok}
+use Rattle.vol_tree.proofs.Refusals.{err_not_ok}
 use Rattle.vol_tree.proofs.reading.read_slot.Goals as goal
 use Rattle.vol_log.specs.declared.layout.TheConstants.{FIRST_AFTER_LOG}
 use Rattle.vol_dirs.specs.Slots.{slot_sector}
@@ -95,7 +97,7 @@ returns-in-Ok-Some g c =
           on_ok r _ (λ done. right_some content v c.args.slot c.requires.slot e both.0 (spelled h)
           (new_placed content v c.args.slot c.requires.slot e both.0 (spelled h) dirs (c.requires.shown h) (at_ok r _ placed done)) (at_ok r _ trimmed done));
       damaged = λ h.
-          let damaged = subst (λ (m : Image). IfErr r (λ fault. fault ≡ Damaged
+          let damaged = subst (λ (m : Image). IfErr r (λ fault. IsDamage fault
           → IsNew dirs (c.args.slot + 1) e → IsTrimmed m e → FitIn m v (Some e) found → ⊥)) (read.view h) (rw c.new-serial.ensures at taken.damaged (read.honest.0 h)) in
           IfErr-weaker r _ _ (λ fault none is. some_contradicts content v c.args.slot c.requires.slot e both.0 (spelled h) dirs (c.requires.shown h) found (none is)) damaged;
       refused = taken.refused;
@@ -127,7 +129,7 @@ returns-in-Ok-None g c =
       below = on_ok r _ (λ done p n s held. omega (arith, c.requires.before p n s held));
       shows = λ h. on_ok r _ (λ done. shown_past v.version content c.args.slot dirs (c.requires.shown h) (none h));
       right = λ h. on_ok r _ (λ done. right_none content v c.args.slot c.requires.slot (none h));
-      damaged = λ h. IfErr-weaker r _ _ (λ fault is damaged. memory_not_damage (sym is ∙ damaged)) passed.refused;
+      damaged = λ h. IfErr-weaker r _ _ (λ fault is damaged. other_than fault Memory is (λ no. no) damaged) passed.refused;
       refused = IfErr-weaker r _ _ (λ fault is. inr (inr is)) passed.refused;
       reads = reads_of c.args.log.now c.read.new.self false read.view read.staged read.seen read.crash read.sectors read.honest read.size read.failures read.failed;
       failed = read.failed ∙ sym (no_device_failed r (IfErr-weaker r _ _ (λ fault is. inr is) passed.refused));
@@ -138,7 +140,7 @@ returns-in-Err g c =
     let slot_is : c.slot_sector.result ≡ slot_sector (c.args.slot + 1) = c.slot_sector.ensures ∙ ap slot_sector c.new-serial.ensures in
     let read = c.in_ok-image.ensures in
     let e = c.in-Err.ensures in
-    let why = c.in-Err.field-0 in
+    let why = c.in-Err.fault in
     record {
       adds = λ h. tt;
       within = tt;
@@ -150,7 +152,7 @@ returns-in-Err g c =
       damaged = λ h is right fits.
           refused_contradicts (view c.args.log.now) c.args.numbers.now c.args.slot (λ d is_entry spelled. err_not_ok why (Some d) (e.every d is_entry (read.value h ∙ ap (view c.args.log.now) slot_is ∙ spelled)))
           (λ none. err_not_ok why None (e.unused.1 (read.value h ∙ ap (view c.args.log.now) slot_is ∙ none))) right;
-      refused = inl refl;
+      refused = inl e.damaged;
       reads = reads_of c.args.log.now c.read.new.self false read.view read.staged read.seen read.crash read.sectors read.honest read.size read.failures read.failed;
-      failed = read.failed;
+      failed = read.failed ∙ sym (damage_not_device why e.damaged);
     }

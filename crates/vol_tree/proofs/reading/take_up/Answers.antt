@@ -36,7 +36,7 @@ returns-then-not-is_placed g c = record {
   slots = refl;
   trimmed = λ h. tt;
   damaged = λ h is placed trimmed fits. true≢false (sym (c.is_placed.ensures.no placed) ∙ c.if-not-is_placed.true);
-  refused = inl refl;
+  refused = inl tt;
   reads = reads_same c.args.log.now;
   failed = c.requires.can.working;
 }

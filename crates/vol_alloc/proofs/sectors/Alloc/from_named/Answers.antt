@@ -36,11 +36,11 @@ returns-then-not-take_all c =
       count = tt;
       right = tt;
       damaged = λ is places. false≢true (sym c.if-not-take_all.true ∙ c.take_all.ensures.wrong (places_wider c.args.first c.args.end _ c.args.named.now count places));
-      faults_named = inl refl;
+      faults_named = inl tt;
     }
 
 pub free_ones-requires : goal.free_ones-requires
-free_ones-requires c = omega (arith, c.deref.ensures.len, c.in_ok-taken.ensures.len, c.saturating_sub.ensures)
+free_ones-requires c = omega (arith, c.deref-2.ensures.len, c.in_ok-taken.ensures.len, c.saturating_sub.ensures)
 
 pub returns-in_err-free : goal.returns-in_err-free
 returns-in_err-free c =
@@ -59,7 +59,7 @@ returns-in_err-free c =
 pub invariant_of-result : goal.invariant_of-result
 invariant_of-result c =
     let found = c.in_ok-free.ensures in
-    let same = c.deref.ensures in
+    let same = c.deref-2.ensures in
     let free = c.in_ok-free.free in
     record {
       size = c.in_ok-taken.ensures.len ∙ c.saturating_sub.ensures;

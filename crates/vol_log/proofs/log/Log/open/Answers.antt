@@ -1,4 +1,4 @@
-use Rattle.std.proofs.Common.{◌∙◌, List, ap, Err, ⊎_elim, inl, inr, rules, arith}
+use Rattle.std.proofs.Common.{◌∙◌, List, ap, ⊎_elim, inl, inr, rules, arith}
 use Rattle.std.proofs.lemmas.Grind.{common_steps}
 use Rattle.vol_log.specs.Batch.{over}
 use Rattle.vol_log.specs.declared.staged.Staged.{Staged}
@@ -10,7 +10,7 @@ returns-in-Ok-replay-clause-content g c m h has k is =
 
 pub returns-in-Err-replay-clause-damaged : goal.returns-in-Err-replay-clause-damaged
 returns-in-Err-replay-clause-damaged g c h is =
-    let none = c.in-Err-replay.ensures.damaged h (ap Err is) in
+    let none = c.in-Err-replay.ensures.damaged h is in
     (none, c.in-Err-replay.ensures.quiet h none)
 
 pub returns-in-Err-replay-clause-faults_named : goal.returns-in-Err-replay-clause-faults_named

@@ -1,6 +1,6 @@
 use Rattle.std.proofs.Common.{◌≡◌, ◌↔◌, ◌≤◌, ◌∙◌, ℕ, List, Bool, inl, inr, sym, subst, ap, arith}
 use Rattle.vol_sector.specs.Disk.{Image, Leaves, counted}
-use Rattle.vol_sector.specs.Fault.{is_device}
+use Rattle.vol_sector.specs.Fault.{is_device, IsDamage}
 use Rattle.vol_log.specs.Log.{view, device_of}
 use Rattle.vol_log.specs.Batch.{over, HasContent}
 use Rattle.vol_log.specs.declared.staged.Staged.{Staged}
@@ -12,7 +12,6 @@ use Rattle.vol_tree.proofs.Openings.{leaves_nothing, crash_over, kept_over, none
 use Rattle.vol_tree.proofs.Fronts.{or_memory_last, not_the_front, stands_unrefused}
 use Rattle.vol_tree.proofs.OneTree.{one_volume}
 use Rattle.vol_tree.specs.Opened.{tree_in}
-use Rattle.vol_sector.specs.declared.fault.VolumeFault.TheVariants as faults
 use Rattle.vol_tree.proofs.volume.Volume.open.Goals as goal
 
 -- ---- no volume begins here
@@ -69,7 +68,7 @@ returns-in-Err-open g c =
     let d0 = g.D.Device.disk c.args.device in
     let d1 = g.D.Device.disk c.read_front.new.device in
     let size = g.D.Device.size c.args.device in
-    let damaged = λ (h : g.D.Device.honest c.args.device) (is : x ≡ faults.Damaged). (
+    let damaged = λ (h : g.D.Device.honest c.args.device) (is : IsDamage x). (
     let r : IsDamaged size d0.seen = record {
       begins = read.begins h;
       none = λ w T on. none_over d0 d1 size c.in-Ok.numbers w T read.ranges (read.front h) (read.seen h) on (e.damaged (read.honest.0 h) is).0;
@@ -129,7 +128,7 @@ returns-in-Err-read_parts g c =
     let d0 = g.D.Device.disk c.args.device in
     let d1 = g.D.Device.disk c.read_front.new.device in
     let size = g.D.Device.size c.args.device in
-    let damaged = λ (h : g.D.Device.honest c.args.device) (is : x ≡ faults.Damaged). (
+    let damaged = λ (h : g.D.Device.honest c.args.device) (is : IsDamage x). (
     let h1 = read.honest.0 h in
     let r : IsDamaged size d0.seen = record {
       begins = read.begins h;
