@@ -28,7 +28,7 @@ LINES = {
     121: "sandbox: out of fuel",
     122: "sandbox: out of memory",
     123: "sandbox: fault 33",
-    124: rf"sandbox: (fault (\d|1[0-6]|2[0-2]|3[0-6]|41)( at \d+)?|errno \d+|(.*: )?({STREAMS}|errno \d+|fault 41))",
+    124: rf"sandbox: (fault 32\nsandbox: (sector \d+: )?[^\n:]+|fault (\d|1[0-6]|2[0-2]|3[0-6]|41)( at \d+)?|errno \d+|(.*: )?({STREAMS}|errno \d+|fault 41))",
 }
 
 

@@ -167,7 +167,8 @@ def tried_volume(setting, image):
             with open(path, "wb") as it:
                 it.write(image)
             status, _, said = answer(setting, words, given)
-            faults.append(said.strip() if status == 124 and "fault" in said else "taken")
+            # `check` says on a second line where a rule is broken
+            faults.append(said.strip().split("\nsandbox: ")[0] if status == 124 and "fault" in said else "taken")
             with open(path, "rb") as it:
                 after = it.read()
             if faults[0] != "taken" and after not in (image, installed(image)):

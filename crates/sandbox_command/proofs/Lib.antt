@@ -3,6 +3,7 @@ mod Given
 mod Words
 mod Listing
 mod Lines
+mod Checked
 mod Spoken
 mod Began
 mod Bounds

@@ -30,6 +30,7 @@ use Rattle.volume_tasks.specs.Formatting.{FormatsAs}
 use Rattle.sandbox_command.specs.Reporting.{kept_where_refused, not_run, session_reason, volume_of}
 use Rattle.volume_tasks.specs.Doing.{Performs}
 use Rattle.sandbox_command.specs.declared.program.Executed.{Executed}
+use Rattle.sandbox_command.specs.Checking.{TellsChecked, checked_damage}
 use Rattle.sandbox_command.specs.Inspecting.{Inspects}
 use Rattle.sandbox_command.specs.Status.{ended_status, export_status, failure_status, import_status, load_status, session_status, volume_status}
 use Rattle.sandbox_command.specs.Streams.{AppendsSome, IsSilent}
@@ -106,7 +107,8 @@ module _ {D R W1 W2 : Type 0} (is_honest : D → Type 0) (disk : D → Disk) (se
   ExecutesSo Follows (asked.Volume file task) bytes random device input out err left =
       (done : Result (Unit {0}) Failure)
       × Performs is_honest disk sectors_on failures task device (remaining input) (remaining left.input) (out_contents out) (out_contents left.out) left.device done
-      × (left.status ≡ ended_status failure_status done left.flushed) × (left.summary ≡ None) × AppendsSome (err_contents err) (err_contents left.err)
+      × (left.status ≡ ended_status failure_status done left.flushed) × (left.summary ≡ None)
+      × TellsChecked (checked_damage task done) (err_contents err) (err_contents left.err)
   ExecutesSo Follows (asked.Import file path) bytes random device input out err left =
       (done : Result ℕ ImportFailure)
       × PerformsImport is_honest disk sectors_on failures path.now device (remaining input) (remaining left.input) left.device done

@@ -1,6 +1,7 @@
 -- What public contracts cite, in reading order; `internal` serves private contracts and proofs.
 pub mod Status
 pub mod Streams
+pub mod Checking
 pub mod Sources
 pub mod Supplies
 pub mod Reporting

@@ -2,6 +2,7 @@
 //! is done, and with which status it ends.
 #![tactic(auto)]
 
+mod checking;
 mod ending;
 mod files;
 mod inspecting;

@@ -15,6 +15,7 @@ ghost use Rattle.sandbox_command.specs.internal.Seeds.{with_seed};
 ghost use Rattle.sandbox_command.specs.internal.Supplies.{AreSupplies};
 ghost use Rattle.sandbox_command.specs.Execution.{RunsOn, Runs, Executes};
 
+use crate::checking::ended_task;
 use crate::ending::ended;
 use crate::inspecting::inspect;
 use crate::output::{GREATEST, NOT_COMMITTED, tell, tell_after, tell_fault, tell_outcome};
@@ -533,7 +534,7 @@ pub fn execute<D: Device + Drop, R: Read + Drop, W1: Write + Drop, W2: Write + D
         }
         Invocation::Volume { task, .. } => {
             let (done, device) = perform(alloc, device, *task, &mut input, &mut out);
-            ended(done, device, input, out, err)
+            ended_task(*task, done, device, input, out, err)
         }
         Invocation::Import { path, .. } => {
             let (done, device) = import_into(alloc, device, path, &mut input);

@@ -18,8 +18,8 @@ returns-in-Volume-clause-tells g c =
     let outs = g.W1.Write.contents in
     let task = c.in-Volume.task in
     let done = c.perform-done.result.0 in
-    let left = c.ended-in-Volume.result in
-    let ended = c.ended-in-Volume.ensures in
+    let left = c.ended_task.result in
+    let ended = c.ended_task.ensures in
     let flushed = performs_flushed honest disk size failures task c.args.device (remaining c.args.input) (remaining c.perform-done.new.input) (outs c.args.out) (outs c.perform-done.new.out) (outs left.out)
     c.perform-done.result.1 done c.perform-done.ensures ended.out in
     let at_input = subst (λ (r : g.row.R.Denot). Performs honest disk size failures task c.args.device (remaining c.args.input) (remaining r) (outs c.args.out) (outs left.out) c.perform-done.result.1 done) (sym ended.input) flushed in

@@ -1,0 +1,102 @@
+//! How a task ends, and what is told of a damaged volume that is checked.
+
+ghost use Rattle.std.specs.Prelude.{◌≡◌, ◌++◌, Some, None, OnOk, OnErr};
+ghost use Rattle.std.specs.Io.KnownBytes.{Appends, Keeps};
+ghost use Rattle.volume_tasks.specs.Streams.{AppendsPart};
+ghost use Rattle.sandbox_command.specs.Checking.{TellsChecked, checked_damage, damage_lines, place_text};
+ghost use Rattle.sandbox_command.specs.Status.{ended_status, failure_status};
+
+use crate::ending::ended;
+use crate::program::{Executed, FAULT};
+use arrayvec::ArrayVec;
+use run_report::rule_text;
+use sandbox_words::Task;
+use std::io::Write;
+use std::{fmt, io};
+use vol_sector::{Damage, VolumeFault};
+use volume_tasks::{Failure, print_all};
+
+/// Lines before they are printed, with room for those of any damage.
+type Lines = ArrayVec<u8, 320>;
+
+/// The sector of a damage as a line begins with it, or nothing where it isn't known.
+#[derive(Clone, Copy)]
+struct Place(Option<u32>);
+
+impl fmt::Display for Place {
+    ghost output = { λ p. Some (place_text p.0) };
+
+    fn fmt<W: fmt::Write>(&self, f: &mut fmt::Formatter<W>) -> fmt::Result {
+        match self.0 {
+            Some(sector) => write!(f, "sector {sector}: "),
+            None => Ok(()),
+        }
+    }
+}
+
+/// Adds the lines of a damage: the fault, and which sector breaks which rule.
+fn add_damage(lines: &mut Lines, damage: Damage) -> io::Result<()>
+    ensures { OnOk result (lines.new.items ≡ lines.old.items ++ damage_lines damage) }
+{
+    write!(
+        lines,
+        "sandbox: fault 32\nsandbox: {}{}\n",
+        Place(damage.sector),
+        rule_text(damage.rule)
+    )
+}
+
+/// Prints the lines of a damage. Where that fails, a beginning of them may have been printed.
+fn print_damage<W: Write>(err: &mut W, damage: Damage) -> io::Result<()>
+    ensures all { OnOk result
+        (Appends (W.contents err.old) (W.contents err.new) (damage_lines damage)) }
+    ensures part { OnErr result
+        (AppendsPart (W.contents err.old) (W.contents err.new) (damage_lines damage)) }
+{
+    let mut lines = Lines::new();
+    add_damage(&mut lines, damage)?;
+    print_all(err, lines.as_slice())
+}
+
+/// The damage for which a volume that is checked is refused.
+fn checked_damage(task: Task<'_>, done: Result<(), Failure>) -> Option<Damage>
+    ensures { result ≡ checked_damage task.entry done }
+{
+    match (task, done) {
+        (Task::Check, Err(Failure::Volume(VolumeFault::Damaged(damage)))) => Some(damage),
+        _ => None,
+    }
+}
+
+/// Ends a task as `ended` does, but where a volume that is checked is damaged it also tells where and how.
+pub(crate) fn ended_task<D: Drop, R: Drop, W1: Write + Drop, W2: Write + Drop>(
+    task: Task<'_>,
+    done: Result<(), Failure>,
+    device: D,
+    input: R,
+    mut out: W1,
+    mut err: W2,
+) -> Executed<D, R, W1, W2>
+    ensures status { result.status ≡ ended_status failure_status done result.flushed }
+    ensures summary { result.summary ≡ None }
+    ensures device { result.device ≡ device }
+    ensures input { result.input ≡ input }
+    ensures out { Keeps (W1.contents out) (W1.contents result.out) }
+    ensures err { TellsChecked (checked_damage task.entry done)
+        (W2.contents err) (W2.contents result.err) }
+{
+    let Some(damage) = checked_damage(task, done) else {
+        return ended(done, device, input, out, err);
+    };
+    let flushed = out.flush().is_ok();
+    let _ = print_damage(&mut err, damage);
+    Executed {
+        status: FAULT,
+        summary: None,
+        flushed,
+        device,
+        input,
+        out,
+        err,
+    }
+}
