@@ -3,7 +3,6 @@ mod Given
 mod Words
 mod Listing
 mod Lines
-mod Checked
 mod Spoken
 mod Began
 mod Bounds
