@@ -19,6 +19,7 @@ use Rattle.std.proofs.lemmas.Bool.{false≢true, ltb-true, ltb-false}
 use Rattle.std.proofs.lemmas.List.{get_or_past}
 use Rattle.std.proofs.lemmas.Option.{none-some}
 use Rattle.wasi_fd.specs.declared.table.Descriptors.{Descriptors}
+use Rattle.wasi_fd.specs.declared.table.TheConstants.{PLACES}
 
 -- where all directories are open at first, nothing is outside
 module _ (T : Tree) (tree : IsTree T) where
@@ -66,10 +67,10 @@ module _ (T : Tree) (tree : IsTree T) where
 -- only numbers of places are open
 pub few_open : (d : Descriptors) (fd : ℕ) (o : Opened) → table_of d fd ≡ Some (Entry o) → fd < places
 unfolding places
-few_open d fd o at = by_low (nat_lt fd 256) refl
+few_open d fd o at = by_low (nat_lt fd PLACES) refl
   where
-    by_low : (b : Bool) → nat_lt fd 256 ≡ b → fd < 256
-    by_low true low = ltb-true fd 256 low
+    by_low : (b : Bool) → nat_lt fd PLACES ≡ b → fd < PLACES
+    by_low true low = ltb-true fd PLACES low
     by_low false high =
-        let size : vec_len d.places ≡ 256 = d.size in
-        absurd (none-some (Entry o) (sym (get_or_past d.places.items fd None (omega (arith, ltb-false fd 256 high, size))) ∙ at))
+        let size : vec_len d.places ≡ PLACES = d.size in
+        absurd (none-some (Entry o) (sym (get_or_past d.places.items fd None (omega (arith, ltb-false fd PLACES high, size))) ∙ at))

@@ -38,11 +38,11 @@ stat_entry-requires g c =
     let o = c.in-Entry.opened in
     let at = at_descriptor (table_of c.args.descriptors.now) c.args.fd any_kind (2 ^ 21) c.in-Ok.descriptor c.in-Ok.ensures ∙ ap Some c.in-Entry.is in
     let number = c.requires.numbers c.args.fd o at in
-    record {
+    rw c.new.ensures (record {
       first = number.first;
       last = number.last;
       used = λ h. let there = c.requires.there h c.args.fd o at in is_used c.args.volume.now.tree o.serial there.e there.used;
-    }
+    })
 
 pub returns-in-Stream : goal.returns-in-Stream
 returns-in-Stream g c = record {
@@ -65,7 +65,7 @@ returns-in-Ok-stat_entry g c = record {
       let new = c.stat_entry.new.volume in
       let o = c.in-Entry.opened in
       let k = c.in-Ok-stat_entry.ensures.kept in
-      let (told, tree) = c.in-Ok-stat_entry.ensures.answer h in
+      let (told, tree) = rw c.new.ensures at c.in-Ok-stat_entry.ensures.answer h in
       let working : old.failed ≡ false = was_working g.D.Device.honest g.D.Device.size g.D.Device.failures old new false k refl in
       let alive : w.volume_failed ≡ false = ap (λ (w : World). w.volume_failed) shown ∙ working in
       let bytes = entry_stat w.tree o.serial in

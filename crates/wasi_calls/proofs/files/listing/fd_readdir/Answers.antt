@@ -40,8 +40,8 @@ returns-in-Ok-list_from g c = record {
       let o = c.in-Ok.opened in
       let done = c.in-Ok-list_from.ensures in
       let all = λ (v : World). dirents v.tree o.serial a.cookie in
-      let count : c.in-Ok-list_from.count ≡ min a.len (length (all w)) = done.count h ∙ ap (λ (v : World). min a.len (length (all v))) (sym shown) in
-      let bytes : c.list_from.new.memory ≡ written m a.buffer (take a.len (all w)) = done.listed h ∙ ap (λ (v : World). written m a.buffer (take a.len (all v))) (sym shown) in
+      let count : c.in-Ok-list_from.count ≡ min a.len (length (all w)) = (rw c.new-directory.ensures at done.count h) ∙ ap (λ (v : World). min a.len (length (all v))) (sym shown) in
+      let bytes : c.list_from.new.memory ≡ written m a.buffer (take a.len (all w)) = (rw c.new-directory.ensures at done.listed h) ∙ ap (λ (v : World). written m a.buffer (take a.len (all v))) (sym shown) in
       list_done g.D.Device.honest g.D.Device.disk g.D.Device.size g.D.Device.failures c.args.volume.now c.list_from.new.volume w m a o h shown (c.in-Ok.ensures.checked w table)
       done.asked c.write_bytes.new.memory
       (c.write_bytes.ensures.bytes ∙ λ i. written (bytes i) a.used_at ((c.le32.ensures ∙ ap (little_bytes 4) count) i));
@@ -59,7 +59,7 @@ returns-in-Err-list_from g c = record {
       let new = c.list_from.new.volume in
       let after = c.list_from.new.memory in
       let fails = c.in-Err-list_from.ensures in
-      let (io, begun) = fails.broke h in
+      let (io, begun) = rw c.new-directory.ensures at fails.broke h in
       let asked = subst (λ (e : Errno). Asked g.D.Device.honest g.D.Device.disk g.D.Device.size g.D.Device.failures old new (is_io {X = ℕ} (Err e))) io fails.asked in
       subst (λ (n : ℕ). Answered (λ v. list_row v m a) w m (with_volume new w) after n) (sym (c.refused.ensures ∙ ap number_of io))
       (list_fails g.D.Device.honest g.D.Device.disk g.D.Device.size g.D.Device.failures old new w m a o h shown (c.in-Ok.ensures.checked w table)

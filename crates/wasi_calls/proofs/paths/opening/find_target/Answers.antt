@@ -33,7 +33,7 @@ returns-in-Err g c = record {
 
 pub reach-requires : goal.reach-requires
 reach-requires g c =
-    opened_at g.D.Device.honest c.args.volume.now (table_of c.args.descriptors.now) c.requires c.args.memory.now c.args.asked.now c.in-Ok.entered.0 c.in-Ok.ensures.row
+    rw c.new.ensures (opened_at g.D.Device.honest c.args.volume.now (table_of c.args.descriptors.now) c.requires c.args.memory.now c.args.asked.now c.in-Ok.entered.0 c.in-Ok.ensures.row)
 
 pub returns-in-Err-reach : goal.returns-in-Err-reach
 returns-in-Err-reach g c = record {
@@ -51,7 +51,7 @@ returns-in-Err-reach g c = record {
       (stops_as w (λ v. open_part v m a) (λ v. and_then (path_at v m o a.path a.len) (after_walk v a m o)) new _ (goes w table) (goes (volume_gone w) table)
       (ends_part w (λ v. path_at v m o a.path a.len) (λ v. after_walk v a m o) new _ (λ alive r. after_walk_never w a m o r)
       (walk_stops g.D.Device.honest g.D.Device.disk g.D.Device.size g.D.Device.failures c.args.volume.now new w o m a.path a.len c.in-Ok.entered.1.now c.in-Ok.ensures.text h shown
-      c.in-Err-reach.errno (c.in-Err-reach.ensures.reaches h w o refl shown))));
+      c.in-Err-reach.errno (c.in-Err-reach.ensures.reaches h w o (sym c.new.ensures) shown))));
   io = asked_29 ReachedValue c.in-Err-reach.errno _ c.in-Err-reach.ensures.io c.refused.ensures;
 }
 
@@ -74,7 +74,7 @@ returns-in-Err-reached_target g c = record {
       let same : text ≡ bytes_at m a.path a.len = c.in-Ok.ensures.text in
       let goes = λ (v : World) (same : v.table ≡ table_of c.args.descriptors.now). entered_part v m a o (c.in-Ok.ensures.row v same) in
       let walked = walk_passes g.D.Device.honest g.D.Device.disk g.D.Device.size g.D.Device.failures old between w o m a.path a.len text same h shown c.in-Ok-reach.reached
-      c.in-Ok-reach.ensures.works (c.in-Ok-reach.ensures.reaches h w o refl shown) in
+      c.in-Ok-reach.ensures.works (c.in-Ok-reach.ensures.reaches h w o (sym c.new.ensures) shown) in
       let to = walked_to w o (bytes_at m a.path a.len) r walked.is in
       let now = c.in-Ok-reach.ensures.works.kept.honest.0 h in
       let checks = c.in-Err-reached_target.ensures.checks now w to.0 (ap path_read same ∙ to.1) walked.working (sym walked.same) in
@@ -103,7 +103,7 @@ returns-then-is_full g c = record {
       let same : text ≡ bytes_at m a.path a.len = c.in-Ok.ensures.text in
       let goes = λ (v : World) (same : v.table ≡ table_of c.args.descriptors.now). entered_part v m a o (c.in-Ok.ensures.row v same) in
       let walked = walk_passes g.D.Device.honest g.D.Device.disk g.D.Device.size g.D.Device.failures old between w o m a.path a.len text same h shown c.in-Ok-reach.reached
-      c.in-Ok-reach.ensures.works (c.in-Ok-reach.ensures.reaches h w o refl shown) in
+      c.in-Ok-reach.ensures.works (c.in-Ok-reach.ensures.reaches h w o (sym c.new.ensures) shown) in
       let to = walked_to w o (bytes_at m a.path a.len) r walked.is in
       let now = c.in-Ok-reach.ensures.works.kept.honest.0 h in
       let checks = subst (λ (l : List ℕ). ChecksAs a.oflags (wants_directory l) r w new (Ok c.in-Ok-reached_target.target)) same
@@ -133,7 +133,7 @@ returns g c = record {
       let same : text ≡ bytes_at m a.path a.len = c.in-Ok.ensures.text in
       let goes = λ (v : World) (same : v.table ≡ table_of c.args.descriptors.now). entered_part v m a o (c.in-Ok.ensures.row v same) in
       let walked = walk_passes g.D.Device.honest g.D.Device.disk g.D.Device.size g.D.Device.failures old between w o m a.path a.len text same h shown c.in-Ok-reach.reached
-      c.in-Ok-reach.ensures.works (c.in-Ok-reach.ensures.reaches h w o refl shown) in
+      c.in-Ok-reach.ensures.works (c.in-Ok-reach.ensures.reaches h w o (sym c.new.ensures) shown) in
       let to = walked_to w o (bytes_at m a.path a.len) r walked.is in
       let now = c.in-Ok-reach.ensures.works.kept.honest.0 h in
       let checks = subst (λ (l : List ℕ). ChecksAs a.oflags (wants_directory l) r w new (Ok c.in-Ok-reached_target.target)) same

@@ -35,7 +35,7 @@ returns-in-Ok-unlink-clause-answered g c = λ h w table shown.
     let passes = c.in-Ok.ensures.asks h w table shown in
     changed_ok g.D.Device.honest g.D.Device.size g.D.Device.failures w m (λ v. path_unlink_file v m c.args.fd c.args.path c.args.len) (gives s)
     c.removable.new.volume c.unlink.new.self (sym passes.same) (to_change w m c.args.fd c.args.path c.args.len ∙ goes_on _ _ s passes.is)
-    c.in-Ok-unlink.ensures.kept (rw c.new.ensures at c.in-Ok-unlink.ensures.answer (c.in-Ok.ensures.works.kept.honest.0 h))
+    c.in-Ok-unlink.ensures.kept (c.in-Ok-unlink.ensures.answer (c.in-Ok.ensures.works.kept.honest.0 h))
 
 pub returns-in-Err-unlink-clause-step : goal.returns-in-Err-unlink-clause-step
 returns-in-Err-unlink-clause-step g c =
@@ -53,7 +53,7 @@ returns-in-Err-unlink-clause-answered g c = λ h w table shown.
     let s = c.in-Ok.file in
     let run : World → Checked Done = λ v. path_unlink_file v m c.args.fd c.args.path c.args.len in
     let passes = c.in-Ok.ensures.asks h w table shown in
-    let (tree, meant) = rw c.new.ensures at c.in-Err-unlink.ensures.answer (c.in-Ok.ensures.works.kept.honest.0 h) in
+    let (tree, meant) = c.in-Err-unlink.ensures.answer (c.in-Ok.ensures.works.kept.honest.0 h) in
     subst (λ (n : ℕ). Answered run w m (with_volume c.unlink.new.self w) m n) (sym c.refused.ensures)
     (changing_err g.D.Device.honest g.D.Device.size g.D.Device.failures w m run (gives s) c.removable.new.volume c.unlink.new.self (sym passes.same)
     (to_change w m c.args.fd c.args.path c.args.len ∙ goes_on _ _ s passes.is) (to_change (volume_gone w) m c.args.fd c.args.path c.args.len ∙ stops _ _ 29 passes.gone)
