@@ -10,5 +10,6 @@ use Rattle.wasi_calls.specs.declared.host.settings.TheConstants.{MOST_PREOPENS, 
 abbrev pub preopens_fit : List Preopen → Bool
 preopens_fit ps = nat_le (length ps) MOST_PREOPENS && list_all (λ p. name_fits p.guest_name.now) ps
 
+-- what a guest can be given: texts and names that fit, and pages up to the limit
 abbrev pub settings_fit : Settings → Bool
 settings_fit s = texts_fit s.args.now && texts_fit s.env.now && preopens_fit s.preopens.now && nat_le s.pages MOST_PAGES

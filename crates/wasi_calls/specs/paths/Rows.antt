@@ -21,6 +21,7 @@ use Rattle.wasi_fd.specs.Rights.{PATH_CREATE_DIRECTORY, PATH_CREATE_FILE, PATH_O
 abbrev pub path_at : World → List ℕ → Opened → ℕ → ℕ → Checked Reached
 path_at w memory directory path len = walk w directory (bytes_at memory path len)
 
+-- the directory and the name that is missing in it
 abbrev pub missing : Reached → Checked (ℕ × Name)
 missing (Found serial) = Err EXIST
 missing (Missing parent name) = Ok (parent, name)
@@ -72,6 +73,7 @@ path_unlink_file w memory fd path len = do
 
 -- ---- path_open
 
+-- the flag is set
 abbrev pub is_set : ℕ → ℕ → Bool
 is_set flags bit = bit_and flags bit == bit
 
@@ -126,6 +128,7 @@ new_descriptor T directory serial base inheriting fdflags =
       guest_name = None;
     })
 
+-- the least number that stands for nothing
 abbrev pub new_number : World → Checked ℕ
 new_number w = ok_or (least_closed places 0 w.table) 33
 

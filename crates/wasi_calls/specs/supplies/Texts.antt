@@ -8,9 +8,11 @@ use Rattle.wasi_calls.specs.declared.host.settings.TheConstants.{MOST_TEXTS, MOS
 abbrev pub Texts : Type 0
 Texts = List (Bor (List ℕ))
 
+-- a NUL is among the bytes
 abbrev pub has_nul_byte : List ℕ → Bool
 has_nul_byte text = list_any (λ b. b == 0) text
 
+-- the texts themselves
 abbrev pub texts_of : Texts → List (List ℕ)
 texts_of texts = map (λ t. t.now) texts
 

@@ -10,7 +10,7 @@ use Rattle.wasi_fd.specs.Table.{table_of}
 use Rattle.wasi_fd.specs.declared.descriptor.Opened.{Opened}
 use Rattle.wasi_calls.proofs.checks.CausesOf29.{asked_29, check_not_29}
 use Rattle.wasi_calls.proofs.checks.NoneAnswers29.{entered_never}
-use Rattle.wasi_calls.specs.World.{World, volume_gone}
+use Rattle.wasi_calls.specs.World.{World, with_volume_failed}
 use Rattle.wasi_calls.specs.Checks.{Checked, Done, and_then, walk}
 use Rattle.wasi_calls.specs.paths.Rows.{path_create_directory, path_at, missing}
 use Rattle.wasi_calls.specs.Calls.{Answered}
@@ -101,8 +101,8 @@ returns-in-Err-create_dir-clause-answered g c = λ h w table shown.
     (made_err g.D.Device.honest g.D.Device.size g.D.Device.failures w m run (made_at place) between new here
     (to_rest w m c.args.fd c.args.path c.args.len o (c.in-Ok.ensures.row w table)
     ∙ (goes_on _ _ (reached_as c.in-Ok-Missing.field-0) (ap (walk w o) (sym c.in-Ok.ensures.text) ∙ reaches.0 alive) ∙ goes_on _ _ place is))
-    (to_rest (volume_gone w) m c.args.fd c.args.path c.args.len o (c.in-Ok.ensures.row (volume_gone w) table)
-    ∙ stops _ _ 29 (ap (walk (volume_gone w) o) (sym c.in-Ok.ensures.text) ∙ reaches.1))
+    (to_rest (with_volume_failed w) m c.args.fd c.args.path c.args.len o (c.in-Ok.ensures.row (with_volume_failed w) table)
+    ∙ stops _ _ 29 (ap (walk (with_volume_failed w) o) (sym c.in-Ok.ensures.text) ∙ reaches.1))
     (created_never w.tree place.0 place.1 Directory) c.in-Err-create_dir.errno c.in-Err-create_dir.ensures.kept tree meant)
 
 pub returns-in-Ok-Found : goal.returns-in-Ok-Found
@@ -142,7 +142,7 @@ returns-in-Err-reach g c = record {
             (refused_first w m run old (number_of e) shown (goes w table ∙ stops _ _ _ (text w ∙ t.answer)))
         | inr r ↦ tree_refuses w m g.D.Device.honest g.D.Device.size g.D.Device.failures ReachedValue run old new e r.kept shown r.tree
             (λ alive other. goes w table ∙ stops _ _ _ (text w ∙ r.answer alive other))
-            (goes (volume_gone w) table ∙ stops _ _ 29 (text (volume_gone w) ∙ r.gone))
+            (goes (with_volume_failed w) table ∙ stops _ _ 29 (text (with_volume_failed w) ∙ r.gone))
             (λ alive is. never_after (path_at w m o c.args.path c.args.len) (of_reached w) (λ no. r.never alive (sym (text w) ∙ no))
             (λ x _. rest_never w alive x) (sym (goes w table) ∙ is))
       ]);

@@ -8,7 +8,7 @@ use Rattle.wasi_fd.specs.Table.{table_of}
 use Rattle.wasi_fd.specs.declared.descriptor.Opened.{Opened}
 use Rattle.wasi_calls.proofs.checks.CausesOf29.{asked_29, check_not_29, no_29_at_0, not_29}
 use Rattle.wasi_calls.proofs.checks.NoneAnswers29.{entered_never, range_never}
-use Rattle.wasi_calls.specs.World.{World, volume_gone}
+use Rattle.wasi_calls.specs.World.{World, with_volume_failed}
 use Rattle.wasi_calls.specs.Checks.{Checked, Done, and_then, range, walk, found, tree_call, with_result}
 use Rattle.wasi_calls.specs.descriptors.Rows.{entry_stat}
 use Rattle.wasi_calls.specs.paths.Rows.{path_filestat_get, path_at}
@@ -113,8 +113,8 @@ returns-in-Err-stat_entry g c = record {
       let fails : new.failed ≡ true = k.failed ∙ ap (λ (e : _). is_io {X = List ℕ} (Err e)) io in
       subst (λ (n : ℕ). Answered run w m (with_volume new w) m n) (sym (c.refused.ensures ∙ ap number_of io))
       (failed_by w m run old new shown (k.numbers ∙ walked.kept.numbers) (tree ∙ walked.tree h) fails
-      (to_rest (volume_gone w) m c.args.fd c.args.path c.args.len at o (c.in-Ok.ensures.row (volume_gone w) table) c.in_default.ensures.range
-      ∙ stops _ _ 29 (ap (walk (volume_gone w) o) (sym c.in-Ok.ensures.text) ∙ reaches.1))
+      (to_rest (with_volume_failed w) m c.args.fd c.args.path c.args.len at o (c.in-Ok.ensures.row (with_volume_failed w) table) c.in_default.ensures.range
+      ∙ stops _ _ 29 (ap (walk (with_volume_failed w) o) (sym c.in-Ok.ensures.text) ∙ reaches.1))
       (λ alive is. never_after (path_at w m o c.args.path c.args.len) (of_reached w at)
       (λ no. ok_no_err _ (reached_as c.in-Ok-Found.field-0) 29 (ap (walk w o) (sym c.in-Ok.ensures.text) ∙ reaches.0 alive) no)
       (λ r _. rest_never w at alive r)
@@ -163,7 +163,7 @@ returns-in-Err-reach g c = record {
             (refused_first w m run old (number_of e) shown (goes w table ∙ stops _ _ _ (text w ∙ t.answer)))
         | inr r ↦ tree_refuses w m g.D.Device.honest g.D.Device.size g.D.Device.failures ReachedValue run old new e r.kept shown r.tree
             (λ alive other. goes w table ∙ stops _ _ _ (text w ∙ r.answer alive other))
-            (goes (volume_gone w) table ∙ stops _ _ 29 (text (volume_gone w) ∙ r.gone))
+            (goes (with_volume_failed w) table ∙ stops _ _ 29 (text (with_volume_failed w) ∙ r.gone))
             (λ alive is. never_after (path_at w m o c.args.path c.args.len) (of_reached w at) (λ no. r.never alive (sym (text w) ∙ no))
             (λ x _. rest_never w at alive x) (sym (goes w table) ∙ is))
       ]);

@@ -8,7 +8,7 @@ use Rattle.wasi_fd.specs.Table.{table_of}
 use Rattle.wasi_calls.specs.internal.files.Listing.{listable}
 use Rattle.wasi_calls.proofs.checks.CausesOf29.{asked_29, check_not_29, no_29_at_0}
 use Rattle.wasi_calls.proofs.checks.NoneAnswers29.{listable_never}
-use Rattle.wasi_calls.specs.World.{World, volume_gone}
+use Rattle.wasi_calls.specs.World.{World, with_volume_failed}
 use Rattle.wasi_calls.specs.files.Rows.{dirents}
 use Rattle.wasi_calls.specs.Calls.{Answered}
 use Rattle.wasi_calls.specs.internal.Bodies.{with_volume}
@@ -63,7 +63,7 @@ returns-in-Err-list_from g c = record {
       let asked = subst (λ (e : Errno). Asked g.D.Device.honest g.D.Device.disk g.D.Device.size g.D.Device.failures old new (is_io {X = ℕ} (Err e))) io fails.asked in
       subst (λ (n : ℕ). Answered (λ v. list_row v m a) w m (with_volume new w) after n) (sym (c.refused.ensures ∙ ap number_of io))
       (list_fails g.D.Device.honest g.D.Device.disk g.D.Device.size g.D.Device.failures old new w m a o h shown (c.in-Ok.ensures.checked w table)
-      asked (c.in-Ok.ensures.checked (volume_gone w) table) after c.in-Ok.ensures.buffer fails.idle
+      asked (c.in-Ok.ensures.checked (with_volume_failed w) table) after c.in-Ok.ensures.buffer fails.idle
       (subst (λ (v : World). IsBegun m a.buffer (take a.len (dirents v.tree o.serial a.cookie)) after) (sym shown) begun));
   io = asked_29 ℕ c.in-Err-list_from.errno _ (λ fails. c.in-Err-list_from.ensures.asked.kept.failed ∙ fails) c.refused.ensures;
 }

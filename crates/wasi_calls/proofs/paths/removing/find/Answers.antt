@@ -6,7 +6,7 @@ use Rattle.wasi_fd.specs.Table.{table_of}
 use Rattle.wasi_fd.specs.declared.descriptor.Opened.{Opened}
 use Rattle.wasi_calls.proofs.checks.CausesOf29.{asked_29, check_not_29}
 use Rattle.wasi_calls.proofs.checks.NoneAnswers29.{entered_never}
-use Rattle.wasi_calls.specs.World.{World, volume_gone}
+use Rattle.wasi_calls.specs.World.{World, with_volume_failed}
 use Rattle.wasi_calls.specs.Checks.{and_then, found}
 use Rattle.wasi_calls.specs.paths.Rows.{path_at}
 use Rattle.wasi_calls.specs.internal.Asking.{Stops}
@@ -44,7 +44,7 @@ returns-in-Ok-Found-clause-asks g c = λ h w table shown.
     let walked = walk_passes g.D.Device.honest g.D.Device.disk g.D.Device.size g.D.Device.failures c.args.volume.now c.reach.new.volume w o m c.args.path c.args.len c.in-Ok.entered.1.now
     c.in-Ok.ensures.text h shown c.in-Ok-Found.field-0 c.in-Ok-Found.ensures.works (c.in-Ok-Found.ensures.reaches h w o (sym c.new.ensures) shown) in
     rw c.new-in-Ok-Found.ensures (passes_as w (λ v. found_at v m c.args.fd (bits_of c.args.rights) c.args.path c.args.len) (λ v. and_then (part v) found) c.reach.new.volume c.in-Ok-Found.serial
-    (goes w table) (goes (volume_gone w) table)
+    (goes w table) (goes (with_volume_failed w) table)
     (passes_on w part (λ v. found) c.reach.new.volume (reached_as c.in-Ok-Found.field-0) walked c.reach.new.volume c.in-Ok-Found.serial walked.same
     (ap (λ (r : ReachedValue). found (reached_as r)) c.in-Ok-Found.field-0-is)))
 
@@ -61,7 +61,7 @@ returns-in-Ok-Missing g c = record {
       let walked = walk_passes g.D.Device.honest g.D.Device.disk g.D.Device.size g.D.Device.failures c.args.volume.now c.reach.new.volume w o m c.args.path c.args.len c.in-Ok.entered.1.now
       c.in-Ok.ensures.text h shown c.in-Ok-Missing.field-0 c.in-Ok-Missing.ensures.works (c.in-Ok-Missing.ensures.reaches h w o (sym c.new.ensures) shown) in
       stops_as w (λ v. found_at v m c.args.fd (bits_of c.args.rights) c.args.path c.args.len) (λ v. and_then (part v) found) c.reach.new.volume 44
-      (goes w table) (goes (volume_gone w) table)
+      (goes w table) (goes (with_volume_failed w) table)
       (refuses_on w part (λ v. found) c.reach.new.volume (reached_as c.in-Ok-Missing.field-0) walked c.reach.new.volume 44 walked.same
       (ap (λ (r : ReachedValue). found (reached_as r)) c.in-Ok-Missing.field-0-is));
   io = λ is. absurd (omega (arith, is));
@@ -79,7 +79,7 @@ returns-in-Err-reach g c = record {
       let found_by = λ (v : World). found_at v m c.args.fd (bits_of c.args.rights) c.args.path c.args.len in
       let goes = λ (v : World) (same : v.table ≡ table_of c.args.descriptors.now). to_walk v m c.args.fd (bits_of c.args.rights) c.args.path c.args.len o (c.in-Ok.ensures.row v same) in
       subst (λ (n : ℕ). Stops found_by w c.reach.new.volume n) (sym c.refused.ensures)
-      (stops_as w found_by (λ v. and_then (part v) found) c.reach.new.volume _ (goes w table) (goes (volume_gone w) table)
+      (stops_as w found_by (λ v. and_then (part v) found) c.reach.new.volume _ (goes w table) (goes (with_volume_failed w) table)
       (ends_part w part (λ v. found) c.reach.new.volume _ (λ alive r. found_never r)
       (walk_stops g.D.Device.honest g.D.Device.disk g.D.Device.size g.D.Device.failures c.args.volume.now c.reach.new.volume w o m c.args.path c.args.len c.in-Ok.entered.1.now
       c.in-Ok.ensures.text h shown c.in-Err-reach.errno (c.in-Err-reach.ensures.reaches h w o (sym c.new.ensures) shown))));

@@ -4,7 +4,7 @@ use Rattle.vol_tree.specs.declared.errno.Errno.{Errno}
 use Rattle.vol_tree.specs.Tree.{Tree}
 use Rattle.vol_tree.specs.Calls.{directory_removed}
 use Rattle.wasi_calls.proofs.checks.CausesOf29.{asked_29}
-use Rattle.wasi_calls.specs.World.{World, volume_gone}
+use Rattle.wasi_calls.specs.World.{World, with_volume_failed}
 use Rattle.wasi_calls.specs.Checks.{Checked, Done, and_then}
 use Rattle.wasi_calls.specs.paths.Rows.{path_remove_directory}
 use Rattle.wasi_calls.specs.Calls.{Answered}
@@ -56,7 +56,7 @@ returns-in-Err-rmdir-clause-answered g c = λ h w table shown.
     let (tree, meant) = c.in-Err-rmdir.ensures.answer (c.in-Ok.ensures.works.kept.honest.0 h) in
     subst (λ (n : ℕ). Answered run w m (with_volume c.rmdir.new.self w) m n) (sym c.refused.ensures)
     (changing_err g.D.Device.honest g.D.Device.size g.D.Device.failures w m run (gives s) c.removable.new.volume c.rmdir.new.self (sym passes.same)
-    (to_change w m c.args.fd c.args.path c.args.len ∙ goes_on _ _ s passes.is) (to_change (volume_gone w) m c.args.fd c.args.path c.args.len ∙ stops _ _ 29 passes.gone)
+    (to_change w m c.args.fd c.args.path c.args.len ∙ goes_on _ _ s passes.is) (to_change (with_volume_failed w) m c.args.fd c.args.path c.args.len ∙ stops _ _ 29 passes.gone)
     (removed_never w.tree s) c.in-Err-rmdir.errno c.in-Err-rmdir.ensures.kept tree meant)
 
 pub returns-in-Err-rmdir-clause-io : goal.returns-in-Err-rmdir-clause-io
