@@ -12,7 +12,7 @@ use Rattle.wasi_calls.proofs.bodies.VolumeCalls.{steps_after, steps}
 use Rattle.wasi_calls.proofs.bodies.AskingCalls.{asked_works}
 use Rattle.wasi_calls.proofs.paths.RenameCalls.{onto_stops, onto_done, found_never, not_root, world_with, renames_ok, renames_err}
 use Rattle.wasi_calls.proofs.bodies.PlainCalls.{volume_rests}
-use Rattle.std.proofs.lemmas.Bool.{eqb-true, eqb-false}
+use Rattle.std.proofs.lemmas.Bool.{eqb-false}
 use Rattle.wasi_calls.proofs.paths.renaming.rename_found.Goals as goal
 
 pub returns-in-Err-clause-renames : goal.returns-in-Err-clause-renames
