@@ -11,10 +11,11 @@ use Rattle.wasi_fd.specs.declared.descriptor.Descriptor.TheVariants.{Entry}
 use Rattle.wasi_fd.specs.declared.descriptor.EntryKind.TheVariants as kinds
 use Rattle.wasi_fd.specs.declared.descriptor.Opened.{Opened}
 use Rattle.wasi_fd.specs.Rights.{bits_of, file_rights, directory_rights}
-use Rattle.wasi_calls.specs.World.{World, with_descriptor, least_closed, places, held_open}
+use Rattle.wasi_calls.specs.World.{World, with_descriptor, least_closed, held_open}
 use Rattle.wasi_calls.specs.Checks.{Checked, ◌>>=◌, ◌>>◌, guard, get, of_kind, has, opened, entry_at, only_directories, range, walk, tree_call, found, Done, only_world, with_result}
 use Rattle.wasi_calls.specs.descriptors.Rows.{entry_stat}
 use Rattle.wasi_calls.specs.Errnos.{BUSY, EXIST, INVAL, ISDIR, NOENT, NOTCAPABLE, NOTDIR, NOTEMPTY, NOTSUP}
+use Rattle.wasi_fd.specs.declared.table.TheConstants.{PLACES}
 use Rattle.wasi_fd.specs.Rights.{PATH_CREATE_DIRECTORY, PATH_CREATE_FILE, PATH_OPEN, PATH_FILESTAT_SET_SIZE, PATH_FILESTAT_GET, PATH_REMOVE_DIRECTORY, PATH_RENAME_SOURCE, PATH_RENAME_TARGET, PATH_UNLINK_FILE}
 
 -- a path is checked over its whole length, and walked from the descriptor's directory
@@ -130,7 +131,7 @@ new_descriptor T directory serial base inheriting fdflags =
 
 -- the least number that stands for nothing
 abbrev pub new_number : World → Checked ℕ
-new_number w = ok_or (least_closed places 0 w.table) 33
+new_number w = ok_or (least_closed PLACES 0 w.table) 33
 
 -- path_open(fd, flags, path, length, oflags, base, inheriting, fdflags, result)
 abbrev pub path_open : World → List ℕ → ℕ → ℕ → ℕ → ℕ → ℕ → ℕ → ℕ → ℕ → Checked Done

@@ -120,12 +120,7 @@ fn are_types(letters: &[u8], types: &[ValueType]) -> bool
 }
 
 /// The call, where a function of this type can be it.
-fn of_type(
-    params: &[u8],
-    results: &[u8],
-    call: HostCall,
-    func_type: &FuncType,
-) -> Option<HostCall>
+fn of_type(params: &[u8], results: &[u8], call: HostCall, func_type: &FuncType) -> Option<HostCall>
     ensures { result ≡ of_type func_type.now (params.now, results.now, call) }
 {
     if are_types(params, func_type.params.as_slice())
