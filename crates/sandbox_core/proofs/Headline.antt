@@ -35,7 +35,7 @@ use Rattle.wasm_steps.specs.declared.pause.Pause.{Pause}
 use Rattle.wasm_steps.specs.declared.pause.Pause.TheVariants.{Called, Spent, Ended}
 use Rattle.wasm_steps.specs.Configuration.{Instance, Configuration, first_configuration}
 use Rattle.wasm_steps.specs.Steps.{CallsOf, Event, Step, plain_step, free_step, host_answers, host_exits, in_label, in_frame, Reach, stays, goes}
-use Rattle.wasi_calls.specs.World.{World, places}
+use Rattle.wasi_calls.specs.World.{World}
 use Rattle.wasi_calls.specs.Calls as world
 use Rattle.wasi_calls.specs.host.Worlds.{HostState, HostCalls, StreamBytes, LeavesNone, StreamsMove, MayFollow, before_moving, after_moving, Shows, world_of}
 use Rattle.wasi_calls.proofs.bodies.PlainCalls.{nothing}
@@ -333,7 +333,7 @@ module _ {D R W1 W2 : Type 0} (honest : D → Type 0) (disk : D → Disk) (secto
       }
 
       world_begins : (settings_fit parts.settings ≡ true) → (b : StreamBytes) → HasOnlyDirectoriesOpen (world_of s.host b)
-      unfolding AreDirectories places
+      unfolding AreDirectories
       world_begins fits b =
           let there = shares.preopens is in
           let dirs = directories parts.volume.tree (shares.is_tree is) parts.settings.preopens.now there.directories there.named in

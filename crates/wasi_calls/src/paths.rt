@@ -30,7 +30,7 @@ use wasm_store::{Errno, Memory};
 /// What a path of the guest reaches from a directory.
 pub(crate) fn reach<'p, D: Device>(
     volume: &mut Volume<D>,
-    directory: u32,
+    directory: Serial,
     text: &'p [u8],
 ) -> Result<Reached<'p>, vol_tree::Errno>
     requires { IsEntryOf D.honest volume.old directory }
@@ -43,7 +43,7 @@ pub(crate) fn reach<'p, D: Device>(
     ensures io { is_io result ≡ true → volume.new.failed ≡ true }
 {
     match Path::read(text) {
-        Ok(path) => walk(volume, Serial::new(directory), &path),
+        Ok(path) => walk(volume, directory, &path),
         Err(errno) => Err(errno),
     }
 }
@@ -103,8 +103,8 @@ fn stat_path<D: Device>(
     if let Err(errno) = check_range(memory, result_at, 64) {
         return Err(errno);
     }
-    match reach(volume, directory.serial, text) {
-        Ok(Reached::Found(serial)) => match stat_entry(volume, serial) {
+    match reach(volume, Serial::new(directory.serial), text) {
+        Ok(Reached::Found(serial)) => match stat_entry(volume, Serial::new(serial)) {
             Ok(bytes) => Ok(bytes),
             Err(errno) => Err(refused(errno)),
         },
@@ -158,7 +158,7 @@ pub(crate) fn path_create_directory<D: Device>(
         Ok(entered) => entered,
         Err(errno) => return Err(errno),
     };
-    match reach(volume, directory.serial, text) {
+    match reach(volume, Serial::new(directory.serial), text) {
         Ok(Reached::Missing { parent, name }) => match volume.create_dir(
             Serial::new(parent),
             name,

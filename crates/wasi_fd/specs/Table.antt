@@ -1,6 +1,6 @@
 -- The map from numbers to descriptors (`fd` of WASI preview 1).
-use Rattle.std.specs.Prelude.{◌≡◌, ◌==◌, ℕ, Option, Some, None, slice_index_or, if◌then◌else◌}
-use Rattle.wasi_fd.specs.Rights.{bits_of}
+use Rattle.std.specs.Prelude.{◌≡◌, ◌==◌, ◌+◌, ℕ, Option, Some, None, slice_index_or, if◌then◌else◌}
+use Rattle.wasi_fd.specs.Rights.{bits_of, FD_READ, FD_WRITE, FD_FILESTAT_GET}
 use Rattle.wasi_fd.specs.declared.descriptor.Stream.{Stream as StreamValue}
 use Rattle.wasi_fd.specs.declared.descriptor.Stream.TheVariants.{Input, Output, Error}
 use Rattle.wasi_fd.specs.declared.descriptor.Descriptor.{Descriptor}
@@ -29,17 +29,18 @@ IsOf serial None = ⊥
 IsOf serial (Some (Stream s)) = ⊥
 IsOf serial (Some (Entry e)) = e.serial ≡ serial
 
--- fd_filestat_get and fd_read, or fd_write
+-- what a stream can be asked for
 abbrev pub base_of_stream : StreamValue → ℕ
-base_of_stream Input = 2097154
-base_of_stream Output = 2097216
-base_of_stream Error = 2097216
+base_of_stream Input = FD_READ + FD_FILESTAT_GET
+base_of_stream Output = FD_WRITE + FD_FILESTAT_GET
+base_of_stream Error = FD_WRITE + FD_FILESTAT_GET
 
--- the rights of a descriptor
+-- what a descriptor itself allows
 abbrev pub base_of : Descriptor → ℕ
 base_of (Stream s) = base_of_stream s
 base_of (Entry e) = bits_of e.base
 
+-- what it allows those that are opened through it
 abbrev pub inheriting_of : Descriptor → ℕ
 inheriting_of (Stream s) = 0
 inheriting_of (Entry e) = bits_of e.inheriting

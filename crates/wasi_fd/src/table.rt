@@ -2,6 +2,7 @@
 
 ghost use Rattle.std.specs.Prelude.{◌≡◌, ◌≢◌, ◌≤◌, ◌<◌, ◌↔◌, ◌==◌, ℕ, true, false, IsTrue, IfOk, IfErr, OnErr, OnOk};
 ghost use Rattle.std.specs.Prelude.{Some, None, length, vec_len, slice_index_or, if◌then◌else◌};
+ghost use Rattle.wasi_fd.specs.declared.table.TheConstants.{PLACES};
 
 use crate::descriptor::is_of;
 use crate::{Descriptor, DescriptorFault, Fd, Stream};
@@ -16,7 +17,7 @@ pub const PLACES: usize = 256;
 #[derive(Drop)]
 pub struct Descriptors<'g> {
     places: Vec<Option<Descriptor<'g>>>,
-    ghost size: { vec_len places ≡ 256 },
+    ghost size: { vec_len places ≡ PLACES },
 }
 
 impl<'g> Descriptors<'g> {
@@ -34,9 +35,9 @@ impl<'g> Descriptors<'g> {
         Ok(Descriptors { places })
     }
 
-    /// Whether all 256 numbers are open, so that no other can be opened.
+    /// Whether all `PLACES` numbers are open, so that no other can be opened.
     pub fn is_full(&self) -> bool
-        ensures { IsTrue result ↔ ((k : ℕ) → k < 256 → table_of self.now k ≢ None) }
+        ensures { IsTrue result ↔ ((k : ℕ) → k < PLACES → table_of self.now k ≢ None) }
     {
         self.places.iter().all(|place| place.is_some())
     }
@@ -54,14 +55,14 @@ impl<'g> Descriptors<'g> {
     }
 
     /// Opens the descriptor under the least number that stands for nothing. It is refused as `Full`
-    /// where all 256 numbers are open.
+    /// where all `PLACES` numbers are open.
     pub fn open(&mut self, descriptor: Descriptor<'g>) -> Result<Fd, DescriptorFault>
-        ensures least { IfOk result (λ n. (n < 256) × (table_of self.old n ≡ None)
+        ensures least { IfOk result (λ n. (n < PLACES) × (table_of self.old n ≡ None)
             × ((k : ℕ) → k < n → table_of self.old k ≢ None)) }
         ensures opened { IfOk result (λ n. (k : ℕ)
             → table_of self.new k ≡ with_at n (Some descriptor.entry) (table_of self.old) k) }
         ensures full { IfErr result (λ fault. (fault ≡ DescriptorFault.Full)
-            × ((k : ℕ) → k < 256 → table_of self.old k ≢ None)) }
+            × ((k : ℕ) → k < PLACES → table_of self.old k ≢ None)) }
         ensures refused { OnErr result (self.new ≡ self.old) }
     {
         match self.places.iter().position(|place| place.is_none()) {

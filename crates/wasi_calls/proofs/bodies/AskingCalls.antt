@@ -14,7 +14,7 @@ use Rattle.path_walk.specs.declared.walking.Reached.{Reached as ReachedValue}
 use Rattle.vol_tree.specs.declared.superblock.Superblock.{Superblock}
 use Rattle.path_walk.specs.Walk.{reached_as, IsEntryOf}
 use Rattle.wasi_fd.specs.declared.descriptor.Opened.{Opened as OpenedEntry}
-use Rattle.wasi_calls.specs.World.{World, volume_gone}
+use Rattle.wasi_calls.specs.World.{World, with_volume_failed}
 use Rattle.wasi_calls.specs.paths.Rows.{path_at}
 use Rattle.wasi_calls.specs.Checks.{Checked, Done, and_then, walk, tree_call, numbered, only_world}
 use Rattle.wasi_calls.specs.Calls.{Answered, by_row, volume_fails}
@@ -45,10 +45,10 @@ true_or true = inl refl
 true_or false = inr refl
 
 module _ {D : Type 0} (w : World) (m : List ℕ) (run : World → Checked Done) where
-  failed_now : (new : Opened D) (before : (w.volume_failed ≡ true) ⊎ (w.volume_failed ≡ false)) → run (volume_gone w) ≡ Err 29 → (w.volume_failed ≡ false → run w ≢ Err 29)
-      → with_volume new w ≡ volume_gone w → Answered run w m (with_volume new w) m 29
+  failed_now : (new : Opened D) (before : (w.volume_failed ≡ true) ⊎ (w.volume_failed ≡ false)) → run (with_volume_failed w) ≡ Err 29 → (w.volume_failed ≡ false → run w ≢ Err 29)
+      → with_volume new w ≡ with_volume_failed w → Answered run w m (with_volume new w) m 29
   failed_now new (inl failed) is only_so after =
-      let same : volume_gone w ≡ w = λ i. record w { volume_failed = sym failed i } in
+      let same : with_volume_failed w ≡ w = λ i. record w { volume_failed = sym failed i } in
       by_row (answers_refused (run w) w m (with_volume new w) m 29 (ap run (sym same) ∙ is) (after ∙ same) refl)
   failed_now new (inr working) is only_so after = volume_fails (record {
     reaches = record { refused = is; only_so = only_so working };
@@ -63,7 +63,7 @@ module _ {D : Type 0} (w : World) (m : List ℕ) (run : World → Checked Done) 
   ends_call part rest new e cut later (inl r) = by_row (answers_refused (run w) w m (with_volume new w) m e (cut w ∙ stops _ _ e r.is) r.same refl)
   ends_call part rest new e cut later (inr f) =
       subst (λ (n : ℕ). Answered run w m (with_volume new w) m n) (sym f.answer)
-      (failed_now new (true_or w.volume_failed) (cut (volume_gone w) ∙ stops _ _ 29 f.gone)
+      (failed_now new (true_or w.volume_failed) (cut (with_volume_failed w) ∙ stops _ _ 29 f.gone)
       (λ alive is. never_after (part w) (rest w) (f.never alive) (λ x _. later alive x) (sym (cut w) ∙ is)) f.after)
 
 module _ {D : Type 0} (w : World) where
@@ -86,7 +86,7 @@ module _ {D : Type 0} (w : World) where
     pub refuses_on : (new : Opened D) (e : ℕ) → with_volume new w ≡ w → rest w x ≡ Err e → Stops (λ v. and_then (part v) (rest v)) w new e
     refuses_on new e same is = inl (record { is = goes_on _ _ x p.is ∙ is; same = same })
 
-    pub fails_on : (new : Opened D) → with_volume new w ≡ volume_gone w → rest w x ≢ Err 29 → Stops (λ v. and_then (part v) (rest v)) w new 29
+    pub fails_on : (new : Opened D) → with_volume new w ≡ with_volume_failed w → rest w x ≢ Err 29 → Stops (λ v. and_then (part v) (rest v)) w new 29
     fails_on new after never = inr (record {
       answer = refl;
       gone = stops _ _ 29 p.gone;
@@ -172,7 +172,7 @@ module _ {D : Type 0} (honest : D → Type 0) (disk : D → Disk) (sectors_on fa
       let working : v.failed ≡ false = sym (ap (λ (w : World). w.volume_failed) shown) ∙ alive in
       same_volume w [] v v' shown asked.kept.numbers (asked.tree h) (asked.kept.failed ∙ sym working)
 
-  pub asked_gone : (w : World) (v v' : Opened D) → w ≡ with_volume v w → honest v.device → Asked honest disk sectors_on failures v v' true → with_volume v' w ≡ volume_gone w
+  pub asked_gone : (w : World) (v v' : Opened D) → w ≡ with_volume v w → honest v.device → Asked honest disk sectors_on failures v v' true → with_volume v' w ≡ with_volume_failed w
   asked_gone w v v' shown h asked = gone w [] v v' shown asked.kept.numbers (asked.tree h) asked.kept.failed
 
 -- ---- a change after questions
@@ -186,7 +186,7 @@ unit_refused (Ok U) e h = cc
 unit_refused (Err d) e h = let same : d ≡ e = cc in ap Err same
 
 pub changing_err : {D : Type 0} (honest : D → Type 0) (sectors_on failures : D → ℕ) (w : World) (m : List ℕ) (run : World → Checked Done) (r : World → Result Tree Errno)
-    (v v' : Opened D) → w ≡ with_volume v w → run w ≡ changing r w → run (volume_gone w) ≡ Err 29 → r w ≢ Err errno.Io → (e : Errno)
+    (v v' : Opened D) → w ≡ with_volume v w → run w ≡ changing r w → run (with_volume_failed w) ≡ Err 29 → r w ≢ Err errno.Io → (e : Errno)
     → Keeps honest sectors_on failures v v' (is_io {X = Unit {0}} (Err e)) → v'.tree ≡ v.tree
     → (with_unit (r (with_volume v w)) ≡ Err e) ⊎ (e ≡ errno.Io) → Answered run w m (with_volume v' w) m (number_of e)
 changing_err honest sectors_on failures w m run r v v' shown same is_gone never e k tree meant =
@@ -211,10 +211,10 @@ is_file T serial h is = file_if (entry T serial) h is
 
 module _ {D : Type 0} (w : World) where
   -- a part that is the same in the world, and in it with its volume failed
-  pub passes_as : {X : Type 0} (p q : World → Checked X) (new : Opened D) (x : X) → p w ≡ q w → p (volume_gone w) ≡ q (volume_gone w) → Passes q w new x → Passes p w new x
+  pub passes_as : {X : Type 0} (p q : World → Checked X) (new : Opened D) (x : X) → p w ≡ q w → p (with_volume_failed w) ≡ q (with_volume_failed w) → Passes q w new x → Passes p w new x
   passes_as p q new x here there h = record { is = here ∙ h.is; gone = there ∙ h.gone; same = h.same; working = h.working }
 
-  pub stops_as : {X : Type 0} (p q : World → Checked X) (new : Opened D) (e : ℕ) → p w ≡ q w → p (volume_gone w) ≡ q (volume_gone w) → Stops q w new e → Stops p w new e
+  pub stops_as : {X : Type 0} (p q : World → Checked X) (new : Opened D) (e : ℕ) → p w ≡ q w → p (with_volume_failed w) ≡ q (with_volume_failed w) → Stops q w new e → Stops p w new e
   stops_as p q new e here there (inl r) = inl (record { is = here ∙ r.is; same = r.same })
   stops_as p q new e here there (inr f) = inr (record { answer = f.answer; gone = there ∙ f.gone; never = λ alive is. f.never alive (sym here ∙ is); after = f.after })
 
@@ -238,7 +238,7 @@ module _ {D : Type 0} (honest : D → Type 0) (disk : D → Disk) (sectors_on fa
       let alive : w.volume_failed ≡ false = ap (λ (w : World). w.volume_failed) shown ∙ working in
       record {
         is = ap (walk w o) (sym bytes) ∙ reaches.0 alive;
-        gone = ap (walk (volume_gone w) o) (sym bytes) ∙ reaches.1;
+        gone = ap (walk (with_volume_failed w) o) (sym bytes) ∙ reaches.1;
         same = same_volume w m old new shown works.kept.numbers (works.tree h) (works.kept.failed ∙ sym working);
         working = alive;
       }
@@ -248,7 +248,7 @@ module _ {D : Type 0} (honest : D → Type 0) (disk : D → Disk) (sectors_on fa
   walk_stops e (inr r) = elim (io_or ReachedValue e) [
     | inl (io, fails) ↦ inr (record {
       answer = ap number_of io;
-      gone = ap (walk (volume_gone w) o) (sym bytes) ∙ r.gone;
+      gone = ap (walk (with_volume_failed w) o) (sym bytes) ∙ r.gone;
       never = λ alive is. r.never alive (ap (walk w o) bytes ∙ is);
       after = gone w m old new shown r.kept.numbers r.tree (r.kept.failed ∙ fails);
     })

@@ -13,7 +13,7 @@ use Rattle.vol_tree.specs.Numbers.{number_of}
 use Rattle.vol_tree.specs.Opened.{Opened, Keeps, ReflectsOr, geometry, is_io}
 use Rattle.vol_tree.specs.Space.{Geometry}
 use Rattle.vol_tree.specs.Calls.{with_unit, created, if_it_fits, resized, directory_removed}
-use Rattle.wasi_calls.specs.World.{World, volume_gone}
+use Rattle.wasi_calls.specs.World.{World, with_volume_failed}
 use Rattle.wasi_calls.specs.Checks.{Checked, Done, put, guard, and_then, only_world, tree_call, numbered}
 use Rattle.wasi_calls.specs.Calls.{Answered, by_row, volume_fails}
 use Rattle.wasi_calls.specs.host.Worlds.{VolumeStep}
@@ -77,9 +77,9 @@ module _ {D : Type 0} (w : World) (m : List ℕ) where
   pub same_volume : (v v' : Opened D) → w ≡ with_volume v w → v'.numbers ≡ v.numbers → v'.tree ≡ v.tree → v'.failed ≡ v.failed → with_volume v' w ≡ w
   same_volume v v' shown numbers tree failed = (λ i. record w { volume = geometry (numbers i); tree = tree i; volume_failed = failed i }) ∙ sym shown
 
-  pub gone : (v v' : Opened D) → w ≡ with_volume v w → v'.numbers ≡ v.numbers → v'.tree ≡ v.tree → v'.failed ≡ true → with_volume v' w ≡ volume_gone w
+  pub gone : (v v' : Opened D) → w ≡ with_volume v w → v'.numbers ≡ v.numbers → v'.tree ≡ v.tree → v'.failed ≡ true → with_volume v' w ≡ with_volume_failed w
   gone v v' shown numbers tree failed =
-      (λ i. record w { volume = geometry (numbers i); tree = tree i; volume_failed = failed i }) ∙ ap volume_gone (sym shown)
+      (λ i. record w { volume = geometry (numbers i); tree = tree i; volume_failed = failed i }) ∙ ap with_volume_failed (sym shown)
 
   -- a check refused, before the volume was asked
   pub refused_first : (run : World → Checked Done) (v : Opened D) (e : ℕ) → w ≡ with_volume v w → run w ≡ Err e → Answered run w m (with_volume v w) m e
@@ -97,10 +97,10 @@ module _ {D : Type 0} (w : World) (m : List ℕ) where
 
   -- the volume failed, in the call or before it
   pub failed_by : (run : World → Checked Done) (v v' : Opened D) → w ≡ with_volume v w → v'.numbers ≡ v.numbers → v'.tree ≡ v.tree → v'.failed ≡ true
-      → run (volume_gone w) ≡ Err 29 → (w.volume_failed ≡ false → run w ≢ Err 29) → Answered run w m (with_volume v' w) m 29
+      → run (with_volume_failed w) ≡ Err 29 → (w.volume_failed ≡ false → run w ≢ Err 29) → Answered run w m (with_volume v' w) m 29
   failed_by run v v' shown numbers tree failed is only_so = elim (failed_or w.volume_failed) [
     | inl before ↦
-        let same : volume_gone w ≡ w = λ i. record w { volume_failed = sym before i } in
+        let same : with_volume_failed w ≡ w = λ i. record w { volume_failed = sym before i } in
         by_row (answers_refused (run w) w m (with_volume v' w) m 29 (ap run (sym same) ∙ is) (gone v v' shown numbers tree failed ∙ same) refl)
     | inr working ↦ volume_fails (record {
       reaches = record { refused = is; only_so = only_so working };
@@ -113,7 +113,7 @@ module _ {D : Type 0} (w : World) (m : List ℕ) where
   -- what the volume refused: by the row, or since it failed
   pub tree_refuses : (honest : D → Type 0) (sectors_on failures : D → ℕ) (X : Type 0) (run : World → Checked Done) (v v' : Opened D) (e : Errno)
       → Keeps honest sectors_on failures v v' (is_io {X = X} (Err e)) → w ≡ with_volume v w → v'.tree ≡ v.tree
-      → (w.volume_failed ≡ false → e ≢ errno.Io → run w ≡ Err (number_of e)) → run (volume_gone w) ≡ Err 29 → (w.volume_failed ≡ false → run w ≢ Err 29)
+      → (w.volume_failed ≡ false → e ≢ errno.Io → run w ≡ Err (number_of e)) → run (with_volume_failed w) ≡ Err 29 → (w.volume_failed ≡ false → run w ≢ Err 29)
       → Answered run w m (with_volume v' w) m (number_of e)
   tree_refuses honest sectors_on failures X run v v' e k shown tree by_tree is only_so = elim (io_or X e) [
     | inl (io, fails) ↦
@@ -145,7 +145,7 @@ numbered_io (Err e) never = elim (io_or (Unit {0}) e) [
 pub tree_called_alive : {X : Type 0} (w : World) (r : Result X Errno) → w.volume_failed ≡ false → tree_call w r ≡ numbered r
 tree_called_alive w r alive = goes_on _ _ tt (guard_passes _ 29 (ap not alive))
 
-pub tree_called_gone : {X : Type 0} (w : World) (r : Result X Errno) → tree_call (volume_gone w) r ≡ Err 29
+pub tree_called_gone : {X : Type 0} (w : World) (r : Result X Errno) → tree_call (with_volume_failed w) r ≡ Err 29
 tree_called_gone w r = stops _ _ 29 (guard_fails _ 29 refl)
 
 -- the tree that the call gives, and nothing else changed
@@ -165,7 +165,7 @@ module _ {D : Type 0} (honest : D → Type 0) (sectors_on failures : D → ℕ) 
       ∙ λ i. record w { volume = (sym shown i).volume; tree = v'.tree; volume_failed = (sym shown i).volume_failed })
       refl
 
-  pub changed_err : run (volume_gone w) ≡ changing r (volume_gone w) → r w ≢ Err errno.Io → (e : Errno) → Keeps honest sectors_on failures v v' (is_io {X = Unit {0}} (Err e)) → v'.tree ≡ v.tree
+  pub changed_err : run (with_volume_failed w) ≡ changing r (with_volume_failed w) → r w ≢ Err errno.Io → (e : Errno) → Keeps honest sectors_on failures v v' (is_io {X = Unit {0}} (Err e)) → v'.tree ≡ v.tree
       → (with_unit (r (with_volume v w)) ≡ Err e) ⊎ (e ≡ errno.Io) → Answered run w m (with_volume v' w) m (number_of e)
   changed_err same_gone never e k tree meant =
       tree_refuses w m honest sectors_on failures (Unit {0}) run v v' e k shown tree
@@ -173,7 +173,7 @@ module _ {D : Type 0} (honest : D → Type 0) (sectors_on failures : D → ℕ) 
         | inl is ↦ same ∙ stops _ _ (number_of e) (tree_called_alive w (r w) alive ∙ ap numbered (ap r shown ∙ unit_err _ e is))
         | inr io ↦ absurd (other io)
       ])
-      (same_gone ∙ stops _ _ 29 (tree_called_gone w (r (volume_gone w))))
+      (same_gone ∙ stops _ _ 29 (tree_called_gone w (r (with_volume_failed w))))
       (λ alive. λ is. never_after (tree_call w (r w)) (λ T. Ok (only_world (record w { tree = T })))
       (λ h. numbered_io (r w) never (sym (tree_called_alive w (r w) alive) ∙ h)) (λ T _ h. cc) (sym same ∙ is))
 
@@ -234,7 +234,7 @@ module _ {D : Type 0} (honest : D → Type 0) (sectors_on failures : D → ℕ) 
       ∙ λ i. record w { volume = (sym shown i).volume; tree = v'.tree; volume_failed = (sym shown i).volume_failed })
       refl
 
-  pub made_err : run (volume_gone w) ≡ Err 29 → r w ≢ Err errno.Io → (e : Errno) → Keeps honest sectors_on failures v v' (is_io {X = ℕ} (Err e)) → v'.tree ≡ v.tree
+  pub made_err : run (with_volume_failed w) ≡ Err 29 → r w ≢ Err errno.Io → (e : Errno) → Keeps honest sectors_on failures v v' (is_io {X = ℕ} (Err e)) → v'.tree ≡ v.tree
       → (r (with_volume v w) ≡ Err e) ⊎ (e ≡ errno.Io) → Answered run w m (with_volume v' w) m (number_of e)
   made_err gone never e k tree meant =
       tree_refuses w m honest sectors_on failures ℕ run v v' e k shown tree

@@ -3,7 +3,7 @@ use Rattle.std.proofs.Common.{◌≡◌, ℕ, ◌+◌, ◌≤◌, ◌++◌, List
 use Rattle.std.proofs.Math.Seq.{take-append_seam}
 use Rattle.wasi_fd.specs.declared.descriptor.Stream.{Stream as StreamValue}
 use Rattle.wasi_fd.specs.declared.descriptor.Stream.TheVariants.{Input, Output, Error}
-use Rattle.wasi_calls.specs.World.{World, volume_gone, stream_gone}
+use Rattle.wasi_calls.specs.World.{World, with_volume_failed, with_stream_failed}
 use Rattle.wasi_calls.specs.Checks.{Checked, Done, Buffer, and_then, buffers, range, Refusals, get, of_kind, has, descriptor}
 use Rattle.wasi_fd.specs.declared.descriptor.Descriptor.{Descriptor}
 use Rattle.wasi_calls.proofs.checks.Chains.{bound, passed}
@@ -19,7 +19,7 @@ module _ (run r : World → Checked Done) (w : World) (same : (v : World) → v.
 
   fails_so : (m : List ℕ) (w' : World) (m' : List ℕ) (e : ℕ) → VolumeFails r w m w' m' e → VolumeFails run w m w' m' e
   fails_so m w' m' e f = record {
-    reaches = reaches_so (volume_gone w) refl refl f.reaches;
+    reaches = reaches_so (with_volume_failed w) refl refl f.reaches;
     answer = f.answer;
     after = f.after;
     bytes = subst (λ (x : Checked Done). IsMixed m (filled x m) m') (sym (same w refl refl)) f.bytes;
@@ -27,7 +27,7 @@ module _ (run r : World → Checked Done) (w : World) (same : (v : World) → v.
 
   input_so : (m : List ℕ) (w' : World) (m' : List ℕ) (e : ℕ) → InputFails r w m w' m' e → InputFails run w m w' m' e
   input_so m w' m' e f = record {
-    reaches = reaches_so (stream_gone Input w) refl refl f.reaches;
+    reaches = reaches_so (with_stream_failed Input w) refl refl f.reaches;
     goes_on = f.goes_on;
     answer = f.answer;
     count = f.count;
@@ -36,13 +36,13 @@ module _ (run r : World → Checked Done) (w : World) (same : (v : World) → v.
     bytes = f.bytes ∙ ap (λ (x : Checked Done). filled x m) (sym (same (record w { input = take f.count w.input }) refl refl));
   }
 
-  output_so : (s : StreamValue) → (stream_gone s w).table ≡ w.table → (stream_gone s w).tree ≡ w.tree → (m : List ℕ) (w' : World) (m' : List ℕ) (e : ℕ) → OutputFails s r w m w' m' e → OutputFails s run w m w' m' e
+  output_so : (s : StreamValue) → (with_stream_failed s w).table ≡ w.table → (with_stream_failed s w).tree ≡ w.tree → (m : List ℕ) (w' : World) (m' : List ℕ) (e : ℕ) → OutputFails s r w m w' m' e → OutputFails s run w m w' m' e
   output_so s table tree m w' m' e f = record {
-    reaches = reaches_so (stream_gone s w) table tree f.reaches;
+    reaches = reaches_so (with_stream_failed s w) table tree f.reaches;
     answer = f.answer;
     count = f.count;
     at_least = f.at_least;
-    after = f.after ∙ ap (λ (x : Checked Done). stream_gone s (with_all s w (take f.count (output_after s x w)))) (sym (same w refl refl));
+    after = f.after ∙ ap (λ (x : Checked Done). with_stream_failed s (with_all s w (take f.count (output_after s x w)))) (sym (same w refl refl));
     bytes = f.bytes;
   }
 

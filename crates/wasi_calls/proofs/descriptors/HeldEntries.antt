@@ -7,7 +7,8 @@ use Rattle.wasi_fd.specs.declared.descriptor.Descriptor.{Descriptor}
 use Rattle.wasi_fd.specs.declared.descriptor.Descriptor.TheVariants.{Stream, Entry}
 use Rattle.wasi_fd.specs.declared.table.Descriptors.{Descriptors}
 use Rattle.wasi_fd.specs.Table.{Table, table_of, IsOf}
-use Rattle.wasi_calls.specs.World.{World, places, is_of, holds_below, held_open}
+use Rattle.wasi_calls.specs.World.{World, is_of, holds_below, held_open}
+use Rattle.wasi_fd.specs.declared.table.TheConstants.{PLACES}
 
 is_of_if : (serial : ℕ) (d : Option Descriptor) → is_of serial d ≡ true → IsOf serial d
 is_of_if serial None h = absurd (false≢true h)
@@ -34,21 +35,20 @@ holds_one (suc n) serial table k low h = elim (cases_eq k n) [
 ]
 
 -- only the numbers of places are open
-few : (d : Descriptors) (serial k : ℕ) → IsOf serial (table_of d k) → k < 256
-few d serial k h = elim (cases_lt k 256) [
+few : (d : Descriptors) (serial k : ℕ) → IsOf serial (table_of d k) → k < PLACES
+few d serial k h = elim (cases_lt k PLACES) [
   | inl below ↦ below
   | inr past ↦
-      let size : vec_len d.places ≡ 256 = d.size in
+      let size : vec_len d.places ≡ PLACES = d.size in
       let none : table_of d k ≡ None = get_or_past d.places.items k None (omega (arith, d.places.ok.0, size)) in
       absurd (subst (IsOf serial) none h)
 ]
 
-held_if : (d : Descriptors) (serial : ℕ) → ((n : ℕ) × IsOf serial (table_of d n)) → holds_below places serial (table_of d) ≡ true
-unfolding places
-held_if d serial h = holds_one 256 serial (table_of d) h.0 (few d serial h.0 h.1) h.1
+held_if : (d : Descriptors) (serial : ℕ) → ((n : ℕ) × IsOf serial (table_of d n)) → holds_below PLACES serial (table_of d) ≡ true
+held_if d serial h = holds_one PLACES serial (table_of d) h.0 (few d serial h.0 h.1) h.1
 
 pub held_as : (d : Descriptors) (serial : ℕ) (b : Bool) → (IsTrue b ↔ ((n : ℕ) × IsOf serial (table_of d n))) → (w : World) → w.table ≡ table_of d → b ≡ held_open w serial
 held_as d serial b h w table = elim (cases_Bool b) [
-  | inl held ↦ held ∙ sym (ap (holds_below places serial) table ∙ held_if d serial (h.0 held))
-  | inr free ↦ free ∙ sym (ap (holds_below places serial) table ∙ false_from_ne_true _ (λ held. false≢true (sym free ∙ h.1 (has_one places serial (table_of d) held))))
+  | inl held ↦ held ∙ sym (ap (holds_below PLACES serial) table ∙ held_if d serial (h.0 held))
+  | inr free ↦ free ∙ sym (ap (holds_below PLACES serial) table ∙ false_from_ne_true _ (λ held. false≢true (sym free ∙ h.1 (has_one PLACES serial (table_of d) held))))
 ]

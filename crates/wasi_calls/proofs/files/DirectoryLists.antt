@@ -14,7 +14,7 @@ use Rattle.vol_tree.specs.Calls.{next_child}
 use Rattle.vol_tree.specs.Opened.{Opened, TellsBytes}
 use Rattle.wasm_store.specs.Bytes.{written}
 use Rattle.wasi_fd.specs.declared.descriptor.Opened.{Opened as OpenedEntry}
-use Rattle.wasi_calls.specs.World.{World, volume_gone}
+use Rattle.wasi_calls.specs.World.{World, with_volume_failed}
 use Rattle.wasi_calls.specs.Checks.{Checked, Done, and_then, range, entry_at, only_directories, tree_call}
 use Rattle.wasi_calls.specs.files.Rows.{dirent, dirents, type_of_node, fd_readdir}
 use Rattle.wasi_calls.specs.Calls.{IsMixed, filled, Answered, by_row, volume_fails}
@@ -266,15 +266,15 @@ module _ {D : Type 0} (honest : D → Type 0) (disk : D → Disk) (sectors_on fa
       let alive : w.volume_failed ≡ false = ap (λ (w : World). w.volume_failed) shown ∙ working in
       done_by w m (λ v. list_row v m a) new m' (listed w a all) (row_is alive) (asked_same honest disk sectors_on failures w old new shown alive h asked) bytes
 
-  pub list_fails : Asked honest disk sectors_on failures old new true → listable (volume_gone w) m a ≡ Ok o → (m' : List ℕ) → a.buffer + a.len ≤ length m
+  pub list_fails : Asked honest disk sectors_on failures old new true → listable (with_volume_failed w) m a ≡ Ok o → (m' : List ℕ) → a.buffer + a.len ≤ length m
       → (old.failed ≡ true → m' ≡ m) → IsBegun m a.buffer (take a.len all) m' → Answered (λ v. list_row v m a) w m (with_volume new w) m' 29
   list_fails asked there m' inside idle begun =
       let run : World → Checked Done = λ v. list_row v m a in
-      let after : with_volume new w ≡ volume_gone w = asked_gone honest disk sectors_on failures w old new shown h asked in
-      let is : run (volume_gone w) ≡ Err 29 = row_of_list (volume_gone w) m a ∙ (goes_on _ _ o there ∙ stops _ _ 29 (tree_called_gone w (Ok all))) in
+      let after : with_volume new w ≡ with_volume_failed w = asked_gone honest disk sectors_on failures w old new shown h asked in
+      let is : run (with_volume_failed w) ≡ Err 29 = row_of_list (with_volume_failed w) m a ∙ (goes_on _ _ o there ∙ stops _ _ 29 (tree_called_gone w (Ok all))) in
       elim (either w.volume_failed) [
         | inl before ↦
-            let same : volume_gone w ≡ w = λ i. record w { volume_failed = sym before i } in
+            let same : with_volume_failed w ≡ w = λ i. record w { volume_failed = sym before i } in
             by_row (answers_refused (run w) w m (with_volume new w) m' 29 (ap run (sym same) ∙ is) (after ∙ same) (idle (sym (ap (λ (w : World). w.volume_failed) shown) ∙ before)))
         | inr working ↦
             let most = length-take a.len all in

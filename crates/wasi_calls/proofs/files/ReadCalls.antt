@@ -4,7 +4,7 @@ use Rattle.vol_sector.specs.Disk.{Disk}
 use Rattle.vol_tree.specs.Opened.{Opened}
 use Rattle.byteorder.specs.Endian.{little_bytes}
 use Rattle.wasi_fd.specs.declared.descriptor.Opened.{Opened as Opened'}
-use Rattle.wasi_calls.specs.World.{World, volume_gone, with_descriptor, moved_to}
+use Rattle.wasi_calls.specs.World.{World, with_volume_failed, with_descriptor, moved_to}
 use Rattle.wasi_calls.specs.Checks.{Checked, Done, Buffer, and_then, put, tree_call, scattered}
 use Rattle.wasi_calls.specs.Calls.{Answered, IsMixed, filled, by_row, volume_fails}
 use Rattle.wasi_calls.specs.internal.Bodies.{with_volume}
@@ -26,8 +26,8 @@ module _ {D : Type 0} (honest : D → Type 0) (disk : D → Disk) (sectors_on fa
   row_told : w.volume_failed ≡ false → run w ≡ Ok (k w (bytes w))
   row_told alive = same w ∙ goes_on _ _ (bytes w) (tree_called_alive w (Ok (bytes w)) alive)
 
-  row_gone : run (volume_gone w) ≡ Err 29
-  row_gone = same (volume_gone w) ∙ stops _ _ 29 (tree_called_gone w (Ok (bytes (volume_gone w))))
+  row_gone : run (with_volume_failed w) ≡ Err 29
+  row_gone = same (with_volume_failed w) ∙ stops _ _ 29 (tree_called_gone w (Ok (bytes (with_volume_failed w))))
 
   -- the bytes are told
   pub told_bytes : Asked honest disk sectors_on failures old new false → (w' : World) (m' : List ℕ) → w' ≡ (k w (bytes w)).world → m' ≡ put (put m (k w (bytes w)).fills) (k w (bytes w)).results
@@ -41,10 +41,10 @@ module _ {D : Type 0} (honest : D → Type 0) (disk : D → Disk) (sectors_on fa
   pub broke_off : honest old.device → Asked honest disk sectors_on failures old new true → (m' : List ℕ) → (old.failed ≡ true → m' ≡ m) → IsMixed m (put m (k w (bytes w)).fills) m'
       → Answered run w m (with_volume new w) m' 29
   broke_off h asked m' idle mixed =
-      let after : with_volume new w ≡ volume_gone w = asked_gone honest disk sectors_on failures w old new shown h asked in
+      let after : with_volume new w ≡ with_volume_failed w = asked_gone honest disk sectors_on failures w old new shown h asked in
       elim (either w.volume_failed) [
         | inl before ↦
-            let same_w : volume_gone w ≡ w = λ i. record w { volume_failed = sym before i } in
+            let same_w : with_volume_failed w ≡ w = λ i. record w { volume_failed = sym before i } in
             by_row (answers_refused (run w) w m (with_volume new w) m' 29 (ap run (sym same_w) ∙ row_gone) (after ∙ same_w) (idle (sym (ap (λ (w : World). w.volume_failed) shown) ∙ before)))
         | inr alive ↦ volume_fails (record {
           reaches = record { refused = row_gone; only_so = is_no_err (run w) (k w (bytes w)) 29 (row_told alive) };

@@ -19,7 +19,7 @@ use Rattle.vol_body.specs.Bytes.{written_bytes}
 use Rattle.vol_body.proofs.Written.{length-written}
 use Rattle.vol_body.specs.declared.writing.TheConstants.{PIECE}
 use Rattle.vol_tree.specs.Calls.{with_unit, written, bytes_at}
-use Rattle.wasi_calls.specs.World.{World, volume_gone, with_descriptor, moved_to}
+use Rattle.wasi_calls.specs.World.{World, with_volume_failed, with_descriptor, moved_to}
 use Rattle.wasi_calls.specs.Checks.{Checked, Done, and_then, put, tree_call, numbered, with_result}
 use Rattle.wasi_calls.specs.Calls.{Answered, by_row}
 use Rattle.wasi_calls.specs.internal.Bodies.{with_volume}
@@ -67,7 +67,7 @@ module _ {D : Type 0} (honest : D → Type 0) (sectors_on failures : D → ℕ) 
         | inl is ↦ same w ∙ stops _ _ (number_of e) (tree_called_alive w (r w) alive ∙ ap numbered (ap r shown ∙ is))
         | inr io ↦ absurd (other io)
       ])
-      (same (volume_gone w) ∙ stops _ _ 29 (tree_called_gone w (r (volume_gone w))))
+      (same (with_volume_failed w) ∙ stops _ _ 29 (tree_called_gone w (r (with_volume_failed w))))
       (λ alive is. never_after (tree_call w (r w)) (λ T. Ok (k w T))
       (λ h. numbered_io (r w) never (sym (tree_called_alive w (r w) alive) ∙ h)) (λ T _ h. cc) (sym (same w) ∙ is))
 

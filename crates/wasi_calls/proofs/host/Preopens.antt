@@ -29,6 +29,8 @@ use Rattle.wasi_calls.specs.internal.host.Preopening.{fault_as, FindsOrFails, Fi
 use Rattle.wasi_calls.specs.internal.Bodies.{IsThere, KnowsEntries, is_directory_kind}
 use Rattle.wasi_calls.proofs.OpenEntries.{no_entries}
 use Rattle.wasi_calls.proofs.checks.Passing.{same_entry}
+use Rattle.wasi_fd.specs.declared.table.TheConstants.{PLACES}
+use Rattle.wasi_calls.specs.declared.host.settings.TheConstants.{MOST_PREOPENS}
 
 module _ {D : Type 0} (honest : D → Type 0) (disk : D → Disk) (sectors_on failures : D → ℕ) where
   pub reads_then : (a b c : Opened D) (io : Bool) → Asked honest disk sectors_on failures a b false → Asked honest disk sectors_on failures b c io → Asked honest disk sectors_on failures a c io
@@ -258,8 +260,8 @@ open_below ps serials i p table inside opens k below none =
     ]
 
 -- one more is opened
-pub open_more : (ps : List PreopenValue) (serials : List ℕ) (i : ℕ) (p : PreopenValue) (old new : Table) → i < 64 → slice_get ps i ≡ Some p → AreOpen ps serials i old
-    → ((n : ℕ) → n < 256 → old n ≡ None → ((k : ℕ) → k < n → old k ≢ None) → (k : ℕ) → new k ≡ with_at n (Some (preopened p (get_or serials i 0))) old k)
+pub open_more : (ps : List PreopenValue) (serials : List ℕ) (i : ℕ) (p : PreopenValue) (old new : Table) → i < MOST_PREOPENS → slice_get ps i ≡ Some p → AreOpen ps serials i old
+    → ((n : ℕ) → n < PLACES → old n ≡ None → ((k : ℕ) → k < n → old k ≢ None) → (k : ℕ) → new k ≡ with_at n (Some (preopened p (get_or serials i 0))) old k)
     → AreOpen ps serials (i + 1) new
 open_more ps serials i p old new few at before opens n =
     let inside : i < length ps = slice_get_within ps i p at in

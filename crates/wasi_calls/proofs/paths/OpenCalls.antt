@@ -22,7 +22,7 @@ use Rattle.wasi_fd.specs.declared.descriptor.Descriptor.{Descriptor}
 use Rattle.wasi_fd.specs.declared.descriptor.Descriptor.TheVariants as descriptors
 use Rattle.wasi_fd.specs.declared.descriptor.Opened.{Opened}
 use Rattle.wasi_fd.specs.Table.{Table, with_at}
-use Rattle.wasi_calls.specs.World.{World, places, least_closed, with_descriptor}
+use Rattle.wasi_calls.specs.World.{World, least_closed, with_descriptor}
 use Rattle.wasi_calls.specs.Checks.{Checked, Done, and_then, guard, tree_call, numbered, with_result}
 use Rattle.wasi_calls.specs.paths.Rows.{path_open, path_at, open_checks, open_entry, new_number, is_set, trunc, creat, excl, new_descriptor}
 use Rattle.byteorder.specs.Endian.{little_bytes}
@@ -36,6 +36,7 @@ use Rattle.wasi_calls.proofs.checks.Chains.{goes_on, stops}
 use Rattle.wasi_calls.proofs.checks.Passing.{passes_on}
 use Rattle.wasi_calls.proofs.bodies.VolumeCalls.{never_after, never_guard, numbered_io, tree_called_alive, resized_never, created_never}
 use Rattle.wasi_calls.proofs.bodies.AskingCalls.{and_then_assoc, ok_then, refuses_on, fails_on}
+use Rattle.wasi_fd.specs.declared.table.TheConstants.{PLACES}
 
 -- ---- no check answers 29
 
@@ -61,7 +62,7 @@ number_if None = λ is. let same : ◌≡◌ {A = ℕ} 33 29 = cc in absurd (ome
 number_if (Some n) = λ is. cc
 
 number_never : (w : World) → new_number w ≢ Err 29
-number_never w = number_if (least_closed places 0 w.table)
+number_never w = number_if (least_closed PLACES 0 w.table)
 
 -- the part from the walk on
 abbrev pub after_walk : World → OpenCall → List ℕ → Opened → Reached → Checked (Opened × Reached × ℕ)
@@ -126,29 +127,26 @@ least_is (suc count) n k t low high free below = elim (cases_eq k n) [
 ]
 
 abbrev pub IsFull : Table → Type 0
-IsFull t = (k : ℕ) → k < 256 → t k ≢ None
+IsFull t = (k : ℕ) → k < PLACES → t k ≢ None
 
 pub no_number : (w : World) (t : Table) → w.table ≡ t → IsFull t → new_number w ≡ Err 33
-unfolding places
-no_number w t table full = ap (λ (t : Table). ok_or (least_closed 256 0 t) 33) table ∙ ap (λ (o : Option ℕ). ok_or o 33) (none_closed 256 0 t (λ k _ high. full k (omega arith)))
+no_number w t table full = ap (λ (t : Table). ok_or (least_closed PLACES 0 t) 33) table ∙ ap (λ (o : Option ℕ). ok_or o 33) (none_closed PLACES 0 t (λ k _ high. full k (omega arith)))
 
-number_from : (w : World) (o : Option ℕ) → least_closed places 0 w.table ≡ o → (o ≡ None → ⊥) → (n : ℕ) × (new_number w ≡ Ok n)
+number_from : (w : World) (o : Option ℕ) → least_closed PLACES 0 w.table ≡ o → (o ≡ None → ⊥) → (n : ℕ) × (new_number w ≡ Ok n)
 number_from w None is some = absurd (some refl)
 number_from w (Some n) is some = (n, ap (λ (o : Option ℕ). ok_or o 33) is)
 
 pub some_number : (w : World) (t : Table) → w.table ≡ t → (IsFull t → ⊥) → (n : ℕ) × (new_number w ≡ Ok n)
-unfolding places
 some_number w t table open_ =
-    number_from w (least_closed 256 0 w.table) refl
-    (λ is. open_ (λ k low. all_open 256 0 t (sym (ap (least_closed 256 0) table) ∙ is) k (omega arith) (omega arith)))
+    number_from w (least_closed PLACES 0 w.table) refl
+    (λ is. open_ (λ k low. all_open PLACES 0 t (sym (ap (least_closed PLACES 0) table) ∙ is) k (omega arith) (omega arith)))
 
 ok_is : (n k : ℕ) → ◌≡◌ {A = Checked ℕ} (Ok n) (Ok k) → n ≡ k
 ok_is n k is = cc
 
-pub same_number : (w : World) (t : Table) (n k : ℕ) → w.table ≡ t → new_number w ≡ Ok n → k < 256 → t k ≡ None → ((j : ℕ) → j < k → t j ≢ None) → k ≡ n
-unfolding places
+pub same_number : (w : World) (t : Table) (n k : ℕ) → w.table ≡ t → new_number w ≡ Ok n → k < PLACES → t k ≡ None → ((j : ℕ) → j < k → t j ≢ None) → k ≡ n
 same_number w t n k table is low free below =
-    ok_is k n (sym (ap (λ (t : Table). ok_or (least_closed 256 0 t) 33) table ∙ ap (λ (o : Option ℕ). ok_or o 33) (least_is 256 0 k t (omega arith) (omega arith) free (λ j _ high. below j high))) ∙ is)
+    ok_is k n (sym (ap (λ (t : Table). ok_or (least_closed PLACES 0 t) 33) table ∙ ap (λ (o : Option ℕ). ok_or o 33) (least_is PLACES 0 k t (omega arith) (omega arith) free (λ j _ high. below j high))) ∙ is)
 
 err_ok : (n e : ℕ) → ◌≡◌ {A = Checked ℕ} (Ok n) (Err e) → ⊥
 err_ok n e is = cc

@@ -15,7 +15,7 @@ use Rattle.path_walk.proofs.Walks.{missing_free}
 use Rattle.path_walk.specs.Walk.{GivesOrIo}
 use Rattle.path_walk.specs.Paths.{Reached, Found, Missing, path_read, wants_directory, stays_inside, resolved, walked, as_wanted, missing, dots, ◌>>=◌}
 use Rattle.wasi_fd.specs.declared.descriptor.Opened.{Opened as OpenedEntry}
-use Rattle.wasi_calls.specs.World.{World, volume_gone}
+use Rattle.wasi_calls.specs.World.{World, with_volume_failed}
 use Rattle.wasi_calls.specs.Checks.{Checked, guard, numbered, walk, found}
 use Rattle.wasi_calls.specs.paths.Rows as rows
 use Rattle.wasi_calls.specs.host.Worlds.{VolumeStep}
@@ -89,7 +89,7 @@ module _ (w : World) (o : OpenedEntry) (text : List ℕ) (names : List Name) (re
   by_walk : stays_inside 0 names ≡ true → w.volume_failed ≡ false → walk w o text ≡ numbered (resolved w.tree o.serial (wants_directory text) names)
   by_walk inside alive = goes_on _ _ names (ap numbered read) ∙ (goes_on _ _ tt (guard_passes _ 76 inside) ∙ goes_on _ _ tt (guard_passes _ 29 (ap not alive)))
 
-  by_gone : stays_inside 0 names ≡ true → walk (volume_gone w) o text ≡ Err 29
+  by_gone : stays_inside 0 names ≡ true → walk (with_volume_failed w) o text ≡ Err 29
   by_gone inside = goes_on _ _ names (ap numbered read) ∙ (goes_on _ _ tt (guard_passes _ 76 inside) ∙ stops _ _ 29 (guard_fails _ 29 refl))
 
 module _ {D : Type 0} (honest : D → Type 0) (disk : D → Disk) (sectors_on failures : D → ℕ) where

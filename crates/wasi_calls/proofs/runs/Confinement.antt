@@ -19,13 +19,14 @@ use Rattle.wasi_fd.specs.declared.descriptor.Descriptor.{Descriptor}
 use Rattle.wasi_fd.specs.declared.descriptor.Descriptor.TheVariants.{Stream, Entry}
 use Rattle.wasi_fd.specs.declared.descriptor.Opened.{Opened}
 use Rattle.wasi_fd.specs.Table.{Table}
-use Rattle.wasi_calls.specs.World.{World, places}
+use Rattle.wasi_calls.specs.World.{World}
 use Rattle.wasi_calls.specs.Checks.{Checked, Done}
 use Rattle.wasi_calls.specs.Calls.{row, Calls, Answers, Answered, by_row, volume_fails, input_fails, output_fails, errors_fail}
 use Rattle.wasi_calls.specs.laws.Confined.{Tops, IsOutside, IsWithin, StandsWithin, walk_end, IsConfined, named_by, HasOnlyDirectoriesOpen, Confines, IsHostOf, ConfinesHost}
 use Rattle.wasi_calls.proofs.checks.Chains.{Yields, known}
 use Rattle.wasi_calls.proofs.runs.HeldAlongRuns.{is_directory_kind, Holds, below_not_root, outside_above}
 use Rattle.wasi_calls.proofs.runs.ReachedEntries.{IsFound, found_from}
+use Rattle.wasi_fd.specs.declared.table.TheConstants.{PLACES}
 use Rattle.wasi_calls.proofs.runs.RowsKeep.{row_keeps}
 
 -- ---- which entries are open can be decided
@@ -214,7 +215,7 @@ module _ (w : World) (begins : HasOnlyDirectoriesOpen w) where
   directories_first top is = subst (IsDirectory w.tree) is.3 (begins.directories is.0 is.1 is.2).0
 
   decided : (s : ℕ) → named_by w.table s ⊎ (named_by w.table s → ⊥)
-  decided s = elim (opens w.table s places) [
+  decided s = elim (opens w.table s PLACES) [
     | inl is ↦ inl is
     | inr none ↦ inr (λ is. none is.0 is.1 (begins.few is.0 is.1 is.2) is.2 is.3)
   ]

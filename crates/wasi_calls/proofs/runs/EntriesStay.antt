@@ -5,7 +5,7 @@ use Rattle.wasm_store.specs.declared.call.HostCall.{HostCall}
 use Rattle.wasi_fd.specs.declared.descriptor.Descriptor.TheVariants.{Entry}
 use Rattle.wasi_fd.specs.declared.descriptor.Opened.{Opened}
 use Rattle.wasi_fd.specs.Table.{Table, table_of}
-use Rattle.wasi_calls.specs.World.{World, places}
+use Rattle.wasi_calls.specs.World.{World}
 use Rattle.wasi_calls.specs.Calls.{row, Answered}
 use Rattle.wasi_calls.specs.laws.Confined.{Tops, IsOutside}
 use Rattle.wasi_calls.specs.internal.Bodies.{AreThere}
@@ -19,6 +19,7 @@ use Rattle.std.proofs.lemmas.Bool.{false≢true, ltb-true, ltb-false}
 use Rattle.std.proofs.lemmas.List.{get_or_past}
 use Rattle.std.proofs.lemmas.Option.{none-some}
 use Rattle.wasi_fd.specs.declared.table.Descriptors.{Descriptors}
+use Rattle.wasi_fd.specs.declared.table.TheConstants.{PLACES}
 
 -- where all directories are open at first, nothing is outside
 module _ (T : Tree) (tree : IsTree T) where
@@ -31,7 +32,7 @@ module _ (T : Tree) (tree : IsTree T) where
       let at = tree.reached s (ap is_some out.used) in
       out.below_none 1 at.0 (root, tree.top, refl) at.1
 
-  few_hold : (table : Table) → ((fd : ℕ) (o : Opened) → table fd ≡ Some (Entry o) → fd < places) → AreThere T table → Holds T all T table
+  few_hold : (table : Table) → ((fd : ℕ) (o : Opened) → table fd ≡ Some (Entry o) → fd < PLACES) → AreThere T table → Holds T all T table
   few_hold table few there = record {
     tree = tree;
     same = λ s out. refl;
@@ -55,7 +56,7 @@ module _ (T : Tree) (tree : IsTree T) where
       by_kind false is = inr (λ d. false≢true (sym is ∙ (ap (λ (o : Option TreeEntry). option_map_or (λ (e : TreeEntry). is_directory e.node) o false) d.1 ∙ ap is_directory d.2)))
 
   -- a call's answer keeps them
-  pub still_there : (c : HostCall) (w w' : World) (m m' : List ℕ) (used : ℕ) (args : List ℕ) (errno : ℕ) → w.tree ≡ T → ((fd : ℕ) (o : Opened) → w.table fd ≡ Some (Entry o) → fd < places)
+  pub still_there : (c : HostCall) (w w' : World) (m m' : List ℕ) (used : ℕ) (args : List ℕ) (errno : ℕ) → w.tree ≡ T → ((fd : ℕ) (o : Opened) → w.table fd ≡ Some (Entry o) → fd < PLACES)
       → AreThere T w.table → Answered (λ v. row c v m used args) w m w' m' errno → AreThere w'.tree w'.table
   unfolding all
   still_there c w w' m m' used args errno same few there answered =
@@ -64,12 +65,11 @@ module _ (T : Tree) (tree : IsTree T) where
       λ fd o at. let good = last.named fd o at in record { e = good.e; used = good.used; kind = good.kind }
 
 -- only numbers of places are open
-pub few_open : (d : Descriptors) (fd : ℕ) (o : Opened) → table_of d fd ≡ Some (Entry o) → fd < places
-unfolding places
-few_open d fd o at = by_low (nat_lt fd 256) refl
+pub few_open : (d : Descriptors) (fd : ℕ) (o : Opened) → table_of d fd ≡ Some (Entry o) → fd < PLACES
+few_open d fd o at = by_low (nat_lt fd PLACES) refl
   where
-    by_low : (b : Bool) → nat_lt fd 256 ≡ b → fd < 256
-    by_low true low = ltb-true fd 256 low
+    by_low : (b : Bool) → nat_lt fd PLACES ≡ b → fd < PLACES
+    by_low true low = ltb-true fd PLACES low
     by_low false high =
-        let size : vec_len d.places ≡ 256 = d.size in
-        absurd (none-some (Entry o) (sym (get_or_past d.places.items fd None (omega (arith, ltb-false fd 256 high, size))) ∙ at))
+        let size : vec_len d.places ≡ PLACES = d.size in
+        absurd (none-some (Entry o) (sym (get_or_past d.places.items fd None (omega (arith, ltb-false fd PLACES high, size))) ∙ at))

@@ -12,14 +12,14 @@ use Rattle.wasi_fd.specs.declared.descriptor.Descriptor.{Descriptor}
 use Rattle.wasi_fd.specs.declared.descriptor.Descriptor.TheVariants.{Entry}
 use Rattle.wasi_fd.specs.declared.descriptor.Opened.{Opened}
 use Rattle.wasi_fd.specs.Table.{Table, with_at}
-use Rattle.wasi_calls.specs.World.{places}
 use Rattle.wasi_calls.specs.laws.Confined.{Tops, IsOutside}
+use Rattle.wasi_fd.specs.declared.table.TheConstants.{PLACES}
 use Rattle.vol_tree.proofs.Trees.{Childless, without_is_tree, rewritten_is_tree, moved_is_tree}
 pub use Rattle.wasi_calls.specs.internal.Bodies.{is_directory_kind}
 
 -- A descriptor's entry is there, is what the descriptor says, and is not outside.
 pub record IsGood (T0 : Tree) (tops : Tops) (T : Tree) (fd : ℕ) (o : Opened) : Type 0 where
-  pub few : fd < places
+  pub few : fd < PLACES
   pub e : TreeEntry
   pub used : entry T o.serial ≡ Some e
   pub kind : is_directory e.node ≡ is_directory_kind o.kind

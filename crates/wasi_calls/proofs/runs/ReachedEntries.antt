@@ -20,11 +20,12 @@ use Rattle.path_walk.proofs.Walks.{walks_below, missing_below, missing_free}
 use Rattle.path_walk.proofs.Names.{read_names}
 use Rattle.wasi_fd.specs.declared.descriptor.Descriptor.TheVariants.{Entry}
 use Rattle.wasi_fd.specs.declared.descriptor.Opened.{Opened}
-use Rattle.wasi_calls.specs.World.{World, places, held_open, is_of}
+use Rattle.wasi_calls.specs.World.{World, held_open, is_of}
 use Rattle.wasi_calls.specs.Checks.{walk}
 use Rattle.wasi_calls.specs.laws.Confined.{Tops, IsOutside}
 use Rattle.vol_tree.proofs.Trees.{Childless, is_directory_at, directory_is, empty_childless, file_childless}
 use Rattle.wasi_calls.proofs.runs.HeldAlongRuns.{Holds, below_not_root, inside_below, keeps_rewritten, keeps_removed, keeps_moved}
+use Rattle.wasi_fd.specs.declared.table.TheConstants.{PLACES}
 use Rattle.wasi_calls.proofs.checks.Passing.{passes_on, not_held, walked_to}
 
 pub live_below : (T : Tree) (d s : ℕ) (e : TreeEntry) → entry T d ≡ Some e → (path : Path) → Leads T d path s → (f : TreeEntry) × (entry T s ≡ Some f)
@@ -103,7 +104,7 @@ module _ (T0 : Tree) (t0 : IsTree T0) (tops : Tops) (directories : (top : ℕ) �
   held : (w : World) (s : ℕ) → W w → held_open w s ≡ false → (fd : ℕ) (o : Opened) → w.table fd ≡ Some (Entry o) → o.serial ≢ s
   held w s h free fd o g same =
       let good = h.named fd o g in
-      false≢true (sym (not_held places s w.table free fd good.few) ∙ (ap (is_of s) g ∙ eq-eqb o.serial s same))
+      false≢true (sym (not_held PLACES s w.table free fd good.few) ∙ (ap (is_of s) g ∙ eq-eqb o.serial s same))
 
   -- an entry that is below a descriptor's: it is no root, and it stands in one that is not outside
   pub record IsBelow (w : World) (s : ℕ) : Type 0 where

@@ -19,7 +19,7 @@ use Rattle.wasi_fd.specs.declared.descriptor.Opened.{Opened}
 use Rattle.wasi_fd.specs.Table.{Table}
 use Rattle.wasm_store.specs.declared.call.HostCall.{HostCall}
 use Rattle.wasm_store.specs.declared.call.HostCall.TheVariants as call
-use Rattle.wasi_calls.specs.World.{World, with_descriptor, moved_to, with_output, places, held_open}
+use Rattle.wasi_calls.specs.World.{World, with_descriptor, moved_to, with_output, held_open}
 use Rattle.wasi_calls.specs.Checks.{Done, walk, found, no_directories, only_files, sized, of_kind}
 use Rattle.wasi_calls.specs.supplies.Rows.{sizes_get, texts_get, clock_res_get, clock_time_get, random_get}
 use Rattle.wasi_calls.specs.descriptors.Rows.{fd_close, fd_fdstat_get, fd_filestat_get, fd_prestat_get, fd_prestat_dir_name, fd_seek, fd_tell}
@@ -32,6 +32,7 @@ use Rattle.vol_tree.proofs.Trees.{Childless, is_directory_at, empty_childless, f
 use Rattle.vol_body.specs.declared.writing.TheConstants.{PIECE}
 use Rattle.wasi_calls.proofs.runs.HeldAlongRuns.{is_directory_kind, IsGood, Holds, keeps_at, keeps_created}
 use Rattle.wasi_calls.proofs.checks.Passing.{same_Ok, ok_or_some, tree_called, passes_on, not_true, not_false, described, entered, opened_is, is_file_kind, same_entry, least_closed_below, found_is}
+use Rattle.wasi_fd.specs.declared.table.TheConstants.{PLACES}
 use Rattle.wasi_calls.proofs.runs.ReachedEntries.{W, IsFound, IsReached, IsBelow, reaches, is_below, not_its_own, removes, writes, resizes, renames_free, renames_onto, fits}
 
 module _ (T0 : Tree) (t0 : IsTree T0) (tops : Tops) (directories : (top : ℕ) → tops top → IsDirectory T0 top) where
@@ -245,7 +246,7 @@ module _ (T0 : Tree) (t0 : IsTree T0) (tops : Tops) (directories : (top : ℕ) �
       let new = known (IsMade w) _ made (opens w o c to h (reached w fd o _ to h of.0 to_is)) made_is in
       yields _ _ (keeps_at T0 t0 tops directories made.0 w.table n _ new.holds (λ p p_is.
       subst (IsGood T0 tops made.0 n) (same_entry _ p p_is) (record {
-        few = omega (arith, least_closed_below places 0 w.table n (ok_or_some _ 33 n n_is));
+        few = omega (arith, least_closed_below PLACES 0 w.table n (ok_or_some _ 33 n n_is));
         e = new.e;
         used = new.used;
         kind = sym (is_directory_at made.0 made.1 new.e new.used) ∙ kind_of (directory_at made.0 made.1);

@@ -16,7 +16,7 @@ use Rattle.wasi_fd.specs.declared.descriptor.Opened.{Opened as OpenedEntry}
 use Rattle.wasi_fd.specs.Table.{table_of}
 use Rattle.wasi_calls.specs.declared.host.inner.Inner.{Inner}
 use Rattle.wasi_calls.specs.host.Settings.{settings_fit}
-use Rattle.wasi_calls.specs.World.{World, unread, stream_gone}
+use Rattle.wasi_calls.specs.World.{World, unread, with_stream_failed}
 use Rattle.wasi_calls.specs.Checks.{Checked, Done, Buffer, put, total, scattered}
 use Rattle.wasm_store.specs.declared.call.HostCall.{HostCall}
 use Rattle.wasi_calls.specs.Calls.{row, Answered, by_row, input_fails, input_left, filled}
@@ -208,7 +208,7 @@ module _ {D R W1 W2 : Type 0} (honest : D → Type 0) (disk : D → Disk) (secto
               (subst (λ (t : HostState D R W1 W2). Answered in_run w m (world_of t others) m' 29) (sym state)
               (input_fails (record {
                 reaches = record {
-                  refused = same (stream_gone Input w) refl ∙ stops _ _ 29 (stops _ _ 29 (guard_fails _ 29 refl));
+                  refused = same (with_stream_failed Input w) refl ∙ stops _ _ 29 (stops _ _ 29 (guard_fails _ 29 refl));
                   only_so = is_no_err (in_run w) (done_in w bs result) 29 is_row;
                 };
                 goes_on = goes_on;

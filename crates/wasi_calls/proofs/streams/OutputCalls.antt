@@ -14,7 +14,7 @@ use Rattle.wasi_fd.specs.declared.descriptor.Opened.{Opened as OpenedEntry}
 use Rattle.wasi_fd.specs.Table.{table_of}
 use Rattle.wasi_calls.specs.declared.host.inner.Inner.{Inner}
 use Rattle.wasi_calls.specs.host.Settings.{settings_fit}
-use Rattle.wasi_calls.specs.World.{World, stream_gone, with_output}
+use Rattle.wasi_calls.specs.World.{World, with_stream_failed, with_output}
 use Rattle.wasi_calls.specs.Checks.{Checked, Done, with_result}
 use Rattle.wasm_store.specs.declared.call.HostCall.{HostCall}
 use Rattle.wasi_calls.specs.Calls.{row, Answered, by_row, output_fails, errors_fail, output_after}
@@ -129,7 +129,7 @@ module _ {D R W1 W2 : Type 0} (honest : D → Type 0) (disk : D → Disk) (secto
               (subst (λ (s : HostState D R W1 W2). Answered out_run w m (world_of s b') m' 29) (sym state)
               (output_fails (record {
                 reaches = record {
-                  refused = same (stream_gone Output w) refl ∙ stops _ _ 29 (stops _ _ 29 (guard_fails _ 29 refl));
+                  refused = same (with_stream_failed Output w) refl ∙ stops _ _ 29 (stops _ _ 29 (guard_fails _ 29 refl));
                   only_so = is_no_err (out_run w) (with_result (with_output w Output all) result (little_bytes 4 (length all))) 29 is_row;
                 };
                 answer = refl;
@@ -250,7 +250,7 @@ module _ {D R W1 W2 : Type 0} (honest : D → Type 0) (disk : D → Disk) (secto
               (subst (λ (s : HostState D R W1 W2). Answered err_run w m (world_of s b') m' 29) (sym state)
               (errors_fail (record {
                 reaches = record {
-                  refused = same (stream_gone Error w) refl ∙ stops _ _ 29 (stops _ _ 29 (guard_fails _ 29 refl));
+                  refused = same (with_stream_failed Error w) refl ∙ stops _ _ 29 (stops _ _ 29 (guard_fails _ 29 refl));
                   only_so = is_no_err (err_run w) (with_result (with_output w Error all) result (little_bytes 4 (length all))) 29 is_row;
                 };
                 answer = refl;

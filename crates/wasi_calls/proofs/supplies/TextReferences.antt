@@ -9,6 +9,7 @@ use denote.Ref.{Bor}
 use Rattle.wasi_calls.specs.supplies.Texts as references
 use Rattle.wasi_calls.specs.supplies.Texts.{Texts, texts_of}
 use Rattle.wasi_calls.specs.supplies.Rows.{ended_bytes, pointers, ended}
+use Rattle.wasi_calls.specs.declared.host.settings.TheConstants.{MOST_TEXTS, MOST_TEXT_BYTES}
 
 pub same_ended : (ts : Texts) → ended_bytes (texts_of ts) ≡ references.ended_bytes ts
 same_ended [] = refl
@@ -18,10 +19,10 @@ same_ended (t ∷ ts) =
     ∙ sym (sum_by-cons (λ (x : Bor (List ℕ)). length x.now + 1) t ts)
 
 -- texts that fit are short
-pub fits_ended : (ts : Texts) → references.texts_fit ts ≡ true → references.ended_bytes ts ≤ 65536
+pub fits_ended : (ts : Texts) → references.texts_fit ts ≡ true → references.ended_bytes ts ≤ MOST_TEXT_BYTES
 fits_ended ts h = leb-true _ _ (and_parts _ _ (and_parts _ _ h).0).1
 
-pub few_texts : (ts : Texts) → references.texts_fit ts ≡ true → (length (texts_of ts) ≡ length ts) × (length ts ≤ 1024)
+pub few_texts : (ts : Texts) → references.texts_fit ts ≡ true → (length (texts_of ts) ≡ length ts) × (length ts ≤ MOST_TEXTS)
 few_texts ts h = (length-map ts _, leb-true _ _ (and_parts _ _ (and_parts _ _ h).0).0)
 
 -- ---- one text more

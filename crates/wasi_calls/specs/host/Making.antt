@@ -42,11 +42,13 @@ module _ {D R W1 W2 : Type 0} where
 
 -- ---- preopened directories
 
+-- the directory that a walk reached
 abbrev pub found_directory : Tree → Result Reached Errno → Option ℕ
 found_directory T (Ok (Found serial)) = if directory_at T serial then Some serial else None
 found_directory T (Ok (Missing parent name)) = None
 found_directory T (Err e) = None
 
+-- the directory that the rest of a path names, from the root; an empty rest is the root
 abbrev pub from_root : Tree → List ℕ → Option ℕ
 from_root T [] = Some 1
 from_root T (c ∷ rest) = found_directory T (path_read (c ∷ rest) >>= resolved T 1 (wants_directory (c ∷ rest)))
@@ -104,6 +106,7 @@ module _ {D R W1 W2 : Type 0} where
     pub settings : new.settings ≡ old.settings
     pub generator : new.generator ≡ old.generator
 
+-- refused because the volume fails
 abbrev pub is_device : {X : Type 0} → Result X HostFault → Bool
 is_device (Ok x) = false
 is_device (Err Setting) = false

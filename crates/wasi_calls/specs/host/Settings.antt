@@ -4,10 +4,12 @@ use Rattle.std.specs.List.{list_all}
 use Rattle.wasi_calls.specs.declared.host.settings.Preopen.{Preopen}
 use Rattle.wasi_calls.specs.declared.host.settings.Settings.{Settings}
 use Rattle.wasi_calls.specs.supplies.Texts.{texts_fit, name_fits}
+use Rattle.wasi_calls.specs.declared.host.settings.TheConstants.{MOST_PREOPENS, MOST_PAGES}
 
--- at most 64 directories
+-- not too many directories, each with a name that a guest can know it by
 abbrev pub preopens_fit : List Preopen → Bool
-preopens_fit ps = nat_le (length ps) 64 && list_all (λ p. name_fits p.guest_name.now) ps
+preopens_fit ps = nat_le (length ps) MOST_PREOPENS && list_all (λ p. name_fits p.guest_name.now) ps
 
+-- what a guest can be given: texts and names that fit, and pages up to the limit
 abbrev pub settings_fit : Settings → Bool
-settings_fit s = texts_fit s.args.now && texts_fit s.env.now && preopens_fit s.preopens.now && nat_le s.pages 65536
+settings_fit s = texts_fit s.args.now && texts_fit s.env.now && preopens_fit s.preopens.now && nat_le s.pages MOST_PAGES

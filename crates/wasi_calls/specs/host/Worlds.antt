@@ -37,6 +37,7 @@ pub record StreamBytes : Type 0 where
   pub output : List ℕ
   pub errors : List ℕ
 
+-- the texts and the moment of the settings
 abbrev pub given_of : Settings → Given
 given_of s = record { args = texts_of s.args.now; env = texts_of s.env.now; moment = s.moment }
 

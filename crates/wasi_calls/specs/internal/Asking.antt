@@ -2,7 +2,7 @@
 use Rattle.std.specs.Prelude.{◌≡◌, ◌≢◌, ◌⊎◌, ℕ, false, Result, Ok, Err}
 use Rattle.vol_tree.specs.Opened.{Opened}
 use Rattle.wasm_store.specs.declared.call.Errno.{Errno as Number}
-use Rattle.wasi_calls.specs.World.{World, volume_gone}
+use Rattle.wasi_calls.specs.World.{World, with_volume_failed}
 use Rattle.wasi_calls.specs.Checks.{Checked}
 use Rattle.wasi_calls.specs.internal.Bodies.{with_volume}
 
@@ -10,7 +10,7 @@ module _ {D X : Type 0} where
   -- the part is gone through in the same world, and needs the volume
   pub record Passes (part : World → Checked X) (w : World) (new : Opened D) (x : X) : Type 0 where
     pub is : part w ≡ Ok x
-    pub gone : part (volume_gone w) ≡ Err 29
+    pub gone : part (with_volume_failed w) ≡ Err 29
     pub same : with_volume new w ≡ w
     pub working : w.volume_failed ≡ false
 
@@ -22,9 +22,9 @@ module _ {D X : Type 0} where
   -- the volume fails in the part, or had failed before
   pub record Fails (part : World → Checked X) (w : World) (new : Opened D) (e : ℕ) : Type 0 where
     pub answer : e ≡ 29
-    pub gone : part (volume_gone w) ≡ Err 29
+    pub gone : part (with_volume_failed w) ≡ Err 29
     pub never : w.volume_failed ≡ false → part w ≢ Err 29
-    pub after : with_volume new w ≡ volume_gone w
+    pub after : with_volume new w ≡ with_volume_failed w
 
   abbrev pub Stops : (World → Checked X) → World → Opened D → ℕ → Type 0
   Stops part w new e = Refuses part w new e ⊎ Fails part w new e
@@ -33,7 +33,7 @@ module _ {D X : Type 0} where
   pub record FailsNext (part : World → Checked X) (w : World) (new : Opened D) (e : ℕ) : Type 0 where
     pub answer : e ≡ 29
     pub never : part w ≢ Err 29
-    pub after : with_volume new w ≡ volume_gone w
+    pub after : with_volume new w ≡ with_volume_failed w
 
   abbrev pub StopsNext : (World → Checked X) → World → Opened D → ℕ → Type 0
   StopsNext part w new e = Refuses part w new e ⊎ FailsNext part w new e

@@ -11,16 +11,18 @@ use Rattle.wasi_fd.specs.declared.descriptor.Descriptor.TheVariants.{Entry}
 use Rattle.wasi_fd.specs.declared.descriptor.EntryKind.TheVariants as kinds
 use Rattle.wasi_fd.specs.declared.descriptor.Opened.{Opened}
 use Rattle.wasi_fd.specs.Rights.{bits_of, file_rights, directory_rights}
-use Rattle.wasi_calls.specs.World.{World, with_descriptor, least_closed, places, held_open}
+use Rattle.wasi_calls.specs.World.{World, with_descriptor, least_closed, held_open}
 use Rattle.wasi_calls.specs.Checks.{Checked, ◌>>=◌, ◌>>◌, guard, get, of_kind, has, opened_entry, entry_at, only_directories, range, walk, tree_call, found, Done, only_world, with_result}
 use Rattle.wasi_calls.specs.descriptors.Rows.{entry_stat}
 use Rattle.wasi_calls.specs.Errnos.{BUSY, EXIST, INVAL, ISDIR, NOENT, NOTCAPABLE, NOTDIR, NOTEMPTY, NOTSUP}
+use Rattle.wasi_fd.specs.declared.table.TheConstants.{PLACES}
 use Rattle.wasi_fd.specs.Rights.{PATH_CREATE_DIRECTORY, PATH_CREATE_FILE, PATH_OPEN, PATH_FILESTAT_SET_SIZE, PATH_FILESTAT_GET, PATH_REMOVE_DIRECTORY, PATH_RENAME_SOURCE, PATH_RENAME_TARGET, PATH_UNLINK_FILE}
 
 -- a path is checked over its whole length, and walked from the descriptor's directory
 abbrev pub path_at : World → List ℕ → Opened → ℕ → ℕ → Checked Reached
 path_at w memory directory path len = walk w directory (bytes_at memory path len)
 
+-- the directory and the name that is missing in it
 abbrev pub missing : Reached → Checked (ℕ × Name)
 missing (Found serial) = Err EXIST
 missing (Missing parent name) = Ok (parent, name)
@@ -72,6 +74,7 @@ path_unlink_file w memory fd path len = do
 
 -- ---- path_open
 
+-- the flag is set
 abbrev pub is_set : ℕ → ℕ → Bool
 is_set flags bit = bit_and flags bit == bit
 
@@ -126,8 +129,9 @@ new_descriptor T directory serial base inheriting fdflags =
       guest_name = None;
     })
 
+-- the least number that stands for nothing
 abbrev pub new_number : World → Checked ℕ
-new_number w = ok_or (least_closed places 0 w.table) 33
+new_number w = ok_or (least_closed PLACES 0 w.table) 33
 
 -- path_open(fd, flags, path, length, oflags, base, inheriting, fdflags, result)
 abbrev pub path_open : World → List ℕ → ℕ → ℕ → ℕ → ℕ → ℕ → ℕ → ℕ → ℕ → Checked Done

@@ -10,6 +10,7 @@ use Rattle.wasi_calls.specs.Errnos.{AGAIN, INVAL}
 abbrev pub ended_bytes : List (List ℕ) → ℕ
 ended_bytes texts = sum_by (λ t. length t + 1) texts
 
+-- the texts, a NUL after each
 abbrev pub ended : List (List ℕ) → List ℕ
 ended [] = []
 ended (t ∷ texts) = t ++ 0 ∷ ended texts

@@ -68,7 +68,7 @@ fn file_to_move<'t>(
 /// The size of a file.
 pub(crate) fn size_of<D: Device>(
     volume: &mut Volume<D>,
-    serial: u32,
+    serial: Serial,
 ) -> Result<u32, vol_tree::Errno>
     requires { IsFileOf D.honest volume.old serial }
     ensures answer { D.honest volume.old.device
@@ -77,7 +77,7 @@ pub(crate) fn size_of<D: Device>(
         → Leaves (D.disk volume.old.device) (D.disk volume.new.device) (λ c. ⊥) }
     ensures kept { Keeps D.honest D.size D.failures volume.old volume.new (is_io result) }
 {
-    match volume.stat(Serial::new(serial)) {
+    match volume.stat(serial) {
         Ok(stat) => Ok(stat.size),
         Err(errno) => Err(errno),
     }
@@ -101,7 +101,7 @@ fn seek_from<D: Device>(
     match whence {
         0 => Ok(0),
         1 => Ok(opened.position),
-        _ => match size_of(volume, opened.serial) {
+        _ => match size_of(volume, Serial::new(opened.serial)) {
             Ok(size) => Ok(u64::from(size)),
             Err(errno) => Err(errno),
         },

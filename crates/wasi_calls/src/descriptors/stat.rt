@@ -20,12 +20,12 @@ use vol_tree::{Serial, Volume};
 use wasi_fd::{Descriptor, Descriptors, Fd, Rights};
 use wasm_store::{Errno, Memory};
 
-/// `filestat`: the serial at 8, the type at 16, one link at 24 and the size at 32.
-fn filestat(serial: u32, file_type: u8, size: u32) -> [u8; 64]
-    ensures { result ≡ filestat serial file_type size }
+/// `filestat`: the inode at 8, which is an entry's serial or 0 of a stream, the type at 16, one link at 24 and the size at 32.
+fn filestat(inode: u32, file_type: u8, size: u32) -> [u8; 64]
+    ensures { result ≡ filestat inode file_type size }
 {
     let mut bytes = [0; 64];
-    bytes[8..16].copy_from_slice(&le64(u64::from(serial)));
+    bytes[8..16].copy_from_slice(&le64(u64::from(inode)));
     bytes[16] = file_type;
     bytes[24..32].copy_from_slice(&le64(1));
     bytes[32..40].copy_from_slice(&le64(u64::from(size)));
@@ -45,7 +45,7 @@ pub(crate) fn type_of_entry(kind: Kind) -> u8
 /// What is told of an entry.
 pub(crate) fn stat_entry<D: Device>(
     volume: &mut Volume<D>,
-    serial: u32,
+    serial: Serial,
 ) -> Result<[u8; 64], vol_tree::Errno>
     requires first { 1 ≤ serial }
     requires last { serial ≤ volume.old.numbers.slots }
@@ -56,8 +56,8 @@ pub(crate) fn stat_entry<D: Device>(
         → Leaves (D.disk volume.old.device) (D.disk volume.new.device) (λ c. ⊥) }
     ensures kept { Keeps D.honest D.size D.failures volume.old volume.new (is_io result) }
 {
-    match volume.stat(Serial::new(serial)) {
-        Ok(stat) => Ok(filestat(serial, type_of_entry(stat.kind), stat.size)),
+    match volume.stat(serial) {
+        Ok(stat) => Ok(filestat(serial.number(), type_of_entry(stat.kind), stat.size)),
         Err(errno) => Err(errno),
     }
 }
@@ -89,7 +89,7 @@ pub(crate) fn filestat_get<D: Device>(
             write_bytes(memory, result_at, &filestat(0, 2, 0));
             Ok(())
         }
-        Descriptor::Entry(opened) => match stat_entry(volume, opened.serial) {
+        Descriptor::Entry(opened) => match stat_entry(volume, Serial::new(opened.serial)) {
             Ok(bytes) => {
                 write_bytes(memory, result_at, &bytes);
                 Ok(())

@@ -56,19 +56,19 @@ impl ListCall {
 /// An entry that is told: its serial, and bytes that begin with its `dirent`.
 #[derive(Clone, Copy)]
 struct Told {
-    serial: u32,
+    serial: Serial,
     /// How many bytes the `dirent` has, from 24 to 279.
     len: usize,
     bytes: [u8; 279],
 }
 
 /// A `dirent` before its name: the next cookie at 0, the serial at 8, the name's length at 16 and the type at 20.
-fn header(serial: u32, name_length: u8, file_type: u8) -> [u8; 24]
+fn header(serial: Serial, name_length: u8, file_type: u8) -> [u8; 24]
     ensures { result ≡ header serial name_length file_type }
 {
     let mut bytes = [0; 24];
-    bytes[..8].copy_from_slice(&le64(u64::from(serial)));
-    bytes[8..16].copy_from_slice(&le64(u64::from(serial)));
+    bytes[..8].copy_from_slice(&le64(u64::from(serial.number())));
+    bytes[8..16].copy_from_slice(&le64(u64::from(serial.number())));
     bytes[16..20].copy_from_slice(&le32(u32::from(name_length)));
     bytes[20] = file_type;
     bytes
@@ -85,7 +85,7 @@ fn join(bytes: &mut [u8], beginning: &[u8], rest: &[u8])
 }
 
 /// The `dirent` of an entry.
-fn describe(serial: u32, stat: &Stat) -> Told
+fn describe(serial: Serial, stat: &Stat) -> Told
     ensures serial { result.serial ≡ serial }
     ensures least { 24 ≤ result.len }
     ensures most { result.len ≤ 279 }
@@ -101,7 +101,7 @@ fn describe(serial: u32, stat: &Stat) -> Told
 /// The entry that a list goes on with after a serial.
 fn next_told<D: Device>(
     volume: &mut Volume<D>,
-    directory: u32,
+    directory: Serial,
     after: u32,
 ) -> Result<Option<Told>, vol_tree::Errno>
     ensures asked { Asked D.honest D.disk D.size D.failures volume.old volume.new (is_io result) }
@@ -110,9 +110,9 @@ fn next_told<D: Device>(
     ensures least { IfOk result (λ next. IfSome next (λ t. 24 ≤ t.len)) }
     ensures most { IfOk result (λ next. IfSome next (λ t. t.len ≤ 279)) }
 {
-    match volume.list_next(Serial::new(directory), after) {
+    match volume.list_next(directory, after) {
         Ok(Some(serial)) => match volume.stat(serial) {
-            Ok(stat) => Ok(Some(describe(serial.number(), &stat))),
+            Ok(stat) => Ok(Some(describe(serial, &stat))),
             Err(errno) => Err(errno),
         },
         Ok(None) => Ok(None),
@@ -136,7 +136,7 @@ fn put_some(part: &mut [u8], place: usize, bytes: &[u8]) -> usize
 /// Puts the list after a serial into the part, as far as there is room, and says how many bytes that is.
 fn list<D: Device>(
     volume: &mut Volume<D>,
-    directory: u32,
+    directory: Serial,
     cookie: u32,
     part: &mut [u8],
 ) -> Result<usize, vol_tree::Errno>
@@ -152,7 +152,7 @@ fn list<D: Device>(
         match next_told(volume, directory, after) {
             Ok(Some(told)) => {
                 filled = put_some(part, filled, &told.bytes[..told.len]);
-                after = told.serial;
+                after = told.serial.number();
             }
             Ok(None) => return Ok(filled),
             Err(errno) => return Err(errno),
@@ -164,7 +164,7 @@ fn list<D: Device>(
 /// Puts the list after a serial into memory, from a place on, as far as there is room, and says how many bytes that is.
 fn list_part<D: Device>(
     volume: &mut Volume<D>,
-    directory: u32,
+    directory: Serial,
     cookie: u32,
     memory: &mut Memory,
     start: usize,
@@ -198,7 +198,7 @@ fn last_told(cookie: u64) -> u32
 /// Puts the list after a cookie into memory, as far as there is room, and says how many bytes that is.
 fn list_from<D: Device>(
     volume: &mut Volume<D>,
-    directory: u32,
+    directory: Serial,
     cookie: u64,
     memory: &mut Memory,
     start: u32,
@@ -276,7 +276,8 @@ pub(crate) fn fd_readdir<D: Device>(
         Err(errno) => return Err(errno),
     };
     let (start, len) = (asked.buffer, asked.len);
-    match list_from(volume, opened.serial, asked.cookie, memory, start, len) {
+    let directory = Serial::new(opened.serial);
+    match list_from(volume, directory, asked.cookie, memory, start, len) {
         Ok(count) => {
             write_bytes(memory, asked.used_at, &le32(count));
             Ok(())

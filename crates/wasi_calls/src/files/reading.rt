@@ -72,7 +72,7 @@ fn stretch_from(at: usize, end: usize, later: &[Span]) -> Stretch
 /// stands in memory then.
 fn read_part<D: Device>(
     volume: &mut Volume<D>,
-    serial: u32,
+    serial: Serial,
     at: u64,
     memory: &mut Memory,
     start: usize,
@@ -88,7 +88,7 @@ fn read_part<D: Device>(
         × IsBegun memory.old start (read_bytes volume.old.tree serial at len) memory.new) }
     ensures asked { Asked D.honest D.disk D.size D.failures volume.old volume.new (is_io result) }
 {
-    match volume.read(Serial::new(serial), at, memory.part_mut(start, len)) {
+    match volume.read(serial, at, memory.part_mut(start, len)) {
         Ok(_) => Ok(()),
         Err(errno) => Err(errno),
     }
@@ -98,7 +98,7 @@ fn read_part<D: Device>(
 /// that is in later buffers is passed over.
 fn fill_stretch<D: Device>(
     volume: &mut Volume<D>,
-    serial: u32,
+    serial: Serial,
     from: u64,
     memory: &mut Memory,
     place: usize,
@@ -132,7 +132,7 @@ fn fill_stretch<D: Device>(
 /// Fills a buffer with the bytes of a file from a place on, but for what of it is in later buffers.
 fn fill_buffer<D: Device>(
     volume: &mut Volume<D>,
-    serial: u32,
+    serial: Serial,
     from: u64,
     memory: &mut Memory,
     buffer: Span,
@@ -166,7 +166,7 @@ fn fill_buffer<D: Device>(
 /// Fills the buffers with the bytes of a file from a place on, one after another. Where they overlap, later ones win.
 fn fill_buffers<D: Device>(
     volume: &mut Volume<D>,
-    serial: u32,
+    serial: Serial,
     from: u64,
     memory: &mut Memory,
     buffers: &[Span],
@@ -209,7 +209,7 @@ fn count_from(size: u32, from: u64, most: u32) -> u32
 /// bytes already.
 pub(crate) fn read_at<D: Device>(
     volume: &mut Volume<D>,
-    serial: u32,
+    serial: Serial,
     from: u64,
     memory: &mut Memory,
     buffers: &mut [Span],
@@ -270,7 +270,7 @@ pub(crate) fn read_placed<D: Device>(
     ensures answered { D.honest volume.old.device → (w : World) → w ≡ with_volume volume.old w
         → Answered (λ v. read_into v opened.now from (list_of buffers.old) request.now.result_at) w memory.old (with_volume volume.new w) memory.new (errno_of result) }
 {
-    match read_at(volume, opened.serial, from, memory, buffers) {
+    match read_at(volume, Serial::new(opened.serial), from, memory, buffers) {
         Ok(len) => {
             write_bytes(memory, request.result_at, &le32(len));
             Ok(())
@@ -299,7 +299,8 @@ pub(crate) fn read_file<'t, D: Device>(
     ensures answered { D.honest volume.old.device → (w : World) → w.table ≡ table_of descriptors.old → w ≡ with_volume volume.old w
         → Answered (λ v. read_file_to v request.now.fd opened.now (list_of buffers.old) request.now.result_at) w memory.old (with_table (table_of descriptors.new) (with_volume volume.new w)) memory.new (errno_of result) }
 {
-    match read_at(volume, opened.serial, opened.position, memory, buffers) {
+    let serial = Serial::new(opened.serial);
+    match read_at(volume, serial, opened.position, memory, buffers) {
         Ok(len) => {
             let past = opened.position + u64::from(len);
             move_to(descriptors, request.fd, opened, past);

@@ -32,7 +32,7 @@ use wasm_store::{Errno, Memory};
 /// Writes what stands in the buffers to a file, or as much of it as is written at once, and says how many bytes that is.
 fn put_bytes<D: Device>(
     volume: &mut Volume<D>,
-    serial: u32,
+    serial: Serial,
     at: u64,
     memory: &Memory,
     buffers: &[Span],
@@ -51,7 +51,7 @@ fn put_bytes<D: Device>(
 {
     let len = total_len(buffers).min(PIECE as u64) as u32;
     let bytes = Source::gather(memory.as_slice(), buffers, len as usize);
-    match volume.write_from(Serial::new(serial), at, &bytes) {
+    match volume.write_from(serial, at, &bytes) {
         Ok(()) => Ok(len),
         Err(errno) => Err(errno),
     }
@@ -84,7 +84,7 @@ pub(crate) fn write_at<D: Device>(
     ensures answered { D.honest volume.old.device → (w : World) → w ≡ with_volume volume.old w
         → Answered (λ v. written_at_offset v opened.now at (gathered memory.old (list_of buffers.now)) result_at) w memory.old (with_volume volume.new w) memory.new (errno_of result) }
 {
-    match put_bytes(volume, opened.serial, at, memory, buffers) {
+    match put_bytes(volume, Serial::new(opened.serial), at, memory, buffers) {
         Ok(len) => {
             write_bytes(memory, result_at, &le32(len));
             Ok(())
@@ -111,7 +111,7 @@ fn where_it_writes<'t, D: Device>(
     if !opened.append {
         return Ok(*opened);
     }
-    match size_of(volume, opened.serial) {
+    match size_of(volume, Serial::new(opened.serial)) {
         Ok(size) => Ok(Opened {
             position: u64::from(size),
             ..*opened
@@ -140,7 +140,8 @@ fn write_on<'t, D: Device>(
     ensures answered { D.honest volume.old.device → (w : World) → w.table ≡ table_of descriptors.old → w ≡ with_volume volume.old w
         → Answered (λ v. written_on v request.now.fd opened.now (gathered memory.old (list_of buffers.now)) request.now.result_at) w memory.old (with_table (table_of descriptors.new) (with_volume volume.new w)) memory.new (errno_of result) }
 {
-    match put_bytes(volume, opened.serial, opened.position, memory, buffers) {
+    let serial = Serial::new(opened.serial);
+    match put_bytes(volume, serial, opened.position, memory, buffers) {
         Ok(len) => {
             if len > 0 {
                 let past = opened.position.saturating_add(u64::from(len));

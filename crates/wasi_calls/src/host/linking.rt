@@ -1,8 +1,8 @@
 //! Which calls there are, by the names and types of WASI preview 1.
 
-ghost use Rattle.std.specs.Prelude.{◌≡◌};
-ghost use Rattle.wasi_calls.specs.host.Links.{supply_named as supply, descriptor_named as descriptor, bytes_named as bytes, path_named as path};
-ghost use Rattle.wasi_calls.specs.host.Links.{host_call_named, params_of, results_of, is_type, are_types, has_type, link};
+ghost use Rattle.std.specs.Prelude.{◌≡◌, codes};
+ghost use Rattle.wasi_calls.specs.host.Links.{supply_calls, descriptor_calls, byte_calls, path_calls, calls, letter_of, are_types, link};
+ghost use Rattle.wasi_calls.specs.internal.host.Linking.{typed_in, typed_as, of_type};
 
 use wasm_module::{FuncType, ValueType};
 use wasm_store::HostCall;
@@ -10,74 +10,77 @@ use wasm_store::HostCall;
 /// The module that all calls are of.
 const MODULE_NAME: &str = "wasi_snapshot_preview1";
 
+/// A call with the types of its parameters and of its results: `I` marks i64, `i` i32.
+type Typed = (&'static [u8], &'static [u8], HostCall);
+
 /// The call of this name, if it is one of texts, clocks, random bytes and the end.
-fn supply_named(name: &str) -> Option<HostCall>
-    ensures { result ≡ supply name.now }
+fn supply_named(name: &str) -> Option<Typed>
+    ensures { typed_as result ≡ typed_in supply_calls name.now }
 {
     match name {
-        "args_sizes_get" => Some(HostCall::ArgsSizesGet),
-        "args_get" => Some(HostCall::ArgsGet),
-        "environ_sizes_get" => Some(HostCall::EnvironSizesGet),
-        "environ_get" => Some(HostCall::EnvironGet),
-        "clock_res_get" => Some(HostCall::ClockResGet),
-        "clock_time_get" => Some(HostCall::ClockTimeGet),
-        "random_get" => Some(HostCall::RandomGet),
-        "proc_exit" => Some(HostCall::ProcExit),
+        "args_sizes_get" => Some((b"ii", b"i", HostCall::ArgsSizesGet)),
+        "args_get" => Some((b"ii", b"i", HostCall::ArgsGet)),
+        "environ_sizes_get" => Some((b"ii", b"i", HostCall::EnvironSizesGet)),
+        "environ_get" => Some((b"ii", b"i", HostCall::EnvironGet)),
+        "clock_res_get" => Some((b"ii", b"i", HostCall::ClockResGet)),
+        "clock_time_get" => Some((b"iIi", b"i", HostCall::ClockTimeGet)),
+        "random_get" => Some((b"ii", b"i", HostCall::RandomGet)),
+        "proc_exit" => Some((b"i", b"", HostCall::ProcExit)),
         _ => None,
     }
 }
 
 /// The call of this name, if it is one of what descriptors are and where they stand.
-fn descriptor_named(name: &str) -> Option<HostCall>
-    ensures { result ≡ descriptor name.now }
+fn descriptor_named(name: &str) -> Option<Typed>
+    ensures { typed_as result ≡ typed_in descriptor_calls name.now }
 {
     match name {
-        "fd_close" => Some(HostCall::FdClose),
-        "fd_fdstat_get" => Some(HostCall::FdFdstatGet),
-        "fd_filestat_get" => Some(HostCall::FdFilestatGet),
-        "fd_filestat_set_size" => Some(HostCall::FdFilestatSetSize),
-        "fd_prestat_get" => Some(HostCall::FdPrestatGet),
-        "fd_prestat_dir_name" => Some(HostCall::FdPrestatDirName),
-        "fd_seek" => Some(HostCall::FdSeek),
-        "fd_tell" => Some(HostCall::FdTell),
+        "fd_close" => Some((b"i", b"i", HostCall::FdClose)),
+        "fd_fdstat_get" => Some((b"ii", b"i", HostCall::FdFdstatGet)),
+        "fd_filestat_get" => Some((b"ii", b"i", HostCall::FdFilestatGet)),
+        "fd_filestat_set_size" => Some((b"iI", b"i", HostCall::FdFilestatSetSize)),
+        "fd_prestat_get" => Some((b"ii", b"i", HostCall::FdPrestatGet)),
+        "fd_prestat_dir_name" => Some((b"iii", b"i", HostCall::FdPrestatDirName)),
+        "fd_seek" => Some((b"iIii", b"i", HostCall::FdSeek)),
+        "fd_tell" => Some((b"ii", b"i", HostCall::FdTell)),
         _ => None,
     }
 }
 
 /// The call of this name, if it is one of bytes of files and streams, or of lists of directories.
-fn bytes_named(name: &str) -> Option<HostCall>
-    ensures { result ≡ bytes name.now }
+fn byte_named(name: &str) -> Option<Typed>
+    ensures { typed_as result ≡ typed_in byte_calls name.now }
 {
     match name {
-        "fd_read" => Some(HostCall::FdRead),
-        "fd_pread" => Some(HostCall::FdPread),
-        "fd_write" => Some(HostCall::FdWrite),
-        "fd_pwrite" => Some(HostCall::FdPwrite),
-        "fd_sync" => Some(HostCall::FdSync),
-        "fd_datasync" => Some(HostCall::FdDatasync),
-        "fd_readdir" => Some(HostCall::FdReaddir),
+        "fd_read" => Some((b"iiii", b"i", HostCall::FdRead)),
+        "fd_pread" => Some((b"iiiIi", b"i", HostCall::FdPread)),
+        "fd_write" => Some((b"iiii", b"i", HostCall::FdWrite)),
+        "fd_pwrite" => Some((b"iiiIi", b"i", HostCall::FdPwrite)),
+        "fd_sync" => Some((b"i", b"i", HostCall::FdSync)),
+        "fd_datasync" => Some((b"i", b"i", HostCall::FdDatasync)),
+        "fd_readdir" => Some((b"iiiIi", b"i", HostCall::FdReaddir)),
         _ => None,
     }
 }
 
 /// The call of this name, if it is one on paths.
-fn path_named(name: &str) -> Option<HostCall>
-    ensures { result ≡ path name.now }
+fn path_named(name: &str) -> Option<Typed>
+    ensures { typed_as result ≡ typed_in path_calls name.now }
 {
     match name {
-        "path_create_directory" => Some(HostCall::PathCreateDirectory),
-        "path_filestat_get" => Some(HostCall::PathFilestatGet),
-        "path_open" => Some(HostCall::PathOpen),
-        "path_remove_directory" => Some(HostCall::PathRemoveDirectory),
-        "path_rename" => Some(HostCall::PathRename),
-        "path_unlink_file" => Some(HostCall::PathUnlinkFile),
+        "path_create_directory" => Some((b"iii", b"i", HostCall::PathCreateDirectory)),
+        "path_filestat_get" => Some((b"iiiii", b"i", HostCall::PathFilestatGet)),
+        "path_open" => Some((b"iiiiiIIii", b"i", HostCall::PathOpen)),
+        "path_remove_directory" => Some((b"iii", b"i", HostCall::PathRemoveDirectory)),
+        "path_rename" => Some((b"iiiiii", b"i", HostCall::PathRename)),
+        "path_unlink_file" => Some((b"iii", b"i", HostCall::PathUnlinkFile)),
         _ => None,
     }
 }
 
 /// The call of this name.
-fn call_named(name: &str) -> Option<HostCall>
-    ensures { result ≡ host_call_named name.now }
+fn call_named(name: &str) -> Option<Typed>
+    ensures { typed_as result ≡ typed_in calls name.now }
 {
     if let Some(call) = supply_named(name) {
         return Some(call);
@@ -85,61 +88,19 @@ fn call_named(name: &str) -> Option<HostCall>
     if let Some(call) = descriptor_named(name) {
         return Some(call);
     }
-    if let Some(call) = bytes_named(name) {
+    if let Some(call) = byte_named(name) {
         return Some(call);
     }
     path_named(name)
 }
 
-/// The types of a call's parameters: `I` marks i64, `i` i32.
-fn params_of(call: HostCall) -> &'static [u8]
-    ensures { result.now ≡ params_of call }
-{
-    match call {
-        HostCall::Nosys => b"",
-        HostCall::ProcExit | HostCall::FdClose | HostCall::FdSync | HostCall::FdDatasync => b"i",
-        HostCall::ArgsSizesGet
-        | HostCall::ArgsGet
-        | HostCall::EnvironSizesGet
-        | HostCall::EnvironGet
-        | HostCall::ClockResGet
-        | HostCall::RandomGet
-        | HostCall::FdFdstatGet
-        | HostCall::FdFilestatGet
-        | HostCall::FdPrestatGet
-        | HostCall::FdTell => b"ii",
-        HostCall::FdFilestatSetSize => b"iI",
-        HostCall::ClockTimeGet => b"iIi",
-        HostCall::FdPrestatDirName
-        | HostCall::PathCreateDirectory
-        | HostCall::PathRemoveDirectory
-        | HostCall::PathUnlinkFile => b"iii",
-        HostCall::FdRead | HostCall::FdWrite => b"iiii",
-        HostCall::FdSeek => b"iIii",
-        HostCall::PathFilestatGet => b"iiiii",
-        HostCall::FdPread | HostCall::FdPwrite | HostCall::FdReaddir => b"iiiIi",
-        HostCall::PathRename => b"iiiiii",
-        HostCall::PathOpen => b"iiiiiIIii",
-    }
-}
-
-/// The types of a call's results.
-fn results_of(call: HostCall) -> &'static [u8]
-    ensures { result.now ≡ results_of call }
-{
-    match call {
-        HostCall::ProcExit => b"",
-        _ => b"i",
-    }
-}
-
-/// Whether the letter says this type.
-fn is_type(letter: u8, value_type: &ValueType) -> bool
-    ensures { result ≡ is_type letter value_type.now }
+/// The letter that marks the type.
+fn letter_of(value_type: &ValueType) -> u8
+    ensures { result ≡ letter_of value_type.now }
 {
     match value_type {
-        ValueType::I32 => letter == b'i',
-        ValueType::I64 => letter == b'I',
+        ValueType::I32 => b'i',
+        ValueType::I64 => b'I',
     }
 }
 
@@ -152,18 +113,23 @@ fn are_types(letters: &[u8], types: &[ValueType]) -> bool
         [letter, letters @ ..] => match types {
             [] => false,
             [value_type, types @ ..] => {
-                is_type(*letter, value_type) && are_types(letters, types)
+                *letter == letter_of(value_type) && are_types(letters, types)
             }
         },
     }
 }
 
-/// Whether a function of this type can be the call.
-fn has_type(call: HostCall, func_type: &FuncType) -> bool
-    ensures { result ≡ has_type call func_type.now }
+/// The call, where a function of this type can be it.
+fn of_type(params: &[u8], results: &[u8], call: HostCall, func_type: &FuncType) -> Option<HostCall>
+    ensures { result ≡ of_type func_type.now (params.now, results.now, call) }
 {
-    are_types(params_of(call), func_type.params.as_slice())
-        && are_types(results_of(call), func_type.results.as_slice())
+    if are_types(params, func_type.params.as_slice())
+        && are_types(results, func_type.results.as_slice())
+    {
+        Some(call)
+    } else {
+        None
+    }
 }
 
 /// The call of this module name, name and type: a listed one where it has its type, and for any other
@@ -175,13 +141,7 @@ pub fn call_of(module_name: &str, name: &str, func_type: &FuncType) -> Option<Ho
         return None;
     }
     match call_named(name) {
-        Some(call) => {
-            if has_type(call, func_type) {
-                Some(call)
-            } else {
-                None
-            }
-        }
+        Some((params, results, call)) => of_type(params, results, call, func_type),
         None => {
             if are_types(b"i", func_type.results.as_slice()) {
                 Some(HostCall::Nosys)

@@ -8,6 +8,8 @@ ghost use Rattle.path_walk.specs.Walk.{Asked};
 ghost use Rattle.wasi_calls.specs.host.Making.{HasPreopens, directory_named, from_root, found_directory, preopened, is_device};
 ghost use Rattle.wasi_calls.specs.internal.host.Preopening.{fault_as, FindsOrFails, FindsAll, AreNumbers, AreOpen, Refuses};
 ghost use Rattle.wasi_calls.specs.internal.Bodies.{KnowsEntries};
+ghost use Rattle.wasi_calls.specs.declared.host.settings.TheConstants.{MOST_PREOPENS};
+ghost use Rattle.wasi_fd.specs.declared.table.TheConstants.{PLACES};
 
 use crate::host::fault::HostFault;
 use crate::host::inner::Inner;
@@ -31,7 +33,7 @@ fn fault_of(errno: Errno) -> HostFault
 fn reached_directory<D: Device>(
     volume: &mut Volume<D>,
     reached: Reached<'_>,
-) -> Result<u32, HostFault>
+) -> Result<Serial, HostFault>
     requires working { volume.old.failed ≡ false }
     requires reached { IsReached D.honest volume.old reached }
     ensures reads { Asked D.honest D.disk D.size D.failures volume.old volume.new (is_device result) }
@@ -41,17 +43,20 @@ fn reached_directory<D: Device>(
     ensures faults { IfErr result (λ fault. FindsOrFails {X = ℕ} None (Err fault)) }
 {
     match reached {
-        Reached::Found(serial) => match is_directory(volume, Serial::new(serial)) {
-            Ok(true) => Ok(serial),
-            Ok(false) => Err(HostFault::Preopen),
-            Err(errno) => Err(fault_of(errno)),
-        },
+        Reached::Found(found) => {
+            let serial = Serial::new(found);
+            match is_directory(volume, serial) {
+                Ok(true) => Ok(serial),
+                Ok(false) => Err(HostFault::Preopen),
+                Err(errno) => Err(fault_of(errno)),
+            }
+        }
         Reached::Missing { .. } => Err(HostFault::Preopen),
     }
 }
 
 /// The directory that the rest of a path names, from the root; an empty rest is the root.
-fn from_root<D: Device>(volume: &mut Volume<D>, rest: &[u8]) -> Result<u32, HostFault>
+fn from_root<D: Device>(volume: &mut Volume<D>, rest: &[u8]) -> Result<Serial, HostFault>
     requires { volume.old.failed ≡ false }
     ensures reads { Asked D.honest D.disk D.size D.failures volume.old volume.new (is_device result) }
     ensures found { D.honest volume.old.device
@@ -61,7 +66,7 @@ fn from_root<D: Device>(volume: &mut Volume<D>, rest: &[u8]) -> Result<u32, Host
 {
     volume.is_a_tree(); // a law: the root is there
     if rest.is_empty() {
-        return Ok(Serial::ROOT.number());
+        return Ok(Serial::ROOT);
     }
     match walk_from_root(volume, rest) {
         Ok((reached, _)) => reached_directory(volume, reached),
@@ -70,7 +75,7 @@ fn from_root<D: Device>(volume: &mut Volume<D>, rest: &[u8]) -> Result<u32, Host
 }
 
 /// The directory that a path of the volume names.
-fn directory_named<D: Device>(volume: &mut Volume<D>, path: &[u8]) -> Result<u32, HostFault>
+fn directory_named<D: Device>(volume: &mut Volume<D>, path: &[u8]) -> Result<Serial, HostFault>
     requires { volume.old.failed ≡ false }
     ensures reads { Asked D.honest D.disk D.size D.failures volume.old volume.new (is_device result) }
     ensures found { D.honest volume.old.device → FindsOrFails (directory_named volume.old.tree path.now) result }
@@ -87,10 +92,10 @@ fn directory_named<D: Device>(volume: &mut Volume<D>, path: &[u8]) -> Result<u32
 fn find_all<D: Device>(
     volume: &mut Volume<D>,
     preopens: &[Preopen<'_>],
-    serials: &mut [u32; MOST_PREOPENS],
+    serials: &mut [Serial; MOST_PREOPENS],
 ) -> Result<(), HostFault>
     requires working { volume.old.failed ≡ false }
-    requires few { length preopens.now ≤ 64 }
+    requires few { length preopens.now ≤ MOST_PREOPENS }
     ensures reads { Asked D.honest D.disk D.size D.failures volume.old volume.new (is_device result) }
     ensures found { D.honest volume.old.device
         → FindsAll volume.old.tree preopens.now serials.new result }
@@ -107,11 +112,11 @@ fn find_all<D: Device>(
 }
 
 /// The descriptor of a preopened directory.
-fn preopened<'t>(preopen: &Preopen<'t>, serial: u32) -> Descriptor<'t>
+fn preopened<'t>(preopen: &Preopen<'t>, serial: Serial) -> Descriptor<'t>
     ensures { result ≡ preopened preopen.now serial }
 {
     Descriptor::Entry(Opened {
-        serial,
+        serial: serial.number(),
         kind: EntryKind::Directory,
         position: 0,
         append: false,
@@ -123,7 +128,7 @@ fn preopened<'t>(preopen: &Preopen<'t>, serial: u32) -> Descriptor<'t>
 
 /// Opens a descriptor as the least number that stands for nothing.
 fn open_next<'t>(descriptors: &mut Descriptors<'t>, descriptor: Descriptor<'t>)
-    ensures { (n : ℕ) → n < 256 → table_of descriptors.old n ≡ None
+    ensures { (n : ℕ) → n < PLACES → table_of descriptors.old n ≡ None
         → ((k : ℕ) → k < n → table_of descriptors.old k ≢ None)
         → (k : ℕ) → table_of descriptors.new k ≡ with_at n (Some descriptor.entry) (table_of descriptors.old) k }
 {
@@ -134,10 +139,10 @@ fn open_next<'t>(descriptors: &mut Descriptors<'t>, descriptor: Descriptor<'t>)
 fn open_all<'t>(
     descriptors: &mut Descriptors<'t>,
     preopens: &[Preopen<'t>],
-    serials: &[u32; MOST_PREOPENS],
+    serials: &[Serial; MOST_PREOPENS],
 )
     requires streams { (n : ℕ) → table_of descriptors.old n ≡ streams n }
-    requires few { length preopens.now ≤ 64 }
+    requires few { length preopens.now ≤ MOST_PREOPENS }
     ensures { AreOpen preopens.now serials.now (length preopens.now) (table_of descriptors.new) }
 {
     for (i, preopen) in preopens.iter().enumerate() {
@@ -152,7 +157,7 @@ fn open_directories<'t, D: Device>(
     preopens: &[Preopen<'t>],
 ) -> Result<(), HostFault>
     requires streams { (n : ℕ) → table_of descriptors.old n ≡ streams n }
-    requires few { length preopens.now ≤ 64 }
+    requires few { length preopens.now ≤ MOST_PREOPENS }
     ensures opened { D.honest volume.old.device
         → OnOk result (HasPreopens volume.old.tree preopens.now (table_of descriptors.new)) }
     ensures refused { IfErr result (Refuses D.honest volume.old volume.new preopens.now) }
@@ -164,7 +169,7 @@ fn open_directories<'t, D: Device>(
         return Err(HostFault::Device);
     }
     volume.is_a_tree(); // a law: the root is a directory
-    let mut serials = [0; MOST_PREOPENS];
+    let mut serials = [Serial::ROOT; MOST_PREOPENS];
     match find_all(volume, preopens, &mut serials) {
         Ok(()) => {
             open_all(descriptors, preopens, &serials);
@@ -180,7 +185,7 @@ impl<'s, 't, D: Device, R, W1, W2> Inner<'s, 't, D, R, W1, W2> {
     /// Opens the preopened directories of the settings, in order from 3 on, or none.
     pub fn preopen(&mut self) -> Result<(), HostFault>
         requires streams { (n : ℕ) → table_of self.old.descriptors n ≡ streams n }
-        requires few { length self.old.settings.preopens.now ≤ 64 }
+        requires few { length self.old.settings.preopens.now ≤ MOST_PREOPENS }
         ensures opened { D.honest self.old.volume.device
             → OnOk result (HasPreopens self.old.volume.tree self.old.settings.preopens.now (table_of self.new.descriptors)) }
         ensures refused { IfErr result (Refuses D.honest self.old.volume self.new.volume self.old.settings.preopens.now) }

@@ -79,14 +79,14 @@ impl OpenCall {
 }
 
 /// What a path opens.
-#[derive(Clone, Copy)]
+#[derive(Drop)]
 pub(crate) enum Target<'p> {
     /// An entry as it is.
-    Entry { serial: u32, kind: EntryKind },
+    Entry { serial: Serial, kind: EntryKind },
     /// A file, whose bytes go.
-    Cut(u32),
+    Cut(Serial),
     /// A file that isn't there yet.
-    New { parent: u32, name: &'p [u8] },
+    New { parent: Serial, name: &'p [u8] },
 }
 
 /// Whether a flag is set.
@@ -182,7 +182,7 @@ pub(crate) fn ends_open(text: &[u8]) -> bool
 }
 
 /// How a directory, or a file, is opened.
-fn found_as<'p>(oflags: u32, serial: u32, is_directory: bool) -> Target<'p>
+fn found_as<'p>(oflags: u32, serial: Serial, is_directory: bool) -> Target<'p>
     ensures at { LeadsToSerial serial result }
     ensures target { (T : Tree) → directory_at T serial ≡ is_directory → IsTarget T oflags (Found serial) result }
 {
@@ -218,7 +218,7 @@ impl<'p> Target<'p> {
 /// the directory hands on.
 fn new_descriptor<'t>(
     directory: &Opened<'_>,
-    serial: u32,
+    serial: Serial,
     is_directory: bool,
     asked: &OpenCall,
 ) -> Descriptor<'t>
@@ -230,7 +230,7 @@ fn new_descriptor<'t>(
     let append = is_set(asked.fdflags, APPEND);
     let opened = if is_directory {
         Opened {
-            serial,
+            serial: serial.number(),
             kind: EntryKind::Directory,
             position: 0,
             append,
@@ -242,7 +242,7 @@ fn new_descriptor<'t>(
         }
     } else {
         Opened {
-            serial,
+            serial: serial.number(),
             kind: EntryKind::File,
             position: 0,
             append,
@@ -258,7 +258,7 @@ fn new_descriptor<'t>(
 fn found_target<'p, D: Device>(
     volume: &mut Volume<D>,
     oflags: u32,
-    serial: u32,
+    serial: Serial,
 ) -> Result<Target<'p>, Errno>
     requires { IsEntryOf D.honest volume.old serial }
     ensures step { VolumeStep D.honest D.disk D.size D.failures volume.old volume.new }
@@ -296,9 +296,12 @@ fn reached_target<'p, D: Device>(
         → ChecksAs oflags (wants_directory text.now) (reached_as reached.entry) w volume.new result }
 {
     match reached {
-        Reached::Found(serial) => found_target(volume, oflags, serial),
+        Reached::Found(serial) => found_target(volume, oflags, Serial::new(serial)),
         Reached::Missing { parent, name } => match check_missing(oflags, ends_open(text)) {
-            Ok(()) => Ok(Target::New { parent, name }),
+            Ok(()) => Ok(Target::New {
+                parent: Serial::new(parent),
+                name,
+            }),
             Err(errno) => Err(errno),
         },
     }
@@ -324,7 +327,7 @@ fn find_target<'t, 'm, D: Device>(
         Ok(entered) => entered,
         Err(errno) => return Err(errno),
     };
-    let reached = match reach(volume, directory.serial, text) {
+    let reached = match reach(volume, Serial::new(directory.serial), text) {
         Ok(reached) => reached,
         Err(errno) => return Err(refused(errno)),
     };
@@ -339,7 +342,7 @@ fn find_target<'t, 'm, D: Device>(
 }
 
 /// Makes the file or cuts it, and says which entry is opened.
-fn settle<D: Device>(volume: &mut Volume<D>, target: &Target<'_>) -> Result<u32, vol_tree::Errno>
+fn settle<D: Device>(volume: &mut Volume<D>, target: &Target<'_>) -> Result<Serial, vol_tree::Errno>
     requires works { volume.old.failed ≡ false }
     requires can { CanOpen D.honest volume.old target.now }
     ensures answer { D.honest volume.old.device
@@ -351,14 +354,11 @@ fn settle<D: Device>(volume: &mut Volume<D>, target: &Target<'_>) -> Result<u32,
 {
     match target {
         Target::Entry { serial, kind: _ } => Ok(*serial),
-        Target::Cut(serial) => match volume.set_size(Serial::new(*serial), 0) {
+        Target::Cut(serial) => match volume.set_size(*serial, 0) {
             Ok(()) => Ok(*serial),
             Err(errno) => Err(errno),
         },
-        Target::New { parent, name } => match volume.create_file(Serial::new(*parent), name) {
-            Ok(made) => Ok(made.number()),
-            Err(errno) => Err(errno),
-        },
+        Target::New { parent, name } => volume.create_file(*parent, name),
     }
 }
 

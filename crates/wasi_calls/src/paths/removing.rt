@@ -35,7 +35,7 @@ pub(crate) fn find<D: Device>(
     path: u32,
     len: u32,
     rights: Rights,
-) -> Result<u32, Errno>
+) -> Result<Serial, Errno>
     requires { KnowsEntries D.honest volume.old (table_of descriptors.now) }
     ensures step { VolumeStep D.honest D.disk D.size D.failures volume.old volume.new }
     ensures io { errno_of result ≡ 29 → volume.new.failed ≡ true }
@@ -48,31 +48,31 @@ pub(crate) fn find<D: Device>(
         Ok(entered) => entered,
         Err(errno) => return Err(errno),
     };
-    match reach(volume, directory.serial, text) {
-        Ok(Reached::Found(serial)) => Ok(serial),
+    match reach(volume, Serial::new(directory.serial), text) {
+        Ok(Reached::Found(serial)) => Ok(Serial::new(serial)),
         Ok(Reached::Missing { .. }) => Err(NOENT),
         Err(errno) => Err(refused(errno)),
     }
 }
 
 /// Whether some descriptor has the entry.
-pub(crate) fn is_held(descriptors: &Descriptors<'_>, serial: u32) -> bool
+pub(crate) fn is_held(descriptors: &Descriptors<'_>, serial: Serial) -> bool
     ensures { (w : World) → w.table ≡ table_of descriptors.now → result ≡ held_open w serial }
 {
-    descriptors.holds(Serial::new(serial))
+    descriptors.holds(serial)
 }
 
 /// Whether an entry is a directory.
 pub(crate) fn is_directory<D: Device>(
     volume: &mut Volume<D>,
-    serial: u32,
+    serial: Serial,
 ) -> Result<bool, vol_tree::Errno>
     requires { IsEntryOf D.honest volume.old serial }
     ensures asked { Asked D.honest D.disk D.size D.failures volume.old volume.new (is_io result) }
     ensures told { D.honest volume.old.device → MatchResult result
         (λ b. b ≡ directory_at volume.old.tree serial) (λ e. e ≡ tree.Io) }
 {
-    Ok(volume.stat(Serial::new(serial))?.kind == Kind::Directory)
+    Ok(volume.stat(serial)?.kind == Kind::Directory)
 }
 
 /// Whether a call that takes entries of one kind takes a directory, or a file.
@@ -97,7 +97,7 @@ fn removable<D: Device>(
     len: u32,
     rights: Rights,
     kind: Kind,
-) -> Result<u32, Errno>
+) -> Result<Serial, Errno>
     requires { KnowsEntries D.honest volume.old (table_of descriptors.now) }
     ensures step { VolumeStep D.honest D.disk D.size D.failures volume.old volume.new }
     ensures io { errno_of result ≡ 29 → volume.new.failed ≡ true }
@@ -150,7 +150,7 @@ pub(crate) fn path_unlink_file<D: Device>(
         right,
         Kind::File,
     ) {
-        Ok(file) => match volume.unlink(Serial::new(file)) {
+        Ok(file) => match volume.unlink(file) {
             Ok(()) => Ok(()),
             Err(errno) => Err(refused(errno)),
         },
@@ -184,7 +184,7 @@ pub(crate) fn path_remove_directory<D: Device>(
         right,
         Kind::Directory,
     ) {
-        Ok(directory) => match volume.rmdir(Serial::new(directory)) {
+        Ok(directory) => match volume.rmdir(directory) {
             Ok(()) => Ok(()),
             Err(errno) => Err(refused(errno)),
         },

@@ -34,9 +34,6 @@ use vol_tree::{Serial, Volume};
 use wasi_fd::{Descriptor, Descriptors, Fd, Opened, Rights};
 use wasm_store::{Errno, Memory};
 
-/// The serial of the root.
-const ROOT: u32 = 1;
-
 /// What a `path_rename` asks for.
 #[derive(Clone, Copy)]
 pub(crate) struct RenameCall {
@@ -69,9 +66,9 @@ struct Ends<'t, 'm> {
 }
 
 /// What its paths reach.
-#[derive(Clone, Copy)]
+#[derive(Drop)]
 struct Walked<'m> {
-    source: u32,
+    source: Serial,
     target: Reached<'m>,
     /// A slash stands after the second path.
     slash: bool,
@@ -96,21 +93,21 @@ impl RenameCall {
 }
 
 /// The directory that an entry is in.
-fn above<D: Device>(volume: &mut Volume<D>, serial: u32) -> Result<u32, vol_tree::Errno>
+fn above<D: Device>(volume: &mut Volume<D>, serial: Serial) -> Result<Serial, vol_tree::Errno>
     requires { IsEntryOf D.honest volume.old serial }
     ensures asked { Asked D.honest D.disk D.size D.failures volume.old volume.new (is_io result) }
     ensures range { IfOk result (IsSerial volume.old.numbers) }
     ensures told { D.honest volume.old.device → serial ≢ 1 → MatchResult result
         (λ p. IsAbove volume.old.tree serial p) (λ e. e ≡ tree.Io) }
 {
-    Ok(volume.stat(Serial::new(serial))?.parent.number())
+    Ok(volume.stat(serial)?.parent)
 }
 
 /// Whether an entry is another one, or stands below it.
 fn is_within<D: Device>(
     volume: &mut Volume<D>,
-    top: u32,
-    serial: u32,
+    top: Serial,
+    serial: Serial,
 ) -> Result<bool, vol_tree::Errno>
     requires works { volume.old.failed ≡ false }
     requires top { IsEntryOf D.honest volume.old top }
@@ -120,7 +117,7 @@ fn is_within<D: Device>(
         (λ b. b ≡ is_within_row (length volume.old.tree) volume.old.tree top serial) (λ e. e ≡ tree.Io) }
 {
     volume.is_a_tree();
-    if top == ROOT {
+    if top == Serial::ROOT {
         return Ok(true);
     }
     let slots = volume.stats().slots;
@@ -129,7 +126,7 @@ fn is_within<D: Device>(
         if at == top {
             return Ok(true);
         }
-        if at == ROOT {
+        if at == Serial::ROOT {
             return Ok(false);
         }
         match above(volume, at) {
@@ -141,19 +138,19 @@ fn is_within<D: Device>(
 }
 
 /// Whether nothing stands in a directory.
-fn is_empty<D: Device>(volume: &mut Volume<D>, directory: u32) -> Result<bool, vol_tree::Errno>
+fn is_empty<D: Device>(volume: &mut Volume<D>, directory: Serial) -> Result<bool, vol_tree::Errno>
     ensures asked { Asked D.honest D.disk D.size D.failures volume.old volume.new (is_io result) }
     ensures told { D.honest volume.old.device → MatchResult result
         (λ b. b ≡ is_empty volume.old.tree directory) (λ e. e ≡ tree.Io) }
 {
-    Ok(volume.list_next(Serial::new(directory), 0)?.is_none())
+    Ok(volume.list_next(directory, 0)?.is_none())
 }
 
 /// What is asked of a source and a target.
 fn ask_facts<D: Device>(
     volume: &mut Volume<D>,
-    source: u32,
-    target: u32,
+    source: Serial,
+    target: Serial,
 ) -> Result<Facts, vol_tree::Errno>
     requires works { volume.old.failed ≡ false }
     requires source { IsEntryOf D.honest volume.old source }
@@ -192,8 +189,8 @@ fn check_replace(facts: Facts, held: bool) -> Result<(), Errno>
 fn may_replace<D: Device>(
     volume: &mut Volume<D>,
     descriptors: &Descriptors<'_>,
-    source: u32,
-    target: u32,
+    source: Serial,
+    target: Serial,
 ) -> Result<(), Errno>
     requires works { volume.old.failed ≡ false }
     requires source { IsEntryOf D.honest volume.old source }
@@ -213,8 +210,8 @@ fn may_replace<D: Device>(
 /// Gives an entry the place and the name of another one.
 fn rename_onto<D: Device>(
     volume: &mut Volume<D>,
-    source: u32,
-    target: u32,
+    source: Serial,
+    target: Serial,
 ) -> Result<(), vol_tree::Errno>
     requires works { volume.old.failed ≡ false }
     requires source { IsEntryOf D.honest volume.old source }
@@ -227,7 +224,7 @@ fn rename_onto<D: Device>(
     ensures kept { Keeps D.honest D.size D.failures volume.old volume.new (is_io result) }
 {
     volume.is_a_tree();
-    let stat = match volume.stat(Serial::new(target)) {
+    let stat = match volume.stat(target) {
         Ok(stat) => stat,
         Err(errno) => return Err(errno),
     };
@@ -235,15 +232,15 @@ fn rename_onto<D: Device>(
     if !is_name(name) {
         return Err(vol_tree::Errno::Invalid);
     }
-    volume.rename(Serial::new(source), stat.parent, name)
+    volume.rename(source, stat.parent, name)
 }
 
 /// Renames onto a target that is there, which goes; nothing is done where it is the source.
 fn rename_found<D: Device>(
     volume: &mut Volume<D>,
     descriptors: &Descriptors<'_>,
-    source: u32,
-    target: u32,
+    source: Serial,
+    target: Serial,
 ) -> Result<(), Errno>
     requires works { volume.old.failed ≡ false }
     requires source { IsEntryOf D.honest volume.old source }
@@ -281,9 +278,9 @@ fn check_slash(slash: bool, is_directory: bool) -> Result<(), Errno>
 /// Renames to a name that isn't there, which may have a slash after it.
 fn rename_missing<D: Device>(
     volume: &mut Volume<D>,
-    source: u32,
+    source: Serial,
     slash: bool,
-    parent: u32,
+    parent: Serial,
     name: &[u8],
 ) -> Result<(), Errno>
     requires works { volume.old.failed ≡ false }
@@ -303,7 +300,7 @@ fn rename_missing<D: Device>(
     if let Err(errno) = check_slash(slash, is_directory) {
         return Err(errno);
     }
-    match volume.rename(Serial::new(source), Serial::new(parent), name) {
+    match volume.rename(source, parent, name) {
         Ok(()) => Ok(()),
         Err(errno) => Err(refused(errno)),
     }
@@ -326,9 +323,9 @@ fn rename_reached<D: Device>(
 {
     let source = walked.source;
     match walked.target {
-        Reached::Found(target) => rename_found(volume, descriptors, source, target),
+        Reached::Found(target) => { rename_found(volume, descriptors, source, Serial::new(target)) }
         Reached::Missing { parent, name } => {
-            rename_missing(volume, source, walked.slash, parent, name)
+            rename_missing(volume, source, walked.slash, Serial::new(parent), name)
         }
     }
 }
@@ -390,13 +387,14 @@ fn enter_both<'t, 'm>(
 }
 
 /// The entry that is renamed: not the directory that its path was walked from.
-fn source_of(moved: Reached<'_>, directory: u32) -> Result<u32, Errno>
+fn source_of(moved: Reached<'_>, directory: Serial) -> Result<Serial, Errno>
     ensures row { MatchResult result (λ s. source_checked directory (reached_as moved.entry) ≡ Ok s)
         (λ e. source_checked directory (reached_as moved.entry) ≡ Err e.0) }
     ensures found { IfOk result (λ s. moved.entry ≡ Reached.Found s) }
 {
     match moved {
-        Reached::Found(source) => {
+        Reached::Found(found) => {
+            let source = Serial::new(found);
             if source == directory {
                 Err(BUSY)
             } else {
@@ -428,15 +426,17 @@ fn walk_both<'m, D: Device>(
         Ok(ends) => ends,
         Err(errno) => return Err(errno),
     };
-    let moved = match reach(volume, ends.from.serial, ends.from_text) {
+    let from = Serial::new(ends.from.serial);
+    let to = Serial::new(ends.to.serial);
+    let moved = match reach(volume, from, ends.from_text) {
         Ok(moved) => moved,
         Err(errno) => return Err(refused(errno)),
     };
-    let target = match reach(volume, ends.to.serial, ends.to_text) {
+    let target = match reach(volume, to, ends.to_text) {
         Ok(target) => target,
         Err(errno) => return Err(refused(errno)),
     };
-    let source = match source_of(moved, ends.from.serial) {
+    let source = match source_of(moved, from) {
         Ok(source) => source,
         Err(errno) => return Err(errno),
     };

@@ -130,6 +130,9 @@ fn fill_next<R: Read>(
     memory: &mut Memory,
     buffer: Span,
 ) -> Result<usize, ReaderFailed>
+    // `room` to `end` are asked for. An `Ok` has the bytes that `came`, how many they are (`full`, `short`, `small`), and `none`
+    // after the end; an `Err` leaves the input open (`still`) and what came by then (`broke`); either way the memory keeps its
+    // length (`long`), a marked end is the reader's (`end`), and the mark of failure is as it was (`mark`).
     requires room { 0 < length piece.old }
     requires inside { buffer.pointer + buffer.len ≤ length memory.old }
     requires end { input.old.ended ≡ true → IsAtEnd (R.remaining input.old.reader) }
@@ -158,6 +161,8 @@ fn fill_buffers<R: Read>(
     memory: &mut Memory,
     buffers: &[Span],
 ) -> Result<usize, ReaderFailed>
+    // The groups of `fill_next`, for all buffers: asked for (`room` to `end`); of an `Ok` (`dealt`, `full`, `short`, `none`); of an
+    // `Err` (`still`, `broke`); of both (`long`, `end`, `mark`).
     requires room { 0 < length piece.old }
     requires few { length buffers.now ≤ MOST_BUFFERS }
     requires inside { list_all (is_inside memory.old) (list_of buffers.now) ≡ true }

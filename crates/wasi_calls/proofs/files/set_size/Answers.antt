@@ -4,7 +4,7 @@ use Rattle.wasi_fd.specs.Table.{table_of}
 use Rattle.wasi_calls.specs.declared.checks.Takes.TheVariants as takes
 use Rattle.wasi_calls.proofs.checks.CausesOf29.{asked_29, check_not_29, no_29_at_0}
 use Rattle.wasi_calls.proofs.checks.NoneAnswers29.{entry_never}
-use Rattle.wasi_calls.specs.World.{volume_gone}
+use Rattle.wasi_calls.specs.World.{with_volume_failed}
 use Rattle.wasi_calls.specs.files.Rows.{fd_filestat_set_size}
 use Rattle.wasi_calls.specs.Calls.{Answered}
 use Rattle.wasi_calls.specs.Checks.{sized, entry_at}
@@ -51,6 +51,6 @@ returns-in-Err-set_size g c = record {
       subst (λ (n : ℕ). Answered (λ v. fd_filestat_set_size v c.args.fd size) w m (with_volume c.set_size.new.self w) m n) (sym c.refused.ensures)
       (changed_err g.D.Device.honest g.D.Device.size g.D.Device.failures w m (λ v. fd_filestat_set_size v c.args.fd size) (λ v. resized v.volume v.tree o.serial size)
       c.args.volume.now c.set_size.new.self shown (goes_on _ _ o (c.in-Ok.ensures w table))
-      (goes_on _ _ o (c.in-Ok.ensures (volume_gone w) table)) (resized_never w.volume w.tree o.serial size) e c.in-Err-set_size.ensures.kept tree meant);
+      (goes_on _ _ o (c.in-Ok.ensures (with_volume_failed w) table)) (resized_never w.volume w.tree o.serial size) e c.in-Err-set_size.ensures.kept tree meant);
   io = asked_29 (Unit {0}) c.in-Err-set_size.errno _ (λ fails. c.in-Err-set_size.ensures.kept.failed ∙ fails) c.refused.ensures;
 }

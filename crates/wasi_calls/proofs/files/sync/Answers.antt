@@ -4,7 +4,7 @@ use Rattle.wasi_fd.specs.Rights.{bits_of}
 use Rattle.wasi_calls.specs.declared.checks.Takes.TheVariants as takes
 use Rattle.wasi_calls.proofs.checks.CausesOf29.{asked_29, check_not_29, no_29_at_0}
 use Rattle.wasi_calls.proofs.checks.NoneAnswers29.{entry_never}
-use Rattle.wasi_calls.specs.World.{World, volume_gone}
+use Rattle.wasi_calls.specs.World.{World, with_volume_failed}
 use Rattle.wasi_calls.specs.Checks.{only_world, entry_at, no_streams}
 use Rattle.wasi_fd.specs.declared.descriptor.Opened.{Opened}
 use Rattle.wasi_calls.specs.files.Rows.{fd_sync}
@@ -27,7 +27,7 @@ done : (w : World) (fd right : ℕ) (o : Opened) → entry_at w fd no_streams ri
 done w fd right o at working = goes_on _ _ o at ∙ goes_on _ _ tt (goes_on _ _ tt (guard_passes _ 29 (ap not working)))
 
 -- and where it has failed it answers 29
-failed : (w : World) (fd right : ℕ) (o : Opened) → entry_at (volume_gone w) fd no_streams right ≡ Ok o → fd_sync (volume_gone w) fd right ≡ Err 29
+failed : (w : World) (fd right : ℕ) (o : Opened) → entry_at (with_volume_failed w) fd no_streams right ≡ Ok o → fd_sync (with_volume_failed w) fd right ≡ Err 29
 failed w fd right o at = goes_on _ _ o at ∙ stops _ _ 29 (stops _ _ 29 (guard_fails _ 29 refl))
 
 pub returns-in-Ok : goal.returns-in-Ok
@@ -63,7 +63,7 @@ returns-in-Err-sync g c = record {
       subst (λ (n : ℕ). Answered (λ v. fd_sync v c.args.fd right) w m (with_volume new w) m n) (sym c.refused.ensures)
       (tree_refuses w m g.D.Device.honest g.D.Device.size g.D.Device.failures (Unit {0}) (λ v. fd_sync v c.args.fd right) old new e c.in-Err-sync.ensures.kept shown tree
       (λ alive other. absurd (other is_io))
-      (failed w c.args.fd right o (c.in_default.ensures (volume_gone w) table))
+      (failed w c.args.fd right o (c.in_default.ensures (with_volume_failed w) table))
       (λ alive. is_no_err _ (only_world w) 29 (ok alive)));
   durable = λ h zero. absurd (number_never_zero c.in-Err-sync.errno (sym c.refused.ensures ∙ zero));
   io = asked_29 (Unit {0}) c.in-Err-sync.errno _ (λ fails. c.in-Err-sync.ensures.kept.failed ∙ fails) c.refused.ensures;

@@ -10,7 +10,7 @@ use Rattle.wasi_fd.specs.Table.{table_of}
 use Rattle.wasi_fd.specs.declared.descriptor.Opened.{Opened}
 use Rattle.wasi_calls.proofs.checks.CausesOf29.{asked_29, check_not_29}
 use Rattle.wasi_calls.proofs.checks.NoneAnswers29.{entered_never}
-use Rattle.wasi_calls.specs.World.{World, volume_gone}
+use Rattle.wasi_calls.specs.World.{World, with_volume_failed}
 use Rattle.wasi_calls.specs.Checks.{Checked, Done, and_then, walk}
 use Rattle.wasi_calls.specs.paths.Rows.{path_create_directory, path_at, missing}
 use Rattle.wasi_calls.specs.Calls.{Answered}
@@ -49,7 +49,7 @@ returns-in-Err g c = record {
 
 pub reach-requires : goal.reach-requires
 reach-requires g c =
-    entry_of g.D.Device.honest c.args.volume.now (table_of c.args.descriptors.now) c.requires c.args.memory.now c.args.fd (2 ^ 9) c.args.path c.args.len c.in-Ok.entered.0 c.in-Ok.ensures.row
+    rw c.new.ensures (entry_of g.D.Device.honest c.args.volume.now (table_of c.args.descriptors.now) c.requires c.args.memory.now c.args.fd (2 ^ 9) c.args.path c.args.len c.in-Ok.entered.0 c.in-Ok.ensures.row)
 
 pub returns-in-Ok-create_dir-clause-step : goal.returns-in-Ok-create_dir-clause-step
 returns-in-Ok-create_dir-clause-step g c =
@@ -73,13 +73,13 @@ returns-in-Ok-create_dir-clause-answered g c = λ h w table shown.
     let place : ℕ × Name = (c.in-Ok-Missing.parent, c.in-Ok-Missing.name.now) in
     let working : old.failed ≡ false = was_working g.D.Device.honest g.D.Device.size g.D.Device.failures old between false walked.kept refl in
     let alive : w.volume_failed ≡ false = ap (λ (w : World). w.volume_failed) shown ∙ working in
-    let reaches = (c.in-Ok-Missing.ensures.reaches h w o refl shown).0 alive in
+    let reaches = (c.in-Ok-Missing.ensures.reaches h w o (sym c.new.ensures) shown).0 alive in
     let is : missing (reached_as c.in-Ok-Missing.field-0) ≡ Ok place = ap (λ (r : ReachedValue). missing (reached_as r)) c.in-Ok-Missing.field-0-is in
     let here : w ≡ with_volume between w = sym (same_volume w m old between shown walked.kept.numbers (walked.tree h) (walked.kept.failed ∙ sym working)) in
     made_ok g.D.Device.honest g.D.Device.size g.D.Device.failures w m run (made_at place) between new here
     (to_rest w m c.args.fd c.args.path c.args.len o (c.in-Ok.ensures.row w table)
     ∙ (goes_on _ _ (reached_as c.in-Ok-Missing.field-0) (ap (walk w o) (sym c.in-Ok.ensures.text) ∙ reaches) ∙ goes_on _ _ place is))
-    c.in-Ok-create_dir.ensures.kept c.in-Ok-create_dir.field-0 (rw c.new.ensures at c.in-Ok-create_dir.ensures.answer (walked.kept.honest.0 h))
+    c.in-Ok-create_dir.ensures.kept c.in-Ok-create_dir.field-0 (rw c.new-in-Ok-Missing.ensures at c.in-Ok-create_dir.ensures.answer (walked.kept.honest.0 h))
 
 pub returns-in-Err-create_dir-clause-answered : goal.returns-in-Err-create_dir-clause-answered
 returns-in-Err-create_dir-clause-answered g c = λ h w table shown.
@@ -93,16 +93,16 @@ returns-in-Err-create_dir-clause-answered g c = λ h w table shown.
     let place : ℕ × Name = (c.in-Ok-Missing.parent, c.in-Ok-Missing.name.now) in
     let working : old.failed ≡ false = was_working g.D.Device.honest g.D.Device.size g.D.Device.failures old between false walked.kept refl in
     let alive : w.volume_failed ≡ false = ap (λ (w : World). w.volume_failed) shown ∙ working in
-    let reaches = c.in-Ok-Missing.ensures.reaches h w o refl shown in
+    let reaches = c.in-Ok-Missing.ensures.reaches h w o (sym c.new.ensures) shown in
     let is : missing (reached_as c.in-Ok-Missing.field-0) ≡ Ok place = ap (λ (r : ReachedValue). missing (reached_as r)) c.in-Ok-Missing.field-0-is in
     let here : w ≡ with_volume between w = sym (same_volume w m old between shown walked.kept.numbers (walked.tree h) (walked.kept.failed ∙ sym working)) in
-    let (tree, meant) = rw c.new.ensures at c.in-Err-create_dir.ensures.answer (walked.kept.honest.0 h) in
+    let (tree, meant) = rw c.new-in-Ok-Missing.ensures at c.in-Err-create_dir.ensures.answer (walked.kept.honest.0 h) in
     subst (λ (n : ℕ). Answered run w m (with_volume new w) m n) (sym c.refused.ensures)
     (made_err g.D.Device.honest g.D.Device.size g.D.Device.failures w m run (made_at place) between new here
     (to_rest w m c.args.fd c.args.path c.args.len o (c.in-Ok.ensures.row w table)
     ∙ (goes_on _ _ (reached_as c.in-Ok-Missing.field-0) (ap (walk w o) (sym c.in-Ok.ensures.text) ∙ reaches.0 alive) ∙ goes_on _ _ place is))
-    (to_rest (volume_gone w) m c.args.fd c.args.path c.args.len o (c.in-Ok.ensures.row (volume_gone w) table)
-    ∙ stops _ _ 29 (ap (walk (volume_gone w) o) (sym c.in-Ok.ensures.text) ∙ reaches.1))
+    (to_rest (with_volume_failed w) m c.args.fd c.args.path c.args.len o (c.in-Ok.ensures.row (with_volume_failed w) table)
+    ∙ stops _ _ 29 (ap (walk (with_volume_failed w) o) (sym c.in-Ok.ensures.text) ∙ reaches.1))
     (created_never w.tree place.0 place.1 Directory) c.in-Err-create_dir.errno c.in-Err-create_dir.ensures.kept tree meant)
 
 pub returns-in-Ok-Found : goal.returns-in-Ok-Found
@@ -116,7 +116,7 @@ returns-in-Ok-Found g c = record {
       let walked = c.in-Ok-Found.ensures.works in
       let working : old.failed ≡ false = was_working g.D.Device.honest g.D.Device.size g.D.Device.failures old new false walked.kept refl in
       let alive : w.volume_failed ≡ false = ap (λ (w : World). w.volume_failed) shown ∙ working in
-      let reaches = (c.in-Ok-Found.ensures.reaches h w o refl shown).0 alive in
+      let reaches = (c.in-Ok-Found.ensures.reaches h w o (sym c.new.ensures) shown).0 alive in
       let is : missing (reached_as c.in-Ok-Found.field-0) ≡ Err 20 = ap (λ (r : ReachedValue). missing (reached_as r)) c.in-Ok-Found.field-0-is in
       refused_by w m (λ v. path_create_directory v m c.args.fd c.args.path c.args.len) old new 20 shown walked.kept.numbers (walked.tree h) (walked.kept.failed ∙ sym working)
       (to_rest w m c.args.fd c.args.path c.args.len o (c.in-Ok.ensures.row w table)
@@ -137,12 +137,12 @@ returns-in-Err-reach g c = record {
       let goes = λ (v : World) (same : v.table ≡ table_of c.args.descriptors.now). to_rest v m c.args.fd c.args.path c.args.len o (c.in-Ok.ensures.row v same) in
       let text = λ (v : World). ap (walk v o) (sym c.in-Ok.ensures.text) in
       subst (λ (n : ℕ). Answered run w m (with_volume new w) m n) (sym c.refused-in-Err-reach.ensures)
-      (elim (c.in-Err-reach.ensures.reaches h w o refl shown) [
+      (elim (c.in-Err-reach.ensures.reaches h w o (sym c.new.ensures) shown) [
         | inl t ↦ subst (λ (v : _). Answered run w m (with_volume v w) m (number_of e)) (sym t.same)
             (refused_first w m run old (number_of e) shown (goes w table ∙ stops _ _ _ (text w ∙ t.answer)))
         | inr r ↦ tree_refuses w m g.D.Device.honest g.D.Device.size g.D.Device.failures ReachedValue run old new e r.kept shown r.tree
             (λ alive other. goes w table ∙ stops _ _ _ (text w ∙ r.answer alive other))
-            (goes (volume_gone w) table ∙ stops _ _ 29 (text (volume_gone w) ∙ r.gone))
+            (goes (with_volume_failed w) table ∙ stops _ _ 29 (text (with_volume_failed w) ∙ r.gone))
             (λ alive is. never_after (path_at w m o c.args.path c.args.len) (of_reached w) (λ no. r.never alive (sym (text w) ∙ no))
             (λ x _. rest_never w alive x) (sym (goes w table) ∙ is))
       ]);
@@ -153,14 +153,14 @@ pub create_dir-requires-clause-name : goal.create_dir-requires-clause-name
 create_dir-requires-clause-name g c = let reached = subst (IsReached g.D.Device.honest c.reach.new.volume) c.in-Ok-Missing.field-0-is c.in-Ok-Missing.ensures.reached in reached.1
 
 pub create_dir-requires-clause-serial : goal.create_dir-requires-clause-serial
-create_dir-requires-clause-serial g c = let reached = subst (IsReached g.D.Device.honest c.reach.new.volume) c.in-Ok-Missing.field-0-is c.in-Ok-Missing.ensures.reached in rw c.new.ensures reached.0.number.first
+create_dir-requires-clause-serial g c = let reached = subst (IsReached g.D.Device.honest c.reach.new.volume) c.in-Ok-Missing.field-0-is c.in-Ok-Missing.ensures.reached in rw c.new-in-Ok-Missing.ensures reached.0.number.first
 
 pub create_dir-requires-clause-directory : goal.create_dir-requires-clause-directory
 create_dir-requires-clause-directory g c = λ h.
     let walked = c.in-Ok-Missing.ensures in
     let before = walked.works.kept.honest.1 h in
     let place = subst (λ (r : ReachedValue). Places c.args.volume.now.tree (Ok r)) c.in-Ok-Missing.field-0-is (walked.place before) in
-    rw c.new.ensures (subst (λ (T : Tree). IsDirectory T c.in-Ok-Missing.parent) (sym (walked.works.tree before)) place)
+    rw c.new-in-Ok-Missing.ensures (subst (λ (T : Tree). IsDirectory T c.in-Ok-Missing.parent) (sym (walked.works.tree before)) place)
 
 pub returns-in-Err-create_dir-clause-io : goal.returns-in-Err-create_dir-clause-io
 returns-in-Err-create_dir-clause-io g c = asked_29 ℕ c.in-Err-create_dir.errno _ (λ fails. c.in-Err-create_dir.ensures.kept.failed ∙ fails) c.refused.ensures

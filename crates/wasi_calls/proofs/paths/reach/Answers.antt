@@ -15,7 +15,7 @@ returns-in-Ok-clause-reaches g c = λ h w o serial shown.
     reaches_by g.D.Device.honest g.D.Device.disk g.D.Device.size g.D.Device.failures v c.walk.new.volume w o text (components_of text) c.walk.result
     c.in-Ok.ensures.1 shown (c.walk.ensures.tree h)
     (subst (λ (n : ℕ). GivesOrIo (resolved v.tree n (wants_directory text) (components_of text)) c.walk.result) (sym serial)
-    (subst (λ (l : List ℕ). GivesOrIo (resolved v.tree c.args.directory (wants_directory l) (components_of l)) c.walk.result) same (rw c.new.ensures at c.walk.ensures.answer h)))
+    (subst (λ (l : List ℕ). GivesOrIo (resolved v.tree c.args.directory (wants_directory l) (components_of l)) c.walk.result) same (c.walk.ensures.answer h)))
     (λ inside. c.walk.ensures.kept (ap (λ (l : List ℕ). stays_inside 0 (components_of l)) same ∙ inside))
     (λ out. c.walk.ensures.outside (ap (λ (l : List ℕ). stays_inside 0 (components_of l)) same ∙ out))
 
@@ -30,7 +30,7 @@ returns-in-Err-clause-reaches g c = λ h w o serial shown.
 
 pub returns-in-Ok-clause-place : goal.returns-in-Ok-clause-place
 returns-in-Ok-clause-place g c = λ h.
-    places c.args.volume.now.tree c.args.directory (wants_directory c.in-Ok.path) (components_of c.in-Ok.path) c.walk.result (rw c.new.ensures at c.walk.ensures.answer h)
+    places c.args.volume.now.tree c.args.directory (wants_directory c.in-Ok.path) (components_of c.in-Ok.path) c.walk.result (c.walk.ensures.answer h)
 
 pub returns-in-Err-clause-step : goal.returns-in-Err-clause-step
 returns-in-Err-clause-step g c = volume_rests g.D.Device.honest g.D.Device.disk g.D.Device.size g.D.Device.failures c.args.volume.now
@@ -42,4 +42,4 @@ pub returns-in-Ok-clause-io : goal.returns-in-Ok-clause-io
 returns-in-Ok-clause-io g c = walk_io {honest = g.D.Device.honest} {sectors_on = g.D.Device.size} {failures = g.D.Device.failures} (stays_inside 0 (components_of c.in-Ok.path)) c.args.volume.now c.walk.new.volume c.walk.result c.walk.ensures.kept c.walk.ensures.outside
 
 pub walk-requires : goal.walk-requires
-walk-requires g c = record { directory = rw c.new.ensures c.requires }
+walk-requires g c = record { directory = c.requires }

@@ -8,7 +8,7 @@ use Rattle.wasi_fd.specs.Table.{table_of}
 use Rattle.wasi_fd.specs.declared.descriptor.Opened.{Opened}
 use Rattle.wasi_calls.proofs.checks.CausesOf29.{asked_29, check_not_29, no_29_at_0, not_29}
 use Rattle.wasi_calls.proofs.checks.NoneAnswers29.{entered_never, range_never}
-use Rattle.wasi_calls.specs.World.{World, volume_gone}
+use Rattle.wasi_calls.specs.World.{World, with_volume_failed}
 use Rattle.wasi_calls.specs.Checks.{Checked, Done, and_then, range, walk, found, tree_call, with_result}
 use Rattle.wasi_calls.specs.descriptors.Rows.{entry_stat}
 use Rattle.wasi_calls.specs.paths.Rows.{path_filestat_get, path_at}
@@ -63,7 +63,7 @@ returns-in-Err-check_range g c = record {
 
 pub reach-requires : goal.reach-requires
 reach-requires g c =
-    entry_of g.D.Device.honest c.args.volume.now (table_of c.args.descriptors.now) c.requires c.args.memory.now c.args.fd (2 ^ 18) c.args.path c.args.len c.in-Ok.entered.0 c.in-Ok.ensures.row
+    rw c.new.ensures (entry_of g.D.Device.honest c.args.volume.now (table_of c.args.descriptors.now) c.requires c.args.memory.now c.args.fd (2 ^ 18) c.args.path c.args.len c.in-Ok.entered.0 c.in-Ok.ensures.row)
 
 pub returns-in-Ok-stat_entry : goal.returns-in-Ok-stat_entry
 returns-in-Ok-stat_entry g c = record {
@@ -81,10 +81,10 @@ returns-in-Ok-stat_entry g c = record {
       let k = c.in-Ok-stat_entry.ensures.kept in
       let working : old.failed ≡ false = was_working g.D.Device.honest g.D.Device.size g.D.Device.failures old c.reach.new.volume false walked.kept refl in
       let alive : w.volume_failed ≡ false = ap (λ (w : World). w.volume_failed) shown ∙ working in
-      let (told, tree) = c.in-Ok-stat_entry.ensures.answer (walked.kept.honest.0 h) in
+      let (told, tree) = rw c.new-in-Ok-Found.ensures at c.in-Ok-stat_entry.ensures.answer (walked.kept.honest.0 h) in
       let bytes = entry_stat w.tree s in
       let same : c.in-Ok-stat_entry.bytes ≡ bytes = told ∙ (ap (λ (T : _). entry_stat T s) (walked.tree h) ∙ ap (λ (w : World). entry_stat w.tree s) (sym shown)) in
-      let reaches = (c.in-Ok-Found.ensures.reaches h w o refl shown).0 alive in
+      let reaches = (c.in-Ok-Found.ensures.reaches h w o (sym c.new.ensures) shown).0 alive in
       let is : found (reached_as c.in-Ok-Found.field-0) ≡ Ok s = ap (λ (r : ReachedValue). found (reached_as r)) c.in-Ok-Found.field-0-is in (
         to_rest w m c.args.fd c.args.path c.args.len at o (c.in-Ok.ensures.row w table) c.in_default.ensures.range
             ∙ (goes_on _ _ (reached_as c.in-Ok-Found.field-0) (ap (walk w o) (sym c.in-Ok.ensures.text) ∙ reaches)
@@ -109,12 +109,12 @@ returns-in-Err-stat_entry g c = record {
       let k = c.in-Err-stat_entry.ensures.kept in
       let run : World → Checked Done = λ v. path_filestat_get v m c.args.fd c.args.path c.args.len at in
       let (io, tree) = c.in-Err-stat_entry.ensures.answer (walked.kept.honest.0 h) in
-      let reaches = c.in-Ok-Found.ensures.reaches h w o refl shown in
+      let reaches = c.in-Ok-Found.ensures.reaches h w o (sym c.new.ensures) shown in
       let fails : new.failed ≡ true = k.failed ∙ ap (λ (e : _). is_io {X = List ℕ} (Err e)) io in
       subst (λ (n : ℕ). Answered run w m (with_volume new w) m n) (sym (c.refused.ensures ∙ ap number_of io))
       (failed_by w m run old new shown (k.numbers ∙ walked.kept.numbers) (tree ∙ walked.tree h) fails
-      (to_rest (volume_gone w) m c.args.fd c.args.path c.args.len at o (c.in-Ok.ensures.row (volume_gone w) table) c.in_default.ensures.range
-      ∙ stops _ _ 29 (ap (walk (volume_gone w) o) (sym c.in-Ok.ensures.text) ∙ reaches.1))
+      (to_rest (with_volume_failed w) m c.args.fd c.args.path c.args.len at o (c.in-Ok.ensures.row (with_volume_failed w) table) c.in_default.ensures.range
+      ∙ stops _ _ 29 (ap (walk (with_volume_failed w) o) (sym c.in-Ok.ensures.text) ∙ reaches.1))
       (λ alive is. never_after (path_at w m o c.args.path c.args.len) (of_reached w at)
       (λ no. ok_no_err _ (reached_as c.in-Ok-Found.field-0) 29 (ap (walk w o) (sym c.in-Ok.ensures.text) ∙ reaches.0 alive) no)
       (λ r _. rest_never w at alive r)
@@ -135,7 +135,7 @@ returns-in-Ok-Missing g c = record {
       let walked = c.in-Ok-Missing.ensures.works in
       let working : old.failed ≡ false = was_working g.D.Device.honest g.D.Device.size g.D.Device.failures old new false walked.kept refl in
       let alive : w.volume_failed ≡ false = ap (λ (w : World). w.volume_failed) shown ∙ working in
-      let reaches = (c.in-Ok-Missing.ensures.reaches h w o refl shown).0 alive in
+      let reaches = (c.in-Ok-Missing.ensures.reaches h w o (sym c.new.ensures) shown).0 alive in
       let is : found (reached_as c.in-Ok-Missing.field-0) ≡ Err 44 = ap (λ (r : ReachedValue). found (reached_as r)) c.in-Ok-Missing.field-0-is in
       refused_by w m (λ v. path_filestat_get v m c.args.fd c.args.path c.args.len at) old new 44 shown walked.kept.numbers (walked.tree h) (walked.kept.failed ∙ sym working)
       (to_rest w m c.args.fd c.args.path c.args.len at o (c.in-Ok.ensures.row w table) c.in_default.ensures.range
@@ -158,12 +158,12 @@ returns-in-Err-reach g c = record {
       let goes = λ (v : World) (same : v.table ≡ table_of c.args.descriptors.now). to_rest v m c.args.fd c.args.path c.args.len at o (c.in-Ok.ensures.row v same) c.in_default.ensures.range in
       let text = λ (v : World). ap (walk v o) (sym c.in-Ok.ensures.text) in
       subst (λ (n : ℕ). Answered run w m (with_volume new w) m n) (sym c.refused-in-Err-reach.ensures)
-      (elim (c.in-Err-reach.ensures.reaches h w o refl shown) [
+      (elim (c.in-Err-reach.ensures.reaches h w o (sym c.new.ensures) shown) [
         | inl t ↦ subst (λ (v : _). Answered run w m (with_volume v w) m (number_of e)) (sym t.same)
             (refused_first w m run old (number_of e) shown (goes w table ∙ stops _ _ _ (text w ∙ t.answer)))
         | inr r ↦ tree_refuses w m g.D.Device.honest g.D.Device.size g.D.Device.failures ReachedValue run old new e r.kept shown r.tree
             (λ alive other. goes w table ∙ stops _ _ _ (text w ∙ r.answer alive other))
-            (goes (volume_gone w) table ∙ stops _ _ 29 (text (volume_gone w) ∙ r.gone))
+            (goes (with_volume_failed w) table ∙ stops _ _ 29 (text (with_volume_failed w) ∙ r.gone))
             (λ alive is. never_after (path_at w m o c.args.path c.args.len) (of_reached w at) (λ no. r.never alive (sym (text w) ∙ no))
             (λ x _. rest_never w at alive x) (sym (goes w table) ∙ is))
       ]);
@@ -171,7 +171,7 @@ returns-in-Err-reach g c = record {
 }
 
 pub stat_entry-requires-clause-last : goal.stat_entry-requires-clause-last
-stat_entry-requires-clause-last g c = let reached = subst (IsReached g.D.Device.honest c.reach.new.volume) c.in-Ok-Found.field-0-is c.in-Ok-Found.ensures.reached in reached.number.last
+stat_entry-requires-clause-last g c = let reached = subst (IsReached g.D.Device.honest c.reach.new.volume) c.in-Ok-Found.field-0-is c.in-Ok-Found.ensures.reached in rw c.new-in-Ok-Found.ensures reached.number.last
 
 pub stat_entry-requires-clause-first : goal.stat_entry-requires-clause-first
-stat_entry-requires-clause-first g c = let reached = subst (IsReached g.D.Device.honest c.reach.new.volume) c.in-Ok-Found.field-0-is c.in-Ok-Found.ensures.reached in reached.number.first
+stat_entry-requires-clause-first g c = let reached = subst (IsReached g.D.Device.honest c.reach.new.volume) c.in-Ok-Found.field-0-is c.in-Ok-Found.ensures.reached in rw c.new-in-Ok-Found.ensures reached.number.first

@@ -8,7 +8,7 @@ use Rattle.vol_tree.specs.Opened.{Opened}
 use Rattle.wasi_fd.specs.declared.descriptor.Opened.{Opened as OpenedEntry}
 use Rattle.wasi_fd.specs.declared.descriptor.Descriptor.TheVariants.{Entry}
 use Rattle.wasi_fd.specs.Table.{Table}
-use Rattle.wasi_calls.specs.World.{World, volume_gone, with_descriptor, moved_to}
+use Rattle.wasi_calls.specs.World.{World, with_volume_failed, with_descriptor, moved_to}
 use Rattle.wasi_calls.specs.Checks.{Checked, Done, ◌>>=◌, ◌>>◌, guard, get, of_kind, only_files, has, opened_entry, range, with_result}
 use Rattle.wasi_calls.specs.descriptors.Rows.{shifted, last_position, seek_from}
 use Rattle.wasi_calls.specs.internal.Bodies.{with_volume}
@@ -48,7 +48,7 @@ pub record FailsFrom {D : Type 0} (old new : Opened D) (w : World) (o : OpenedEn
   pub numbers : new.numbers ≡ old.numbers
   pub tree : new.tree ≡ old.tree
   pub failed : new.failed ≡ true
-  pub gone : seek_from (volume_gone w) o whence ≡ Err 29
+  pub gone : seek_from (with_volume_failed w) o whence ≡ Err 29
   pub never : w.volume_failed ≡ false → seek_from w o whence ≢ Err 29
 
 -- a number stands for this entry, at whatever position

@@ -10,7 +10,7 @@ use Rattle.path_walk.specs.declared.walking.Reached.{Reached as ReachedValue}
 use Rattle.path_walk.specs.declared.walking.Reached.TheVariants as values
 use Rattle.path_walk.specs.Walk.{reached_as}
 use Rattle.wasi_fd.specs.declared.descriptor.Opened.{Opened as OpenedEntry}
-use Rattle.wasi_calls.specs.World.{World, volume_gone}
+use Rattle.wasi_calls.specs.World.{World, with_volume_failed}
 use Rattle.wasi_calls.specs.Checks.{Checked, Done, ◌>>=◌, ◌>>◌, entry_at, only_directories, range, walk, with_result}
 use Rattle.wasi_calls.specs.Calls.{Answered}
 use Rattle.wasm_store.specs.declared.call.Errno.{Errno as Number}
@@ -46,12 +46,12 @@ module _ {D : Type 0} (honest : D → Type 0) (disk : D → Disk) (sectors_on fa
     pub kept : Keeps honest sectors_on failures old new (is_io {X = ReachedValue} (Err e))
     pub tree : new.tree ≡ old.tree
     pub answer : w.volume_failed ≡ false → e ≢ errno.Io → walk w o text ≡ Err (number_of e)
-    pub gone : walk (volume_gone w) o text ≡ Err 29
+    pub gone : walk (with_volume_failed w) o text ≡ Err 29
     pub never : w.volume_failed ≡ false → walk w o text ≢ Err 29
 
   -- what is reached in the world, or why nothing is
   abbrev pub Reaches : Opened D → Opened D → World → OpenedEntry → List ℕ → Result ReachedValue Errno → Type 0
-  Reaches old new w o text (Ok r) = (w.volume_failed ≡ false → walk w o text ≡ Ok (reached_as r)) × (walk (volume_gone w) o text ≡ Err 29)
+  Reaches old new w o text (Ok r) = (w.volume_failed ≡ false → walk w o text ≡ Ok (reached_as r)) × (walk (with_volume_failed w) o text ≡ Err 29)
   Reaches old new w o text (Err e) = RefusesText old new w o text e ⊎ RefusesWalk old new w o text e
 
 -- A body that finds bytes to be written at a place: the row is done by them in the same world, or the call answers.

@@ -6,7 +6,7 @@ use Rattle.wasi_fd.specs.Table.{table_of}
 use Rattle.wasi_calls.specs.internal.descriptors.Positions.{seekable, position_at}
 use Rattle.wasi_calls.proofs.checks.CausesOf29.{asked_29, check_not_29, no_29_at_0, not_29}
 use Rattle.wasi_calls.proofs.checks.NoneAnswers29.{seekable_never}
-use Rattle.wasi_calls.specs.World.{World, volume_gone, with_descriptor, moved_to}
+use Rattle.wasi_calls.specs.World.{World, with_volume_failed, with_descriptor, moved_to}
 use Rattle.wasi_calls.specs.Checks.{only_files, with_result}
 use Rattle.wasi_calls.specs.descriptors.Rows.{fd_seek}
 use Rattle.wasi_calls.specs.Calls.{Answered, by_row}
@@ -59,7 +59,7 @@ returns-in-Err-seek_from g c = record {
       subst (λ (n : ℕ). Answered run w m (with_table (table_of c.args.descriptors.now) (with_volume new w)) m n) (sym (c.refused.ensures ∙ ap number_of f.io))
       (in_table run w m (with_volume new w) m 29 _ table
       (failed_by w m run c.args.volume.now new shown f.numbers f.tree f.failed
-      (row (volume_gone w) ∙ (goes_on _ _ o (c.in-Ok.ensures.checked (volume_gone w) table) ∙ stops _ _ 29 f.gone))
+      (row (with_volume_failed w) ∙ (goes_on _ _ o (c.in-Ok.ensures.checked (with_volume_failed w) table) ∙ stops _ _ 29 f.gone))
       (λ alive is. sought_never w c.args.fd c.args.delta c.args.whence c.args.result_at o (f.never alive)
       (sym (row w ∙ goes_on _ _ o (c.in-Ok.ensures.checked w table)) ∙ is))));
   io = asked_29 ℕ c.in-Err-seek_from.errno _ c.in-Err-seek_from.ensures.io c.refused.ensures;

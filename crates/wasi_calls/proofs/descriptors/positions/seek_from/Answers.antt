@@ -3,7 +3,7 @@ use Rattle.vol_tree.specs.declared.errno.Errno.{Errno}
 use Rattle.vol_tree.specs.Opened.{is_io}
 use Rattle.vol_tree.specs.Calls.{bytes_at}
 use Rattle.std.proofs.lemmas.Bool.{false≢true}
-use Rattle.wasi_calls.specs.World.{World, volume_gone}
+use Rattle.wasi_calls.specs.World.{World, with_volume_failed}
 use Rattle.wasi_calls.proofs.bodies.VolumeCalls.{was_working, same_volume, tree_called_alive, tree_called_gone}
 use Rattle.wasi_calls.proofs.descriptors.Shifts.{from_end}
 use Rattle.wasi_calls.proofs.bodies.AskingCalls.{asked_step}
@@ -20,7 +20,7 @@ returns-in-Ok g c = record {
       let new = c.size_of.new.volume in
       let o = c.args.opened.now in
       let k = c.in-Ok.ensures.kept in
-      let (told, tree) = c.in-Ok.ensures.answer h in
+      let (told, tree) = rw c.new.ensures at c.in-Ok.ensures.answer h in
       let working : old.failed ≡ false = was_working g.D.Device.honest g.D.Device.size g.D.Device.failures old new false k refl in
       let alive : w.volume_failed ≡ false = ap (λ (w : World). w.volume_failed) shown ∙ working in
       let size : length (bytes_at w.tree o.serial) ≡ c.from.result = ap (λ (w : World). length (bytes_at w.tree o.serial)) shown ∙ (sym told ∙ sym c.from.ensures) in
@@ -47,7 +47,7 @@ returns-in-Err g c = record {
         numbers = k.numbers;
         tree = tree;
         failed = k.failed ∙ ap (λ (e : Errno). is_io {X = ℕ} (Err e)) io;
-        gone = from_end (volume_gone w) o c.args.whence (omega arith) ∙ tree_called_gone w (Ok size);
+        gone = from_end (with_volume_failed w) o c.args.whence (omega arith) ∙ tree_called_gone w (Ok size);
         never = λ alive is. ok_no_err _ size 29 (from_end w o c.args.whence (omega arith) ∙ tree_called_alive w (Ok size) alive) is;
       };
   io = λ is. c.in-Err.ensures.kept.failed ∙ is;

@@ -4,7 +4,7 @@ use Rattle.wasi_fd.specs.Table.{table_of}
 use Rattle.wasi_calls.specs.declared.checks.Takes.TheVariants as takes
 use Rattle.wasi_calls.proofs.checks.CausesOf29.{asked_29, check_not_29, no_29_at_0, not_29}
 use Rattle.wasi_calls.proofs.checks.NoneAnswers29.{descriptor_never, range_never}
-use Rattle.wasi_calls.specs.World.{World, volume_gone}
+use Rattle.wasi_calls.specs.World.{World, with_volume_failed}
 use Rattle.wasi_calls.specs.Checks.{any_kind, with_result, descriptor, range}
 use Rattle.wasi_calls.specs.descriptors.Rows.{fd_filestat_get, filestat, entry_stat, stat_of}
 use Rattle.wasi_calls.specs.Calls.{Answered}
@@ -38,11 +38,11 @@ stat_entry-requires g c =
     let o = c.in-Entry.opened in
     let at = at_descriptor (table_of c.args.descriptors.now) c.args.fd any_kind (2 ^ 21) c.in-Ok.descriptor c.in-Ok.ensures ∙ ap Some c.in-Entry.is in
     let number = c.requires.numbers c.args.fd o at in
-    record {
+    rw c.new.ensures (record {
       first = number.first;
       last = number.last;
       used = λ h. let there = c.requires.there h c.args.fd o at in is_used c.args.volume.now.tree o.serial there.e there.used;
-    }
+    })
 
 pub returns-in-Stream : goal.returns-in-Stream
 returns-in-Stream g c = record {
@@ -65,7 +65,7 @@ returns-in-Ok-stat_entry g c = record {
       let new = c.stat_entry.new.volume in
       let o = c.in-Entry.opened in
       let k = c.in-Ok-stat_entry.ensures.kept in
-      let (told, tree) = c.in-Ok-stat_entry.ensures.answer h in
+      let (told, tree) = rw c.new.ensures at c.in-Ok-stat_entry.ensures.answer h in
       let working : old.failed ≡ false = was_working g.D.Device.honest g.D.Device.size g.D.Device.failures old new false k refl in
       let alive : w.volume_failed ≡ false = ap (λ (w : World). w.volume_failed) shown ∙ working in
       let bytes = entry_stat w.tree o.serial in
@@ -93,8 +93,8 @@ returns-in-Err-stat_entry g c = record {
       subst (λ (n : ℕ). Answered (λ v. fd_filestat_get v m c.args.fd at) w m (with_volume new w) m n) (sym c.refused.ensures)
       (tree_refuses w m g.D.Device.honest g.D.Device.size g.D.Device.failures (List ℕ) (λ v. fd_filestat_get v m c.args.fd at) old new e c.in-Err-stat_entry.ensures.kept shown tree
       (λ alive other. absurd (other io))
-      (goes_on _ _ c.in-Ok.descriptor (c.in-Ok.ensures (volume_gone w) table) ∙ (goes_on _ _ tt c.in_default.ensures.range
-      ∙ stops _ _ 29 (ap (stat_of (volume_gone w)) c.in-Entry.is ∙ tree_called_gone w (Ok bytes))))
+      (goes_on _ _ c.in-Ok.descriptor (c.in-Ok.ensures (with_volume_failed w) table) ∙ (goes_on _ _ tt c.in_default.ensures.range
+      ∙ stops _ _ 29 (ap (stat_of (with_volume_failed w)) c.in-Entry.is ∙ tree_called_gone w (Ok bytes))))
       (λ alive. is_no_err _ (with_result w at bytes) 29 (goes_on _ _ c.in-Ok.descriptor (c.in-Ok.ensures w table) ∙ (goes_on _ _ tt c.in_default.ensures.range
       ∙ goes_on _ _ bytes (ap (stat_of w) c.in-Entry.is ∙ tree_called_alive w (Ok bytes) alive)))));
   io = asked_29 (List ℕ) c.in-Err-stat_entry.errno _ (λ fails. c.in-Err-stat_entry.ensures.kept.failed ∙ fails) c.refused.ensures;

@@ -8,7 +8,7 @@ use Rattle.wasi_fd.specs.Table.{table_of}
 use Rattle.wasi_calls.specs.internal.files.Listing.{listable}
 use Rattle.wasi_calls.proofs.checks.CausesOf29.{asked_29, check_not_29, no_29_at_0}
 use Rattle.wasi_calls.proofs.checks.NoneAnswers29.{listable_never}
-use Rattle.wasi_calls.specs.World.{World, volume_gone}
+use Rattle.wasi_calls.specs.World.{World, with_volume_failed}
 use Rattle.wasi_calls.specs.files.Rows.{dirents}
 use Rattle.wasi_calls.specs.Calls.{Answered}
 use Rattle.wasi_calls.specs.internal.Bodies.{with_volume}
@@ -40,8 +40,8 @@ returns-in-Ok-list_from g c = record {
       let o = c.in-Ok.opened in
       let done = c.in-Ok-list_from.ensures in
       let all = λ (v : World). dirents v.tree o.serial a.cookie in
-      let count : c.in-Ok-list_from.count ≡ min a.len (length (all w)) = done.count h ∙ ap (λ (v : World). min a.len (length (all v))) (sym shown) in
-      let bytes : c.list_from.new.memory ≡ written m a.buffer (take a.len (all w)) = done.listed h ∙ ap (λ (v : World). written m a.buffer (take a.len (all v))) (sym shown) in
+      let count : c.in-Ok-list_from.count ≡ min a.len (length (all w)) = (rw c.new-directory.ensures at done.count h) ∙ ap (λ (v : World). min a.len (length (all v))) (sym shown) in
+      let bytes : c.list_from.new.memory ≡ written m a.buffer (take a.len (all w)) = (rw c.new-directory.ensures at done.listed h) ∙ ap (λ (v : World). written m a.buffer (take a.len (all v))) (sym shown) in
       list_done g.D.Device.honest g.D.Device.disk g.D.Device.size g.D.Device.failures c.args.volume.now c.list_from.new.volume w m a o h shown (c.in-Ok.ensures.checked w table)
       done.asked c.write_bytes.new.memory
       (c.write_bytes.ensures.bytes ∙ λ i. written (bytes i) a.used_at ((c.le32.ensures ∙ ap (little_bytes 4) count) i));
@@ -59,11 +59,11 @@ returns-in-Err-list_from g c = record {
       let new = c.list_from.new.volume in
       let after = c.list_from.new.memory in
       let fails = c.in-Err-list_from.ensures in
-      let (io, begun) = fails.broke h in
+      let (io, begun) = rw c.new-directory.ensures at fails.broke h in
       let asked = subst (λ (e : Errno). Asked g.D.Device.honest g.D.Device.disk g.D.Device.size g.D.Device.failures old new (is_io {X = ℕ} (Err e))) io fails.asked in
       subst (λ (n : ℕ). Answered (λ v. list_row v m a) w m (with_volume new w) after n) (sym (c.refused.ensures ∙ ap number_of io))
       (list_fails g.D.Device.honest g.D.Device.disk g.D.Device.size g.D.Device.failures old new w m a o h shown (c.in-Ok.ensures.checked w table)
-      asked (c.in-Ok.ensures.checked (volume_gone w) table) after c.in-Ok.ensures.buffer fails.idle
+      asked (c.in-Ok.ensures.checked (with_volume_failed w) table) after c.in-Ok.ensures.buffer fails.idle
       (subst (λ (v : World). IsBegun m a.buffer (take a.len (dirents v.tree o.serial a.cookie)) after) (sym shown) begun));
   io = asked_29 ℕ c.in-Err-list_from.errno _ (λ fails. c.in-Err-list_from.ensures.asked.kept.failed ∙ fails) c.refused.ensures;
 }

@@ -21,9 +21,9 @@ loop-filled-preserved g c =
       room = omega (arith, was.long, c.put_some-filled.ensures.end);
       told = λ h.
           let next = subst (λ (o : Option Told). TellsNext here.tree directory after o) c.in-Ok-Some.field-0-is (c.in-Ok-Some.ensures.told (was.works.kept.honest.0 h)) in
-          tells_more T directory c.args.cookie c.args.part.now after c.loop-filled.filled c.loop-filled.part (was.told h) c.in-Ok-Some.told end c.put_some-filled.new.part
+          rw c.number-after.ensures (tells_more T directory c.args.cookie c.args.part.now after c.loop-filled.filled c.loop-filled.part (was.told h) c.in-Ok-Some.told end c.put_some-filled.new.part
           (omega (arith, was.long, c.loop-filled-test.true)) was.long (subst (λ (U : Tree). TellsNext U directory after (Some c.in-Ok-Some.told)) (was.works.tree h) next)
-          c.put_some-filled.ensures.end c.put_some-filled.ensures.filled c.put_some-filled.ensures.rest;
+          c.put_some-filled.ensures.end c.put_some-filled.ensures.filled c.put_some-filled.ensures.rest);
     }
 
 pub returns-in-Err : goal.returns-in-Err

@@ -10,7 +10,7 @@ pub stat-requires-clause-used : goal.stat-requires-clause-used
 stat-requires-clause-used g c = λ h.
     let T : Tree = c.args.volume.now.tree in
     let before = c.in-Ok-Some.ensures.kept.honest.1 h in
-    let told = rw c.new.ensures at c.in-Ok-Some.ensures.answer before in
+    let told = c.in-Ok-Some.ensures.answer before in
     let next : next_child T c.args.directory c.args.after ≡ Some c.in-Ok-Some.serial = sym told.0 ∙ c.in-Ok-Some.field-0-is in
     subst (λ (T : Tree). IsSome (entry T c.in-Ok-Some.serial)) (sym told.1) (next_used T c.args.directory c.args.after c.in-Ok-Some.serial next)
 
@@ -23,12 +23,11 @@ returns-in-Ok g c = record {
   told = λ h.
       let T : Tree = c.args.volume.now.tree in
       let serial = c.in-Ok-Some.serial in
-      let told_as = rw c.number.ensures at c.describe.ensures.told in
-      let told = rw c.new.ensures at c.in-Ok-Some.ensures.answer h in
+      let told = c.in-Ok-Some.ensures.answer h in
       let next : next_child T c.args.directory c.args.after ≡ Some serial = sym told.0 ∙ c.in-Ok-Some.field-0-is in
       let stat = (c.in-Ok.ensures.answer (c.in-Ok-Some.ensures.kept.honest.0 h)).0 in
       told_next T c.args.directory c.args.after serial stat.0 c.describe.result next (ap (λ (T : Tree). entry T serial) (sym told.1) ∙ stat.1)
-      (rw c.number.ensures at c.describe.ensures.serial) (told_as stat.0 stat.2);
+      c.describe.ensures.serial (c.describe.ensures.told stat.0 stat.2);
   least = c.describe.ensures.least;
   most = c.describe.ensures.most;
 }
@@ -36,7 +35,7 @@ returns-in-Ok g c = record {
 pub returns-in-Ok-None : goal.returns-in-Ok-None
 returns-in-Ok-None g c = record {
   asked = let told = c.in-Ok-None.ensures in record { tree = λ h. (told.answer h).1; crash = told.crash; kept = told.kept };
-  told = λ h. list_ends c.args.volume.now.tree c.args.directory c.args.after (sym (rw c.new.ensures at c.in-Ok-None.ensures.answer h).0 ∙ c.in-Ok-None.field-0-is);
+  told = λ h. list_ends c.args.volume.now.tree c.args.directory c.args.after (sym (c.in-Ok-None.ensures.answer h).0 ∙ c.in-Ok-None.field-0-is);
   least = tt;
   most = tt;
 }

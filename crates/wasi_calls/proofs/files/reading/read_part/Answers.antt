@@ -23,7 +23,7 @@ returns-in-Err g c = record {
       let b = length-take len (drop p m) in
       let room = c.requires.inside in
       let long : length before ≡ len = ap length value ∙ (let all : length (take len (drop p m)) ≡ len = omega (arith, a, b, room) in all) in
-      let (io, _, so) = rw c.new.ensures at c.in-Err.ensures.answer h in
+      let (io, _, so) = c.in-Err.ensures.answer h in
       let n = so.0 in
       let few = so.1 in
       let after = so.2 in
@@ -47,7 +47,7 @@ pub returns-in-Ok : goal.returns-in-Ok
 returns-in-Ok g c = record {
   long = length_rewritten c.args.memory.now c.read.new.buffer c.args.start;
   read = λ h inside.
-      let told = rw c.new.ensures at c.in-Ok.ensures.answer h in
+      let told = c.in-Ok.ensures.answer h in
       part_listed c.args.memory.now (drop c.args.at (bytes_at c.args.volume.now.tree c.args.serial)) c.part_mut.result.now c.read.new.buffer c.args.start c.args.len c.in-Ok.field-0
       c.requires.inside c.part_mut.ensures.value told.0 told.1;
   broke = λ h inside. tt;

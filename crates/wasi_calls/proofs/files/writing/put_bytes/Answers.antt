@@ -22,7 +22,7 @@ returns-in-Ok g c = record {
       let taken = source_taken c.args.memory.now c.args.buffers.now c.min-len.result c.requires.inside (omega (arith, c.min-len.ensures, c.total_len.ensures)) in
       let same = c.gather-bytes.ensures ∙ (ap (λ (m : List ℕ). take c.min-len.result (source.gathered m c.args.buffers.now)) c.as_slice.ensures ∙ taken.1) in (
         taken.2,
-        ap (written (geometry old.numbers) old.tree c.args.serial c.args.at) (sym same) ∙ unit_gives _ _ (rw c.new.ensures at c.in-Ok.ensures.answer h),
+        ap (written (geometry old.numbers) old.tree c.args.serial c.args.at) (sym same) ∙ unit_gives _ _ (c.in-Ok.ensures.answer h),
       );
   refused = λ h. tt;
   crash = c.in-Ok.ensures.crash;
@@ -36,7 +36,7 @@ returns-in-Err g c = record {
       let old = c.args.volume.now in
       let taken = source_taken c.args.memory.now c.args.buffers.now c.min-len.result c.requires.inside (omega (arith, c.min-len.ensures, c.total_len.ensures)) in
       let same = c.gather-bytes.ensures ∙ (ap (λ (m : List ℕ). take c.min-len.result (source.gathered m c.args.buffers.now)) c.as_slice.ensures ∙ taken.1) in
-      let (tree, meant) = rw c.new.ensures at c.in-Err.ensures.answer h in (
+      let (tree, meant) = c.in-Err.ensures.answer h in (
         tree,
         elim meant [
           | inl is ↦ inl (ap (written (geometry old.numbers) old.tree c.args.serial c.args.at) (sym same) ∙ unit_refuses _ _ is)

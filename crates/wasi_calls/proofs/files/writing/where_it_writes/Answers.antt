@@ -7,7 +7,7 @@ use Rattle.wasi_calls.proofs.files.writing.where_it_writes.Goals as goal
 pub returns-in-Ok : goal.returns-in-Ok
 returns-in-Ok g c = record {
   stays = λ stands. absurd (false≢true (sym stands ∙ c.if-not-opened.false));
-  at_end = λ append h. let told = c.in-Ok.ensures.answer h in (ap (λ (n : ℕ). record c.args.opened.now { position = n }) (c.from.ensures ∙ told.0), told.1);
+  at_end = λ append h. let told = rw c.new.ensures at c.in-Ok.ensures.answer h in (ap (λ (n : ℕ). record c.args.opened.now { position = n }) (c.from.ensures ∙ told.0), told.1);
   kept = λ append. c.in-Ok.ensures.kept;
   asked = λ append h. c.in-Ok.ensures.crash h;
   moved = refl;

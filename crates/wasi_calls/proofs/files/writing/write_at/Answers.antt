@@ -27,7 +27,7 @@ returns-in-Ok g c = record {
       let part : List ℕ = take PIECE all in
       let result = c.args.result_at in
       let kept = c.in-Ok.ensures.kept in
-      let (count, gives) = c.in-Ok.ensures.written h in
+      let (count, gives) = rw c.new.ensures at c.in-Ok.ensures.written h in
       let working : old.failed ≡ false = was_working g.D.Device.honest g.D.Device.size g.D.Device.failures old new false kept refl in
       left_ok g.D.Device.honest g.D.Device.size g.D.Device.failures w m (λ v. written_at_offset v o at all result) (λ v. tree_with v.volume v.tree o.serial at part)
       (λ v T. with_result (record v { tree = T }) result (little_bytes 4 (length part))) old new shown
@@ -51,7 +51,7 @@ returns-in-Err g c = record {
       let all = gathered m (list_of c.args.buffers.now) in
       let part : List ℕ = take PIECE all in
       let result = c.args.result_at in
-      let (tree, meant) = c.in-Err.ensures.refused h in
+      let (tree, meant) = rw c.new.ensures at c.in-Err.ensures.refused h in
       subst (λ (n : ℕ). Answered (λ v. written_at_offset v o at all result) w m (with_volume new w) m n) (sym c.refused.ensures)
       (left_err g.D.Device.honest g.D.Device.size g.D.Device.failures w m (λ v. written_at_offset v o at all result) (λ v. tree_with v.volume v.tree o.serial at part)
       (λ v T. with_result (record v { tree = T }) result (little_bytes 4 (length part))) old new shown

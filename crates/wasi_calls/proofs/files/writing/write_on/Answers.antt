@@ -35,7 +35,7 @@ returns-after-len-gt0 g c = record {
       let result = c.args.request.now.result_at in
       let all = gathered m (list_of c.args.buffers.now) in
       let kept = c.in-Ok.ensures.kept in
-      let (count, gives) = c.in-Ok.ensures.written h in
+      let (count, gives) = rw c.new-serial.ensures at c.in-Ok.ensures.written h in
       let working : old.failed ≡ false = was_working g.D.Device.honest g.D.Device.size g.D.Device.failures old new false kept refl in
       let same : with_volume new w ≡ record w { tree = new.tree } =
       (λ i. record w { volume = geometry (kept.numbers i); tree = new.tree; volume_failed = (kept.failed ∙ sym working) i })
@@ -75,7 +75,7 @@ returns-in-Err g c = record {
       let fd = c.args.request.now.fd in
       let result = c.args.request.now.result_at in
       let all = gathered m (list_of c.args.buffers.now) in
-      let (tree, meant) = c.in-Err.ensures.refused h in
+      let (tree, meant) = rw c.new-serial.ensures at c.in-Err.ensures.refused h in
       subst (λ (n : ℕ). Answered (λ v. written_on v fd o all result) w m (with_table (table_of c.args.descriptors.now) (with_volume new w)) m n) (sym c.refused.ensures)
       (in_table (λ v. written_on v fd o all result) w m (with_volume new w) m _ _ table
       (left_err g.D.Device.honest g.D.Device.size g.D.Device.failures w m (λ v. written_on v fd o all result) (tree_on o all) (done_on fd o all result) old new shown

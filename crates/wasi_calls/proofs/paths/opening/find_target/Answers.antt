@@ -1,4 +1,4 @@
-use Rattle.std.proofs.Common.{◌≡◌, ℕ, List, Ok, Err, refl, sym, ap, ◌∙◌, subst, inl, arith}
+use Rattle.std.proofs.Common.{◌≡◌, ℕ, List, Ok, Err, sym, ap, ◌∙◌, subst, inl, arith}
 use Rattle.std.proofs.lemmas.Bool.{false≢true}
 use Rattle.wasm_store.specs.Bytes.{bytes_at}
 use Rattle.path_walk.specs.Paths.{wants_directory, path_read}
@@ -7,7 +7,7 @@ use Rattle.wasi_fd.specs.Table.{table_of}
 use Rattle.path_walk.specs.declared.walking.Reached.{Reached as ReachedValue}
 use Rattle.wasi_calls.proofs.checks.CausesOf29.{asked_29, check_not_29, no_29_at_0}
 use Rattle.wasi_calls.proofs.checks.NoneAnswers29.{open_entered_never}
-use Rattle.wasi_calls.specs.World.{World, volume_gone}
+use Rattle.wasi_calls.specs.World.{World, with_volume_failed}
 use Rattle.wasi_calls.specs.Checks.{and_then}
 use Rattle.wasi_calls.specs.paths.Rows.{path_at}
 use Rattle.wasi_calls.specs.internal.Asking.{Stops}
@@ -33,7 +33,7 @@ returns-in-Err g c = record {
 
 pub reach-requires : goal.reach-requires
 reach-requires g c =
-    opened_at g.D.Device.honest c.args.volume.now (table_of c.args.descriptors.now) c.requires c.args.memory.now c.args.asked.now c.in-Ok.entered.0 c.in-Ok.ensures.row
+    rw c.new.ensures (opened_at g.D.Device.honest c.args.volume.now (table_of c.args.descriptors.now) c.requires c.args.memory.now c.args.asked.now c.in-Ok.entered.0 c.in-Ok.ensures.row)
 
 pub returns-in-Err-reach : goal.returns-in-Err-reach
 returns-in-Err-reach g c = record {
@@ -48,10 +48,10 @@ returns-in-Err-reach g c = record {
       let new = c.reach.new.volume in
       let goes = λ (v : World) (same : v.table ≡ table_of c.args.descriptors.now). entered_part v m a o (c.in-Ok.ensures.row v same) in
       subst (λ (n : ℕ). Stops (λ v. open_part v m a) w new n) (sym c.refused.ensures)
-      (stops_as w (λ v. open_part v m a) (λ v. and_then (path_at v m o a.path a.len) (after_walk v a m o)) new _ (goes w table) (goes (volume_gone w) table)
+      (stops_as w (λ v. open_part v m a) (λ v. and_then (path_at v m o a.path a.len) (after_walk v a m o)) new _ (goes w table) (goes (with_volume_failed w) table)
       (ends_part w (λ v. path_at v m o a.path a.len) (λ v. after_walk v a m o) new _ (λ alive r. after_walk_never w a m o r)
       (walk_stops g.D.Device.honest g.D.Device.disk g.D.Device.size g.D.Device.failures c.args.volume.now new w o m a.path a.len c.in-Ok.entered.1.now c.in-Ok.ensures.text h shown
-      c.in-Err-reach.errno (c.in-Err-reach.ensures.reaches h w o refl shown))));
+      c.in-Err-reach.errno (c.in-Err-reach.ensures.reaches h w o (sym c.new.ensures) shown))));
   io = asked_29 ReachedValue c.in-Err-reach.errno _ c.in-Err-reach.ensures.io c.refused.ensures;
 }
 
@@ -74,11 +74,11 @@ returns-in-Err-reached_target g c = record {
       let same : text ≡ bytes_at m a.path a.len = c.in-Ok.ensures.text in
       let goes = λ (v : World) (same : v.table ≡ table_of c.args.descriptors.now). entered_part v m a o (c.in-Ok.ensures.row v same) in
       let walked = walk_passes g.D.Device.honest g.D.Device.disk g.D.Device.size g.D.Device.failures old between w o m a.path a.len text same h shown c.in-Ok-reach.reached
-      c.in-Ok-reach.ensures.works (c.in-Ok-reach.ensures.reaches h w o refl shown) in
+      c.in-Ok-reach.ensures.works (c.in-Ok-reach.ensures.reaches h w o (sym c.new.ensures) shown) in
       let to = walked_to w o (bytes_at m a.path a.len) r walked.is in
       let now = c.in-Ok-reach.ensures.works.kept.honest.0 h in
       let checks = c.in-Err-reached_target.ensures.checks now w to.0 (ap path_read same ∙ to.1) walked.working (sym walked.same) in
-      stops_as w (λ v. open_part v m a) (λ v. and_then (path_at v m o a.path a.len) (after_walk v a m o)) new _ (goes w table) (goes (volume_gone w) table)
+      stops_as w (λ v. open_part v m a) (λ v. and_then (path_at v m o a.path a.len) (after_walk v a m o)) new _ (goes w table) (goes (with_volume_failed w) table)
       (checks_stop w a m o between new r _ walked
       (subst (λ (l : List ℕ). ChecksAs a.oflags (wants_directory l) r w new (Err c.in-Err-reached_target.errno)) same checks));
   io = c.in-Err-reached_target.ensures.io;
@@ -103,12 +103,12 @@ returns-then-is_full g c = record {
       let same : text ≡ bytes_at m a.path a.len = c.in-Ok.ensures.text in
       let goes = λ (v : World) (same : v.table ≡ table_of c.args.descriptors.now). entered_part v m a o (c.in-Ok.ensures.row v same) in
       let walked = walk_passes g.D.Device.honest g.D.Device.disk g.D.Device.size g.D.Device.failures old between w o m a.path a.len text same h shown c.in-Ok-reach.reached
-      c.in-Ok-reach.ensures.works (c.in-Ok-reach.ensures.reaches h w o refl shown) in
+      c.in-Ok-reach.ensures.works (c.in-Ok-reach.ensures.reaches h w o (sym c.new.ensures) shown) in
       let to = walked_to w o (bytes_at m a.path a.len) r walked.is in
       let now = c.in-Ok-reach.ensures.works.kept.honest.0 h in
       let checks = subst (λ (l : List ℕ). ChecksAs a.oflags (wants_directory l) r w new (Ok c.in-Ok-reached_target.target)) same
       (c.in-Ok-reached_target.ensures.checks now w to.0 (ap path_read same ∙ to.1) walked.working (sym walked.same)) in
-      stops_as w (λ v. open_part v m a) (λ v. and_then (path_at v m o a.path a.len) (after_walk v a m o)) new 33 (goes w table) (goes (volume_gone w) table)
+      stops_as w (λ v. open_part v m a) (λ v. and_then (path_at v m o a.path a.len) (after_walk v a m o)) new 33 (goes w table) (goes (with_volume_failed w) table)
       (refuses_on w (λ v. path_at v m o a.path a.len) (λ v. after_walk v a m o) between r walked new 33 checks.2
       (goes_on _ _ tt checks.0 ∙ stops _ _ 33 (no_number w (table_of c.args.descriptors.now) table (c.is_full.ensures.0 c.if-is_full.true))));
   io = λ is. absurd (omega (arith, is));
@@ -133,7 +133,7 @@ returns g c = record {
       let same : text ≡ bytes_at m a.path a.len = c.in-Ok.ensures.text in
       let goes = λ (v : World) (same : v.table ≡ table_of c.args.descriptors.now). entered_part v m a o (c.in-Ok.ensures.row v same) in
       let walked = walk_passes g.D.Device.honest g.D.Device.disk g.D.Device.size g.D.Device.failures old between w o m a.path a.len text same h shown c.in-Ok-reach.reached
-      c.in-Ok-reach.ensures.works (c.in-Ok-reach.ensures.reaches h w o refl shown) in
+      c.in-Ok-reach.ensures.works (c.in-Ok-reach.ensures.reaches h w o (sym c.new.ensures) shown) in
       let to = walked_to w o (bytes_at m a.path a.len) r walked.is in
       let now = c.in-Ok-reach.ensures.works.kept.honest.0 h in
       let checks = subst (λ (l : List ℕ). ChecksAs a.oflags (wants_directory l) r w new (Ok c.in-Ok-reached_target.target)) same
@@ -143,7 +143,7 @@ returns g c = record {
         reached = r;
         number = number.0;
         free = number.1;
-        passes = passes_as w (λ v. open_part v m a) (λ v. and_then (path_at v m o a.path a.len) (after_walk v a m o)) new (o, r, number.0) (goes w table) (goes (volume_gone w) table)
+        passes = passes_as w (λ v. open_part v m a) (λ v. and_then (path_at v m o a.path a.len) (after_walk v a m o)) new (o, r, number.0) (goes w table) (goes (with_volume_failed w) table)
             (passes_on w (λ v. path_at v m o a.path a.len) (λ v. after_walk v a m o) between r walked new (o, r, number.0) checks.2
             (goes_on _ _ tt checks.0 ∙ goes_on _ _ number.0 number.1));
         target = checks.1;

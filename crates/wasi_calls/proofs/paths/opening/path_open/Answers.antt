@@ -10,7 +10,7 @@ use Rattle.wasi_fd.specs.Table.{table_of}
 use Rattle.wasi_fd.specs.declared.descriptor.Opened.{Opened}
 use Rattle.path_walk.specs.Paths.{Reached}
 use Rattle.wasi_calls.proofs.checks.CausesOf29.{asked_29, no_29_at_0}
-use Rattle.wasi_calls.specs.World.{World, volume_gone}
+use Rattle.wasi_calls.specs.World.{World, with_volume_failed}
 use Rattle.wasi_calls.specs.Checks.{Checked, Done, numbered}
 use Rattle.wasi_calls.specs.Calls.{Answered, by_row}
 use Rattle.wasi_calls.specs.internal.paths.Opening.{open_part, made, with_both}
@@ -63,7 +63,7 @@ returns-in-Err-settle g c = record {
         | inl is ↦ ap numbered (ap (λ (v : World). made v.volume v.tree t) (sym passes.same) ∙ is)
         | inr io ↦ absurd (other io)
       ])))
-      (to_opening (volume_gone w) m a ∙ stops _ _ 29 passes.gone)
+      (to_opening (with_volume_failed w) m a ∙ stops _ _ 29 passes.gone)
       (λ alive is. after_part_never w a p alive (sym (to_opening w m a ∙ goes_on _ _ p passes.is) ∙ is))));
   io = asked_29 ℕ c.in-Err-settle.errno _ (λ fails. c.in-Err-settle.ensures.kept.failed ∙ fails) c.refused.ensures;
 }

@@ -18,7 +18,7 @@ returns-in-Found g c = record {
   can = c.found_target.ensures.can;
   checks = λ h w names read alive shown.
       subst (λ (r : Reached). ChecksAs c.args.oflags (wants_directory c.args.text.now) (reached_as r) w c.found_target.new.volume c.found_target.result)
-      (sym c.in-Found.is) (c.found_target.ensures.checks h w (wants_directory c.args.text.now) alive shown);
+      (sym c.in-Found.is) (rw c.new.ensures at c.found_target.ensures.checks h w (wants_directory c.args.text.now) alive shown);
   io = c.found_target.ensures.io;
 }
 
@@ -34,11 +34,11 @@ returns-in-Ok-clause-asked g c = works_as g.D.Device.honest g.D.Device.disk g.D.
 pub returns-in-Ok-clause-can : goal.returns-in-Ok-clause-can
 returns-in-Ok-clause-can g c =
     let reached = subst (IsReached g.D.Device.honest c.args.volume.now) c.in-Missing.is c.requires.reached in
-    record {
+    rw c.new-in-Ok.ensures (record {
       first = reached.0.number.first;
       is_name = reached.1;
       directory = λ h. subst (λ (r : Reached). Places c.args.volume.now.tree (Ok r)) c.in-Missing.is (c.requires.place h);
-    }
+    })
 
 pub returns-in-Err-clause-checks : goal.returns-in-Err-clause-checks
 returns-in-Err-clause-checks c = grind (arith, common_steps)

@@ -1,4 +1,4 @@
-use Rattle.std.proofs.Common.{Ok, Err, subst, sym, arith}
+use Rattle.std.proofs.Common.{subst, sym, arith}
 use Rattle.std.proofs.lemmas.Grind.{common_steps}
 use Rattle.vol_tree.specs.Opened.{Answers, geometry}
 use Rattle.wasi_calls.specs.declared.paths.opening.Target.{Target}
@@ -7,15 +7,10 @@ use Rattle.wasi_calls.proofs.bodies.AskingCalls.{still_works}
 use Rattle.wasi_calls.proofs.bodies.PlainCalls.{volume_rests}
 use Rattle.wasi_calls.proofs.paths.opening.settle.Goals as goal
 
-pub returns-in-Ok-create_file-clause-answer : goal.returns-in-Ok-create_file-clause-answer
-returns-in-Ok-create_file-clause-answer g c = λ h.
-    rw c.number.ensures (subst (λ (t : Target). Answers (made (geometry c.args.volume.now.numbers) c.args.volume.now.tree t) c.args.volume.now.tree c.create_file.new.self.tree (Ok c.in-Ok-create_file.made))
-    (sym c.in-New.is) (rw c.new-in-New.ensures at c.in-Ok-create_file.ensures.answer h))
-
-pub returns-in-Err-create_file-clause-answer : goal.returns-in-Err-create_file-clause-answer
-returns-in-Err-create_file-clause-answer g c = λ h.
-    subst (λ (t : Target). Answers (made (geometry c.args.volume.now.numbers) c.args.volume.now.tree t) c.args.volume.now.tree c.create_file.new.self.tree (Err c.in-Err-create_file.errno))
-    (sym c.in-New.is) (rw c.new-in-New.ensures at c.in-Err-create_file.ensures.answer h)
+pub returns-in-New-clause-answer : goal.returns-in-New-clause-answer
+returns-in-New-clause-answer g c = λ h.
+    subst (λ (t : Target). Answers (made (geometry c.args.volume.now.numbers) c.args.volume.now.tree t) c.args.volume.now.tree c.create_file.new.self.tree c.create_file.result)
+    (sym c.in-New.is) (c.create_file.ensures.answer h)
 
 pub returns-in-Entry-clause-kept : goal.returns-in-Entry-clause-kept
 returns-in-Entry-clause-kept g c = (still_works g.D.Device.honest g.D.Device.disk g.D.Device.size g.D.Device.failures c.args.volume.now c.requires.works).kept

@@ -1,4 +1,4 @@
-use Rattle.std.proofs.Common.{◌≡◌, ℕ, List, Ok, refl, sym, ap, ◌∙◌, subst, inl, arith}
+use Rattle.std.proofs.Common.{◌≡◌, ℕ, List, Ok, sym, ap, ◌∙◌, subst, inl, arith}
 use Rattle.path_walk.specs.declared.walking.Reached.{Reached as ReachedValue}
 use Rattle.path_walk.specs.Walk.{reached_as}
 use Rattle.wasi_fd.specs.Rights.{bits_of}
@@ -6,7 +6,7 @@ use Rattle.wasi_fd.specs.Table.{table_of}
 use Rattle.wasi_fd.specs.declared.descriptor.Opened.{Opened}
 use Rattle.wasi_calls.proofs.checks.CausesOf29.{asked_29, check_not_29}
 use Rattle.wasi_calls.proofs.checks.NoneAnswers29.{entered_never}
-use Rattle.wasi_calls.specs.World.{World, volume_gone}
+use Rattle.wasi_calls.specs.World.{World, with_volume_failed}
 use Rattle.wasi_calls.specs.Checks.{and_then, found}
 use Rattle.wasi_calls.specs.paths.Rows.{path_at}
 use Rattle.wasi_calls.specs.internal.Asking.{Stops}
@@ -24,7 +24,7 @@ to_walk w m fd rights path len o invokes = entered_row _ _ _ ∙ goes_on _ _ o i
 
 pub reach-requires : goal.reach-requires
 reach-requires g c =
-    entry_of g.D.Device.honest c.args.volume.now (table_of c.args.descriptors.now) c.requires c.args.memory.now c.args.fd (bits_of c.args.rights) c.args.path c.args.len c.in-Ok.entered.0 c.in-Ok.ensures.row
+    rw c.new.ensures (entry_of g.D.Device.honest c.args.volume.now (table_of c.args.descriptors.now) c.requires c.args.memory.now c.args.fd (bits_of c.args.rights) c.args.path c.args.len c.in-Ok.entered.0 c.in-Ok.ensures.row)
 
 pub returns-in-Err : goal.returns-in-Err
 returns-in-Err g c = record {
@@ -42,11 +42,11 @@ returns-in-Ok-Found-clause-asks g c = λ h w table shown.
     let part = λ (v : World). path_at v m o c.args.path c.args.len in
     let goes = λ (v : World) (same : v.table ≡ table_of c.args.descriptors.now). to_walk v m c.args.fd (bits_of c.args.rights) c.args.path c.args.len o (c.in-Ok.ensures.row v same) in
     let walked = walk_passes g.D.Device.honest g.D.Device.disk g.D.Device.size g.D.Device.failures c.args.volume.now c.reach.new.volume w o m c.args.path c.args.len c.in-Ok.entered.1.now
-    c.in-Ok.ensures.text h shown c.in-Ok-Found.field-0 c.in-Ok-Found.ensures.works (c.in-Ok-Found.ensures.reaches h w o refl shown) in
-    passes_as w (λ v. found_at v m c.args.fd (bits_of c.args.rights) c.args.path c.args.len) (λ v. and_then (part v) found) c.reach.new.volume c.in-Ok-Found.serial
-    (goes w table) (goes (volume_gone w) table)
+    c.in-Ok.ensures.text h shown c.in-Ok-Found.field-0 c.in-Ok-Found.ensures.works (c.in-Ok-Found.ensures.reaches h w o (sym c.new.ensures) shown) in
+    rw c.new-in-Ok-Found.ensures (passes_as w (λ v. found_at v m c.args.fd (bits_of c.args.rights) c.args.path c.args.len) (λ v. and_then (part v) found) c.reach.new.volume c.in-Ok-Found.serial
+    (goes w table) (goes (with_volume_failed w) table)
     (passes_on w part (λ v. found) c.reach.new.volume (reached_as c.in-Ok-Found.field-0) walked c.reach.new.volume c.in-Ok-Found.serial walked.same
-    (ap (λ (r : ReachedValue). found (reached_as r)) c.in-Ok-Found.field-0-is))
+    (ap (λ (r : ReachedValue). found (reached_as r)) c.in-Ok-Found.field-0-is)))
 
 pub returns-in-Ok-Missing : goal.returns-in-Ok-Missing
 returns-in-Ok-Missing g c = record {
@@ -59,9 +59,9 @@ returns-in-Ok-Missing g c = record {
       let part = λ (v : World). path_at v m o c.args.path c.args.len in
       let goes = λ (v : World) (same : v.table ≡ table_of c.args.descriptors.now). to_walk v m c.args.fd (bits_of c.args.rights) c.args.path c.args.len o (c.in-Ok.ensures.row v same) in
       let walked = walk_passes g.D.Device.honest g.D.Device.disk g.D.Device.size g.D.Device.failures c.args.volume.now c.reach.new.volume w o m c.args.path c.args.len c.in-Ok.entered.1.now
-      c.in-Ok.ensures.text h shown c.in-Ok-Missing.field-0 c.in-Ok-Missing.ensures.works (c.in-Ok-Missing.ensures.reaches h w o refl shown) in
+      c.in-Ok.ensures.text h shown c.in-Ok-Missing.field-0 c.in-Ok-Missing.ensures.works (c.in-Ok-Missing.ensures.reaches h w o (sym c.new.ensures) shown) in
       stops_as w (λ v. found_at v m c.args.fd (bits_of c.args.rights) c.args.path c.args.len) (λ v. and_then (part v) found) c.reach.new.volume 44
-      (goes w table) (goes (volume_gone w) table)
+      (goes w table) (goes (with_volume_failed w) table)
       (refuses_on w part (λ v. found) c.reach.new.volume (reached_as c.in-Ok-Missing.field-0) walked c.reach.new.volume 44 walked.same
       (ap (λ (r : ReachedValue). found (reached_as r)) c.in-Ok-Missing.field-0-is));
   io = λ is. absurd (omega (arith, is));
@@ -79,9 +79,9 @@ returns-in-Err-reach g c = record {
       let found_by = λ (v : World). found_at v m c.args.fd (bits_of c.args.rights) c.args.path c.args.len in
       let goes = λ (v : World) (same : v.table ≡ table_of c.args.descriptors.now). to_walk v m c.args.fd (bits_of c.args.rights) c.args.path c.args.len o (c.in-Ok.ensures.row v same) in
       subst (λ (n : ℕ). Stops found_by w c.reach.new.volume n) (sym c.refused.ensures)
-      (stops_as w found_by (λ v. and_then (part v) found) c.reach.new.volume _ (goes w table) (goes (volume_gone w) table)
+      (stops_as w found_by (λ v. and_then (part v) found) c.reach.new.volume _ (goes w table) (goes (with_volume_failed w) table)
       (ends_part w part (λ v. found) c.reach.new.volume _ (λ alive r. found_never r)
       (walk_stops g.D.Device.honest g.D.Device.disk g.D.Device.size g.D.Device.failures c.args.volume.now c.reach.new.volume w o m c.args.path c.args.len c.in-Ok.entered.1.now
-      c.in-Ok.ensures.text h shown c.in-Err-reach.errno (c.in-Err-reach.ensures.reaches h w o refl shown))));
+      c.in-Ok.ensures.text h shown c.in-Err-reach.errno (c.in-Err-reach.ensures.reaches h w o (sym c.new.ensures) shown))));
   io = asked_29 ReachedValue c.in-Err-reach.errno _ c.in-Err-reach.ensures.io c.refused.ensures;
 }

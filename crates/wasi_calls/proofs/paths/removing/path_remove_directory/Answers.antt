@@ -4,7 +4,7 @@ use Rattle.vol_tree.specs.declared.errno.Errno.{Errno}
 use Rattle.vol_tree.specs.Tree.{Tree}
 use Rattle.vol_tree.specs.Calls.{directory_removed}
 use Rattle.wasi_calls.proofs.checks.CausesOf29.{asked_29}
-use Rattle.wasi_calls.specs.World.{World, volume_gone}
+use Rattle.wasi_calls.specs.World.{World, with_volume_failed}
 use Rattle.wasi_calls.specs.Checks.{Checked, Done, and_then}
 use Rattle.wasi_calls.specs.paths.Rows.{path_remove_directory}
 use Rattle.wasi_calls.specs.Calls.{Answered}
@@ -35,7 +35,7 @@ returns-in-Ok-rmdir-clause-answered g c = λ h w table shown.
     let passes = c.in-Ok.ensures.asks h w table shown in
     changed_ok g.D.Device.honest g.D.Device.size g.D.Device.failures w m (λ v. path_remove_directory v m c.args.fd c.args.path c.args.len) (gives s)
     c.removable.new.volume c.rmdir.new.self (sym passes.same) (to_change w m c.args.fd c.args.path c.args.len ∙ goes_on _ _ s passes.is)
-    c.in-Ok-rmdir.ensures.kept (rw c.new.ensures at c.in-Ok-rmdir.ensures.answer (c.in-Ok.ensures.works.kept.honest.0 h))
+    c.in-Ok-rmdir.ensures.kept (c.in-Ok-rmdir.ensures.answer (c.in-Ok.ensures.works.kept.honest.0 h))
 
 pub returns-in-Err-rmdir-clause-step : goal.returns-in-Err-rmdir-clause-step
 returns-in-Err-rmdir-clause-step g c =
@@ -53,10 +53,10 @@ returns-in-Err-rmdir-clause-answered g c = λ h w table shown.
     let s = c.in-Ok.directory in
     let run : World → Checked Done = λ v. path_remove_directory v m c.args.fd c.args.path c.args.len in
     let passes = c.in-Ok.ensures.asks h w table shown in
-    let (tree, meant) = rw c.new.ensures at c.in-Err-rmdir.ensures.answer (c.in-Ok.ensures.works.kept.honest.0 h) in
+    let (tree, meant) = c.in-Err-rmdir.ensures.answer (c.in-Ok.ensures.works.kept.honest.0 h) in
     subst (λ (n : ℕ). Answered run w m (with_volume c.rmdir.new.self w) m n) (sym c.refused.ensures)
     (changing_err g.D.Device.honest g.D.Device.size g.D.Device.failures w m run (gives s) c.removable.new.volume c.rmdir.new.self (sym passes.same)
-    (to_change w m c.args.fd c.args.path c.args.len ∙ goes_on _ _ s passes.is) (to_change (volume_gone w) m c.args.fd c.args.path c.args.len ∙ stops _ _ 29 passes.gone)
+    (to_change w m c.args.fd c.args.path c.args.len ∙ goes_on _ _ s passes.is) (to_change (with_volume_failed w) m c.args.fd c.args.path c.args.len ∙ stops _ _ 29 passes.gone)
     (removed_never w.tree s) c.in-Err-rmdir.errno c.in-Err-rmdir.ensures.kept tree meant)
 
 pub returns-in-Err-rmdir-clause-io : goal.returns-in-Err-rmdir-clause-io

@@ -4,7 +4,7 @@ use Rattle.vol_tree.specs.declared.errno.Errno.{Errno}
 use Rattle.vol_tree.specs.Tree.{Tree}
 use Rattle.vol_tree.specs.Calls.{unlinked}
 use Rattle.wasi_calls.proofs.checks.CausesOf29.{asked_29}
-use Rattle.wasi_calls.specs.World.{World, volume_gone}
+use Rattle.wasi_calls.specs.World.{World, with_volume_failed}
 use Rattle.wasi_calls.specs.Checks.{Checked, Done, and_then}
 use Rattle.wasi_calls.specs.paths.Rows.{path_unlink_file}
 use Rattle.wasi_calls.specs.Calls.{Answered}
@@ -35,7 +35,7 @@ returns-in-Ok-unlink-clause-answered g c = λ h w table shown.
     let passes = c.in-Ok.ensures.asks h w table shown in
     changed_ok g.D.Device.honest g.D.Device.size g.D.Device.failures w m (λ v. path_unlink_file v m c.args.fd c.args.path c.args.len) (gives s)
     c.removable.new.volume c.unlink.new.self (sym passes.same) (to_change w m c.args.fd c.args.path c.args.len ∙ goes_on _ _ s passes.is)
-    c.in-Ok-unlink.ensures.kept (rw c.new.ensures at c.in-Ok-unlink.ensures.answer (c.in-Ok.ensures.works.kept.honest.0 h))
+    c.in-Ok-unlink.ensures.kept (c.in-Ok-unlink.ensures.answer (c.in-Ok.ensures.works.kept.honest.0 h))
 
 pub returns-in-Err-unlink-clause-step : goal.returns-in-Err-unlink-clause-step
 returns-in-Err-unlink-clause-step g c =
@@ -53,10 +53,10 @@ returns-in-Err-unlink-clause-answered g c = λ h w table shown.
     let s = c.in-Ok.file in
     let run : World → Checked Done = λ v. path_unlink_file v m c.args.fd c.args.path c.args.len in
     let passes = c.in-Ok.ensures.asks h w table shown in
-    let (tree, meant) = rw c.new.ensures at c.in-Err-unlink.ensures.answer (c.in-Ok.ensures.works.kept.honest.0 h) in
+    let (tree, meant) = c.in-Err-unlink.ensures.answer (c.in-Ok.ensures.works.kept.honest.0 h) in
     subst (λ (n : ℕ). Answered run w m (with_volume c.unlink.new.self w) m n) (sym c.refused.ensures)
     (changing_err g.D.Device.honest g.D.Device.size g.D.Device.failures w m run (gives s) c.removable.new.volume c.unlink.new.self (sym passes.same)
-    (to_change w m c.args.fd c.args.path c.args.len ∙ goes_on _ _ s passes.is) (to_change (volume_gone w) m c.args.fd c.args.path c.args.len ∙ stops _ _ 29 passes.gone)
+    (to_change w m c.args.fd c.args.path c.args.len ∙ goes_on _ _ s passes.is) (to_change (with_volume_failed w) m c.args.fd c.args.path c.args.len ∙ stops _ _ 29 passes.gone)
     (ok_no_io _) c.in-Err-unlink.errno c.in-Err-unlink.ensures.kept tree meant)
 
 pub returns-in-Err-unlink-clause-io : goal.returns-in-Err-unlink-clause-io

@@ -12,11 +12,12 @@ use Rattle.wasi_calls.proofs.bodies.VolumeCalls.{steps_after, steps}
 use Rattle.wasi_calls.proofs.bodies.AskingCalls.{asked_works}
 use Rattle.wasi_calls.proofs.paths.RenameCalls.{onto_stops, onto_done, found_never, not_root, world_with, renames_ok, renames_err}
 use Rattle.wasi_calls.proofs.bodies.PlainCalls.{volume_rests}
+use Rattle.std.proofs.lemmas.Bool.{eqb-false}
 use Rattle.wasi_calls.proofs.paths.renaming.rename_found.Goals as goal
 
 pub returns-in-Err-clause-renames : goal.returns-in-Err-clause-renames
 returns-in-Err-clause-renames g c = λ h w slash table alive shown.
-    onto_stops w c.may_replace.new.volume c.args.source c.args.target slash c.in-Err.errno.0 c.if-target-source.false alive (c.in-Err.ensures.checks h w table alive shown)
+    onto_stops w c.may_replace.new.volume c.args.source c.args.target slash c.in-Err.errno.0 (eqb-false c.args.target c.args.source (sym c.eq.ensures ∙ c.if-eq.false)) alive (c.in-Err.ensures.checks h w table alive shown)
 
 pub rename_onto-requires-clause-below : goal.rename_onto-requires-clause-below
 rename_onto-requires-clause-below g c = λ h1.
@@ -24,7 +25,7 @@ rename_onto-requires-clause-below g c = λ h1.
     let h = c.in_default.ensures.asked.kept.honest.1 h1 in
     let w : World = world_with old (table_of c.args.descriptors.now) in
     let checks = c.in_default.ensures.checks h w refl c.requires.works refl in
-    not_root old.tree c.args.source c.args.target (held_open w c.args.target) (c.is_a_tree.ensures.tree h) (c.requires.source.used h) c.if-target-source.false checks.0
+    not_root old.tree c.args.source c.args.target (held_open w c.args.target) (c.is_a_tree.ensures.tree h) (c.requires.source.used h) (eqb-false c.args.target c.args.source (sym c.eq.ensures ∙ c.if-eq.false)) checks.0
 
 pub returns-in-Ok-clause-step : goal.returns-in-Ok-clause-step
 returns-in-Ok-clause-step g c =
@@ -44,7 +45,7 @@ returns-in-Ok-clause-renames g c = λ h w slash table alive shown.
     let s = c.args.source in
     let t = c.args.target in
     renames_ok g.D.Device.honest g.D.Device.size g.D.Device.failures w s slash (Found t) c.may_replace.new.volume c.rename_onto.new.volume
-    (λ (T : Tree). renamed T s (parent_at T t) (name_at T t)) checks.1 alive (onto_done w s t slash c.if-target-source.false alive checks.0)
+    (λ (T : Tree). renamed T s (parent_at T t) (name_at T t)) checks.1 alive (onto_done w s t slash (eqb-false c.args.target c.args.source (sym c.eq.ensures ∙ c.if-eq.false)) alive checks.0)
     c.in-Ok.ensures.kept (c.in-Ok.ensures.answer (c.in_default.ensures.asked.kept.honest.0 h))
 
 pub returns-in-Err-rename_onto-clause-renames : goal.returns-in-Err-rename_onto-clause-renames
@@ -55,14 +56,14 @@ returns-in-Err-rename_onto-clause-renames g c = λ h w slash table alive shown.
     let (tree, meant) = c.in-Err-rename_onto.ensures.answer (c.in_default.ensures.asked.kept.honest.0 h) in
     subst (λ (n : ℕ). StopsNext (λ v. rename_to v s slash (Found t)) w c.rename_onto.new.volume n) (sym c.refused.ensures)
     (renames_err g.D.Device.honest g.D.Device.size g.D.Device.failures w s slash (Found t) c.may_replace.new.volume c.rename_onto.new.volume
-    (λ (T : Tree). renamed T s (parent_at T t) (name_at T t)) checks.1 alive (onto_done w s t slash c.if-target-source.false alive checks.0)
-    (found_never w s t slash alive c.if-target-source.false) c.in-Err-rename_onto.errno c.in-Err-rename_onto.ensures.kept tree meant)
+    (λ (T : Tree). renamed T s (parent_at T t) (name_at T t)) checks.1 alive (onto_done w s t slash (eqb-false c.args.target c.args.source (sym c.eq.ensures ∙ c.if-eq.false)) alive checks.0)
+    (found_never w s t slash alive (eqb-false c.args.target c.args.source (sym c.eq.ensures ∙ c.if-eq.false))) c.in-Err-rename_onto.errno c.in-Err-rename_onto.ensures.kept tree meant)
 
-pub returns-then-target-source-clause-step : goal.returns-then-target-source-clause-step
-returns-then-target-source-clause-step g c = volume_rests g.D.Device.honest g.D.Device.disk g.D.Device.size g.D.Device.failures c.args.volume.now
+pub returns-then-eq-clause-step : goal.returns-then-eq-clause-step
+returns-then-eq-clause-step g c = volume_rests g.D.Device.honest g.D.Device.disk g.D.Device.size g.D.Device.failures c.args.volume.now
 
-pub returns-then-target-source-clause-renames : goal.returns-then-target-source-clause-renames
-returns-then-target-source-clause-renames c = grind (arith, common_steps)
+pub returns-then-eq-clause-renames : goal.returns-then-eq-clause-renames
+returns-then-eq-clause-renames c = grind (arith, common_steps)
 
 pub returns-in-Err-rename_onto-clause-io : goal.returns-in-Err-rename_onto-clause-io
 returns-in-Err-rename_onto-clause-io g c = asked_29 (Unit {0}) c.in-Err-rename_onto.errno _ (λ fails. c.in-Err-rename_onto.ensures.kept.failed ∙ fails) c.refused.ensures

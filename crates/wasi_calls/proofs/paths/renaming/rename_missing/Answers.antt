@@ -71,7 +71,7 @@ returns-in-Ok-rename-clause-renames g c = λ h w alive shown.
     let passes : (not c.args.slash || directory_at w.tree s) ≡ true = ap (λ (b : Bool). not c.args.slash || b) told ∙ c.in_default.ensures in
     renames_ok g.D.Device.honest g.D.Device.size g.D.Device.failures w s c.args.slash (Missing p n) between c.rename.new.self (λ (T : Tree). renamed T s p n)
     (asked_same g.D.Device.honest g.D.Device.disk g.D.Device.size g.D.Device.failures w old between shown alive h c.in-Ok.ensures.asked) alive
-    (missing_done w s p c.args.slash n alive passes) c.in-Ok-rename.ensures.kept (rw (c.new.ensures, c.new-2.ensures) at c.in-Ok-rename.ensures.answer (c.in-Ok.ensures.asked.kept.honest.0 h))
+    (missing_done w s p c.args.slash n alive passes) c.in-Ok-rename.ensures.kept (c.in-Ok-rename.ensures.answer (c.in-Ok.ensures.asked.kept.honest.0 h))
 
 pub returns-in-Err-rename-clause-renames : goal.returns-in-Err-rename-clause-renames
 returns-in-Err-rename-clause-renames g c = λ h w alive shown.
@@ -82,7 +82,7 @@ returns-in-Err-rename-clause-renames g c = λ h w alive shown.
     let n = c.args.name.now in
     let told : directory_at w.tree s ≡ c.in-Ok.is_directory = ap (λ (v : World). directory_at v.tree s) shown ∙ sym (c.in-Ok.ensures.told h) in
     let passes : (not c.args.slash || directory_at w.tree s) ≡ true = ap (λ (b : Bool). not c.args.slash || b) told ∙ c.in_default.ensures in
-    let (tree, meant) = rw (c.new.ensures, c.new-2.ensures) at c.in-Err-rename.ensures.answer (c.in-Ok.ensures.asked.kept.honest.0 h) in
+    let (tree, meant) = c.in-Err-rename.ensures.answer (c.in-Ok.ensures.asked.kept.honest.0 h) in
     subst (λ (k : ℕ). StopsNext (λ v. rename_to v s c.args.slash (Missing p n)) w c.rename.new.self k) (sym c.refused-in-Err-rename.ensures)
     (renames_err g.D.Device.honest g.D.Device.size g.D.Device.failures w s c.args.slash (Missing p n) between c.rename.new.self (λ (T : Tree). renamed T s p n)
     (asked_same g.D.Device.honest g.D.Device.disk g.D.Device.size g.D.Device.failures w old between shown alive h c.in-Ok.ensures.asked) alive
@@ -93,7 +93,7 @@ rename-requires g c =
     let works = asked_works g.D.Device.honest g.D.Device.disk g.D.Device.size g.D.Device.failures c.args.volume.now c.is_directory.new.volume c.in-Ok.ensures.asked in
     let source = entry_still g.D.Device.honest g.D.Device.disk g.D.Device.size g.D.Device.failures c.args.volume.now c.is_directory.new.volume c.args.source works c.requires.source in
     let parent = entry_still g.D.Device.honest g.D.Device.disk g.D.Device.size g.D.Device.failures c.args.volume.now c.is_directory.new.volume c.args.parent works c.requires.parent in
-    rw (c.new.ensures, c.new-2.ensures) (record {
+    (record {
       first = source.number.first;
       last = source.number.last;
       used = source.used;

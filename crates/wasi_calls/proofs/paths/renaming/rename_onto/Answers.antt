@@ -13,11 +13,11 @@ pub returns-clause-answer : goal.returns-clause-answer
 returns-clause-answer g c = λ h.
     let old = c.args.volume.now in
     let mid = c.stat.new.self in
-    let (told, tree) = rw c.new.ensures at c.in-Ok.ensures.answer h in
+    let (told, tree) = c.in-Ok.ensures.answer h in
     onto_answers old.tree mid.tree c.rename.new.self.tree c.args.source c.args.target _ _ told.0 c.rename.result tree told.1
     (told.2.parent ∙ cond-false (c.args.target == 1) 1 told.0.parent (ne_eqb c.args.target 1 (c.requires.below h)))
     told.2.name
-    (rw c.new-2.ensures at c.rename.ensures.answer (c.in-Ok.ensures.kept.honest.0 h))
+    (c.rename.ensures.answer (c.in-Ok.ensures.kept.honest.0 h))
 
 pub returns-clause-crash : goal.returns-clause-crash
 returns-clause-crash g c =
@@ -52,21 +52,21 @@ rename-requires-clause-first g c =
     let told = c.in-Ok.ensures in
     let works : StillWorks g.D.Device.honest g.D.Device.disk g.D.Device.size g.D.Device.failures c.args.volume.now c.stat.new.self = record { kept = told.kept; tree = λ h. (told.answer h).1; crash = told.crash } in
     let source = entry_still g.D.Device.honest g.D.Device.disk g.D.Device.size g.D.Device.failures c.args.volume.now c.stat.new.self c.args.source works c.requires.source in
-    rw c.new-2.ensures source.number.first
+    source.number.first
 
 pub rename-requires-clause-last : goal.rename-requires-clause-last
 rename-requires-clause-last g c =
     let told = c.in-Ok.ensures in
     let works : StillWorks g.D.Device.honest g.D.Device.disk g.D.Device.size g.D.Device.failures c.args.volume.now c.stat.new.self = record { kept = told.kept; tree = λ h. (told.answer h).1; crash = told.crash } in
     let source = entry_still g.D.Device.honest g.D.Device.disk g.D.Device.size g.D.Device.failures c.args.volume.now c.stat.new.self c.args.source works c.requires.source in
-    rw c.new-2.ensures source.number.last
+    source.number.last
 
 pub rename-requires-clause-used : goal.rename-requires-clause-used
 rename-requires-clause-used g c =
     let told = c.in-Ok.ensures in
     let works : StillWorks g.D.Device.honest g.D.Device.disk g.D.Device.size g.D.Device.failures c.args.volume.now c.stat.new.self = record { kept = told.kept; tree = λ h. (told.answer h).1; crash = told.crash } in
     let source = entry_still g.D.Device.honest g.D.Device.disk g.D.Device.size g.D.Device.failures c.args.volume.now c.stat.new.self c.args.source works c.requires.source in
-    rw c.new-2.ensures source.used
+    source.used
 
 pub rename-requires-clause-parent_first : goal.rename-requires-clause-parent_first
 rename-requires-clause-parent_first g c = let parent = subst (λ (n : Superblock). IsSerial n c.in-Ok.stat.parent) (sym c.in-Ok.ensures.kept.numbers) c.in-Ok.ensures.parent in parent.first

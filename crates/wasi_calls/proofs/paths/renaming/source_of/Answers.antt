@@ -1,20 +1,22 @@
-use Rattle.std.proofs.Common.{not, refl, ◌∙◌, ap}
-use Rattle.std.proofs.lemmas.Bool.{eq-eqb, ne_eqb}
+use Rattle.std.proofs.Common.{◌≡◌, true, false, not, Ok, refl, sym, ◌∙◌, ap}
+use Rattle.std.specs.Prelude.{◌==◌}
 use Rattle.path_walk.specs.declared.walking.Reached.{Reached}
 use Rattle.path_walk.specs.Walk.{reached_as}
 use Rattle.wasi_calls.specs.internal.paths.Renaming.{source_checked}
 use Rattle.wasi_calls.proofs.checks.Chains.{goes_on, stops, guard_passes, guard_fails}
 use Rattle.wasi_calls.proofs.paths.renaming.source_of.Goals as goal
 
-pub returns-then-source-directory-clause-row : goal.returns-then-source-directory-clause-row
-returns-then-source-directory-clause-row c =
+pub returns-then-eq-clause-row : goal.returns-then-eq-clause-row
+returns-then-eq-clause-row c =
+    let same : (c.in-Found.found == c.args.directory) ≡ true = rw c.new-source.ensures at (sym c.eq.ensures ∙ c.if-eq.true) in
     ap (λ (r : Reached). source_checked c.args.directory (reached_as r)) c.in-Found.is
-    ∙ (goes_on _ _ c.in-Found.source refl ∙ stops _ _ 10 (guard_fails _ 10 (ap not (eq-eqb c.in-Found.source c.args.directory c.if-source-directory.true))))
+    ∙ (goes_on _ _ c.in-Found.found refl ∙ stops _ _ 10 (guard_fails _ 10 (ap not same)))
 
-pub returns-else-source-directory-clause-row : goal.returns-else-source-directory-clause-row
-returns-else-source-directory-clause-row c =
+pub returns-else-eq-clause-row : goal.returns-else-eq-clause-row
+returns-else-eq-clause-row c =
+    let other : (c.in-Found.found == c.args.directory) ≡ false = rw c.new-source.ensures at (sym c.eq.ensures ∙ c.if-eq.false) in
     ap (λ (r : Reached). source_checked c.args.directory (reached_as r)) c.in-Found.is
-    ∙ (goes_on _ _ c.in-Found.source refl ∙ goes_on _ _ tt (guard_passes _ 10 (ap not (ne_eqb c.in-Found.source c.args.directory c.if-source-directory.false))))
+    ∙ (goes_on _ _ c.in-Found.found refl ∙ (goes_on _ _ tt (guard_passes _ 10 (ap not other)) ∙ ap Ok (sym c.new-source.ensures)))
 
 pub returns-in-Missing-clause-row : goal.returns-in-Missing-clause-row
 returns-in-Missing-clause-row c =

@@ -1,4 +1,4 @@
-use Rattle.std.proofs.Common.{◌≡◌, ℕ, refl, sym, ap, ◌∙◌, subst, inl, Ok}
+use Rattle.std.proofs.Common.{◌≡◌, ℕ, sym, ap, ◌∙◌, subst, inl, Ok}
 use Rattle.wasm_store.specs.Bytes.{bytes_at}
 use Rattle.path_walk.specs.Paths.{Reached, wants_directory, path_read}
 use Rattle.path_walk.specs.Walk.{reached_as, IsReached}
@@ -7,7 +7,7 @@ use Rattle.wasi_fd.specs.declared.descriptor.Opened.{Opened}
 use Rattle.path_walk.specs.declared.walking.Reached.{Reached as ReachedValue}
 use Rattle.wasi_calls.proofs.checks.CausesOf29.{asked_29, check_not_29, no_29_at_0, not_29}
 use Rattle.wasi_calls.proofs.checks.NoneAnswers29.{rename_entered_never}
-use Rattle.wasi_calls.specs.World.{World, volume_gone}
+use Rattle.wasi_calls.specs.World.{World, with_volume_failed}
 use Rattle.wasi_calls.specs.Checks.{and_then}
 use Rattle.wasi_calls.specs.paths.Rows.{path_at}
 use Rattle.wasi_calls.specs.internal.Asking.{Stops}
@@ -36,12 +36,12 @@ returns-in-Err g c = record {
 
 pub reach-requires : goal.reach-requires
 reach-requires g c =
-    (renames_at g.D.Device.honest c.args.volume.now (table_of c.args.descriptors.now) c.requires c.args.memory.now c.args.asked.now c.in-Ok.ends.from c.in-Ok.ends.to c.in-Ok.ensures.row).0
+    rw c.new-from.ensures (renames_at g.D.Device.honest c.args.volume.now (table_of c.args.descriptors.now) c.requires c.args.memory.now c.args.asked.now c.in-Ok.ends.from c.in-Ok.ends.to c.in-Ok.ensures.row).0
 
 pub reach-requires-2 : goal.reach-requires-2
 reach-requires-2 g c =
-    entry_still g.D.Device.honest g.D.Device.disk g.D.Device.size g.D.Device.failures c.args.volume.now c.reach.new.volume c.in-Ok.ends.to.serial c.in-Ok-reach.ensures.works
-    (renames_at g.D.Device.honest c.args.volume.now (table_of c.args.descriptors.now) c.requires c.args.memory.now c.args.asked.now c.in-Ok.ends.from c.in-Ok.ends.to c.in-Ok.ensures.row).1
+    rw c.new-to.ensures (entry_still g.D.Device.honest g.D.Device.disk g.D.Device.size g.D.Device.failures c.args.volume.now c.reach.new.volume c.in-Ok.ends.to.serial c.in-Ok-reach.ensures.works
+    (renames_at g.D.Device.honest c.args.volume.now (table_of c.args.descriptors.now) c.requires c.args.memory.now c.args.asked.now c.in-Ok.ends.from c.in-Ok.ends.to c.in-Ok.ensures.row).1)
 
 pub returns-in-Err-reach : goal.returns-in-Err-reach
 returns-in-Err-reach g c = record {
@@ -60,10 +60,10 @@ returns-in-Err-reach g c = record {
       let mid = c.reach.new.volume in
       let goes = λ (v : World) (same : v.table ≡ table_of c.args.descriptors.now). entered_both v m a both (c.in-Ok.ensures.row v same) in
       subst (λ (n : ℕ). Stops (λ v. rename_part v m a) w mid n) (sym c.refused.ensures)
-      (stops_as w (λ v. rename_part v m a) (λ v. and_then (path_at v m from a.from_path a.from_len) (after_first v m a both)) mid _ (goes w table) (goes (volume_gone w) table)
+      (stops_as w (λ v. rename_part v m a) (λ v. and_then (path_at v m from a.from_path a.from_len) (after_first v m a both)) mid _ (goes w table) (goes (with_volume_failed w) table)
       (ends_part w (λ v. path_at v m from a.from_path a.from_len) (λ v. after_first v m a both) mid _ (λ alive r. first_never w m a both r alive)
       (walk_stops g.D.Device.honest g.D.Device.disk g.D.Device.size g.D.Device.failures old mid w from m a.from_path a.from_len c.in-Ok.ends.from_text.now c.in-Ok.ensures.from h shown
-      c.in-Err-reach.errno (c.in-Err-reach.ensures.reaches h w from refl shown))));
+      c.in-Err-reach.errno (c.in-Err-reach.ensures.reaches h w from (sym c.new-from.ensures) shown))));
   io = asked_29 ReachedValue c.in-Err-reach.errno _ c.in-Err-reach.ensures.io c.refused.ensures;
 }
 
@@ -86,14 +86,14 @@ returns-in-Err-reach-2 g c = record {
       let moved : Reached = reached_as c.in-Ok-reach.moved in
       let new = c.reach-2.new.volume in
       let one = walk_passes g.D.Device.honest g.D.Device.disk g.D.Device.size g.D.Device.failures old mid w from m a.from_path a.from_len c.in-Ok.ends.from_text.now c.in-Ok.ensures.from h shown
-      c.in-Ok-reach.moved c.in-Ok-reach.ensures.works (c.in-Ok-reach.ensures.reaches h w from refl shown) in
+      c.in-Ok-reach.moved c.in-Ok-reach.ensures.works (c.in-Ok-reach.ensures.reaches h w from (sym c.new-from.ensures) shown) in
       let now = c.in-Ok-reach.ensures.works.kept.honest.0 h in
       subst (λ (n : ℕ). Stops (λ v. rename_part v m a) w new n) (sym c.refused-in-Err-reach-2.ensures)
-      (stops_as w (λ v. rename_part v m a) (λ v. and_then (path_at v m from a.from_path a.from_len) (after_first v m a both)) new _ (goes w table) (goes (volume_gone w) table)
+      (stops_as w (λ v. rename_part v m a) (λ v. and_then (path_at v m from a.from_path a.from_len) (after_first v m a both)) new _ (goes w table) (goes (with_volume_failed w) table)
       (stops_on w (λ v. path_at v m from a.from_path a.from_len) (λ v. after_first v m a both) mid new moved _ one
       (ends_part w (λ v. path_at v m to a.to_path a.to_len) (λ v. after_second both moved) new _ (λ alive r. second_never both moved r)
       (walk_stops g.D.Device.honest g.D.Device.disk g.D.Device.size g.D.Device.failures mid new w to m a.to_path a.to_len c.in-Ok.ends.to_text.now c.in-Ok.ensures.to now (sym one.same)
-      c.in-Err-reach-2.errno (c.in-Err-reach-2.ensures.reaches now w to refl (sym one.same))))));
+      c.in-Err-reach-2.errno (c.in-Err-reach-2.ensures.reaches now w to (sym c.new-to.ensures) (sym one.same))))));
   io = asked_29 ReachedValue c.in-Err-reach-2.errno _ c.in-Err-reach-2.ensures.io c.refused-in-Err-reach-2.ensures;
 }
 
@@ -117,14 +117,14 @@ returns-in-Err-source_of g c = record {
       let moved : Reached = reached_as c.in-Ok-reach.moved in
       let new = c.reach-2.new.volume in
       let one = walk_passes g.D.Device.honest g.D.Device.disk g.D.Device.size g.D.Device.failures old mid w from m a.from_path a.from_len c.in-Ok.ends.from_text.now c.in-Ok.ensures.from h shown
-      c.in-Ok-reach.moved c.in-Ok-reach.ensures.works (c.in-Ok-reach.ensures.reaches h w from refl shown) in
+      c.in-Ok-reach.moved c.in-Ok-reach.ensures.works (c.in-Ok-reach.ensures.reaches h w from (sym c.new-from.ensures) shown) in
       let now = c.in-Ok-reach.ensures.works.kept.honest.0 h in
       let target : Reached = reached_as c.in-Ok-reach-2.target in
       let two = walk_passes g.D.Device.honest g.D.Device.disk g.D.Device.size g.D.Device.failures mid new w to m a.to_path a.to_len c.in-Ok.ends.to_text.now c.in-Ok.ensures.to now (sym one.same)
-      c.in-Ok-reach-2.target c.in-Ok-reach-2.ensures.works (c.in-Ok-reach-2.ensures.reaches now w to refl (sym one.same)) in
-      stops_as w (λ v. rename_part v m a) (λ v. and_then (path_at v m from a.from_path a.from_len) (after_first v m a both)) new _ (goes w table) (goes (volume_gone w) table)
+      c.in-Ok-reach-2.target c.in-Ok-reach-2.ensures.works (c.in-Ok-reach-2.ensures.reaches now w to (sym c.new-to.ensures) (sym one.same)) in
+      stops_as w (λ v. rename_part v m a) (λ v. and_then (path_at v m from a.from_path a.from_len) (after_first v m a both)) new _ (goes w table) (goes (with_volume_failed w) table)
       (stops_on w (λ v. path_at v m from a.from_path a.from_len) (λ v. after_first v m a both) mid new moved _ one
-      (refuses_on w (λ v. path_at v m to a.to_path a.to_len) (λ v. after_second both moved) new target two new _ two.same (stops _ _ _ c.in-Err-source_of.ensures.row)));
+      (refuses_on w (λ v. path_at v m to a.to_path a.to_len) (λ v. after_second both moved) new target two new _ two.same (stops _ _ _ (rw c.new-from.ensures at c.in-Err-source_of.ensures.row))));
   io = not_29 _ _ (source_never _ _) c.in-Err-source_of.ensures.row;
 }
 
@@ -152,17 +152,17 @@ returns g c = record {
       let moved : Reached = reached_as c.in-Ok-reach.moved in
       let new = c.reach-2.new.volume in
       let one = walk_passes g.D.Device.honest g.D.Device.disk g.D.Device.size g.D.Device.failures old mid w from m a.from_path a.from_len c.in-Ok.ends.from_text.now c.in-Ok.ensures.from h shown
-      c.in-Ok-reach.moved c.in-Ok-reach.ensures.works (c.in-Ok-reach.ensures.reaches h w from refl shown) in
+      c.in-Ok-reach.moved c.in-Ok-reach.ensures.works (c.in-Ok-reach.ensures.reaches h w from (sym c.new-from.ensures) shown) in
       let now = c.in-Ok-reach.ensures.works.kept.honest.0 h in
       let target : Reached = reached_as c.in-Ok-reach-2.target in
       let two = walk_passes g.D.Device.honest g.D.Device.disk g.D.Device.size g.D.Device.failures mid new w to m a.to_path a.to_len c.in-Ok.ends.to_text.now c.in-Ok.ensures.to now (sym one.same)
-      c.in-Ok-reach-2.target c.in-Ok-reach-2.ensures.works (c.in-Ok-reach-2.ensures.reaches now w to refl (sym one.same)) in
+      c.in-Ok-reach-2.target c.in-Ok-reach-2.ensures.works (c.in-Ok-reach-2.ensures.reaches now w to (sym c.new-to.ensures) (sym one.same)) in
       let source = c.in-Ok-source_of.source in
       let ends : ℕ × Reached = (source, target) in
       let same : c.in-Ok.ends.to_text.now ≡ bytes_at m a.to_path a.to_len = c.in-Ok.ensures.to in
       let read = walked_to w to (bytes_at m a.to_path a.to_len) target two.is in
-      let inner = passes_on w (λ v. path_at v m to a.to_path a.to_len) (λ v. after_second both moved) new target two new ends two.same (goes_on _ _ source c.in-Ok-source_of.ensures.row) in (
-        passes_as w (λ v. rename_part v m a) (λ v. and_then (path_at v m from a.from_path a.from_len) (after_first v m a both)) new ends (goes w table) (goes (volume_gone w) table)
+      let inner = passes_on w (λ v. path_at v m to a.to_path a.to_len) (λ v. after_second both moved) new target two new ends two.same (goes_on _ _ source (rw c.new-from.ensures at c.in-Ok-source_of.ensures.row)) in (
+        passes_as w (λ v. rename_part v m a) (λ v. and_then (path_at v m from a.from_path a.from_len) (after_first v m a both)) new ends (goes w table) (goes (with_volume_failed w) table)
             (passes_on w (λ v. path_at v m from a.from_path a.from_len) (λ v. after_first v m a both) mid moved one new ends two.same inner.is),
         c.ends_open-slash.ensures read.0 (ap path_read same ∙ read.1) ∙ ap wants_directory same,
       );
