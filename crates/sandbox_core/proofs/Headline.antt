@@ -1,7 +1,7 @@
 -- The headline, from what each resume says.
 use Rattle.std.proofs.Common.{◌≡◌, ◌==◌, cond, zero, suc, Result, Ok, Err, ℕ, ◌+◌, ◌-◌, ◌≤◌, Bool, true, false, IsTrue, nat_lt, List, [], ◌∷◌, ◌++◌, append_assoc, append-nil, length, Option, Some, None, refl, sym, ◌∙◌, ap, subst, inl, inr, arith, slice_get}
 use Rattle.vol_sector.specs.Disk.{Image, Disk}
-use Rattle.std.proofs.lemmas.Bool.{false≢true, and_parts, leb-true, ltb-false, eqb-true}
+use Rattle.std.proofs.lemmas.Bool.{and_parts, leb-true, ltb-false, eqb-true}
 use Rattle.std.proofs.lemmas.Option.{slice_get_within}
 use Rattle.std.specs.Option.{option_map, option_map_or}
 use Rattle.vol_tree.specs.declared.errno.Errno.{Errno as TreeErrno}
@@ -25,7 +25,6 @@ use Rattle.wasi_calls.proofs.runs.HostLaws.{are_rows}
 use Rattle.wasi_calls.proofs.runs.Moments.{keeps_all}
 use Rattle.wasi_calls.proofs.runs.Confinement.{confines_host}
 use Rattle.wasi_calls.specs.host.Making.{found_directory, from_root, directory_named, preopened, preopens_of, table_with}
-use Rattle.vol_tree.specs.Opened.{Opened}
 use Rattle.vol_tree.specs.Stands.{StandsAs}
 use Rattle.vol_tree.specs.declared.superblock.Superblock.{Superblock}
 use Rattle.wasm_module.specs.declared.module.Module.{Module}
@@ -39,7 +38,7 @@ use Rattle.wasi_calls.specs.World.{World, places}
 use Rattle.wasi_calls.specs.Calls as world
 use Rattle.wasi_calls.specs.host.Worlds.{HostState, StreamBytes, LeavesNone, StreamsMove, MayFollow, before_moving, after_moving, Shows, world_of}
 use Rattle.wasi_calls.proofs.bodies.PlainCalls.{nothing}
-use Rattle.std.specs.Io.KnownBytes.{Consumes, Appends}
+use Rattle.std.specs.Io.KnownBytes.{Consumes}
 use Rattle.std.proofs.KnownBytes.{Consumes-nil, Consumes-trans, Appends-nil, Appends-trans}
 use Rattle.sandbox_core.specs.Devices.{Devices, Calls as CallsOn}
 use Rattle.sandbox_core.specs.Session.{SessionState, OpensWith, Shares, History, Follow, is_synced, pauses_of, seeded_by}

@@ -14,7 +14,7 @@ use Rattle.wasm_module.specs.declared.module.Module.{Module}
 use Rattle.wasm_store.specs.declared.fault.InstanceFault.TheVariants.{Memory as NoMemory}
 use Rattle.wasm_store.specs.Instantiation.{RefusedFor}
 use Rattle.wasm_steps.specs.declared.pause.Pause.{Pause}
-use Rattle.wasm_steps.specs.declared.pause.Pause.TheVariants.{Called, Spent, Ended}
+use Rattle.wasm_steps.specs.declared.pause.Pause.TheVariants.{Called}
 use Rattle.wasm_interp.specs.Machine.{Snapshot}
 use Rattle.wasm_interp.specs.Promise.{Starts, Resumed}
 use Rattle.wasi_fd.specs.Table.{table_of}
