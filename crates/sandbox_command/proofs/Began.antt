@@ -26,7 +26,7 @@ use Rattle.sandbox_command.specs.declared.program.Executed.{Executed}
 use Rattle.sandbox_words.specs.declared.request.Run.{Run}
 use Rattle.run_report.specs.declared.counted.Counted.{Counted}
 use Rattle.sandbox_command.specs.Reporting.{counting, from_here}
-use Rattle.sandbox_command.specs.Running.{Launches, LeftByRun, device_of, known_of}
+use Rattle.sandbox_command.specs.Running.{Launches, LeftByRun, returned_device, known_of}
 
 module _ (H : Type 0) (Calls : CallsOf H) (disk : H → Disk) (numbers : H → Superblock) (tree : H → Tree) where
   -- the image stands for the tree of a host that the run comes by
@@ -55,7 +55,7 @@ counting_from parts input out err in_is out_is err_is =
     ∙ ap (λ w. given parts.settings parts.volume (from_here parts.input) (from_here parts.out) w) err_is
 
 -- the device of what is handed back
-pub device_back : {D : Type 0} (v : Opened D) (result : Result (Opened D) (Refused D)) → IsHandedBack v result → device_of result ≡ v.device
+pub device_back : {D : Type 0} (v : Opened D) (result : Result (Opened D) (Refused D)) → IsHandedBack v result → returned_device result ≡ v.device
 device_back v (Ok w) same = ap (λ o. o.device) same
 device_back v (Err r) same = same.0
 

@@ -34,16 +34,16 @@ Bytes = Vec ℕ Global
 abbrev pub remaining : Bor (List ℕ) → Option (List ℕ)
 remaining input = Some input.now
 
-abbrev pub written : Bytes → Option (List ℕ)
-written bytes = Some bytes.items
+abbrev pub items_written : Bytes → Option (List ℕ)
+items_written bytes = Some bytes.items
 
 -- what is known of all of them
 abbrev pub known : Devices RecordedDevice (Bor (List ℕ)) Bytes Bytes
 known = record {
   device = ghosts;
   input = record { remaining = remaining };
-  out = record { contents = written };
-  err = record { contents = written };
+  out = record { contents = items_written };
+  err = record { contents = items_written };
 }
 
 -- a session, its volume, what it is made of, and the report of a run
