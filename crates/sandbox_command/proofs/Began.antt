@@ -15,22 +15,23 @@ use Rattle.wasi_calls.specs.declared.host.wasi_host.HostParts.{HostParts}
 use Rattle.wasm_module.specs.declared.module.Module.{Module}
 use Rattle.wasm_steps.specs.Configuration.{Instance, Configuration}
 use Rattle.wasm_steps.specs.Steps.{CallsOf, Reach, stays}
-use Rattle.sandbox_core.specs.Runs.{ComesBy, Left}
+use Rattle.sandbox_core.specs.Runs.{ComesBy}
 use Rattle.sandbox_core.specs.declared.fault.SessionFault.{SessionFault}
 use Rattle.sandbox_core.specs.declared.fault.SessionFault.TheVariants.{Setting, Instance as NoInstance, Device, Preopen, Memory}
 use Rattle.sandbox_core.specs.Session.{IsHandedBack, KeepsVolume, given}
+use Rattle.sandbox_core.proofs.Reaching.{Left}
 use Rattle.sandbox_words.specs.Request.{Text}
 use Rattle.volume_tasks.specs.Volumes.{IsOpenFor, LeftByOpening}
 use Rattle.sandbox_command.specs.declared.program.Executed.{Executed}
 use Rattle.sandbox_words.specs.declared.request.Run.{Run}
 use Rattle.run_report.specs.declared.counted.Counted.{Counted}
 use Rattle.sandbox_command.specs.Reporting.{counting, from_here}
-use Rattle.sandbox_command.specs.Running.{Launches, LeftByRun, returned_device}
+use Rattle.sandbox_command.specs.Running.{Launches, LeftByRun, returned_device, known_of}
 
 module _ (H : Type 0) (Calls : CallsOf H) (disk : H → Disk) (numbers : H → Superblock) (tree : H → Tree) where
   -- the image stands for the tree of a host that the run comes by
   abbrev InRun : Instance → H → Configuration → List (HostCall × Errno) → H → Configuration → Image → Type 0
-  InRun i h c es h' c' image = (host : H) × ComesBy H Calls i h c es h' c' host × StandsAs image (numbers h) (tree host)
+  InRun i h c es h' c' image = (host : H) × ComesBy Calls i h c es h' c' host × StandsAs image (numbers h) (tree host)
 
   -- the run comes by the host that it begins with
   pub began : (i : Instance) (h h' : H) (c c' : Configuration) (es : List (HostCall × Errno)) (a new : Disk) (v : Superblock) (T : Tree) → Reach H Calls i h c es h' c' → v ≡ numbers h → T ≡ tree h
@@ -54,10 +55,9 @@ counting_from parts input out err in_is out_is err_is =
     ∙ ap (λ w. given parts.settings parts.volume (from_here parts.input) (from_here parts.out) w) err_is
 
 -- the device of what is handed back
-pub device_back : {D : Type 0} (is_honest : D → Type 0) (disk : D → Disk) (sectors_on failures : D → ℕ) (v : Opened D) (result : Result (Opened D) (Refused D))
-    → IsHandedBack is_honest disk sectors_on failures v result → returned_device result ≡ v.device
-device_back is_honest disk sectors_on failures v (Ok w) same = ap (λ o. o.device) same
-device_back is_honest disk sectors_on failures v (Err r) same = same.0
+pub device_back : {D : Type 0} (v : Opened D) (result : Result (Opened D) (Refused D)) → IsHandedBack v result → returned_device result ≡ v.device
+device_back v (Ok w) same = ap (λ o. o.device) same
+device_back v (Err r) same = same.0
 
 -- ---- from the opening of the volume on
 
@@ -75,14 +75,14 @@ module _ {D : Type 0} (is_honest : D → Type 0) (disk : D → Disk) (sectors_on
   opened_honest None device v opened h = opened.working.honest.0 h
 
   -- what was only read leaves nothing new
-  kept_crash : (f : SessionFault) (old new : Opened D) → KeepsVolume is_honest disk sectors_on failures f old new → is_honest old.device → Leaves (disk old.device) (disk new.device) (λ m. ⊥)
+  kept_crash : (f : SessionFault) (old new : Opened D) → KeepsVolume (known_of is_honest disk sectors_on failures) f old new → is_honest old.device → Leaves (disk old.device) (disk new.device) (λ m. ⊥)
   kept_crash Setting old new same h = subst (λ (v : Opened D). Leaves (disk old.device) (disk v.device) (λ m. ⊥)) (sym same) (leaves_same (disk old.device) (λ m. ⊥))
   kept_crash (NoInstance f) old new same h = subst (λ (v : Opened D). Leaves (disk old.device) (disk v.device) (λ m. ⊥)) (sym same) (leaves_same (disk old.device) (λ m. ⊥))
   kept_crash Device old new reads h = reads.crash h
   kept_crash Preopen old new reads h = reads.crash h
   kept_crash Memory old new same h = subst (λ (v : Opened D). Leaves (disk old.device) (disk v.device) (λ m. ⊥)) (sym same) (leaves_same (disk old.device) (λ m. ⊥))
 
-  kept_honest : (f : SessionFault) (old new : Opened D) → KeepsVolume is_honest disk sectors_on failures f old new → is_honest old.device → is_honest new.device
+  kept_honest : (f : SessionFault) (old new : Opened D) → KeepsVolume (known_of is_honest disk sectors_on failures) f old new → is_honest old.device → is_honest new.device
   kept_honest Setting old new same h = subst (λ (v : Opened D). is_honest v.device) (sym same) h
   kept_honest (NoInstance f) old new same h = subst (λ (v : Opened D). is_honest v.device) (sym same) h
   kept_honest Device old new reads h = reads.kept.honest.0 h
@@ -99,7 +99,7 @@ module _ {D : Type 0} (is_honest : D → Type 0) (disk : D → Disk) (sectors_on
     pub launch_honest : Launches is_honest disk sectors_on failures remaining outs errs Follows m run parts left → is_honest parts.volume.device → is_honest left.device
     launch_honest (inl refused) h = subst is_honest (sym refused.device) (kept_honest refused.fault parts.volume refused.volume refused.kept h)
     launch_honest (inr ran) h =
-        let back = ran.device ∙ device_back is_honest disk sectors_on failures ran.counted.reports.volume.new ran.report.volume ran.counted.reports.volume.handed_back in
+        let back = ran.device ∙ device_back ran.counted.reports.volume.new ran.report.volume ran.counted.reports.volume.handed_back in
         subst is_honest (sym back) (ran.counted.reports.volume.kept.honest.0 (ran.counted.reports.honest_after (ran.shares.reads.kept.honest.0 h)))
 
     pub whole_crash : (file : Option (Bor Text)) (device : D) → IsOpenFor is_honest disk sectors_on failures file device parts.volume → (launched : Launches is_honest disk sectors_on failures remaining outs errs Follows m run parts left) → is_honest device

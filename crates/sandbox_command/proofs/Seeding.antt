@@ -1,6 +1,6 @@
 -- A session with the random bytes of a seed is what it was but for them.
 use Rattle.std.proofs.Common.{◌≡◌, ℕ, Option, None, Some, refl, ap, sym, subst}
-use Rattle.vol_sector.specs.Disk.{Disk}
+use Rattle.vol_sector.specs.declared.device.Device.{Ghosts}
 use Rattle.wasm_module.specs.declared.module.Module.{Module}
 use Rattle.wasi_calls.specs.declared.host.wasi_host.HostParts.{HostParts}
 use Rattle.sandbox_core.specs.Session.{Opens, OpensWith, SessionState, Shares, seeded_by}
@@ -16,6 +16,6 @@ module _ {D R W1 W2 : Type 0} where
   pub opens_seeded : (m : Module) (parts : HostParts D R W1 W2) (s : SessionState D R W1 W2) (seed : Option ℕ) → Opens m parts s → OpensWith seed m parts (with_seed seed s)
   opens_seeded m parts s seed o = record { fits = o.fits; starts = o.starts; input = o.input; out = o.out; err = o.err; settings = o.settings; supply = refl }
 
-  pub shares_seeded : (is_honest : D → Type 0) (disk : D → Disk) (sectors_on failures : D → ℕ) (parts : HostParts D R W1 W2) (s : SessionState D R W1 W2) (seed : Option ℕ)
-      → Shares is_honest disk sectors_on failures parts s → Shares is_honest disk sectors_on failures parts (with_seed seed s)
-  shares_seeded is_honest disk sectors_on failures parts s seed h = record { is_tree = h.is_tree; reads = h.reads; preopens = h.preopens }
+  pub shares_seeded : (device : Ghosts D) (parts : HostParts D R W1 W2) (s : SessionState D R W1 W2) (seed : Option ℕ)
+      → Shares device parts s → Shares device parts (with_seed seed s)
+  shares_seeded device parts s seed h = record { is_tree = h.is_tree; reads = h.reads; preopens = h.preopens }

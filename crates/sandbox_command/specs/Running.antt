@@ -3,11 +3,12 @@ use Rattle.std.specs.Prelude.{◌≡◌, ◌⊎◌, ℕ, true, List, Option, Som
 use Rattle.std.proofs.Common.{inl, inr}
 use Rattle.std.specs.Io.KnownBytes.{Keeps}
 use Rattle.vol_sector.specs.Disk.{Image, Disk, Leaves}
+use Rattle.vol_sector.specs.declared.device.Device.{Ghosts}
 use Rattle.vol_sector.specs.declared.fault.Refused.{Refused}
 use Rattle.vol_tree.specs.Opened.{Opened}
 use Rattle.vol_tree.specs.Stands.{StandsAs}
 use Rattle.wasm_module.specs.declared.module.Module.{Module}
-use Rattle.wasm_steps.specs.Configuration.{Instance, Configuration, first_configuration}
+use Rattle.wasm_steps.specs.Configuration.{first_configuration}
 use Rattle.wasm_steps.specs.Steps.{CallsOf, Reach}
 use Rattle.wasi_calls.specs.declared.host.wasi_host.HostParts.{HostParts}
 use Rattle.wasi_calls.specs.World.{World}
@@ -15,10 +16,11 @@ use Rattle.wasi_calls.specs.Calls as world
 use Rattle.wasi_calls.specs.host.Worlds.{HostState, StreamBytes, StreamsMove, MayFollow, before_moving, after_moving, world_of}
 use Rattle.sandbox_core.specs.declared.fault.SessionFault.{SessionFault}
 use Rattle.sandbox_core.specs.declared.report.Report.{Report}
+use Rattle.sandbox_core.specs.Devices.{Devices, Calls, numbers_of, tree_of}
 use Rattle.sandbox_core.specs.Session.{SessionState, OpensWith, Shares, IsRefused, KeepsVolume}
-use Rattle.sandbox_core.specs.Runs.{ComesBy, RunsWithin}
+use Rattle.sandbox_core.specs.Runs.{StandsInRun}
 use Rattle.sandbox_core.specs.declared.tally.Tally.{Tally}
-use Rattle.sandbox_core.specs.Report.{Calls, ReportsCounted}
+use Rattle.sandbox_core.specs.Report.{ReportsCounted}
 use Rattle.sandbox_words.specs.declared.request.Run.{Run}
 use Rattle.run_report.specs.declared.counted.Counted.{Counted}
 use Rattle.sandbox_command.specs.declared.program.Executed.{Executed}
@@ -31,40 +33,50 @@ abbrev pub returned_device : {D : Type 0} → Result (Opened D) (Refused D) → 
 returned_device (Ok v) = v.device
 returned_device (Err refused) = refused.device
 
+-- what is known of a device, as one record
+abbrev pub known_of : {D : Type 0} → (D → Type 0) → (D → Disk) → (D → ℕ) → (D → ℕ) → Ghosts D
+known_of is_honest disk sectors_on failures =
+    record { honest = is_honest; disk = disk; size = sectors_on; failures = failures }
+
 module _ {D R W1 W2 : Type 0} (is_honest : D → Type 0) (disk : D → Disk) (sectors_on failures : D → ℕ)
     (remaining : R → Option (List ℕ)) (out_contents : W1 → Option (List ℕ)) (err_contents : W2 → Option (List ℕ)) where
   -- a host whose streams are counted
   abbrev pub Host : Type 0
   Host = HostState D (Counted R) (Counted W1) (Counted W2)
 
+  -- and what is known of its device and of these streams
+  abbrev pub counted_devices : Devices D (Counted R) (Counted W1) (Counted W2)
+  counted_devices = record {
+    device = known_of is_honest disk sectors_on failures;
+    input = record { remaining = counted_bytes remaining };
+    out = record { contents = counted_bytes out_contents };
+    err = record { contents = counted_bytes err_contents };
+  }
+
   abbrev pub HostCalls : CallsOf Host
-  HostCalls = Calls is_honest disk sectors_on failures (counted_bytes remaining) (counted_bytes out_contents) (counted_bytes err_contents)
+  HostCalls = Calls counted_devices
 
   -- The module gets no session, and nothing but reads was done with the volume.
   pub record NotOpened (Follows : Option (List ℕ) → Option (List ℕ) → Type 0) (m : Module) (run : Run) (parts : HostParts D R W1 W2) (left : Executed D R W1 W2) : Type 0 where
     pub fault : SessionFault
     pub refused : IsRefused is_honest fault m (counting parts)
     pub volume : Opened D
-    pub kept : KeepsVolume is_honest disk sectors_on failures fault parts.volume volume
+    pub kept : KeepsVolume counted_devices.device fault parts.volume volume
     pub device : left.device ≡ volume.device
     pub ends : left.status ≡ session_status fault
     pub flushed : left.flushed ≡ true
     pub summary : left.summary ≡ Some (not_run run (session_reason fault) (kept_where_not_begun run.volume fault) left.status)
     pub streams : IsSilent out_contents err_contents Follows parts.input parts.out parts.err left
 
-  -- the hosts that a run from a session comes by, whose trees a crash may leave, under the volume's numbers
-  abbrev pub StandsInRun : (i : Instance) (h : Host) (c : Configuration) (fuel : ℕ) (report : Report D (Counted R) (Counted W1) (Counted W2)) (last : Host) (used : ℕ) → RunsWithin Host HostCalls i h c fuel last report.outcome used → Image → Type 0
-  StandsInRun i h c fuel report last used run image = (host : Host) × ComesBy Host HostCalls i h c run.answers last run.last host × StandsAs image h.volume.numbers host.volume.tree
-
   -- A session ran from the module's first configuration, with this fuel. Its random bytes are those of a seed exactly where
   -- the words name one.
   pub record Ran (Follows : Option (List ℕ) → Option (List ℕ) → Type 0) (m : Module) (run : Run) (parts : HostParts D R W1 W2) (left : Executed D R W1 W2) : Type 0 where
     pub session : SessionState D (Counted R) (Counted W1) (Counted W2)
     pub opens : OpensWith run.seed m (counting parts) session
-    pub shares : Shares is_honest disk sectors_on failures (counting parts) session
+    pub shares : Shares counted_devices.device (counting parts) session
     pub report : Report D (Counted R) (Counted W1) (Counted W2)
     pub tally : Tally
-    pub counted : ReportsCounted is_honest disk sectors_on failures (counted_bytes remaining) (counted_bytes out_contents) (counted_bytes err_contents) session run.limits.fuel report tally
+    pub counted : ReportsCounted counted_devices session run.limits.fuel report tally
     pub ends : EndsWith report.outcome report.volume left.flushed left.status
     pub summary : left.summary ≡ Some (run_summary run report tally left.status left.flushed)
     pub device : left.device ≡ returned_device report.volume
@@ -83,8 +95,8 @@ module _ {D R W1 W2 : Type 0} (is_honest : D → Type 0) (disk : D → Disk) (se
     -- Where a crash at its beginning leaves the volume's tree, one at any moment leaves that of a host that the run comes by.
     pub crash : is_honest parts.volume.device → ((c : Image) → (disk parts.volume.device).may_leave c → StandsAs c parts.volume.numbers parts.volume.tree)
         → let first = first_configuration opens.starts.entered opens.starts.store in
-        Leaves (disk parts.volume.device) (disk left.device) (StandsInRun opens.starts.instance session.host first run.limits.fuel report counted.reports.last.host _
-        (counted.reports.run opens.starts.instance first opens.starts.stands))
+        Leaves (disk parts.volume.device) (disk left.device)
+        (StandsInRun HostCalls numbers_of tree_of (counted.reports.run opens.starts.instance first opens.starts.stands))
 
   -- a valid module gets no session, or runs
   abbrev pub Launches : (Option (List ℕ) → Option (List ℕ) → Type 0) → Module → Run → HostParts D R W1 W2 → Executed D R W1 W2 → Type 0
@@ -95,5 +107,5 @@ module _ {D R W1 W2 : Type 0} (is_honest : D → Type 0) (disk : D → Disk) (se
   LeftByRun Follows m run parts left (inl refused) image = ⊥
   LeftByRun Follows m run parts left (inr r) image =
       let first = first_configuration r.opens.starts.entered r.opens.starts.store in
-      StandsInRun r.opens.starts.instance r.session.host first run.limits.fuel r.report r.counted.reports.last.host _
+      StandsInRun HostCalls numbers_of tree_of
       (r.counted.reports.run r.opens.starts.instance first r.opens.starts.stands) image

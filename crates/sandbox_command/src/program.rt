@@ -4,6 +4,7 @@ ghost use Rattle.std.specs.Prelude.{◌≡◌, ◌⊎◌, ◌≤◌, true, Some,
 ghost use Rattle.std.specs.Io.KnownBytes.{Keeps};
 ghost use Rattle.std.specs.IoError.{error_kind};
 ghost use Rattle.clap.specs.Values.{kind_of};
+ghost use Rattle.sandbox_core.specs.Devices.{devices};
 ghost use Rattle.sandbox_core.specs.Session.{used_by};
 ghost use Rattle.sandbox_core.specs.Report.{ReportsCounted};
 ghost use Rattle.sandbox_command.specs.Status.{status_of, EndsWith, load_status, session_status};
@@ -353,7 +354,8 @@ fn run_within<'a, D: Device + Drop, R: Read + Drop, W1: Write + Drop, W2: Write 
 ) -> (Valid<'a>, Report<D, R, W1, W2>, Tally)
     requires { (used_by session ≡ 0) × (session.host.generator ≡ None) }
     ensures module { result.0 ≡ session.entry.machine.valid }
-    ensures counted { ReportsCounted D.honest D.disk D.size D.failures R.remaining W1.contents W2.contents (with_seed run.now.seed session.entry) run.now.limits.fuel result.1 result.2 }
+    ensures counted { ReportsCounted (devices D.Device R.Read W1.Write W2.Write)
+        (with_seed run.now.seed session.entry) run.now.limits.fuel result.1 result.2 }
 {
     session.limit_values(run.limits.values as usize);
     seed(run, &mut session);

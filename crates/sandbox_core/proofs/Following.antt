@@ -1,10 +1,10 @@
 -- One resume more after others.
-use Rattle.std.proofs.Common.{◌≡◌, ℕ, ◌+◌, ◌-◌, ◌^◌, min, Bool, true, false, if◌then◌else◌, List, [], ◌∷◌, ◌++◌, Option, refl, sym, ◌∙◌, ap, subst, zero-add, true≢false, arith}
+use Rattle.std.proofs.Common.{◌≡◌, ℕ, ◌+◌, ◌-◌, ◌^◌, min, Bool, true, false, if◌then◌else◌, List, [], ◌∷◌, ◌++◌, refl, sym, ◌∙◌, ap, subst, zero-add, true≢false, arith}
 use Rattle.std.specs.List.{count_by}
 use Rattle.std.proofs.lemmas.List.Sums.{sum_by-append}
-use Rattle.vol_sector.specs.Disk.{Disk}
 use Rattle.wasm_steps.specs.declared.pause.Pause.{Pause}
 use Rattle.sandbox_core.specs.declared.tally.Tally.{Tally}
+use Rattle.sandbox_core.specs.Devices.{Devices}
 use Rattle.sandbox_core.specs.Session.{SessionState, Resumes, History, Follow, is_called, is_synced}
 use Rattle.sandbox_core.specs.Tally.{Tallies}
 use Rattle.sandbox_core.specs.internal.Running.{Followed}
@@ -40,26 +40,25 @@ adds_nothing {S} rs p tally tallies uncalled unsynced = record {
     same n a true is isnt = absurd (true≢false isnt)
     same n a false is isnt = omega (arith, is)
 
-module _ {D R W1 W2 : Type 0} (honest : D → Type 0) (disk : D → Disk) (sectors_on failures : D → ℕ)
-    (remaining : R → Option (List ℕ)) (out_contents : W1 → Option (List ℕ)) (err_contents : W2 → Option (List ℕ)) where
+module _ {D R W1 W2 : Type 0} (on : Devices D R W1 W2) where
   abbrev S : Type 0
   S = SessionState D R W1 W2
 
   abbrev Resumed : S → S → ℕ → Pause → Type 0
-  Resumed s t units p = Resumes honest disk sectors_on failures remaining out_contents err_contents s t units p
+  Resumed s t units p = Resumes on s t units p
 
-  follow_on : (rs : History S) (s t u : S) (units : ℕ) (p : Pause) → Follow honest disk sectors_on failures remaining out_contents err_contents s rs t → Resumed t u units p
-      → Follow honest disk sectors_on failures remaining out_contents err_contents s (rs ++ (p, u) ∷ []) u
+  follow_on : (rs : History S) (s t u : S) (units : ℕ) (p : Pause) → Follow on s rs t → Resumed t u units p
+      → Follow on s (rs ++ (p, u) ∷ []) u
   follow_on [] s t u units p same more = ((units, subst (λ (x : S). Resumed x u units p) same more), refl)
   follow_on (r ∷ rs) s t u units p (first, rest) more = (first, follow_on rs r.1 t u units p rest more)
 
   -- a pause that adds what the tally has more
-  pub followed_on : (s t u : S) (units : ℕ) (p : Pause) (tally after : Tally) → Followed honest disk sectors_on failures remaining out_contents err_contents s t tally → Resumed t u units p
-      → TalliesPause p tally after → Followed honest disk sectors_on failures remaining out_contents err_contents s u after
+  pub followed_on : (s t u : S) (units : ℕ) (p : Pause) (tally after : Tally) → Followed on s t tally → Resumed t u units p
+      → TalliesPause p tally after → Followed on s u after
   followed_on s t u units p tally after (rs, follow, tallies) more added = (rs ++ (p, u) ∷ [], follow_on rs s t u units p follow more, tallied_on rs p u tally after tallies added)
 
   -- the last pause, which adds nothing
-  pub followed_to_end : (s t u : S) (units : ℕ) (p : Pause) (tally : Tally) → Followed honest disk sectors_on failures remaining out_contents err_contents s t tally → Resumed t u units p
-      → is_called p ≡ false → is_synced p ≡ false → Followed honest disk sectors_on failures remaining out_contents err_contents s u tally
+  pub followed_to_end : (s t u : S) (units : ℕ) (p : Pause) (tally : Tally) → Followed on s t tally → Resumed t u units p
+      → is_called p ≡ false → is_synced p ≡ false → Followed on s u tally
   followed_to_end s t u units p tally (rs, follow, tallies) more uncalled unsynced =
       (rs ++ (p, u) ∷ [], follow_on rs s t u units p follow more, tallied_on rs p u tally tally tallies (adds_nothing rs p tally tallies uncalled unsynced))

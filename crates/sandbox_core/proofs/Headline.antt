@@ -1,7 +1,7 @@
 -- The headline, from what each resume says.
 use Rattle.std.proofs.Common.{◌≡◌, ◌==◌, cond, zero, suc, Result, Ok, Err, ℕ, ◌+◌, ◌-◌, ◌≤◌, Bool, true, false, IsTrue, nat_lt, List, [], ◌∷◌, ◌++◌, append_assoc, append-nil, length, Option, Some, None, refl, sym, ◌∙◌, ap, subst, inl, inr, arith, slice_get}
 use Rattle.vol_sector.specs.Disk.{Image, Disk}
-use Rattle.std.proofs.lemmas.Bool.{false≢true, and_parts, leb-true, ltb-false, eqb-true}
+use Rattle.std.proofs.lemmas.Bool.{and_parts, leb-true, ltb-false, eqb-true}
 use Rattle.std.proofs.lemmas.Option.{slice_get_within}
 use Rattle.std.specs.Option.{option_map, option_map_or}
 use Rattle.vol_tree.specs.declared.errno.Errno.{Errno as TreeErrno}
@@ -25,7 +25,6 @@ use Rattle.wasi_calls.proofs.runs.HostLaws.{are_rows}
 use Rattle.wasi_calls.proofs.runs.Moments.{keeps_all}
 use Rattle.wasi_calls.proofs.runs.Confinement.{confines_host}
 use Rattle.wasi_calls.specs.host.Making.{found_directory, from_root, directory_named, preopened, preopens_of, table_with}
-use Rattle.vol_tree.specs.Opened.{Opened}
 use Rattle.vol_tree.specs.Stands.{StandsAs}
 use Rattle.vol_tree.specs.declared.superblock.Superblock.{Superblock}
 use Rattle.wasm_module.specs.declared.module.Module.{Module}
@@ -37,14 +36,16 @@ use Rattle.wasm_steps.specs.Configuration.{Instance, Configuration, first_config
 use Rattle.wasm_steps.specs.Steps.{CallsOf, Event, Step, plain_step, free_step, host_answers, host_exits, in_label, in_frame, Reach, stays, goes}
 use Rattle.wasi_calls.specs.World.{World}
 use Rattle.wasi_calls.specs.Calls as world
-use Rattle.wasi_calls.specs.host.Worlds.{HostState, HostCalls, StreamBytes, LeavesNone, StreamsMove, MayFollow, before_moving, after_moving, Shows, world_of}
+use Rattle.wasi_calls.specs.host.Worlds.{HostState, StreamBytes, LeavesNone, StreamsMove, MayFollow, before_moving, after_moving, Shows, world_of}
 use Rattle.wasi_calls.proofs.bodies.PlainCalls.{nothing}
-use Rattle.std.specs.Io.KnownBytes.{Consumes, Appends}
+use Rattle.std.specs.Io.KnownBytes.{Consumes}
 use Rattle.std.proofs.KnownBytes.{Consumes-nil, Consumes-trans, Appends-nil, Appends-trans}
+use Rattle.sandbox_core.specs.Devices.{Devices, Calls as CallsOn}
 use Rattle.sandbox_core.specs.Session.{SessionState, OpensWith, Shares, History, Follow, is_synced, pauses_of, seeded_by}
 use Rattle.sandbox_core.proofs.Reaching.{resumes_compose}
 use Rattle.sandbox_core.specs.Runs.{ResumesFollow, answered}
-use Rattle.sandbox_core.specs.Headline.{TellAll, Upholds, Headline, SeededHeadline, turns_of}
+use Rattle.sandbox_core.specs.Safety.{IsSafeVolume}
+use Rattle.sandbox_core.specs.Headline.{Upholds, Headline, SeededHeadline, turns_of}
 
 -- ---- a run over a host is one over a tree of paths
 
@@ -86,22 +87,18 @@ none_before None b c bytes consumed none = tt
 none_before (Some xs) None c bytes consumed none = absurd consumed
 none_before (Some xs) (Some ys) c bytes consumed none = none
 
-module _ {D R W1 W2 : Type 0} (honest : D → Type 0) (disk : D → Disk) (sectors_on failures : D → ℕ)
-    (remaining : R → Option (List ℕ)) (out_contents : W1 → Option (List ℕ)) (err_contents : W2 → Option (List ℕ)) where
+module _ {D R W1 W2 : Type 0} (on : Devices D R W1 W2) where
   abbrev H : Type 0
   H = HostState D R W1 W2
 
   abbrev CallsH : CallsOf H
-  CallsH = HostCalls honest disk sectors_on failures remaining out_contents err_contents
+  CallsH = CallsOn on
 
   abbrev Moves : H → H → StreamBytes → Type 0
-  Moves = StreamsMove remaining out_contents err_contents
-
-  abbrev Told : H → StreamBytes → Type 0
-  Told = TellAll honest disk sectors_on failures remaining out_contents err_contents
+  Moves = StreamsMove on.input.remaining on.out.contents on.err.contents
 
   rest : (h : H) → Moves h h nothing
-  rest h = record { input = Consumes-nil (remaining h.input.reader); output = Appends-nil (out_contents h.out.writer); errors = Appends-nil (err_contents h.err.writer); ended = λ is. (refl, is); end = λ is. inl is }
+  rest h = record { input = Consumes-nil (on.input.remaining h.input.reader); output = Appends-nil (on.out.contents h.out.writer); errors = Appends-nil (on.err.contents h.err.writer); ended = λ is. (refl, is); end = λ is. inl is }
 
   moves_on : (h g h' : H) (a b : StreamBytes) → Moves h g a → Moves g h' b → Moves h h' (both a b)
   moves_on h g h' a b first second = record {
@@ -126,10 +123,10 @@ module _ {D R W1 W2 : Type 0} (honest : D → Type 0) (disk : D → Disk) (secto
   follows_first g h' b others second end is = let two = second.ended is in λ i. two.0 i ++ end two.1 i
 
   abbrev StepMoves : Instance → ℕ → H → Configuration → Event → H → Configuration → Type 0
-  StepMoves i n h c ev h' c' = (moved : StreamBytes) × Moves h h' moved × honest h'.volume.device
+  StepMoves i n h c ev h' c' = (moved : StreamBytes) × Moves h h' moved × on.device.honest h'.volume.device
       × ((others : StreamBytes) → MayFollow h' others → Step World world.Calls i n (world_of h (before_moving moved others)) c ev (world_of h' (after_moving moved others)) c')
 
-  step_moves : (i : Instance) (n : ℕ) (h h' : H) (c c' : Configuration) (ev : Event) → Step H CallsH i n h c ev h' c' → honest h.volume.device → StepMoves i n h c ev h' c'
+  step_moves : (i : Instance) (n : ℕ) (h h' : H) (c c' : Configuration) (ev : Event) → Step H CallsH i n h c ev h' c' → on.device.honest h.volume.device → StepMoves i n h c ev h' c'
   step_moves i n h h' c c' ev (plain_step r) is_honest =
       (nothing, rest h, is_honest, λ others end. subst (λ (b : StreamBytes). Step World world.Calls i n (world_of h others) c ev (world_of h b) c') (sym (same_output others)) (plain_step r))
   step_moves i n h h' c c' ev (free_step r) is_honest =
@@ -149,7 +146,7 @@ module _ {D R W1 W2 : Type 0} (honest : D → Type 0) (disk : D → Disk) (secto
   ReachMoves i h c es h' c' = (moved : StreamBytes) × Moves h h' moved
       × ((others : StreamBytes) → MayFollow h' others → Reach World world.Calls i (world_of h (before_moving moved others)) c es (world_of h' (after_moving moved others)) c')
 
-  pub reach_moves : (i : Instance) (h h' : H) (c c' : Configuration) (es : List (HostCall × Errno)) → Reach H CallsH i h c es h' c' → honest h.volume.device → ReachMoves i h c es h' c'
+  pub reach_moves : (i : Instance) (h h' : H) (c c' : Configuration) (es : List (HostCall × Errno)) → Reach H CallsH i h c es h' c' → on.device.honest h.volume.device → ReachMoves i h c es h' c'
   reach_moves i h h' c c' es stays is_honest =
       (nothing, rest h, λ others end. subst (λ (b : StreamBytes). Reach World world.Calls i (world_of h others) c [] (world_of h b) c) (sym (same_output others)) stays)
   reach_moves i h h' c c' es (goes {h' = g} {c' = d} ev fs s r) is_honest =
@@ -162,42 +159,6 @@ module _ {D R W1 W2 : Type 0} (honest : D → Type 0) (disk : D → Disk) (secto
             goes ev fs (step (beside_first b others) (follows_first g h' b others second end)) (run (beside_second a others) end) in
             subst (λ (x : StreamBytes). Reach World world.Calls i (world_of h x) c es (world_of h' (after_moving (both a b) others)) c') (before_both a b others)
             (subst (λ (x : StreamBytes). Reach World world.Calls i (world_of h (before_moving a (beside_first b others))) c es (world_of h' x) c') (after_both a b others) before),
-      )
-
-  -- a reader that told its bytes and has not ended before tells those that are left
-  input_told : (a b : Option (List ℕ)) (bytes xs : List ℕ) → a ≡ Some xs → Consumes a b bytes → (ys : List ℕ) × (b ≡ Some ys) × (xs ≡ bytes ++ ys)
-  input_told None b bytes xs is consumed = cc
-  input_told (Some zs) None bytes xs is consumed = absurd consumed
-  input_told (Some zs) (Some ys) bytes xs is consumed = let same : zs ≡ xs = cc in (ys, refl, sym same ∙ consumed)
-
-  output_told : (a b : Option (List ℕ)) (bytes xs : List ℕ) → a ≡ Some xs → Appends a b bytes → b ≡ Some (xs ++ bytes)
-  output_told None b bytes xs is appended = cc
-  output_told (Some zs) None bytes xs is appended = absurd appended
-  output_told (Some zs) (Some ys) bytes xs is appended = let same : zs ≡ xs = cc in ap Some (appended ∙ ap (λ (l : List ℕ). l ++ bytes) same)
-
-  left_none : (a b : Option (List ℕ)) (xs ys : List ℕ) → a ≡ Some xs → b ≡ Some ys → LeavesNone a b → ys ≡ []
-  left_none None b xs ys is also none = cc
-  left_none (Some zs) b xs ys is also none = cc
-
-  -- where all streams tell their bytes, from an input that has not ended
-  pub reach_told : (i : Instance) (h h' : H) (c c' : Configuration) (es : List (HostCall × Errno)) (b : StreamBytes) → h.input.ended ≡ false → Reach H CallsH i h c es h' c' → honest h.volume.device → Told h b
-      → (b' : StreamBytes) × Told h' b' × Reach World world.Calls i (world_of h b) c es (world_of h' b') c'
-  reach_told i h h' c c' es b goes_on r is_honest told =
-      let (moved, moves, run) = reach_moves i h h' c c' es r is_honest in
-      let rest = input_told _ _ moved.input b.input told.input moves.input in
-      let others : StreamBytes = record { input = rest.0; output = b.output; errors = b.errors } in
-      let all : before_moving moved others ≡ b = λ k. record { input = sym rest.2 k; output = b.output; errors = b.errors } in
-      let end : MayFollow h' others = λ is. elim (moves.end is) [
-        | inl before ↦ absurd (false≢true (sym goes_on ∙ before))
-        | inr none ↦ left_none _ _ b.input rest.0 told.input rest.1 none
-      ] in (
-        after_moving moved others,
-        record {
-          input = rest.1;
-          output = output_told _ _ moved.output b.output told.output moves.output;
-          errors = output_told _ _ moved.errors b.errors told.errors moves.errors;
-        },
-        subst (λ (x : StreamBytes). Reach World world.Calls i (world_of h x) c es (world_of h' (after_moving moved others)) c') all (run others end),
       )
 
 -- ---- preopened directories
@@ -265,8 +226,7 @@ opens ds n o is = by_number (nat_lt n 3) refl is
 
 -- ---- any list of resumes
 
-module _ {D R W1 W2 : Type 0} (honest : D → Type 0) (disk : D → Disk) (sectors_on failures : D → ℕ)
-    (remaining : R → Option (List ℕ)) (out_contents : W1 → Option (List ℕ)) (err_contents : W2 → Option (List ℕ)) where
+module _ {D R W1 W2 : Type 0} (on : Devices D R W1 W2) where
   abbrev S : Type 0
   S = SessionState D R W1 W2
 
@@ -274,10 +234,10 @@ module _ {D R W1 W2 : Type 0} (honest : D → Type 0) (disk : D → Disk) (secto
   Host = HostState D R W1 W2
 
   abbrev Calls : CallsOf Host
-  Calls = HostCalls honest disk sectors_on failures remaining out_contents err_contents
+  Calls = CallsOn on
 
   abbrev disk_of : Host → Disk
-  disk_of h = disk h.volume.device
+  disk_of h = on.device.disk h.volume.device
 
   abbrev tree_of : Host → Tree
   tree_of h = h.volume.tree
@@ -286,12 +246,12 @@ module _ {D R W1 W2 : Type 0} (honest : D → Type 0) (disk : D → Disk) (secto
   numbers_of h = h.volume.numbers
 
   abbrev honest_of : Host → Type 0
-  honest_of h = honest h.volume.device
+  honest_of h = on.device.honest h.volume.device
 
   abbrev Follows : S → History S → S → Type 0
-  Follows = Follow honest disk sectors_on failures remaining out_contents err_contents
+  Follows = Follow on
 
-  follows : (rs : History S) (s s' : S) → Follows s rs s' → ResumesFollow Host Calls (pauses_of rs) s.host s.machine s'.host s'.machine
+  follows : (rs : History S) (s s' : S) → Follows s rs s' → ResumesFollow Calls (pauses_of rs) s.host s.machine s'.host s'.machine
   follows [] s s' same = (ap (λ (s : S). s.host) same, ap (λ (s : S). s.machine) same)
   follows (r ∷ rs) s s' ((units, resumes), rest) = (r.1.host, r.1.machine, units, resumes.run, follows rs r.1 s' rest)
 
@@ -301,27 +261,27 @@ module _ {D R W1 W2 : Type 0} (honest : D → Type 0) (disk : D → Disk) (secto
   synced_by Spent h told is image may = cc
   synced_by (Ended o) h told is image may = cc
 
-  sizes : (rs : History S) (s s' : S) → Follows s rs s' → sectors_on s'.host.volume.device ≡ sectors_on s.host.volume.device
-  sizes [] s s' same = ap (λ (s : S). sectors_on s.host.volume.device) same
+  sizes : (rs : History S) (s s' : S) → Follows s rs s' → on.device.size s'.host.volume.device ≡ on.device.size s.host.volume.device
+  sizes [] s s' same = ap (λ (s : S). on.device.size s.host.volume.device) same
   sizes (r ∷ rs) s s' ((units, resumes), rest) = sizes rs r.1 s' rest ∙ resumes.size
 
-  module _ (now : (d : D) (t : ℕ) (image : Image) → honest d → t ≤ (disk d).operation_count → (disk d).may_leave image → (disk d).left_since t image)
-      (only : (d : D) (image : Image) → honest d → (disk d).left_since (disk d).operation_count image → (disk d).may_leave image) where
-    counts : (d : D) → honest d → CountsMoments (disk d)
+  module _ (now : (d : D) (t : ℕ) (image : Image) → on.device.honest d → t ≤ (on.device.disk d).operation_count → (on.device.disk d).may_leave image → (on.device.disk d).left_since t image)
+      (only : (d : D) (image : Image) → on.device.honest d → (on.device.disk d).left_since (on.device.disk d).operation_count image → (on.device.disk d).may_leave image) where
+    counts : (d : D) → on.device.honest d → CountsMoments (on.device.disk d)
     counts d is = record { counts_now = λ t image low may. now d t image is low may; only_now = λ image left. only d image is left }
 
     turns : (rs : History S) (s s' : S) → Follows s rs s' → honest_of s.host → Turns disk_of numbers_of tree_of s.host (turns_of s rs)
     turns [] s s' same is = tt
     turns (r ∷ rs) s s' ((units, resumes), rest) is = (refl, resumes.numbers, resumes.crash is, synced_by r.0 r.1.host (resumes.synced is), counts r.1.host.volume.device (resumes.honest_after is), turns rs r.1 s' rest (resumes.honest_after is))
 
-    module _ (parts : HostParts D R W1 W2) (s : S) (shares : Shares honest disk sectors_on failures parts s) (is : honest parts.volume.device) where
+    module _ (parts : HostParts D R W1 W2) (s : S) (shares : Shares on.device parts s) (is : on.device.honest parts.volume.device) where
       still : honest_of s.host
       still = shares.reads.kept.honest.0 is
 
       same_tree : s.host.volume.tree ≡ parts.volume.tree
       same_tree = shares.reads.tree is
 
-      safe : (trees : List Tree) (from : ℕ) → IsSafe (λ (v : Opened D). disk v.device) (λ v. v.numbers) (λ v. v.tree) parts.volume trees from → IsSafe disk_of numbers_of tree_of s.host trees from
+      safe : (trees : List Tree) (from : ℕ) → IsSafeVolume on.device parts.volume trees from → IsSafe disk_of numbers_of tree_of s.host trees from
       safe trees from before = record {
         some = before.some;
         now = before.now ∙ sym same_tree;
@@ -349,13 +309,13 @@ module _ {D R W1 W2 : Type 0} (honest : D → Type 0) (disk : D → Disk) (secto
                 omega (arith, place.1, slice_get_within there.directories place.0 (Entry o) place.2, dirs.0, few_preopens parts.settings fits);
           }
 
-      upholds : (seed : Option ℕ) (m : Module) (trees : List Tree) (from : ℕ) (s' : S) (rs : History S) → OpensWith seed m parts s → IsSafe (λ (v : Opened D). disk v.device) (λ v. v.numbers) (λ v. v.tree) parts.volume trees from
-          → Follows s rs s' → Upholds honest disk sectors_on failures remaining out_contents err_contents m parts.settings.pages trees from s rs s'
+      upholds : (seed : Option ℕ) (m : Module) (trees : List Tree) (from : ℕ) (s' : S) (rs : History S) → OpensWith seed m parts s → IsSafeVolume on.device parts.volume trees from
+          → Follows s rs s' → Upholds on m parts.settings.pages trees from s rs s'
       upholds seed m trees from s' rs opens before follow =
           let first = opens.starts in
           let run = resumes_compose Host Calls first.instance (pauses_of rs) s.host s'.host s.machine s'.machine (first_configuration first.entered first.store) first.stands (follows rs s s' follow)
           (first.instantiates.used ∙ sym first.used) in
-          let over = reach_moves honest disk sectors_on failures remaining out_contents err_contents first.instance s.host s'.host
+          let over = reach_moves on first.instance s.host s'.host
           (first_configuration first.entered first.store) run.0 (answered (pauses_of rs)) run.2 still in
           record {
             instance = first.instance;
@@ -373,19 +333,19 @@ module _ {D R W1 W2 : Type 0} (honest : D → Type 0) (disk : D → Disk) (secto
             kept = keeps_all disk_of numbers_of tree_of (turns_of s rs) s.host trees from (safe trees from before) (turns rs s s' follow still);
             size = sizes rs s s' follow;
             confined = λ w w' shown shown_after. confines_host Calls Shows honest_of first.instance s.host s'.host w w' (first_configuration first.entered first.store) run.0 (answered (pauses_of rs))
-                (are_rows honest disk sectors_on failures remaining out_contents err_contents) still shown
+                (are_rows on.device.honest on.device.disk on.device.size on.device.failures on.input.remaining on.out.contents on.err.contents) still shown
                 (subst HasOnlyDirectoriesOpen (sym shown.1) (world_begins opens.fits shown.0)) run.2 shown_after;
           }
 
-  pub headline : ((d : D) (t : ℕ) (image : Image) → honest d → t ≤ (disk d).operation_count → (disk d).may_leave image → (disk d).left_since t image)
-      → ((d : D) (image : Image) → honest d → (disk d).left_since (disk d).operation_count image → (disk d).may_leave image)
-      → Headline honest disk sectors_on failures remaining out_contents err_contents
+  pub headline : ((d : D) (t : ℕ) (image : Image) → on.device.honest d → t ≤ (on.device.disk d).operation_count → (on.device.disk d).may_leave image → (on.device.disk d).left_since t image)
+      → ((d : D) (image : Image) → on.device.honest d → (on.device.disk d).left_since (on.device.disk d).operation_count image → (on.device.disk d).may_leave image)
+      → Headline on
   headline now only m parts trees from s s' rs opens shares is before follow = upholds now only parts s shares is None m trees from s' rs opens before follow
 
   -- being seeded changes nothing that the headline asks of a session
-  pub headline_seeded : ((d : D) (t : ℕ) (image : Image) → honest d → t ≤ (disk d).operation_count → (disk d).may_leave image → (disk d).left_since t image)
-      → ((d : D) (image : Image) → honest d → (disk d).left_since (disk d).operation_count image → (disk d).may_leave image)
-      → SeededHeadline honest disk sectors_on failures remaining out_contents err_contents
+  pub headline_seeded : ((d : D) (t : ℕ) (image : Image) → on.device.honest d → t ≤ (on.device.disk d).operation_count → (on.device.disk d).may_leave image → (on.device.disk d).left_since t image)
+      → ((d : D) (image : Image) → on.device.honest d → (on.device.disk d).left_since (on.device.disk d).operation_count image → (on.device.disk d).may_leave image)
+      → SeededHeadline on
   headline_seeded now only seed m parts trees from s s' rs opens shares is before follow =
       upholds now only parts (seeded_by seed s) (record { is_tree = shares.is_tree; reads = shares.reads; preopens = shares.preopens }) is (Some seed) m trees from s' rs
       (record { fits = opens.fits; starts = opens.starts; input = opens.input; out = opens.out; err = opens.err; settings = opens.settings; supply = refl }) before follow

@@ -1,6 +1,5 @@
 -- The volume's numbers stay over a resume, and its device's size.
-use Rattle.std.proofs.Common.{◌≡◌, ℕ, List, [], Option, refl, ◌∙◌, ap, inl, inr}
-use Rattle.vol_sector.specs.Disk.{Disk}
+use Rattle.std.proofs.Common.{◌≡◌, ℕ, List, [], refl, ◌∙◌, ap, inl, inr}
 use Rattle.wasm_store.specs.declared.call.HostCall.{HostCall}
 use Rattle.wasm_store.specs.declared.call.Errno.{Errno}
 use Rattle.wasm_steps.specs.declared.pause.Pause.{Pause}
@@ -9,22 +8,22 @@ use Rattle.wasm_steps.specs.Configuration.{Instance, Configuration}
 use Rattle.wasm_interp.specs.Machine.{Snapshot, Represents}
 use Rattle.wasm_interp.specs.Promise.{Paused, Resumed}
 use Rattle.wasm_steps.specs.Steps.{CallsOf, silent, answers, Reach, stays, goes}
-use Rattle.wasi_calls.specs.host.Worlds.{HostState, HostCalls}
+use Rattle.wasi_calls.specs.host.Worlds.{HostState}
 use Rattle.wasi_calls.proofs.runs.Moments.{step_changes}
+use Rattle.sandbox_core.specs.Devices.{Devices, Calls as CallsOn}
 
-module _ {D R W1 W2 : Type 0} (honest : D → Type 0) (disk : D → Disk) (sectors_on failures : D → ℕ)
-    (remaining : R → Option (List ℕ)) (out_contents : W1 → Option (List ℕ)) (err_contents : W2 → Option (List ℕ)) where
+module _ {D R W1 W2 : Type 0} (on : Devices D R W1 W2) where
   abbrev H : Type 0
   H = HostState D R W1 W2
 
   abbrev Calls : CallsOf H
-  Calls = HostCalls honest disk sectors_on failures remaining out_contents err_contents
+  Calls = CallsOn on
 
   abbrev SamePlace : H → H → Type 0
-  SamePlace h h' = (h'.volume.numbers ≡ h.volume.numbers) × (sectors_on h'.volume.device ≡ sectors_on h.volume.device)
+  SamePlace h h' = (h'.volume.numbers ≡ h.volume.numbers) × (on.device.size h'.volume.device ≡ on.device.size h.volume.device)
 
   same_place : (h h' : H) → h' ≡ h → SamePlace h h'
-  same_place h h' same = (ap (λ (h : H). h.volume.numbers) same, ap (λ (h : H). sectors_on h.volume.device) same)
+  same_place h h' same = (ap (λ (h : H). h.volume.numbers) same, ap (λ (h : H). on.device.size h.volume.device) same)
 
   -- steps of the machine, and calls that it answers
   reach_stays : (i : Instance) (h : H) (c : Configuration) (es : List (HostCall × Errno)) (h' : H) (c' : Configuration) → Reach H Calls i h c es h' c' → SamePlace h h'

@@ -17,7 +17,7 @@ use Rattle.wasm_steps.specs.declared.pause.Outcome.{Outcome}
 use Rattle.wasm_steps.specs.declared.pause.Outcome.TheVariants.{Exited, Trapped, OutOfFuel, OutOfMemory}
 use Rattle.wasm_interp.specs.Promise.{EndsAs, Paused, Resumed, HasItsUnit}
 use Rattle.wasi_calls.specs.laws.Moments.{IsTurn}
-use Rattle.sandbox_core.specs.Runs.{answered, PausesFollow, ResumesFollow, StopsAt, LastStopsAt, StopsAs, RunsWithin, Left, Passed}
+use Rattle.sandbox_core.specs.Runs.{answered, PausesFollow, ResumesFollow, StopsAt, LastStopsAt, StopsAs, RunsWithin, ComesBy, LeftInRun}
 
 module _ (H : Type 0) (Calls : CallsOf H) (i : Instance) where
   -- two runs of which one begins where the other ended are one run
@@ -41,7 +41,7 @@ module _ (H : Type 0) (Calls : CallsOf H) (i : Instance) where
   answered-first Spent ps = refl
   answered-first (Ended o) ps = refl
 
-  pub pauses_compose : (ps : List Pause) (h h' : H) (c c' : Configuration) → PausesFollow H Calls i ps h c h' c' → Reach H Calls i h c (answered ps) h' c'
+  pub pauses_compose : (ps : List Pause) (h h' : H) (c c' : Configuration) → PausesFollow Calls i ps h c h' c' → Reach H Calls i h c (answered ps) h' c'
   pauses_compose [] h h' c c' (same_host, same) =
       subst (λ (g : H). Reach H Calls i h c [] g c') (sym same_host) (subst (λ (d : Configuration). Reach H Calls i h c [] h d) (sym same) stays)
   pauses_compose (p ∷ ps) h h' c c' (g, d, first, rest) =
@@ -49,13 +49,13 @@ module _ (H : Type 0) (Calls : CallsOf H) (i : Instance) where
       (reach_on (answered (p ∷ [])) (answered ps) h g h' c d c' (paused_reach p h g c d first) (pauses_compose ps g h' d c' rest))
 
   -- what a pause says of where it stops
-  paused_stops : (p : Pause) (h h' : H) (c c' : Configuration) → Paused H Calls i p h c h' c' → StopsAt H Calls i p h' c'
+  paused_stops : (p : Pause) (h h' : H) (c c' : Configuration) → Paused H Calls i p h c h' c' → StopsAt Calls i p h' c'
   paused_stops (Called call e) h h' c c' p = tt
   paused_stops Spent h h' c c' p = p.2
   paused_stops (Ended o) h h' c c' p = p.1
 
-  pub resumes_compose : (ps : List Pause) (h h' : H) (s s' : Snapshot) (c : Configuration) → Represents s i c → ResumesFollow H Calls ps h s h' s'
-      → used_by c ≡ s.used → (c' : Configuration) × Represents s' i c' × Reach H Calls i h c (answered ps) h' c' × (used_by c' ≡ s'.used) × LastStopsAt H Calls i ps h' c'
+  pub resumes_compose : (ps : List Pause) (h h' : H) (s s' : Snapshot) (c : Configuration) → Represents s i c → ResumesFollow Calls ps h s h' s'
+      → used_by c ≡ s.used → (c' : Configuration) × Represents s' i c' × Reach H Calls i h c (answered ps) h' c' × (used_by c' ≡ s'.used) × LastStopsAt Calls i ps h' c'
   resumes_compose [] h h' s s' c stands (same_host, same) used =
       (c, subst (λ (t : Snapshot). Represents t i c) (sym same) stands, subst (λ (g : H). Reach H Calls i h c [] g c) (sym same_host) stays, used ∙ ap (λ (t : Snapshot). t.used) (sym same), tt)
   resumes_compose (p ∷ []) h h' s s' c stands (g, t, units, first, (same_host, same)) used =
@@ -64,7 +64,7 @@ module _ (H : Type 0) (Calls : CallsOf H) (i : Instance) where
         subst (λ (t : Snapshot). Represents t i next.0) (sym same) next.1,
         subst (λ (g : H). Reach H Calls i h c (answered (p ∷ [])) g next.0) (sym same_host) (paused_reach p h g c next.0 next.2),
         next.4 ∙ ap (λ (t : Snapshot). t.used) (sym same),
-        subst (λ (g : H). StopsAt H Calls i p g next.0) (sym same_host) (paused_stops p h g c next.0 next.2),
+        subst (λ (g : H). StopsAt Calls i p g next.0) (sym same_host) (paused_stops p h g c next.0 next.2),
       )
   resumes_compose (p ∷ (q ∷ ps)) h h' s s' c stands (g, t, units, first, rest) used =
       let next = first.run i c stands in
@@ -102,7 +102,7 @@ module _ (H : Type 0) (Calls : CallsOf H) where
 
   -- the last resume found the fuel used
   pub runs_out : (h g h' : H) (s t s' : Snapshot) (units fuel : ℕ) → SoFar H Calls h s g t → Resumed H Calls g h' t s' units Spent → s'.used ≡ fuel
-      → (i : Instance) (c : Configuration) → Represents s i c → RunsWithin H Calls i h c fuel h' OutOfFuel s'.used
+      → (i : Instance) (c : Configuration) → Represents s i c → RunsWithin Calls i h c fuel h' OutOfFuel s'.used
   unfolding so_far_on
   runs_out h g h' s t s' units fuel run more used i c a =
       let all = so_far_on h g h' s t s' units Spent run more in
@@ -115,7 +115,7 @@ module _ (H : Type 0) (Calls : CallsOf H) where
         stops = (used, next.2.2);
       }
 
-  ends_stops : (i : Instance) (o : Outcome) (fuel used : ℕ) (h : H) (c : Configuration) → EndsAs H Calls i o h c → StopsAs H Calls i o fuel used h c
+  ends_stops : (i : Instance) (o : Outcome) (fuel used : ℕ) (h : H) (c : Configuration) → EndsAs H Calls i o h c → StopsAs Calls i o fuel used h c
   ends_stops i (Exited n) fuel used h c e = e
   ends_stops i (Trapped t) fuel used h c e = e
   ends_stops i OutOfFuel fuel used h (at store f c) e = absurd e
@@ -123,7 +123,7 @@ module _ (H : Type 0) (Calls : CallsOf H) where
 
   -- the last resume found the end
   pub runs_to_end : (h g h' : H) (s t s' : Snapshot) (units fuel : ℕ) (o : Outcome) → SoFar H Calls h s g t → Resumed H Calls g h' t s' units (Ended o)
-      → (i : Instance) (c : Configuration) → Represents s i c → RunsWithin H Calls i h c fuel h' o s'.used
+      → (i : Instance) (c : Configuration) → Represents s i c → RunsWithin Calls i h c fuel h' o s'.used
   unfolding so_far_on
   runs_to_end h g h' s t s' units fuel o run more i c a =
       let all = so_far_on h g h' s t s' units (Ended o) run more in
@@ -137,6 +137,13 @@ module _ (H : Type 0) (Calls : CallsOf H) where
       }
 
 -- ---- what a crash may leave
+
+module _ (H : Type 0) (Calls : CallsOf H) (disk : H → Disk) (numbers : H → Superblock) (tree : H → Tree) where
+  -- the image stands for a tree that a crash could leave at the beginning, or for that of a host that the run comes by
+  abbrev pub Left : Instance → H → Configuration → List (HostCall × Errno) → H → Configuration → Image → Type 0
+  Left i h c es h' c' image =
+      Reflects (disk h) (numbers h) image
+      ⊎ ((host : H) × ComesBy Calls i h c es h' c' host × StandsAs image (numbers h) (tree host))
 
 module _ (H : Type 0) (Calls : CallsOf H) (disk : H → Disk) (numbers : H → Superblock) (tree : H → Tree) (honest : H → Type 0) where
   abbrev LeftBy : Instance → H → Configuration → List (HostCall × Errno) → H → Configuration → Image → Type 0
@@ -240,8 +247,8 @@ module _ (H : Type 0) (Calls : CallsOf H) (disk : H → Disk) (numbers : H → S
   }
 
   abbrev Ran : H → Snapshot → Snapshot → ℕ → H → Snapshot → Outcome → Type 0
-  Ran h s t fuel h' s' o = (honest h → honest h') × ((run : (i : Instance) (c : Configuration) → Represents s i c → RunsWithin H Calls i h c fuel h' o s'.used)
-      × (honest h → (i : Instance) (c : Configuration) (a : Represents s i c) → Leaves (disk h) (disk h') (Passed H Calls disk numbers tree i h c fuel h' o s'.used (run i c a)))
+  Ran h s t fuel h' s' o = (honest h → honest h') × ((run : (i : Instance) (c : Configuration) → Represents s i c → RunsWithin Calls i h c fuel h' o s'.used)
+      × (honest h → (i : Instance) (c : Configuration) (a : Represents s i c) → Leaves (disk h) (disk h') (LeftInRun Calls disk numbers tree (run i c a)))
       × (outcome_of t ≡ None → (i : Instance) (c : Configuration) (a : Represents s i c) → HasItsUnit (Ended o) fuel (run i c a).last))
 
   -- the last resume found the fuel used

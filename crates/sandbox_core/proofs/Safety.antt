@@ -1,5 +1,5 @@
 -- One turn after another.
-use Rattle.std.proofs.Common.{◌≡◌, ◌⊎◌, ℕ, ◌+◌, ◌-◌, ◌≤◌, ◌<◌, Bool, true, false, not, cond, List, [], ◌∷◌, ◌++◌, length, get_or, Option, refl, sym, ◌∙◌, ap, subst, inl, inr, arith}
+use Rattle.std.proofs.Common.{◌≡◌, ◌⊎◌, ℕ, ◌+◌, ◌-◌, ◌≤◌, ◌<◌, Bool, true, false, not, cond, List, [], ◌∷◌, ◌++◌, length, get_or, is_err, refl, sym, ◌∙◌, ap, subst, inl, inr, arith}
 use Rattle.std.proofs.lemmas.List.{get_or_push, length_push}
 use Rattle.vol_sector.specs.Disk.{Image, Disk, Leaves}
 use Rattle.vol_tree.specs.Tree.{Tree}
@@ -9,7 +9,8 @@ use Rattle.vol_tree.specs.Opened.{Opened, ReflectsOr}
 use Rattle.vol_tree.proofs.OneTree.{one_tree}
 use Rattle.wasi_calls.specs.laws.Moments.{CountsMoments, IsTurn, Kept, Turn, IsSafe}
 use Rattle.wasi_calls.proofs.runs.Moments.{keeps_all}
-use Rattle.sandbox_core.specs.Session.{is_refused, is_synced}
+use Rattle.sandbox_core.specs.Devices.{Devices}
+use Rattle.sandbox_core.specs.Session.{is_synced}
 use Rattle.sandbox_core.specs.Safety.{TurnsAreSafe}
 use Rattle.sandbox_core.proofs.Headline.{synced_by}
 
@@ -110,14 +111,13 @@ module _ {D : Type 0} (disk : D → Disk) where
         ],
       )
 
-module _ {D R W1 W2 : Type 0} (honest : D → Type 0) (disk : D → Disk) (sectors_on failures : D → ℕ)
-    (remaining : R → Option (List ℕ)) (out_contents : W1 → Option (List ℕ)) (err_contents : W2 → Option (List ℕ))
-    (now : (d : D) (t : ℕ) (image : Image) → honest d → t ≤ (disk d).operation_count → (disk d).may_leave image → (disk d).left_since t image)
-    (only : (d : D) (image : Image) → honest d → (disk d).left_since (disk d).operation_count image → (disk d).may_leave image) where
-  counting : (d : D) → honest d → CountsMoments (disk d)
+module _ {D R W1 W2 : Type 0} (on : Devices D R W1 W2)
+    (now : (d : D) (t : ℕ) (image : Image) → on.device.honest d → t ≤ (on.device.disk d).operation_count → (on.device.disk d).may_leave image → (on.device.disk d).left_since t image)
+    (only : (d : D) (image : Image) → on.device.honest d → (on.device.disk d).left_since (on.device.disk d).operation_count image → (on.device.disk d).may_leave image) where
+  counting : (d : D) → on.device.honest d → CountsMoments (on.device.disk d)
   counting d is = record { counts_now = λ t image low may. now d t image is low may; only_now = λ image left. only d image is left }
 
-  pub turns_are_safe : TurnsAreSafe honest disk sectors_on failures remaining out_contents err_contents
+  pub turns_are_safe : TurnsAreSafe on
   turns_are_safe = record {
     opened = λ v is durable. record {
       some = omega arith;
@@ -128,22 +128,22 @@ module _ {D R W1 W2 : Type 0} (honest : D → Type 0) (disk : D → Disk) (secto
     begins = λ parts s trees from is shares safe.
         let still = shares.reads.kept.honest.0 is in
         let crash = shares.reads.crash is in
-        let turn : Leaves (disk parts.volume.device) (disk s.host.volume.device) (ReflectsOr (disk parts.volume.device) parts.volume.numbers parts.volume.tree) = record {
+        let turn : Leaves (on.device.disk parts.volume.device) (on.device.disk s.host.volume.device) (ReflectsOr (on.device.disk parts.volume.device) parts.volume.numbers parts.volume.tree) = record {
           later = crash.later;
           since = λ t image low left. elim (crash.since t image low left) [ inl before ↦ inl before | inr never ↦ absurd never ];
           now = λ image may. elim (crash.now image may) [ inl before ↦ inl before | inr never ↦ absurd never ];
         } in
-        let both = rests disk parts.volume s.host.volume false trees from safe (counting s.host.volume.device still) shares.reads.kept.numbers (shares.reads.tree is) turn (λ never. cc) in
+        let both = rests on.device.disk parts.volume s.host.volume false trees from safe (counting s.host.volume.device still) shares.reads.kept.numbers (shares.reads.tree is) turn (λ never. cc) in
         record { still_honest = still; numbers = shares.reads.kept.numbers; size = shares.reads.kept.size; during = both.0; after = both.1 };
     resumes = λ s s' units p trees from is resumes safe.
         let still = resumes.honest_after is in
-        let both = stays disk s.host.volume s'.host.volume (is_synced p) trees from safe (counting s'.host.volume.device still) resumes.numbers (resumes.crash is)
-        (λ synced image may. synced_by honest disk sectors_on failures remaining out_contents err_contents p s'.host (resumes.synced is) synced image may) in
+        let both = stays on.device.disk s.host.volume s'.host.volume (is_synced p) trees from safe (counting s'.host.volume.device still) resumes.numbers (resumes.crash is)
+        (λ synced image may. synced_by on p s'.host (resumes.synced is) synced image may) in
         record { still_honest = still; numbers = resumes.numbers; size = resumes.size; during = both.0; after = both.1 };
     finishes = λ s f trees from is all safe.
         let volume = all.volume in
         let still = volume.kept.honest.0 is in
-        let both = rests disk s.host.volume volume.new (not (is_refused honest disk sectors_on failures f.volume)) trees from safe (counting volume.new.device still) volume.kept.numbers (volume.tree is) (volume.crash is)
+        let both = rests on.device.disk s.host.volume volume.new (not (is_err f.volume)) trees from safe (counting volume.new.device still) volume.kept.numbers (volume.tree is) (volume.crash is)
         (λ back image may. volume.durable is (not_refused _ back) image may) in
         record { still_honest = still; numbers = volume.kept.numbers; size = volume.kept.size; during = both.0; after = both.1 };
   }

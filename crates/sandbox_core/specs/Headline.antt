@@ -1,9 +1,8 @@
--- The headline: what a guest does is a run of the reduction rules over a tree of paths, what a crash leaves of its volume is
--- the tree after a first part of its calls, and what it can't reach stays as it is (`README.md`, "What is proved").
-use Rattle.std.specs.Prelude.{◌≡◌, ℕ, List, [], ◌∷◌, Option, Some}
-use Rattle.vol_sector.specs.Disk.{Disk}
+-- The headline: what a guest does is a run of the reduction rules over a tree of paths. What a crash leaves of its
+-- volume is the tree after a first part of its calls, and what it can't reach stays as it is (`README.md`, "What is
+-- proved").
+use Rattle.std.specs.Prelude.{◌≡◌, ℕ, List, [], ◌∷◌}
 use Rattle.vol_tree.specs.Tree.{Tree}
-use Rattle.vol_tree.specs.Opened.{Opened}
 use Rattle.wasm_module.specs.declared.module.Module.{Module}
 use Rattle.wasm_store.specs.Instantiation.{Instantiates}
 use Rattle.wasm_steps.specs.Configuration.{Instance, Store, Configuration, first_configuration}
@@ -14,28 +13,32 @@ use Rattle.wasi_calls.specs.declared.host.wasi_host.HostParts.{HostParts}
 use Rattle.wasi_calls.specs.host.Links.{link}
 use Rattle.wasi_calls.specs.World.{World}
 use Rattle.wasi_calls.specs.Calls as world
-use Rattle.wasi_calls.specs.host.Worlds.{HostState, HostCalls, StreamBytes, StreamsMove, MayFollow, before_moving, after_moving, Shows, world_of}
-use Rattle.wasi_calls.specs.laws.Moments.{Turn, IsSafe, AllKept}
+use Rattle.wasi_calls.specs.host.Worlds.{HostState, StreamBytes, StreamsMove, MayFollow, before_moving, after_moving}
+use Rattle.wasi_calls.specs.host.Worlds.{Shows, world_of}
+use Rattle.wasi_calls.specs.laws.Moments.{Turn, AllKept}
 use Rattle.wasi_calls.specs.laws.Confined.{IsConfined, named_by}
-use Rattle.sandbox_core.specs.Session.{SessionState, Opens, Shares, History, pauses_of, is_synced, Follow, used_by, seeded_by}
+use Rattle.sandbox_core.specs.Devices.{Devices, Calls, disk_of, numbers_of, tree_of}
+use Rattle.sandbox_core.specs.Session.{SessionState, Opens, Shares, Follow, used_by, seeded_by}
+use Rattle.sandbox_core.specs.Session.{History, pauses_of, is_synced}
 use Rattle.sandbox_core.specs.Runs.{answered, LastStopsAt}
+use Rattle.sandbox_core.specs.Safety.{IsSafeVolume}
 
-module _ {D R W1 W2 : Type 0} where
-  -- the host before and after each of them, and whether it answered a sync
-  abbrev pub turns_of : SessionState D R W1 W2 → History (SessionState D R W1 W2) → List (Turn (HostState D R W1 W2))
-  turns_of s [] = []
-  turns_of s (r ∷ rs) = record { old = s.host; new = r.1.host; synced = is_synced r.0 } ∷ turns_of r.1 rs
+-- the host before and after each of some resumes, and whether it answered a sync
+abbrev pub turns_of : {D R W1 W2 : Type 0} → SessionState D R W1 W2 → History (SessionState D R W1 W2)
+    → List (Turn (HostState D R W1 W2))
+turns_of s [] = []
+turns_of s (r ∷ rs) = record { old = s.host; new = r.1.host; synced = is_synced r.0 } ∷ turns_of r.1 rs
 
-module _ {D R W1 W2 : Type 0} (honest : D → Type 0) (disk : D → Disk) (sectors_on failures : D → ℕ)
-    (remaining : R → Option (List ℕ)) (out_contents : W1 → Option (List ℕ)) (err_contents : W2 → Option (List ℕ)) where
-  -- the streams tell these bytes
-  pub record TellAll (h : HostState D R W1 W2) (bytes : StreamBytes) : Type 0 where
-    pub input : remaining h.input.reader ≡ Some bytes.input
-    pub output : out_contents h.out.writer ≡ Some bytes.output
-    pub errors : err_contents h.err.writer ≡ Some bytes.errors
+module _ {D R W1 W2 : Type 0} (on : Devices D R W1 W2) where
+  abbrev pub Host : Type 0
+  Host = HostState D R W1 W2
+
+  abbrev pub Session : Type 0
+  Session = SessionState D R W1 W2
 
   -- What holds after any list of resumes.
-  pub record Upholds (m : Module) (pages : ℕ) (trees : List Tree) (from : ℕ) (s : SessionState D R W1 W2) (rs : History (SessionState D R W1 W2)) (s' : SessionState D R W1 W2) : Type 0 where
+  pub record Upholds (m : Module) (pages : ℕ) (trees : List Tree) (from : ℕ) (s : Session) (rs : History Session)
+      (s' : Session) : Type 0 where
     -- the module's first configuration
     pub instance : Instance
     pub store : Store
@@ -45,36 +48,38 @@ module _ {D R W1 W2 : Type 0} (honest : D → Type 0) (disk : D → Disk) (secto
     -- pauses tell of, with the units used
     pub last : Configuration
     pub stands : Represents s'.machine instance last
-    pub run : Reach (HostState D R W1 W2) (HostCalls honest disk sectors_on failures remaining out_contents err_contents) instance
-        s.host (first_configuration entered store) (answered (pauses_of rs)) s'.host last
+    pub run : Reach Host (Calls on) instance s.host (first_configuration entered store) (answered (pauses_of rs))
+        s'.host last
     pub units : configuration.used_by last ≡ used_by s'
     -- how it ended, where the last pause tells of an end
-    pub ends : LastStopsAt (HostState D R W1 W2) (HostCalls honest disk sectors_on failures remaining out_contents err_contents) instance (pauses_of rs) s'.host last
-    -- The streams moved by some bytes, each that tells its bytes by those that it told. Whatever others they have, this is
-    -- a run over a tree of paths.
+    pub ends : LastStopsAt (Calls on) instance (pauses_of rs) s'.host last
+    -- The streams moved by some bytes, each that tells its bytes by those that it told. Whatever others they have, this
+    -- is a run over a tree of paths.
     pub moved : StreamBytes
-    pub moves : StreamsMove remaining out_contents err_contents s.host s'.host moved
+    pub moves : StreamsMove on.input.remaining on.out.contents on.err.contents s.host s'.host moved
     pub over_paths : (others : StreamBytes) → MayFollow s'.host others
-        → Reach World world.Calls instance (world_of s.host (before_moving moved others)) (first_configuration entered store) (answered (pauses_of rs)) (world_of s'.host (after_moving moved others)) last
-    -- each image during a resume stands for a tree of the run, from that of the last sync on, under the volume's numbers
-    pub kept : AllKept (λ (h : HostState D R W1 W2). disk h.volume.device) (λ h. h.volume.numbers) (λ h. h.volume.tree) s.host.volume.numbers trees from (turns_of s rs)
+        → Reach World world.Calls
+        instance (world_of s.host (before_moving moved others)) (first_configuration entered store)
+        (answered (pauses_of rs)) (world_of s'.host (after_moving moved others)) last
+    -- each image in a resume stands for a tree of the run, from that of the last sync on, under the volume's numbers
+    pub kept : AllKept (disk_of on) numbers_of tree_of (numbers_of s.host) trees from (turns_of s rs)
     -- on a device of the same size
-    pub size : sectors_on s'.host.volume.device ≡ sectors_on s.host.volume.device
+    pub size : on.device.size s'.host.volume.device ≡ on.device.size s.host.volume.device
     -- entries outside the directories that were open at first stay as they are, and aren't reached
-    pub confined : (w w' : World) → Shows s.host w → Shows s'.host w' → IsConfined w.tree (named_by w.table) w'.tree w'.table
+    pub confined : (w w' : World) → Shows s.host w → Shows s'.host w'
+        → IsConfined w.tree (named_by w.table) w'.tree w'.table
 
   -- For a session over a volume whose device keeps its model, and whose images stand for trees so far (after
   -- `Volume::open`: for the one tree), whatever resumes follow.
   abbrev pub Headline : Type 0
-  Headline = (m : Module) (parts : HostParts D R W1 W2) (trees : List Tree) (from : ℕ) (s s' : SessionState D R W1 W2) (rs : History (SessionState D R W1 W2))
-      → Opens m parts s → Shares honest disk sectors_on failures parts s → honest parts.volume.device
-      → IsSafe (λ (v : Opened D). disk v.device) (λ v. v.numbers) (λ v. v.tree) parts.volume trees from
-      → Follow honest disk sectors_on failures remaining out_contents err_contents s rs s' → Upholds m parts.settings.pages trees from s rs s'
+  Headline = (m : Module) (parts : HostParts D R W1 W2) (trees : List Tree) (from : ℕ) (s s' : Session)
+      (rs : History Session) → Opens m parts s → Shares on.device parts s → on.device.honest parts.volume.device
+      → IsSafeVolume on.device parts.volume trees from → Follow on s rs s'
+      → Upholds m parts.settings.pages trees from s rs s'
 
   -- The same of a session that was seeded before its first resume.
   abbrev pub SeededHeadline : Type 0
-  SeededHeadline = (seed : ℕ) (m : Module) (parts : HostParts D R W1 W2) (trees : List Tree) (from : ℕ) (s s' : SessionState D R W1 W2) (rs : History (SessionState D R W1 W2))
-      → Opens m parts s → Shares honest disk sectors_on failures parts s → honest parts.volume.device
-      → IsSafe (λ (v : Opened D). disk v.device) (λ v. v.numbers) (λ v. v.tree) parts.volume trees from
-      → Follow honest disk sectors_on failures remaining out_contents err_contents (seeded_by seed s) rs s'
+  SeededHeadline = (seed : ℕ) (m : Module) (parts : HostParts D R W1 W2) (trees : List Tree) (from : ℕ) (s s' : Session)
+      (rs : History Session) → Opens m parts s → Shares on.device parts s → on.device.honest parts.volume.device
+      → IsSafeVolume on.device parts.volume trees from → Follow on (seeded_by seed s) rs s'
       → Upholds m parts.settings.pages trees from (seeded_by seed s) rs s'

@@ -1,5 +1,6 @@
--- Read in this order: sessions with what each call of them promises, runs of a machine over a host, whole runs, what a crash
--- may leave turn by turn, and the headline over any list of resumes.
+-- Read in this order: what is known of devices and streams, sessions with what each call of them promises, runs of a
+-- machine over a host, whole runs, what a crash may leave turn by turn, and the headline over any list of resumes.
+pub mod Devices
 pub mod Session
 pub mod Runs
 pub mod Tally

@@ -1,5 +1,5 @@
--- Runs of a machine over a host: resume by resume, and all of them as one
--- (`docs/ARCHITECTURE.md`, "Configurations and the machine").
+-- Runs of a machine over a host: resume by resume, and all of them as one. A run goes by steps of the reduction rules
+-- from one configuration to another (`docs/ARCHITECTURE.md`, "Configurations and the machine").
 use Rattle.std.specs.Prelude.{◌≡◌, ◌⊎◌, ℕ, List, [], ◌∷◌, ◌++◌}
 use Rattle.vol_sector.specs.Disk.{Image, Disk}
 use Rattle.vol_tree.specs.Tree.{Tree}
@@ -11,7 +11,7 @@ use Rattle.wasm_store.specs.declared.call.Errno.{Errno}
 use Rattle.wasm_steps.specs.declared.pause.Pause.{Pause}
 use Rattle.wasm_steps.specs.declared.pause.Pause.TheVariants.{Called, Spent, Ended}
 use Rattle.wasm_steps.specs.declared.pause.Outcome.{Outcome}
-use Rattle.wasm_steps.specs.declared.pause.Outcome.TheVariants.{Exited, Trapped, OutOfFuel, OutOfMemory}
+use Rattle.wasm_steps.specs.declared.pause.Outcome.TheVariants.{OutOfFuel}
 use Rattle.wasm_steps.specs.Configuration.{Instance, Configuration, code_of, used_by, NextIsPlain}
 use Rattle.wasm_steps.specs.Steps.{CallsOf, Reach}
 use Rattle.wasm_interp.specs.Machine.{Snapshot, Represents}
@@ -21,10 +21,9 @@ use Rattle.wasm_interp.specs.Promise.{EndsAs, Paused, Resumed}
 abbrev pub answered : List Pause → List (HostCall × Errno)
 answered [] = []
 answered (Called call e ∷ ps) = (call, e) ∷ answered ps
-answered (Spent ∷ ps) = answered ps
-answered (Ended o ∷ ps) = answered ps
+answered (other ∷ ps) = answered ps
 
-module _ (H : Type 0) (Calls : CallsOf H) where
+module _ {H : Type 0} (Calls : CallsOf H) where
   -- each pause says what steps lead to it from the one before
   abbrev pub PausesFollow : Instance → List Pause → H → Configuration → H → Configuration → Type 0
   PausesFollow i [] h c h' c' = (h' ≡ h) × (c' ≡ c)
@@ -65,12 +64,11 @@ module _ (H : Type 0) (Calls : CallsOf H) where
   -- how a run with fuel stops: out of it exactly where all was used and the next step takes a unit
   abbrev pub StopsAs : Instance → Outcome → ℕ → ℕ → H → Configuration → Type 0
   StopsAs i OutOfFuel fuel used h c = (used ≡ fuel) × NextIsPlain (code_of c)
-  StopsAs i (Exited n) fuel used h c = EndsAs H Calls i (Exited n) h c
-  StopsAs i (Trapped t) fuel used h c = EndsAs H Calls i (Trapped t) h c
-  StopsAs i OutOfMemory fuel used h c = EndsAs H Calls i OutOfMemory h c
+  StopsAs i other fuel used h c = EndsAs H Calls i other h c
 
-  -- a run from one configuration to a last one, which has used this many units
-  pub record RunsWithin (i : Instance) (h : H) (c : Configuration) (fuel : ℕ) (h' : H) (outcome : Outcome) (used : ℕ) : Type 0 where
+  -- a run with fuel from one configuration to a last one, which has used this many units
+  pub record RunsWithin (i : Instance) (h : H) (c : Configuration) (fuel : ℕ) (h' : H) (outcome : Outcome)
+      (used : ℕ) : Type 0 where
     pub last : Configuration
     pub answers : List (HostCall × Errno)
     pub reach : Reach H Calls i h c answers h' last
@@ -78,7 +76,8 @@ module _ (H : Type 0) (Calls : CallsOf H) where
     pub stops : StopsAs i outcome fuel used h' last
 
   -- a host that a run comes by, between its beginning and its end
-  pub record ComesBy (i : Instance) (h : H) (c : Configuration) (answers : List (HostCall × Errno)) (h' : H) (c' : Configuration) (host : H) : Type 0 where
+  pub record ComesBy (i : Instance) (h : H) (c : Configuration) (answers : List (HostCall × Errno)) (h' : H)
+      (c' : Configuration) (host : H) : Type 0 where
     pub at : Configuration
     pub before : List (HostCall × Errno)
     pub after : List (HostCall × Errno)
@@ -86,11 +85,13 @@ module _ (H : Type 0) (Calls : CallsOf H) where
     pub comes : Reach H Calls i h c before host at
     pub goes_on : Reach H Calls i host at after h' c'
 
-  -- Under the numbers at the beginning the image stands for a tree that a crash could leave then, or for that of a host that
-  -- the run comes by.
-  module _ (disk : H → Disk) (numbers : H → Superblock) (tree : H → Tree) where
-    abbrev pub Left : Instance → H → Configuration → List (HostCall × Errno) → H → Configuration → Image → Type 0
-    Left i h c answers h' c' image = Reflects (disk h) (numbers h) image ⊎ ((host : H) × ComesBy i h c answers h' c' host × StandsAs image (numbers h) (tree host))
+  module _ {i : Instance} {h : H} {c : Configuration} {fuel : ℕ} {h' : H} {outcome : Outcome} {used : ℕ} where
+    -- under the numbers at the beginning the image stands for the tree of a host that the run comes by
+    abbrev pub StandsInRun : (H → Superblock) → (H → Tree) → RunsWithin i h c fuel h' outcome used → Image → Type 0
+    StandsInRun numbers tree run image =
+        (host : H) × ComesBy i h c run.answers h' run.last host × StandsAs image (numbers h) (tree host)
 
-    abbrev pub Passed : (i : Instance) (h : H) (c : Configuration) (fuel : ℕ) (h' : H) (outcome : Outcome) (used : ℕ) → RunsWithin i h c fuel h' outcome used → Image → Type 0
-    Passed i h c fuel h' outcome used run = Left i h c run.answers h' run.last
+    -- or for a tree that a crash could leave then
+    abbrev pub LeftInRun : (H → Disk) → (H → Superblock) → (H → Tree)
+        → RunsWithin i h c fuel h' outcome used → Image → Type 0
+    LeftInRun disk numbers tree run image = Reflects (disk h) (numbers h) image ⊎ StandsInRun numbers tree run image

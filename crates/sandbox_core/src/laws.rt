@@ -1,5 +1,6 @@
 //! Laws of runs, over definitions only.
 
+ghost use Rattle.sandbox_core.specs.Devices.{devices};
 ghost use Rattle.sandbox_core.specs.Headline.{Headline, SeededHeadline};
 ghost use Rattle.sandbox_core.specs.Runs.{PausesCompose, ResumesCompose};
 ghost use Rattle.sandbox_core.specs.Safety.{TurnsAreSafe};
@@ -11,24 +12,24 @@ use wasm_interp::Host;
 
 /// Any list of resumes is one run, over any host: the pauses say which calls the host answered in it.
 pub fn compose<H: Host>()
-    ensures pauses { PausesCompose H H.calls }
-    ensures resumes { ResumesCompose H H.calls }
+    ensures pauses { PausesCompose H.calls }
+    ensures resumes { ResumesCompose H.calls }
 {}
 
 /// What a crash may leave of a session's volume, one turn after another: as the session is made, in each resume and as it
 /// is finished. What may be left after a turn is what the next begins with, also that of the next session on the volume.
 pub fn turns_are_safe<D: Device, R: Read, W1: Write, W2: Write>()
-    ensures { TurnsAreSafe D.honest D.disk D.size D.failures R.remaining W1.contents W2.contents }
+    ensures { TurnsAreSafe (devices D.Device R.Read W1.Write W2.Write) }
 {}
 
 /// The headline, over what `Session::new` and `Session::resume` say: whatever resumes follow, the guest's steps are a run
 /// of the reduction rules over a tree of paths, each image that a crash may leave stands for the tree after a first part
 /// of its calls, with all up to the last sync that was answered, and what is outside its directories stays.
 pub fn headline<D: Device, R: Read, W1: Write, W2: Write>()
-    ensures { Headline D.honest D.disk D.size D.failures R.remaining W1.contents W2.contents }
+    ensures { Headline (devices D.Device R.Read W1.Write W2.Write) }
 {}
 
 /// The headline of a session that `Session::seed` gave random bytes before its first resume.
 pub fn headline_seeded<D: Device, R: Read, W1: Write, W2: Write>()
-    ensures { SeededHeadline D.honest D.disk D.size D.failures R.remaining W1.contents W2.contents }
+    ensures { SeededHeadline (devices D.Device R.Read W1.Write W2.Write) }
 {}

@@ -1,6 +1,7 @@
 //! Runs of a session from its beginning.
 
 ghost use Rattle.std.specs.Prelude.{◌≡◌, ◌≤◌};
+ghost use Rattle.sandbox_core.specs.Devices.{devices};
 ghost use Rattle.sandbox_core.specs.Session.{used_by};
 ghost use Rattle.sandbox_core.specs.Report.{Reports, ReportsCounted};
 ghost use Rattle.sandbox_core.specs.internal.Running.{RunsTo};
@@ -41,7 +42,7 @@ where
     W1: Write + Drop,
     W2: Write + Drop,
     requires { used_by session ≡ 0 }
-    ensures { Reports D.honest D.disk D.size D.failures R.remaining W1.contents W2.contents session.entry fuel result }
+    ensures { Reports (devices D.Device R.Read W1.Write W2.Write) session.entry fuel result }
 {
     let (report, _) = run_counted(session, fuel);
     report
@@ -58,7 +59,8 @@ where
     W1: Write + Drop,
     W2: Write + Drop,
     requires { used_by session ≡ 0 }
-    ensures { ReportsCounted D.honest D.disk D.size D.failures R.remaining W1.contents W2.contents session.entry fuel result.0 result.1 }
+    ensures { ReportsCounted (devices D.Device R.Read W1.Write W2.Write)
+        session.entry fuel result.0 result.1 }
 {
     let (valid, report, tally) = run_counted_with_module(session, fuel);
     drop(valid);
@@ -77,7 +79,8 @@ where
     W2: Write + Drop,
     requires { used_by session ≡ 0 }
     ensures module { result.0 ≡ session.entry.machine.valid }
-    ensures counted { ReportsCounted D.honest D.disk D.size D.failures R.remaining W1.contents W2.contents session.entry fuel result.1 result.2 }
+    ensures counted { ReportsCounted (devices D.Device R.Read W1.Write W2.Write)
+        session.entry fuel result.1 result.2 }
 {
     let (outcome, tally) = run_out(&mut session, fuel);
     let used = session.used();
@@ -116,7 +119,8 @@ where
     requires { used_by session.old ≤ fuel }
     ensures within { used_by session.new ≤ fuel }
     ensures module { session.new.machine.valid ≡ session.old.machine.valid }
-    ensures run { RunsTo D.honest D.disk D.size D.failures R.remaining W1.contents W2.contents session.old fuel session.new result.0 result.1 }
+    ensures run { RunsTo (devices D.Device R.Read W1.Write W2.Write)
+        session.old fuel session.new result.0 result.1 }
 {
     let mut tally = Tally { calls: 0, syncs: 0 };
     'running: loop {

@@ -1,6 +1,7 @@
 //! Sessions of a guest.
 
 ghost use Rattle.std.specs.Prelude.{◌≡◌, ◌+◌, ◌^◌, ◌<◌, ◌/◌, IfOk, IfErr, length};
+ghost use Rattle.sandbox_core.specs.Devices.{devices};
 ghost use Rattle.sandbox_core.specs.Session.{given, Commits};
 
 use crate::fault::{SessionFault, of_host, of_instance};
@@ -51,7 +52,7 @@ pub struct Finished<D: Device, R, W1, W2> {
 
 /// Commits all calls so far, and gives the volume back, or its device where it fails or has failed.
 fn committed<D: Device>(mut volume: Volume<D>) -> Result<Volume<D>, Refused<D>>
-    ensures { Commits D.honest D.disk D.size D.failures volume result }
+    ensures { Commits D.Device volume result }
 {
     // It is refused exactly where the volume has failed then.
     let _answer = volume.sync();
@@ -88,10 +89,13 @@ where
         out: W1,
         err: W2,
     ) -> Result<Session<'a, 's, 't, D, R, W1, W2>, RefusedSession<'a, 's, 't, D, R, W1, W2>>
-        ensures opens { IfOk result (Opens valid.entry (given settings.entry volume input out err)) }
-        ensures shares { IfOk result (Shares D.honest D.disk D.size D.failures (given settings.entry volume input out err)) }
-        ensures hands_back { IfErr result (HandsBack D.honest D.disk D.size D.failures valid.entry (given settings.entry volume input out err)) }
-        ensures refused { IfErr result (λ r. IsRefused D.honest r.fault valid.entry (given settings.entry volume input out err)) }
+        ensures opens { IfOk result (Opens valid.entry
+            (given settings.entry volume input out err)) }
+        ensures shares { IfOk result (Shares D.Device (given settings.entry volume input out err)) }
+        ensures hands_back { IfErr result (HandsBack D.Device valid.entry
+            (given settings.entry volume input out err)) }
+        ensures refused { IfErr result (λ r. IsRefused D.honest r.fault valid.entry
+            (given settings.entry volume input out err)) }
     {
         volume.is_a_tree(); // a law for the contract
         let parts = HostParts {
@@ -135,7 +139,8 @@ where
     /// take a unit that isn't left. A session that has ended answers the same again.
     pub fn resume(&mut self, units: u64) -> Pause
         requires { used_by self.old + units < 2 ^ 64 }
-        ensures { Resumes D.honest D.disk D.size D.failures R.remaining W1.contents W2.contents self.old self.new units result }
+        ensures { Resumes (devices D.Device R.Read W1.Write W2.Write)
+            self.old self.new units result }
     {
         self.machine.resume(&mut self.host, units)
     }
@@ -201,7 +206,7 @@ where
     /// Commits all calls so far, and gives the volume back and the streams. Where the device fails, or had failed, the
     /// device itself is given back as `Device`.
     pub fn finish(self) -> Finished<D, R, W1, W2>
-        ensures { Finishes D.honest D.disk D.size D.failures self.entry result }
+        ensures { Finishes D.Device self.entry result }
     {
         let (valid, finished) = self.finish_with_module();
         drop(valid);
@@ -212,7 +217,7 @@ where
     /// and validated once.
     pub fn finish_with_module(self) -> (Valid<'a>, Finished<D, R, W1, W2>)
         ensures module { result.0 ≡ self.entry.machine.valid }
-        ensures finishes { Finishes D.honest D.disk D.size D.failures self.entry result.1 }
+        ensures finishes { Finishes D.Device self.entry result.1 }
     {
         let Session { machine, host } = self;
         let HostParts {

@@ -5,7 +5,7 @@ use Rattle.sandbox_core.specs.declared.fault.SessionFault.{SessionFault}
 use Rattle.sandbox_core.specs.declared.fault.SessionFault.TheVariants.{Device}
 use Rattle.sandbox_host.specs.declared.volumes.Origin.{Origin}
 use Rattle.sandbox_host.specs.declared.volumes.Origin.TheVariants.{Fresh, Sectors}
-use Rattle.sandbox_host.specs.Host.{HostVolume, disk_of, IsHonest, size_of, failures_of}
+use Rattle.sandbox_host.specs.Host.{HostVolume, failures_of, known}
 use Rattle.sandbox_host.specs.Volumes.{IsVolume, Works}
 
 pub works_of : (origin : Origin) (v : HostVolume) → IsVolume origin v → Works v
@@ -13,8 +13,8 @@ works_of Fresh v is = is.working
 works_of (Sectors sectors recorded) v is = is.working
 
 -- A refusal for the device would have counted a failure.
-pub no_device : (origin : Origin) (old new : HostVolume) (f : SessionFault) → IsVolume origin old → KeepsVolume IsHonest disk_of size_of failures_of f old new → f ≢ Device
+pub no_device : (origin : Origin) (old new : HostVolume) (f : SessionFault) → IsVolume origin old → KeepsVolume known.device f old new → f ≢ Device
 no_device origin old new f is kept device =
-    let asked = subst (λ (g : SessionFault). KeepsVolume IsHonest disk_of size_of failures_of g old new) device kept in
+    let asked = subst (λ (g : SessionFault). KeepsVolume known.device g old new) device kept in
     let more : failures_of new.device ≡ 1 = asked.kept.failures (works_of origin old is).works in
     absurd (omega (arith, more))

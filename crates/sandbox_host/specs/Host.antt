@@ -10,6 +10,7 @@ use Rattle.wasm_steps.specs.declared.pause.Pause.{Pause}
 use Rattle.wasi_calls.specs.declared.host.wasi_host.HostParts.{HostParts}
 use Rattle.sandbox_device.specs.declared.recorded_device.RecordedDevice.{RecordedDevice}
 use Rattle.sandbox_device.specs.contracts.recorded_device.RecordedDeviceDevice.TheImpl.{ghosts}
+use Rattle.sandbox_core.specs.Devices.{Devices}
 use Rattle.sandbox_core.specs.Session as core
 use Rattle.sandbox_core.specs.declared.report.Report.{Report}
 use Rattle.sandbox_core.specs.Report as report
@@ -36,6 +37,15 @@ remaining input = Some input.now
 abbrev pub items_written : Bytes → Option (List ℕ)
 items_written bytes = Some bytes.items
 
+-- what is known of all of them
+abbrev pub known : Devices RecordedDevice (Bor (List ℕ)) Bytes Bytes
+known = record {
+  device = ghosts;
+  input = record { remaining = remaining };
+  out = record { contents = items_written };
+  err = record { contents = items_written };
+}
+
 -- a session, its volume, what it is made of, and the report of a run
 abbrev pub State : Type 0
 State = core.SessionState RecordedDevice (Bor (List ℕ)) Bytes Bytes
@@ -54,13 +64,13 @@ abbrev pub Opens : Module → Parts → State → Type 0
 Opens = core.Opens
 
 abbrev pub Shares : Parts → State → Type 0
-Shares = core.Shares IsHonest disk_of size_of failures_of
+Shares = core.Shares known.device
 
 abbrev pub Resumes : State → State → ℕ → Pause → Type 0
-Resumes = core.Resumes IsHonest disk_of size_of failures_of remaining items_written items_written
+Resumes = core.Resumes known
 
 abbrev pub Commits : HostVolume → Result HostVolume (Refused RecordedDevice) → Type 0
-Commits = core.Commits IsHonest disk_of size_of failures_of
+Commits = core.Commits known.device
 
 abbrev pub Reports : State → ℕ → HostReport → Type 0
-Reports = report.Reports IsHonest disk_of size_of failures_of remaining items_written items_written
+Reports = report.Reports known

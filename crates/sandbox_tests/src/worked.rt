@@ -5,6 +5,7 @@ ghost use Rattle.vol_sector.specs.Disk.{Image};
 ghost use Rattle.vol_tree.specs.Opened.{Opened};
 ghost use Rattle.vol_tree.specs.Opening.{StandsOn};
 ghost use Rattle.vol_tree.specs.Stands.{StandsAs};
+ghost use Rattle.sandbox_core.specs.Devices.{devices};
 ghost use Rattle.sandbox_tests.specs.Worked.{StoppedAnywhere};
 
 use sandbox_core::laws::turns_are_safe;
@@ -40,7 +41,8 @@ where
     W2: Write + Drop,
     // as `Volume::open` leaves it
     requires { D.honest volume.device → (c : Image) → (D.disk volume.device).may_leave c → StandsAs c volume.numbers volume.tree }
-    ensures { D.honest volume.device → IfOk result (λ t. StoppedAnywhere D.honest D.disk D.size D.failures R.remaining W1.contents W2.contents volume t.session t.first t.second) }
+    ensures { D.honest volume.device → IfOk result (λ t.
+        StoppedAnywhere (devices D.Device R.Read W1.Write W2.Write) volume t.session t.first t.second) }
 {
     turns_are_safe::<D, R, W1, W2>(); // a law for the contract
     volume.is_a_tree(); // another: the device has room for the volume
@@ -76,7 +78,7 @@ where
     W2: Write + Drop,
     ensures { D.honest device → IfSome result (λ t. (volume : Opened D)
         × StandsOn (D.size device) (D.disk device).seen volume.numbers volume.tree
-        × StoppedAnywhere D.honest D.disk D.size D.failures R.remaining W1.contents W2.contents volume t.session t.first t.second) }
+        × StoppedAnywhere (devices D.Device R.Read W1.Write W2.Write) volume t.session t.first t.second) }
 {
     let volume = match Volume::open(alloc, device) {
         Ok(volume) => volume,

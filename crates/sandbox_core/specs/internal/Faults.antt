@@ -1,4 +1,4 @@
--- Why a session is refused, by why its host or its machine is.
+-- Why a session is refused, by why its host or its machine is. Each refusal below has one of the session's reasons.
 use Rattle.wasi_calls.specs.declared.host.fault.HostFault.{HostFault}
 use Rattle.wasi_calls.specs.declared.host.fault.HostFault.TheVariants as host
 use Rattle.wasm_store.specs.declared.fault.InstanceFault.{InstanceFault}

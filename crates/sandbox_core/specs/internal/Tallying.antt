@@ -1,4 +1,4 @@
--- A tally with one pause more.
+-- A tally with one pause more. Only a pause that tells of an answered call adds to it.
 use Rattle.std.specs.Prelude.{◌≡◌, ◌+◌, ◌-◌, ◌^◌, min, if◌then◌else◌}
 use Rattle.wasm_steps.specs.declared.pause.Pause.{Pause}
 use Rattle.sandbox_core.specs.declared.tally.Tally.{Tally}

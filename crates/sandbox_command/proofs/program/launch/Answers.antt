@@ -4,12 +4,14 @@ use Rattle.std.proofs.KnownBytes.{Keeps-refl}
 use Rattle.vol_sector.specs.Disk.{Leaves}
 use Rattle.wasm_steps.specs.Configuration.{first_configuration}
 use Rattle.wasi_calls.specs.declared.host.wasi_host.HostParts.{HostParts}
+use Rattle.sandbox_core.specs.Devices.{Calls, disk_of, numbers_of, tree_of}
 use Rattle.sandbox_core.specs.Session.{IsRefused, Opens, Shares}
+use Rattle.sandbox_core.specs.Runs.{StandsInRun}
 use Rattle.sandbox_core.proofs.Headline.{reach_moves}
 use Rattle.run_report.specs.declared.counted.Counted.{Counted}
 use Rattle.sandbox_command.specs.Reporting.{counted_bytes, counting}
 use Rattle.sandbox_command.specs.internal.Seeds.{with_seed}
-use Rattle.sandbox_command.specs.Running.{Host, HostCalls, StandsInRun}
+use Rattle.sandbox_command.specs.Running.{counted_devices}
 use Rattle.sandbox_command.proofs.Began.{began, counting_from, device_back}
 use Rattle.sandbox_command.proofs.Seeding.{opens_seeded, shares_seeded}
 use Rattle.sandbox_command.proofs.program.launch.Goals as goal
@@ -17,11 +19,8 @@ use Rattle.sandbox_command.proofs.program.launch.Goals as goal
 -- the session ran
 pub returns-in-Ok-clause-launches : goal.returns-in-Ok-clause-launches
 returns-in-Ok-clause-launches g c =
-    let honest = g.D.Device.honest in
     let disk = g.D.Device.disk in
-    let size = g.D.Device.size in
-    let failures = g.D.Device.failures in
-    let remaining = counted_bytes g.R.Read.remaining in
+    let on = counted_devices g.D.Device.honest g.D.Device.disk g.D.Device.size g.D.Device.failures g.R.Read.remaining g.W1.Write.contents g.W2.Write.contents in
     let outs = counted_bytes g.W1.Write.contents in
     let errs = counted_bytes g.W2.Write.contents in
     let parts = c.args.parts in
@@ -31,8 +30,8 @@ returns-in-Ok-clause-launches g c =
     let same = counting_from parts c.new-taken.result c.new-given.result c.new-complaints.result c.new-taken.ensures c.new-given.ensures c.new-complaints.ensures in
     let opens = opens_seeded c.args.valid (counting parts) began_with seed
     (subst (λ (p : HostParts g.row.D.Denot (Counted g.row.R.Denot) (Counted g.row.W1.Denot) (Counted g.row.W2.Denot)). Opens c.args.valid p began_with) same c.in-Ok.ensures.opens) in
-    let shares = shares_seeded honest disk size failures (counting parts) began_with seed
-    (subst (λ (p : HostParts g.row.D.Denot (Counted g.row.R.Denot) (Counted g.row.W1.Denot) (Counted g.row.W2.Denot)). Shares honest disk size failures p began_with) same c.in-Ok.ensures.shares) in
+    let shares = shares_seeded g.D.Device (counting parts) began_with seed
+    (subst (λ (p : HostParts g.row.D.Denot (Counted g.row.R.Denot) (Counted g.row.W1.Denot) (Counted g.row.W2.Denot)). Shares g.D.Device p began_with) same c.in-Ok.ensures.shares) in
     let i = opens.starts.instance in
     let first = first_configuration opens.starts.entered opens.starts.store in
     let counted = c.run_within-valid.ensures.counted in
@@ -40,7 +39,7 @@ returns-in-Ok-clause-launches g c =
     let last = reports.last.host in
     let run = reports.run i first opens.starts.stands in
     let ended = c.reported.ensures in
-    let back = ended.device ∙ device_back honest disk size failures reports.volume.new c.run_within-valid.result.1.volume reports.volume.handed_back in
+    let back = ended.device ∙ device_back reports.volume.new c.run_within-valid.result.1.volume reports.volume.handed_back in
     inr (record {
       session = s;
       opens = opens;
@@ -54,11 +53,11 @@ returns-in-Ok-clause-launches g c =
       input = ended.input ∙ ap (λ (r : Counted g.row.R.Denot). r.stream) reports.input;
       out = subst (λ (w : Counted g.row.W1.Denot). Keeps (outs w) (g.W1.Write.contents c.reported.result.out)) reports.out ended.out;
       err = subst (λ (w : Counted g.row.W2.Denot). Keeps (errs w) (g.W2.Write.contents c.reported.result.err)) reports.err ended.err;
-      over_paths = λ is. reach_moves honest disk size failures remaining outs errs i s.host last first run.last run.answers run.reach (shares.reads.kept.honest.0 is);
+      over_paths = λ is. reach_moves on i s.host last first run.last run.answers run.reach (shares.reads.kept.honest.0 is);
       crash = λ is lasts.
-          subst (λ (d : g.row.D.Denot). Leaves (disk parts.volume.device) (disk d) (StandsInRun honest disk size failures g.R.Read.remaining g.W1.Write.contents g.W2.Write.contents i s.host first c.args.run.now.limits.fuel c.run_within-valid.result.1 last _ run))
+          subst (λ (d : g.row.D.Denot). Leaves (disk parts.volume.device) (disk d) (StandsInRun (Calls on) numbers_of tree_of run))
           (sym back)
-          (began (Host honest disk size failures g.R.Read.remaining g.W1.Write.contents g.W2.Write.contents) (HostCalls honest disk size failures g.R.Read.remaining g.W1.Write.contents g.W2.Write.contents) (λ h. disk h.volume.device) (λ h. h.volume.numbers) (λ h. h.volume.tree)
+          (began _ (Calls on) (disk_of on) numbers_of tree_of
           i s.host last first run.last run.answers (disk parts.volume.device) (disk reports.volume.new.device) parts.volume.numbers parts.volume.tree run.reach (sym {b = parts.volume.numbers} shares.reads.kept.numbers) (sym {b = parts.volume.tree} (shares.reads.tree is))
           lasts (shares.reads.crash is) (reports.crash (shares.reads.kept.honest.0 is) i first opens.starts.stands));
     })

@@ -1,4 +1,5 @@
 use Rattle.std.proofs.Common.{◌∙◌, ap, subst}
+use Rattle.sandbox_core.specs.Devices.{devices}
 use Rattle.sandbox_core.specs.Report.{ReportsCounted}
 use Rattle.sandbox_core.specs.Session.{used_by}
 use Rattle.sandbox_command.specs.internal.Seeds.{with_seed}
@@ -12,7 +13,7 @@ seed-requires g c = ap (λ s. s.host.generator) c.limit_values.ensures ∙ c.req
 
 -- the limit on values changes nothing that callers see of the session
 pub returns-clause-counted : goal.returns-clause-counted
-returns-clause-counted g c = subst (λ s. ReportsCounted g.D.Device.honest g.D.Device.disk g.D.Device.size g.D.Device.failures g.R.Read.remaining g.W1.Write.contents g.W2.Write.contents s c.args.run.now.limits.fuel c.run_counted_with_module.result.1 c.run_counted_with_module.result.2)
+returns-clause-counted g c = subst (λ s. ReportsCounted (devices g.D.Device g.R.Read g.W1.Write g.W2.Write) s c.args.run.now.limits.fuel c.run_counted_with_module.result.1 c.run_counted_with_module.result.2)
     (c.seed.ensures ∙ ap (λ s. with_seed c.args.run.now.seed s) c.limit_values.ensures) c.run_counted_with_module.ensures.counted
 
 pub returns-clause-module : goal.returns-clause-module

@@ -1,15 +1,17 @@
 use Rattle.std.proofs.Common.{arith, ◌∙◌}
-use Rattle.sandbox_core.specs.Report.{Calls, Reports, disk_of, numbers_of, tree_of}
+use Rattle.sandbox_core.specs.Devices.{Calls, devices, disk_of, numbers_of, tree_of}
+use Rattle.sandbox_core.specs.Report.{Reports}
 use Rattle.sandbox_core.proofs.Reaching.{commit_after}
 use Rattle.sandbox_core.proofs.report.run_counted_with_module.Goals as goal
 
 -- the report has what the run and the commit left
 pub returns-clause-counted : goal.returns-clause-counted
 returns-clause-counted g c =
+    let on = devices g.D.Device g.R.Read g.W1.Write g.W2.Write in
     let last = c.run_out-outcome.new.session in
     let ran = c.run_out-outcome.ensures.run in
     let finishes = c.finish_with_module-valid.ensures.finishes in
-    let reports : Reports g.D.Device.honest g.D.Device.disk g.D.Device.size g.D.Device.failures g.R.Read.remaining g.W1.Write.contents g.W2.Write.contents c.args.session c.args.fuel _ = record {
+    let reports : Reports on c.args.session c.args.fuel _ = record {
       last = last;
       used = c.used-used.ensures;
       within = omega (arith, c.used-used.ensures, c.run_out-outcome.ensures.within);
@@ -20,8 +22,8 @@ returns-clause-counted g c =
       run = ran.run;
       unit = ran.unit;
       volume = finishes.volume;
-      crash = λ is i d stands. commit_after _ (Calls g.D.Device.honest g.D.Device.disk g.D.Device.size g.D.Device.failures g.R.Read.remaining g.W1.Write.contents g.W2.Write.contents)
-          (disk_of g.D.Device.honest g.D.Device.disk g.D.Device.size g.D.Device.failures g.R.Read.remaining g.W1.Write.contents g.W2.Write.contents) (numbers_of g.D.Device.honest g.D.Device.disk g.D.Device.size g.D.Device.failures g.R.Read.remaining g.W1.Write.contents g.W2.Write.contents) (tree_of g.D.Device.honest g.D.Device.disk g.D.Device.size g.D.Device.failures g.R.Read.remaining g.W1.Write.contents g.W2.Write.contents)
+      crash = λ is i d stands. commit_after _ (Calls on)
+          (disk_of on) numbers_of tree_of
           (λ h. g.D.Device.honest h.volume.device) i c.args.session.host last.host d (ran.run i d stands).last (ran.run i d stands).answers _ (ran.run i d stands).reach ran.numbers
           (ran.crash is i d stands) (finishes.volume.crash (ran.honest_after is));
       numbers = ran.numbers;

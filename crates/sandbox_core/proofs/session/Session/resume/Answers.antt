@@ -1,6 +1,7 @@
 use Rattle.wasi_calls.specs.host.Worlds.{HostState, HostCalls}
 use Rattle.wasi_calls.proofs.runs.HostLaws.{keep_moments}
 use Rattle.wasi_calls.proofs.runs.Moments.{pauses_keep}
+use Rattle.sandbox_core.specs.Devices.{devices}
 use Rattle.sandbox_core.proofs.Places.{stays_there}
 use Rattle.sandbox_core.proofs.session.Session.resume.Goals as goal
 
@@ -13,7 +14,7 @@ returns g c =
     let kept = pauses_keep (λ (h : HostState _ _ _ _). g.D.Device.disk h.volume.device) (λ h. h.volume.numbers) (λ h. h.volume.tree) (λ h. g.D.Device.honest h.volume.device)
     (HostCalls g.D.Device.honest g.D.Device.disk g.D.Device.size g.D.Device.failures g.R.Read.remaining g.W1.Write.contents g.W2.Write.contents)
     _ _ _ c.self.invariant.instance c.self.invariant.configuration run.0 keeps run.2 in
-    let place = stays_there g.D.Device.honest g.D.Device.disk g.D.Device.size g.D.Device.failures g.R.Read.remaining g.W1.Write.contents g.W2.Write.contents
+    let place = stays_there (devices g.D.Device g.R.Read g.W1.Write g.W2.Write)
     _ _ _ _ _ _ c.self.invariant.instance c.self.invariant.configuration c.self.invariant.stands c.resume.ensures in
     rw (← c.self.view_is) record {
       run = c.resume.ensures;
