@@ -19,6 +19,6 @@ abbrev pub Tells : LinksOf → List ℕ → Option (List ℕ) → Option (List �
 Tells links bytes before after outcome = (text : List ℕ) × IsSurvey links bytes outcome text × Appends before after text
 
 -- memory was refused, and nothing was printed; or a beginning of what is told was
-abbrev pub Begins : LinksOf → List ℕ → Option (List ℕ) → Option (List ℕ) → ErrorKind → Type 0
-Begins links bytes before after kind = ((kind ≡ OutOfMemory) × Keeps before after)
+abbrev pub PrintsBeginning : LinksOf → List ℕ → Option (List ℕ) → Option (List ℕ) → ErrorKind → Type 0
+PrintsBeginning links bytes before after kind = ((kind ≡ OutOfMemory) × Keeps before after)
     ⊎ ((outcome : Result (Unit {0}) LoadFault) × (text : List ℕ) × IsSurvey links bytes outcome text × AppendsPart before after text)

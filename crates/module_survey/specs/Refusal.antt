@@ -10,7 +10,7 @@ use Rattle.wasm_valid.specs.Validity.{IsValid}
 use Rattle.wasm_valid.specs.Refusal.{IsRefusal}
 use Rattle.wasm_store.specs.Instantiation.{LinksOf}
 use Rattle.run_report.specs.Faults.{load_number, load_offset, load_text}
-use Rattle.module_survey.specs.Words.{Text, name_text, number_text}
+use Rattle.module_survey.specs.Words.{SurveyText, name_text, number_text}
 use Rattle.module_survey.specs.Survey.{survey_of}
 use Rattle.module_survey.specs.Places.{IsFunctionAt, function_name}
 
@@ -19,15 +19,15 @@ abbrev pub name_of : List ℕ → Option ℕ → List ℕ
 name_of bytes None = []
 name_of bytes (Some f) = option_map_or (λ name. name) (function_name bytes f) []
 
-abbrev pub lines_of : Option ℕ → Text → Option ℕ → Option ℕ → Text
+abbrev pub lines_of : Option ℕ → SurveyText → Option ℕ → Option ℕ → SurveyText
 lines_of number reason offset f = concat (codes "loads:no\nfault:" ∷ number_text number ∷ codes "\ntext:" ∷ reason
     ∷ codes "\noffset:" ∷ number_text offset ∷ codes "\nfunction:" ∷ number_text f ∷ codes "\nname:" ∷ [])
 
-abbrev pub fault_lines : LoadFault → Option ℕ → Text
+abbrev pub fault_lines : LoadFault → Option ℕ → SurveyText
 fault_lines fault f = lines_of (load_number fault) (load_text fault) (load_offset fault) f
 
 -- the fault, where it is, and the function that it lies in
-abbrev pub refusal_text : List ℕ → LoadFault → Option ℕ → Text
+abbrev pub refusal_text : List ℕ → LoadFault → Option ℕ → SurveyText
 refusal_text bytes fault f = fault_lines fault f ++ (name_text (name_of bytes f) ++ codes "\n")
 
 -- The bytes spell no valid module; with a fault of decoding they spell none at all.
@@ -42,6 +42,6 @@ LiesIn bytes None f = f ≡ None
 LiesIn bytes (Some offset) f = IsFunctionAt bytes offset f
 
 -- what is told of bytes: of a valid module what it is, else why they are refused
-abbrev pub IsSurvey : LinksOf → List ℕ → Result (Unit {0}) LoadFault → Text → Type 0
+abbrev pub IsSurvey : LinksOf → List ℕ → Result (Unit {0}) LoadFault → SurveyText → Type 0
 IsSurvey links bytes (Ok u) text = (m : Module) × Spells bytes m × IsValid m × (text ≡ survey_of links m)
 IsSurvey links bytes (Err fault) text = IsRefusedFor bytes fault × (f : Option ℕ) × LiesIn bytes (load_offset fault) f × (text ≡ refusal_text bytes fault f)

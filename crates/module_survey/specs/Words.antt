@@ -2,8 +2,8 @@
 use Rattle.std.specs.Prelude.{ℕ, ◌+◌, ◌/◌, ◌%◌, ◌==◌, ◌&&◌, nat_lt, not, Bool, List, [], ◌∷◌, Option, Some, None, if◌then◌else◌, codes, decimal}
 use Rattle.std.specs.List.{flat_map}
 
-abbrev pub Text : Type 0
-Text = List ℕ
+abbrev pub SurveyText : Type 0
+SurveyText = List ℕ
 
 -- a digit to the base 16
 abbrev pub hex_digit : ℕ → ℕ
@@ -15,18 +15,18 @@ is_plain b = nat_lt 32 b && (nat_lt b 127 && not (b == 92))
 
 -- A byte of a name: itself, or a backslash and its two digits, as in strings of the text format (section 6.3.3). So a name
 -- has neither blanks nor line breaks, and different names are printed differently.
-abbrev pub byte_text : ℕ → Text
+abbrev pub byte_text : ℕ → SurveyText
 byte_text b = if is_plain b then b ∷ [] else 92 ∷ hex_digit (b / 16) ∷ hex_digit (b % 16) ∷ []
 
-abbrev pub name_text : List ℕ → Text
+abbrev pub name_text : List ℕ → SurveyText
 name_text name = flat_map byte_text name
 
 -- a number, or nothing
-abbrev pub number_text : Option ℕ → Text
+abbrev pub number_text : Option ℕ → SurveyText
 number_text None = []
 number_text (Some n) = decimal n
 
 -- a number, or that there is none
-abbrev pub number_or_none : Option ℕ → Text
+abbrev pub number_or_none : Option ℕ → SurveyText
 number_or_none None = codes "none"
 number_or_none (Some n) = decimal n

@@ -5,7 +5,7 @@ ghost use Rattle.std.specs.IoError.{error_kind};
 ghost use Rattle.wasm_module.specs.Module.{Spells};
 ghost use Rattle.wasm_valid.specs.Validity.{IsValid};
 ghost use Rattle.module_survey.specs.Refusal.{IsRefusedFor, IsSurvey};
-ghost use Rattle.module_survey.specs.Printing.{Begins, Tells};
+ghost use Rattle.module_survey.specs.Printing.{PrintsBeginning, Tells};
 
 use crate::links::Links;
 use crate::listing::add_survey;
@@ -82,7 +82,7 @@ pub fn survey<L: Links, W: Write>(
     out: &mut W,
 ) -> io::Result<Result<(), LoadFault>>
     ensures tells { IfOk result (Tells L.links bytes.now (W.contents out.old) (W.contents out.new)) }
-    ensures begins { IfErr result (λ e. Begins L.links bytes.now (W.contents out.old) (W.contents out.new) (error_kind e)) }
+    ensures begins { IfErr result (λ e. PrintsBeginning L.links bytes.now (W.contents out.old) (W.contents out.new) (error_kind e)) }
 {
     match text_in_memory(alloc, links, bytes) {
         Ok((text, outcome)) => match print_all(out, text.as_slice()) {

@@ -11,7 +11,7 @@ use Rattle.vol_tree.specs.Tree.{Tree, Name, IsTree}
 use Rattle.vol_tree.specs.Opened.{Opened}
 use Rattle.path_walk.specs.declared.walking.Reached.{Reached as ReachedValue}
 use Rattle.path_walk.specs.Paths.{Found, Missing, dots, is_skipped, components_of, stays_inside, resolved, as_wanted}
-use Rattle.path_walk.specs.Walk.{Gives}
+use Rattle.path_walk.specs.Walk.{GivesOrIo}
 use Rattle.path_walk.specs.internal.Turns.{counting, walks_as, IsPartLen}
 use Rattle.path_walk.specs.Walk.{Asked}
 use Rattle.path_walk.specs.internal.Steps.{AreNames}
@@ -69,7 +69,7 @@ module _ (T : Tree) (directory : ℕ) (wants : Bool) (text : List ℕ) (is_tree 
   walk_misses parent name is = resolves_as T directory wants (components_of text) (Ok (Missing parent name)) is_tree first inside is
 
   pub walk_finds : (M : Tree) (serial : ℕ) (result : Result ReachedValue Errno) → M ≡ T → walks_as T directory text ≡ Ok (Found serial)
-      → Gives (as_wanted M wants (Found serial)) result → Gives (resolved T directory wants (components_of text)) result
+      → GivesOrIo (as_wanted M wants (Found serial)) result → GivesOrIo (resolved T directory wants (components_of text)) result
   walk_finds M serial result same is gives =
       let whole = resolves_as T directory wants (components_of text) (Ok (Found serial)) is_tree first inside is in
-      subst (λ meant. Gives meant result) (ap (λ (T : Tree). as_wanted T wants (Found serial)) same ∙ sym whole) gives
+      subst (λ meant. GivesOrIo meant result) (ap (λ (T : Tree). as_wanted T wants (Found serial)) same ∙ sym whole) gives

@@ -25,9 +25,9 @@ IsReached honest v (values.Found serial) = IsEntryOf honest v serial
 IsReached honest v (values.Missing parent name) = IsEntryOf honest v parent × IsName name.now
 
 -- the definition's answer, or 29
-abbrev pub Gives : Result Reached Errno → Result ReachedValue Errno → Type 0
-Gives meant (Ok r) = meant ≡ Ok (reached_as r)
-Gives meant (Err e) = (meant ≡ Err e) ⊎ (e ≡ errno.Io)
+abbrev pub GivesOrIo : Result Reached Errno → Result ReachedValue Errno → Type 0
+GivesOrIo meant (Ok r) = meant ≡ Ok (reached_as r)
+GivesOrIo meant (Err e) = (meant ≡ Err e) ⊎ (e ≡ errno.Io)
 
 -- What a call leaves of a volume that it only asks: the tree is the same, and a crash leaves nothing new.
 pub record Asked {D : Type 0} (honest : D → Type 0) (disk : D → Disk) (size failures : D → ℕ) (old new : Opened D) (io : Bool) : Type 0 where

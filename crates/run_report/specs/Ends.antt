@@ -41,12 +41,12 @@ label_of (Ran OutOfMemory) = codes "out of memory"
 label_of (Refused fault) = refusal_label (fault_number fault)
 
 -- the guest's whole status, the number of a trap or of a fault
-abbrev pub code_of : End → Option ℕ
-code_of (Ran (Exited status)) = Some status
-code_of (Ran (Trapped trap)) = Some (trap_number trap)
-code_of (Ran OutOfFuel) = None
-code_of (Ran OutOfMemory) = None
-code_of (Refused fault) = fault_number fault
+abbrev pub end_code : End → Option ℕ
+end_code (Ran (Exited status)) = Some status
+end_code (Ran (Trapped trap)) = Some (trap_number trap)
+end_code (Ran OutOfFuel) = None
+end_code (Ran OutOfMemory) = None
+end_code (Refused fault) = fault_number fault
 
 abbrev pub end_text : End → Text
 end_text (Ran (Exited status)) = []

@@ -5,22 +5,22 @@ use Rattle.run_report.specs.declared.summary.Kept.{Kept}
 use Rattle.run_report.specs.declared.summary.Kept.TheVariants as kept
 use Rattle.run_report.specs.declared.summary.Summary.{Summary}
 use Rattle.run_report.specs.Faults.{Text}
-use Rattle.run_report.specs.Ends.{code_of, end_offset, end_text, is_machines, label_of}
+use Rattle.run_report.specs.Ends.{end_code, end_offset, end_text, is_machines, label_of}
 
 abbrev pub kept_text : Kept → Text
 kept_text kept.None = codes "none"
 kept_text kept.Kept = codes "kept"
 kept_text kept.Failed = codes "failed"
 
-abbrev pub has_failed : Kept → Bool
-has_failed kept.None = false
-has_failed kept.Kept = false
-has_failed kept.Failed = true
+abbrev pub keeping_failed : Kept → Bool
+keeping_failed kept.None = false
+keeping_failed kept.Kept = false
+keeping_failed kept.Failed = true
 
 -- The machine is to blame where a file, a device or memory before the guest ran failed, where a read or a write of a stream
 -- failed, or an output couldn't be flushed; else the guest has brought the end about.
 abbrev pub blame_of : Summary → Text
-blame_of s = if is_machines s.end || (has_failed s.volume || (not s.flushed || s.broken)) then codes "machine" else codes "guest"
+blame_of s = if is_machines s.end || (keeping_failed s.volume || (not s.flushed || s.broken)) then codes "machine" else codes "guest"
 
 -- a number, or nothing
 abbrev pub number_text : Option ℕ → Text
@@ -28,7 +28,7 @@ number_text None = []
 number_text (Some n) = decimal n
 
 abbrev pub ending_text : Summary → Text
-ending_text s = concat (codes "end:" ∷ label_of s.end ∷ codes "\ncode:" ∷ number_text (code_of s.end) ∷ codes "\ntext:" ∷ end_text s.end
+ending_text s = concat (codes "end:" ∷ label_of s.end ∷ codes "\ncode:" ∷ number_text (end_code s.end) ∷ codes "\ntext:" ∷ end_text s.end
     ∷ codes "\noffset:" ∷ number_text (end_offset s.end) ∷ codes "\nstatus:" ∷ decimal s.status ∷ codes "\n" ∷ [])
 
 abbrev pub use_text : Summary → Text

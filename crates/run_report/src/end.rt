@@ -1,7 +1,7 @@
 //! How a run ended.
 
 ghost use Rattle.std.specs.Prelude.{◌≡◌};
-ghost use Rattle.run_report.specs.Ends.{code_of, end_offset, end_text, is_machines, label_of};
+ghost use Rattle.run_report.specs.Ends.{end_code, end_offset, end_text, is_machines, label_of};
 ghost use Rattle.run_report.specs.Ends.{trap_number, trap_text};
 
 use crate::fault::Fault;
@@ -67,7 +67,7 @@ impl End {
 
     /// The guest's whole status, the number of a trap or of a fault; none where fuel or memory was wanting.
     pub fn code(self) -> Option<u32>
-        ensures { result ≡ code_of self }
+        ensures { result ≡ end_code self }
     {
         match self {
             End::Ran(Outcome::Exited(status)) => Some(status),

@@ -25,7 +25,7 @@ use Rattle.sandbox_command.specs.declared.program.Executed.{Executed}
 use Rattle.sandbox_words.specs.declared.request.Run.{Run}
 use Rattle.run_report.specs.declared.counted.Counted.{Counted}
 use Rattle.sandbox_command.specs.Reporting.{counting, from_here}
-use Rattle.sandbox_command.specs.Running.{Launches, LeftByRun, device_of}
+use Rattle.sandbox_command.specs.Running.{Launches, LeftByRun, returned_device}
 
 module _ (H : Type 0) (Calls : CallsOf H) (disk : H → Disk) (numbers : H → Superblock) (tree : H → Tree) where
   -- the image stands for the tree of a host that the run comes by
@@ -55,7 +55,7 @@ counting_from parts input out err in_is out_is err_is =
 
 -- the device of what is handed back
 pub device_back : {D : Type 0} (is_honest : D → Type 0) (disk : D → Disk) (sectors_on failures : D → ℕ) (v : Opened D) (result : Result (Opened D) (Refused D))
-    → IsHandedBack is_honest disk sectors_on failures v result → device_of result ≡ v.device
+    → IsHandedBack is_honest disk sectors_on failures v result → returned_device result ≡ v.device
 device_back is_honest disk sectors_on failures v (Ok w) same = ap (λ o. o.device) same
 device_back is_honest disk sectors_on failures v (Err r) same = same.0
 

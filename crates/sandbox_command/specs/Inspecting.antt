@@ -4,7 +4,7 @@ use Rattle.std.specs.declared.io.ErrorKind.{ErrorKind}
 use Rattle.std.specs.declared.io.ErrorKind.TheVariants.{OutOfMemory}
 use Rattle.wasm_module.specs.declared.fault.LoadFault.{LoadFault}
 use Rattle.wasi_calls.specs.host.Links.{link}
-use Rattle.module_survey.specs.Printing.{Begins, Tells}
+use Rattle.module_survey.specs.Printing.{PrintsBeginning, Tells}
 
 -- 0 where the bytes load and the output could be flushed
 abbrev pub survey_status : Result (Unit {0}) LoadFault → (flushed : Bool) → ℕ
@@ -21,4 +21,5 @@ refused_status k = 124
 abbrev pub Inspects : List ℕ → Option (List ℕ) → Option (List ℕ) → (flushed : Bool) → ℕ → Type 0
 Inspects bytes before after flushed status =
     ((outcome : Result (Unit {0}) LoadFault) × Tells link bytes before after outcome × (status ≡ survey_status outcome flushed))
-    ⊎ ((kind : ErrorKind) × (status ≡ refused_status kind) × Begins link bytes before after kind)
+    ⊎ ((kind : ErrorKind) × (status ≡ refused_status kind)
+    × PrintsBeginning link bytes before after kind)

@@ -27,9 +27,9 @@ use Rattle.sandbox_command.specs.Streams.{IsSilent}
 use Rattle.sandbox_command.specs.Reporting.{counted_bytes, counting, kept_where_not_begun, not_run, run_summary, session_reason}
 
 -- the device of a volume that is handed back, or the device itself
-abbrev pub device_of : {D : Type 0} → Result (Opened D) (Refused D) → D
-device_of (Ok v) = v.device
-device_of (Err refused) = refused.device
+abbrev pub returned_device : {D : Type 0} → Result (Opened D) (Refused D) → D
+returned_device (Ok v) = v.device
+returned_device (Err refused) = refused.device
 
 module _ {D R W1 W2 : Type 0} (is_honest : D → Type 0) (disk : D → Disk) (sectors_on failures : D → ℕ)
     (remaining : R → Option (List ℕ)) (out_contents : W1 → Option (List ℕ)) (err_contents : W2 → Option (List ℕ)) where
@@ -67,7 +67,7 @@ module _ {D R W1 W2 : Type 0} (is_honest : D → Type 0) (disk : D → Disk) (se
     pub counted : ReportsCounted is_honest disk sectors_on failures (counted_bytes remaining) (counted_bytes out_contents) (counted_bytes err_contents) session run.limits.fuel report tally
     pub ends : EndsWith report.outcome report.volume left.flushed left.status
     pub summary : left.summary ≡ Some (run_summary run report tally left.status left.flushed)
-    pub device : left.device ≡ device_of report.volume
+    pub device : left.device ≡ returned_device report.volume
     -- The streams are those of the run's last host. The output has what the guest wrote there and nothing else; what it
     -- wrote on the side of errors is followed as is said.
     pub input : left.input ≡ counted.reports.last.host.input.reader.stream

@@ -13,8 +13,8 @@ abbrev pub is_equals : ℕ → Bool
 is_equals c = c == 61
 
 -- what stands before the first `=` of a word, and after it, if it has one
-abbrev pub cut : Text → Option (Text × Text)
-cut word = if nat_lt (position_or_len is_equals word) (length word) then Some (before_first is_equals word, after_first is_equals word) else None
+abbrev pub split_at_equals : Text → Option (Text × Text)
+split_at_equals word = if nat_lt (position_or_len is_equals word) (length word) then Some (before_first is_equals word, after_first is_equals word) else None
 
 -- the words of a guest's directories: where there is none, the root as `/`
 abbrev pub or_root : List Text → List Text
@@ -30,11 +30,12 @@ names_of p = (p.guest_name.now, p.path.now)
 
 -- each directory is its word, cut at the first `=`
 abbrev pub AreDirectories : List Text → List Preopen → Type 0
-AreDirectories words preopens = map (λ p. Some (names_of p)) preopens ≡ map cut words
+AreDirectories words preopens = map (λ p. Some (names_of p)) preopens ≡ map split_at_equals words
 
 -- Why the words aren't taken: one of them has no `=`, or memory was refused.
 abbrev pub IsUncut : List Text → SessionFault → Type 0
-IsUncut words fault = ((fault ≡ Setting) × Contains (map cut words) None) ⊎ (fault ≡ Memory)
+IsUncut words fault =
+    ((fault ≡ Setting) × Contains (map split_at_equals words) None) ⊎ (fault ≡ Memory)
 
 -- The settings of a run: the module's word and the others, the environment, the directories, the moment, these random
 -- bytes, and the pages.

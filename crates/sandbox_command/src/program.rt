@@ -10,7 +10,7 @@ ghost use Rattle.sandbox_command.specs.Status.{status_of, EndsWith, load_status,
 ghost use Rattle.sandbox_command.specs.Status.{volume_status, words_status, command_line_status};
 ghost use Rattle.sandbox_command.specs.Streams.{AppendsSome, IsSilent};
 ghost use Rattle.sandbox_command.specs.Reporting.{kept_where_not_begun, not_run, run_summary, session_reason, volume_of};
-ghost use Rattle.sandbox_command.specs.Running.{Launches, device_of};
+ghost use Rattle.sandbox_command.specs.Running.{Launches, returned_device};
 ghost use Rattle.sandbox_command.specs.internal.Seeds.{with_seed};
 ghost use Rattle.sandbox_command.specs.internal.Supplies.{AreSupplies};
 ghost use Rattle.sandbox_command.specs.Execution.{RunsOn, Runs, Executes};
@@ -176,7 +176,7 @@ fn report<D: Device + Drop, R: Drop, W1: Write + Drop, W2: Write + Drop>(
     report: Report<D, R, W1, W2>,
 ) -> Executed<D, R, W1, W2>
     ensures ends { EndsWith report.outcome report.volume result.flushed result.status }
-    ensures device { result.device ≡ device_of report.volume }
+    ensures device { result.device ≡ returned_device report.volume }
     ensures input { result.input ≡ report.input }
     ensures out { Keeps (W1.contents report.out) (W1.contents result.out) }
     ensures err { Keeps (W2.contents report.err) (W2.contents result.err) }
@@ -263,7 +263,7 @@ fn reported<D: Device + Drop, R: Drop, W1: Write + Drop, W2: Write + Drop>(
 ) -> Executed<D, R, W1, W2>
     ensures ends { EndsWith counted.outcome counted.volume result.flushed result.status }
     ensures summary { result.summary ≡ Some (run_summary run.now counted tally result.status result.flushed) }
-    ensures device { result.device ≡ device_of counted.volume }
+    ensures device { result.device ≡ returned_device counted.volume }
     ensures input { result.input ≡ counted.input.stream }
     ensures out { Keeps (W1.contents counted.out.stream) (W1.contents result.out) }
     ensures err { Keeps (W2.contents counted.err.stream) (W2.contents result.err) }

@@ -2,7 +2,7 @@
 
 ghost use Rattle.std.specs.Prelude.{◌≡◌, IfOk, IfErr, option_map};
 ghost use Rattle.sandbox_words.specs.Request.{argument_0, arguments_of, texts};
-ghost use Rattle.sandbox_command.specs.Supplies.{cut, names_of, directories_of};
+ghost use Rattle.sandbox_command.specs.Supplies.{split_at_equals, names_of, directories_of};
 ghost use Rattle.sandbox_command.specs.Supplies.{AreDirectories, AreSettings, IsUncut};
 ghost use Rattle.sandbox_command.specs.internal.Supplies.{AreSupplies};
 
@@ -57,7 +57,7 @@ fn environment<'t>(alloc: Global, run: &Run<'t>) -> Result<Vec<&'t [u8]>, AllocE
 /// A directory, whose word is cut at its first `=`: the guest's name stands before it, the path after
 /// it.
 fn preopen(word: &str) -> Option<Preopen<'_>>
-    ensures { option_map names_of result ≡ cut word.now }
+    ensures { option_map names_of result ≡ split_at_equals word.now }
 {
     let (guest_name, path) = word.split_once('=')?;
     Some(Preopen {

@@ -8,7 +8,7 @@ use Rattle.sandbox_core.specs.declared.tally.Tally.{Tally}
 use Rattle.sandbox_core.specs.Session.{SessionState, Resumes, History, Follow, is_called, is_synced}
 use Rattle.sandbox_core.specs.Tally.{Tallies}
 use Rattle.sandbox_core.specs.internal.Running.{Followed}
-use Rattle.sandbox_core.specs.internal.Tallying.{Adds}
+use Rattle.sandbox_core.specs.internal.Tallying.{TalliesPause}
 
 -- a count that stops at a greatest one
 stops : (n b most : ℕ) → min (min n most + b) most ≡ min (n + b) most
@@ -18,7 +18,7 @@ one_more : {X : Type 0} (p : X → Bool) (xs : List X) (x : X) → count_by p (x
 one_more p xs x = sum_by-append (λ y. if p y then 1 else 0) xs (x ∷ []) ∙ ap (λ n. count_by p xs + n) (zero-add (if p x then 1 else 0))
 
 -- one pause more is tallied
-pub tallied_on : {S : Type 0} (rs : History S) (p : Pause) (u : S) (old new : Tally) → Tallies rs old → Adds p old new → Tallies (rs ++ (p, u) ∷ []) new
+pub tallied_on : {S : Type 0} (rs : History S) (p : Pause) (u : S) (old new : Tally) → Tallies rs old → TalliesPause p old new → Tallies (rs ++ (p, u) ∷ []) new
 tallied_on {S} rs p u old new tallies added = record {
   calls = on (λ (r : Pause × S). is_called r.0) old.calls new.calls tallies.calls added.calls;
   syncs = on (λ (r : Pause × S). is_synced r.0) old.syncs new.syncs tallies.syncs added.syncs;
@@ -30,7 +30,7 @@ tallied_on {S} rs p u old new tallies added = record {
         ∙ ap (λ (n : ℕ). min n (2 ^ 64 - 1)) (sym (one_more is rs (p, u)))
 
 -- a pause that is no call adds nothing
-pub adds_nothing : {S : Type 0} (rs : History S) (p : Pause) (tally : Tally) → Tallies rs tally → is_called p ≡ false → is_synced p ≡ false → Adds p tally tally
+pub adds_nothing : {S : Type 0} (rs : History S) (p : Pause) (tally : Tally) → Tallies rs tally → is_called p ≡ false → is_synced p ≡ false → TalliesPause p tally tally
 adds_nothing {S} rs p tally tallies uncalled unsynced = record {
   calls = same (count_by (λ (r : Pause × S). is_called r.0) rs) tally.calls (is_called p) tallies.calls uncalled;
   syncs = same (count_by (λ (r : Pause × S). is_synced r.0) rs) tally.syncs (is_synced p) tallies.syncs unsynced;
@@ -55,7 +55,7 @@ module _ {D R W1 W2 : Type 0} (honest : D → Type 0) (disk : D → Disk) (secto
 
   -- a pause that adds what the tally has more
   pub followed_on : (s t u : S) (units : ℕ) (p : Pause) (tally after : Tally) → Followed honest disk sectors_on failures remaining out_contents err_contents s t tally → Resumed t u units p
-      → Adds p tally after → Followed honest disk sectors_on failures remaining out_contents err_contents s u after
+      → TalliesPause p tally after → Followed honest disk sectors_on failures remaining out_contents err_contents s u after
   followed_on s t u units p tally after (rs, follow, tallies) more added = (rs ++ (p, u) ∷ [], follow_on rs s t u units p follow more, tallied_on rs p u tally after tallies added)
 
   -- the last pause, which adds nothing

@@ -19,7 +19,7 @@ use Rattle.wasi_calls.specs.declared.host.settings.Settings.{Settings}
 use Rattle.wasi_calls.specs.declared.host.wasi_host.HostParts.{HostParts}
 use Rattle.wasi_calls.specs.host.Settings.{settings_fit}
 use Rattle.wasi_calls.specs.laws.Moments.{CountsMoments, Kept, Turns, IsSafe, PauseSynced, is_sync}
-use Rattle.wasi_calls.specs.laws.Confined.{Begins}
+use Rattle.wasi_calls.specs.laws.Confined.{HasOnlyDirectoriesOpen}
 use Rattle.wasi_calls.proofs.OpenEntries.{no_entries}
 use Rattle.wasi_calls.proofs.runs.HostLaws.{are_rows}
 use Rattle.wasi_calls.proofs.runs.Moments.{keeps_all}
@@ -332,7 +332,7 @@ module _ {D R W1 W2 : Type 0} (honest : D → Type 0) (disk : D → Disk) (secto
         ];
       }
 
-      world_begins : (settings_fit parts.settings ≡ true) → (b : StreamBytes) → Begins (world_of s.host b)
+      world_begins : (settings_fit parts.settings ≡ true) → (b : StreamBytes) → HasOnlyDirectoriesOpen (world_of s.host b)
       unfolding AreDirectories places
       world_begins fits b =
           let there = shares.preopens is in
@@ -374,7 +374,7 @@ module _ {D R W1 W2 : Type 0} (honest : D → Type 0) (disk : D → Disk) (secto
             size = sizes rs s s' follow;
             confined = λ w w' shown shown_after. confines_host Calls Shows honest_of first.instance s.host s'.host w w' (first_configuration first.entered first.store) run.0 (answered (pauses_of rs))
                 (are_rows honest disk sectors_on failures remaining out_contents err_contents) still shown
-                (subst Begins (sym shown.1) (world_begins opens.fits shown.0)) run.2 shown_after;
+                (subst HasOnlyDirectoriesOpen (sym shown.1) (world_begins opens.fits shown.0)) run.2 shown_after;
           }
 
   pub headline : ((d : D) (t : ℕ) (image : Image) → honest d → t ≤ (disk d).operation_count → (disk d).may_leave image → (disk d).left_since t image)

@@ -3,7 +3,7 @@
 ghost use Rattle.std.specs.Prelude.{◌≡◌, if◌then◌else◌};
 ghost use Rattle.wasm_steps.specs.declared.pause.Pause.TheVariants.{Called};
 ghost use Rattle.wasi_calls.specs.laws.Moments.{is_sync};
-ghost use Rattle.sandbox_core.specs.internal.Tallying.{Adds};
+ghost use Rattle.sandbox_core.specs.internal.Tallying.{TalliesPause};
 
 use wasm_interp::{Errno, HostCall};
 
@@ -34,7 +34,7 @@ fn count_of(is_so: bool) -> u64
 impl Tally {
     /// With one call more, which was answered so.
     pub(crate) fn with(self, call: HostCall, errno: Errno) -> Tally
-        ensures { Adds (Called call errno) self result }
+        ensures { TalliesPause (Called call errno) self result }
     {
         let synced = is_sync(call) && errno == Errno::SUCCESS;
         Tally {

@@ -7,7 +7,7 @@ use Rattle.std.proofs.lemmas.List.{ext_get_or, get_or-map, get_or-set_same, get_
 use Rattle.std.proofs.lemmas.List.Sums.{sum_by-set}
 use Rattle.std.proofs.Math.Seq.{set-append_seam}
 use Rattle.std.proofs.lemmas.List.Folds.{sum_by-replicate}
-use Rattle.sandbox_device.specs.internal.Packing.{zeros, sector_of, sectors_of, is_zero, IsPacked}
+use Rattle.sandbox_device.specs.internal.Packing.{zeros, sector_of, sectors_at, is_zero, IsPacked}
 
 one : ℕ → ℕ
 one k = cond (is_zero k) 1 0
@@ -31,7 +31,7 @@ past ks i le = grind (arith, common_steps)
 
 -- ---- reading
 
-pub read_at : (written : List (List ℕ)) (places : List ℕ) (n : ℕ) → n < length places → get_or (sectors_of written places) n [] ≡ sector_of written (get_or places n 0)
+pub read_at : (written : List (List ℕ)) (places : List ℕ) (n : ℕ) → n < length places → get_or (sectors_at written places) n [] ≡ sector_of written (get_or places n 0)
 read_at written places n lt = get_or-map (sector_of written) places n 0 [] lt
 
 -- ---- none, and zeros
@@ -52,16 +52,16 @@ all_zeros n = record {
       | inr le ↦ past (replicate n 0) i (omega (arith, le, length-replicate {A = ℕ} n 0))
     ]
 
-pub zeros_are : (n : ℕ) → sectors_of [] (replicate n 0) ≡ replicate n zeros
-zeros_are n = ext_get_or zeros (sectors_of [] (replicate n 0)) (replicate n zeros)
+pub zeros_are : (n : ℕ) → sectors_at [] (replicate n 0) ≡ replicate n zeros
+zeros_are n = ext_get_or zeros (sectors_at [] (replicate n 0)) (replicate n zeros)
     (length-map (replicate n 0) (sector_of []) ∙ length-replicate {A = ℕ} n 0 ∙ sym (length-replicate n zeros))
     (λ i lt. let within : i < n = omega (arith, lt, length-map (replicate n 0) (sector_of []), length-replicate {A = ℕ} n 0) in
     get_or-map (sector_of []) (replicate n 0) i 0 zeros (omega (arith, within, length-replicate {A = ℕ} n 0))
     ∙ none_of (get_or (replicate n 0) i 0) zeros (get_or [] (get_or (replicate n 0) i 0 - 1) zeros) (get_or-replicate n i 0 0 within)
     ∙ sym (get_or-replicate n i zeros zeros within))
 
-pub made_of_zeros : (written : List (List ℕ)) (places : List ℕ) (n : ℕ) → written ≡ [] → places ≡ replicate n 0 → sectors_of written places ≡ replicate n zeros
-made_of_zeros written places n none are = ap (λ (l : List (List ℕ)). sectors_of l places) none ∙ ap (sectors_of []) are ∙ zeros_are n
+pub made_of_zeros : (written : List (List ℕ)) (places : List ℕ) (n : ℕ) → written ≡ [] → places ≡ replicate n 0 → sectors_at written places ≡ replicate n zeros
+made_of_zeros written places n none are = ap (λ (l : List (List ℕ)). sectors_at l places) none ∙ ap (sectors_at []) are ∙ zeros_are n
 
 -- ---- writing over a written sector
 
@@ -73,25 +73,25 @@ packed_over written places k bytes packed = record {
 }
 
 pub over_is : (written : List (List ℕ)) (places : List ℕ) (n : ℕ) (bytes : List ℕ) → IsPacked written places → n < length places → 0 < get_or places n 0
-    → sectors_of (set written (get_or places n 0 - 1) bytes) places ≡ set (sectors_of written places) n bytes
+    → sectors_at (set written (get_or places n 0 - 1) bytes) places ≡ set (sectors_at written places) n bytes
 over_is written places n bytes packed lt some =
     let k : ℕ = get_or places n 0 in
     let after : List (List ℕ) = set written (k - 1) bytes in
-    ext_get_or zeros (sectors_of after places) (set (sectors_of written places) n bytes)
-    (length-map places (sector_of after) ∙ sym (length-map places (sector_of written)) ∙ sym (length-set (sectors_of written places) n bytes))
+    ext_get_or zeros (sectors_at after places) (set (sectors_at written places) n bytes)
+    (length-map places (sector_of after) ∙ sym (length-map places (sector_of written)) ∙ sym (length-set (sectors_at written places) n bytes))
     (λ i within. let there : i < length places = omega (arith, within, length-map places (sector_of after)) in
     get_or-map (sector_of after) places i 0 zeros there ∙ at i there)
   where
-    at : (i : ℕ) → i < length places → sector_of (set written (get_or places n 0 - 1) bytes) (get_or places i 0) ≡ get_or (set (sectors_of written places) n bytes) i zeros
+    at : (i : ℕ) → i < length places → sector_of (set written (get_or places n 0 - 1) bytes) (get_or places i 0) ≡ get_or (set (sectors_at written places) n bytes) i zeros
     at i there = elim (cases_eq i n) [
       | inl is ↦ ap (λ (m : ℕ). sector_of (set written (get_or places n 0 - 1) bytes) (get_or places m 0)) is
           ∙ some_of (get_or places n 0) zeros (get_or (set written (get_or places n 0 - 1) bytes) (get_or places n 0 - 1) zeros) (omega (arith, some))
           ∙ get_or-set_same written (get_or places n 0 - 1) bytes zeros (omega (arith, some, packed.within n))
-          ∙ sym (get_or-set_same (sectors_of written places) n bytes zeros (omega (arith, lt, length-map places (sector_of written))))
-          ∙ ap (λ (m : ℕ). get_or (set (sectors_of written places) n bytes) m zeros) (sym is)
+          ∙ sym (get_or-set_same (sectors_at written places) n bytes zeros (omega (arith, lt, length-map places (sector_of written))))
+          ∙ ap (λ (m : ℕ). get_or (set (sectors_at written places) n bytes) m zeros) (sym is)
       | inr other ↦ beside i other (cases_eq (get_or places i 0) 0)
           ∙ sym (get_or-map (sector_of written) places i 0 zeros there)
-          ∙ sym (get_or-set_other (sectors_of written places) n i bytes zeros other)
+          ∙ sym (get_or-set_other (sectors_at written places) n i bytes zeros other)
     ]
       where
         beside : (i : ℕ) → i ≢ n → (get_or places i 0 ≡ 0) ⊎ (get_or places i 0 ≢ 0) → sector_of (set written (get_or places n 0 - 1) bytes) (get_or places i 0) ≡ sector_of written (get_or places i 0)
@@ -152,43 +152,43 @@ module _ (written : List (List ℕ)) (places : List ℕ) (n : ℕ) (bytes : List
   newest = some_of (length written + 1) zeros (get_or (written ++ bytes ∷ []) (length written + 1 - 1) zeros) (λ e. omega (arith, e))
       ∙ get_or_push written bytes zeros (length written + 1 - 1) (omega arith)
 
-  pub push_is : sectors_of (written ++ bytes ∷ []) (set places n (length written + 1)) ≡ set (sectors_of written places) n bytes
+  pub push_is : sectors_at (written ++ bytes ∷ []) (set places n (length written + 1)) ≡ set (sectors_at written places) n bytes
   push_is =
       let after : List (List ℕ) = written ++ bytes ∷ [] in
       let numbers : List ℕ = set places n (length written + 1) in
-      ext_get_or zeros (sectors_of after numbers) (set (sectors_of written places) n bytes)
-      (length-map numbers (sector_of after) ∙ length-set places n (length written + 1) ∙ sym (length-map places (sector_of written)) ∙ sym (length-set (sectors_of written places) n bytes))
+      ext_get_or zeros (sectors_at after numbers) (set (sectors_at written places) n bytes)
+      (length-map numbers (sector_of after) ∙ length-set places n (length written + 1) ∙ sym (length-map places (sector_of written)) ∙ sym (length-set (sectors_at written places) n bytes))
       (λ i within. let inside : i < length places = omega (arith, within, length-map numbers (sector_of after), length-set places n (length written + 1)) in
       get_or-map (sector_of after) numbers i 0 zeros (omega (arith, inside, length-set places n (length written + 1))) ∙ at i inside)
     where
-      at : (i : ℕ) → i < length places → sector_of (written ++ bytes ∷ []) (get_or (set places n (length written + 1)) i 0) ≡ get_or (set (sectors_of written places) n bytes) i zeros
+      at : (i : ℕ) → i < length places → sector_of (written ++ bytes ∷ []) (get_or (set places n (length written + 1)) i 0) ≡ get_or (set (sectors_at written places) n bytes) i zeros
       at i inside = elim (cases_eq i n) [
         | inl is ↦ ap (sector_of (written ++ bytes ∷ [])) (here i is) ∙ newest
-            ∙ sym (get_or-set_same (sectors_of written places) n bytes zeros (omega (arith, lt, length-map places (sector_of written))))
-            ∙ ap (λ (m : ℕ). get_or (set (sectors_of written places) n bytes) m zeros) (sym is)
+            ∙ sym (get_or-set_same (sectors_at written places) n bytes zeros (omega (arith, lt, length-map places (sector_of written))))
+            ∙ ap (λ (m : ℕ). get_or (set (sectors_at written places) n bytes) m zeros) (sym is)
         | inr other ↦ ap (sector_of (written ++ bytes ∷ [])) (there i other) ∙ older (get_or places i 0) (packed.within i)
             ∙ sym (get_or-map (sector_of written) places i 0 zeros inside)
-            ∙ sym (get_or-set_other (sectors_of written places) n i bytes zeros other)
+            ∙ sym (get_or-set_other (sectors_at written places) n i bytes zeros other)
       ]
 
   -- zeros over zeros
-  pub same_is : bytes ≡ zeros → sectors_of written places ≡ set (sectors_of written places) n bytes
+  pub same_is : bytes ≡ zeros → sectors_at written places ≡ set (sectors_at written places) n bytes
   same_is is =
-      let was : get_or (sectors_of written places) n zeros ≡ bytes = get_or-map (sector_of written) places n 0 zeros lt ∙ none_of (get_or places n 0) zeros (get_or written (get_or places n 0 - 1) zeros) none ∙ sym is in
-      sym (ap (set (sectors_of written places) n) (sym was) ∙ set-get_or (sectors_of written places) n zeros)
+      let was : get_or (sectors_at written places) n zeros ≡ bytes = get_or-map (sector_of written) places n 0 zeros lt ∙ none_of (get_or places n 0) zeros (get_or written (get_or places n 0 - 1) zeros) none ∙ sym is in
+      sym (ap (set (sectors_at written places) n) (sym was) ∙ set-get_or (sectors_at written places) n zeros)
 
 -- ---- what `put` leaves, in the words of its steps
 
 module _ (written : List (List ℕ)) (places : List ℕ) (now : List (List ℕ)) (n k : ℕ) (bytes : List ℕ) (packed : IsPacked written places)
-    (view : sectors_of written places ≡ now) (lt : n < length now) (read : k ≡ get_or places n k) where
+    (view : sectors_at written places ≡ now) (lt : n < length now) (read : k ≡ get_or places n k) where
   inside : n < length places
   inside = omega (arith, lt, ap length view, length-map places (sector_of written))
 
   number : k ≡ get_or places n 0
   number = read ∙ get_or_default_zero places n k inside
 
-  pub put_over : 0 < k → sectors_of (set written (k - 1) bytes) places ≡ set now n bytes
-  put_over some = ap (λ (m : ℕ). sectors_of (set written (m - 1) bytes) places) number
+  pub put_over : 0 < k → sectors_at (set written (k - 1) bytes) places ≡ set now n bytes
+  put_over some = ap (λ (m : ℕ). sectors_at (set written (m - 1) bytes) places) number
       ∙ over_is written places n bytes packed inside (omega (arith, some, number)) ∙ ap (λ (l : List (List ℕ)). set l n bytes) view
 
   pub has_room : k ≤ 0 → length written < length places
@@ -202,9 +202,9 @@ module _ (written : List (List ℕ)) (places : List ℕ) (now : List (List ℕ))
       (subst (λ (j : ℕ). IsPacked (written ++ bytes ∷ []) (set places n j)) (sym (numbered after m is len))
       (packed_push written places n bytes packed inside (omega (arith, none, number))))
 
-  pub put_new : k ≤ 0 → (after : List (List ℕ)) (m : ℕ) → after ≡ written ++ bytes ∷ [] → m ≡ length after → sectors_of after (set places n m) ≡ set now n bytes
-  put_new none after m is len = ap (λ (l : List (List ℕ)). sectors_of l (set places n m)) is
-      ∙ ap (λ (j : ℕ). sectors_of (written ++ bytes ∷ []) (set places n j)) (numbered after m is len)
+  pub put_new : k ≤ 0 → (after : List (List ℕ)) (m : ℕ) → after ≡ written ++ bytes ∷ [] → m ≡ length after → sectors_at after (set places n m) ≡ set now n bytes
+  put_new none after m is len = ap (λ (l : List (List ℕ)). sectors_at l (set places n m)) is
+      ∙ ap (λ (j : ℕ). sectors_at (written ++ bytes ∷ []) (set places n j)) (numbered after m is len)
       ∙ push_is written places n bytes packed inside (omega (arith, none, number)) ∙ ap (λ (l : List (List ℕ)). set l n bytes) view
 
   pub put_zeros : k ≤ 0 → bytes ≡ zeros → now ≡ set now n bytes

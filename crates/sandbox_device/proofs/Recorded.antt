@@ -14,7 +14,7 @@ use Rattle.sandbox_device.specs.Ram.{Sectors}
 use Rattle.sandbox_device.specs.Recorded.{written_by}
 use Rattle.sandbox_device.specs.internal.RecordedLaws.{now_is_all}
 use Rattle.sandbox_device.specs.declared.recorded_device.RecordedDevice.{RecordedDevice}
-use Rattle.sandbox_device.specs.Followed.{IsFollowed, done_on, disk_of}
+use Rattle.sandbox_device.specs.Followed.{IsFollowed, done_on, followed_disk}
 
 -- what reads give says nothing of what a crash leaves
 with_seen : (now new first : Sectors) (done more : List Operation) (outcomes tried : List Bool) (P : Image → Type 0)
@@ -76,11 +76,11 @@ alone : (first c : Image) (n : ℕ) → Among (choices n (first n) (first n ∷ 
 alone first c n (inl is) = is
 alone first c n (inr none) = absurd none
 
-pub unused_leaves : (d : RecordedDevice) → d.history.done ≡ [] → d.history.outcomes ≡ [] → (c : Image) → (disk_of d).left_since 0 c → c ≡ image_of d.sectors
+pub unused_leaves : (d : RecordedDevice) → d.history.done ≡ [] → d.history.outcomes ≡ [] → (c : Image) → (followed_disk d).left_since 0 c → c ≡ image_of d.sectors
 unused_leaves d none quiet c left = λ j n. at n j
   where
     now : LeftBy (image_of d.history.first) d.history.done c
-    now = now_is_all d.sectors d.history.first d.history.done d.history.outcomes c (subst (λ (t : ℕ). (disk_of d).left_since t c) (sym (ap length quiet)) left)
+    now = now_is_all d.sectors d.history.first d.history.done d.history.outcomes c (subst (λ (t : ℕ). (followed_disk d).left_since t c) (sym (ap length quiet)) left)
 
     at : (n : ℕ) → c n ≡ image_of d.sectors n
     at n = alone (image_of d.history.first) c n (subst (λ (l : List Operation). LeftBy (image_of d.history.first) l c) none now n)

@@ -7,17 +7,17 @@ use Rattle.sandbox_device.specs.declared.recorded_device.RecordedDevice.{Recorde
 use Rattle.sandbox_device.specs.Recorded.{written_by}
 
 -- the sectors that it began with, and the writes and syncs that were done, in order
-abbrev pub first_of : RecordedDevice → Image
-first_of d = image_of d.history.first
+abbrev pub initial_image : RecordedDevice → Image
+initial_image d = image_of d.history.first
 
 abbrev pub done_on : RecordedDevice → List Operation
 done_on d = d.history.done
 
-abbrev pub disk_of : RecordedDevice → Disk
-disk_of d = written_by d.sectors d.history.first d.history.done d.history.outcomes
+abbrev pub followed_disk : RecordedDevice → Disk
+followed_disk d = written_by d.sectors d.history.first d.history.done d.history.outcomes
 
 -- A disk that begins with the same sectors, and on which the operations are done in order, has the device's sectors in the
 -- end. A stop after any of them leaves nothing that a crash of the device couldn't have left.
 pub record IsFollowed (d : RecordedDevice) : Type 0 where
-  pub ends : (n : ℕ) → newest n (first_of d n) (done_on d) ≡ image_of d.sectors n
-  pub stops : (k : ℕ) (c : Image) → k ≤ length (done_on d) → LeftBy (first_of d) (take k (done_on d)) c → (disk_of d).left_since 0 c
+  pub ends : (n : ℕ) → newest n (initial_image d n) (done_on d) ≡ image_of d.sectors n
+  pub stops : (k : ℕ) (c : Image) → k ≤ length (done_on d) → LeftBy (initial_image d) (take k (done_on d)) c → (followed_disk d).left_since 0 c

@@ -9,8 +9,8 @@ abbrev pub Sectors : Type 0
 Sectors = List (List ℕ)
 
 -- the bytes of all of them, one sector after the other
-abbrev pub bytes_of : Sectors → List ℕ
-bytes_of sectors = flat_map (λ sector. sector) sectors
+abbrev pub joined_sectors : Sectors → List ℕ
+joined_sectors sectors = flat_map (λ sector. sector) sectors
 
 -- one of these
 abbrev pub IsOneOf : List Sectors → Image → Type 0

@@ -3,7 +3,7 @@
 ghost use Rattle.std.specs.Prelude.{◌≡◌, ◌<◌, ◌≤◌, IfOk, OnOk, length, refl, replicate};
 ghost use Rattle.std.specs.Io.KnownBytes.{Appends};
 ghost use Rattle.vol_sector.specs.Record.{image_of};
-ghost use Rattle.sandbox_device.specs.Ram.{bytes_of, held};
+ghost use Rattle.sandbox_device.specs.Ram.{joined_sectors, held};
 ghost use Rattle.sandbox_device.specs.internal.RamLaws.{now_is_since, now_is_all};
 
 use crate::file_device::whole_sectors;
@@ -69,7 +69,7 @@ impl RamDevice {
 
     /// Writes the bytes of all its sectors, one after the other.
     pub fn write_to<W: Write>(&self, out: &mut W) -> io::Result<()>
-        ensures { OnOk result (Appends (W.contents out.old) (W.contents out.new) (bytes_of self.now.sectors)) }
+        ensures { OnOk result (Appends (W.contents out.old) (W.contents out.new) (joined_sectors self.now.sectors)) }
     {
         for n in 0..self.sectors.len() as u32 {
             out.write_all(&self.sectors.get(n))?;

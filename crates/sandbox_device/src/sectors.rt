@@ -17,11 +17,11 @@ pub(crate) struct Sectors {
 
 impl Model for Sectors {
     ghost use Rattle.std.specs.Prelude.{List, ℕ, ◌≤◌, ◌<◌, ◌^◌, vec_len, vec_capacity};
-    ghost use Rattle.sandbox_device.specs.internal.Packing.{sectors_of, IsPacked};
+    ghost use Rattle.sandbox_device.specs.internal.Packing.{sectors_at, IsPacked};
 
     ghost Value = { List (List ℕ) };
 
-    ghost view = { λ s. sectors_of s.written.items s.places.items };
+    ghost view = { λ s. sectors_at s.written.items s.places.items };
 
     ghost invariant = { λ s. IsPacked s.written.items s.places.items
         × (vec_len s.places ≤ vec_capacity s.written) × (vec_len s.places < 2 ^ 32) };

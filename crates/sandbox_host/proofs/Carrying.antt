@@ -19,9 +19,9 @@ use Rattle.sandbox_host.specs.declared.volumes.Origin.{Origin}
 use Rattle.sandbox_host.specs.declared.volumes.Origin.TheVariants.{Fresh, Sectors}
 use Rattle.sandbox_host.specs.Host.{State, HostVolume, Commits, size_of}
 use Rattle.sandbox_host.specs.Volumes.{IsVolume, RefusesSectors}
-use Rattle.sandbox_host.specs.Sessions.{Finishes, device_of, commit_number}
+use Rattle.sandbox_host.specs.Sessions.{Finishes, returned_device, commit_number}
 use Rattle.sandbox_host.specs.Headline.{Resumed}
-use Rattle.sandbox_host.specs.Carried.{OpensAgain, Fits, IsCarried, IsCarriedOn}
+use Rattle.sandbox_host.specs.Carried.{OpensAgain, FitsDevice, IsCarried, IsCarriedOn}
 
 -- an image stands for at most one tree
 abbrev pub OneTree : Type 0
@@ -58,7 +58,7 @@ record Leaves (v : HostVolume) (device : RecordedDevice) : Type 0 where
   stands : StandsAs (image_of device.sectors) v.numbers v.tree
   size : length device.sectors ≡ size_of v.device
 
-leaves : (v : HostVolume) (result : Result HostVolume (Refused RecordedDevice)) (device : RecordedDevice) → Commits v result → device ≡ device_of result → 0 ≡ commit_number result → Leaves v device
+leaves : (v : HostVolume) (result : Result HostVolume (Refused RecordedDevice)) (device : RecordedDevice) → Commits v result → device ≡ returned_device result → 0 ≡ commit_number result → Leaves v device
 leaves v (Ok w) device commits is told =
     let last : RecordedDevice = commits.new.device in
     let same : device ≡ last = is ∙ ap (λ (x : HostVolume). x.device) commits.handed_back in
@@ -91,11 +91,11 @@ resumed_same s s' (r ∷ rs) is =
     let more = resumed_same r.1 s' rs is.1 in
     record { numbers = more.numbers ∙ is.0.1.resumes.numbers; size = more.size ∙ is.0.1.resumes.size }
 
-fits_at_first : (origin : Origin) (v : HostVolume) → IsVolume origin v → Fits v
+fits_at_first : (origin : Origin) (v : HostVolume) → IsVolume origin v → FitsDevice v
 fits_at_first Fresh v is = record { room = omega (arith, is.size, ap (λ (n : Superblock). n.sectors) is.numbers); few = omega (arith, is.size) }
 fits_at_first (Sectors sectors recorded) v is = record { room = omega (arith, is.size, is.stands.room); few = omega (arith, is.size, is.few) }
 
-fits_then : (old new : HostVolume) → Same old new → Fits old → Fits new
+fits_then : (old new : HostVolume) → Same old new → FitsDevice old → FitsDevice new
 fits_then old new same fits = record {
   room = omega (arith, same.size, ap (λ (n : Superblock). n.sectors) same.numbers, fits.room);
   few = omega (arith, same.size, fits.few);

@@ -7,7 +7,7 @@ use Rattle.sandbox_core.specs.Safety as safety
 use Rattle.sandbox_host.specs.declared.numbers.Told.{Told}
 use Rattle.sandbox_host.specs.declared.supplies.Supplies.{Supplies}
 use Rattle.sandbox_host.specs.Supplies.{settings_of}
-use Rattle.sandbox_host.specs.Host.{State, Parts, remaining, written, disk_of, IsHonest, size_of, failures_of}
+use Rattle.sandbox_host.specs.Host.{State, Parts, remaining, items_written, disk_of, IsHonest, size_of, failures_of}
 use Rattle.sandbox_host.specs.Headline.{Resumed, HostUpholds, HostHeadline}
 use Rattle.sandbox_host.proofs.Working.{works_of}
 
@@ -23,8 +23,8 @@ gathered m supplies s s' (r ∷ rs) is =
       follow = ((min is.0.0 (2 ^ 64 - 1 - used_by s), one.resumes), more.follow);
     }
 
-pub host_headline : headline.Headline IsHonest disk_of size_of failures_of remaining written written
-    → safety.TurnsAreSafe IsHonest disk_of size_of failures_of remaining written written → HostHeadline
+pub host_headline : headline.Headline IsHonest disk_of size_of failures_of remaining items_written items_written
+    → safety.TurnsAreSafe IsHonest disk_of size_of failures_of remaining items_written items_written → HostHeadline
 host_headline upholds safe m supplies origin s s' rs begins resumed =
     let parts : Parts = given (settings_of supplies) begins.volume supplies.input begins.out begins.err in
     let all = gathered m supplies s s' rs resumed in

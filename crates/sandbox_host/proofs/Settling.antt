@@ -20,7 +20,7 @@ use Rattle.wasi_calls.specs.host.Worlds.{HostState}
 use Rattle.wasi_calls.specs.laws.Moments.{is_sync, PauseSynced}
 use Rattle.sandbox_core.specs.Session.{used_by}
 use Rattle.sandbox_device.specs.declared.recorded_device.RecordedDevice.{RecordedDevice}
-use Rattle.sandbox_device.specs.Followed.{IsFollowed, first_of, done_on}
+use Rattle.sandbox_device.specs.Followed.{IsFollowed, initial_image, done_on}
 use Rattle.sandbox_device.specs.internal.RecordedLaws.{now_is_since}
 use Rattle.sandbox_host.specs.declared.numbers.Told.{Told}
 use Rattle.sandbox_host.specs.declared.supplies.Supplies.{Supplies}
@@ -28,7 +28,7 @@ use Rattle.sandbox_host.specs.declared.volumes.Origin.{Origin}
 use Rattle.sandbox_host.specs.declared.volumes.Origin.TheVariants.{Sectors}
 use Rattle.sandbox_host.specs.Numbers.{call_number, told_end, told_pause}
 use Rattle.sandbox_host.specs.Host.{State, HostVolume, Bytes, Commits, IsHonest, disk_of}
-use Rattle.sandbox_host.specs.Sessions.{Begins, device_of}
+use Rattle.sandbox_host.specs.Sessions.{Begins, returned_device}
 use Rattle.sandbox_host.specs.Headline.{Resumed}
 use Rattle.sandbox_host.specs.Settled.{StandsForOne, IsSettled, IsSettledSoFar, TellsSync, IsSyncSettled}
 use Rattle.sandbox_host.proofs.Carrying.{OneTree, resumed_same}
@@ -88,7 +88,7 @@ closed_one one v T (r ∷ rs) c d U (inl is) stood stands = inl (subst (StandsAs
 closed_one one v T (r ∷ rs) c d U (inr is) stood stands = inr (closed_one one v r.1.host.volume.tree rs c d U is stood stands)
 
 -- the device that a commit hands back
-committed : (v : HostVolume) (result : Result HostVolume (Refused RecordedDevice)) → (commits : Commits v result) → device_of result ≡ commits.new.device
+committed : (v : HostVolume) (result : Result HostVolume (Refused RecordedDevice)) → (commits : Commits v result) → returned_device result ≡ commits.new.device
 committed v (Ok w) commits = ap (λ (x : HostVolume). x.device) commits.handed_back
 committed v (Err r) commits = commits.handed_back.0
 
@@ -123,7 +123,7 @@ no_end OutOfMemory used is = absurd (omega (arith, is))
 
 -- what a pause that is told of as such a call says
 told_synced : (p : Pause) (h : Host) (used : ℕ) (c : Image) → TellsSync (told_pause p used) → PauseSynced (λ (h : Host). disk_of h.volume.device) (λ h. h.volume.numbers) (λ h. h.volume.tree) (λ h. IsHonest h.volume.device) p h
-    → LeftBy (first_of h.volume.device) (done_on h.volume.device) c → StandsAs c h.volume.numbers h.volume.tree
+    → LeftBy (initial_image h.volume.device) (done_on h.volume.device) c → StandsAs c h.volume.numbers h.volume.tree
 told_synced (Called call errno) h used c is stands left = stands (is_sync_by call is.sync) is.success c left
 told_synced Spent h used c is stands left = absurd (omega (arith, is.called))
 told_synced (Ended outcome) h used c is stands left = absurd (no_end outcome used is.called)

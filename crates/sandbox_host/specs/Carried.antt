@@ -20,13 +20,13 @@ pub record OpensAgain (sectors : List (List ℕ)) (numbers : Superblock) (tree :
   pub only_memory : (f : VolumeFault) → RefusesSectors sectors f → f ≡ fault.Memory
 
 -- The device has all sectors of the volume, and no more than a host may hand in.
-pub record Fits (v : HostVolume) : Type 0 where
+pub record FitsDevice (v : HostVolume) : Type 0 where
   pub room : v.numbers.sectors ≤ size_of v.device
   pub few : size_of v.device ≤ 65536
 
 -- Where finishing a session answers 0, the sectors that it leaves are opened again as its volume.
 abbrev pub IsCarried : Type 0
-IsCarried = (s : State) (e : Ended) → Fits s.host.volume → Finishes s e 0 → OpensAgain e.device.sectors s.host.volume.numbers s.host.volume.tree
+IsCarried = (s : State) (e : Ended) → FitsDevice s.host.volume → Finishes s e 0 → OpensAgain e.device.sectors s.host.volume.numbers s.host.volume.tree
 
 -- From an opening over any resumes to the end: there are as many sectors as at first, and they are opened again with the
 -- volume's numbers and the tree at the end.

@@ -8,7 +8,7 @@ use Rattle.sandbox_host.specs.declared.numbers.Told.{Told}
 use Rattle.sandbox_host.specs.declared.supplies.Supplies.{Supplies}
 use Rattle.sandbox_host.specs.declared.volumes.Origin.{Origin}
 use Rattle.sandbox_host.specs.Numbers.{told_pause}
-use Rattle.sandbox_host.specs.Host.{State, remaining, written, disk_of, IsHonest, size_of, failures_of}
+use Rattle.sandbox_host.specs.Host.{State, remaining, items_written, disk_of, IsHonest, size_of, failures_of}
 use Rattle.sandbox_host.specs.Sessions.{Begins, Paused}
 
 -- one call of `resume` after another: what each told, and the session after it
@@ -27,11 +27,11 @@ TellAll (h ∷ hs) (r ∷ rs) = (r.0 ≡ told_pause h.0 (used_by h.1)) × (r.1 �
 pub record HostUpholds (m : Module) (supplies : Supplies) (s : State) (rs : List (Told × State)) (s' : State) : Type 0 where
   pub history : History State
   pub tells : TellAll history rs
-  pub follow : core.Follow IsHonest disk_of size_of failures_of remaining written written s history s'
+  pub follow : core.Follow IsHonest disk_of size_of failures_of remaining items_written items_written s history s'
 
 -- Whatever is called on a session that begins.
 abbrev pub HostHeadline : Type 0
 HostHeadline = (m : Module) (supplies : Supplies) (origin : Origin) (s s' : State) (rs : List (Told × State))
     → (begins : Begins m supplies origin s) → Resumed s rs s'
     → (all : HostUpholds m supplies s rs s')
-    × headline.Upholds IsHonest disk_of size_of failures_of remaining written written m supplies.pages (begins.volume.tree ∷ []) 0 s all.history s'
+    × headline.Upholds IsHonest disk_of size_of failures_of remaining items_written items_written m supplies.pages (begins.volume.tree ∷ []) 0 s all.history s'

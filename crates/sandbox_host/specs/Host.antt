@@ -33,8 +33,8 @@ Bytes = Vec ℕ Global
 abbrev pub remaining : Bor (List ℕ) → Option (List ℕ)
 remaining input = Some input.now
 
-abbrev pub written : Bytes → Option (List ℕ)
-written bytes = Some bytes.items
+abbrev pub items_written : Bytes → Option (List ℕ)
+items_written bytes = Some bytes.items
 
 -- a session, its volume, what it is made of, and the report of a run
 abbrev pub State : Type 0
@@ -57,10 +57,10 @@ abbrev pub Shares : Parts → State → Type 0
 Shares = core.Shares IsHonest disk_of size_of failures_of
 
 abbrev pub Resumes : State → State → ℕ → Pause → Type 0
-Resumes = core.Resumes IsHonest disk_of size_of failures_of remaining written written
+Resumes = core.Resumes IsHonest disk_of size_of failures_of remaining items_written items_written
 
 abbrev pub Commits : HostVolume → Result HostVolume (Refused RecordedDevice) → Type 0
 Commits = core.Commits IsHonest disk_of size_of failures_of
 
 abbrev pub Reports : State → ℕ → HostReport → Type 0
-Reports = report.Reports IsHonest disk_of size_of failures_of remaining written written
+Reports = report.Reports IsHonest disk_of size_of failures_of remaining items_written items_written

@@ -131,9 +131,9 @@ pub record Paused (units : ℕ) (old new : State) (told : Told) : Type 0 where
   pub tells : told ≡ told_pause pause (used_by new)
 
 -- the device of what is handed back of a volume, and the number that is answered
-abbrev pub device_of : Result HostVolume (Refused RecordedDevice) → RecordedDevice
-device_of (Ok v) = v.device
-device_of (Err r) = r.device
+abbrev pub returned_device : Result HostVolume (Refused RecordedDevice) → RecordedDevice
+returned_device (Ok v) = v.device
+returned_device (Err r) = r.device
 
 abbrev pub commit_number : Result HostVolume (Refused RecordedDevice) → ℕ
 commit_number (Ok v) = 0
@@ -143,7 +143,7 @@ commit_number (Err r) = 33
 pub record Finishes (s : State) (e : Ended) (number : ℕ) : Type 0 where
   pub volume : Result HostVolume (Refused RecordedDevice)
   pub commits : Commits s.host.volume volume
-  pub device : e.device ≡ device_of volume
+  pub device : e.device ≡ returned_device volume
   pub number_told : number ≡ commit_number volume
   pub valid : e.valid ≡ s.machine.valid
   pub out : e.out ≡ s.host.out.writer

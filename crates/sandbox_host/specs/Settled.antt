@@ -7,7 +7,7 @@ use Rattle.vol_tree.specs.declared.superblock.Superblock.{Superblock}
 use Rattle.vol_tree.specs.Tree.{Tree}
 use Rattle.vol_tree.specs.Stands.{StandsAs}
 use Rattle.wasm_module.specs.declared.module.Module.{Module}
-use Rattle.sandbox_device.specs.Followed.{first_of, done_on}
+use Rattle.sandbox_device.specs.Followed.{initial_image, done_on}
 use Rattle.sandbox_host.specs.declared.numbers.Told.{Told}
 use Rattle.sandbox_host.specs.declared.held.Ended.{Ended}
 use Rattle.sandbox_host.specs.declared.supplies.Supplies.{Supplies}
@@ -26,14 +26,14 @@ StandsForOne v tree (r ∷ rs) c = StandsAs c v tree ⊎ StandsForOne v r.1.host
 abbrev pub IsSettled : Type 0
 IsSettled = (m : Module) (supplies : Supplies) (sectors : Bor (List (List ℕ))) (recorded : Bool) (s s' : State) (rs : List (Told × State)) (e : Ended) (number k : ℕ) (c : Image)
     → (begins : Begins m supplies (Sectors sectors recorded) s) → Resumed s rs s' → Finishes s' e number
-    → k ≤ length (done_on e.device) → LeftBy (first_of e.device) (take k (done_on e.device)) c
+    → k ≤ length (done_on e.device) → LeftBy (initial_image e.device) (take k (done_on e.device)) c
     → StandsForOne begins.volume.numbers begins.volume.tree rs c
 
 -- The same of a session that still runs, after any resumes: the first k that it has done by then.
 abbrev pub IsSettledSoFar : Type 0
 IsSettledSoFar = (m : Module) (supplies : Supplies) (sectors : Bor (List (List ℕ))) (recorded : Bool) (s s' : State) (rs : List (Told × State)) (k : ℕ) (c : Image)
     → (begins : Begins m supplies (Sectors sectors recorded) s) → Resumed s rs s'
-    → k ≤ length (done_on s'.host.volume.device) → LeftBy (first_of s'.host.volume.device) (take k (done_on s'.host.volume.device)) c
+    → k ≤ length (done_on s'.host.volume.device) → LeftBy (initial_image s'.host.volume.device) (take k (done_on s'.host.volume.device)) c
     → StandsForOne begins.volume.numbers begins.volume.tree rs c
 
 -- a call that syncs was answered with success
@@ -46,5 +46,5 @@ pub record TellsSync (told : Told) : Type 0 where
 abbrev pub IsSyncSettled : Type 0
 IsSyncSettled = (m : Module) (supplies : Supplies) (sectors : Bor (List (List ℕ))) (recorded : Bool) (s old new : State) (rs : List (Told × State)) (told : Told) (units : ℕ) (c : Image)
     → (begins : Begins m supplies (Sectors sectors recorded) s) → Resumed s rs old → Paused units old new told → TellsSync told
-    → LeftBy (first_of new.host.volume.device) (done_on new.host.volume.device) c
+    → LeftBy (initial_image new.host.volume.device) (done_on new.host.volume.device) c
     → StandsAs c begins.volume.numbers new.host.volume.tree

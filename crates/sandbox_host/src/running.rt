@@ -2,7 +2,7 @@
 
 ghost use Rattle.std.specs.Prelude.{◌≡◌, ◌≢◌, ◌⊎◌, None, Some, IfSome, IsSomeAnd, is_none, true, false, length, drop, min, take, ◌++◌};
 ghost use Rattle.sandbox_host.specs.Sessions.{running, running_in, finished, finished_in, loaded, has_session, has_module};
-ghost use Rattle.sandbox_host.specs.Sessions.{output, sectors, IsShown, Paused, Finishes, device_of, commit_number};
+ghost use Rattle.sandbox_host.specs.Sessions.{output, sectors, IsShown, Paused, Finishes, returned_device, commit_number};
 
 use crate::handle::Handle;
 use crate::held::{Ended, Held, HostSession};
@@ -85,7 +85,7 @@ pub fn volume_out(alloc: Global, session: &mut Handle, room: &mut [[u8; 512]]) -
 fn handed_back(
     volume: Result<Volume<RecordedDevice>, Refused<RecordedDevice>>,
 ) -> (RecordedDevice, u32)
-    ensures device { result.0 ≡ device_of volume }
+    ensures device { result.0 ≡ returned_device volume }
     ensures number { result.1 ≡ commit_number volume }
 {
     match volume {

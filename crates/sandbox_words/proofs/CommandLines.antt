@@ -12,7 +12,7 @@ use Rattle.clap.specs.declared.builder.command.Command.TheViews.{out-Command as 
 use Rattle.clap.proofs.OnLiterals.{clap_on_literals}
 use Rattle.sandbox_words.specs.Request.{Text}
 use Rattle.sandbox_words.specs.internal.Table.{AddsSubcommands}
-use Rattle.sandbox_words.specs.CommandLine.{is_numeral, number_of, program, run_rules, table_apps, with_apps, with_rules}
+use Rattle.sandbox_words.specs.CommandLine.{is_numeral, parsed_number, program, run_rules, table_apps, with_apps, with_rules}
 
 -- ---- numbers
 
@@ -43,7 +43,7 @@ abbrev read_of : {E : Type 0} → Result ℕ E → Option ℕ
 read_of (Ok n) = Some n
 read_of (Err e) = None
 
-parse_reads : {E : Type 0} (bits : ℕ) (text : Text) (r : Result ℕ E) → ParsesUnsigned bits 10 text r → read_of r ≡ number_of bits text
+parse_reads : {E : Type 0} (bits : ℕ) (text : Text) (r : Result ℕ E) → ParsesUnsigned bits 10 text r → read_of r ≡ parsed_number bits text
 parse_reads bits text (Ok n) h =
     let ds = without_leading_plus text in
     rw (numeral_passes ds h.0.0, lt-ltb (digits_value 10 ds) (2 ^ bits) h.0.1) (ap Some h.1)
@@ -52,7 +52,7 @@ parse_reads bits text (Err e) h = go (is_numeral ds && nat_lt (digits_value 10 d
     ds : List ℕ
     ds = without_leading_plus text
 
-    go : (b : Bool) → is_numeral (without_leading_plus text) && nat_lt (digits_value 10 (without_leading_plus text)) (2 ^ bits) ≡ b → None ≡ number_of bits text
+    go : (b : Bool) → is_numeral (without_leading_plus text) && nat_lt (digits_value 10 (without_leading_plus text)) (2 ^ bits) ≡ b → None ≡ parsed_number bits text
     go false t = rw t refl
     go true t =
         let parts = both _ _ t in
@@ -61,11 +61,11 @@ parse_reads bits text (Err e) h = go (is_numeral ds && nat_lt (digits_value 10 d
 -- what `get_one` reads of an option
 pub option_reads : {E : Type 0} (gives : List ℕ → Result ℕ E → Type 0) (bits : ℕ) (o : Option Text) (r : Option ℕ)
     → ((u : List ℕ) (x : Result ℕ E) → gives u x → ParsesUnsigned bits 10 u x)
-    → (o ≡ None → r ≡ None) → ((t : Text) → o ≡ Some t → ReadsOne gives t r) → r ≡ option_and_then (number_of bits) o
+    → (o ≡ None → r ≡ None) → ((t : Text) → o ≡ Some t → ReadsOne gives t r) → r ≡ option_and_then (parsed_number bits) o
 option_reads gives bits None r parses none value = none refl
 option_reads {E} gives bits (Some t) r parses none value = go r (value t refl)
   where
-    go : (s : Option ℕ) → ReadsOne gives t s → s ≡ number_of bits t
+    go : (s : Option ℕ) → ReadsOne gives t s → s ≡ parsed_number bits t
     go (Some v) h = parse_reads {E = E} bits t (Ok v) (parses t (Ok v) h)
     go None h = parse_reads {E = E} bits t (Err h.0) (parses t (Err h.0) h.1)
 

@@ -143,14 +143,14 @@ abbrev pub is_numeral : Text → Bool
 is_numeral digits = nat_lt 0 (length digits) && list_all (λ d. nat_lt (digit_value d) 10) digits
 
 -- the number of this many bits at most that digits write, before which a plus may stand
-abbrev pub number_of : ℕ → Text → Option ℕ
-number_of bits text =
+abbrev pub parsed_number : ℕ → Text → Option ℕ
+parsed_number bits text =
     let digits = without_leading_plus text in
     if is_numeral digits && nat_lt (digits_value 10 digits) (2 ^ bits) then Some (digits_value 10 digits) else None
 
 -- the number of an option, if it is there
 abbrev pub number_in : ℕ → Text → List Row → Option ℕ
-number_in bits id rows = option_and_then (number_of bits) (one_of id rows)
+number_in bits id rows = option_and_then (parsed_number bits) (one_of id rows)
 
 -- the number of an option, or this default
 abbrev pub number_or : ℕ → ℕ → Text → List Row → ℕ

@@ -7,7 +7,7 @@ ghost use Rattle.clap.specs.Matches.{has_subcommand};
 ghost use Rattle.clap.specs.Words.{FailsBy, app_of, fault_of, first_of, found_of, one_of, rows_of, rule_of, subcommand_of, subcommand_rows_of};
 ghost use Rattle.clap.specs.declared.builder.command.Command.TheViews.{out-Command as fields_of};
 ghost use Rattle.sandbox_words.specs.Request.{texts};
-ghost use Rattle.sandbox_words.specs.CommandLine.{AsksChange, AsksFor, AsksRun, AsksTask, number_of};
+ghost use Rattle.sandbox_words.specs.CommandLine.{AsksChange, AsksFor, AsksRun, AsksTask, parsed_number};
 ghost use Rattle.sandbox_words.specs.CommandLine.{change_names, other_names, task_names};
 ghost use Rattle.sandbox_words.specs.CommandLine.{IsFlagged, text_in, texts_of, word_of};
 ghost use Rattle.sandbox_words.specs.CommandLine.{faults_app, program};
@@ -202,14 +202,14 @@ fn is_flagged(matches: &ArgMatches<'_>, id: &str) -> bool
 
 /// The number of an argument.
 fn number(matches: &ArgMatches<'_>, id: &str) -> Option<u32>
-    ensures { result ≡ option_and_then (number_of 32) (one_of id.now (rows_of (found_of matches.now))) }
+    ensures { result ≡ option_and_then (parsed_number 32) (one_of id.now (rows_of (found_of matches.now))) }
 {
     matches.get_one::<u32>(id)
 }
 
 /// The number of an argument that may have 64 bits.
 fn long_number(matches: &ArgMatches<'_>, id: &str) -> Option<u64>
-    ensures { result ≡ option_and_then (number_of 64) (one_of id.now (rows_of (found_of matches.now))) }
+    ensures { result ≡ option_and_then (parsed_number 64) (one_of id.now (rows_of (found_of matches.now))) }
 {
     matches.get_one::<u64>(id)
 }

@@ -4,7 +4,7 @@ use Rattle.std.proofs.lemmas.List.{length_push, get_or_push, get_or_append_left,
 use Rattle.std.proofs.lemmas.Bool.{cases_eq, false≢true}
 use Rattle.vol_sector.specs.declared.fault.VolumeFault.{VolumeFault}
 use Rattle.vol_sector.specs.declared.fault.VolumeFault.TheVariants as faults
-use Rattle.vol_alloc.specs.Numbers.{Names, ArePlaces}
+use Rattle.vol_alloc.specs.Numbers.{ListsNumber, ArePlaces}
 use Rattle.vol_alloc.proofs.Free.{taken_there, is_there}
 
 module _ (first : ℕ) (taken : List Bool) (named : List ℕ) (i : ℕ) (lt : i < length named) where
@@ -43,8 +43,8 @@ module _ (first : ℕ) (taken : List Bool) (named : List ℕ) (i : ℕ) (lt : i 
   long_front : length (take (i + 1) named) ≡ i + 1
   long_front = length-take-le (i + 1) named (omega arith)
 
-  pub set_more : ((n : ℕ) → first ≤ n → get_or taken (n - first) false ≡ true → Names (take i named) n) → first ≤ get_or named i 0 → get_or named i 0 - first < length taken
-      → (n : ℕ) → first ≤ n → get_or (set taken (get_or named i 0 - first) true) (n - first) false ≡ true → Names (take (i + 1) named) n
+  pub set_more : ((n : ℕ) → first ≤ n → get_or taken (n - first) false ≡ true → ListsNumber (take i named) n) → first ≤ get_or named i 0 → get_or named i 0 - first < length taken
+      → (n : ℕ) → first ≤ n → get_or (set taken (get_or named i 0 - first) true) (n - first) false ≡ true → ListsNumber (take (i + 1) named) n
   set_more before from there n le is = elim (cases_eq (n - first) (get_or named i 0 - first)) [
     | inl same ↦ let it : get_or named i 0 ≡ n = omega arith in (i, omega (arith, long_front), get_or-take (i + 1) named i 0 (omega arith) ∙ it)
     | inr other ↦
@@ -78,7 +78,7 @@ module _ (first : ℕ) (taken : List Bool) (named : List ℕ) (i : ℕ) (lt : i 
       (places_more (first + length taken) (take i named) n right from (omega arith) new))
 
 -- numbers that may stand somewhere: the one at a place has its flag clear, where those before it have set theirs
-pub not_yet : (first : ℕ) (taken : List Bool) (named : List ℕ) (i : ℕ) → i < length named → ((n : ℕ) → first ≤ n → get_or taken (n - first) false ≡ true → Names (take i named) n)
+pub not_yet : (first : ℕ) (taken : List Bool) (named : List ℕ) (i : ℕ) → i < length named → ((n : ℕ) → first ≤ n → get_or taken (n - first) false ≡ true → ListsNumber (take i named) n)
     → ArePlaces first (first + length taken) named → get_or taken (get_or named i 0 - first) false ≡ true → ⊥
 not_yet first taken named i lt set places is =
     let old = set (get_or named i 0) (places.from i lt) is in
@@ -101,8 +101,8 @@ places_back first end count named is places = record {
 }
 
 -- the flags say which numbers are named
-pub flags_name : (first end : ℕ) (taken : List Bool) (named : List ℕ) → ((n : ℕ) → first ≤ n → (get_or taken (n - first) false ≡ true) ↔ Names named n) → ArePlaces first end named
-    → (n : ℕ) → ((if nat_lt n first then false else get_or taken (n - first) false) ≡ true) ↔ Names named n
+pub flags_name : (first end : ℕ) (taken : List Bool) (named : List ℕ) → ((n : ℕ) → first ≤ n → (get_or taken (n - first) false ≡ true) ↔ ListsNumber named n) → ArePlaces first end named
+    → (n : ℕ) → ((if nat_lt n first then false else get_or taken (n - first) false) ≡ true) ↔ ListsNumber named n
 flags_name first end taken named flags places n = (
   λ is. let there = taken_there first n taken is in (flags n there.0).0 there.1,
   λ names. let from = subst (λ (m : ℕ). first ≤ m) names.2 (places.from names.0 names.1) in is_there first n taken from ((flags n from).1 names),

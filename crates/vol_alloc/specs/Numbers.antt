@@ -2,8 +2,8 @@
 use Rattle.std.specs.Prelude.{◌≡◌, ◌≢◌, ◌≤◌, ◌<◌, ℕ, List, length, slice_index}
 
 -- the number stands in the list
-abbrev pub Names : List ℕ → ℕ → Type 0
-Names numbers n = (k : ℕ) × (k < length numbers) × (slice_index numbers k ≡ n)
+abbrev pub ListsNumber : List ℕ → ℕ → Type 0
+ListsNumber numbers n = (k : ℕ) × (k < length numbers) × (slice_index numbers k ≡ n)
 
 -- no number stands twice
 abbrev pub AreDistinct : List ℕ → Type 0

@@ -3,7 +3,7 @@
 ghost use Rattle.std.specs.Prelude.{◌≡◌, ◌⊎◌, ◌≤◌, ◌<◌, ◌+◌, ◌-◌, ◌^◌, ◌==◌, ◌↔◌, ℕ, true, false};
 ghost use Rattle.std.specs.Prelude.{length, not, count_by, vec_len, vec_capacity, slice_index_or};
 ghost use Rattle.std.specs.Prelude.{if◌then◌else◌, IsTrue, IfOk, IfErr, OnOk, replicate};
-ghost use Rattle.vol_alloc.specs.Numbers.{Names, ArePlaces};
+ghost use Rattle.vol_alloc.specs.Numbers.{ListsNumber, ArePlaces};
 ghost use Rattle.vol_alloc.specs.internal.Numbers.{AreFree};
 
 use std::alloc::{AllocError, Global};
@@ -38,7 +38,7 @@ impl Alloc {
         named: &[u32],
     ) -> Result<Alloc, VolumeFault>
         ensures taken { IfOk result (λ a. (n : ℕ)
-            → IsTrue (taken_of a n) ↔ Names named.now n) }
+            → IsTrue (taken_of a n) ↔ ListsNumber named.now n) }
         ensures range { IfOk result (λ a. (first_of a ≡ first) × (end_of a ≡ end)) }
         ensures count { IfOk result (λ a. free_of a + length named.now ≡ end - first) }
         ensures right { OnOk result (ArePlaces first end named.now) }
@@ -117,7 +117,7 @@ impl Alloc {
 fn take_all(first: u32, taken: &mut [bool], named: &[u32]) -> bool
     requires { taken.old ≡ replicate (length taken.old) false }
     ensures taken { IsTrue result → (n : ℕ) → first ≤ n
-        → IsTrue (slice_index_or taken.new (n - first) false) ↔ Names named.now n }
+        → IsTrue (slice_index_or taken.new (n - first) false) ↔ ListsNumber named.now n }
     ensures count { IsTrue result → count_by not taken.new + length named.now ≡ length taken.old }
     ensures right { IsTrue result → ArePlaces first (first + length taken.old) named.now }
     ensures wrong { ArePlaces first (first + length taken.old) named.now → IsTrue result }

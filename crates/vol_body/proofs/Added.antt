@@ -9,7 +9,7 @@ use Rattle.vol_inode.specs.Space.{blocks_for_size, need_of}
 use Rattle.vol_body.specs.Body.{BlockPosition, data_block, indirect_block, double_indirect_block, inner_block, IsPosition, first_served, named, block_bytes, NamesTaken, NamesOthers}
 use Rattle.vol_body.specs.Change.{OthersStay}
 use Rattle.vol_body.specs.internal.Naming.{IsNaming, NamesOneMore, SetsPointer, ListsOneMore}
-use Rattle.vol_body.specs.internal.Writing.{PointedAt, ListedAt, IsBlank, Mirrors, IsReady, SamePlace, Changes}
+use Rattle.vol_body.specs.internal.Writing.{PointedAt, ListedAt, IsBlank, Mirrors, IsReady, SamePlace, ChangesPositions}
 use Rattle.vol_body.proofs.Changes.{stays_twice, takes_twice, takes_same}
 use Rattle.vol_body.proofs.OneMore.{one_direct, one_list, one_lists, one_listed, one_later_list, one_later, write_named, naming_by, naming_more, names_stay, names_taken_more, takes_one, others_stay_one, others_stay_two, places_stay, places_stay_but, places_stay_by}
 use Rattle.vol_body.proofs.Places.{bytes_there}
@@ -39,7 +39,7 @@ place_of (inner_block i) size small serves = omega arith
 -- a change by which the file names one more sector
 changes_one : (a b : Alloc) (content after : Image) (e changed : Entry) (p : BlockPosition) (n : ℕ) (Touched : BlockPosition → Type 0) → NamesOneMore content after e changed p n → TakesSector a b n → IsReady a content e → e.size ≤ LARGEST_SIZE
     → named content e p ≡ 0 → first_served p < blocks_for_size e.size → ((place : ℕ) → OthersStay place (first_of a) (end_of a) (taken_of a) content after e)
-    → ((q : BlockPosition) → IsPosition q → (Touched q → ⊥) → SamePlace content after e changed q) → Changes a b content after e changed Touched
+    → ((q : BlockPosition) → IsPosition q → (Touched q → ⊥) → SamePlace content after e changed q) → ChangesPositions a b content after e changed Touched
 changes_one a b content after e changed p n Touched more takes ready small none serves others stays =
     let fresh = free_is_others (taken_of a) content e n ready.taken takes.some takes.free in
     let there = place_of p e.size small serves in
@@ -69,7 +69,7 @@ pointed_more content after e changed s n (inner_block i) image others stays sets
 
 pub adds_pointer : (a b : Alloc) (content after : Image) (e changed : Entry) (s n : ℕ) (p : BlockPosition) (image : List ℕ) → TakesSector a b n → IsReady a content e → e.size ≤ LARGEST_SIZE
     → ((x : ℕ) → x ≢ n → after x ≡ content x) → SetsPointer e changed s n → after n ≡ image → PointedAt s p → IsBlank p image → named content e p ≡ 0 → first_served p < blocks_for_size e.size
-    → Changes a b content after e changed (λ q. q ≡ p) × Mirrors after changed p n image
+    → ChangesPositions a b content after e changed (λ q. q ≡ p) × Mirrors after changed p n image
 adds_pointer a b content after e changed s n p image takes ready small stays sets is at blank none serves =
     let fresh = free_is_others (taken_of a) content e n ready.taken takes.some takes.free in
     let more = pointed_more content after e changed s n p image fresh stays sets is at blank none in (
@@ -93,7 +93,7 @@ listed_more content after e n m i q p image naming others some more is lt at the
 
 pub adds_number : (a b : Alloc) (content after : Image) (e : Entry) (n m i : ℕ) (q p : BlockPosition) (image : List ℕ) → TakesSector a b n → IsReady a content e → e.size ≤ LARGEST_SIZE
     → m ≢ 0 → first_of a ≤ m → m < end_of a → ListsOneMore content after m i n → after n ≡ image → i < 128 → ListedAt q i p → IsPosition q → m ≡ named content e q
-    → IsBlank p image → named content e p ≡ 0 → first_served p < blocks_for_size e.size → Changes a b content after e e (λ x. (x ≡ p) ⊎ (x ≡ q)) × Mirrors after e p n image
+    → IsBlank p image → named content e p ≡ 0 → first_served p < blocks_for_size e.size → ChangesPositions a b content after e e (λ x. (x ≡ p) ⊎ (x ≡ q)) × Mirrors after e p n image
 adds_number a b content after e n m i q p image takes ready small some from below lists_it is lt at q_there names blank none serves =
     let fresh = free_is_others (taken_of a) content e n ready.taken takes.some takes.free in
     let there = place_of p e.size small serves in
@@ -106,7 +106,7 @@ adds_number a b content after e n m i q p image takes ready small some from belo
 
 -- a sector that a data block names is written over
 pub writes_over : (a : Alloc) (content after : Image) (e : Entry) (j n : ℕ) → IsReady a content e → e.size ≤ LARGEST_SIZE → j < 16570 → named content e (data_block j) ≡ n → n ≢ 0 → first_of a ≤ n → n < end_of a
-    → ((x : ℕ) → x ≢ n → after x ≡ content x) → Changes a a content after e e (λ q. q ≡ data_block j)
+    → ((x : ℕ) → x ≢ n → after x ≡ content x) → ChangesPositions a a content after e e (λ q. q ≡ data_block j)
 writes_over a content after e j n ready small lt is some from below stays =
     let more = write_named content after e j n ready.naming lt is some stays in
     let names = names_stay content after e e (data_block j) n more is in record {
@@ -132,7 +132,7 @@ mirror_stays content after e changed p number image same mirror = record {
 
 -- one change after another
 pub changes_twice : (a b c : Alloc) (c0 c1 c2 : Image) (e0 e1 e2 : Entry) (One Other Both : BlockPosition → Type 0) → taken_of a 0 ≡ false → taken_of c 0 ≡ false → first_of b ≡ first_of a → end_of b ≡ end_of a
-    → ((p : BlockPosition) → One p → Both p) → ((p : BlockPosition) → Other p → Both p) → Changes a b c0 c1 e0 e1 One → Changes b c c1 c2 e1 e2 Other → Changes a c c0 c2 e0 e2 Both
+    → ((p : BlockPosition) → One p → Both p) → ((p : BlockPosition) → Other p → Both p) → ChangesPositions a b c0 c1 e0 e1 One → ChangesPositions b c c1 c2 e1 e2 Other → ChangesPositions a c c0 c2 e0 e2 Both
 changes_twice a b c c0 c1 c2 e0 e1 e2 One Other Both none still first_is end_is one_in other_in one other = record {
   ready = other.ready;
   others = λ place. stays_twice (taken_of a) (taken_of b) c0 c1 e0 e1 none one.takes place (first_of a) (end_of a) c2 (one.others place)

@@ -4,7 +4,7 @@ use Rattle.std.proofs.lemmas.Bool.{cases_Bool, both_ways}
 use Rattle.vol_sector.specs.Disk.{Image}
 use Rattle.vol_inode.specs.declared.entry.Entry.{Entry}
 use Rattle.vol_body.specs.Body.{BlockPosition, IsPosition, named, NamesTaken, NamesOthers}
-use Rattle.vol_body.specs.Change.{Names, OthersStay, TakesAndGives}
+use Rattle.vol_body.specs.Change.{NamesSector, OthersStay, TakesAndGives}
 
 -- a number that is taken is some sector's
 some_of : (taken : ℕ → Bool) (n : ℕ) → taken 0 ≡ false → taken n ≡ true → n ≢ 0
@@ -39,7 +39,7 @@ module _ (t0 t1 : ℕ → Bool) (c0 c1 : Image) (e0 e1 : Entry) (none : t0 0 ≡
   -- what is taken before and not the file's doesn't become the file's
   stays_others : (n : ℕ) → t0 n ≡ true → NamesOthers c0 e0 n → NamesOthers c1 e1 n
   stays_others n is others p there names =
-      let one : Names c1 e1 n = record { some = some_of t0 n none is; position = (p, there, names) } in
+      let one : NamesSector c1 e1 n = record { some = some_of t0 n none is; position = (p, there, names) } in
       both_ways (t0 n) (takes.fresh n one others) is
 
   pub stays_twice : (place first end : ℕ) (c2 : Image) → OthersStay place first end t0 c0 c1 e0 → OthersStay place first end t1 c1 c2 e1 → OthersStay place first end t0 c0 c2 e0
@@ -52,7 +52,7 @@ module _ (t0 t1 : ℕ → Bool) (c0 c1 : Image) (e0 e1 : Entry) (none : t0 0 ≡
 
 module _ (t0 t1 t2 : ℕ → Bool) (c0 c1 c2 : Image) (e0 e1 e2 : Entry) (none : t0 0 ≡ false) (still : t2 0 ≡ false)
     (takes : TakesAndGives t0 t1 c0 c1 e0 e1) (then : TakesAndGives t1 t2 c1 c2 e1 e2) where
-  fresh_twice : (n : ℕ) → Names c2 e2 n → NamesOthers c0 e0 n → t0 n ≡ false
+  fresh_twice : (n : ℕ) → NamesSector c2 e2 n → NamesOthers c0 e0 n → t0 n ≡ false
   fresh_twice n one others = elim (cases_Bool (t0 n)) [
     | inr free ↦ free
     | inl is ↦
@@ -63,10 +63,10 @@ module _ (t0 t1 t2 : ℕ → Bool) (c0 c1 c2 : Image) (e0 e1 e2 : Entry) (none :
   -- what is taken at the end and not the file's wasn't the file's before
   were_others : (n : ℕ) → t2 n ≡ true → NamesOthers c2 e2 n → NamesOthers c1 e1 n
   were_others n is others p there names =
-      let one : Names c1 e1 n = record { some = some_of t2 n still is; position = (p, there, names) } in
+      let one : NamesSector c1 e1 n = record { some = some_of t2 n still is; position = (p, there, names) } in
       both_ways (t2 n) (then.given n one others) is
 
-  given_twice : (n : ℕ) → Names c0 e0 n → NamesOthers c2 e2 n → t2 n ≡ false
+  given_twice : (n : ℕ) → NamesSector c0 e0 n → NamesOthers c2 e2 n → t2 n ≡ false
   given_twice n one others = elim (cases_Bool (t2 n)) [
     | inr free ↦ free
     | inl is ↦

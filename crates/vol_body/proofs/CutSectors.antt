@@ -7,7 +7,7 @@ use Rattle.vol_sector.specs.Disk.{Image, put}
 use Rattle.vol_alloc.specs.declared.sectors.Alloc.{Alloc}
 use Rattle.vol_alloc.specs.Alloc.{first_of, end_of, taken_of}
 use Rattle.vol_body.specs.declared.truncation.Cut.{Cut}
-use Rattle.vol_body.specs.internal.Truncated.{IsCut, cut, with_cut}
+use Rattle.vol_body.specs.internal.Truncated.{IsCut, zeroed_from, with_cut}
 
 -- a taken sector is one of the range
 pub in_range : (a : Alloc) (n : ℕ) → taken_of a n ≡ true → (first_of a ≤ n) × (n < end_of a)
@@ -65,7 +65,7 @@ cut_elsewhere c image k other = elim (cases_eq c.sector 0) [
 
 -- the sector is cut
 pub cut_there : (content : Image) (n kept : ℕ) (c : Cut) (image : Image) → IsCut content n kept c → n ≢ 0 → 0 < kept → kept < 512 → image n ≡ content n
-    → with_cut c image n ≡ cut kept (content n)
+    → with_cut c image n ≡ zeroed_from kept (content n)
 cut_there content n kept c image is there some short same = elim (cases_eq c.sector 0) [
   | inl none ↦ with_none c.sector c.image image n none ∙ same ∙ is.same none there some short
   | inr set ↦ with_some c.sector c.image image n set ∙ put_one c.sector n c.image (image n) (sym (is.sector set)) ∙ is.image set

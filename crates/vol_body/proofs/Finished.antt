@@ -8,7 +8,7 @@ use Rattle.vol_inode.specs.Space.{need_of}
 use Rattle.vol_body.specs.declared.pointer_sectors.PointerSectors.{PointerSectors}
 use Rattle.vol_body.specs.Body.{BlockPosition, data_block, double_indirect_block, named, block_bytes, NamesTaken, IsBody, SameSectors, IsSameFile}
 use Rattle.vol_body.specs.Change.{used_of, OthersStay, TakesAndGives}
-use Rattle.vol_body.specs.internal.Writing.{Mirrors, MirrorsAll, IsReady, SameRange, Changes, HasBlocks, IsBlockIn, IsPointer, WriteLeaves, segment, segment_of, image_of}
+use Rattle.vol_body.specs.internal.Writing.{Mirrors, MirrorsAll, IsReady, SameRange, ChangesPositions, HasBlocks, IsBlockIn, IsPointer, WriteLeaves, segment, segment_of, image_of}
 use Rattle.vol_body.proofs.Same.{same_file, same_bytes}
 use Rattle.vol_body.proofs.Changes.{stays_by, takes_same, takes_twice}
 use Rattle.vol_body.proofs.OneMore.{naming_of, naming_by, body_of, names_by_pointers}
@@ -51,7 +51,7 @@ entry_elsewhere b content after changed place bytes names lt is p there some =
 module _ (place offset : ℕ) (bytes first last spelled : List ℕ) (a b : Alloc) (content between after : Image) (e changed : Entry) (size : ℕ)
     (after_log : FIRST_AFTER_LOG ≤ place) (slot : place < first_of a) (range : SameRange a b) (small_before : e.size ≤ LARGEST_SIZE) (small : offset + length bytes ≤ LARGEST_SIZE) (some : 0 < length bytes)
     (size_is : size ≡ max e.size (offset + length bytes)) (body : IsBody content e) (names : NamesTaken (taken_of a) content e)
-    (changes : Changes a b content between (record e { size = size }) changed (λ p. IsBlockIn (offset / 512) ((offset + length bytes - 1) / 512 + 1) p ⊎ IsPointer p))
+    (changes : ChangesPositions a b content between (record e { size = size }) changed (λ p. IsBlockIn (offset / 512) ((offset + length bytes - 1) / 512 + 1) p ⊎ IsPointer p))
     (parts : HasBlocks between changed (offset / 512) ((offset + length bytes - 1) / 512 + 1) (image_of offset bytes first last))
     (is : after ≡ put place spelled between) where
   longer : Entry

@@ -16,7 +16,7 @@ use Rattle.vol_inode.specs.declared.entry.Entry.{Entry}
 use Rattle.vol_inode.specs.declared.version.TheConstants.{LARGEST_SIZE}
 use Rattle.vol_inode.specs.Space.{blocks_for_size, inner_blocks_for}
 use Rattle.vol_body.specs.Body.{BlockPosition, data_block, indirect_block, double_indirect_block, inner_block, IsPosition, named, positions_of, IsBody, NamesTaken, NamesOthers}
-use Rattle.vol_body.specs.Change.{Names, TakesAndGives, LosesNoSector, used_of}
+use Rattle.vol_body.specs.Change.{NamesSector, TakesAndGives, LosesNoSector, used_of}
 use Rattle.vol_body.specs.Survey.{nonzero}
 use Rattle.vol_body.proofs.Needed.{few, some, many, long_parts, place_is_there}
 use Rattle.vol_body.proofs.Repeats.{Numbered, numbered_append, numbered_made, numbered_one, names_distinct}
@@ -157,7 +157,7 @@ numbers_distinct : (content : Image) (e : Entry) → e.size ≤ LARGEST_SIZE →
 unfolding numbers_of
 numbers_distinct content e small body = names_distinct (place_of (blocks_for_size e.size)) (positions_of e.size) (numbered_positions e.size) (λ p has. All-contains IsPosition (positions_of e.size) p (are_places e.size small) has) content e body
 
-number_named : (content : Image) (e : Entry) (n : ℕ) → e.size ≤ LARGEST_SIZE → Contains (numbers_of content e) n → Names content e n
+number_named : (content : Image) (e : Entry) (n : ℕ) → e.size ≤ LARGEST_SIZE → Contains (numbers_of content e) n → NamesSector content e n
 unfolding numbers_of
 number_named content e n small has =
     let g = named content e in
@@ -196,7 +196,7 @@ flag_of a i =
 module _ (a b : Alloc) (content after : Image) (e changed : Entry) (some_first : 0 < first_of a) (range : (first_of b ≡ first_of a) × (end_of b ≡ end_of a)) (small : e.size ≤ LARGEST_SIZE)
     (names : NamesTaken (taken_of a) content e) (body : IsBody content e) (rules : IsBody after changed) (takes : TakesAndGives (taken_of a) (taken_of b) content after e changed) where
   -- a sector of the file was taken
-  was_taken : (n : ℕ) → Names content e n → taken_of a n ≡ true
+  was_taken : (n : ℕ) → NamesSector content e n → taken_of a n ≡ true
   was_taken n named_it =
       let p = named_it.position.0 in
       let is = named_it.position.2 in

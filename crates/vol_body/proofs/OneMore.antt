@@ -6,7 +6,7 @@ use Rattle.vol_sector.specs.Disk.{Image}
 use Rattle.vol_inode.specs.declared.entry.Entry.{Entry}
 use Rattle.vol_inode.specs.Space.{blocks_for_size}
 use Rattle.vol_body.specs.Body.{BlockPosition, data_block, indirect_block, double_indirect_block, inner_block, IsPosition, first_served, named, number_in, block_bytes, byte_at, IsBody, NamesTaken, NamesOthers}
-use Rattle.vol_body.specs.Change.{Names, OthersStay, TakesAndGives}
+use Rattle.vol_body.specs.Change.{NamesSector, OthersStay, TakesAndGives}
 use Rattle.vol_body.specs.internal.Naming.{IsNaming, NamesOneMore, SetsPointer, ListsOneMore}
 use Rattle.vol_body.proofs.Places.{number_there, bytes_there, part_direct, part_listed, part_later}
 use Rattle.vol_body.proofs.Same.{same_number, same_bytes}
@@ -335,13 +335,13 @@ module _ (content after : Image) (e changed : Entry) (p : BlockPosition) (n : �
     pub takes_one : NamesTaken taken content e → taken n ≡ false → named content e p ≡ 0 → IsPosition p → TakesAndGives taken now content after e changed
     takes_one names free none p_there = record { taken = names_taken_more names; fresh = fresh; given = given; others = others }
       where
-        fresh : (x : ℕ) → Names after changed x → NamesOthers content e x → taken x ≡ false
+        fresh : (x : ℕ) → NamesSector after changed x → NamesOthers content e x → taken x ≡ false
         fresh x one others = elim (named_now one.position.0 one.position.1) [
           | inl is ↦ ap taken (sym one.position.2 ∙ is) ∙ free
           | inr same ↦ absurd (others one.position.0 one.position.1 (sym same ∙ one.position.2))
         ]
 
-        given : (x : ℕ) → Names content e x → NamesOthers after changed x → now x ≡ false
+        given : (x : ℕ) → NamesSector content e x → NamesOthers after changed x → now x ≡ false
         given x one others = elim (same_place one.position.0 p) [
           | inl is ↦ absurd (one.some (sym one.position.2 ∙ ap (named content e) is ∙ none))
           | inr not ↦ absurd (others one.position.0 one.position.1 (more.rest one.position.0 one.position.1 not ∙ one.position.2))

@@ -10,7 +10,7 @@ use Rattle.vol_body.specs.declared.truncation.Truncation.{Truncation}
 use Rattle.vol_body.specs.Body.{BlockPosition, data_block, indirect_block, double_indirect_block, inner_block, IsPosition, first_served, named, bytes_of, IsBody, NamesTaken}
 use Rattle.vol_body.specs.Bytes.{resized_bytes}
 use Rattle.vol_body.specs.Change.{OthersStay, TakesAndGives}
-use Rattle.vol_body.specs.internal.Truncated.{kept_bytes, cut_data_block, cut_segment, cut, IsCut, IsTruncation, AreWithin, with_cut, with_truncation, Frees, IsFreed}
+use Rattle.vol_body.specs.internal.Truncated.{kept_bytes, cut_data_block, cut_segment, zeroed_from, IsCut, IsTruncation, AreWithin, with_cut, with_truncation, Frees, IsFreed}
 use Rattle.vol_body.specs.internal.Writing.{segment, segment_of}
 use Rattle.vol_inode.specs.Entry.{first_block_of_pointer}
 use Rattle.vol_body.proofs.Parts.{length-bytes_of, get_or-bytes_of}
@@ -97,7 +97,7 @@ module _ (size place first end : ℕ) (content : Image) (e changed : Entry) (tru
 
   -- each of the three sectors is cut
   abbrev IsCutAt : BlockPosition → Type 0
-  IsCutAt p = named content e p ≢ 0 → 0 < kept_bytes size p → kept_bytes size p < 512 → with_truncation truncation content (named content e p) ≡ cut (kept_bytes size p) (content (named content e p))
+  IsCutAt p = named content e p ≢ 0 → 0 < kept_bytes size p → kept_bytes size p < 512 → with_truncation truncation content (named content e p) ≡ zeroed_from (kept_bytes size p) (content (named content e p))
 
   cuts_part : IsCutAt (cut_data_block size)
   cuts_part some kept short =

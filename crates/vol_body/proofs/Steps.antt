@@ -12,7 +12,7 @@ use Rattle.vol_alloc.specs.Alloc.{first_of, end_of, taken_of}
 use Rattle.vol_alloc.specs.declared.sectors.Alloc.{Alloc}
 use Rattle.vol_inode.specs.declared.entry.Entry.{Entry}
 use Rattle.vol_body.specs.Body.{BlockPosition, data_block, indirect_block, double_indirect_block, inner_block, IsPosition, named, number_in, block_bytes}
-use Rattle.vol_body.specs.internal.Writing.{ListedAt, IsBlank, Mirrors, IsReady, SamePlace, Changes, IsBlockIn, IsPointer, HasBlocks, OnlyPuts, SameRange, segment, placed}
+use Rattle.vol_body.specs.internal.Writing.{ListedAt, IsBlank, Mirrors, IsReady, SamePlace, ChangesPositions, IsBlockIn, IsPointer, HasBlocks, OnlyPuts, SameRange, segment, staged_count}
 use Rattle.vol_body.proofs.Listed.{number_of_bytes}
 use Rattle.vol_body.proofs.Changes.{takes_same, stays_same}
 use Rattle.vol_body.proofs.Places.{part_listed, part_later, bytes_there}
@@ -52,7 +52,7 @@ taken_range a n is = elim (cases_lt n a.first) [
     second_one n m b le = grind (arith, nat_tests)
 
 -- the sector that another position is listed in keeps its position
-pub holder_stays : (a b : Alloc) (content after : Image) (e : Entry) (q p : BlockPosition) (i : ℕ) → ListedAt q i p → Changes a b content after e e (λ x. (x ≡ p) ⊎ (x ≡ q)) → named after e q ≡ named content e q
+pub holder_stays : (a b : Alloc) (content after : Image) (e : Entry) (q p : BlockPosition) (i : ℕ) → ListedAt q i p → ChangesPositions a b content after e e (λ x. (x ≡ p) ⊎ (x ≡ q)) → named after e q ≡ named content e q
 holder_stays a b content after e indirect_block p i at changes = refl
 holder_stays a b content after e double_indirect_block p i at changes = refl
 holder_stays a b content after e (data_block j) p i at changes = absurd at
@@ -93,7 +93,7 @@ module _ {D : Type 0} {g : Ghosts D} where
   pub puts_none : (a : Log D g) → OnlyPuts a a
   puts_none a = record { device = refl; sectors = refl; failed = refl; staged = λ n is. is }
 
-  pub placed_most : (log : Log D g) (n : ℕ) → placed log n ≤ 1
+  pub placed_most : (log : Log D g) (n : ℕ) → staged_count log n ≤ 1
   placed_most log n = most (n == 0) (is_staged log n)
     where
       most : (b c : Bool) → (if b then 0 else (if c then 1 else 0)) ≤ 1
@@ -101,14 +101,14 @@ module _ {D : Type 0} {g : Ghosts D} where
       most false true = omega arith
       most false false = omega arith
 
-  pub placed_one : (log : Log D g) (n : ℕ) → n ≢ 0 → is_staged log n ≡ true → placed log n ≡ 1
+  pub placed_one : (log : Log D g) (n : ℕ) → n ≢ 0 → is_staged log n ≡ true → staged_count log n ≡ 1
   placed_one log n some is = pick n (is_staged log n) some is
     where
       pick : (n : ℕ) (b : Bool) → n ≢ 0 → b ≡ true → ◌≡◌ {A = ℕ} (if n == 0 then 0 else (if b then 1 else 0)) 1
       pick n b some is = grind (arith, nat_tests)
 
   -- what has a position keeps it
-  pub placed_stays : (old new : Log D g) (n : ℕ) → (is_staged old n ≡ true → is_staged new n ≡ true) → placed old n ≤ placed new n
+  pub placed_stays : (old new : Log D g) (n : ℕ) → (is_staged old n ≡ true → is_staged new n ≡ true) → staged_count old n ≤ staged_count new n
   placed_stays old new n stays = pick (n == 0) (is_staged old n) (is_staged new n) stays
     where
       pick : (z b c : Bool) → (b ≡ true → c ≡ true) → (if z then 0 else (if b then 1 else 0)) ≤ (if z then 0 else (if c then 1 else 0))
@@ -118,7 +118,7 @@ module _ {D : Type 0} {g : Ghosts D} where
       pick false true false stays = absurd (false≢true (stays refl))
 
   -- a sector that is staged takes a position, or had one
-  pub room_placed : (old new : Log D g) (n room now : ℕ) → n ≢ 0 → is_staged new n ≡ true → now ≡ (if is_staged old n then room else room - 1) → room + placed old n ≤ now + placed new n
+  pub room_placed : (old new : Log D g) (n room now : ℕ) → n ≢ 0 → is_staged new n ≡ true → now ≡ (if is_staged old n then room else room - 1) → room + staged_count old n ≤ now + staged_count new n
   room_placed old new n room now some is left =
       let one = placed_one new n some is in
       let least = count n (is_staged old n) room now some left in
@@ -132,7 +132,7 @@ pub bytes_mirrored : (content : Image) (e : Entry) (p : BlockPosition) (number :
 bytes_mirrored content e p number image mirror = ap (block_bytes content) (sym mirror.names) ∙ sym mirror.bytes
 
 -- a change at fewer positions
-pub changes_wider : (a b : Alloc) (content after : Image) (e changed : Entry) (One Other : BlockPosition → Type 0) → ((p : BlockPosition) → One p → Other p) → Changes a b content after e changed One → Changes a b content after e changed Other
+pub changes_wider : (a b : Alloc) (content after : Image) (e changed : Entry) (One Other : BlockPosition → Type 0) → ((p : BlockPosition) → One p → Other p) → ChangesPositions a b content after e changed One → ChangesPositions a b content after e changed Other
 changes_wider a b content after e changed One Other inside changes = record {
   ready = changes.ready;
   others = changes.others;
@@ -170,7 +170,7 @@ part_mirrored content e q i j number image at lt mirror =
 
 -- a data block's sector is written over
 pub part_over : (a : Alloc) (content after : Image) (e : Entry) (j n : ℕ) (image : List ℕ) → IsReady a content e → j < 16570 → n ≡ named content e (data_block j) → n ≢ 0 → taken_of a n ≡ true → after ≡ put n image content
-    → Changes a a content after e e (λ q. q ≡ data_block j) × (block_bytes after (named after e (data_block j)) ≡ image)
+    → ChangesPositions a a content after e e (λ q. q ≡ data_block j) × (block_bytes after (named after e (data_block j)) ≡ image)
 part_over a content after e j n image ready lt is some taken writes =
     let stays = λ (x : ℕ) (other : x ≢ n). ap (λ (m : Image). m x) writes ∙ put_other n x image content other in
     let range = taken_range a n taken in
@@ -203,7 +203,7 @@ part_in_all from to j double_indirect_block few there = there
 part_in_all from to j (inner_block i) few there = there
 
 -- one more data block has its bytes
-pub parts_more : (b c : Alloc) (c1 c2 : Image) (e1 e2 : Entry) (Touched : BlockPosition → Type 0) (from j : ℕ) (image : ℕ → List ℕ) → Changes b c c1 c2 e1 e2 Touched → ((k : ℕ) → k < j → Touched (data_block k) → ⊥) → j < 16570
+pub parts_more : (b c : Alloc) (c1 c2 : Image) (e1 e2 : Entry) (Touched : BlockPosition → Type 0) (from j : ℕ) (image : ℕ → List ℕ) → ChangesPositions b c c1 c2 e1 e2 Touched → ((k : ℕ) → k < j → Touched (data_block k) → ⊥) → j < 16570
     → HasBlocks c1 e1 from j image → block_bytes c2 (named c2 e2 (data_block j)) ≡ image j → HasBlocks c2 e2 from (j + 1) image
 parts_more b c c1 c2 e1 e2 Touched from j image changes apart small so_far here k le lt = elim (cases_lt k j) [
   | inl before ↦ (changes.stays (data_block k) (omega arith) (apart k before)).bytes ∙ so_far k le before
@@ -233,13 +233,13 @@ range_then a b c one two = record { first = two.first ∙ one.first; end = two.e
 
 -- one change after another, over the same range of sectors
 pub changes_then : (a b c : Alloc) (c0 c1 c2 : Image) (e0 e1 e2 : Entry) (One Other Both : BlockPosition → Type 0) → FIRST_AFTER_LOG ≤ first_of a → SameRange a b → SameRange b c
-    → ((p : BlockPosition) → One p → Both p) → ((p : BlockPosition) → Other p → Both p) → Changes a b c0 c1 e0 e1 One → Changes b c c1 c2 e1 e2 Other → Changes a c c0 c2 e0 e2 Both
+    → ((p : BlockPosition) → One p → Both p) → ((p : BlockPosition) → Other p → Both p) → ChangesPositions a b c0 c1 e0 e1 One → ChangesPositions b c c1 c2 e1 e2 Other → ChangesPositions a c c0 c2 e0 e2 Both
 changes_then a b c c0 c1 c2 e0 e1 e2 One Other Both after_log range further one_in other_in one other =
     let still : FIRST_AFTER_LOG ≤ first_of c = omega (arith, after_log, range.first, further.first) in
     changes_twice a b c c0 c1 c2 e0 e1 e2 One Other Both (none_taken a after_log) (none_taken c still) range.first range.end one_in other_in one other
 
 -- nothing changes
-pub changes_none : (a : Alloc) (content : Image) (e : Entry) (Touched : BlockPosition → Type 0) → IsReady a content e → Changes a a content content e e Touched
+pub changes_none : (a : Alloc) (content : Image) (e : Entry) (Touched : BlockPosition → Type 0) → IsReady a content e → ChangesPositions a a content content e e Touched
 changes_none a content e Touched ready = record {
   ready = ready;
   others = λ place. stays_same place (first_of a) (end_of a) (taken_of a) content e;

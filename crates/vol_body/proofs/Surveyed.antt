@@ -12,7 +12,7 @@ use Rattle.vol_inode.specs.declared.entry.Entry.{Entry}
 use Rattle.vol_inode.specs.Entry.{UnusedPointersAreZero}
 use Rattle.vol_inode.specs.Space.{blocks_for_size}
 use Rattle.vol_body.specs.Body.{BlockPosition, data_block, indirect_block, double_indirect_block, inner_block, IsPosition, named, number_in, block_bytes, byte_at, IsBody}
-use Rattle.vol_body.specs.Change.{Names}
+use Rattle.vol_body.specs.Change.{NamesSector}
 use Rattle.vol_body.specs.Survey.{data_blocks_from, inner_positions, all_inner_positions, every_position, nonzero, sectors_named, AreInside, IsTrimmed}
 use Rattle.vol_body.specs.internal.Surveying.{listed, with_listed, all_listed, ListsNoneFrom, LaterNone, NamesNonePast, NamesBelow, EndsInZeros}
 use Rattle.vol_body.proofs.Places.{part_direct, part_listed, part_later}
@@ -247,7 +247,7 @@ was_there (x ∷ xs) n has = elim (Contains-append_cases (nonzero (x ∷ [])) (n
         let at_zero : Contains (nonzero (0 ∷ [])) n = subst (λ (y : ℕ). Contains (nonzero (y ∷ [])) n) none has in
         omega (arith, at_zero.1)
 
-pub stands_named : (content : Image) (e : Entry) (n : ℕ) → Contains (sectors_named content e) n → Names content e n
+pub stands_named : (content : Image) (e : Entry) (n : ℕ) → Contains (sectors_named content e) n → NamesSector content e n
 stands_named content e n has =
     let g = named content e in
     let there = was_there (map g every_position) n has in

@@ -7,7 +7,7 @@ use Rattle.vol_sector.specs.Disk.{Image}
 use Rattle.vol_inode.specs.declared.entry.Entry.{Entry}
 use Rattle.vol_inode.specs.Space.{blocks_for_size, inner_blocks_for}
 use Rattle.vol_body.specs.Body.{BlockPosition, data_block, indirect_block, double_indirect_block, inner_block, IsPosition, first_served, named, number_in, block_bytes, byte_at}
-use Rattle.vol_body.specs.internal.Truncated.{kept_bytes, cut}
+use Rattle.vol_body.specs.internal.Truncated.{kept_bytes, zeroed_from}
 use Rattle.vol_inode.specs.Entry.{first_block_of_pointer}
 use Rattle.vol_body.proofs.Places.{number_there, bytes_there, part_direct, part_listed, part_later}
 use Rattle.vol_body.proofs.Zeros.{get_or-zeros, get_or-cut, get_or-cut_past, number-cut, number-cut_past}
@@ -18,7 +18,7 @@ pub record IsTruncated (size : ℕ) (content after : Image) (e changed : Entry) 
   pub pointers : (j : ℕ) → j < 60 → get_or changed.pointers j 0 ≡ (if nat_lt (first_block_of_pointer j) (blocks_for_size size) then get_or e.pointers j 0 else 0)
   pub whole : (p : BlockPosition) → IsPosition p → named content e p ≢ 0 → kept_bytes size p ≡ 512 → after (named content e p) ≡ content (named content e p)
   pub cut : (p : BlockPosition) → IsPosition p → named content e p ≢ 0 → 0 < kept_bytes size p → kept_bytes size p < 512
-      → after (named content e p) ≡ cut (kept_bytes size p) (content (named content e p))
+      → after (named content e p) ≡ zeroed_from (kept_bytes size p) (content (named content e p))
 
 take_first : (a b x y : ℕ) → a < b → (if nat_lt a b then x else y) ≡ x
 take_first a b x y lt = grind (arith, nat_tests)

@@ -6,7 +6,7 @@ use Rattle.std.proofs.lemmas.List.{ext_get_or, length-append, length-take-le, le
 use Rattle.vol_sector.specs.Disk.{Image}
 use Rattle.vol_inode.specs.declared.entry.Entry.{Entry}
 use Rattle.vol_body.specs.Body.{data_block, named, block_bytes, byte_at, bytes_of, IsBody}
-use Rattle.vol_body.specs.Bytes.{extended, written_bytes}
+use Rattle.vol_body.specs.Bytes.{zero_extended, written_bytes}
 use Rattle.vol_body.specs.internal.Writing.{image_of}
 use Rattle.vol_body.proofs.Parts.{length-bytes_of, get_or-bytes_of}
 use Rattle.vol_inode.specs.declared.version.TheConstants.{LARGEST_SIZE}
@@ -169,20 +169,20 @@ module _ (content after : Image) (e changed : Entry) (offset : ℕ) (bytes first
 
 -- the bytes with new ones at an offset, one by one
 module _ (old : List ℕ) (offset b : ℕ) (bs : List ℕ) where
-  front_is : length (take offset (extended offset old)) ≡ offset
-  front_is = length-take-le offset (extended offset old) (omega (arith, length-append old (replicate (offset - length old) 0), length-replicate {A = ℕ} (offset - length old) 0))
+  front_is : length (take offset (zero_extended offset old)) ≡ offset
+  front_is = length-take-le offset (zero_extended offset old) (omega (arith, length-append old (replicate (offset - length old) 0), length-replicate {A = ℕ} (offset - length old) 0))
 
-  upto_is : length (take offset (extended offset old) ++ (b ∷ bs)) ≡ offset + length (b ∷ bs)
-  upto_is = omega (arith, length-append (take offset (extended offset old)) (b ∷ bs), front_is)
+  upto_is : length (take offset (zero_extended offset old) ++ (b ∷ bs)) ≡ offset + length (b ∷ bs)
+  upto_is = omega (arith, length-append (take offset (zero_extended offset old)) (b ∷ bs), front_is)
 
   pub length-written : length (written_bytes old offset (b ∷ bs)) ≡ max (length old) (offset + length (b ∷ bs))
-  length-written = omega (arith, upto_is, length-append (take offset (extended offset old) ++ (b ∷ bs)) (drop (offset + length (b ∷ bs)) old), length-drop (offset + length (b ∷ bs)) old)
+  length-written = omega (arith, upto_is, length-append (take offset (zero_extended offset old) ++ (b ∷ bs)) (drop (offset + length (b ∷ bs)) old), length-drop (offset + length (b ∷ bs)) old)
 
-  written_before : (k : ℕ) → k < offset → get_or (written_bytes old offset (b ∷ bs)) k 0 ≡ get_or (extended offset old) k 0
+  written_before : (k : ℕ) → k < offset → get_or (written_bytes old offset (b ∷ bs)) k 0 ≡ get_or (zero_extended offset old) k 0
   written_before k lt =
-      get_or_append_left (take offset (extended offset old) ++ (b ∷ bs)) (drop (offset + length (b ∷ bs)) old) 0 k (omega (arith, upto_is))
-      ∙ get_or_append_left (take offset (extended offset old)) (b ∷ bs) 0 k (omega (arith, front_is))
-      ∙ get_or-take offset (extended offset old) k 0 lt
+      get_or_append_left (take offset (zero_extended offset old) ++ (b ∷ bs)) (drop (offset + length (b ∷ bs)) old) 0 k (omega (arith, upto_is))
+      ∙ get_or_append_left (take offset (zero_extended offset old)) (b ∷ bs) 0 k (omega (arith, front_is))
+      ∙ get_or-take offset (zero_extended offset old) k 0 lt
 
   written_old : (k : ℕ) → k < offset → k < length old → get_or (written_bytes old offset (b ∷ bs)) k 0 ≡ get_or old k 0
   written_old k lt short = written_before k lt ∙ get_or_append_left old (replicate (offset - length old) 0) 0 k short
@@ -195,13 +195,13 @@ module _ (old : List ℕ) (offset b : ℕ) (bs : List ℕ) where
 
   written_in : (k : ℕ) → offset ≤ k → k < offset + length (b ∷ bs) → get_or (written_bytes old offset (b ∷ bs)) k 0 ≡ get_or (b ∷ bs) (k - offset) 0
   written_in k le lt =
-      get_or_append_left (take offset (extended offset old) ++ (b ∷ bs)) (drop (offset + length (b ∷ bs)) old) 0 k (omega (arith, upto_is))
-      ∙ get_or-append_right (take offset (extended offset old)) (b ∷ bs) offset k 0 front_is le
+      get_or_append_left (take offset (zero_extended offset old) ++ (b ∷ bs)) (drop (offset + length (b ∷ bs)) old) 0 k (omega (arith, upto_is))
+      ∙ get_or-append_right (take offset (zero_extended offset old)) (b ∷ bs) offset k 0 front_is le
 
   written_beyond : (k : ℕ) → offset + length (b ∷ bs) ≤ k → get_or (written_bytes old offset (b ∷ bs)) k 0 ≡ get_or old k 0
   written_beyond k le =
       let back : offset + length (b ∷ bs) + (k - (offset + length (b ∷ bs))) ≡ k = omega arith in
-      get_or-append_right (take offset (extended offset old) ++ (b ∷ bs)) (drop (offset + length (b ∷ bs)) old) (offset + length (b ∷ bs)) k 0 upto_is le
+      get_or-append_right (take offset (zero_extended offset old) ++ (b ∷ bs)) (drop (offset + length (b ∷ bs)) old) (offset + length (b ∷ bs)) k 0 upto_is le
       ∙ get_or-drop (offset + length (b ∷ bs)) old (k - (offset + length (b ∷ bs))) 0
       ∙ ap (λ (x : ℕ). get_or old x 0) back
 

@@ -2,14 +2,14 @@
 use Rattle.std.specs.Prelude.{◌-◌, ◌+◌, ◌++◌, ℕ, List, [], ◌∷◌, length, take, drop, replicate}
 
 -- the bytes with zeros after them, up to a length
-abbrev pub extended : ℕ → List ℕ → List ℕ
-extended size bytes = bytes ++ replicate (size - length bytes) 0
+abbrev pub zero_extended : ℕ → List ℕ → List ℕ
+zero_extended size bytes = bytes ++ replicate (size - length bytes) 0
 
 -- the bytes, cut or with zeros after them
 abbrev pub resized_bytes : ℕ → List ℕ → List ℕ
-resized_bytes size bytes = take size (extended size bytes)
+resized_bytes size bytes = take size (zero_extended size bytes)
 
 -- new bytes at an offset, a gap before them as zeros; no bytes change nothing
 abbrev pub written_bytes : List ℕ → ℕ → List ℕ → List ℕ
 written_bytes old offset [] = old
-written_bytes old offset (byte ∷ bytes) = take offset (extended offset old) ++ (byte ∷ bytes) ++ drop (offset + length (byte ∷ bytes)) old
+written_bytes old offset (byte ∷ bytes) = take offset (zero_extended offset old) ++ (byte ∷ bytes) ++ drop (offset + length (byte ∷ bytes)) old

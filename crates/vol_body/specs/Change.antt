@@ -17,7 +17,7 @@ use Rattle.vol_inode.specs.Spelling.{spelling}
 use Rattle.vol_body.specs.Body.{BlockPosition, IsPosition, named, positions_of, bytes_of, NamesTaken, NamesOthers, IsBody}
 
 -- the file names this sector
-pub record Names (content : Image) (e : Entry) (n : ℕ) : Type 0 where
+pub record NamesSector (content : Image) (e : Entry) (n : ℕ) : Type 0 where
   pub some : n ≢ 0
   pub position : (p : BlockPosition) × IsPosition p × (named content e p ≡ n)
 
@@ -35,9 +35,9 @@ pub record OthersStay (inode_sector first end : ℕ) (is_taken : ℕ → Bool) (
 pub record TakesAndGives (before now : ℕ → Bool) (content after : Image) (e changed : Entry) : Type 0 where
   -- what the file names now is taken; where it did not name it before, it was free
   pub taken : NamesTaken now after changed
-  pub fresh : (n : ℕ) → Names after changed n → NamesOthers content e n → before n ≡ false
+  pub fresh : (n : ℕ) → NamesSector after changed n → NamesOthers content e n → before n ≡ false
   -- what it names no more is free
-  pub given : (n : ℕ) → Names content e n → NamesOthers after changed n → now n ≡ false
+  pub given : (n : ℕ) → NamesSector content e n → NamesOthers after changed n → now n ≡ false
   -- all others stay
   pub others : (n : ℕ) → NamesOthers content e n → NamesOthers after changed n → now n ≡ before n
 

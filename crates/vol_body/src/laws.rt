@@ -7,7 +7,7 @@ ghost use Rattle.vol_inode.specs.Space.{need_of};
 ghost use Rattle.vol_inode.specs.declared.entry.Entry.{Entry};
 ghost use Rattle.vol_body.specs.Body.{BlockPosition, IsPosition, named, positions_of, bytes_of};
 ghost use Rattle.vol_body.specs.Body.{IsBody, SameSectors, IsSameFile};
-ghost use Rattle.vol_body.specs.Change.{Names};
+ghost use Rattle.vol_body.specs.Change.{NamesSector};
 ghost use Rattle.vol_alloc.specs.Numbers.{AreDistinct};
 ghost use Rattle.vol_body.specs.Survey.{sectors_named, IsTrimmed};
 ghost use Rattle.vol_inode.specs.declared.version.TheConstants.{LARGEST_SIZE};
@@ -36,7 +36,7 @@ pub fn survey_has_what_is_named()
     ensures each { (content : Image) (e : Entry) (p : BlockPosition) → IsPosition p → named content e p ≢ 0
         → Contains (sectors_named content e) (named content e p) }
     ensures only { (content : Image) (e : Entry) (n : ℕ) → Contains (sectors_named content e) n
-        → Names content e n }
+        → NamesSector content e n }
 {}
 
 /// A law: where a survey has no number twice and the file is trimmed, it keeps the rules on its

@@ -7,7 +7,7 @@ ghost use Rattle.vol_sector.specs.Disk.{Image};
 ghost use Rattle.vol_inode.specs.declared.entry.Entry.{Entry};
 ghost use Rattle.vol_body.specs.Body.{NamesTaken, double_indirect_block, named, block_bytes};
 ghost use Rattle.vol_log.specs.Reading.{OnlyReads};
-ghost use Rattle.vol_body.specs.internal.Truncated.{kept_bytes, cut, IsCut, with_cut, cut_data_block, cut_segment};
+ghost use Rattle.vol_body.specs.internal.Truncated.{kept_bytes, zeroed_from, IsCut, with_cut, cut_data_block, cut_segment};
 ghost use Rattle.vol_body.specs.internal.Truncated.{IsTruncation, AreWithin, with_truncation};
 ghost use Rattle.vol_body.specs.internal.Writing.{segment_of};
 ghost use Rattle.vol_body.specs.internal.Holding.{IsHeld, KnowsHeld};
@@ -43,7 +43,7 @@ pub struct Truncation {
 /// The bytes before a place, and zeros from it on.
 fn cut_at(image: &[u8; 512], kept: usize) -> [u8; 512]
     requires { kept ≤ 512 }
-    ensures { result ≡ cut kept image.now }
+    ensures { result ≡ zeroed_from kept image.now }
 {
     let mut cut = [0; 512];
     cut[..kept].copy_from_slice(&image[..kept]);

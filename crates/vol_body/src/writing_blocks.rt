@@ -6,8 +6,8 @@ ghost use Rattle.vol_alloc.specs.Alloc.{taken_of};
 ghost use Rattle.vol_inode.specs.Space.{blocks_for_size};
 ghost use Rattle.vol_inode.specs.declared.entry.Entry.{Entry};
 ghost use Rattle.vol_body.specs.Body.{BlockPosition, data_block, IsPosition, named, block_bytes};
-ghost use Rattle.vol_body.specs.internal.Writing.{Mirrors, IsReady, IsMissing, Changes, Adds, OnlyPuts};
-ghost use Rattle.vol_body.specs.internal.Writing.{CanStage, IsKnown, SameRange, PointedAt, ListedAt, IsBlank, placed};
+ghost use Rattle.vol_body.specs.internal.Writing.{Mirrors, IsReady, IsMissing, ChangesPositions, AddsSector, OnlyPuts};
+ghost use Rattle.vol_body.specs.internal.Writing.{CanStage, IsKnown, SameRange, PointedAt, ListedAt, IsBlank, staged_count};
 ghost use Rattle.vol_inode.specs.declared.pointers.TheConstants.{DIRECT, MOST_BLOCKS, NUMBERS};
 
 use crate::locate::{number_at, taken_or_zero};
@@ -31,12 +31,12 @@ pub fn add_pointer<D: Device>(
     requires room { 0 < room_of log.old }
     ensures added { (p : BlockPosition) → PointedAt slot p → IsBlank p image.now
         → IsMissing sectors.old (view log.old) entry.old p
-        → Adds sectors.old sectors.new (view log.old) (view log.new) entry.old entry.new
+        → AddsSector sectors.old sectors.new (view log.old) (view log.new) entry.old entry.new
         (λ q. q ≡ p) p result image.now }
     ensures known { IsKnown sectors.new result }
     ensures keeps { (n : ℕ) → taken_of sectors.old n ≡ true → taken_of sectors.new n ≡ true }
     ensures entry { entry.new ≡ record entry.old { pointers = entry.new.pointers } }
-    ensures room { room_of log.old ≤ room_of log.new + placed log.new result }
+    ensures room { room_of log.old ≤ room_of log.new + staged_count log.new result }
     ensures puts { OnlyPuts log.old log.new }
     ensures range { SameRange sectors.old sectors.new }
 {
@@ -65,14 +65,14 @@ pub fn add_number<D: Device>(
     ensures added { (e : Entry) (q p : BlockPosition) → ListedAt q i p → IsPosition q → IsPosition p
         → IsBlank p image.now → IsMissing sectors.old (view log.old) e p
         → Mirrors (view log.old) e q above.old.number above.old.image
-        → Adds sectors.old sectors.new (view log.old) (view log.new) e e
+        → AddsSector sectors.old sectors.new (view log.old) (view log.new) e e
         (λ x. (x ≡ p) ⊎ (x ≡ q)) p result image.now
         × Mirrors (view log.new) e q above.new.number above.new.image }
     ensures known { IsKnown sectors.new result }
     ensures keeps { (n : ℕ) → taken_of sectors.old n ≡ true → taken_of sectors.new n ≡ true }
     ensures number { above.new.number ≡ above.old.number }
-    ensures room { room_of log.old + placed log.old above.old.number
-        ≤ room_of log.new + placed log.new above.old.number + placed log.new result }
+    ensures room { room_of log.old + staged_count log.old above.old.number
+        ≤ room_of log.new + staged_count log.new above.old.number + staged_count log.new result }
     ensures puts { OnlyPuts log.old log.new }
     ensures range { SameRange sectors.old sectors.new }
 {
@@ -99,7 +99,7 @@ pub fn write_direct_block<D: Device>(
     requires can { CanStage log.old sectors.old }
     requires room { 0 < room_of log.old }
     ensures written { IsReady sectors.old (view log.old) entry.old → j < blocks_for_size entry.old.size
-        → Changes sectors.old sectors.new (view log.old) (view log.new) entry.old entry.new
+        → ChangesPositions sectors.old sectors.new (view log.old) (view log.new) entry.old entry.new
         (λ q. q ≡ data_block j)
         × (block_bytes (view log.new) (named (view log.new) entry.new (data_block j)) ≡ image.now) }
     ensures keeps { (n : ℕ) → taken_of sectors.old n ≡ true → taken_of sectors.new n ≡ true }
@@ -131,14 +131,14 @@ pub fn write_listed_block<D: Device>(
     ensures written { (e : Entry) (q : BlockPosition) (j : ℕ) → ListedAt q i (data_block j) → IsPosition q
         → j < MOST_BLOCKS → j < blocks_for_size e.size → IsReady sectors.old (view log.old) e
         → Mirrors (view log.old) e q above.old.number above.old.image
-        → Changes sectors.old sectors.new (view log.old) (view log.new) e e
+        → ChangesPositions sectors.old sectors.new (view log.old) (view log.new) e e
         (λ x. (x ≡ data_block j) ⊎ (x ≡ q))
         × (block_bytes (view log.new) (named (view log.new) e (data_block j)) ≡ image.now)
         × Mirrors (view log.new) e q above.new.number above.new.image }
     ensures keeps { (n : ℕ) → taken_of sectors.old n ≡ true → taken_of sectors.new n ≡ true }
     ensures number { above.new.number ≡ above.old.number }
-    ensures room { room_of log.old + placed log.old above.old.number
-        ≤ room_of log.new + placed log.new above.old.number + 1 }
+    ensures room { room_of log.old + staged_count log.old above.old.number
+        ≤ room_of log.new + staged_count log.new above.old.number + 1 }
     ensures puts { OnlyPuts log.old log.new }
     ensures range { SameRange sectors.old sectors.new }
 {

@@ -6,9 +6,9 @@ ghost use Rattle.vol_alloc.specs.Alloc.{taken_of};
 ghost use Rattle.vol_inode.specs.Space.{blocks_for_size};
 ghost use Rattle.vol_inode.specs.declared.entry.Entry.{Entry};
 ghost use Rattle.vol_body.specs.Body.{BlockPosition, double_indirect_block, first_served};
-ghost use Rattle.vol_body.specs.internal.Writing.{Mirrors, IsReady, Changes, Adds, IsBlockIn, HasBlocks};
+ghost use Rattle.vol_body.specs.internal.Writing.{Mirrors, IsReady, ChangesPositions, AddsSector, IsBlockIn, HasBlocks};
 ghost use Rattle.vol_body.specs.internal.Writing.{CanStage, AreTouched, AreListed, IsKnown};
-ghost use Rattle.vol_body.specs.internal.Writing.{OnlyPuts, SameRange, segment, placed, image_of};
+ghost use Rattle.vol_body.specs.internal.Writing.{OnlyPuts, SameRange, segment, staged_count, image_of};
 ghost use Rattle.vol_body.specs.internal.Writing.{MirrorsAll, KnowsAll, IsPointer, PointedAt};
 ghost use Rattle.vol_inode.specs.declared.pointers.TheConstants.{MOST_BLOCKS};
 
@@ -41,7 +41,7 @@ pub fn write_blocks<D: Device>(
     requires known { KnowsAll sectors.old all.old }
     ensures written { IsReady sectors.old (view log.old) entry.old → last < blocks_for_size entry.old.size
         → MirrorsAll (view log.old) entry.old all.old first last
-        → Changes sectors.old sectors.new (view log.old) (view log.new) entry.old entry.new
+        → ChangesPositions sectors.old sectors.new (view log.old) (view log.new) entry.old entry.new
         (λ p. IsBlockIn first (last + 1) p ⊎ IsPointer p)
         × HasBlocks (view log.new) entry.new first (last + 1)
         (image_of piece.now.offset bytes.now piece.now.first piece.now.last) }
@@ -102,7 +102,7 @@ fn write_direct<D: Device>(
     requires room { to - from ≤ room_of log.old }
     requires touched { AreTouched piece.now.offset (length bytes.now) from to }
     ensures written { IsReady sectors.old (view log.old) entry.old → to ≤ blocks_for_size entry.old.size
-        → Changes sectors.old sectors.new (view log.old) (view log.new) entry.old entry.new
+        → ChangesPositions sectors.old sectors.new (view log.old) (view log.new) entry.old entry.new
         (IsBlockIn from to)
         × HasBlocks (view log.new) entry.new from to
         (image_of piece.now.offset bytes.now piece.now.first piece.now.last) }
@@ -133,14 +133,14 @@ fn write_segment<D: Device>(
     to: u32,
 )
     requires can { CanStage log.old sectors.old }
-    requires room { to - from + 3 ≤ room_of log.old + placed log.old all.old.number }
+    requires room { to - from + 3 ≤ room_of log.old + staged_count log.old all.old.number }
     requires listed { AreListed (DIRECT + NUMBERS * group) from to }
     requires touched { AreTouched piece.now.offset (length bytes.now) from to }
     requires known { IsKnown sectors.old above.old.number × IsKnown sectors.old all.old.number }
     ensures written { IsReady sectors.old (view log.old) entry.old → to ≤ blocks_for_size entry.old.size
         → (from < to → Mirrors (view log.old) entry.old (segment group) above.old.number above.old.image)
         → (LISTED < to → Mirrors (view log.old) entry.old double_indirect_block all.old.number all.old.image)
-        → Changes sectors.old sectors.new (view log.old) (view log.new) entry.old entry.new
+        → ChangesPositions sectors.old sectors.new (view log.old) (view log.new) entry.old entry.new
         (λ p. IsBlockIn from to p ⊎ ((p ≡ segment group) ⊎ (p ≡ double_indirect_block)))
         × HasBlocks (view log.new) entry.new from to
         (image_of piece.now.offset bytes.now piece.now.first piece.now.last)
@@ -149,8 +149,8 @@ fn write_segment<D: Device>(
     ensures keeps { (n : ℕ) → taken_of sectors.old n ≡ true → taken_of sectors.new n ≡ true }
     ensures known_all { IsKnown sectors.new all.new.number }
     ensures entry { entry.new ≡ record entry.old { pointers = entry.new.pointers } }
-    ensures room { room_of log.old + placed log.old all.old.number
-        ≤ room_of log.new + placed log.new all.new.number + (to - from) + 1 }
+    ensures room { room_of log.old + staged_count log.old all.old.number
+        ≤ room_of log.new + staged_count log.new all.new.number + (to - from) + 1 }
     ensures puts { OnlyPuts log.old log.new }
     ensures range { SameRange sectors.old sectors.new }
 {
@@ -186,19 +186,19 @@ fn write_listed<D: Device>(
 )
     requires can { CanStage log.old sectors.old }
     requires known { taken_of sectors.old above.old.number ≡ true }
-    requires room { to - from + 2 ≤ room_of log.old + placed log.old above.old.number }
+    requires room { to - from + 2 ≤ room_of log.old + staged_count log.old above.old.number }
     requires listed { AreListed start from to }
     requires touched { AreTouched piece.now.offset (length bytes.now) from to }
     ensures written { (e : Entry) (g : ℕ) → start ≡ DIRECT + NUMBERS * g → to ≤ blocks_for_size e.size
         → IsReady sectors.old (view log.old) e
         → Mirrors (view log.old) e (segment g) above.old.number above.old.image
-        → Changes sectors.old sectors.new (view log.old) (view log.new) e e
+        → ChangesPositions sectors.old sectors.new (view log.old) (view log.new) e e
         (λ p. IsBlockIn from to p ⊎ (p ≡ segment g))
         × HasBlocks (view log.new) e from to
         (image_of piece.now.offset bytes.now piece.now.first piece.now.last) }
     ensures keeps { (n : ℕ) → taken_of sectors.old n ≡ true → taken_of sectors.new n ≡ true }
-    ensures room { room_of log.old + placed log.old above.old.number
-        ≤ room_of log.new + placed log.new above.old.number + (to - from) }
+    ensures room { room_of log.old + staged_count log.old above.old.number
+        ≤ room_of log.new + staged_count log.new above.old.number + (to - from) }
     ensures puts { OnlyPuts log.old log.new }
     ensures range { SameRange sectors.old sectors.new }
 {
@@ -220,13 +220,13 @@ fn open_segment<D: Device>(
 )
     requires place { group < NUMBERS + 1 }
     requires can { CanStage log.old sectors.old }
-    requires room { 3 ≤ room_of log.old + placed log.old all.old.number }
+    requires room { 3 ≤ room_of log.old + staged_count log.old all.old.number }
     requires known { IsKnown sectors.old above.old.number × IsKnown sectors.old all.old.number }
     ensures opened { IsReady sectors.old (view log.old) entry.old
         → DIRECT + NUMBERS * group < blocks_for_size entry.old.size
         → Mirrors (view log.old) entry.old (segment group) above.old.number above.old.image
         → (1 ≤ group → Mirrors (view log.old) entry.old double_indirect_block all.old.number all.old.image)
-        → Adds sectors.old sectors.new (view log.old) (view log.new) entry.old entry.new
+        → AddsSector sectors.old sectors.new (view log.old) (view log.new) entry.old entry.new
         (λ p. (p ≡ segment group) ⊎ (p ≡ double_indirect_block)) (segment group) above.new.number above.new.image
         × (Mirrors (view log.old) entry.old double_indirect_block all.old.number all.old.image
         → Mirrors (view log.new) entry.new double_indirect_block all.new.number all.new.image) }
@@ -234,8 +234,10 @@ fn open_segment<D: Device>(
     ensures known_all { IsKnown sectors.new all.new.number }
     ensures keeps { (n : ℕ) → taken_of sectors.old n ≡ true → taken_of sectors.new n ≡ true }
     ensures entry { entry.new ≡ record entry.old { pointers = entry.new.pointers } }
-    ensures room { room_of log.old + placed log.old all.old.number + placed log.old above.old.number
-        ≤ room_of log.new + placed log.new all.new.number + placed log.new above.new.number }
+    ensures room { room_of log.old + staged_count log.old all.old.number
+        + staged_count log.old above.old.number
+        ≤ room_of log.new + staged_count log.new all.new.number
+        + staged_count log.new above.new.number }
     ensures puts { OnlyPuts log.old log.new }
     ensures range { SameRange sectors.old sectors.new }
 {
@@ -264,13 +266,13 @@ fn open_pointer<D: Device>(
     ensures opened { (p : BlockPosition) → PointedAt slot p → INDIRECT ≤ slot
         → IsReady sectors.old (view log.old) entry.old → first_served p < blocks_for_size entry.old.size
         → Mirrors (view log.old) entry.old p above.old.number above.old.image
-        → Adds sectors.old sectors.new (view log.old) (view log.new) entry.old entry.new
+        → AddsSector sectors.old sectors.new (view log.old) (view log.new) entry.old entry.new
         (λ q. q ≡ p) p above.new.number above.new.image }
     ensures known { IsKnown sectors.new above.new.number }
     ensures keeps { (n : ℕ) → taken_of sectors.old n ≡ true → taken_of sectors.new n ≡ true }
     ensures entry { entry.new ≡ record entry.old { pointers = entry.new.pointers } }
-    ensures room { room_of log.old + placed log.old above.old.number
-        ≤ room_of log.new + placed log.new above.new.number }
+    ensures room { room_of log.old + staged_count log.old above.old.number
+        ≤ room_of log.new + staged_count log.new above.new.number }
     ensures puts { OnlyPuts log.old log.new }
     ensures range { SameRange sectors.old sectors.new }
 {

@@ -10,7 +10,7 @@ use Rattle.std.proofs.lemmas.List.Edits.{length-insert, get_or-insert_below, get
 use Rattle.std.proofs.lemmas.List.Elements.{Contains-append_left, Contains-append_right, Contains-append_cases, Contains-push, Contains-push_cases}
 use Rattle.std.proofs.lemmas.List.Sorted.{IsPermutation-insert, IsPermutation-remove, IsPermutation-sym, Contains-permutation}
 use Rattle.vol_dirs.specs.internal.Rising.{Rises}
-use Rattle.vol_dirs.specs.internal.Rising.{TiesAreEqual, Adds, Drops}
+use Rattle.vol_dirs.specs.internal.Rising.{TiesAreEqual, AddsItem, Drops}
 use Rattle.vol_dirs.proofs.Search.{less_back, not_itself}
 
 -- the items of a list with one in front
@@ -23,7 +23,7 @@ in_front x y xs has = elim (Contains-append_cases (x ∷ []) xs y has) [
   | inr rest ↦ inl rest
 ]
 
-pub insert_adds : {X : Type 0} (xs : List X) (at : ℕ) (x : X) → Adds xs (insert xs at x) x
+pub insert_adds : {X : Type 0} (xs : List X) (at : ℕ) (x : X) → AddsItem xs (insert xs at x) x
 insert_adds xs at x =
     let new = insert xs at x in
     let moved : IsPermutation (x ∷ xs) new = IsPermutation-insert xs at x in
@@ -35,7 +35,7 @@ insert_adds xs at x =
 
 module _ {X : Type 0} {order : X → X → Ordering} (o : IsTotalOrder order) (ties : TiesAreEqual order) (xs : List X) (rises : Rises order xs) (x : X) (at : ℕ) where
   -- an item that is there already
-  pub adds_nothing : at < length xs → HoldsAt (λ y. order y x ≡ Equal) xs at → Adds xs xs x
+  pub adds_nothing : at < length xs → HoldsAt (λ y. order y x ≡ Equal) xs at → AddsItem xs xs x
   adds_nothing there tied = record {
     kept = λ y has. has;
     there = (at, there, ties (get_or xs at x) x (tied x));

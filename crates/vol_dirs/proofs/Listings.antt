@@ -2,10 +2,10 @@
 use Rattle.std.proofs.Common.{◌≡◌, ◌≢◌, ◌⊎◌, ◌↔◌, inl, inr, ℕ, ◌≤◌, ◌<◌, ◌^◌, List, [], sym, ◌∙◌, ap, subst, arith}
 use Rattle.std.specs.List.{Contains}
 use Rattle.vol_dirs.specs.internal.Rising.{Rises}
-use Rattle.vol_dirs.specs.internal.Rising.{Adds, Drops}
+use Rattle.vol_dirs.specs.internal.Rising.{AddsItem, Drops}
 use Rattle.vol_dirs.specs.Key.{key_of, IsPlain}
 use Rattle.vol_dirs.specs.internal.Key.{parent_in, name_in, IsKey}
-use Rattle.vol_dirs.specs.Listing.{Holds}
+use Rattle.vol_dirs.specs.Listing.{HoldsEntry}
 use Rattle.vol_dirs.specs.internal.Listing.{IsListing, key_order, child_order}
 use Rattle.vol_dirs.proofs.Spelled.{parent_of_key, key_is, plain_in_key, same_key}
 
@@ -23,7 +23,7 @@ no_listing slots = record {
 
 module _ (slots : ℕ) (keys : List (List ℕ × ℕ)) (children : List (ℕ × ℕ)) (is : IsListing slots keys children) where
   -- each key that is held is that of a name
-  pub name_held : (key : List ℕ) (s : ℕ) → Contains keys (key, s) → Holds keys (parent_in key) (name_in key) s
+  pub name_held : (key : List ℕ) (s : ℕ) → Contains keys (key, s) → HoldsEntry keys (parent_in key) (name_in key) s
   name_held key s has =
       let formed = is.formed key s has in
       record {
@@ -32,14 +32,14 @@ module _ (slots : ℕ) (keys : List (List ℕ × ℕ)) (children : List (ℕ × 
         held = subst (λ (k : List ℕ). Contains keys (k, s)) (sym formed.spelled) has;
       }
 
-  pub key_free : (s : ℕ) → ((p : ℕ) (n : List ℕ) → Holds keys p n s → ⊥) → (key : List ℕ) → Contains keys (key, s) → ⊥
+  pub key_free : (s : ℕ) → ((p : ℕ) (n : List ℕ) → HoldsEntry keys p n s → ⊥) → (key : List ℕ) → Contains keys (key, s) → ⊥
   key_free s free key has = free (parent_in key) (name_in key) (name_held key s has)
 
-  pub one_name : (p q : ℕ) (n m : List ℕ) (s : ℕ) → Holds keys p n s → Holds keys q m s → (p ≡ q) × (n ≡ m)
+  pub one_name : (p q : ℕ) (n m : List ℕ) (s : ℕ) → HoldsEntry keys p n s → HoldsEntry keys q m s → (p ≡ q) × (n ≡ m)
   one_name p q n m s one other = same_key p q n m one.narrow other.narrow one.plain other.plain (is.one_each (key_of p n) (key_of q m) s one.held other.held)
 
   module _ (p s : ℕ) (n : List ℕ) (narrow : p < 2 ^ 32) (plain : IsPlain n) (new_keys : List (List ℕ × ℕ)) (new_children : List (ℕ × ℕ)) where
-    pub listing_more : 1 ≤ s → s ≤ slots → ((key : List ℕ) → Contains keys (key, s) → ⊥) → Adds keys new_keys (key_of p n, s) → Adds children new_children (p, s)
+    pub listing_more : 1 ≤ s → s ≤ slots → ((key : List ℕ) → Contains keys (key, s) → ⊥) → AddsItem keys new_keys (key_of p n, s) → AddsItem children new_children (p, s)
         → Rises key_order new_keys → Rises child_order new_children → IsListing slots new_keys new_children
     listing_more first last free more more_children keys_rise children_rise = record {
       keys_rise = keys_rise;
@@ -100,8 +100,8 @@ module _ (slots : ℕ) (keys : List (List ℕ × ℕ)) (children : List (ℕ × 
       ]);
     }
 
-    pub names_more : Adds keys new_keys (key_of p n, s) → (q : ℕ) (m : List ℕ) (t : ℕ)
-        → Holds new_keys q m t ↔ (Holds keys q m t ⊎ (q ≡ p) × (m ≡ n) × (t ≡ s))
+    pub names_more : AddsItem keys new_keys (key_of p n, s) → (q : ℕ) (m : List ℕ) (t : ℕ)
+        → HoldsEntry new_keys q m t ↔ (HoldsEntry keys q m t ⊎ (q ≡ p) × (m ≡ n) × (t ≡ s))
     names_more more q m t = (
       λ h. elim (more.only (key_of q m, t) h.held) [
         | inl old ↦ inl (record { narrow = h.narrow; plain = h.plain; held = old })
@@ -118,7 +118,7 @@ module _ (slots : ℕ) (keys : List (List ℕ × ℕ)) (children : List (ℕ × 
     )
 
     pub names_less : Contains keys (key_of p n, s) → Drops keys new_keys (key_of p n, s) → (q : ℕ) (m : List ℕ) (t : ℕ)
-        → Holds new_keys q m t ↔ (Holds keys q m t × (t ≢ s))
+        → HoldsEntry new_keys q m t ↔ (HoldsEntry keys q m t × (t ≢ s))
     names_less held less q m t = (
       λ h. (
         record { narrow = h.narrow; plain = h.plain; held = less.only (key_of q m, t) h.held },

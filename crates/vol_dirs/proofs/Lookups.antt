@@ -13,7 +13,7 @@ use Rattle.std.proofs.lemmas.List.Folds.{Any-from_list_any, list_any_at}
 use Rattle.vol_dirs.specs.internal.Rising.{IsLeastOver, NoneIsOver}
 use Rattle.vol_dirs.specs.Key.{key_of}
 use Rattle.vol_dirs.specs.internal.Key.{parent_in, name_in}
-use Rattle.vol_dirs.specs.Listing.{Holds}
+use Rattle.vol_dirs.specs.Listing.{HoldsEntry}
 use Rattle.vol_dirs.specs.internal.Listing.{IsListing, key_order, child_order}
 use Rattle.vol_dirs.specs.Names.{NoChildOver, IsNextChild}
 use Rattle.vol_dirs.specs.declared.dirs.Dirs.{Dirs}
@@ -107,16 +107,16 @@ module _ (slots : ℕ) (keys : List (List ℕ × ℕ)) (children : List (ℕ × 
       join a b one other = grind (arith, nat_tests)
 
   -- the name of a child
-  pub child_name : (s : ℕ) → Contains children (p, s) → (name : List ℕ) × Holds keys p name s
+  pub child_name : (s : ℕ) → Contains children (p, s) → (name : List ℕ) × HoldsEntry keys p name s
   child_name s has = by (list_any (has_serial s) keys) refl
     where
-      by : (b : Bool) → list_any (has_serial s) keys ≡ b → (name : List ℕ) × Holds keys p name s
+      by : (b : Bool) → list_any (has_serial s) keys ≡ b → (name : List ℕ) × HoldsEntry keys p name s
       by true some =
           let at = Any-from_list_any (has_serial s) keys some in
           let x = at.1 in
           let parts = both_are s x at.4 in
           let there : Contains keys (x.0, s) = subst (λ (t : ℕ). Contains keys (x.0, t)) parts.1 (at.0, at.2, at.3) in
-          (name_in x.0, subst (λ (q : ℕ). Holds keys q (name_in x.0) s) parts.0 (name_held slots keys children is x.0 s there))
+          (name_in x.0, subst (λ (q : ℕ). HoldsEntry keys q (name_in x.0) s) parts.0 (name_held slots keys children is x.0 s there))
       by false none = absurd (is.no_more p s has (λ key held parent.
           let d : List ℕ × ℕ = (key, s) in
           let here : has_serial s (get_or keys held.0 d) ≡ true = ap (has_serial s) held.2 ∙ are_both s d parent refl in
@@ -124,20 +124,20 @@ module _ (slots : ℕ) (keys : List (List ℕ × ℕ)) (children : List (ℕ × 
           cc))
 
   -- a child has its pair
-  pub child_there : (s : ℕ) (name : List ℕ) → Holds keys p name s → (Contains children (p, s) → ⊥) → ⊥
+  pub child_there : (s : ℕ) (name : List ℕ) → HoldsEntry keys p name s → (Contains children (p, s) → ⊥) → ⊥
   child_there s name h none = is.no_fewer (key_of p name) s h.held (λ has. none (subst (λ (q : ℕ). Contains children (q, s)) (parent_of_key p name h.narrow h.plain) has))
 
   -- children of one directory go by their serials
   same_parent : (a b : ℕ) → a < b → child_order (p, a) (p, b) ≡ Less
   same_parent a b lt = then_less (nat_cmp p p) (nat_cmp a b) (number_tied p p refl) (below a b lt)
 
-  pub none_over : (after s : ℕ) (name : List ℕ) → NoneIsOver child_order children (p, after) → Holds keys p name s → s ≤ after
+  pub none_over : (after s : ℕ) (name : List ℕ) → NoneIsOver child_order children (p, after) → HoldsEntry keys p name s → s ≤ after
   none_over after s name none h = elim (cases_lt after s) [
     | inl more ↦ absurd (child_there s name h (λ has. none (p, s) has (same_parent after s more)))
     | inr le ↦ le
   ]
 
-  pub none_before : (after q t s : ℕ) (name : List ℕ) → IsLeastOver child_order children (p, after) (q, t) → q ≢ p → Holds keys p name s → s ≤ after
+  pub none_before : (after q t s : ℕ) (name : List ℕ) → IsLeastOver child_order children (p, after) (q, t) → q ≢ p → HoldsEntry keys p name s → s ≤ after
   none_before after q t s name least differ h = elim (cases_lt after s) [
     | inl more ↦ absurd (child_there s name h (λ has.
         let less : p < q = elim (less_parts (nat_cmp p q) (nat_cmp after t) least.over) [
@@ -154,7 +154,7 @@ module _ (slots : ℕ) (keys : List (List ℕ × ℕ)) (children : List (ℕ × 
     | inr (tied, serial) ↦ number_less after s serial
   ]
 
-  pub least_after : (after s t : ℕ) (name : List ℕ) → IsLeastOver child_order children (p, after) (p, s) → Holds keys p name t → after < t → s ≤ t
+  pub least_after : (after s t : ℕ) (name : List ℕ) → IsLeastOver child_order children (p, after) (p, s) → HoldsEntry keys p name t → after < t → s ≤ t
   least_after after s t name least h more = elim (cases_lt t s) [
     | inl less ↦ absurd (child_there t name h (λ has. least.least (p, t) has (same_parent after t more) (same_parent t s less)))
     | inr le ↦ le

@@ -6,7 +6,7 @@ use Rattle.vol_inode.specs.declared.version.Version.{Version}
 use Rattle.vol_inode.specs.Entry.{IsEntry, name_of}
 use Rattle.vol_inode.specs.Spelling.{spelling}
 use Rattle.vol_dirs.specs.Slots.{slot_sector}
-use Rattle.vol_dirs.specs.Listing.{Holds}
+use Rattle.vol_dirs.specs.Listing.{HoldsEntry}
 use Rattle.vol_dirs.specs.declared.dirs.Dirs.{Dirs}
 
 -- how many slots the volume has
@@ -15,7 +15,7 @@ slots_of dirs = dirs.slots
 
 -- an entry with this parent, name and serial is held
 abbrev pub Names : Dirs → ℕ → List ℕ → ℕ → Type 0
-Names dirs parent name serial = Holds dirs.keys.items parent name serial
+Names dirs parent name serial = HoldsEntry dirs.keys.items parent name serial
 
 -- no lesser serial is held with this name in the directory
 abbrev pub IsLeastOf : Dirs → ℕ → List ℕ → ℕ → Type 0

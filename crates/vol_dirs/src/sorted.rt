@@ -2,7 +2,7 @@
 
 ghost use Rattle.std.specs.Prelude.{◌<◌, ◌≤◌, ◌+◌, IfSome, IfNone, vec_len, vec_capacity};
 ghost use Rattle.vol_dirs.specs.internal.Rising.{Rises};
-ghost use Rattle.vol_dirs.specs.internal.Rising.{TiesAreEqual, IsFirstOver, IsLeastOver, NoneIsOver, Adds, Drops};
+ghost use Rattle.vol_dirs.specs.internal.Rising.{TiesAreEqual, IsFirstOver, IsLeastOver, NoneIsOver, AddsItem, Drops};
 
 /// The least item over the bound, if there is one.
 pub fn least_over<T: Ord + Copy>(items: &[T], bound: &T) -> Option<T>
@@ -34,7 +34,7 @@ pub fn insert<T: Ord + Drop>(items: &mut Vec<T>, item: T)
     requires ties { TiesAreEqual T.cmp }
     requires rises { Rises T.cmp items.old.items }
     requires room { vec_len items.old < vec_capacity items.old }
-    ensures adds { Adds items.old.items items.new.items item }
+    ensures adds { AddsItem items.old.items items.new.items item }
     ensures rises { Rises T.cmp items.new.items }
     ensures capacity { vec_capacity items.old ≤ vec_capacity items.new }
 {

@@ -10,7 +10,7 @@ use Rattle.std.proofs.lemmas.List.Edits.{length-insert, get_or-insert_below, get
 use Rattle.std.proofs.lemmas.Bool.{cases_eq, cases_lt}
 use Rattle.std.proofs.lemmas.Bool.Decides.{nat_tests}
 use Rattle.vol_log.specs.internal.Index.{Index, number_at, place_at, Rises, IsIndex}
-use Rattle.vol_log.specs.internal.Index.{IsAt, IsGapFor}
+use Rattle.vol_log.specs.internal.Index.{IsEntryOfNumber, IsGapFor}
 
 pub no_index : IsIndex [] []
 no_index = record {
@@ -28,7 +28,7 @@ module _ (index : Index) (rises : Rises index) (number : ℕ) where
       grind (arith, nat_tests))
 
   -- a binary search ends at the number's entry, or where it would go
-  pub searched : (r : Result ℕ ℕ) → IsSearchInRange r (length index) → IsBinarySearchResult (λ entry. nat_cmp entry.0 number) index r → record { found : IfOk r (IsAt index number); absent : IfErr r (IsGapFor index number) }
+  pub searched : (r : Result ℕ ℕ) → IsSearchInRange r (length index) → IsBinarySearchResult (λ entry. nat_cmp entry.0 number) index r → record { found : IfOk r (IsEntryOfNumber index number); absent : IfErr r (IsGapFor index number) }
   searched (Ok at) in_range equal = record { found = record { in_range = in_range; has_number = ranked _ number _ (sym (equal (0, 0))) }; absent = tt }
   searched (Err at) in_range parted = record {
     found = tt;
@@ -39,7 +39,7 @@ module _ (index : Index) (rises : Rises index) (number : ℕ) where
     };
   }
 
-module _ (ns : List ℕ) (index : Index) (is : IsIndex ns index) (number at : ℕ) (found : IsAt index number at) where
+module _ (ns : List ℕ) (index : Index) (is : IsIndex ns index) (number at : ℕ) (found : IsEntryOfNumber index number at) where
   -- the entry's place is the number's
   pub place_inside : place_at index at < length ns
   place_inside = (is.points at found.in_range).0

@@ -9,7 +9,7 @@ use Rattle.vol_log.specs.Batch.{over, holds}
 use Rattle.vol_log.specs.internal.Batch.{numbers}
 use Rattle.vol_log.specs.declared.staged.Staged.{Staged}
 use Rattle.vol_log.specs.internal.Index.{Index, place_at, IsIndex}
-use Rattle.vol_log.specs.internal.Index.{IsAt, IsGapFor}
+use Rattle.vol_log.specs.internal.Index.{IsEntryOfNumber, IsGapFor}
 use Rattle.vol_log.proofs.Images.{blank}
 use Rattle.vol_log.proofs.Parse.{places_more}
 use Rattle.vol_log.proofs.Finding.{place_inside, place_is, only_place, in_no_place}
@@ -25,7 +25,7 @@ pub record IsPlaceOf (batch : List Staged) (n p : ℕ) : Type 0 where
   pub before : (j : ℕ) → j < p → (get_or batch j blank).sector ≢ n
 
 -- what a search of the index finds
-pub found_place : (batch : List Staged) (index : Index) → IsIndex (numbers batch) index → (n at : ℕ) → IsAt index n at → (p : ℕ) → p ≡ place_at index at → IsPlaceOf batch n p
+pub found_place : (batch : List Staged) (index : Index) → IsIndex (numbers batch) index → (n at : ℕ) → IsEntryOfNumber index n at → (p : ℕ) → p ≡ place_at index at → IsPlaceOf batch n p
 found_place batch index is n at found p place =
     let long : length (numbers batch) ≡ length batch = length-map batch (λ (t : Staged). t.sector) in
     let inside : p < length batch = omega (arith, place_inside (numbers batch) index is n at found, long, place) in

@@ -13,13 +13,13 @@ abbrev pub left_of : {D : Type 0} {N : ℕ} → FaultyDevice D N → ℕ
 left_of f = f.count.left
 
 -- how many operations were failed here
-abbrev pub failures_of : {D : Type 0} {N : ℕ} → FaultyDevice D N → ℕ
-failures_of f = f.count.failures
+abbrev pub injected_failures : {D : Type 0} {N : ℕ} → FaultyDevice D N → ℕ
+injected_failures f = f.count.failures
 
 -- the operations tried, the newest first: was each passed to the device?
 abbrev pub operations_of : {D : Type 0} {N : ℕ} → FaultyDevice D N → List Bool
 operations_of f = f.count.operations.outcomes
 
 -- the device's disk, where each operation tried counts
-abbrev pub disk_of : {D : Type 0} {N : ℕ} → (D → Disk) → FaultyDevice D N → Disk
-disk_of disk f = counting (operations_of f) (disk (device_of f))
+abbrev pub faulty_disk : {D : Type 0} {N : ℕ} → (D → Disk) → FaultyDevice D N → Disk
+faulty_disk disk f = counting (operations_of f) (disk (device_of f))

@@ -8,8 +8,8 @@ use Rattle.vol_sector.specs.declared.memory.MemoryDevice.{MemoryDevice}
 use Rattle.vol_sector.specs.declared.record.Operation.{Operation}
 
 -- the sectors as the device began
-abbrev pub first_of : MemoryDevice → Image
-first_of m = image_of m.first.items
+abbrev pub initial_image : MemoryDevice → Image
+initial_image m = image_of m.first.items
 
 -- the writes and syncs that were done, in order
 abbrev pub record_of : MemoryDevice → List Operation
@@ -19,8 +19,8 @@ record_of m = m.history.items
 abbrev pub room_of : MemoryDevice → ℕ
 room_of m = m.limit
 
-abbrev pub sectors_of : MemoryDevice → ℕ
-sectors_of m = vec_len m.current
+abbrev pub sector_count : MemoryDevice → ℕ
+sector_count m = vec_len m.current
 
 abbrev pub failures_of : MemoryDevice → ℕ
 failures_of m = m.failures
@@ -31,21 +31,21 @@ operations_of m = m.operations.outcomes
 
 -- what its record allows, where each operation tried counts: a crash now may leave what is `LeftBy` the record
 abbrev pub disk_of : MemoryDevice → Disk
-disk_of m = counting (operations_of m) (recorded (first_of m) (record_of m))
+disk_of m = counting (operations_of m) (recorded (initial_image m) (record_of m))
 
 -- a device of this many sectors with this image, on which nothing was done
 pub record IsUnused (m : MemoryDevice) (sectors room : ℕ) (image : Image) : Type 0 where
-  pub sectors_is : sectors_of m ≡ sectors
+  pub sectors_is : sector_count m ≡ sectors
   pub room_is : room_of m ≡ room
   pub record_is : record_of m ≡ []
   pub operations_is : operations_of m ≡ []
   pub failures_is : failures_of m ≡ 0
-  pub image_is : (n : ℕ) → n < sectors → first_of m n ≡ image n
+  pub image_is : (n : ℕ) → n < sectors → initial_image m n ≡ image n
 
 -- all as before, but for the count of operations tried
 pub record IsUnchanged (old new : MemoryDevice) : Type 0 where
-  pub first_is : first_of new ≡ first_of old
+  pub first_is : initial_image new ≡ initial_image old
   pub record_is : record_of new ≡ record_of old
   pub room_is : room_of new ≡ room_of old
-  pub sectors_is : sectors_of new ≡ sectors_of old
+  pub sectors_is : sector_count new ≡ sector_count old
   pub failures_is : failures_of new ≡ failures_of old

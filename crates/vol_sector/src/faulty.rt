@@ -53,14 +53,14 @@ pub type FuseDevice<D> = FaultyDevice<D, 0>;
 pub type FlakyDevice<D> = FaultyDevice<D, 1>;
 
 impl<D: Device, const FAILS_AT: u64> FaultyDevice<D, FAILS_AT> {
-    ghost use Rattle.vol_sector.specs.Faulty.{device_of, left_of, failures_of, disk_of};
+    ghost use Rattle.vol_sector.specs.Faulty.{device_of, left_of, injected_failures, faulty_disk};
 
     /// The device, with the count that begins with this number of operations.
     pub fn new(device: D, operations: u64) -> Self
         ensures device { device_of result ≡ device }
         ensures left { left_of result ≡ operations }
-        ensures failures { failures_of result ≡ 0 }
-        ensures operation_count { (disk_of D.disk result).operation_count ≡ 0 }
+        ensures failures { injected_failures result ≡ 0 }
+        ensures operation_count { (faulty_disk D.disk result).operation_count ≡ 0 }
     {
         FaultyDevice {
             device,
@@ -85,7 +85,7 @@ impl<D: Device, const FAILS_AT: u64> Device for FaultyDevice<D, FAILS_AT> {
     ghost use Rattle.std.specs.Prelude.{◌≤◌, ◌==◌, List, IfOk, OnOk, IsErr, is_err};
     ghost use Rattle.vol_sector.specs.Disk.{Image, put, After, Wrote, Only, Leaves, Keeps};
     ghost use Rattle.vol_sector.specs.Disk.{OneMore, OneOperation, both_counts};
-    ghost use Rattle.vol_sector.specs.Faulty.{device_of, left_of, failures_of, disk_of};
+    ghost use Rattle.vol_sector.specs.Faulty.{device_of, left_of, injected_failures, faulty_disk};
 
     ghost disk = { λ f. counting f.count.operations.outcomes (D.disk f.device) };
 
@@ -115,20 +115,21 @@ impl<D: Device, const FAILS_AT: u64> Device for FaultyDevice<D, FAILS_AT> {
     fn read(&mut self, n: u32) -> Result<[u8; 512], DeviceFault>
         requires { n < D.size (device_of self.old) }
         ensures bytes { D.honest (device_of self.old)
-            → IfOk result (λ bytes. bytes ≡ (disk_of D.disk self.old).seen n) }
+            → IfOk result (λ bytes. bytes ≡ (faulty_disk D.disk self.old).seen n) }
         ensures seen { D.honest (device_of self.old)
-            → (disk_of D.disk self.new).seen ≡ (disk_of D.disk self.old).seen }
+            → (faulty_disk D.disk self.new).seen ≡ (faulty_disk D.disk self.old).seen }
         ensures crash { D.honest (device_of self.old)
-            → Leaves (disk_of D.disk self.old) (disk_of D.disk self.new) (λ c. ⊥) }
+            → Leaves (faulty_disk D.disk self.old) (faulty_disk D.disk self.new) (λ c. ⊥) }
         ensures keeps { D.honest (device_of self.old)
-            → Keeps (disk_of D.disk self.old) (disk_of D.disk self.new) }
+            → Keeps (faulty_disk D.disk self.old) (faulty_disk D.disk self.new) }
         ensures operation_count { D.honest (device_of self.old)
-            → OneMore (disk_of D.disk self.old) (disk_of D.disk self.new) }
+            → OneMore (faulty_disk D.disk self.old) (faulty_disk D.disk self.new) }
         ensures honest { D.honest (device_of self.old) ↔ D.honest (device_of self.new) }
         ensures size { D.size (device_of self.new) ≡ D.size (device_of self.old) }
-        ensures failures { both_counts (D.failures (device_of self.new)) (failures_of self.new)
+        ensures failures { both_counts (D.failures (device_of self.new))
+            (injected_failures self.new)
             ≡ counted (is_err result)
-            (both_counts (D.failures (device_of self.old)) (failures_of self.old)) }
+            (both_counts (D.failures (device_of self.old)) (injected_failures self.old)) }
         ensures count { left_of self.new ≡ left_of self.old - 1 }
         ensures fails { left_of self.old ≡ FAILS_AT
             → IsErr result × (device_of self.new ≡ device_of self.old) }
@@ -147,23 +148,24 @@ impl<D: Device, const FAILS_AT: u64> Device for FaultyDevice<D, FAILS_AT> {
     fn write(&mut self, n: u32, image: &[u8; 512]) -> Result<(), DeviceFault>
         requires { n < D.size (device_of self.old) }
         ensures written { D.honest (device_of self.old)
-            → OnOk result ((disk_of D.disk self.new).seen
-            ≡ put n image.now (disk_of D.disk self.old).seen) }
+            → OnOk result ((faulty_disk D.disk self.new).seen
+            ≡ put n image.now (faulty_disk D.disk self.old).seen) }
         ensures seen { D.honest (device_of self.old)
-            → Wrote n image.now (disk_of D.disk self.old).seen
-            (disk_of D.disk self.new).seen }
+            → Wrote n image.now (faulty_disk D.disk self.old).seen
+            (faulty_disk D.disk self.new).seen }
         ensures crash { D.honest (device_of self.old)
-            → Leaves (disk_of D.disk self.old) (disk_of D.disk self.new)
-            (After (Wrote n image.now) (disk_of D.disk self.old).may_leave) }
+            → Leaves (faulty_disk D.disk self.old) (faulty_disk D.disk self.new)
+            (After (Wrote n image.now) (faulty_disk D.disk self.old).may_leave) }
         ensures keeps { D.honest (device_of self.old)
-            → Keeps (disk_of D.disk self.old) (disk_of D.disk self.new) }
+            → Keeps (faulty_disk D.disk self.old) (faulty_disk D.disk self.new) }
         ensures operation_count { D.honest (device_of self.old)
-            → OneMore (disk_of D.disk self.old) (disk_of D.disk self.new) }
+            → OneMore (faulty_disk D.disk self.old) (faulty_disk D.disk self.new) }
         ensures honest { D.honest (device_of self.old) ↔ D.honest (device_of self.new) }
         ensures size { D.size (device_of self.new) ≡ D.size (device_of self.old) }
-        ensures failures { both_counts (D.failures (device_of self.new)) (failures_of self.new)
+        ensures failures { both_counts (D.failures (device_of self.new))
+            (injected_failures self.new)
             ≡ counted (is_err result)
-            (both_counts (D.failures (device_of self.old)) (failures_of self.old)) }
+            (both_counts (D.failures (device_of self.old)) (injected_failures self.old)) }
         ensures count { left_of self.new ≡ left_of self.old - 1 }
         ensures fails { left_of self.old ≡ FAILS_AT
             → IsErr result × (device_of self.new ≡ device_of self.old) }
@@ -182,21 +184,22 @@ impl<D: Device, const FAILS_AT: u64> Device for FaultyDevice<D, FAILS_AT> {
 
     fn sync(&mut self) -> Result<(), DeviceFault>
         ensures durable { D.honest (device_of self.old)
-            → OnOk result (Only (disk_of D.disk self.old).seen
-            (disk_of D.disk self.new).may_leave) }
+            → OnOk result (Only (faulty_disk D.disk self.old).seen
+            (faulty_disk D.disk self.new).may_leave) }
         ensures seen { D.honest (device_of self.old)
-            → (disk_of D.disk self.new).seen ≡ (disk_of D.disk self.old).seen }
+            → (faulty_disk D.disk self.new).seen ≡ (faulty_disk D.disk self.old).seen }
         ensures crash { D.honest (device_of self.old)
-            → Leaves (disk_of D.disk self.old) (disk_of D.disk self.new) (λ c. ⊥) }
+            → Leaves (faulty_disk D.disk self.old) (faulty_disk D.disk self.new) (λ c. ⊥) }
         ensures keeps { D.honest (device_of self.old)
-            → Keeps (disk_of D.disk self.old) (disk_of D.disk self.new) }
+            → Keeps (faulty_disk D.disk self.old) (faulty_disk D.disk self.new) }
         ensures operation_count { D.honest (device_of self.old)
-            → OneMore (disk_of D.disk self.old) (disk_of D.disk self.new) }
+            → OneMore (faulty_disk D.disk self.old) (faulty_disk D.disk self.new) }
         ensures honest { D.honest (device_of self.old) ↔ D.honest (device_of self.new) }
         ensures size { D.size (device_of self.new) ≡ D.size (device_of self.old) }
-        ensures failures { both_counts (D.failures (device_of self.new)) (failures_of self.new)
+        ensures failures { both_counts (D.failures (device_of self.new))
+            (injected_failures self.new)
             ≡ counted (is_err result)
-            (both_counts (D.failures (device_of self.old)) (failures_of self.old)) }
+            (both_counts (D.failures (device_of self.old)) (injected_failures self.old)) }
         ensures count { left_of self.new ≡ left_of self.old - 1 }
         ensures fails { left_of self.old ≡ FAILS_AT
             → IsErr result × (device_of self.new ≡ device_of self.old) }

@@ -36,7 +36,7 @@ pub struct MemoryDevice {
 impl MemoryDevice {
     ghost use Rattle.std.specs.Prelude.{true};
     ghost use Rattle.vol_sector.specs.Disk.{Leaves, Keeps, counted};
-    ghost use Rattle.vol_sector.specs.Memory.{first_of, record_of, room_of, sectors_of, IsUnused};
+    ghost use Rattle.vol_sector.specs.Memory.{initial_image, record_of, room_of, sector_count, IsUnused};
     ghost use Rattle.vol_sector.specs.Memory.{operations_of, failures_of, disk_of};
 
     /// A device of this many sectors of zeros, whose record has room for this many writes and syncs.
@@ -87,7 +87,7 @@ impl MemoryDevice {
 
     /// How many sectors were written since the last sync.
     pub fn pending(&self) -> usize
-        ensures { result ≡ written_below (record_of self.now) (sectors_of self.now) }
+        ensures { result ≡ written_below (record_of self.now) (sector_count self.now) }
     {
         let mut count: usize = 0;
         for n in 0..self.first.len() {
@@ -103,8 +103,8 @@ impl MemoryDevice {
     /// the synced value, j the j-th written, and a number past the last the last. A missing pick
     /// counts as 0. It fails only where memory is refused.
     pub fn crashed(&self, alloc: Global, picks: &[u32]) -> Result<MemoryDevice, AllocError>
-        ensures { IfOk result (λ m. IsUnused m (sectors_of self.now) (room_of self.now)
-            (crashed_image (first_of self.now) (record_of self.now) picks.now)) }
+        ensures { IfOk result (λ m. IsUnused m (sector_count self.now) (room_of self.now)
+            (crashed_image (initial_image self.now) (record_of self.now) picks.now)) }
     {
         let mut image = Vec::new(alloc);
         let mut used: usize = 0;
@@ -124,10 +124,10 @@ impl MemoryDevice {
     fn fail(&mut self) -> DeviceFault
         ensures operations { operations_of self.new ≡ false ∷ operations_of self.old }
         ensures failures { failures_of self.new ≡ counted true (failures_of self.old) }
-        ensures first { first_of self.new ≡ first_of self.old }
+        ensures first { initial_image self.new ≡ initial_image self.old }
         ensures record { record_of self.new ≡ record_of self.old }
         ensures room { room_of self.new ≡ room_of self.old }
-        ensures sectors { sectors_of self.new ≡ sectors_of self.old }
+        ensures sectors { sector_count self.new ≡ sector_count self.old }
         ensures crash { Leaves (disk_of self.old) (disk_of self.new) (λ c. ⊥) }
         ensures keeps { Keeps (disk_of self.old) (disk_of self.new) }
     {
@@ -206,7 +206,7 @@ impl Device for MemoryDevice {
     ghost use Rattle.std.specs.Prelude.{◌⊎◌, ◌↔◌, ◌++◌, OnOk, OnErr, IsOk, IsErr, is_err};
     ghost use Rattle.vol_sector.specs.Disk.{put, After, Wrote, Only, Leaves, Keeps};
     ghost use Rattle.vol_sector.specs.Disk.{counted, OneMore};
-    ghost use Rattle.vol_sector.specs.Memory.{first_of, record_of, room_of, sectors_of};
+    ghost use Rattle.vol_sector.specs.Memory.{initial_image, record_of, room_of, sector_count};
     ghost use Rattle.vol_sector.specs.Memory.{failures_of, disk_of, IsUnchanged};
     ghost use Rattle.vol_sector.specs.declared.record.Operation.TheVariants.{Write, Sync};
 
@@ -238,14 +238,14 @@ impl Device for MemoryDevice {
     }
 
     fn read(&mut self, n: u32) -> Result<[u8; 512], DeviceFault>
-        requires { n < sectors_of self.old }
+        requires { n < sector_count self.old }
         ensures bytes { Unit {0} → IfOk result (λ bytes. bytes ≡ (disk_of self.old).seen n) }
         ensures seen { Unit {0} → (disk_of self.new).seen ≡ (disk_of self.old).seen }
         ensures crash { Unit {0} → Leaves (disk_of self.old) (disk_of self.new) (λ c. ⊥) }
         ensures keeps { Unit {0} → Keeps (disk_of self.old) (disk_of self.new) }
         ensures operation_count { Unit {0} → OneMore (disk_of self.old) (disk_of self.new) }
         ensures honest { Unit {0} ↔ Unit {0} }
-        ensures size { sectors_of self.new ≡ sectors_of self.old }
+        ensures size { sector_count self.new ≡ sector_count self.old }
         ensures failures { failures_of self.new ≡ counted (is_err result) (failures_of self.old) }
         ensures never_fails { IsOk result }
         ensures same { IsUnchanged self.old self.new }
@@ -255,7 +255,7 @@ impl Device for MemoryDevice {
     }
 
     fn write(&mut self, n: u32, image: &[u8; 512]) -> Result<(), DeviceFault>
-        requires { n < sectors_of self.old }
+        requires { n < sector_count self.old }
         ensures written { Unit {0}
             → OnOk result ((disk_of self.new).seen ≡ put n image.now (disk_of self.old).seen) }
         ensures seen { Unit {0}
@@ -265,13 +265,13 @@ impl Device for MemoryDevice {
         ensures keeps { Unit {0} → Keeps (disk_of self.old) (disk_of self.new) }
         ensures operation_count { Unit {0} → OneMore (disk_of self.old) (disk_of self.new) }
         ensures honest { Unit {0} ↔ Unit {0} }
-        ensures size { sectors_of self.new ≡ sectors_of self.old }
+        ensures size { sector_count self.new ≡ sector_count self.old }
         ensures failures { failures_of self.new ≡ counted (is_err result) (failures_of self.old) }
         ensures full { room_of self.old ≤ length (record_of self.old)
             → IsErr result × (record_of self.new ≡ record_of self.old) }
         ensures fits { length (record_of self.old) < room_of self.old
             → IsOk result × (record_of self.new ≡ record_of self.old ++ Write n image.now ∷ []) }
-        ensures first { first_of self.new ≡ first_of self.old }
+        ensures first { initial_image self.new ≡ initial_image self.old }
         ensures room { room_of self.new ≡ room_of self.old }
     {
         if self.history.len() >= self.limit {
@@ -296,13 +296,13 @@ impl Device for MemoryDevice {
         ensures keeps { Unit {0} → Keeps (disk_of self.old) (disk_of self.new) }
         ensures operation_count { Unit {0} → OneMore (disk_of self.old) (disk_of self.new) }
         ensures honest { Unit {0} ↔ Unit {0} }
-        ensures size { sectors_of self.new ≡ sectors_of self.old }
+        ensures size { sector_count self.new ≡ sector_count self.old }
         ensures failures { failures_of self.new ≡ counted (is_err result) (failures_of self.old) }
         ensures full { room_of self.old ≤ length (record_of self.old)
             → IsErr result × (record_of self.new ≡ record_of self.old) }
         ensures fits { length (record_of self.old) < room_of self.old
             → IsOk result × (record_of self.new ≡ record_of self.old ++ Sync ∷ []) }
-        ensures first { first_of self.new ≡ first_of self.old }
+        ensures first { initial_image self.new ≡ initial_image self.old }
         ensures room { room_of self.new ≡ room_of self.old }
     {
         if self.history.len() >= self.limit {

@@ -16,7 +16,7 @@ use Rattle.vol_dirs.specs.Names.{Shows}
 use Rattle.vol_tree.specs.declared.superblock.Superblock.{Superblock}
 use Rattle.vol_tree.specs.declared.reading.Entries.{Entries}
 use Rattle.vol_tree.specs.Opened.{slots_in, slot_in}
-use Rattle.vol_tree.specs.internal.Reads.{held_at, parent_in, directory_in, named_in, reserved_in, IsPlaced, IsNew, IsRight, Adds, FitIn, HaveRead}
+use Rattle.vol_tree.specs.internal.Reads.{held_at, parent_in, directory_in, named_in, reserved_in, IsPlaced, IsNew, IsRight, AddsSlot, FitIn, HaveRead}
 use Rattle.vol_tree.proofs.SlotsRead.{slots_at, slot_read, slots_count}
 use Rattle.vol_dirs.specs.Slots.{slot_sector}
 
@@ -93,7 +93,7 @@ none_read content v found named parents directories reserved = record {
   right = λ s lt. absurd (omega (arith, lt));
 }
 
-pub more_read : (content : Image) (v : Superblock) (s : ℕ) (old new : Entries) → s < v.slots → HaveRead content v s old → Adds content (held_at content v s) old new → IsRight content v s (held_at content v s)
+pub more_read : (content : Image) (v : Superblock) (s : ℕ) (old new : Entries) → s < v.slots → HaveRead content v s old → AddsSlot content (held_at content v s) old new → IsRight content v s (held_at content v s)
     → HaveRead content v (s + 1) new
 more_read content v s old new lt was adds right =
     let slots = slots_in content v.slots in

@@ -17,7 +17,7 @@ use Rattle.vol_tree.specs.Stands.{entry_of, node_by}
 use Rattle.vol_tree.specs.Opened.{tree_in}
 use Rattle.vol_tree.specs.internal.Slots.{slot_of}
 use Rattle.vol_body.specs.Body.{bytes_of}
-use Rattle.vol_tree.specs.internal.Moves.{Moves, MovesIn, IsAbove}
+use Rattle.vol_tree.specs.internal.Moves.{MovesToName, MovesIn, IsAbove}
 use Rattle.vol_tree.specs.internal.Replacing.{kind_is_directory, replacing}
 use Rattle.vol_tree.proofs.Entries.{entry-changed_same, entry-changed_other}
 use Rattle.vol_tree.proofs.Finding.{tree_entry}
@@ -132,7 +132,7 @@ may_move_in T t serial parent used other inside within = record {
   outside = λ below leads. false≢true (sym within ∙ (within_below T serial parent t used).1 below leads);
 }
 
-pub may_move : (T : Tree) (serial parent : ℕ) (name : Name) → MovesIn T serial parent → lookup T parent name ≡ None → Moves T serial parent name
+pub may_move : (T : Tree) (serial parent : ℕ) (name : Name) → MovesIn T serial parent → lookup T parent name ≡ None → MovesToName T serial parent name
 may_move T serial parent name m none = record { into = m; free = λ x d at p n. absurd (not_there T parent name none x d at p n) }
 
 -- a target isn't the root
@@ -168,7 +168,7 @@ module _ (T : Tree) (t : IsTree T) (serial parent target : ℕ) (name : Name) (m
   pub parent_apart : parent ≢ target
   parent_apart same = bare target there.0 there.1 (there.2 ∙ same)
 
-  pub moves_after : Moves Less serial parent name
+  pub moves_after : MovesToName Less serial parent name
   moves_after = record {
     into = record {
       used = ap is_some (stays serial (λ same. differ (sym same))) ∙ m.used;

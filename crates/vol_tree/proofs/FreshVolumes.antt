@@ -18,7 +18,7 @@ use Rattle.vol_inode.specs.Space.{blocks_for_size}
 use Rattle.vol_inode.specs.Spelling.{spelling, unused}
 use Rattle.vol_alloc.specs.declared.sectors.Alloc.{Alloc}
 use Rattle.vol_alloc.specs.Alloc.{taken_of}
-use Rattle.vol_alloc.specs.Numbers.{Names, ArePlaces}
+use Rattle.vol_alloc.specs.Numbers.{ListsNumber, ArePlaces}
 use Rattle.vol_dirs.specs.declared.dirs.Dirs.{Dirs}
 use Rattle.vol_dirs.specs.Names.{Shows}
 use Rattle.vol_body.specs.Body.{named}
@@ -102,7 +102,7 @@ module _ (content : Image) (v : Superblock) (ranges : HasRanges v) (written : Ha
       let lt : s - 1 < v.slots = omega arith in
       ap content (omega arith) ∙ written (s - 1) lt ∙ later_slot (s - 1) (omega arith)
 
-  pub fresh_parts : (dirs : Dirs) (sectors : Alloc) → Shows v.version content v.slots dirs → ((n : ℕ) → IsTrue (taken_of sectors n) ↔ Names [] n) → HasParts content v dirs sectors 0
+  pub fresh_parts : (dirs : Dirs) (sectors : Alloc) → Shows v.version content v.slots dirs → ((n : ℕ) → IsTrue (taken_of sectors n) ↔ ListsNumber [] n) → HasParts content v dirs sectors 0
   fresh_parts dirs sectors shows taken = record {
     volume = record { volume = subst (IsVolume content v) (sym slots_are) volume };
     shows = shows;

@@ -272,7 +272,7 @@ module _ (content : Image) (v : Superblock) (found : Entries) (p : HasPassed con
   }
 
   -- the sectors that are taken
-  pub taken_found : (a : Alloc) → ((n : ℕ) → IsTrue (taken_of a n) ↔ numbers.Names found.named.items n) → AreTaken content v slots a
+  pub taken_found : (a : Alloc) → ((n : ℕ) → IsTrue (taken_of a n) ↔ numbers.ListsNumber found.named.items n) → AreTaken content v slots a
   taken_found a taken = record {
     named = λ s e at q place some.
         let n = named content e q in

@@ -23,7 +23,7 @@ use Rattle.vol_tree.specs.Space.{space, need_in, size_of}
 use Rattle.vol_tree.specs.Stands.{Slots, entry_of, node_by, tree_of, IsVolume}
 use Rattle.vol_tree.specs.Opened.{slots_in, tree_in, data_sectors}
 use Rattle.vol_tree.specs.internal.Parts.{IsContent, AreTaken}
-use Rattle.vol_tree.specs.internal.Moves.{Moves}
+use Rattle.vol_tree.specs.internal.Moves.{MovesToName}
 use Rattle.vol_tree.proofs.OneTree.{same_tree_entry}
 use Rattle.vol_tree.proofs.SlotsRead.{slots_count}
 use Rattle.vol_tree.proofs.SlotChange.{OtherSlots, FitsIn, set_tree, set_slots, set_volume}
@@ -155,7 +155,7 @@ module _ (a c : Image) (v : Superblock) (s : ℕ) (d to : Entry) (is : IsContent
           (set_volume a c v slots s (Some to) is.volume.count is.volume.holds is.volume.sectors others fits (subst IsTree back is_tree) (subst (λ (U : Tree). space U ≤ data_sectors v) back few));
     }
 
-    pub relocated_is_tree : Moves T (suc s) parent name → IsName name → IsTree (changed T (suc s) (Some there))
+    pub relocated_is_tree : MovesToName T (suc s) parent name → IsName name → IsTree (changed T (suc s) (Some there))
     relocated_is_tree m is_name = moved_is_tree T is.volume.tree (suc s) (entry_of a d) at_tree m.into.not_top parent name is_name m.into.inside m.into.outside m.free
 
   pub relocated_taken : (sectors : Alloc) → AreTaken a v slots sectors → AreTaken c v (slots_in c v.slots) sectors

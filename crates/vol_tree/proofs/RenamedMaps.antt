@@ -8,7 +8,7 @@ use Rattle.vol_tree.specs.declared.errno.Errno.TheVariants as errno
 use Rattle.vol_tree.specs.Tree.{Tree, Path, Name, Node, Entry, entry, changed, Leads, IsTree, lookup, is_empty}
 use Rattle.vol_tree.specs.Calls.{unless, moved, moved_onto, is_within, directory_at}
 use Rattle.vol_tree.specs.PathLaws.{Maps, IsBelow, IsMoved, RenamedMap}
-use Rattle.vol_tree.specs.internal.Moves.{MovesIn, Moves}
+use Rattle.vol_tree.specs.internal.Moves.{MovesIn, MovesToName}
 use Rattle.vol_tree.proofs.Climbing.{may_move_in, onto_itself, moves_after, leads_left, parent_apart}
 use Rattle.vol_tree.proofs.Entries.{entry-changed_same, entry-changed_other}
 use Rattle.vol_tree.proofs.Lookups.{looked_up}
@@ -94,7 +94,7 @@ module _ (T U : Tree) (serial parent : ℕ) (name : Name) (t : IsTree T) (e : En
         let none : parent ≡ 0 = sym there.2 ∙ ap (λ (d : Entry). d.parent) is_root in
         none-some up.0 (ap (entry T) (sym none) ∙ up.1)
 
-    after : Moves Less serial parent name
+    after : MovesToName Less serial parent name
     after = moves_after T t serial parent target name m differ some bare
 
     less_tree : IsTree Less

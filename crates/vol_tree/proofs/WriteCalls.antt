@@ -30,7 +30,7 @@ use Rattle.vol_tree.specs.internal.Parts.{IsContent, AreTaken}
 use Rattle.vol_tree.proofs.Counts.{used_in, free_and_used}
 use Rattle.vol_tree.proofs.SlotsRead.{slots_count}
 use Rattle.vol_tree.proofs.Finding.{tree_entry, slot_within, size_back, length_tree}
-use Rattle.vol_body.specs.Bytes.{extended, resized_bytes, written_bytes}
+use Rattle.vol_body.specs.Bytes.{zero_extended, resized_bytes, written_bytes}
 use Rattle.vol_tree.proofs.Writes.{some_written, length_written, too_big, no_space, it_fits, space_changed}
 use Rattle.vol_log.specs.declared.layout.TheConstants.{FIRST_AFTER_LOG}
 
@@ -166,7 +166,7 @@ module _ (content : Image) (v : Superblock) (is : IsContent content v) (file : �
   long_sized : length R ≡ size
   long_sized =
       let old = bytes_at (tree_in content v) file in
-      omega (arith, length-take size (extended size old), length-append old (replicate (size - length old) 0), length-replicate {A = ℕ} (size - length old) 0)
+      omega (arith, length-take size (zero_extended size old), length-append old (replicate (size - length old) 0), length-replicate {A = ℕ} (size - length old) 0)
 
   abbrev d_entry : tree.Entry
   d_entry = entry_of content d

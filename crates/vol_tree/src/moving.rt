@@ -23,7 +23,7 @@ impl<D: Device> Parts<D> {
     ghost use Rattle.vol_tree.specs.Parts.{opened};
     ghost use Rattle.vol_tree.specs.internal.Parts.{IsOpen};
     ghost use Rattle.vol_tree.specs.internal.Commits.{Commits};
-    ghost use Rattle.vol_tree.specs.internal.Moves.{Moves, MovesIn, IsAbove, MovesTo};
+    ghost use Rattle.vol_tree.specs.internal.Moves.{MovesToName, MovesIn, IsAbove, MovesTo};
 
     /// Gives an entry another place or name, in place of the one that has it.
     pub fn rename(&mut self, serial: Serial, parent: Serial, name: &[u8]) -> Result<(), Errno>
@@ -62,7 +62,7 @@ impl<D: Device> Parts<D> {
         requires parent_first { 1 ≤ parent }
         requires name { IsName name.now }
         requires moves { D.honest (device_of self.old.log)
-            → Moves (opened self.old).tree serial parent name.now }
+            → MovesToName (opened self.old).tree serial parent name.now }
         ensures { Changes (with_unit (Ok (moved (opened self.old).tree serial parent name.now)))
             self.old self.new result }
     {
@@ -174,7 +174,7 @@ impl<D: Device> Parts<D> {
         requires slot { D.honest (device_of self.old.log)
             → slot_of (view self.old.log) self.old.numbers serial ≡ Some entry.now }
         requires moves { D.honest (device_of self.old.log)
-            → Moves (opened self.old).tree serial parent name.now }
+            → MovesToName (opened self.old).tree serial parent name.now }
         ensures { MovesTo serial parent name.now self.old self.new }
     {
         let to = named_entry(entry, parent, name);

@@ -11,7 +11,7 @@ ghost use Rattle.vol_body.specs.Survey.{IsTrimmed};
 ghost use Rattle.vol_dirs.specs.Names.{slots_of, Names, IsFree, IsNameOf, Shows};
 ghost use Rattle.vol_tree.specs.internal.Parts.{IsContent};
 ghost use Rattle.vol_tree.specs.internal.Replacing.{kind_is_directory};
-ghost use Rattle.vol_tree.specs.internal.Reads.{CanRead, held_at, IsNew, IsRight, AreBelow, Adds, AreWithin, FitIn, HaveRead};
+ghost use Rattle.vol_tree.specs.internal.Reads.{CanRead, held_at, IsNew, IsRight, AreBelow, AddsSlot, AreWithin, FitIn, HaveRead};
 
 use crate::superblock::Superblock;
 use std::alloc::{AllocError, Global};
@@ -38,7 +38,7 @@ pub(crate) struct Entries {
 impl Entries {
     /// Takes up a slot that isn't used.
     fn pass(&mut self) -> Result<(), VolumeFault>
-        ensures adds { OnOk result ((content : Image) → Adds content None self.old self.new) }
+        ensures adds { OnOk result ((content : Image) → AddsSlot content None self.old self.new) }
         ensures named { self.new.named.items ≡ self.old.named.items }
         ensures reserved { self.new.reserved ≡ self.old.reserved }
         ensures count { OnOk result
@@ -133,7 +133,7 @@ fn take_up<D: Device>(
     requires right { IsEntry numbers.now.version entry.now }
     requires within { AreWithin numbers.now found.old }
     ensures adds { D.honest (device_of log.old)
-        → OnOk result (Adds (view log.old) (Some entry.now) found.old found.new) }
+        → OnOk result (AddsSlot (view log.old) (Some entry.now) found.old found.new) }
     ensures within { OnOk result (AreWithin numbers.now found.new) }
     ensures count { OnOk result
         (length found.new.parents.items ≡ length found.old.parents.items + 1) }
@@ -176,7 +176,7 @@ fn read_slot<D: Device>(
     requires shown { D.honest (device_of log.old)
         → Shows numbers.now.version (view log.old) slot dirs.old }
     requires within { AreWithin numbers.now found.old }
-    ensures adds { D.honest (device_of log.old) → OnOk result (Adds (view log.old)
+    ensures adds { D.honest (device_of log.old) → OnOk result (AddsSlot (view log.old)
         (held_at (view log.old) numbers.now slot) found.old found.new) }
     ensures within { OnOk result (AreWithin numbers.now found.new) }
     ensures count { OnOk result

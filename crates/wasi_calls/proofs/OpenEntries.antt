@@ -14,11 +14,11 @@ use Rattle.wasi_fd.specs.declared.descriptor.Opened.{Opened as OpenedEntry}
 use Rattle.wasi_fd.specs.Table.{Table, streams}
 use Rattle.wasi_calls.specs.supplies.Random.{listed}
 use Rattle.wasi_calls.specs.World.{World}
-use Rattle.wasi_calls.specs.Checks.{Checked, Refusals, and_then, get, of_kind, descriptor, entry_at, range, only_directories, only_files, has, opened}
+use Rattle.wasi_calls.specs.Checks.{Checked, Refusals, and_then, get, of_kind, descriptor, entry_at, range, only_directories, only_files, has, opened_entry}
 use Rattle.wasi_calls.specs.internal.descriptors.Positions.{seekable}
 use Rattle.wasi_calls.specs.internal.Bodies.{KnowsEntries, IsFileOf}
 use Rattle.path_walk.specs.Walk.{IsEntryOf}
-use Rattle.wasi_calls.specs.internal.paths.Walks.{entered}
+use Rattle.wasi_calls.specs.internal.paths.Walks.{starting_directory}
 use Rattle.wasi_calls.proofs.checks.Chains.{bound, passed}
 use Rattle.wasi_calls.specs.internal.paths.Opening.{open_entered, flags_checked}
 use Rattle.wasi_calls.specs.declared.paths.opening.OpenCall.{OpenCall}
@@ -81,7 +81,7 @@ entered_row (Ok o) (Err e) k = refl
 entered_row (Err e) g k = refl
 
 pub entry_of : {D : Type 0} (honest : D → Type 0) (v : Opened D) (table : Table) → KnowsEntries honest v table → (m : List ℕ) (fd rights path len : ℕ) (o : OpenedEntry)
-    → ((w : World) → w.table ≡ table → entered w m fd rights path len ≡ Ok o) → IsEntryOf honest v o.serial
+    → ((w : World) → w.table ≡ table → starting_directory w m fd rights path len ≡ Ok o) → IsEntryOf honest v o.serial
 unfolding some_world
 entry_of honest v table known m fd rights path len o at =
     let w = some_world table in
@@ -173,8 +173,8 @@ renames_at honest v table known m a o p at =
     let same : ◌≡◌ {A = Descriptor × Descriptor} (one.0, two.0) pair = same_Ok (one.0, two.0) pair six.1 in
     let seven = bound (range m a.from_path a.from_len) _ (o, p) allowed.2 in
     let eight = bound (range m a.to_path a.to_len) _ (o, p) seven.2 in
-    let nine = bound (opened pair.0) _ (o, p) eight.2 in
-    let ten = bound (opened pair.1) _ (o, p) nine.2 in
+    let nine = bound (opened_entry pair.0) _ (o, p) eight.2 in
+    let ten = bound (opened_entry pair.1) _ (o, p) nine.2 in
     let both : ◌≡◌ {A = OpenedEntry × OpenedEntry} (nine.0, ten.0) (o, p) = same_Ok (nine.0, ten.0) (o, p) ten.2 in
     let from : table a.from_fd ≡ Some (Entry o) =
     parts.ok_or_some (table a.from_fd) 8 one.0 one.1 ∙ ap Some (ap (λ (q : Descriptor × Descriptor). q.0) same ∙ parts.opened_is pair.0 nine.0 nine.1 ∙ ap (λ (q : OpenedEntry × OpenedEntry). Entry q.0) both) in

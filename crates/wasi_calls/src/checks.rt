@@ -7,7 +7,7 @@ ghost use Rattle.wasm_store.specs.Bytes.{written};
 ghost use Rattle.wasi_fd.specs.Table.{table_of};
 ghost use Rattle.wasi_fd.specs.Rights.{bits_of};
 ghost use Rattle.wasi_calls.specs.World.{World};
-ghost use Rattle.wasi_calls.specs.Checks.{guard, range, get, of_kind, has, descriptor, opened, entry_at as entry};
+ghost use Rattle.wasi_calls.specs.Checks.{guard, range, get, of_kind, has, descriptor, opened_entry, entry_at as entry};
 ghost use Rattle.wasi_calls.specs.internal.Bodies.{refusals_of};
 
 use crate::errno::{ISDIR, NOTCAPABLE, NOTDIR, SPIPE};
@@ -137,8 +137,8 @@ pub(crate) fn allowed<'t>(
 
 /// What the descriptor of an entry opened.
 pub(crate) fn opened_of<'t>(descriptor: Descriptor<'t>) -> Result<Opened<'t>, Errno>
-    ensures { MatchResult result (λ o. opened descriptor.entry ≡ Ok o)
-        (λ e. opened descriptor.entry ≡ Err e.0) }
+    ensures { MatchResult result (λ o. opened_entry descriptor.entry ≡ Ok o)
+        (λ e. opened_entry descriptor.entry ≡ Err e.0) }
 {
     match descriptor {
         Descriptor::Stream(_) => Err(Errno::BADF),

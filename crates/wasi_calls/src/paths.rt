@@ -15,7 +15,7 @@ ghost use Rattle.path_walk.specs.Walk.{IsEntryOf, IsReached};
 ghost use Rattle.wasi_calls.specs.World.{World};
 ghost use Rattle.wasi_calls.specs.host.Worlds.{VolumeStep};
 ghost use Rattle.wasi_calls.specs.internal.Bodies.{with_volume, KnowsEntries, errno_of};
-ghost use Rattle.wasi_calls.specs.internal.paths.Walks.{StillWorks, Reaches, Places, Finds, entered};
+ghost use Rattle.wasi_calls.specs.internal.paths.Walks.{StillWorks, Reaches, Places, FindsBytes, starting_directory};
 ghost use Rattle.wasi_calls.specs.paths.Rows.{path_filestat_get as stat_row, path_create_directory as create_row};
 
 use crate::checks::{Takes, check_range, entry_at, write_bytes};
@@ -60,8 +60,8 @@ pub(crate) fn enter<'t, 'm>(
     rights: Rights,
 ) -> Result<(Opened<'t>, &'m [u8]), Errno>
     ensures row { (w : World) → w.table ≡ table_of descriptors.now → MatchResult result
-        (λ p. entered w memory.now fd (bits_of rights) path len ≡ Ok p.0)
-        (λ e. entered w memory.now fd (bits_of rights) path len ≡ Err e.0) }
+        (λ p. starting_directory w memory.now fd (bits_of rights) path len ≡ Ok p.0)
+        (λ e. starting_directory w memory.now fd (bits_of rights) path len ≡ Err e.0) }
     ensures text { IfOk result (λ p. p.1.now ≡ bytes_at memory.now path len) }
 {
     let opened = entry_at(descriptors, fd, Takes::Directories, rights)?;
@@ -87,7 +87,7 @@ fn stat_path<D: Device>(
     ensures io { errno_of result ≡ 29 → volume.new.failed ≡ true }
     ensures inside { OnOk result (result_at + 64 ≤ length memory.now) }
     ensures finds { D.honest volume.old.device → (w : World) → w.table ≡ table_of descriptors.now → w ≡ with_volume volume.old w
-        → Finds (λ v. stat_row v memory.now fd path len result_at) w memory.now volume.new result_at result }
+        → FindsBytes (λ v. stat_row v memory.now fd path len result_at) w memory.now volume.new result_at result }
 {
     let (directory, text) = match enter(
         descriptors,

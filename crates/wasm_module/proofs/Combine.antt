@@ -5,8 +5,8 @@ use Rattle.std.proofs.lemmas.List.{append-nil, take_at, drop_at, take-append-dro
 use Rattle.wasm_module.specs.declared.number.Sign.TheVariants.{Unsigned}
 use Rattle.std.specs.Str.{IsUtf8, is_utf8}
 use Rattle.std.proofs.lemmas.Str.{IsUtf8-from_is_utf8, is_utf8-from_IsUtf8}
-use Rattle.wasm_module.specs.Grammar.{Byte, Then, Each, U32, Vector, Sized, Raw, Text, SpellsName}
-use Rattle.wasm_module.specs.internal.Reading.{◌>>=◌, Reader, WholeReader, raw_of, text_of, name_at, byte_at, then_at, map_at, many_at, u32_at, vector_at, piece_at, whole, sized_at}
+use Rattle.wasm_module.specs.Grammar.{Byte, Then, Each, U32, Vector, Sized, Raw, Utf8Text, SpellsName}
+use Rattle.wasm_module.specs.internal.Reading.{◌>>=◌, Reader, WholeReader, raw_of, utf8_text_of, name_at, byte_at, then_at, map_at, many_at, u32_at, vector_at, piece_at, whole, sized_at}
 use Rattle.wasm_module.proofs.Laws.{bind_some, guard_some, some_is, Front, Reads, ReadsWhole, reads_number}
 
 -- one byte
@@ -149,8 +149,8 @@ reads_sized X A w rw_ = record {
 -- ---- names
 
 -- text in UTF-8
-pub reads_text : ReadsWhole (List ℕ) Text text_of
-unfolding text_of
+pub reads_text : ReadsWhole (List ℕ) Utf8Text utf8_text_of
+unfolding utf8_text_of
 reads_text = record {
   takes = λ bytes x e. let g = guard_some (is_utf8 bytes) bytes x e in (g.1, subst IsUtf8 g.1 (IsUtf8-from_is_utf8 bytes g.0));
   again = λ bytes x h. let valid : is_utf8 bytes ≡ true = is_utf8-from_IsUtf8 bytes (subst IsUtf8 (sym h.0) h.1) in rw (valid, h.0) refl;
@@ -159,7 +159,7 @@ reads_text = record {
 -- names
 pub reads_name : Reads (List ℕ) SpellsName name_at
 unfolding name_at
-reads_name = reads_sized (List ℕ) Text text_of reads_text
+reads_name = reads_sized (List ℕ) Utf8Text utf8_text_of reads_text
 
 -- any bytes
 pub reads_raw : ReadsWhole (List ℕ) Raw raw_of

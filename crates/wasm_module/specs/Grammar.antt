@@ -31,9 +31,9 @@ Sized A text x = (size : List ℕ) × (content : List ℕ) × U32 size (length c
 abbrev pub Raw : List ℕ → List ℕ → Type 0
 Raw text bytes = text ≡ bytes
 
-abbrev pub Text : List ℕ → List ℕ → Type 0
-Text text name = (text ≡ name) × IsUtf8 name
+abbrev pub Utf8Text : List ℕ → List ℕ → Type 0
+Utf8Text text name = (text ≡ name) × IsUtf8 name
 
 -- a name (section 5.2.4)
 abbrev pub SpellsName : List ℕ → List ℕ → Type 0
-SpellsName = Sized Text
+SpellsName = Sized Utf8Text

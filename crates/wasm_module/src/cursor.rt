@@ -2,7 +2,7 @@
 
 ghost use Rattle.std.specs.Prelude.{◌≡◌, ◌==◌, ◌^◌, ◌<◌, ◌≤◌, [], length, IfOk, MatchResult};
 ghost use Rattle.wasm_module.specs.internal.CodeReading.{s32_at, s64_at, one_more_at, code_at};
-ghost use Rattle.wasm_module.specs.internal.Reading.{Gives, Reader, byte_at, number_at, u32_at, next_at, begins, many_at, vector_at, piece_at, whole, sized_at, raw_of, text_of, name_at, custom_of, customs_at, section_at};
+ghost use Rattle.wasm_module.specs.internal.Reading.{Gives, Reader, byte_at, number_at, u32_at, next_at, begins, many_at, vector_at, piece_at, whole, sized_at, raw_of, utf8_text_of, name_at, custom_of, customs_at, section_at};
 
 use crate::fault::LoadFault;
 use crate::instruction::Instruction;
@@ -306,7 +306,7 @@ impl<'a> Cursor<'a> {
     /// All of the bytes, as a name.
     #[tactic(auto, using(crate::proofs::Texts::is_text, crate::proofs::Texts::is_no_text))]
     fn text(self) -> Result<Name<'a>, LoadFault>
-        ensures { Gives (λ x. x) result (text_of self.entry) }
+        ensures { Gives (λ x. x) result (utf8_text_of self.entry) }
     {
         match simdutf8::basic::from_utf8(self.rest) {
             Ok(text) => Ok(Name::new(text)),

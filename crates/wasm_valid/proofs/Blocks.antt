@@ -14,8 +14,8 @@ use Rattle.wasm_valid.specs.declared.control_frames.BlockKind.TheVariants.{Block
 use Rattle.wasm_valid.specs.Typing.{Context, Labels, OpTyped, Typed, results_of}
 use Rattle.wasm_valid.specs.internal.Stack.{Stack, nothing, if_true, pop, push, can_be}
 use Rattle.wasm_valid.specs.internal.Effects.{after}
-use Rattle.wasm_valid.specs.internal.Blocks.{OpenBlock, label_of, labels_of, opened, with_stack, may_end, ends, is_if, ended, elsed, on_stack, opened_in, stepped, is_finished}
-use Rattle.wasm_valid.specs.internal.Fits.{Fits}
+use Rattle.wasm_valid.specs.internal.Blocks.{OpenBlock, label_of, labels_of, new_block, with_stack, may_end, ends, is_if, ended, elsed, on_stack, opened_in, stepped, is_finished}
+use Rattle.wasm_valid.specs.internal.Fits.{FitsTypes}
 use Rattle.wasm_valid.specs.internal.Bodies.{Split, IsNone, Run, Part, Ending, Going}
 use Rattle.wasm_valid.proofs.Heads.{same_head, same_tail, same_some, some_not_none, same_block, same_loop, same_if, block_not_loop, block_not_if, loop_not_if, else_not_end, some_first}
 use Rattle.wasm_valid.proofs.Fitting.{pop_complete, pop_sound, push_complete, push_sound, can_be_fits, fits_can_be}
@@ -53,7 +53,7 @@ Never c ls i s = (last : Instruction) (rs : List ValueType) (flat : List Instruc
 
 -- ---- plain instructions
 
-plain_goes : (c : Context) (ls : Labels) (i : Instruction) (s : Stack) → IsPlain i → (last : Instruction) (rs : List ValueType) (flat : List Instruction) → IsLast last → (code : Instructions) (a : List ValueType) → IsWritten code → flatten last code ≡ i ∷ flat → Fits s a → Typed c ls code a rs
+plain_goes : (c : Context) (ls : Labels) (i : Instruction) (s : Stack) → IsPlain i → (last : Instruction) (rs : List ValueType) (flat : List Instruction) → IsLast last → (code : Instructions) (a : List ValueType) → IsWritten code → flatten last code ≡ i ∷ flat → FitsTypes s a → Typed c ls code a rs
     → (r : Stack) × (after c ls i s ≡ Some r) × Run last c ls r rs flat
 plain_goes c ls i s p last rs flat l done a w e f t = absurd (plain_last i p (subst IsLast (same_head e) l))
 plain_goes c ls i s p last rs flat l (plain j rest) a w e f t =
@@ -88,13 +88,13 @@ plain_never c ls i s p e last rs flat l q =
 -- ---- the beginning of a block
 
 -- nothing but the empty stack fits where nothing is
-only_nothing : (a : List ValueType) → Fits nothing a → a ≡ []
+only_nothing : (a : List ValueType) → FitsTypes nothing a → a ≡ []
 only_nothing a f = f
 
 abbrev BlockTurn : Context → Labels → BlockType → Stack → Instruction → List ValueType → List Instruction → Type 0
 BlockTurn c ls t s last rs flat = Split (Run op.End c (results_of t ∷ ls) nothing (results_of t)) (Run last c ls (push (results_of t) s) rs) flat
 
-block_goes : (c : Context) (ls : Labels) (t : BlockType) (s : Stack) (last : Instruction) (rs : List ValueType) (flat : List Instruction) → IsLast last → (code : Instructions) (a : List ValueType) → IsWritten code → flatten last code ≡ op.Block t ∷ flat → Fits s a → Typed c ls code a rs → BlockTurn c ls t s last rs flat
+block_goes : (c : Context) (ls : Labels) (t : BlockType) (s : Stack) (last : Instruction) (rs : List ValueType) (flat : List Instruction) → IsLast last → (code : Instructions) (a : List ValueType) → IsWritten code → flatten last code ≡ op.Block t ∷ flat → FitsTypes s a → Typed c ls code a rs → BlockTurn c ls t s last rs flat
 block_goes c ls t s last rs flat l done a w e f h = absurd (subst IsLast (same_head e) l)
 block_goes c ls t s last rs flat l (plain j rest) a w e f h = absurd (subst IsPlain (same_head e) w.0)
 block_goes c ls t s last rs flat l (block u body rest) a w e f h =
@@ -140,7 +140,7 @@ block_turns c ls t s = record {
 abbrev LoopTurn : Context → Labels → BlockType → Stack → Instruction → List ValueType → List Instruction → Type 0
 LoopTurn c ls t s last rs flat = Split (Run op.End c ([] ∷ ls) nothing (results_of t)) (Run last c ls (push (results_of t) s) rs) flat
 
-loop_goes : (c : Context) (ls : Labels) (t : BlockType) (s : Stack) (last : Instruction) (rs : List ValueType) (flat : List Instruction) → IsLast last → (code : Instructions) (a : List ValueType) → IsWritten code → flatten last code ≡ op.Loop t ∷ flat → Fits s a → Typed c ls code a rs → LoopTurn c ls t s last rs flat
+loop_goes : (c : Context) (ls : Labels) (t : BlockType) (s : Stack) (last : Instruction) (rs : List ValueType) (flat : List Instruction) → IsLast last → (code : Instructions) (a : List ValueType) → IsWritten code → flatten last code ≡ op.Loop t ∷ flat → FitsTypes s a → Typed c ls code a rs → LoopTurn c ls t s last rs flat
 loop_goes c ls t s last rs flat l done a w e f h = absurd (subst IsLast (same_head e) l)
 loop_goes c ls t s last rs flat l (plain j rest) a w e f h = absurd (subst IsPlain (same_head e) w.0)
 loop_goes c ls t s last rs flat l (loop u body rest) a w e f h =
@@ -187,13 +187,13 @@ IfTurn c ls t r last rs flat = Split (Part c (results_of t ∷ ls) If t nothing)
 abbrev IfGoes : Context → Labels → BlockType → Stack → Instruction → List ValueType → List Instruction → Type 0
 IfGoes c ls t s last rs flat = (r : Stack) × (pop I32 s ≡ Some r) × IfTurn c ls t r last rs flat
 
-if_goes : (c : Context) (ls : Labels) (t : BlockType) (s : Stack) (last : Instruction) (rs : List ValueType) (flat : List Instruction) → IsLast last → (code : Instructions) (a : List ValueType) → IsWritten code → flatten last code ≡ op.If t ∷ flat → Fits s a → Typed c ls code a rs → IfGoes c ls t s last rs flat
+if_goes : (c : Context) (ls : Labels) (t : BlockType) (s : Stack) (last : Instruction) (rs : List ValueType) (flat : List Instruction) → IsLast last → (code : Instructions) (a : List ValueType) → IsWritten code → flatten last code ≡ op.If t ∷ flat → FitsTypes s a → Typed c ls code a rs → IfGoes c ls t s last rs flat
 if_goes c ls t s last rs flat l done a w e f h = absurd (subst IsLast (same_head e) l)
 if_goes c ls t s last rs flat l (plain j rest) a w e f h = absurd (subst IsPlain (same_head e) w.0)
 if_goes c ls t s last rs flat l (if_then u body rest) a w e f h =
     let none : Empty ≡ t = (let k = h.2 in cc) in
     let more : flatten op.End body ++ flatten last rest ≡ flat = same_tail e in
-    let x = pop_complete s I32 h.0 (subst (λ (y : List ValueType). Fits s y) h.1 f) in
+    let x = pop_complete s I32 h.0 (subst (λ (y : List ValueType). FitsTypes s y) h.1 f) in
     let made : IfTurn c ls Empty x.0 last rs flat = record {
       front = flatten op.End body;
       back = flatten last rest;
@@ -205,7 +205,7 @@ if_goes c ls t s last rs flat l (if_then u body rest) a w e f h =
 if_goes c ls t s last rs flat l (if_else u body other rest) a w e f h =
     let same : u ≡ t = same_if (same_head e) in
     let more : (flatten op.Else body ++ flatten op.End other) ++ flatten last rest ≡ flat = same_tail e in
-    let x = pop_complete s I32 h.0 (subst (λ (y : List ValueType). Fits s y) h.1 f) in
+    let x = pop_complete s I32 h.0 (subst (λ (y : List ValueType). FitsTypes s y) h.1 f) in
     let made : IfTurn c ls u x.0 last rs flat = record {
       front = flatten op.Else body ++ flatten op.End other;
       back = flatten last rest;
@@ -281,8 +281,8 @@ if_never c ls t s e last rs flat l q =
 
 -- ---- the end of a part
 
-last_goes : (c : Context) (ls : Labels) (i : Instruction) (s : Stack) (last : Instruction) (rs : List ValueType) (flat : List Instruction) → IsLast last → IsLast i → (code : Instructions) (a : List ValueType) → IsWritten code → flatten last code ≡ i ∷ flat → Fits s a → Typed c ls code a rs → (last ≡ i) × IsNone flat × Fits s rs
-last_goes c ls i s last rs flat l m done a w e f h = (same_head e, sym (same_tail e), subst (λ (y : List ValueType). Fits s y) h f)
+last_goes : (c : Context) (ls : Labels) (i : Instruction) (s : Stack) (last : Instruction) (rs : List ValueType) (flat : List Instruction) → IsLast last → IsLast i → (code : Instructions) (a : List ValueType) → IsWritten code → flatten last code ≡ i ∷ flat → FitsTypes s a → Typed c ls code a rs → (last ≡ i) × IsNone flat × FitsTypes s rs
+last_goes c ls i s last rs flat l m done a w e f h = (same_head e, sym (same_tail e), subst (λ (y : List ValueType). FitsTypes s y) h f)
 last_goes c ls i s last rs flat l m (plain j rest) a w e f h = absurd (plain_last i (subst IsPlain (same_head e) w.0) m)
 last_goes c ls i s last rs flat l m (block u body rest) a w e f h = absurd (subst IsLast (sym (same_head e)) m)
 last_goes c ls i s last rs flat l m (loop u body rest) a w e f h = absurd (subst IsLast (sym (same_head e)) m)
@@ -290,10 +290,10 @@ last_goes c ls i s last rs flat l m (if_then u body rest) a w e f h = absurd (su
 last_goes c ls i s last rs flat l m (if_else u body other rest) a w e f h = absurd (subst IsLast (sym (same_head e)) m)
 last_goes c ls i s last rs flat l m (invoke x rest) a w e f h = absurd w
 
-run_last : (c : Context) (ls : Labels) (i : Instruction) (s : Stack) (last : Instruction) (rs : List ValueType) (flat : List Instruction) → IsLast last → IsLast i → Run last c ls s rs (i ∷ flat) → (last ≡ i) × IsNone flat × Fits s rs
+run_last : (c : Context) (ls : Labels) (i : Instruction) (s : Stack) (last : Instruction) (rs : List ValueType) (flat : List Instruction) → IsLast last → IsLast i → Run last c ls s rs (i ∷ flat) → (last ≡ i) × IsNone flat × FitsTypes s rs
 run_last c ls i s last rs flat l m q = last_goes c ls i s last rs flat l m q.code q.from q.written q.is q.fits q.typed
 
-last_run : (c : Context) (ls : Labels) (s : Stack) (last : Instruction) (rs : List ValueType) → Fits s rs → Run last c ls s rs (last ∷ [])
+last_run : (c : Context) (ls : Labels) (s : Stack) (last : Instruction) (rs : List ValueType) → FitsTypes s rs → Run last c ls s rs (last ∷ [])
 last_run c ls s last rs f = record { code = done; written = tt; is = refl; from = rs; fits = f; typed = refl }
 
 -- ---- in an open block
@@ -368,7 +368,7 @@ part_comes c ls i s r A turn If t flat q =
 -- ---- the ends of parts
 
 -- of a part with an else, what stands before the else
-before_else : (c : Context) (ls : Labels) (t : BlockType) (s : Stack) (i : Instruction) (flat front back : List Instruction) → IsLast i → i ∷ flat ≡ front ++ back → Run op.Else c ls s (results_of t) front → (op.Else ≡ i) × (flat ≡ back) × Fits s (results_of t)
+before_else : (c : Context) (ls : Labels) (t : BlockType) (s : Stack) (i : Instruction) (flat front back : List Instruction) → IsLast i → i ∷ flat ≡ front ++ back → Run op.Else c ls s (results_of t) front → (op.Else ≡ i) × (flat ≡ back) × FitsTypes s (results_of t)
 before_else c ls t s i flat [] back l e k = absurd (run_some c ls s op.Else (results_of t) k)
 before_else c ls t s i flat (j ∷ x) back l e k =
     let same : j ≡ i = sym (same_head e) in
@@ -529,7 +529,7 @@ same_label Loop t e = cc
 
 else_answer : (c : Context) (flat : List Instruction) (b : OpenBlock) (bs : List OpenBlock) → Answered c op.Else flat (b ∷ bs) (elsed b bs)
 else_answer c flat b bs = by_test (is_if b.kind && can_be (results_of b.block_type) b.stack) refl where
-  by_test : (t : Bool) → is_if b.kind && can_be (results_of b.block_type) b.stack ≡ t → Answered c op.Else flat (b ∷ bs) (if_true t (opened Block b.block_type ∷ bs))
+  by_test : (t : Bool) → is_if b.kind && can_be (results_of b.block_type) b.stack ≡ t → Answered c op.Else flat (b ∷ bs) (if_true t (new_block Block b.block_type ∷ bs))
   by_test true e =
       let same = same_label b.kind b.block_type (and_true (is_if b.kind) (can_be (results_of b.block_type) b.stack) e).0 in (
         (λ q. subst (λ (k : List ValueType). Split (Run op.End c (k ∷ labels_of bs) nothing (results_of b.block_type)) (Ending c bs (results_of b.block_type)) flat) same (else_goes c b bs flat q).1),
@@ -580,7 +580,7 @@ finish_answer c (b ∷ []) t e = ((λ h. end_comes c b [] [] (sym e ∙ h) refl)
 finish_answer c (b ∷ d ∷ bs) t e = ((λ h. cc), (λ q. absurd (no_ending c d bs (results_of b.block_type) (end_goes c b (d ∷ bs) [] q).1)))
 
 -- code is typed from the beginning of its body
-pub body_from : (c : Context) (t : BlockType) (flat : List Instruction) → Going c (opened Block t ∷ []) flat → (code : Instructions) × IsWritten code × (flatten op.End code ≡ flat) × Typed c (results_of t ∷ []) code [] (results_of t)
+pub body_from : (c : Context) (t : BlockType) (flat : List Instruction) → Going c (new_block Block t ∷ []) flat → (code : Instructions) × IsWritten code × (flatten op.End code ≡ flat) × Typed c (results_of t ∷ []) code [] (results_of t)
 body_from c t flat q =
     let k = q.first in
     let same : k.from ≡ [] = only_nothing k.from k.fits in
@@ -589,7 +589,7 @@ body_from c t flat q =
       no_back [] = refl
       no_back (i ∷ l) = ap (λ (x : List Instruction). i ∷ x) (no_back l)
 
-pub from_body : (c : Context) (t : BlockType) (flat : List Instruction) (code : Instructions) → IsWritten code → flatten op.End code ≡ flat → Typed c (results_of t ∷ []) code [] (results_of t) → Going c (opened Block t ∷ []) flat
+pub from_body : (c : Context) (t : BlockType) (flat : List Instruction) (code : Instructions) → IsWritten code → flatten op.End code ≡ flat → Typed c (results_of t ∷ []) code [] (results_of t) → Going c (new_block Block t ∷ []) flat
 from_body c t flat code w e h = record {
   front = flat;
   back = [];

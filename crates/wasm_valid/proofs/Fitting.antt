@@ -5,7 +5,7 @@ use Rattle.std.specs.Option.{option_map, option_and_then}
 use Rattle.wasm_module.specs.declared.instruction.ValueType.{ValueType}
 use Rattle.wasm_module.specs.declared.instruction.ValueType.TheVariants.{I32, I64}
 use Rattle.wasm_valid.specs.Typing.{Moves, Leaves}
-use Rattle.wasm_valid.specs.internal.Fits.{Agrees, FitsList, Fits}
+use Rattle.wasm_valid.specs.internal.Fits.{Agrees, FitsList, FitsTypes}
 use Rattle.wasm_valid.specs.internal.Stack.{Stack, anything, if_true, when, is_same, agrees, pop_any_of, pop_any, pop, pops, push_any, push, moved, left, dropped, meet, select_from, selected, is_emptied, can_be}
 
 -- ---- answers that may be none
@@ -46,48 +46,48 @@ agrees_same (Some u) t e = is_same_same u t e
 
 -- ---- the top
 
-any_complete : (os : List (Option ValueType)) (u : Bool) (t : ValueType) (ts : List ValueType) → FitsList os u (t ∷ ts) → (p : Option ValueType × Stack) × (pop_any_of os u ≡ Some p) × Agrees p.0 t × Fits p.1 ts
+any_complete : (os : List (Option ValueType)) (u : Bool) (t : ValueType) (ts : List ValueType) → FitsList os u (t ∷ ts) → (p : Option ValueType × Stack) × (pop_any_of os u ≡ Some p) × Agrees p.0 t × FitsTypes p.1 ts
 any_complete [] false t ts f = cc
 any_complete [] true t ts f = ((None, anything), refl, tt, tt)
 any_complete (o ∷ os) u t ts f = ((o, record { known = os; unreachable = u }), refl, f.0, f.1)
 
-any_sound : (os : List (Option ValueType)) (u : Bool) (p : Option ValueType × Stack) (t : ValueType) (ts : List ValueType) → pop_any_of os u ≡ Some p → Agrees p.0 t → Fits p.1 ts → FitsList os u (t ∷ ts)
+any_sound : (os : List (Option ValueType)) (u : Bool) (p : Option ValueType × Stack) (t : ValueType) (ts : List ValueType) → pop_any_of os u ≡ Some p → Agrees p.0 t → FitsTypes p.1 ts → FitsList os u (t ∷ ts)
 any_sound [] false p t ts e a f = cc
 any_sound [] true p t ts e a f = tt
 any_sound (o ∷ os) u p t ts e a f =
     let q : Option ValueType × Stack = (o, record { known = os; unreachable = u }) in
     let g : q ≡ p = cc in
-    (subst (λ (y : Option ValueType × Stack). Agrees y.0 t) (sym g) a, subst (λ (y : Option ValueType × Stack). Fits y.1 ts) (sym g) f)
+    (subst (λ (y : Option ValueType × Stack). Agrees y.0 t) (sym g) a, subst (λ (y : Option ValueType × Stack). FitsTypes y.1 ts) (sym g) f)
 
-pub pop_complete : (s : Stack) (t : ValueType) (ts : List ValueType) → Fits s (t ∷ ts) → (r : Stack) × (pop t s ≡ Some r) × Fits r ts
+pub pop_complete : (s : Stack) (t : ValueType) (ts : List ValueType) → FitsTypes s (t ∷ ts) → (r : Stack) × (pop t s ≡ Some r) × FitsTypes r ts
 pop_complete s t ts f =
     let p = any_complete s.known s.unreachable t ts f in
     (p.0.1, ap (option_and_then (λ (y : Option ValueType × Stack). if_true (agrees y.0 t) y.1)) p.1 ∙ ap (λ (b : Bool). if_true b p.0.1) (agrees_same p.0.0 t p.2), p.3)
 
-pub pop_sound : (s r : Stack) (t : ValueType) (ts : List ValueType) → pop t s ≡ Some r → Fits r ts → Fits s (t ∷ ts)
+pub pop_sound : (s r : Stack) (t : ValueType) (ts : List ValueType) → pop t s ≡ Some r → FitsTypes r ts → FitsTypes s (t ∷ ts)
 pop_sound s r t ts e f =
     let p = and_then_some (λ (y : Option ValueType × Stack). if_true (agrees y.0 t) y.1) (pop_any s) r e in
     let q = if_true_some (agrees p.0.0 t) p.0.1 r p.2 in
-    any_sound s.known s.unreachable p.0 t ts p.1 (agrees_true p.0.0 t q.0) (subst (λ (y : Stack). Fits y ts) (sym q.1) f)
+    any_sound s.known s.unreachable p.0 t ts p.1 (agrees_true p.0.0 t q.0) (subst (λ (y : Stack). FitsTypes y ts) (sym q.1) f)
 
-pub pops_complete : (takes : List ValueType) (s : Stack) (ts : List ValueType) → Fits s (takes ++ ts) → (r : Stack) × (pops takes s ≡ Some r) × Fits r ts
+pub pops_complete : (takes : List ValueType) (s : Stack) (ts : List ValueType) → FitsTypes s (takes ++ ts) → (r : Stack) × (pops takes s ≡ Some r) × FitsTypes r ts
 pops_complete [] s ts f = (s, refl, f)
 pops_complete (t ∷ takes) s ts f =
     let p = pop_complete s t (takes ++ ts) f in
     let q = pops_complete takes p.0 ts p.2 in
     (q.0, ap (option_and_then (pops takes)) p.1 ∙ q.1, q.2)
 
-pub pops_sound : (takes : List ValueType) (s r : Stack) (ts : List ValueType) → pops takes s ≡ Some r → Fits r ts → Fits s (takes ++ ts)
-pops_sound [] s r ts e f = let g : s ≡ r = cc in subst (λ (y : Stack). Fits y ts) (sym g) f
+pub pops_sound : (takes : List ValueType) (s r : Stack) (ts : List ValueType) → pops takes s ≡ Some r → FitsTypes r ts → FitsTypes s (takes ++ ts)
+pops_sound [] s r ts e f = let g : s ≡ r = cc in subst (λ (y : Stack). FitsTypes y ts) (sym g) f
 pops_sound (t ∷ takes) s r ts e f =
     let m = and_then_some (pops takes) (pop t s) r e in
     pop_sound s m.0 t (takes ++ ts) m.1 (pops_sound takes m.0 r ts m.2 f)
 
-pub push_complete : (gives : List ValueType) (s : Stack) (ts : List ValueType) → Fits s ts → Fits (push gives s) (gives ++ ts)
+pub push_complete : (gives : List ValueType) (s : Stack) (ts : List ValueType) → FitsTypes s ts → FitsTypes (push gives s) (gives ++ ts)
 push_complete [] s ts f = f
 push_complete (t ∷ gives) s ts f = (refl, push_complete gives s ts f)
 
-pub push_sound : (gives : List ValueType) (s : Stack) (b : List ValueType) → Fits (push gives s) b → (ts : List ValueType) × (b ≡ gives ++ ts) × Fits s ts
+pub push_sound : (gives : List ValueType) (s : Stack) (b : List ValueType) → FitsTypes (push gives s) b → (ts : List ValueType) × (b ≡ gives ++ ts) × FitsTypes s ts
 push_sound [] s b f = (b, refl, f)
 push_sound (t ∷ gives) s [] f = absurd f
 push_sound (t ∷ gives) s (u ∷ b) f =
@@ -104,7 +104,7 @@ some_list [] false = ([], refl)
 some_list [] true = ([], tt)
 some_list (o ∷ os) u = let t = some_type o in let r = some_list os u in (t.0 ∷ r.0, (t.1, r.1))
 
-pub some_fit : (s : Stack) → (ts : List ValueType) × Fits s ts
+pub some_fit : (s : Stack) → (ts : List ValueType) × FitsTypes s ts
 some_fit s = some_list s.known s.unreachable
 
 -- ---- what is on the stack at the end of a block
@@ -119,7 +119,7 @@ fits_emptied [] false e = refl
 fits_emptied [] true e = refl
 fits_emptied (o ∷ os) u e = absurd e
 
-emptied_some : (o : Option Stack) → is_emptied o ≡ true → (r : Stack) × (o ≡ Some r) × Fits r []
+emptied_some : (o : Option Stack) → is_emptied o ≡ true → (r : Stack) × (o ≡ Some r) × FitsTypes r []
 emptied_some None e = cc
 emptied_some (Some r) e = (r, refl, emptied_fits r.known r.unreachable e)
 
@@ -127,22 +127,22 @@ no_more : (ts : List ValueType) → ts ++ [] ≡ ts
 no_more [] = refl
 no_more (t ∷ ts) = ap (λ (l : List ValueType). t ∷ l) (no_more ts)
 
-pub can_be_fits : (ts : List ValueType) (s : Stack) → can_be ts s ≡ true → Fits s ts
+pub can_be_fits : (ts : List ValueType) (s : Stack) → can_be ts s ≡ true → FitsTypes s ts
 can_be_fits ts s e =
     let r = emptied_some (pops ts s) e in
-    subst (λ (l : List ValueType). Fits s l) (no_more ts) (pops_sound ts s r.0 [] r.1 r.2)
+    subst (λ (l : List ValueType). FitsTypes s l) (no_more ts) (pops_sound ts s r.0 [] r.1 r.2)
 
-pub fits_can_be : (ts : List ValueType) (s : Stack) → Fits s ts → can_be ts s ≡ true
+pub fits_can_be : (ts : List ValueType) (s : Stack) → FitsTypes s ts → can_be ts s ≡ true
 fits_can_be ts s f =
-    let r = pops_complete ts s [] (subst (λ (l : List ValueType). Fits s l) (sym (no_more ts)) f) in
+    let r = pops_complete ts s [] (subst (λ (l : List ValueType). FitsTypes s l) (sym (no_more ts)) f) in
     ap is_emptied r.1 ∙ fits_emptied r.0.known r.0.unreachable r.2
 
 -- ---- what goes from one stack to another
 
 -- what this makes of a stack is what the relation leaves of what fits it
 pub record ComputesTyping (R : List ValueType → List ValueType → Type 0) (s : Stack) (o : Option Stack) : Type 0 where
-  pub complete : (a b : List ValueType) → Fits s a → R a b → (r : Stack) × (o ≡ Some r) × Fits r b
-  pub sound : (r : Stack) (b : List ValueType) → o ≡ Some r → Fits r b → (a : List ValueType) × Fits s a × R a b
+  pub complete : (a b : List ValueType) → FitsTypes s a → R a b → (r : Stack) × (o ≡ Some r) × FitsTypes r b
+  pub sound : (r : Stack) (b : List ValueType) → o ≡ Some r → FitsTypes r b → (a : List ValueType) × FitsTypes s a × R a b
 
 pub ComputesTyping-same : (R Q : List ValueType → List ValueType → Type 0) (s : Stack) (o : Option Stack) → ((a b : List ValueType) → R a b → Q a b) → ((a b : List ValueType) → Q a b → R a b) → ComputesTyping R s o → ComputesTyping Q s o
 ComputesTyping-same R Q s o to from w = record {
@@ -184,18 +184,18 @@ ComputesTyping-never R s never = record {
 pub moved_walks : (takes gives : List ValueType) (s : Stack) → ComputesTyping (λ a b. Moves takes gives a b) s (moved takes gives s)
 moved_walks takes gives s = record {
   complete = λ a b f m.
-      let p = pops_complete takes s m.0 (subst (λ (y : List ValueType). Fits s y) m.1 f) in
-      (push gives p.0, ap (option_map (push gives)) p.1, subst (λ (y : List ValueType). Fits (push gives p.0) y) (sym m.2) (push_complete gives p.0 m.0 p.2));
+      let p = pops_complete takes s m.0 (subst (λ (y : List ValueType). FitsTypes s y) m.1 f) in
+      (push gives p.0, ap (option_map (push gives)) p.1, subst (λ (y : List ValueType). FitsTypes (push gives p.0) y) (sym m.2) (push_complete gives p.0 m.0 p.2));
   sound = λ r b e f.
       let m = map_some (push gives) (pops takes s) r e in
-      let q = push_sound gives m.0 b (subst (λ (y : Stack). Fits y b) (sym m.2) f) in
+      let q = push_sound gives m.0 b (subst (λ (y : Stack). FitsTypes y b) (sym m.2) f) in
       (takes ++ q.0, pops_sound takes s m.0 q.0 m.1 q.2, (q.0, refl, q.1));
 }
 
 pub left_walks : (takes : List ValueType) (s : Stack) → ComputesTyping (λ a b. Leaves takes a) s (left takes s)
 left_walks takes s = record {
   complete = λ a b f m.
-      let p = pops_complete takes s m.0 (subst (λ (y : List ValueType). Fits s y) m.1 f) in
+      let p = pops_complete takes s m.0 (subst (λ (y : List ValueType). FitsTypes s y) m.1 f) in
       (anything, ap (option_map (λ (y : Stack). anything)) p.1, tt);
   sound = λ r b e f.
       let m = map_some (λ (y : Stack). anything) (pops takes s) r e in
@@ -212,12 +212,12 @@ unreachable_walks s = record {
 pub dropped_walks : (s : Stack) → ComputesTyping (λ a b. (t : ValueType) × Moves (t ∷ []) [] a b) s (dropped s)
 dropped_walks s = record {
   complete = λ a b f m.
-      let p = any_complete s.known s.unreachable m.0 m.1.0 (subst (λ (y : List ValueType). Fits s y) m.1.1 f) in
-      (p.0.1, ap (option_map (λ (y : Option ValueType × Stack). y.1)) p.1, subst (λ (y : List ValueType). Fits p.0.1 y) (sym m.1.2) p.3);
+      let p = any_complete s.known s.unreachable m.0 m.1.0 (subst (λ (y : List ValueType). FitsTypes s y) m.1.1 f) in
+      (p.0.1, ap (option_map (λ (y : Option ValueType × Stack). y.1)) p.1, subst (λ (y : List ValueType). FitsTypes p.0.1 y) (sym m.1.2) p.3);
   sound = λ r b e f.
       let m = map_some (λ (y : Option ValueType × Stack). y.1) (pop_any s) r e in
       let t = some_type m.0.0 in
-      (t.0 ∷ b, any_sound s.known s.unreachable m.0 t.0 b m.1 t.1 (subst (λ (y : Stack). Fits y b) (sym m.2) f), (t.0, (b, refl, refl)));
+      (t.0 ∷ b, any_sound s.known s.unreachable m.0 t.0 b m.1 t.1 (subst (λ (y : Stack). FitsTypes y b) (sym m.2) f), (t.0, (b, refl, refl)));
 }
 
 -- ---- select
@@ -238,11 +238,11 @@ meet_sound (Some u) (Some v) z t e a =
 abbrev Selects : List ValueType → List ValueType → Type 0
 Selects a b = (t : ValueType) × Moves (I32 ∷ t ∷ t ∷ []) (t ∷ []) a b
 
-select_complete : (s : Stack) (a b : List ValueType) → Fits s a → Selects a b → (r : Stack) × (selected s ≡ Some r) × Fits r b
+select_complete : (s : Stack) (a b : List ValueType) → FitsTypes s a → Selects a b → (r : Stack) × (selected s ≡ Some r) × FitsTypes r b
 select_complete s a b f m =
     let t = m.0 in
     let rest = m.1.0 in
-    let p = pop_complete s I32 (t ∷ t ∷ rest) (subst (λ (y : List ValueType). Fits s y) m.1.1 f) in
+    let p = pop_complete s I32 (t ∷ t ∷ rest) (subst (λ (y : List ValueType). FitsTypes s y) m.1.1 f) in
     let x = any_complete p.0.known p.0.unreachable t (t ∷ rest) p.2 in
     let y = any_complete x.0.1.known x.0.1.unreachable t rest x.3 in
     let z = meet_complete x.0.0 y.0.0 t x.2 y.2 in
@@ -252,9 +252,9 @@ select_complete s a b f m =
     ∙ ap (option_and_then select_from) x.1
     ∙ ap (option_and_then (λ (q : Option ValueType × Stack). option_map (λ (w : Option ValueType). push_any w q.1) (meet x.0.0 q.0))) y.1
     ∙ ap (option_map (λ (w : Option ValueType). push_any w y.0.1)) z.1 in
-    (r, is, subst (λ (l : List ValueType). Fits r l) (sym m.1.2) (z.2, y.3))
+    (r, is, subst (λ (l : List ValueType). FitsTypes r l) (sym m.1.2) (z.2, y.3))
 
-select_below : (s p : Stack) (x y : Option ValueType × Stack) (z : Option ValueType) (b : List ValueType) → pop I32 s ≡ Some p → pop_any p ≡ Some x → pop_any x.1 ≡ Some y → meet x.0 y.0 ≡ Some z → Fits (push_any z y.1) b → (a : List ValueType) × Fits s a × Selects a b
+select_below : (s p : Stack) (x y : Option ValueType × Stack) (z : Option ValueType) (b : List ValueType) → pop I32 s ≡ Some p → pop_any p ≡ Some x → pop_any x.1 ≡ Some y → meet x.0 y.0 ≡ Some z → FitsTypes (push_any z y.1) b → (a : List ValueType) × FitsTypes s a × Selects a b
 select_below s p x y z [] is_p is_x is_y is_z f = absurd f
 select_below s p x y z (t ∷ rest) is_p is_x is_y is_z f =
     let m = meet_sound x.0 y.0 z t is_z f.0 in
@@ -262,13 +262,13 @@ select_below s p x y z (t ∷ rest) is_p is_x is_y is_z f =
     let first = any_sound p.known p.unreachable x t (t ∷ rest) is_x m.0 second in
     (I32 ∷ t ∷ t ∷ rest, pop_sound s p I32 (t ∷ t ∷ rest) is_p first, (t, (rest, refl, refl)))
 
-select_sound : (s r : Stack) (b : List ValueType) → selected s ≡ Some r → Fits r b → (a : List ValueType) × Fits s a × Selects a b
+select_sound : (s r : Stack) (b : List ValueType) → selected s ≡ Some r → FitsTypes r b → (a : List ValueType) × FitsTypes s a × Selects a b
 select_sound s r b e f =
     let p = and_then_some (λ (q : Stack). option_and_then select_from (pop_any q)) (pop I32 s) r e in
     let x = and_then_some select_from (pop_any p.0) r p.2 in
     let y = and_then_some (λ (q : Option ValueType × Stack). option_map (λ (w : Option ValueType). push_any w q.1) (meet x.0.0 q.0)) (pop_any x.0.1) r x.2 in
     let z = map_some (λ (w : Option ValueType). push_any w y.0.1) (meet x.0.0 y.0.0) r y.2 in
-    select_below s p.0 x.0 y.0 z.0 b p.1 x.1 y.1 z.1 (subst (λ (q : Stack). Fits q b) (sym z.2) f)
+    select_below s p.0 x.0 y.0 z.0 b p.1 x.1 y.1 z.1 (subst (λ (q : Stack). FitsTypes q b) (sym z.2) f)
 
 pub selected_walks : (s : Stack) → ComputesTyping (λ a b. Selects a b) s (selected s)
 selected_walks s = record { complete = select_complete s; sound = select_sound s }

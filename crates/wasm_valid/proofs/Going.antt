@@ -14,9 +14,9 @@ use Rattle.wasm_valid.specs.declared.control_frames.BlockKind.TheVariants.{Block
 use Rattle.wasm_valid.specs.declared.function_context.FunctionContext.{FunctionContext}
 use Rattle.wasm_valid.specs.Typing.{Context, Typed, results_of}
 use Rattle.wasm_valid.specs.Validity.{FunctionTyped, local_types}
-use Rattle.wasm_valid.specs.internal.Blocks.{OpenBlock, opened, stepped, is_finished}
+use Rattle.wasm_valid.specs.internal.Blocks.{OpenBlock, new_block, stepped, is_finished}
 use Rattle.wasm_valid.specs.internal.Bodies.{Going, BodyTyped}
-use Rattle.wasm_valid.specs.internal.Operands.{Answers}
+use Rattle.wasm_valid.specs.internal.Operands.{StepsTo}
 use Rattle.wasm_valid.specs.internal.Contexts.{IsModuleContext, IsFunctionContext}
 use Rattle.wasm_valid.proofs.Blocks.{Answered, step_answer, finish_answer, body_from, from_body}
 
@@ -59,7 +59,7 @@ split inner i item below is =
     ap whole_of (drop_more inner i item below ∙ ap (λ (x : Instruction). x ∷ drop (i + 1) inner) (sym is))
 
 pub GoesOn-more : (function_context : FunctionContext) (start : List OpenBlock) (inner : List Instruction) (i : ℕ) (item : Instruction) (bs ds : List OpenBlock) → i < length inner → item ≡ get_or inner i item
-    → GoesOn function_context start inner i bs → ((c : Context) → IsFunctionContext function_context c → Answers true (stepped c item bs) ds) → GoesOn function_context start inner (i + 1) ds
+    → GoesOn function_context start inner i bs → ((c : Context) → IsFunctionContext function_context c → StepsTo true (stepped c item bs) ds) → GoesOn function_context start inner (i + 1) ds
 GoesOn-more function_context start inner i item bs ds below is before step = λ c at.
     let flat = whole_of (drop (i + 1) inner) in
     let one : Answered c item flat bs (Some ds) = subst (Answered c item flat bs) (step c at) (step_answer c item flat bs (not_nil (drop (i + 1) inner))) in
@@ -70,7 +70,7 @@ GoesOn-more function_context start inner i item bs ds below is before step = λ 
     )
 
 pub GoesOn-stops : (function_context : FunctionContext) (start : List OpenBlock) (inner : List Instruction) (i : ℕ) (item : Instruction) (bs ds : List OpenBlock) → i < length inner → item ≡ get_or inner i item
-    → GoesOn function_context start inner i bs → ((c : Context) → IsFunctionContext function_context c → Answers false (stepped c item bs) ds) → (c : Context) → IsFunctionContext function_context c → Going c start (whole_of inner) → ⊥
+    → GoesOn function_context start inner i bs → ((c : Context) → IsFunctionContext function_context c → StepsTo false (stepped c item bs) ds) → (c : Context) → IsFunctionContext function_context c → Going c start (whole_of inner) → ⊥
 GoesOn-stops function_context start inner i item bs ds below is before step c at q =
     let flat = whole_of (drop (i + 1) inner) in
     let none : Answered c item flat bs None = subst (Answered c item flat bs) (step c at) (step_answer c item flat bs (not_nil (drop (i + 1) inner))) in
@@ -87,7 +87,7 @@ GoesOn-ends function_context start inner i bs t past before is c at =
     )
 
 -- code that doesn't end
-pub no_end : (c : Context) (t : BlockType) (code : List Instruction) → ((front : List Instruction) → code ≡ front ++ op.End ∷ [] → ⊥) → Going c (opened Block t ∷ []) code → ⊥
+pub no_end : (c : Context) (t : BlockType) (code : List Instruction) → ((front : List Instruction) → code ≡ front ++ op.End ∷ [] → ⊥) → Going c (new_block Block t ∷ []) code → ⊥
 no_end c t code never q =
     let b = body_from c t code q in
     let e = ends_with op.End b.0 in
@@ -106,12 +106,12 @@ scope_inside function_context c f b is locals returns = record {
   returns = sym returns;
 }
 
-function_from : (c : Context) (f : FuncType) (b : Body) (t : BlockType) (flat : List Instruction) → results_of t ≡ f.results → flat ≡ b.code → Going (inside c f b) (opened Block t ∷ []) flat → FunctionTyped c f b
+function_from : (c : Context) (f : FuncType) (b : Body) (t : BlockType) (flat : List Instruction) → results_of t ≡ f.results → flat ≡ b.code → Going (inside c f b) (new_block Block t ∷ []) flat → FunctionTyped c f b
 function_from c f b t flat same is q =
     let k = body_from (inside c f b) t flat q in
     (k.0, (k.1, k.2 ∙ is), subst (λ (rs : List ValueType). Typed (inside c f b) (rs ∷ []) k.0 [] rs) same k.3)
 
-from_function : (c : Context) (f : FuncType) (b : Body) (t : BlockType) (flat : List Instruction) → results_of t ≡ f.results → flat ≡ b.code → FunctionTyped c f b → Going (inside c f b) (opened Block t ∷ []) flat
+from_function : (c : Context) (f : FuncType) (b : Body) (t : BlockType) (flat : List Instruction) → results_of t ≡ f.results → flat ≡ b.code → FunctionTyped c f b → Going (inside c f b) (new_block Block t ∷ []) flat
 from_function c f b t flat same is h =
     from_body (inside c f b) t flat h.0 h.1.0 (h.1.1 ∙ sym is) (subst (λ (rs : List ValueType). Typed (inside c f b) (rs ∷ []) h.0 [] rs) (sym same) h.2)
 
@@ -119,7 +119,7 @@ abbrev pub Verdict : {A : Type 0} → Option A → Type 0 → Type 0
 Verdict r P = MatchOption r P (λ x. P → ⊥)
 
 pub function_answer : (function_context : FunctionContext) (f : FuncType) (b : Body) (flat : List Instruction) (r : Option ℕ) → function_context.locals ≡ f.params ++ local_types b.locals → results_of function_context.returns ≡ f.results → flat ≡ b.code
-    → ((c : Context) → IsFunctionContext function_context c → Verdict r (Going c (opened Block function_context.returns ∷ []) flat)) → (c : Context) → IsModuleContext function_context.module_context.now c → Verdict r (FunctionTyped c f b)
+    → ((c : Context) → IsFunctionContext function_context c → Verdict r (Going c (new_block Block function_context.returns ∷ []) flat)) → (c : Context) → IsModuleContext function_context.module_context.now c → Verdict r (FunctionTyped c f b)
 function_answer function_context f b flat None locals returns is h c at =
     function_from c f b function_context.returns flat returns is (h (inside c f b) (scope_inside function_context c f b at locals returns))
 function_answer function_context f b flat (Some x) locals returns is h c at =

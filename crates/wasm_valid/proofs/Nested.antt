@@ -13,8 +13,8 @@ use Rattle.wasm_valid.specs.declared.control_frames.BlockKind.TheVariants.{Block
 use Rattle.wasm_valid.specs.Typing.{Context, Labels, results_of}
 use Rattle.wasm_valid.specs.internal.Stack.{Stack, nothing, pop, push, can_be, if_true}
 use Rattle.wasm_valid.specs.internal.Effects.{after}
-use Rattle.wasm_valid.specs.internal.Blocks.{OpenBlock, label_of, labels_of, opened, with_stack, may_end, ends, is_if, on_stack, opened_in, popped_in, ended_in, elsed_in, plain_in, is_finished}
-use Rattle.wasm_valid.specs.internal.Operands.{Operands, operands, stack_of, split_at, blocks_of, control_frame_labels, AreNested, Answers}
+use Rattle.wasm_valid.specs.internal.Blocks.{OpenBlock, label_of, labels_of, new_block, with_stack, may_end, ends, is_if, on_stack, opened_in, popped_in, ended_in, elsed_in, plain_in, is_finished}
+use Rattle.wasm_valid.specs.internal.Operands.{Operands, operands, stack_of, split_at, blocks_of, control_frame_labels, AreNested, StepsTo}
 
 -- ---- the innermost block
 
@@ -33,18 +33,18 @@ restacked : (o p : Operands) (f : ControlFrame) (fs : List ControlFrame) → p.b
 restacked o p f fs same =
     ap (λ (below : List (Option ValueType)). with_stack (top o f fs) p.stack ∷ blocks_of (split_at f.around.height f.around.unreachable below) fs) (sym same)
 
-on_top : (o p : Operands) (f : ControlFrame) (fs : List ControlFrame) (t : Bool) (r : Option Stack) → p.below ≡ o.below → Answers t r p.stack → Answers t (on_stack (top o f fs) (others o f fs) r) (blocks_of p (f ∷ fs))
+on_top : (o p : Operands) (f : ControlFrame) (fs : List ControlFrame) (t : Bool) (r : Option Stack) → p.below ≡ o.below → StepsTo t r p.stack → StepsTo t (on_stack (top o f fs) (others o f fs) r) (blocks_of p (f ∷ fs))
 on_top o p f fs true r same e = ap (on_stack (top o f fs) (others o f fs)) e ∙ ap Some (restacked o p f fs same)
 on_top o p f fs false r same e = ap (on_stack (top o f fs) (others o f fs)) e
 
-pub pop_answers : (v : ValueType) (o p : Operands) (fs : List ControlFrame) (t : Bool) → 0 < length fs → p.below ≡ o.below → Answers t (pop v o.stack) p.stack → Answers t (popped_in v (blocks_of o fs)) (blocks_of p fs)
+pub pop_answers : (v : ValueType) (o p : Operands) (fs : List ControlFrame) (t : Bool) → 0 < length fs → p.below ≡ o.below → StepsTo t (pop v o.stack) p.stack → StepsTo t (popped_in v (blocks_of o fs)) (blocks_of p fs)
 pop_answers v o p [] t some same e = absurd (omega arith)
 pop_answers v o p (f ∷ fs) t some same e = on_top o p f fs t (pop v o.stack) same e
 
-pub plain_answers : (c : Context) (i : Instruction) (o p : Operands) (fs : List ControlFrame) (t : Bool) → 0 < length fs → p.below ≡ o.below → Answers t (after c (control_frame_labels fs) i o.stack) p.stack → Answers t (plain_in c i (blocks_of o fs)) (blocks_of p fs)
+pub plain_answers : (c : Context) (i : Instruction) (o p : Operands) (fs : List ControlFrame) (t : Bool) → 0 < length fs → p.below ≡ o.below → StepsTo t (after c (control_frame_labels fs) i o.stack) p.stack → StepsTo t (plain_in c i (blocks_of o fs)) (blocks_of p fs)
 plain_answers c i o p [] t some same e = absurd (omega arith)
 plain_answers c i o p (f ∷ fs) t some same e =
-    on_top o p f fs t (after c (labels_of (blocks_of o (f ∷ fs))) i o.stack) same (subst (λ (ls : Labels). Answers t (after c ls i o.stack) p.stack) (sym (labels_are (f ∷ fs) o)) e)
+    on_top o p f fs t (after c (labels_of (blocks_of o (f ∷ fs))) i o.stack) same (subst (λ (ls : Labels). StepsTo t (after c ls i o.stack) p.stack) (sym (labels_are (f ∷ fs) o)) e)
 
 pub nested_still : (o p : Operands) (fs : List ControlFrame) → p.below ≡ o.below → (0 < length fs) × AreNested o.below fs → (0 < length fs) × AreNested p.below fs
 nested_still o p fs same h = (h.0, subst (λ (b : List (Option ValueType)). AreNested b fs) (sym same) h.1)
@@ -64,8 +64,8 @@ entering k t o = record { kind = k; block_type = t; around = record { height = l
 pub open_answers : (k : BlockKind) (t : BlockType) (o p : Operands) (fs gs : List ControlFrame) → 0 < length fs → gs ≡ entering k t o ∷ fs → p ≡ operands (o.below ++ reverse o.stack.known) nothing → opened_in k t (blocks_of o fs) ≡ Some (blocks_of p gs)
 open_answers k t o p [] gs some are is = absurd (omega arith)
 open_answers k t o p (f ∷ fs) gs some are is =
-    let made : blocks_of (operands (o.below ++ reverse o.stack.known) nothing) (entering k t o ∷ f ∷ fs) ≡ opened k t ∷ blocks_of o (f ∷ fs) =
-    ap (λ (q : Operands). opened k t ∷ blocks_of q (f ∷ fs)) (entered o) in
+    let made : blocks_of (operands (o.below ++ reverse o.stack.known) nothing) (entering k t o ∷ f ∷ fs) ≡ new_block k t ∷ blocks_of o (f ∷ fs) =
+    ap (λ (q : Operands). new_block k t ∷ blocks_of q (f ∷ fs)) (entered o) in
     ap Some (sym made ∙ ap (λ (q : Operands). blocks_of q (entering k t o ∷ f ∷ fs)) (sym is) ∙ ap (blocks_of p) (sym are))
 
 pub open_nested : (k : BlockKind) (t : BlockType) (o p : Operands) (fs gs : List ControlFrame) → AreNested o.below fs → gs ≡ entering k t o ∷ fs → p ≡ operands (o.below ++ reverse o.stack.known) nothing → (0 < length gs) × AreNested p.below gs
@@ -170,7 +170,7 @@ restarted f = record { kind = Block; block_type = f.block_type; around = f.aroun
 pub else_answers : (o p q : Operands) (fs gs : List ControlFrame) (f : ControlFrame) → IsHead fs f → is_if f.kind ≡ true → can_be (results_of f.block_type) o.stack ≡ true → p.below ≡ o.below → q ≡ operands p.below nothing → gs ≡ restarted f ∷ drop 1 fs → elsed_in (blocks_of o fs) ≡ Some (blocks_of q gs)
 else_answers o p q fs gs f is e h same is_q are =
     let k = head_is fs f is in
-    let one : elsed_in (blocks_of o (f ∷ k.0)) ≡ Some (blocks_of (operands o.below nothing) (restarted f ∷ k.0)) = ap (λ (t : Bool). if_true t (opened Block f.block_type ∷ others o f k.0)) (and_both (is_if f.kind) (can_be (results_of f.block_type) o.stack) e h) in
+    let one : elsed_in (blocks_of o (f ∷ k.0)) ≡ Some (blocks_of (operands o.below nothing) (restarted f ∷ k.0)) = ap (λ (t : Bool). if_true t (new_block Block f.block_type ∷ others o f k.0)) (and_both (is_if f.kind) (can_be (results_of f.block_type) o.stack) e h) in
     let same_q : operands o.below nothing ≡ q = ap (λ (b : List (Option ValueType)). operands b nothing) (sym same) ∙ sym is_q in
     let same_gs : restarted f ∷ k.0 ≡ gs = ap (λ (l : List ControlFrame). restarted f ∷ drop 1 l) (sym k.1) ∙ sym are in
     ap (λ (l : List ControlFrame). elsed_in (blocks_of o l)) k.1 ∙ one ∙ ap (λ (x : Operands). Some (blocks_of x (restarted f ∷ k.0))) same_q ∙ ap (λ (l : List ControlFrame). Some (blocks_of q l)) same_gs

@@ -4,7 +4,7 @@ ghost use Rattle.std.specs.Prelude.{◌≡◌, ◌≤◌, [], ◌∷◌, length,
 ghost use Rattle.wasm_valid.specs.declared.control_frames.BlockKind.TheVariants.{Block};
 ghost use Rattle.wasm_valid.specs.Typing.{Context};
 ghost use Rattle.wasm_valid.specs.Validity.{FunctionTyped};
-ghost use Rattle.wasm_valid.specs.internal.Blocks.{opened};
+ghost use Rattle.wasm_valid.specs.internal.Blocks.{new_block};
 ghost use Rattle.wasm_valid.specs.internal.Bodies.{Going, BodyTyped};
 ghost use Rattle.wasm_valid.specs.internal.Contexts.{IsModuleContext, IsFunctionContext};
 
@@ -19,8 +19,8 @@ impl<'s, 'm> FunctionContext<'s, 'm> {
     /// The first instruction at which the code of a body isn't typed; None where all of it is.
     fn untyped(&self, alloc: Global, code: &[Instruction]) -> Result<Option<usize>, AllocError>
         ensures { IfOk result (λ r. (c : Context) → IsFunctionContext self.now c → MatchOption r
-            (Going c (opened Block self.now.returns ∷ []) code.now)
-            (λ _. Going c (opened Block self.now.returns ∷ []) code.now → ⊥)) }
+            (Going c (new_block Block self.now.returns ∷ []) code.now)
+            (λ _. Going c (new_block Block self.now.returns ∷ []) code.now → ⊥)) }
     {
         let Some((last, inner)) = code.split_last() else {
             return Ok(Some(0));

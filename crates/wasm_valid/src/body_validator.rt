@@ -53,13 +53,13 @@ impl BodyValidator {
     ghost use Rattle.std.specs.Prelude.{◌≡◌, [], ◌∷◌, IfOk, Some, None};
     ghost use Rattle.wasm_valid.specs.declared.control_frames.BlockKind.TheVariants.{Block};
     ghost use Rattle.wasm_valid.specs.Typing.{Context};
-    ghost use Rattle.wasm_valid.specs.internal.Blocks.{opened, opened_in, popped_in, begun_in, ended_in, elsed_in, plain_in, stepped, is_finished};
-    ghost use Rattle.wasm_valid.specs.internal.Operands.{Answers};
+    ghost use Rattle.wasm_valid.specs.internal.Blocks.{new_block, opened_in, popped_in, begun_in, ended_in, elsed_in, plain_in, stepped, is_finished};
+    ghost use Rattle.wasm_valid.specs.internal.Operands.{StepsTo};
     ghost use Rattle.wasm_valid.specs.internal.Contexts.{IsFunctionContext};
 
     /// The beginning of a body that leaves this.
     pub fn new(alloc: Global, returns: BlockType) -> Result<BodyValidator, AllocError>
-        ensures { IfOk result (λ w. w ≡ opened Block returns ∷ []) }
+        ensures { IfOk result (λ w. w ≡ new_block Block returns ∷ []) }
     {
         let mut control_frames = ControlFrames::new(alloc);
         control_frames.push(ControlFrame {
@@ -92,14 +92,14 @@ impl BodyValidator {
 
     /// Takes an operand of this type; whether one was there.
     fn pop(&mut self, expected: ValueType) -> bool
-        ensures { Answers result (popped_in expected self.old) self.new }
+        ensures { StepsTo result (popped_in expected self.old) self.new }
     {
         self.operands.pop(expected)
     }
 
     /// Begins an `if`; whether it may stand here.
     fn begin_if(&mut self, block_type: BlockType) -> Result<bool, AllocError>
-        ensures { IfOk result (λ typed. Answers typed (begun_in block_type self.old) self.new) }
+        ensures { IfOk result (λ typed. StepsTo typed (begun_in block_type self.old) self.new) }
     {
         if !self.pop(ValueType::I32) {
             return Ok(false);
@@ -110,7 +110,7 @@ impl BodyValidator {
 
     /// Goes on with the `else` of an `if`; whether it may stand here.
     fn begin_else(&mut self) -> bool
-        ensures { Answers result (elsed_in self.old) self.new }
+        ensures { StepsTo result (elsed_in self.old) self.new }
     {
         let Some(control_frame) = self.control_frames.innermost() else {
             return false;
@@ -132,7 +132,7 @@ impl BodyValidator {
 
     /// Ends a block that isn't the body; whether its end may stand here.
     fn end(&mut self) -> Result<bool, AllocError>
-        ensures { IfOk result (λ typed. Answers typed (ended_in self.old) self.new) }
+        ensures { IfOk result (λ typed. StepsTo typed (ended_in self.old) self.new) }
     {
         if self.control_frames.len() < 2 {
             return Ok(false);
@@ -175,7 +175,7 @@ impl BodyValidator {
         instruction: &Instruction,
     ) -> Result<bool, AllocError>
         ensures { IfOk result (λ typed. (c : Context) → IsFunctionContext function_context.now c
-            → Answers typed (plain_in c instruction.now self.old) self.new) }
+            → StepsTo typed (plain_in c instruction.now self.old) self.new) }
     {
         function_context.plain(&self.control_frames, &mut self.operands, instruction)
     }
@@ -188,7 +188,7 @@ impl BodyValidator {
         instruction: &Instruction,
     ) -> Result<bool, AllocError>
         ensures { IfOk result (λ typed. (c : Context) → IsFunctionContext function_context.now c
-            → Answers typed (stepped c instruction.now self.old) self.new) }
+            → StepsTo typed (stepped c instruction.now self.old) self.new) }
     {
         match instruction {
             Instruction::Block(block_type) => {

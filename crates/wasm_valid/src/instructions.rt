@@ -6,7 +6,7 @@ ghost use Rattle.wasm_module.specs.declared.instruction.ValueType.TheVariants.{I
 ghost use Rattle.wasm_valid.specs.Typing.{Context, results_of};
 ghost use Rattle.wasm_valid.specs.internal.Stack.{when, left, moved};
 ghost use Rattle.wasm_valid.specs.internal.Effects.{taken, keeps, table_label, called, called_indirect, variable_effect, applied, after};
-ghost use Rattle.wasm_valid.specs.internal.Operands.{control_frame_labels, Answers};
+ghost use Rattle.wasm_valid.specs.internal.Operands.{control_frame_labels, StepsTo};
 ghost use Rattle.wasm_valid.specs.internal.Contexts.{IsFunctionContext};
 
 use crate::control_frames::ControlFrames;
@@ -62,7 +62,7 @@ fn kept_by_all(control_frames: &ControlFrames, table: &BranchTable) -> Option<Bl
 /// Changes the operands as `br` does; whether it may stand here.
 fn branch(control_frames: &ControlFrames, operands: &mut OperandStack, label: u32) -> bool
     ensures below { operands.new.below ≡ operands.old.below }
-    ensures stack { Answers result
+    ensures stack { StepsTo result
         (option_and_then (λ kept. left kept operands.old.stack) (slice_get (control_frame_labels control_frames.now) label))
         operands.new.stack }
 {
@@ -79,7 +79,7 @@ fn branch_if(
     label: u32,
 ) -> Result<bool, AllocError>
     ensures below { operands.new.below ≡ operands.old.below }
-    ensures stack { IfOk result (λ typed. Answers typed
+    ensures stack { IfOk result (λ typed. StepsTo typed
         (option_and_then (λ kept. moved (I32 ∷ kept) kept operands.old.stack) (slice_get (control_frame_labels control_frames.now) label))
         operands.new.stack) }
 {
@@ -96,7 +96,7 @@ fn branch_table(
     table: &BranchTable,
 ) -> bool
     ensures below { operands.new.below ≡ operands.old.below }
-    ensures stack { Answers result
+    ensures stack { StepsTo result
         (option_and_then (λ kept. left (I32 ∷ kept) operands.old.stack) (table_label (control_frame_labels control_frames.now) table.now.0 table.now.1))
         operands.new.stack }
 {
@@ -110,7 +110,7 @@ impl<'s, 'm> FunctionContext<'s, 'm> {
     /// Changes the operands as `call` does; whether it may stand here.
     fn call(&self, operands: &mut OperandStack, index: u32) -> Result<bool, AllocError>
         ensures below { operands.new.below ≡ operands.old.below }
-        ensures stack { IfOk result (λ typed. (c : Context) → IsFunctionContext self.now c → Answers typed
+        ensures stack { IfOk result (λ typed. (c : Context) → IsFunctionContext self.now c → StepsTo typed
             (option_and_then (λ f. called f operands.old.stack) (slice_get c.functions index))
             operands.new.stack) }
     {
@@ -123,7 +123,7 @@ impl<'s, 'm> FunctionContext<'s, 'm> {
     /// Changes the operands as `call_indirect` does; whether it may stand here.
     fn call_indirect(&self, operands: &mut OperandStack, index: u32) -> Result<bool, AllocError>
         ensures below { operands.new.below ≡ operands.old.below }
-        ensures stack { IfOk result (λ typed. (c : Context) → IsFunctionContext self.now c → Answers typed
+        ensures stack { IfOk result (λ typed. (c : Context) → IsFunctionContext self.now c → StepsTo typed
             (option_and_then (λ f. called_indirect f operands.old.stack) (when c.has_table (slice_get c.types index)))
             operands.new.stack) }
     {
@@ -146,7 +146,7 @@ impl<'s, 'm> FunctionContext<'s, 'm> {
         instruction: &Instruction,
     ) -> Result<bool, AllocError>
         ensures below { operands.new.below ≡ operands.old.below }
-        ensures stack { IfOk result (λ typed. (c : Context) → IsFunctionContext self.now c → Answers typed
+        ensures stack { IfOk result (λ typed. (c : Context) → IsFunctionContext self.now c → StepsTo typed
             (applied (variable_effect c instruction.now) operands.old.stack)
             operands.new.stack) }
     {
@@ -165,7 +165,7 @@ impl<'s, 'm> FunctionContext<'s, 'm> {
         instruction: &Instruction,
     ) -> Result<bool, AllocError>
         ensures below { operands.new.below ≡ operands.old.below }
-        ensures stack { IfOk result (λ typed. (c : Context) → IsFunctionContext self.now c → Answers typed
+        ensures stack { IfOk result (λ typed. (c : Context) → IsFunctionContext self.now c → StepsTo typed
             (after c (control_frame_labels control_frames.now) instruction.now operands.old.stack)
             operands.new.stack) }
     {

@@ -46,7 +46,7 @@ impl OperandStack {
     ghost use Rattle.wasm_valid.specs.Typing.{results_of};
     ghost use Rattle.wasm_valid.specs.internal.Stack.{nothing, anything, pop_any, pop, pops, push_any, push, moved, left, selected, dropped, is_nil, can_be};
     ghost use Rattle.wasm_valid.specs.internal.Effects.{taken};
-    ghost use Rattle.wasm_valid.specs.internal.Operands.{operands, split_at, Answers};
+    ghost use Rattle.wasm_valid.specs.internal.Operands.{operands, split_at, StepsTo};
 
     pub fn new(alloc: Global) -> OperandStack
         ensures { result ≡ operands [] nothing }
@@ -74,7 +74,7 @@ impl OperandStack {
     /// Takes an operand of this type; whether one was there.
     pub fn pop(&mut self, expected: ValueType) -> bool
         ensures below { self.new.below ≡ self.old.below }
-        ensures stack { Answers result (pop expected self.old.stack) self.new.stack }
+        ensures stack { StepsTo result (pop expected self.old.stack) self.new.stack }
     {
         match self.pop_any() {
             Some(Some(found)) => found == expected,
@@ -86,7 +86,7 @@ impl OperandStack {
     /// Takes these operands; whether they were there.
     fn take(&mut self, takes: Takes) -> bool
         ensures below { self.new.below ≡ self.old.below }
-        ensures stack { Answers result (pops (taken takes) self.old.stack) self.new.stack }
+        ensures stack { StepsTo result (pops (taken takes) self.old.stack) self.new.stack }
     {
         match takes {
             Takes::Nothing => true,
@@ -101,7 +101,7 @@ impl OperandStack {
     /// Takes operands of these types, the last of them from the top; whether they were there.
     fn take_all(&mut self, types: &[ValueType]) -> bool
         ensures below { self.new.below ≡ self.old.below }
-        ensures stack { Answers result (pops (reverse types.now) self.old.stack) self.new.stack }
+        ensures stack { StepsTo result (pops (reverse types.now) self.old.stack) self.new.stack }
     {
         let mut left = types;
         while let Some((last, rest)) = left.split_last() {
@@ -136,7 +136,7 @@ impl OperandStack {
     pub fn apply(&mut self, effect: Effect) -> Result<bool, AllocError>
         ensures below { self.new.below ≡ self.old.below }
         ensures stack { IfOk result (λ typed.
-            Answers typed (moved (taken effect.takes) (results_of effect.gives) self.old.stack) self.new.stack) }
+            StepsTo typed (moved (taken effect.takes) (results_of effect.gives) self.old.stack) self.new.stack) }
     {
         if !self.take(effect.takes) {
             return Ok(false);
@@ -150,7 +150,7 @@ impl OperandStack {
     pub fn call(&mut self, params: &[ValueType], gives: BlockType) -> Result<bool, AllocError>
         ensures below { self.new.below ≡ self.old.below }
         ensures stack { IfOk result (λ typed.
-            Answers typed (moved (reverse params.now) (results_of gives) self.old.stack) self.new.stack) }
+            StepsTo typed (moved (reverse params.now) (results_of gives) self.old.stack) self.new.stack) }
     {
         if !self.take_all(params) {
             return Ok(false);
@@ -163,7 +163,7 @@ impl OperandStack {
     /// they were there.
     pub fn leave(&mut self, takes: Takes) -> bool
         ensures below { self.new.below ≡ self.old.below }
-        ensures stack { Answers result (left (taken takes) self.old.stack) self.new.stack }
+        ensures stack { StepsTo result (left (taken takes) self.old.stack) self.new.stack }
     {
         if !self.take(takes) {
             return false;
@@ -176,7 +176,7 @@ impl OperandStack {
     /// Changes the operands as `drop` does; whether it may stand here.
     pub fn discard(&mut self) -> bool
         ensures below { self.new.below ≡ self.old.below }
-        ensures stack { Answers result (dropped self.old.stack) self.new.stack }
+        ensures stack { StepsTo result (dropped self.old.stack) self.new.stack }
     {
         self.pop_any().is_some()
     }
@@ -184,7 +184,7 @@ impl OperandStack {
     /// Changes the operands as `select` does; whether it may stand here.
     pub fn select(&mut self) -> Result<bool, AllocError>
         ensures below { self.new.below ≡ self.old.below }
-        ensures stack { IfOk result (λ typed. Answers typed (selected self.old.stack) self.new.stack) }
+        ensures stack { IfOk result (λ typed. StepsTo typed (selected self.old.stack) self.new.stack) }
     {
         if !self.pop(ValueType::I32) {
             return Ok(false);

@@ -3,7 +3,7 @@ use Rattle.std.proofs.Common.{◌≡◌, ℕ, ◌<◌, List, ◌∙◌, ap, arit
 use Rattle.vol_sector.specs.Disk.{Image}
 use Rattle.vol_sector.specs.Record.{newest}
 use Rattle.vol_sector.specs.Crash.{crashed_image}
-use Rattle.vol_sector.specs.Memory.{first_of, record_of, room_of, sectors_of, disk_of, IsUnused}
+use Rattle.vol_sector.specs.Memory.{initial_image, record_of, room_of, sector_count, disk_of, IsUnused}
 use Rattle.vol_sector.specs.declared.memory.MemoryDevice.{MemoryDevice}
 use Rattle.vol_sector.specs.declared.record.Operation.{Operation}
 use Rattle.vol_tree.specs.declared.superblock.Superblock.{Superblock}
@@ -15,10 +15,10 @@ use Rattle.vol_tree.specs.Opening.{StandsOn}
 abbrev pub SectorsDecide : Type 0
 SectorsDecide = (one other : Image) (v : Superblock) (T : Tree) → StandsAs one v T → ((k : ℕ) → k < v.sectors → other k ≡ one k) → StandsAs other v T
 
-pub crashed_stands : SectorsDecide → (m left : MemoryDevice) (picks : List ℕ) (v : Superblock) (T : Tree) → IsUnused left (sectors_of m) (room_of m) (crashed_image (first_of m) (record_of m) picks)
-    → StandsOn (sectors_of m) (crashed_image (first_of m) (record_of m) picks) v T → StandsOn (sectors_of left) (disk_of left).seen v T
+pub crashed_stands : SectorsDecide → (m left : MemoryDevice) (picks : List ℕ) (v : Superblock) (T : Tree) → IsUnused left (sector_count m) (room_of m) (crashed_image (initial_image m) (record_of m) picks)
+    → StandsOn (sector_count m) (crashed_image (initial_image m) (record_of m) picks) v T → StandsOn (sector_count left) (disk_of left).seen v T
 crashed_stands decide m left picks v T unused st = record {
-  stands = decide (crashed_image (first_of m) (record_of m) picks) (disk_of left).seen v T st.stands
-      (λ k lt. ap (λ (ops : List Operation). newest k (first_of left k) ops) unused.record_is ∙ unused.image_is k (omega (arith, lt, st.room)));
+  stands = decide (crashed_image (initial_image m) (record_of m) picks) (disk_of left).seen v T st.stands
+      (λ k lt. ap (λ (ops : List Operation). newest k (initial_image left k) ops) unused.record_is ∙ unused.image_is k (omega (arith, lt, st.room)));
   room = omega (arith, st.room, unused.sectors_is);
 }

@@ -1,7 +1,7 @@
 -- What a stop leaves of a volume in which a file is stored (`docs/VOLUME.md`, "The tree").
 use Rattle.std.specs.Prelude.{◌≡◌, ◌⊎◌, ℕ, List, [], Ok}
 use Rattle.vol_sector.specs.Disk.{Image, Disk}
-use Rattle.vol_sector.specs.Memory.{disk_of, sectors_of}
+use Rattle.vol_sector.specs.Memory.{disk_of, sector_count}
 use Rattle.vol_sector.specs.declared.memory.MemoryDevice.{MemoryDevice}
 use Rattle.vol_tree.specs.declared.superblock.Superblock.{Superblock}
 use Rattle.vol_tree.specs.Tree.{Tree, Name, File}
@@ -12,7 +12,7 @@ use Rattle.vol_tree.specs.Opened.{Opened, Reflects, geometry}
 
 -- whatever a crash leaves is the volume's tree, and it is opened again
 abbrev pub Lasts : Opened MemoryDevice → Type 0
-Lasts v = (c : Image) → (disk_of v.device).may_leave c → StandsOn (sectors_of v.device) c v.numbers v.tree
+Lasts v = (c : Image) → (disk_of v.device).may_leave c → StandsOn (sector_count v.device) c v.numbers v.tree
 
 -- The trees while a file is stored in the root: the one at first, that with an empty file, and that with its bytes.
 abbrev pub IsReached : Opened MemoryDevice → Name → List ℕ → Tree → Type 0

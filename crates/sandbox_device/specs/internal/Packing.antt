@@ -10,8 +10,8 @@ zeros = replicate 512 0
 abbrev pub sector_of : List (List ℕ) → ℕ → List ℕ
 sector_of written k = if k == 0 then zeros else get_or written (k - 1) zeros
 
-abbrev pub sectors_of : List (List ℕ) → List ℕ → List (List ℕ)
-sectors_of written places = map (sector_of written) places
+abbrev pub sectors_at : List (List ℕ) → List ℕ → List (List ℕ)
+sectors_at written places = map (sector_of written) places
 
 abbrev pub is_zero : ℕ → Bool
 is_zero k = k == 0

@@ -24,15 +24,15 @@ abbrev pub cut_segment : ℕ → BlockPosition
 cut_segment size = segment (segment_of (size / 512))
 
 -- the bytes before a position of a sector, and zeros from it on
-abbrev pub cut : ℕ → List ℕ → List ℕ
-cut kept bytes = take kept bytes ++ replicate (512 - kept) 0
+abbrev pub zeroed_from : ℕ → List ℕ → List ℕ
+zeroed_from kept bytes = take kept bytes ++ replicate (512 - kept) 0
 
 -- what is to be written for a sector of which a beginning is kept; sector 0 stands for nothing
 pub record IsCut (content : Image) (n kept : ℕ) (c : Cut) : Type 0 where
   pub sector : c.sector ≢ 0 → c.sector ≡ n
-  pub image : c.sector ≢ 0 → c.image ≡ cut kept (content n)
+  pub image : c.sector ≢ 0 → c.image ≡ zeroed_from kept (content n)
   pub short : c.sector ≢ 0 → kept < 512
-  pub same : c.sector ≡ 0 → n ≢ 0 → 0 < kept → kept < 512 → content n ≡ cut kept (content n)
+  pub same : c.sector ≡ 0 → n ≢ 0 → 0 < kept → kept < 512 → content n ≡ zeroed_from kept (content n)
 
 -- the image with what is to be written
 abbrev pub with_cut : Cut → Image → Image

@@ -61,7 +61,7 @@ pub record SamePlace (content after : Image) (e changed : Entry) (p : BlockPosit
   pub bytes : block_bytes after (named after changed p) ≡ block_bytes content (named content e p)
 
 -- A change of the file at some of its positions.
-pub record Changes (a b : Alloc) (content after : Image) (e changed : Entry) (Touched : BlockPosition → Type 0) : Type 0 where
+pub record ChangesPositions (a b : Alloc) (content after : Image) (e changed : Entry) (Touched : BlockPosition → Type 0) : Type 0 where
   pub ready : IsReady b after changed
   pub others : (inode_sector : ℕ) → OthersStay inode_sector (first_of a) (end_of a) (taken_of a) content after e
   pub takes : TakesAndGives (taken_of a) (taken_of b) content after e changed
@@ -76,8 +76,8 @@ pub record IsMissing (a : Alloc) (content : Image) (e : Entry) (p : BlockPositio
   pub serves : first_served p < blocks_for_size e.size
 
 -- A change by which the file names a sector at one more position.
-pub record Adds (a b : Alloc) (content after : Image) (e changed : Entry) (Touched : BlockPosition → Type 0) (p : BlockPosition) (number : ℕ) (image : List ℕ) : Type 0 where
-  pub changes : Changes a b content after e changed Touched
+pub record AddsSector (a b : Alloc) (content after : Image) (e changed : Entry) (Touched : BlockPosition → Type 0) (p : BlockPosition) (number : ℕ) (image : List ℕ) : Type 0 where
+  pub changes : ChangesPositions a b content after e changed Touched
   pub mirror : Mirrors after changed p number image
   pub some : number ≢ 0
 
@@ -120,8 +120,8 @@ abbrev pub IsKnown : Alloc → ℕ → Type 0
 IsKnown a n = n ≢ 0 → taken_of a n ≡ true
 
 -- one for a sector that has a place of the log already
-abbrev pub placed : {D : Type 0} {g : Ghosts D} → Log D g → ℕ → ℕ
-placed log n = if n == 0 then 0 else (if is_staged log n then 1 else 0)
+abbrev pub staged_count : {D : Type 0} {g : Ghosts D} → Log D g → ℕ → ℕ
+staged_count log n = if n == 0 then 0 else (if is_staged log n then 1 else 0)
 
 -- the range of the free sectors stays
 pub record SameRange (a b : Alloc) : Type 0 where

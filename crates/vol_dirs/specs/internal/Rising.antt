@@ -28,7 +28,7 @@ pub record IsLeastOver {X : Type 0} (order : X → X → Ordering) (xs : List X)
   pub least : (y : X) → Contains xs y → order bound y ≡ Less → order y x ≡ Less → ⊥
 
 -- the new items are the old ones and this one
-pub record Adds {X : Type 0} (old new : List X) (x : X) : Type 0 where
+pub record AddsItem {X : Type 0} (old new : List X) (x : X) : Type 0 where
   pub kept : (y : X) → Contains old y → Contains new y
   pub there : Contains new x
   pub only : (y : X) → Contains new y → Contains old y ⊎ (x ≡ y)

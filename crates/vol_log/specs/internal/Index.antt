@@ -23,7 +23,7 @@ pub record IsIndex (numbers : List ℕ) (index : Index) : Type 0 where
   pub whole : (p : ℕ) → p < length numbers → ((i : ℕ) → i < length index → place_at index i ≢ p) → ⊥
 
 -- the entry at i is this number's
-pub record IsAt (index : Index) (number i : ℕ) : Type 0 where
+pub record IsEntryOfNumber (index : Index) (number i : ℕ) : Type 0 where
   pub in_range : i < length index
   pub has_number : number_at index i ≡ number
 

@@ -19,7 +19,7 @@ pub record MovesIn (T : Tree) (serial parent : ℕ) : Type 0 where
   pub outside : (below : Path) → Leads T serial below parent → ⊥
 
 -- and no other entry has the name there
-pub record Moves (T : Tree) (serial parent : ℕ) (name : Name) : Type 0 where
+pub record MovesToName (T : Tree) (serial parent : ℕ) (name : Name) : Type 0 where
   pub into : MovesIn T serial parent
   pub free : (x : ℕ) (d : Entry) → entry T x ≡ Some d → d.parent ≡ parent → d.name ≡ name → x ≡ serial
 

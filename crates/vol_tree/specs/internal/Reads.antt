@@ -77,7 +77,7 @@ abbrev pub AreBelow : Dirs → ℕ → Type 0
 AreBelow dirs count = (p : ℕ) (n : List ℕ) (s : ℕ) → Names dirs p n s → s ≤ count
 
 -- what reading one slot more adds
-pub record Adds (content : Image) (o : Option Entry) (old new : Entries) : Type 0 where
+pub record AddsSlot (content : Image) (o : Option Entry) (old new : Entries) : Type 0 where
   pub named : new.named.items ≡ old.named.items ++ named_in content o
   pub parents : new.parents.items ≡ old.parents.items ++ parent_in o ∷ []
   pub directories : new.directories.items ≡ old.directories.items ++ directory_in o ∷ []

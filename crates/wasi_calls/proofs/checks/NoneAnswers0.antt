@@ -9,7 +9,7 @@ use Rattle.wasi_fd.specs.declared.descriptor.Descriptor.TheVariants.{Stream, Ent
 use Rattle.wasi_fd.specs.declared.descriptor.EntryKind.{EntryKind}
 use Rattle.wasi_fd.specs.declared.descriptor.EntryKind.TheVariants as kinds
 use Rattle.wasi_calls.specs.World.{World}
-use Rattle.wasi_calls.specs.Checks.{Checked, and_then, guard, get, of_kind, has, descriptor, opened, entry_at, by_kind, no_streams}
+use Rattle.wasi_calls.specs.Checks.{Checked, and_then, guard, get, of_kind, has, descriptor, opened_entry, entry_at, by_kind, no_streams}
 
 -- an answer is no refusal
 pub ok_no_err : {X E : Type 0} (r : Result X E) (x : X) (e : E) → r ≡ Ok x → r ≡ Err e → ⊥
@@ -52,14 +52,14 @@ kinds_taken (Entry o) = by_option (by_kind no_streams o.kind) (none_taken o.kind
     none_taken kinds.Directory n is = cc
     none_taken kinds.File n is = cc
 
-entered : (d : Descriptor) → NeverZero (opened d)
+entered : (d : Descriptor) → NeverZero (opened_entry d)
 entered (Stream s) = λ is. cc
 entered (Entry o) = tt
 
 -- an entry that isn't there to be synced
 pub entry_never_zero : (w : World) (fd right : ℕ) → NeverZero (entry_at w fd no_streams right)
 entry_never_zero w fd right =
-    after (descriptor w fd no_streams right) opened (after (get w fd) _ (gotten w fd) (λ d. after (of_kind no_streams d) _ (kinds_taken d) (λ u. after (guard (has d right) 76) _ (guarded (has d right) 76 (λ is. cc)) (λ u. tt)))) entered
+    after (descriptor w fd no_streams right) opened_entry (after (get w fd) _ (gotten w fd) (λ d. after (of_kind no_streams d) _ (kinds_taken d) (λ u. after (guard (has d right) 76) _ (guarded (has d right) 76 (λ is. cc)) (λ u. tt)))) entered
 
 -- nor has one of the volume
 pub number_never_zero : (e : Errno) → number_of e ≢ 0

@@ -13,10 +13,10 @@ use Rattle.wasi_calls.specs.declared.paths.opening.OpenCall.{OpenCall}
 use Rattle.wasi_calls.specs.declared.paths.renaming.RenameCall.{RenameCall}
 use Rattle.wasi_calls.specs.declared.files.listing.ListCall.{ListCall}
 use Rattle.wasi_calls.specs.World.{World}
-use Rattle.wasi_calls.specs.Checks.{Checked, guard, get, of_kind, has, opened, descriptor, entry_at, only_files, only_directories, range, buffers, buffers_in, total, is_inside}
+use Rattle.wasi_calls.specs.Checks.{Checked, guard, get, of_kind, has, opened_entry, descriptor, entry_at, only_files, only_directories, range, buffers, buffers_in, total, is_inside}
 use Rattle.wasi_calls.specs.paths.Rows.{open_rights}
 use Rattle.wasi_calls.specs.internal.Bodies.{refusals_of}
-use Rattle.wasi_calls.specs.internal.paths.Walks.{entered}
+use Rattle.wasi_calls.specs.internal.paths.Walks.{starting_directory}
 use Rattle.wasi_calls.specs.internal.paths.Opening.{flags_checked, open_entered}
 use Rattle.wasi_calls.specs.internal.paths.Renaming.{rename_allowed, rename_entered}
 use Rattle.wasi_calls.specs.internal.descriptors.Positions.{seekable}
@@ -69,17 +69,17 @@ descriptor_never fd t rights w =
     never_after (get w fd) _ (get_never w fd) (λ d _. never_after (of_kind (refusals_of t) d) _ (kind_never t d)
     (λ _ _. never_after (guard (has d rights) 76) _ (guards _ 76 refl) (λ _ _. ends_never d)))
 
-pub opened_never : (d : Descriptor) → opened d ≢ Err 29
+pub opened_never : (d : Descriptor) → opened_entry d ≢ Err 29
 opened_never (Stream s) is = let same : ◌≡◌ {A = ℕ} 8 29 = cc in absurd (omega (arith, same))
 opened_never (Entry o) is = cc
 
 pub entry_never : (fd : ℕ) (t : Takes) (rights : ℕ) (w : World) → entry_at w fd (refusals_of t) rights ≢ Err 29
-entry_never fd t rights w = never_after (descriptor w fd (refusals_of t) rights) opened (descriptor_never fd t rights w) (λ d _. opened_never d)
+entry_never fd t rights w = never_after (descriptor w fd (refusals_of t) rights) opened_entry (descriptor_never fd t rights w) (λ d _. opened_never d)
 
 pub range_never : (m : List ℕ) (pointer len : ℕ) → range m pointer len ≢ Err 29
 range_never m pointer len = guards _ 21 refl
 
-pub entered_never : (m : List ℕ) (fd rights path len : ℕ) (w : World) → entered w m fd rights path len ≢ Err 29
+pub entered_never : (m : List ℕ) (fd rights path len : ℕ) (w : World) → starting_directory w m fd rights path len ≢ Err 29
 entered_never m fd rights path len w =
     never_after (entry_at w fd only_directories rights) _ (entry_never fd takes.Directories rights w)
     (λ o _. never_after (range m path len) _ (range_never m path len) (λ _ _. ends_never o))
@@ -109,8 +109,8 @@ rename_entered_never m a w =
     never_after (rename_allowed w a) _ (allowed_never a w)
     (λ both _. never_after (range m a.from_path a.from_len) _ (range_never m a.from_path a.from_len)
     (λ _ _. never_after (range m a.to_path a.to_len) _ (range_never m a.to_path a.to_len)
-    (λ _ _. never_after (opened both.0) _ (opened_never both.0)
-    (λ from _. never_after (opened both.1) _ (opened_never both.1) (λ to _. ends_never (from, to))))))
+    (λ _ _. never_after (opened_entry both.0) _ (opened_never both.0)
+    (λ from _. never_after (opened_entry both.1) _ (opened_never both.1) (λ to _. ends_never (from, to))))))
 
 pub seekable_never : (m : List ℕ) (fd delta whence result : ℕ) (w : World) → seekable w m fd delta whence result ≢ Err 29
 seekable_never m fd delta whence result w =

@@ -14,7 +14,7 @@ use Rattle.wasi_fd.specs.declared.descriptor.EntryKind.TheVariants as kinds
 use Rattle.wasi_fd.specs.declared.descriptor.Opened.{Opened}
 use Rattle.wasi_fd.specs.Table.{Table}
 use Rattle.wasi_calls.specs.World.{World, least_closed, holds_below, is_of}
-use Rattle.wasi_calls.specs.Checks.{Checked, numbered, get, of_kind, has, opened, descriptor, entry_at, Refusals, by_kind, walk, tree_call, found}
+use Rattle.wasi_calls.specs.Checks.{Checked, numbered, get, of_kind, has, opened_entry, descriptor, entry_at, Refusals, by_kind, walk, tree_call, found}
 use Rattle.wasi_calls.proofs.checks.Chains.{bound, passed}
 use Rattle.wasi_calls.proofs.runs.HeldAlongRuns.{is_directory_kind}
 
@@ -58,7 +58,7 @@ described w fd r rights d h =
     let same : one.0 ≡ d = same_Ok one.0 d three.1 in
     (ok_or_some (w.table fd) 8 d (one.1 ∙ ap Ok same), subst (λ (d : Descriptor). of_kind r d ≡ Ok tt) same two.1)
 
-pub opened_is : (d : Descriptor) (o : Opened) → opened d ≡ Ok o → d ≡ Entry o
+pub opened_is : (d : Descriptor) (o : Opened) → opened_entry d ≡ Ok o → d ≡ Entry o
 opened_is (Stream s) o h = cc
 opened_is (Entry p) o h = cc
 

@@ -9,7 +9,7 @@ use Rattle.wasi_fd.specs.declared.descriptor.Descriptor.TheVariants.{Entry}
 use Rattle.wasi_fd.specs.declared.descriptor.Opened.{Opened}
 use Rattle.wasi_calls.specs.declared.checks.Takes.TheVariants as takes
 use Rattle.wasi_calls.specs.World.{World}
-use Rattle.wasi_calls.specs.Checks.{Checked, Done, guard, get, of_kind, has, only_files, opened, range}
+use Rattle.wasi_calls.specs.Checks.{Checked, Done, guard, get, of_kind, has, only_files, opened_entry, range}
 use Rattle.wasi_calls.specs.supplies.Random.{has_left}
 use Rattle.wasi_calls.specs.supplies.Rows.{sizes_get, texts_get, clock_res_get, clock_time_get, random_get, ended_bytes}
 use Rattle.wasi_calls.specs.descriptors.Rows.{fd_close, fd_fdstat_get, fd_prestat_get, fd_prestat_dir_name, fd_tell, guest_name}
@@ -62,7 +62,7 @@ tell_never w m fd result =
     (λ d _. never_after (of_kind only_files d) _ (kind_never takes.Files d)
     (λ _ _. never_after (guard (has d (2 ^ 2) || has d (2 ^ 5)) 76) _ (guards _ 76 refl)
     (λ _ _. never_after (range m result 8) _ (range_never m result 8)
-    (λ _ _. never_after (opened d) _ (opened_never d) (λ _ _. ends_never _)))))
+    (λ _ _. never_after (opened_entry d) _ (opened_never d) (λ _ _. ends_never _)))))
 
 nosys_never : ◌≢◌ {A = Checked Done} (Err 52) (Err 29)
 nosys_never is = let same : ◌≡◌ {A = ℕ} 52 29 = cc in absurd (omega (arith, same))

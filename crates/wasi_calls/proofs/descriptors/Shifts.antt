@@ -6,7 +6,7 @@ use Rattle.byteorder.specs.Endian.{little_bytes}
 use Rattle.wasm_store.specs.declared.call.Errno.{Errno}
 use Rattle.wasi_fd.specs.declared.descriptor.Opened.{Opened as OpenedEntry}
 use Rattle.wasi_calls.specs.World.{World, with_descriptor, moved_to}
-use Rattle.wasi_calls.specs.Checks.{Checked, Done, and_then, tree_call, guard, get, of_kind, only_files, has, opened, range, with_result}
+use Rattle.wasi_calls.specs.Checks.{Checked, Done, and_then, tree_call, guard, get, of_kind, only_files, has, opened_entry, range, with_result}
 use Rattle.wasi_calls.specs.descriptors.Rows.{shifted, last_position, seek_from, fd_seek}
 use Rattle.wasi_calls.specs.internal.descriptors.Positions.{seekable, sought, position_at}
 use Rattle.vol_tree.specs.Calls.{bytes_at}
@@ -97,9 +97,9 @@ ending w fd result o from delta = ended (ok_or (shifted from delta) 28) (λ at. 
 pub row_of_seek : (w : World) (m : List ℕ) (fd delta whence result : ℕ) → fd_seek w m fd delta whence result ≡ and_then (seekable w m fd delta whence result) (sought w fd delta whence result)
 row_of_seek w m fd delta whence result =
     (λ i. and_then (get w fd) (λ d. and_then (of_kind only_files d) (λ _. and_then (guard (has d (2 ^ 2) || ((delta == 0) && (whence == 1) && has d (2 ^ 5))) 76)
-    (λ _. and_then (guard (nat_le whence 2) 28) (λ _. and_then (range m result 8) (λ _. and_then (opened d) (λ o. and_then (seek_from w o whence) (λ from. ending w fd result o from delta i))))))))
+    (λ _. and_then (guard (nat_le whence 2) 28) (λ _. and_then (range m result 8) (λ _. and_then (opened_entry d) (λ o. and_then (seek_from w o whence) (λ from. ending w fd result o from delta i))))))))
     ∙ five_together (get w fd) (λ d. of_kind only_files d) (λ d. guard (has d (2 ^ 2) || ((delta == 0) && (whence == 1) && has d (2 ^ 5))) 76)
-    (λ d. guard (nat_le whence 2) 28) (λ d. range m result 8) opened (sought w fd delta whence result)
+    (λ d. guard (nat_le whence 2) 28) (λ d. range m result 8) opened_entry (sought w fd delta whence result)
 
 -- where the volume answers it isn't 29
 never_or : (o : Option ℕ) → ok_or {E = ℕ} o 28 ≢ Err 29

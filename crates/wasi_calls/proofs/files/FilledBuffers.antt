@@ -7,7 +7,7 @@ use Rattle.std.specs.List.{list_all}
 use Rattle.wasm_store.specs.Bytes.{written}
 use Rattle.wasi_calls.specs.Checks.{Buffer, put, total, scattered, is_inside}
 use Rattle.wasi_calls.specs.Calls.{IsMixed}
-use Rattle.wasi_calls.specs.internal.files.Reading.{cut, received, covered, HalfFilled, HasAll, IsBegun, BufferFilled, BufferBegun}
+use Rattle.wasi_calls.specs.internal.files.Reading.{limited_buffers, received, covered, HalfFilled, HasAll, IsBegun, BufferFilled, BufferBegun}
 use Rattle.wasi_calls.proofs.files.OverlappingBuffers.{length_written, written_before, written_inside, written_past, untouched, either, or_true, is_in, half_begun, half_mixed, half_done, cut_scattered, cut_total}
 
 -- a byte of a part of a file
@@ -129,17 +129,17 @@ module _ (file : List ℕ) (from n : ℕ) (bs : List Buffer) (count : n ≡ min 
       let b = length-drop from file in
       omega (arith, a, b, count)
 
-  pub cut_fits : total (cut n bs) ≤ length file - from
+  pub cut_fits : total (limited_buffers n bs) ≤ length file - from
   cut_fits =
       let all = cut_total n bs (omega (arith, count)) in
       omega (arith, all, count)
 
-  pub cut_received : (m : List ℕ) → put m (scattered (drop from file) (cut n bs)) ≡ received m (take (total bs) (drop from file)) bs
+  pub cut_received : (m : List ℕ) → put m (scattered (drop from file) (limited_buffers n bs)) ≡ received m (take (total bs) (drop from file)) bs
   cut_received m =
       let all = cut_total n bs (omega (arith, count)) in
       let xs : List ℕ = take (total bs) (drop from file) in
       let long = as_many in
-      ap (put m) (sym (scattered_take (total bs) (cut n bs) (drop from file) (omega (arith, all, count))) ∙ cut_scattered n bs xs (omega (arith, long)))
+      ap (put m) (sym (scattered_take (total bs) (limited_buffers n bs) (drop from file) (omega (arith, all, count))) ∙ cut_scattered n bs xs (omega (arith, long)))
 
 -- ---- one stretch of a buffer, which is in no later buffer
 

@@ -5,7 +5,7 @@ use Rattle.std.proofs.lemmas.List.{ext_get_or, take_more_set, map-append, take_a
 use Rattle.std.proofs.lemmas.List.Sums.{sum_by-cons}
 use Rattle.std.specs.List.{list_all, refill}
 use Rattle.wasi_calls.specs.Checks.{Buffer, put, total, is_inside, scattered}
-use Rattle.wasi_calls.specs.internal.files.Reading.{cut, covered, HalfFilled}
+use Rattle.wasi_calls.specs.internal.files.Reading.{limited_buffers, covered, HalfFilled}
 use Rattle.wasi_calls.specs.Calls.{IsMixed}
 use Rattle.std.proofs.Math.Seq.{drop-cons, take-append_seam}
 use Rattle.vol_body.specs.declared.source.Span.{Span}
@@ -23,35 +23,35 @@ or_true false = refl
 
 -- ---- buffers cut to what there is to be read
 
-pub cut_scattered : (n : ℕ) (bs : List Buffer) (bytes : List ℕ) → length bytes ≤ n → scattered bytes (cut n bs) ≡ scattered bytes bs
+pub cut_scattered : (n : ℕ) (bs : List Buffer) (bytes : List ℕ) → length bytes ≤ n → scattered bytes (limited_buffers n bs) ≡ scattered bytes bs
 cut_scattered n [] bytes h = refl
 cut_scattered n (b ∷ bs) bytes h =
     let rest = length-drop b.1 bytes in
-    let more : scattered (drop b.1 bytes) (cut (n - b.1) bs) ≡ scattered (drop b.1 bytes) bs = cut_scattered (n - b.1) bs (drop b.1 bytes) (omega (arith, rest)) in
+    let more : scattered (drop b.1 bytes) (limited_buffers (n - b.1) bs) ≡ scattered (drop b.1 bytes) bs = cut_scattered (n - b.1) bs (drop b.1 bytes) (omega (arith, rest)) in
     elim (cases_lt n b.1) [
       | inr fits ↦
           let same : min b.1 n ≡ b.1 = omega arith in
-          (λ i. (b.0, take (same i) bytes) ∷ scattered (drop (same i) bytes) (cut (n - b.1) bs)) ∙ ap (λ (l : List (ℕ × List ℕ)). (b.0, take b.1 bytes) ∷ l) more
+          (λ i. (b.0, take (same i) bytes) ∷ scattered (drop (same i) bytes) (limited_buffers (n - b.1) bs)) ∙ ap (λ (l : List (ℕ × List ℕ)). (b.0, take b.1 bytes) ∷ l) more
       | inl short ↦
           let taken : take (min b.1 n) bytes ≡ take b.1 bytes = take_all (min b.1 n) bytes (omega arith) ∙ sym (take_all b.1 bytes (omega arith)) in
           let left : drop (min b.1 n) bytes ≡ drop b.1 bytes = drop_all (min b.1 n) bytes (omega arith) ∙ sym (drop_all b.1 bytes (omega arith)) in
-          (λ i. (b.0, taken i) ∷ scattered (left i) (cut (n - b.1) bs)) ∙ ap (λ (l : List (ℕ × List ℕ)). (b.0, take b.1 bytes) ∷ l) more
+          (λ i. (b.0, taken i) ∷ scattered (left i) (limited_buffers (n - b.1) bs)) ∙ ap (λ (l : List (ℕ × List ℕ)). (b.0, take b.1 bytes) ∷ l) more
     ]
 
-pub cut_total : (n : ℕ) (bs : List Buffer) → n ≤ total bs → total (cut n bs) ≡ n
+pub cut_total : (n : ℕ) (bs : List Buffer) → n ≤ total bs → total (limited_buffers n bs) ≡ n
 cut_total n [] h = omega arith
 cut_total n (b ∷ bs) h =
-    let one = sum_by-cons (λ (x : Buffer). x.1) (b.0, min b.1 n) (cut (n - b.1) bs) in
+    let one = sum_by-cons (λ (x : Buffer). x.1) (b.0, min b.1 n) (limited_buffers (n - b.1) bs) in
     let all = sum_by-cons (λ (x : Buffer). x.1) b bs in
     let rest = cut_total (n - b.1) bs (omega (arith, all)) in
     omega (arith, one, all, rest)
 
-pub cut_inside : (memory : List ℕ) (n : ℕ) (bs : List Buffer) → list_all (is_inside memory) bs ≡ true → list_all (is_inside memory) (cut n bs) ≡ true
+pub cut_inside : (memory : List ℕ) (n : ℕ) (bs : List Buffer) → list_all (is_inside memory) bs ≡ true → list_all (is_inside memory) (limited_buffers n bs) ≡ true
 cut_inside memory n [] h = refl
 cut_inside memory n (b ∷ bs) h =
     let both = and_parts (is_inside memory b) (list_all (is_inside memory) bs) h in
     let inside = leb-true (b.0 + b.1) (length memory) both.0 in
-    both_so (is_inside memory (b.0, min b.1 n)) (list_all (is_inside memory) (cut (n - b.1) bs)) (le-leb (b.0 + min b.1 n) (length memory) (omega arith)) (cut_inside memory (n - b.1) bs both.1)
+    both_so (is_inside memory (b.0, min b.1 n)) (list_all (is_inside memory) (limited_buffers (n - b.1) bs)) (le-leb (b.0 + min b.1 n) (length memory) (omega arith)) (cut_inside memory (n - b.1) bs both.1)
 
 -- ---- what stands where bytes were written
 
@@ -159,10 +159,10 @@ half_done old last memory same h = ext_get_or 0 memory last (h.as_long ∙ sym s
 -- one buffer more is cut
 pub cut_more : (bs bs0 : List Span) (i left left' : ℕ) (y d : Span) → i < length bs → length bs ≡ length bs0 → drop i bs ≡ drop i bs0
     → y ≡ record (get_or bs i d) { len = min (get_or bs i d).len left } → left' ≡ left - (get_or bs i d).len
-    → list_of (take (i + 1) (set bs i y)) ++ cut left' (list_of (drop (i + 1) bs0)) ≡ list_of (take i bs) ++ cut left (list_of (drop i bs0))
+    → list_of (take (i + 1) (set bs i y)) ++ limited_buffers left' (list_of (drop (i + 1) bs0)) ≡ list_of (take i bs) ++ limited_buffers left (list_of (drop i bs0))
 cut_more bs bs0 i left left' y d h long same is less =
     let x = get_or bs i d in
-    let rest : List Buffer = cut left' (list_of (drop (i + 1) bs0)) in
+    let rest : List Buffer = limited_buffers left' (list_of (drop (i + 1) bs0)) in
     let next : drop i bs0 ≡ get_or bs0 i d ∷ drop (i + 1) bs0 = rw add-one (drop-cons bs0 i d (omega arith)) in
     let both : drop i bs ≡ x ∷ drop (i + 1) bs = rw add-one (drop-cons bs i d h) in
     let equal : x ∷ drop (i + 1) bs ≡ get_or bs0 i d ∷ drop (i + 1) bs0 = sym both ∙ (same ∙ next) in
@@ -170,9 +170,9 @@ cut_more bs bs0 i left left' y d h long same is less =
     ap (λ (l : List Span). list_of l ++ rest) (take_more_set bs i y h)
     ∙ (ap (λ (l : List Buffer). l ++ rest) (map-append pair_of (take i bs) (y ∷ []))
     ∙ (append_assoc (list_of (take i bs)) (pair_of y ∷ []) rest
-    ∙ ((λ j. list_of (take i bs) ++ (pair_of (is j) ∷ cut (less j) (list_of (drop (i + 1) bs0))))
-    ∙ ((λ j. list_of (take i bs) ++ cut left (list_of (first j ∷ drop (i + 1) bs0)))
-    ∙ ap (λ (l : List Span). list_of (take i bs) ++ cut left (list_of l)) (sym next)))))
+    ∙ ((λ j. list_of (take i bs) ++ (pair_of (is j) ∷ limited_buffers (less j) (list_of (drop (i + 1) bs0))))
+    ∙ ((λ j. list_of (take i bs) ++ limited_buffers left (list_of (first j ∷ drop (i + 1) bs0)))
+    ∙ ap (λ (l : List Span). list_of (take i bs) ++ limited_buffers left (list_of l)) (sym next)))))
 
 -- ---- places in later buffers
 

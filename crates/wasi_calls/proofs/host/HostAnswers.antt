@@ -13,7 +13,7 @@ use Rattle.wasi_calls.specs.World.{World}
 use Rattle.wasi_calls.specs.Calls.{row, word, Answered, Calls}
 use Rattle.wasi_calls.specs.host.Worlds.{StreamBytes, before_moving, after_moving, world_of, HostCalls}
 use Rattle.wasi_calls.specs.laws.Moments.{IsSynced}
-use Rattle.wasi_calls.specs.internal.Bodies.{state_of, IsSetUp, IsReady, KnowsEntries, Serves}
+use Rattle.wasi_calls.specs.internal.Bodies.{state_of, IsSetUp, IsReadyForCalls, KnowsEntries, Serves}
 use Rattle.wasi_calls.proofs.bodies.PlainCalls.{nothing, same_after, streams_rest, volume_rests}
 use Rattle.wasi_calls.proofs.runs.EntriesStay.{still_there, few_open}
 
@@ -68,7 +68,7 @@ module _ {D R W1 W2 : Type 0} (honest : D → Type 0) (disk : D → Disk) (secto
   -- after a call the host is ready for the next
   pub still_ready : (c : HostCall) (old new : Inner D R W1 W2) (m m' : List ℕ) (used : ℕ) (args : List ℕ) (errno : ℕ) → (honest old.volume.device → IsTree old.volume.tree)
       → KnowsEntries honest old.volume (table_of old.descriptors)
-      → Serves honest disk sectors_on failures remaining out_contents err_contents c used args old m new m' errno → IsReady honest remaining new
+      → Serves honest disk sectors_on failures remaining out_contents err_contents c used args old m new m' errno → IsReadyForCalls honest remaining new
   still_ready c old new m m' used args errno tree known serves = record {
     set_up = serves.set_up;
     known = record {

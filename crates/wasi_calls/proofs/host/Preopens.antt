@@ -25,7 +25,7 @@ use Rattle.wasi_calls.specs.declared.host.fault.HostFault.TheVariants.{Setting, 
 use Rattle.wasi_calls.specs.declared.host.settings.Preopen.{Preopen as PreopenValue}
 use Rattle.path_walk.specs.Walk.{Asked}
 use Rattle.wasi_calls.specs.host.Making.{HasPreopens, is_device, directory_named, from_root, found_directory, preopens_of, preopened, table_with}
-use Rattle.wasi_calls.specs.internal.host.Preopening.{fault_as, Finds, FindsAll, AreFound, AreNumbers, AreOpen, FoundSoFar, opened_from}
+use Rattle.wasi_calls.specs.internal.host.Preopening.{fault_as, FindsOrFails, FindsAll, AreFound, AreNumbers, AreOpen, FoundSoFar, opened_from}
 use Rattle.wasi_calls.specs.internal.Bodies.{IsThere, KnowsEntries, is_directory_kind}
 use Rattle.wasi_calls.proofs.OpenEntries.{no_entries}
 use Rattle.wasi_calls.proofs.checks.Passing.{same_entry}
@@ -93,7 +93,7 @@ root_refused T (c ∷ rest) e is = go (path_read (c ∷ rest)) is
     go (Ok names) is = ended (resolved T 1 wants names) is
     go (Err f) is = refl
 
-pub refused_none : (m : Option ℕ) (e : Errno) → (m ≡ None) ⊎ (e ≡ errno.Io) → Finds m (Err (fault_as e))
+pub refused_none : (m : Option ℕ) (e : Errno) → (m ≡ None) ⊎ (e ≡ errno.Io) → FindsOrFails m (Err (fault_as e))
 refused_none m errno.Io why = tt
 refused_none m errno.Exist why = elim why [ inl none ↦ none | inr io ↦ absurd (cc) ]
 refused_none m errno.TooBig why = elim why [ inl none ↦ none | inr io ↦ absurd (cc) ]
@@ -167,7 +167,7 @@ one_missing T (q ∷ ps) (suc k) p is none =
 
 -- the same of what was found and refused
 pub refused_one : (T : Tree) (ps : List PreopenValue) (serials : List ℕ) (k : ℕ) (p : PreopenValue) (fault : HostFault) → slice_get ps k ≡ Some p
-    → Finds {X = ℕ} (directory_named T p.path.now) (Err fault) → FindsAll T ps serials (Err fault)
+    → FindsOrFails {X = ℕ} (directory_named T p.path.now) (Err fault) → FindsAll T ps serials (Err fault)
 refused_one T ps serials k p Setting at h = h
 refused_one T ps serials k p Preopen at h = one_missing T ps k p at h
 refused_one T ps serials k p Device at h = tt

@@ -12,7 +12,7 @@ use Rattle.vol_tree.specs.Opened.{Opened, Keeps, is_io}
 use Rattle.path_walk.specs.declared.walking.Reached.{Reached as ReachedValue}
 use Rattle.path_walk.specs.declared.walking.Reached.TheVariants as values
 use Rattle.path_walk.proofs.Walks.{missing_free}
-use Rattle.path_walk.specs.Walk.{Gives}
+use Rattle.path_walk.specs.Walk.{GivesOrIo}
 use Rattle.path_walk.specs.Paths.{Reached, Found, Missing, path_read, wants_directory, stays_inside, resolved, walked, as_wanted, missing, dots, ◌>>=◌}
 use Rattle.wasi_fd.specs.declared.descriptor.Opened.{Opened as OpenedEntry}
 use Rattle.wasi_calls.specs.World.{World, volume_gone}
@@ -96,7 +96,7 @@ module _ {D : Type 0} (honest : D → Type 0) (disk : D → Disk) (sectors_on fa
   -- what a walk over the volume says of that in the world
   reaches_if : (b : Bool) (v v' : Opened D) (w : World) (o : OpenedEntry) (text : List ℕ) (names : List Name) (result : Result ReachedValue Errno)
       → path_read text ≡ Ok names → stays_inside 0 names ≡ b → w ≡ with_volume v w → v'.tree ≡ v.tree
-      → Gives (resolved v.tree o.serial (wants_directory text) names) result
+      → GivesOrIo (resolved v.tree o.serial (wants_directory text) names) result
       → (b ≡ true → Keeps honest sectors_on failures v v' (is_io result)) → (b ≡ false → (v' ≡ v) × (result ≡ Err errno.NotCapable))
       → Reaches honest disk sectors_on failures v v' w o text result
   reaches_if true v v' w o text names (Ok r) read inside shown tree gives kept out = (
@@ -121,7 +121,7 @@ module _ {D : Type 0} (honest : D → Type 0) (disk : D → Disk) (sectors_on fa
 
   pub reaches_by : (v v' : Opened D) (w : World) (o : OpenedEntry) (text : List ℕ) (names : List Name) (result : Result ReachedValue Errno)
       → path_read text ≡ Ok names → w ≡ with_volume v w → v'.tree ≡ v.tree
-      → Gives (resolved v.tree o.serial (wants_directory text) names) result
+      → GivesOrIo (resolved v.tree o.serial (wants_directory text) names) result
       → (stays_inside 0 names ≡ true → Keeps honest sectors_on failures v v' (is_io result)) → (stays_inside 0 names ≡ false → (v' ≡ v) × (result ≡ Err errno.NotCapable))
       → Reaches honest disk sectors_on failures v v' w o text result
   reaches_by v v' w o text names result read shown tree gives kept out =
@@ -153,7 +153,7 @@ is_directory_if : (T : Tree) (serial : ℕ) (o : Option TreeEntry) → entry T s
 is_directory_if T serial None is h = absurd (false≢true h)
 is_directory_if T serial (Some e) is h = (e, is, node_is e.node h)
 
-pub places : (T : Tree) (directory : ℕ) (wants : Bool) (names : List Name) (result : Result ReachedValue Errno) → Gives (resolved T directory wants names) result → Places T result
+pub places : (T : Tree) (directory : ℕ) (wants : Bool) (names : List Name) (result : Result ReachedValue Errno) → GivesOrIo (resolved T directory wants names) result → Places T result
 places T directory wants names (Ok (values.Found serial)) gives = tt
 places T directory wants names (Ok (values.Missing parent name)) gives =
     is_directory_if T parent (entry T parent) refl (missing_free T directory parent name.now wants names gives).directory

@@ -22,7 +22,7 @@ use Rattle.wasi_fd.specs.Table.{Table}
 use Rattle.wasi_calls.specs.World.{World, places}
 use Rattle.wasi_calls.specs.Checks.{Checked, Done}
 use Rattle.wasi_calls.specs.Calls.{row, Calls, Answers, Answered, by_row, volume_fails, input_fails, output_fails, errors_fail}
-use Rattle.wasi_calls.specs.laws.Confined.{Tops, IsOutside, IsWithin, StandsWithin, end_of, IsConfined, named_by, Begins, Confines, IsHostOf, ConfinesHost}
+use Rattle.wasi_calls.specs.laws.Confined.{Tops, IsOutside, IsWithin, StandsWithin, walk_end, IsConfined, named_by, HasOnlyDirectoriesOpen, Confines, IsHostOf, ConfinesHost}
 use Rattle.wasi_calls.proofs.checks.Chains.{Yields, known}
 use Rattle.wasi_calls.proofs.runs.HeldAlongRuns.{is_directory_kind, Holds, below_not_root, outside_above}
 use Rattle.wasi_calls.proofs.runs.ReachedEntries.{IsFound, found_from}
@@ -154,7 +154,7 @@ module _ (T0 : Tree) (t0 : IsTree T0) (tops : Tops) (directories : (top : ℕ) �
   from_found w h o s f = stands w.tree w.table h s f.e f.used f.inside
 
   walked_within : (w : World) → Holds T0 tops w.tree w.table → (fd : ℕ) (o : Opened) (wants : Bool) (names : List Name) → w.table fd ≡ Some (Entry o)
-      → (reached : Reached) → resolved w.tree o.serial wants names ≡ Ok reached → StandsWithin T0 tops w.tree (end_of reached)
+      → (reached : Reached) → resolved w.tree o.serial wants names ≡ Ok reached → StandsWithin T0 tops w.tree (walk_end reached)
   walked_within w h fd o wants names g (Found s) is =
       from_found w h o s (found_from T0 t0 tops directories w fd o h g (names_left [] names) s (walks_below w.tree o.serial s wants names is))
   walked_within w h fd o wants names g (Missing parent name) is =
@@ -206,7 +206,7 @@ module _ (T0 : Tree) (t0 : IsTree T0) (tops : Tops) (directories : (top : ℕ) �
   reach_keeps i w c answers w' c' (goes {h' = v} {c' = d} ev later s r) h = reach_keeps i v d later w' c' r (step_keeps i 0 w c ev v d s h)
 
 -- how a world begins
-module _ (w : World) (begins : Begins w) where
+module _ (w : World) (begins : HasOnlyDirectoriesOpen w) where
   abbrev tops : Tops
   tops = named_by w.table
 

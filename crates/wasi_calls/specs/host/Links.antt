@@ -62,8 +62,8 @@ path_named name =
     None
 
 -- the call of this name
-abbrev pub named : List ℕ → Option HostCall
-named name = or_else (supply_named name) (or_else (descriptor_named name) (or_else (bytes_named name) (path_named name)))
+abbrev pub host_call_named : List ℕ → Option HostCall
+host_call_named name = or_else (supply_named name) (or_else (descriptor_named name) (or_else (bytes_named name) (path_named name)))
 
 -- the types of a call's parameters: `I` marks i64, `i` i32
 abbrev pub params_of : HostCall → List ℕ
@@ -122,5 +122,5 @@ has_type c t = are_types (params_of c) t.params && are_types (results_of c) t.re
 abbrev pub link : List ℕ → List ℕ → FuncType → Option HostCall
 link module_name name t =
     if not (bytes_eq module_name (codes "wasi_snapshot_preview1")) then None else
-    option_map_or (λ c. if has_type c t then Some c else None) (named name)
+    option_map_or (λ c. if has_type c t then Some c else None) (host_call_named name)
     (if are_types (codes "i") t.results then Some call.Nosys else None)

@@ -86,7 +86,7 @@ pub record KnowsEntries {D : Type 0} (honest : D → Type 0) (v : Opened D) (tab
   pub there : honest v.device → AreThere v.tree table
 
 -- what a host keeps between its calls
-pub record IsReady {D R W1 W2 : Type 0} (honest : D → Type 0) (remaining : R → Option (List ℕ)) (p : Inner D R W1 W2) : Type 0 where
+pub record IsReadyForCalls {D R W1 W2 : Type 0} (honest : D → Type 0) (remaining : R → Option (List ℕ)) (p : Inner D R W1 W2) : Type 0 where
   pub set_up : IsSetUp remaining p
   pub known : KnowsEntries honest p.volume (table_of p.descriptors)
 

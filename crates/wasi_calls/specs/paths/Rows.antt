@@ -12,7 +12,7 @@ use Rattle.wasi_fd.specs.declared.descriptor.EntryKind.TheVariants as kinds
 use Rattle.wasi_fd.specs.declared.descriptor.Opened.{Opened}
 use Rattle.wasi_fd.specs.Rights.{bits_of, file_rights, directory_rights}
 use Rattle.wasi_calls.specs.World.{World, with_descriptor, least_closed, places, held_open}
-use Rattle.wasi_calls.specs.Checks.{Checked, ◌>>=◌, ◌>>◌, guard, get, of_kind, has, opened, entry_at, only_directories, range, walk, tree_call, found, Done, only_world, with_result}
+use Rattle.wasi_calls.specs.Checks.{Checked, ◌>>=◌, ◌>>◌, guard, get, of_kind, has, opened_entry, entry_at, only_directories, range, walk, tree_call, found, Done, only_world, with_result}
 use Rattle.wasi_calls.specs.descriptors.Rows.{entry_stat}
 use Rattle.wasi_calls.specs.Errnos.{BUSY, EXIST, INVAL, ISDIR, NOENT, NOTCAPABLE, NOTDIR, NOTEMPTY, NOTSUP}
 use Rattle.wasi_fd.specs.Rights.{PATH_CREATE_DIRECTORY, PATH_CREATE_FILE, PATH_OPEN, PATH_FILESTAT_SET_SIZE, PATH_FILESTAT_GET, PATH_REMOVE_DIRECTORY, PATH_RENAME_SOURCE, PATH_RENAME_TARGET, PATH_UNLINK_FILE}
@@ -173,8 +173,8 @@ path_rename w memory from_fd from_path from_len to_fd to_path to_len = do
   guard (has e PATH_RENAME_TARGET) NOTCAPABLE
   range memory from_path from_len
   range memory to_path to_len
-  from ← opened d
-  to ← opened e
+  from ← opened_entry d
+  to ← opened_entry e
   moved ← path_at w memory from from_path from_len
   target ← path_at w memory to to_path to_len
   source ← found moved

@@ -14,7 +14,7 @@ ghost use Rattle.wasi_calls.specs.host.Worlds.{VolumeStep};
 ghost use Rattle.wasi_calls.specs.internal.Bodies.{IsFileOf, NoMoreEntries, errno_of, with_volume, with_table};
 ghost use Rattle.path_walk.specs.Walk.{Asked};
 ghost use Rattle.wasi_calls.specs.internal.checks.Buffers.{list_of, AreUsable};
-ghost use Rattle.wasi_calls.specs.internal.files.Reading.{cut, IsStretch, IsBegun, BufferFilled, BufferBegun, wanted, received, read_into, read_file_to};
+ghost use Rattle.wasi_calls.specs.internal.files.Reading.{limited_buffers, IsStretch, IsBegun, BufferFilled, BufferBegun, wanted, received, read_into, read_file_to};
 ghost use Rattle.wasi_calls.specs.declared.checks.buffers.TheConstants.{MOST_BUFFERS};
 
 use crate::checks::buffers::{Request, total_len};
@@ -30,7 +30,7 @@ use wasm_store::{Errno, Memory};
 
 /// Cuts the buffers to this many bytes in all.
 pub(crate) fn cut_to(buffers: &mut [Span], len: u32)
-    ensures { list_of buffers.new ≡ cut len (list_of buffers.old) }
+    ensures { list_of buffers.new ≡ limited_buffers len (list_of buffers.old) }
 {
     let mut left = len;
     for index in 0..buffers.len() {

@@ -13,7 +13,7 @@ ghost use Rattle.wasi_calls.specs.Calls.{Answered};
 ghost use Rattle.wasi_calls.specs.host.Worlds.{VolumeStep};
 ghost use Rattle.wasi_calls.specs.internal.Bodies.{IsFileOf, NoMoreEntries, errno_of, with_volume, with_table};
 ghost use Rattle.wasi_calls.specs.internal.checks.Buffers.{list_of, AreUsable};
-ghost use Rattle.wasi_calls.specs.internal.files.Writing.{placed, written_on, written_to};
+ghost use Rattle.wasi_calls.specs.internal.files.Writing.{written_at_offset, written_on, written_to};
 ghost use Rattle.wasi_calls.specs.internal.descriptors.Positions.{IsOpenAs};
 ghost use Rattle.wasi_calls.specs.declared.checks.buffers.TheConstants.{MOST_BUFFERS};
 
@@ -82,7 +82,7 @@ pub(crate) fn write_at<D: Device>(
     ensures step { VolumeStep D.honest D.disk D.size D.failures volume.old volume.new }
     ensures io { errno_of result ≡ 29 → volume.new.failed ≡ true }
     ensures answered { D.honest volume.old.device → (w : World) → w ≡ with_volume volume.old w
-        → Answered (λ v. placed v opened.now at (gathered memory.old (list_of buffers.now)) result_at) w memory.old (with_volume volume.new w) memory.new (errno_of result) }
+        → Answered (λ v. written_at_offset v opened.now at (gathered memory.old (list_of buffers.now)) result_at) w memory.old (with_volume volume.new w) memory.new (errno_of result) }
 {
     match put_bytes(volume, opened.serial, at, memory, buffers) {
         Ok(len) => {

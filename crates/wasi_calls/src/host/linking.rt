@@ -2,7 +2,7 @@
 
 ghost use Rattle.std.specs.Prelude.{◌≡◌};
 ghost use Rattle.wasi_calls.specs.host.Links.{supply_named as supply, descriptor_named as descriptor, bytes_named as bytes, path_named as path};
-ghost use Rattle.wasi_calls.specs.host.Links.{named, params_of, results_of, is_type, are_types, has_type, link};
+ghost use Rattle.wasi_calls.specs.host.Links.{host_call_named, params_of, results_of, is_type, are_types, has_type, link};
 
 use wasm_module::{FuncType, ValueType};
 use wasm_store::HostCall;
@@ -77,7 +77,7 @@ fn path_named(name: &str) -> Option<HostCall>
 
 /// The call of this name.
 fn call_named(name: &str) -> Option<HostCall>
-    ensures { result ≡ named name.now }
+    ensures { result ≡ host_call_named name.now }
 {
     if let Some(call) = supply_named(name) {
         return Some(call);

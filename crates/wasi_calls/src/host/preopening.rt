@@ -6,7 +6,7 @@ ghost use Rattle.vol_tree.specs.Opened.{IsSerial};
 ghost use Rattle.wasi_fd.specs.Table.{table_of, streams, with_at};
 ghost use Rattle.path_walk.specs.Walk.{Asked};
 ghost use Rattle.wasi_calls.specs.host.Making.{HasPreopens, directory_named, from_root, found_directory, preopened, is_device};
-ghost use Rattle.wasi_calls.specs.internal.host.Preopening.{fault_as, Finds, FindsAll, AreNumbers, AreOpen, Refuses};
+ghost use Rattle.wasi_calls.specs.internal.host.Preopening.{fault_as, FindsOrFails, FindsAll, AreNumbers, AreOpen, Refuses};
 ghost use Rattle.wasi_calls.specs.internal.Bodies.{KnowsEntries};
 
 use crate::host::fault::HostFault;
@@ -36,9 +36,9 @@ fn reached_directory<D: Device>(
     requires reached { IsReached D.honest volume.old reached }
     ensures reads { Asked D.honest D.disk D.size D.failures volume.old volume.new (is_device result) }
     ensures found { D.honest volume.old.device
-        → Finds (found_directory volume.old.tree (Ok (reached_as reached.entry))) result }
+        → FindsOrFails (found_directory volume.old.tree (Ok (reached_as reached.entry))) result }
     ensures number { IfOk result (IsSerial volume.new.numbers) }
-    ensures faults { IfErr result (λ fault. Finds {X = ℕ} None (Err fault)) }
+    ensures faults { IfErr result (λ fault. FindsOrFails {X = ℕ} None (Err fault)) }
 {
     match reached {
         Reached::Found(serial) => match is_directory(volume, Serial::new(serial)) {
@@ -54,9 +54,10 @@ fn reached_directory<D: Device>(
 fn from_root<D: Device>(volume: &mut Volume<D>, rest: &[u8]) -> Result<u32, HostFault>
     requires { volume.old.failed ≡ false }
     ensures reads { Asked D.honest D.disk D.size D.failures volume.old volume.new (is_device result) }
-    ensures found { D.honest volume.old.device → Finds (from_root volume.old.tree rest.now) result }
+    ensures found { D.honest volume.old.device
+        → FindsOrFails (from_root volume.old.tree rest.now) result }
     ensures number { IfOk result (IsSerial volume.new.numbers) }
-    ensures faults { IfErr result (λ fault. Finds {X = ℕ} None (Err fault)) }
+    ensures faults { IfErr result (λ fault. FindsOrFails {X = ℕ} None (Err fault)) }
 {
     volume.is_a_tree(); // a law: the root is there
     if rest.is_empty() {
@@ -72,9 +73,9 @@ fn from_root<D: Device>(volume: &mut Volume<D>, rest: &[u8]) -> Result<u32, Host
 fn directory_named<D: Device>(volume: &mut Volume<D>, path: &[u8]) -> Result<u32, HostFault>
     requires { volume.old.failed ≡ false }
     ensures reads { Asked D.honest D.disk D.size D.failures volume.old volume.new (is_device result) }
-    ensures found { D.honest volume.old.device → Finds (directory_named volume.old.tree path.now) result }
+    ensures found { D.honest volume.old.device → FindsOrFails (directory_named volume.old.tree path.now) result }
     ensures number { IfOk result (IsSerial volume.new.numbers) }
-    ensures faults { IfErr result (λ fault. Finds {X = ℕ} None (Err fault)) }
+    ensures faults { IfErr result (λ fault. FindsOrFails {X = ℕ} None (Err fault)) }
 {
     match path {
         [b'/', rest @ ..] => from_root(volume, rest),
@@ -94,7 +95,7 @@ fn find_all<D: Device>(
     ensures found { D.honest volume.old.device
         → FindsAll volume.old.tree preopens.now serials.new result }
     ensures numbers { OnOk result (AreNumbers volume.new.numbers serials.new (length preopens.now)) }
-    ensures faults { IfErr result (λ fault. Finds {X = ℕ} None (Err fault)) }
+    ensures faults { IfErr result (λ fault. FindsOrFails {X = ℕ} None (Err fault)) }
 {
     for (i, preopen) in preopens.iter().enumerate() {
         match directory_named(volume, preopen.path) {

@@ -50,11 +50,11 @@ impl<'s, 't, D: Device, R: Read, W1: Write, W2: Write> Model for WasiHost<'s, 't
 
     ghost Value = { HostState D R W1 W2 };
 
-    ghost use Rattle.wasi_calls.specs.internal.Bodies.{state_of, IsReady};
+    ghost use Rattle.wasi_calls.specs.internal.Bodies.{state_of, IsReadyForCalls};
 
     ghost view = { λ h. state_of h.inner };
 
-    ghost invariant = { λ h. IsReady D.honest R.remaining h.inner };
+    ghost invariant = { λ h. IsReadyForCalls D.honest R.remaining h.inner };
 }
 
 impl<'s, 't, D: Device, R: Read + Drop, W1: Write + Drop, W2: Write + Drop> WasiHost<

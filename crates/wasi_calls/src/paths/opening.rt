@@ -17,7 +17,7 @@ ghost use Rattle.wasi_calls.specs.host.Worlds.{VolumeStep};
 ghost use Rattle.wasi_calls.specs.internal.Bodies.{KnowsEntries, errno_of, with_volume};
 ghost use Rattle.wasi_calls.specs.internal.paths.Walks.{StillWorks, Places};
 ghost use Rattle.path_walk.specs.Walk.{Asked};
-ghost use Rattle.wasi_calls.specs.internal.paths.Opening.{flags_checked, found_checked, missing_checked, open_entered, IsTarget, IsAt, CanOpen, made, ChecksAs, Targets, AreSerials, with_both};
+ghost use Rattle.wasi_calls.specs.internal.paths.Opening.{flags_checked, found_checked, missing_checked, open_entered, IsTarget, LeadsToSerial, CanOpen, made, ChecksAs, Targets, AreSerials, with_both};
 
 use crate::arguments::{descriptor, long, word};
 use crate::checks::{Takes, check_range, check_that, entry_at, write_bytes};
@@ -183,7 +183,7 @@ pub(crate) fn ends_open(text: &[u8]) -> bool
 
 /// How a directory, or a file, is opened.
 fn found_as<'p>(oflags: u32, serial: u32, is_directory: bool) -> Target<'p>
-    ensures at { IsAt serial result }
+    ensures at { LeadsToSerial serial result }
     ensures target { (T : Tree) → directory_at T serial ≡ is_directory → IsTarget T oflags (Found serial) result }
 {
     if is_directory {

@@ -28,7 +28,7 @@ impl State {
     /// Goes on with the next instruction, one unit later.
     fn go_on(&mut self)
         requires fits { self.old.used + 1 < 2 ^ 64 }
-        requires place { self.old.current.pc + 1 < 2 ^ 64 }
+        requires next_pc { self.old.current.pc + 1 < 2 ^ 64 }
         ensures { self.new ≡ record self.old { current = record self.old.current { pc = self.old.current.pc + 1 }; used = suc self.old.used } }
     {
         self.go_to(self.current.pc + 1);
@@ -56,7 +56,7 @@ impl State {
     fn test(&mut self, target: Target)
         requires top { 0 < vec_len self.old.values }
         requires fits { self.old.used + 1 < 2 ^ 64 }
-        requires place { self.old.current.pc + 1 < 2 ^ 64 }
+        requires next_pc { self.old.current.pc + 1 < 2 ^ 64 }
         ensures tested { TestsOne (flat_of self.old) (flat_of self.new) target }
         ensures stays { Stays self.old self.new }
         ensures used { self.new.used ≡ suc self.old.used }
@@ -74,7 +74,7 @@ impl State {
     fn branch_if(&mut self, target: Target)
         requires can { CanBranchIf (flat_of self.old) target }
         requires fits { self.old.used + 1 < 2 ^ 64 }
-        requires place { self.old.current.pc + 1 < 2 ^ 64 }
+        requires next_pc { self.old.current.pc + 1 < 2 ^ 64 }
         ensures branched { BranchesIf (flat_of self.old) (flat_of self.new) target }
         ensures stays { Stays self.old self.new }
         ensures used { self.new.used ≡ suc self.old.used }
@@ -106,7 +106,7 @@ impl State {
         requires inside { self.old.current.locals + index < vec_len self.old.values }
         requires spare { vec_len self.old.values < vec_capacity self.old.values }
         requires fits { self.old.used + 1 < 2 ^ 64 }
-        requires place { self.old.current.pc + 1 < 2 ^ 64 }
+        requires next_pc { self.old.current.pc + 1 < 2 ^ 64 }
         ensures pushed { OnOk result (FlatStep 0 (Instruction.LocalGet index) [] (flat_of self.old) (flat_of self.new)) }
         ensures pushes { Pushes self.old self.new result }
     {
@@ -119,7 +119,7 @@ impl State {
     fn set_local(&mut self, index: u32)
         requires inside { self.old.current.locals + index + 1 < vec_len self.old.values }
         requires fits { self.old.used + 1 < 2 ^ 64 }
-        requires place { self.old.current.pc + 1 < 2 ^ 64 }
+        requires next_pc { self.old.current.pc + 1 < 2 ^ 64 }
         ensures set { FlatStep 0 (Instruction.LocalSet index) [] (flat_of self.old) (flat_of self.new) }
         ensures stays { Stays self.old self.new }
         ensures used { self.new.used ≡ suc self.old.used }
@@ -134,7 +134,7 @@ impl State {
     fn tee_local(&mut self, index: u32)
         requires inside { self.old.current.locals + index < vec_len self.old.values }
         requires fits { self.old.used + 1 < 2 ^ 64 }
-        requires place { self.old.current.pc + 1 < 2 ^ 64 }
+        requires next_pc { self.old.current.pc + 1 < 2 ^ 64 }
         ensures set { FlatStep 0 (Instruction.LocalTee index) [] (flat_of self.old) (flat_of self.new) }
         ensures stays { Stays self.old self.new }
         ensures used { self.new.used ≡ suc self.old.used }
@@ -149,7 +149,7 @@ impl State {
         requires inside { index < length self.old.globals }
         requires spare { vec_len self.old.values < vec_capacity self.old.values }
         requires fits { self.old.used + 1 < 2 ^ 64 }
-        requires place { self.old.current.pc + 1 < 2 ^ 64 }
+        requires next_pc { self.old.current.pc + 1 < 2 ^ 64 }
         ensures pushed { OnOk result (FlatStep 0 (Instruction.GlobalGet index) [] (flat_of self.old) (flat_of self.new)) }
         ensures pushes { Pushes self.old self.new result }
     {
@@ -163,7 +163,7 @@ impl State {
         requires top { 0 < vec_len self.old.values }
         requires inside { index < length self.old.globals }
         requires fits { self.old.used + 1 < 2 ^ 64 }
-        requires place { self.old.current.pc + 1 < 2 ^ 64 }
+        requires next_pc { self.old.current.pc + 1 < 2 ^ 64 }
         ensures set { FlatStep 0 (Instruction.GlobalSet index) [] (flat_of self.old) (flat_of self.new) }
         ensures stays { Stays self.old self.new }
         ensures used { self.new.used ≡ suc self.old.used }
@@ -179,7 +179,7 @@ impl State {
     fn push_size(&mut self) -> Result<(), Halt>
         requires spare { vec_len self.old.values < vec_capacity self.old.values }
         requires fits { self.old.used + 1 < 2 ^ 64 }
-        requires place { self.old.current.pc + 1 < 2 ^ 64 }
+        requires next_pc { self.old.current.pc + 1 < 2 ^ 64 }
         ensures pushed { OnOk result (FlatStep 0 Instruction.MemorySize [] (flat_of self.old) (flat_of self.new)) }
         ensures pushes { Pushes self.old self.new result }
     {
@@ -219,7 +219,7 @@ impl State {
         requires ready { IsReadyFor instruction.now (slice_index_or targets.now self.old.current.pc []) (flat_of self.old) }
         requires spare { vec_len self.old.values < vec_capacity self.old.values }
         requires fits { self.old.used + 1 < 2 ^ 64 }
-        requires place { self.old.current.pc + 1 < 2 ^ 64 }
+        requires next_pc { self.old.current.pc + 1 < 2 ^ 64 }
         ensures performed { OnOk result (FlatStep limit instruction.now (slice_index_or targets.now self.old.current.pc []) (flat_of self.old) (flat_of self.new)) }
         ensures used { OnOk result (self.new.used ≡ suc self.old.used) }
         ensures halted { IfErr result (λ h. Halts h instruction.now self.new) }
@@ -268,7 +268,7 @@ impl State {
         requires ready { IsReady instruction.now (reverse self.old.values.items) }
         requires spare { vec_len self.old.values < vec_capacity self.old.values }
         requires fits { self.old.used + 1 < 2 ^ 64 }
-        requires place { self.old.current.pc + 1 < 2 ^ 64 }
+        requires next_pc { self.old.current.pc + 1 < 2 ^ 64 }
         ensures worked { OnOk result (Works limit instruction.now (flat_of self.old) (flat_of self.new)) }
         ensures used { OnOk result (self.new.used ≡ suc self.old.used) }
         ensures halted { IfErr result (λ h. Halts h instruction.now self.new) }

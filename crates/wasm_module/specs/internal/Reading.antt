@@ -80,11 +80,11 @@ sized_at w bytes = u32_at bytes >>= λ n. piece_at n.0 n.1 >>= λ p. w p.0 >>= �
 unfoldable pub raw_of : WholeReader (List ℕ)
 raw_of bytes = Some bytes
 
-unfoldable pub text_of : WholeReader (List ℕ)
-text_of bytes = if is_utf8 bytes then Some bytes else None
+unfoldable pub utf8_text_of : WholeReader (List ℕ)
+utf8_text_of bytes = if is_utf8 bytes then Some bytes else None
 
 unfoldable pub name_at : Reader (List ℕ)
-name_at = sized_at text_of
+name_at = sized_at utf8_text_of
 
 -- a custom section: its name is read, and nothing else
 unfoldable pub custom_of : WholeReader (Unit {0})

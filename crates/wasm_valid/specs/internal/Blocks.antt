@@ -29,8 +29,8 @@ abbrev pub labels_of : List OpenBlock → Labels
 labels_of bs = map (λ b. label_of b.kind b.block_type) bs
 
 -- a block that begins
-abbrev pub opened : BlockKind → BlockType → OpenBlock
-opened k t = record { kind = k; block_type = t; stack = nothing }
+abbrev pub new_block : BlockKind → BlockType → OpenBlock
+new_block k t = record { kind = k; block_type = t; stack = nothing }
 
 abbrev pub with_stack : OpenBlock → Stack → OpenBlock
 with_stack b s = record { kind = b.kind; block_type = b.block_type; stack = s }
@@ -56,7 +56,7 @@ ended b [] = None
 ended b (d ∷ bs) = if_true (ends b) (with_stack d (push (results_of b.block_type) d.stack) ∷ bs)
 
 abbrev pub elsed : OpenBlock → List OpenBlock → Option (List OpenBlock)
-elsed b bs = if_true (is_if b.kind && can_be (results_of b.block_type) b.stack) (opened Block b.block_type ∷ bs)
+elsed b bs = if_true (is_if b.kind && can_be (results_of b.block_type) b.stack) (new_block Block b.block_type ∷ bs)
 
 abbrev pub on_stack : OpenBlock → List OpenBlock → Option Stack → Option (List OpenBlock)
 on_stack b bs o = option_map (λ s. with_stack b s ∷ bs) o
@@ -65,7 +65,7 @@ on_stack b bs o = option_map (λ s. with_stack b s ∷ bs) o
 
 abbrev pub opened_in : BlockKind → BlockType → List OpenBlock → Option (List OpenBlock)
 opened_in k t [] = None
-opened_in k t (b ∷ bs) = Some (opened k t ∷ b ∷ bs)
+opened_in k t (b ∷ bs) = Some (new_block k t ∷ b ∷ bs)
 
 abbrev pub popped_in : ValueType → List OpenBlock → Option (List OpenBlock)
 popped_in t [] = None

@@ -14,7 +14,7 @@ use Rattle.wasm_valid.specs.Typing.{Context, Labels, Typed, results_of}
 use Rattle.wasm_valid.specs.Validity.{FunctionTyped}
 use Rattle.wasm_valid.specs.internal.Stack.{Stack, nothing, push}
 use Rattle.wasm_valid.specs.internal.Blocks.{OpenBlock, labels_of}
-use Rattle.wasm_valid.specs.internal.Fits.{Fits}
+use Rattle.wasm_valid.specs.internal.Fits.{FitsTypes}
 
 -- ---- code in two parts
 
@@ -36,7 +36,7 @@ pub record Run (last : Instruction) (c : Context) (ls : Labels) (s : Stack) (rs 
   pub written : IsWritten code
   pub is : flatten last code ≡ flat
   pub from : List ValueType
-  pub fits : Fits s from
+  pub fits : FitsTypes s from
   pub typed : Typed c ls code from rs
 
 -- code up to the end of an open block; that of an if may have an else

@@ -13,5 +13,5 @@ FitsList [] true ts = Unit {0}
 FitsList (o ∷ os) u [] = ⊥
 FitsList (o ∷ os) u (t ∷ ts) = Agrees o t × FitsList os u ts
 
-abbrev pub Fits : Stack → List ValueType → Type 0
-Fits s ts = FitsList s.known s.unreachable ts
+abbrev pub FitsTypes : Stack → List ValueType → Type 0
+FitsTypes s ts = FitsList s.known s.unreachable ts

@@ -36,6 +36,6 @@ AreNested below [] = Unit {0}
 AreNested below (f ∷ fs) = (f.around.height ≤ length below) × AreNested (take f.around.height below) fs
 
 -- what a step answers: whether there is what it leaves, and this is it
-abbrev pub Answers : {T : Type 0} → Bool → Option T → T → Type 0
-Answers true o new = o ≡ Some new
-Answers false o new = o ≡ None
+abbrev pub StepsTo : {T : Type 0} → Bool → Option T → T → Type 0
+StepsTo true o new = o ≡ Some new
+StepsTo false o new = o ≡ None

@@ -3,7 +3,7 @@ use Rattle.std.proofs.lemmas.Grind.{common_steps}
 use Rattle.vol_tree.specs.declared.errno.Errno.{Errno}
 use Rattle.path_walk.specs.declared.walking.Reached.{Reached as ReachedValue}
 use Rattle.path_walk.specs.Paths.{Reached, components_of, wants_directory, stays_inside, resolved}
-use Rattle.path_walk.specs.Walk.{Gives, reached_as}
+use Rattle.path_walk.specs.Walk.{GivesOrIo, reached_as}
 use Rattle.path_walk.proofs.Names.{read_names}
 use Rattle.path_walk.proofs.Chaining.{walk_refused, walk_finds, walk_misses}
 use Rattle.path_walk.proofs.walking.walk.Goals as goal
@@ -28,7 +28,7 @@ returns-in-Ok-Found-clause-answer g c h =
     let asked = c.in-Ok-Found.ensures.asked in
     let r = walk_finds c.args.volume.now.tree c.args.directory c.wants_dir.result text (c.is_a_tree.ensures.tree h) c.requires.directory.number.first inside c.walk_down.new.volume.tree c.in-Ok-Found.serial c.found.result (asked.tree h)
     ((rw c.number.ensures at c.in-Ok-Found.ensures.answer h) ∙ as_read c.in-Ok-Found.field-0-is) (c.found.ensures.answer (asked.kept.honest.0 h)) in
-    subst (λ wants. Gives (resolved c.args.volume.now.tree c.args.directory wants (components_of c.args.path.now)) c.found.result) c.wants_dir.ensures (rw (← c.path.view_is) r)
+    subst (λ wants. GivesOrIo (resolved c.args.volume.now.tree c.args.directory wants (components_of c.args.path.now)) c.found.result) c.wants_dir.ensures (rw (← c.path.view_is) r)
 
 pub returns-in-Ok-Missing-clause-answer : goal.returns-in-Ok-Missing-clause-answer
 returns-in-Ok-Missing-clause-answer g c h =

@@ -3,11 +3,11 @@ use Rattle.std.specs.Borrow.{Bor}
 use Rattle.std.specs.List.{Contains}
 use Rattle.std.proofs.lemmas.Grind.{common_steps}
 use Rattle.sandbox_words.specs.Request.{Text, texts}
-use Rattle.sandbox_command.specs.Supplies.{cut}
+use Rattle.sandbox_command.specs.Supplies.{split_at_equals}
 use Rattle.sandbox_command.proofs.supplies.preopens.Goals as goal
 
 -- a word that isn't cut is one of them
-uncut : (ws : List (Bor Text)) (i : ℕ) (d : Bor Text) → i < length ws → ◌≡◌ {A = Option (Text × Text)} None (cut (get_or ws i d).now) → Contains (map cut (texts ws)) None
+uncut : (ws : List (Bor Text)) (i : ℕ) (d : Bor Text) → i < length ws → ◌≡◌ {A = Option (Text × Text)} None (split_at_equals (get_or ws i d).now) → Contains (map split_at_equals (texts ws)) None
 uncut [] i d lt e = absurd (omega (arith, lt))
 uncut (w ∷ ws) zero d lt e = (0, omega arith, sym e)
 uncut (w ∷ ws) (suc i) d lt e = let later = uncut ws i d (omega (arith, lt)) e in (suc later.0, omega (arith, later.1), later.2)

@@ -2,7 +2,7 @@ use Rattle.std.proofs.lemmas.Grind.{common_steps}
 use Rattle.std.proofs.Common.{◌≡◌, ◌<◌, ◌≤◌, ◌+◌, ◌-◌, ℕ, List, length, take, get_or, true, false, refl, subst, arith}
 use Rattle.std.proofs.lemmas.Bool.{false≢true}
 use Rattle.std.proofs.lemmas.List.{length-set, take_all}
-use Rattle.vol_alloc.specs.Numbers.{Names, ArePlaces}
+use Rattle.vol_alloc.specs.Numbers.{ListsNumber, ArePlaces}
 use Rattle.vol_alloc.proofs.Free.{flagged}
 use Rattle.vol_alloc.proofs.Named.{set_more, each_more, right_more}
 use Rattle.vol_alloc.proofs.sectors.take_all.Goals as goal
@@ -44,7 +44,7 @@ returns c =
     let count : c.loop-n.n-index ≡ length named = omega (arith, c.loop-n-test.false, c.loop-n.auto.n-index-end) in
     record {
       taken = λ yes n from. (
-        λ is. subst (λ (l : List ℕ). Names l n) all (so_far.set n from is),
+        λ is. subst (λ (l : List ℕ). ListsNumber l n) all (so_far.set n from is),
         λ names. subst (λ (m : ℕ). get_or taken (m - first) false ≡ true) names.2 (so_far.each names.0 (omega (arith, names.1, count))),
       );
       count = λ yes. omega (arith, so_far.counted, count, c.loop-n.auto.taken);

@@ -8,7 +8,7 @@ use Rattle.vol_inode.specs.Space.{need_of}
 use Rattle.vol_inode.specs.declared.entry.Entry.{Entry}
 use Rattle.vol_body.specs.Body.{data_block, named, block_bytes, NamesTaken}
 use Rattle.vol_body.specs.Change.{used_of}
-use Rattle.vol_body.specs.internal.Writing.{IsReady, MirrorsAll, Changes, IsBlockIn, IsPointer, HasBlocks, image_of}
+use Rattle.vol_body.specs.internal.Writing.{IsReady, MirrorsAll, ChangesPositions, IsBlockIn, IsPointer, HasBlocks, image_of}
 use Rattle.vol_log.proofs.Readings.{reads_then}
 use Rattle.vol_body.proofs.Stagings.{stages_then, stages_none, room_read}
 use Rattle.vol_body.proofs.Steps.{put_here, room_left, on_err}
@@ -147,8 +147,8 @@ returns-clause-done g c h names body space =
     let mirrors : MirrorsAll content longer all first last = mirrors_all_by content e longer all first last refl (c.in_ok-all.ensures.right h names) in
     let written = c.write_blocks.ensures.written (subst (λ (k : Image). IsReady a k longer) (sym three) ready) (omega (arith, size_is, len_is, c.requires.some))
     (subst (λ (k : Image). MirrorsAll k longer all first last) (sym three) mirrors) in
-    let changes : Changes a b content between longer changed (λ p. IsBlockIn first (last + 1) p ⊎ IsPointer p) =
-    subst (λ (k : Image). Changes a b k between longer changed (λ p. IsBlockIn first (last + 1) p ⊎ IsPointer p)) three written.0 in
+    let changes : ChangesPositions a b content between longer changed (λ p. IsBlockIn first (last + 1) p ⊎ IsPointer p) =
+    subst (λ (k : Image). ChangesPositions a b k between longer changed (λ p. IsBlockIn first (last + 1) p ⊎ IsPointer p)) three written.0 in
     let image = image_of offset bytes c.in_ok-first_image.first_image c.in_ok-first_image.last_image in
     let edge : (n : ℕ) → Type 0 = λ n. (offset ≤ 512 * ((offset + n - 1) / 512) → 512 * ((offset + n - 1) / 512) + 512 ≤ offset + n → ⊥)
     → c.in_ok-first_image.last_image ≡ block_bytes content (named content e (data_block ((offset + n - 1) / 512))) in
@@ -157,7 +157,7 @@ returns-clause-done g c h names body space =
     let read : edge c.len.result = λ partly. c.in_ok-first_image.ensures.last h1 there held partly ∙ ap (λ (m : Image). block_bytes m (named m e (data_block last))) one in
     write_leaves c.args.inode_sector offset bytes c.in_ok-first_image.first_image c.in_ok-first_image.last_image c.write_entry.result a b content between (view c.stage.new.self) e changed size
     c.requires.can.after_log c.requires.can.slot c.write_blocks.ensures.range c.requires.can.small_before c.requires.small c.requires.some size_is body names
-    (subst (λ (k : ℕ). Changes a b content between longer changed (λ p. IsBlockIn first (k + 1) p ⊎ IsPointer p)) is_last changes)
+    (subst (λ (k : ℕ). ChangesPositions a b content between longer changed (λ p. IsBlockIn first (k + 1) p ⊎ IsPointer p)) is_last changes)
     (subst (λ (k : ℕ). HasBlocks between changed first (k + 1) image) is_last written.1) c.stage.ensures.view
     (search rules) (search rules)
     (λ partly. c.in_ok-first_image.ensures.first h1 there held (λ le fits. partly le (omega (arith, fits, len_is))) ∙ ap (λ (m : Image). block_bytes m (named m e (data_block first))) one)

@@ -1,13 +1,13 @@
 use Rattle.std.proofs.Common.{◌≡◌, ℕ, List, replicate, refl, ◌∙◌, sym, ap, subst, arith}
 use Rattle.vol_log.specs.Log.{view}
-use Rattle.vol_body.specs.internal.Writing.{Adds, IsMissing, placed}
+use Rattle.vol_body.specs.internal.Writing.{AddsSector, IsMissing, staged_count}
 use Rattle.vol_body.proofs.Steps.{puts_none, changes_none, blank_zeros, held_zeros}
 use Rattle.vol_body.proofs.writing_spans.open_pointer.Goals as goal
 
 pub returns-then-above-eq0 : goal.returns-then-above-eq0
 returns-then-above-eq0 g c =
     let done = c.add_pointer-above.ensures in
-    let none = ap (placed c.args.log.now) c.if-above-eq0.true in
+    let none = ap (staged_count c.args.log.now) c.if-above-eq0.true in
     record {
       opened = λ p at pointer ready serves mirror.
           let content = view c.args.log.now in
@@ -15,7 +15,7 @@ returns-then-above-eq0 g c =
           let above = c.args.above.now in
           let missing : IsMissing c.args.sectors.now content e p = record { ready = ready; none = sym mirror.names ∙ c.if-above-eq0.true; serves = serves } in
           let zeros : above.image ≡ replicate 512 0 = held_zeros content e p above.number above.image mirror c.if-above-eq0.true in
-          subst (λ (image : List ℕ). Adds c.args.sectors.now c.add_pointer-above.new.sectors content (view c.add_pointer-above.new.log) e c.add_pointer-above.new.entry (λ q. q ≡ p) p c.add_pointer-above.result image) (sym zeros)
+          subst (λ (image : List ℕ). AddsSector c.args.sectors.now c.add_pointer-above.new.sectors content (view c.add_pointer-above.new.log) e c.add_pointer-above.new.entry (λ q. q ≡ p) p c.add_pointer-above.result image) (sym zeros)
           (c.add_pointer-above.ensures.added p at (blank_zeros p) missing);
       known = done.known;
       keeps = done.keeps;

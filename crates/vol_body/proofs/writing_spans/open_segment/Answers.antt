@@ -4,7 +4,7 @@ use Rattle.vol_log.specs.declared.layout.TheConstants.{FIRST_AFTER_LOG}
 use Rattle.vol_alloc.specs.Alloc.{taken_of}
 use Rattle.vol_inode.specs.Space.{blocks_for_size}
 use Rattle.vol_body.specs.Body.{BlockPosition, indirect_block, double_indirect_block, inner_block}
-use Rattle.vol_body.specs.internal.Writing.{Adds, IsMissing, placed, Mirrors, segment}
+use Rattle.vol_body.specs.internal.Writing.{AddsSector, IsMissing, staged_count, Mirrors, segment}
 use Rattle.vol_body.proofs.Added.{mirror_stays}
 use Rattle.vol_body.proofs.Loads.{segment_later}
 use Rattle.vol_body.proofs.Steps.{puts_then, range_then, placed_stays, blank_zeros, held_zeros, changes_wider, changes_then, placed_most}
@@ -64,7 +64,7 @@ returns-then-group-eq0 g c =
           let all = c.args.all.now in
           let is : segment c.args.group ≡ indirect_block = ap segment c.if-group-eq0.true in
           let adds = c.open_pointer.ensures.opened indirect_block refl (omega arith) ready (omega (arith, serves, c.if-group-eq0.true)) (subst (λ (p : BlockPosition). Mirrors c0 e0 p above.number above.image) is mirror) in
-          let B = λ (p : BlockPosition). Adds a b c0 c1 e0 e1 (λ x. (x ≡ p) ⊎ (x ≡ double_indirect_block)) p new.number new.image × (Mirrors c0 e0 double_indirect_block all.number all.image → Mirrors c1 e1 double_indirect_block all.number all.image) in
+          let B = λ (p : BlockPosition). AddsSector a b c0 c1 e0 e1 (λ x. (x ≡ p) ⊎ (x ≡ double_indirect_block)) p new.number new.image × (Mirrors c0 e0 double_indirect_block all.number all.image → Mirrors c1 e1 double_indirect_block all.number all.image) in
           subst B (sym is) (
             record { changes = changes_wider a b c0 c1 e0 e1 (λ x. x ≡ indirect_block) (λ x. (x ≡ indirect_block) ⊎ (x ≡ double_indirect_block)) (λ x same. inl same) adds.changes; mirror = adds.mirror; some = adds.some },
             λ held. mirror_stays c0 c1 e0 e1 double_indirect_block all.number all.image (adds.changes.stays double_indirect_block tt (λ same. cc)) held,
@@ -86,8 +86,8 @@ returns-then-all-ne0 g c =
     let one = c.open_pointer-2.ensures in
     let two = c.add_number-above.ensures in
     let number = c.open_pointer-2.new.above.number in
-    let none = ap (placed log0) c.if-above-eq0.true in
-    let same = ap (placed log2) two.number in
+    let none = ap (staged_count log0) c.if-above-eq0.true in
+    let same = ap (staged_count log2) two.number in
     record {
       opened = λ ready serves mirror mirror_all.
           let a = c.args.sectors.now in
@@ -114,7 +114,7 @@ returns-then-all-ne0 g c =
           let added = c.add_number-above.ensures.added e1 double_indirect_block p refl tt below (blank_zeros p) missing top.mirror in
           let changes = changes_then a b d c0 c1 c2 e0 e1 e1 (λ x. x ≡ double_indirect_block) (λ x. (x ≡ p) ⊎ (x ≡ double_indirect_block)) (λ x. (x ≡ p) ⊎ (x ≡ double_indirect_block)) c.requires.can.after_log c.open_pointer-2.ensures.range c.add_number-above.ensures.range
           (λ x same. inr same) (λ x touched. touched) top.changes added.0.changes in
-          let B = λ (q : BlockPosition). Adds a d c0 c2 e0 e1 (λ x. (x ≡ q) ⊎ (x ≡ double_indirect_block)) q c.add_number-above.result above.image × (Mirrors c0 e0 double_indirect_block all.number all.image → Mirrors c2 e1 double_indirect_block new_all.number new_all.image) in
+          let B = λ (q : BlockPosition). AddsSector a d c0 c2 e0 e1 (λ x. (x ≡ q) ⊎ (x ≡ double_indirect_block)) q c.add_number-above.result above.image × (Mirrors c0 e0 double_indirect_block all.number all.image → Mirrors c2 e1 double_indirect_block new_all.number new_all.image) in
           subst B (sym is) (
             record { changes = changes; mirror = subst (λ (image : List ℕ). Mirrors c2 e1 p c.add_number-above.result image) (sym zeros) added.0.mirror; some = added.0.some },
             λ held. added.1,
@@ -155,7 +155,7 @@ returns-else-above-eq0 g c =
             | else-above-eq0-via-then-above-eq0+else-all-ne0 w ↦ top.some w.if-all-ne0.false
             | else-above-eq0-via-else-above-eq0 w ↦ w.if-above-eq0.false zero
           ] in
-          let B = λ (q : BlockPosition). Adds a b c0 c1 e0 e1 (λ x. (x ≡ q) ⊎ (x ≡ double_indirect_block)) q above.number above.image × (Mirrors c0 e0 double_indirect_block all.number all.image → Mirrors c1 e1 double_indirect_block new_all.number new_all.image) in
+          let B = λ (q : BlockPosition). AddsSector a b c0 c1 e0 e1 (λ x. (x ≡ q) ⊎ (x ≡ double_indirect_block)) q above.number above.image × (Mirrors c0 e0 double_indirect_block all.number all.image → Mirrors c1 e1 double_indirect_block new_all.number new_all.image) in
           subst B (sym is) (
             record { changes = changes_wider a b c0 c1 e0 e1 (λ x. x ≡ double_indirect_block) (λ x. (x ≡ p) ⊎ (x ≡ double_indirect_block)) (λ x same. inr same) top.changes; mirror = still; some = some },
             λ held. top.mirror,

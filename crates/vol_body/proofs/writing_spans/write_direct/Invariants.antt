@@ -2,7 +2,7 @@ use Rattle.std.proofs.Common.{◌≡◌, ◌≤◌, ◌+◌, ◌-◌, ℕ, true,
 use Rattle.vol_log.specs.Log.{view, room_of, has_failed}
 use Rattle.vol_alloc.specs.Alloc.{taken_of}
 use Rattle.vol_inode.specs.Space.{blocks_for_size}
-use Rattle.vol_body.specs.internal.Writing.{IsReady, Changes, IsBlockIn, HasBlocks, OnlyPuts, SameRange, image_of}
+use Rattle.vol_body.specs.internal.Writing.{IsReady, ChangesPositions, IsBlockIn, HasBlocks, OnlyPuts, SameRange, image_of}
 use Rattle.vol_body.proofs.writing_spans.write_direct.Given as goal
 
 abbrev pub invariant-loop-j : goal.invariant-loop-j
@@ -16,6 +16,6 @@ invariant-loop-j g l = record {
   keeps : (n : ℕ) → taken_of l.fn.sectors n ≡ true → taken_of l.sectors n ≡ true;
   entry : l.entry ≡ record l.fn.entry { pointers = l.entry.pointers };
   written : IsReady l.fn.sectors (view l.fn.log) l.fn.entry → l.to ≤ blocks_for_size l.fn.entry.size
-      → Changes l.fn.sectors l.sectors (view l.fn.log) (view l.log) l.fn.entry l.entry (IsBlockIn l.from l.j)
+      → ChangesPositions l.fn.sectors l.sectors (view l.fn.log) (view l.log) l.fn.entry l.entry (IsBlockIn l.from l.j)
       × HasBlocks (view l.log) l.entry l.from l.j (image_of l.piece.offset l.bytes l.piece.first l.piece.last);
 }

@@ -2,7 +2,7 @@ use Rattle.std.proofs.Common.{◌≡◌, ◌⊎◌, inl, inr, ◌≤◌, ◌<◌
 use Rattle.vol_log.specs.Log.{view, room_of}
 use Rattle.vol_alloc.specs.Alloc.{taken_of}
 use Rattle.vol_body.specs.Body.{BlockPosition, data_block}
-use Rattle.vol_body.specs.internal.Writing.{IsBlockIn, segment, placed, image_of}
+use Rattle.vol_body.specs.internal.Writing.{IsBlockIn, segment, staged_count, image_of}
 use Rattle.vol_body.proofs.Steps.{placed_most, puts_then, range_then, changes_then, changes_wider, part_in_more, part_in_here, part_in_all, parts_more, parts_shorter, segment_lists, segment_place, segment_other}
 use Rattle.vol_log.specs.declared.layout.TheConstants.{FIRST_AFTER_LOG}
 use Rattle.vol_body.proofs.writing_spans.write_listed.Goals as goal
@@ -25,8 +25,8 @@ loop-j-preserved g c =
     let c1 = view c.loop-j.log in
     let c2 = view c.write_listed_block.new.log in
     let number = c.args.above.now.number in
-    let kept : room_of c.loop-j.log + placed c.loop-j.log number ≤ room_of c.write_listed_block.new.log + placed c.write_listed_block.new.log number + 1 =
-    subst (λ (n : ℕ). room_of c.loop-j.log + placed c.loop-j.log n ≤ room_of c.write_listed_block.new.log + placed c.write_listed_block.new.log n + 1) so_far.number step.room in
+    let kept : room_of c.loop-j.log + staged_count c.loop-j.log number ≤ room_of c.write_listed_block.new.log + staged_count c.write_listed_block.new.log number + 1 =
+    subst (λ (n : ℕ). room_of c.loop-j.log + staged_count c.loop-j.log n ≤ room_of c.write_listed_block.new.log + staged_count c.write_listed_block.new.log n + 1) so_far.number step.room in
     record {
       rest = c.image_of_block-image.ensures.rest;
       few = omega arith;

@@ -3,7 +3,7 @@ use Rattle.vol_log.specs.Log.{view, room_of, has_failed}
 use Rattle.vol_alloc.specs.Alloc.{taken_of}
 use Rattle.vol_inode.specs.Space.{blocks_for_size}
 use Rattle.vol_inode.specs.declared.entry.Entry.{Entry}
-use Rattle.vol_body.specs.internal.Writing.{IsReady, Mirrors, Changes, IsBlockIn, HasBlocks, OnlyPuts, SameRange, segment, placed, image_of}
+use Rattle.vol_body.specs.internal.Writing.{IsReady, Mirrors, ChangesPositions, IsBlockIn, HasBlocks, OnlyPuts, SameRange, segment, staged_count, image_of}
 use Rattle.vol_body.proofs.writing_spans.write_listed.Given as goal
 
 abbrev pub invariant-loop-j : goal.invariant-loop-j
@@ -12,13 +12,13 @@ invariant-loop-j g l = record {
   few : l.j - l.from ≤ l.to - l.from;
   working : has_failed l.log ≡ false;
   number : l.above.number ≡ l.fn.above.number;
-  room : room_of l.fn.log + placed l.fn.log l.fn.above.number ≤ room_of l.log + placed l.log l.fn.above.number + (l.j - l.from);
+  room : room_of l.fn.log + staged_count l.fn.log l.fn.above.number ≤ room_of l.log + staged_count l.log l.fn.above.number + (l.j - l.from);
   puts : OnlyPuts l.fn.log l.log;
   range : SameRange l.fn.sectors l.sectors;
   keeps : (n : ℕ) → taken_of l.fn.sectors n ≡ true → taken_of l.sectors n ≡ true;
   written : (e : Entry) (s : ℕ) → l.start ≡ 58 + 128 * s → l.to ≤ blocks_for_size e.size → IsReady l.fn.sectors (view l.fn.log) e
       → Mirrors (view l.fn.log) e (segment s) l.fn.above.number l.fn.above.image
-      → Changes l.fn.sectors l.sectors (view l.fn.log) (view l.log) e e (λ p. IsBlockIn l.from l.j p ⊎ (p ≡ segment s))
+      → ChangesPositions l.fn.sectors l.sectors (view l.fn.log) (view l.log) e e (λ p. IsBlockIn l.from l.j p ⊎ (p ≡ segment s))
       × HasBlocks (view l.log) e l.from l.j (image_of l.piece.offset l.bytes l.piece.first l.piece.last)
       × Mirrors (view l.log) e (segment s) l.above.number l.above.image;
 }

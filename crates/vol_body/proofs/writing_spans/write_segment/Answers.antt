@@ -2,7 +2,7 @@ use Rattle.std.proofs.Common.{◌≡◌, ◌⊎◌, inl, inr, ◌<◌, ◌≤◌
 use Rattle.vol_log.specs.Log.{view}
 use Rattle.vol_inode.specs.Space.{blocks_for_size}
 use Rattle.vol_body.specs.Body.{BlockPosition, double_indirect_block}
-use Rattle.vol_body.specs.internal.Writing.{IsBlockIn, segment, placed}
+use Rattle.vol_body.specs.internal.Writing.{IsBlockIn, segment, staged_count}
 use Rattle.vol_body.proofs.Added.{mirror_stays}
 use Rattle.vol_body.proofs.Steps.{puts_none, puts_then, range_then, placed_most, placed_stays, changes_none, changes_then, segment_not_lists}
 use Rattle.vol_log.specs.declared.layout.TheConstants.{FIRST_AFTER_LOG}
@@ -106,7 +106,7 @@ write_listed-requires g c =
 pub returns-else-above-ne0 : goal.returns-else-above-ne0
 returns-else-above-ne0 g c =
     let one = c.open_segment.ensures in
-    let none = ap (placed c.open_segment.new.log) c.if-above-ne0.false in
+    let none = ap (staged_count c.open_segment.new.log) c.if-above-ne0.false in
     record {
       written = λ ready fits mirror mirror_all.
           let some : c.args.from < c.args.to = c.if-to-from.false in

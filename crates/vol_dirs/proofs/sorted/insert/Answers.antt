@@ -1,7 +1,7 @@
 use Rattle.std.proofs.Common.{◌≡◌, ◌≤◌, sym, subst, length, arith}
 use Rattle.std.specs.List.{insert}
 use Rattle.vol_dirs.specs.internal.Rising.{Rises}
-use Rattle.vol_dirs.specs.internal.Rising.{Adds}
+use Rattle.vol_dirs.specs.internal.Rising.{AddsItem}
 use Rattle.vol_dirs.proofs.Search.{comparisons_rise}
 use Rattle.vol_dirs.proofs.Edits.{insert_adds, insert_rises, adds_nothing}
 use Rattle.vol_dirs.proofs.sorted.insert.Goals as goal
@@ -17,7 +17,7 @@ pub returns-after-insert-clause-adds : goal.returns-after-insert-clause-adds
 returns-after-insert-clause-adds g c =
     let old = c.args.items.now.items in
     let items : c.insert.new.self.items ≡ insert old c.in-Err.at c.args.item = elim c.match-insert.branch [ in-Ok-insert w ↦ w.in-Ok-insert.ensures.items | in-Err-insert w ↦ absurd (omega (arith, w.in-Err-insert.ensures.full, c.requires.room)) ] in
-    subst (λ l. Adds old l c.args.item) (sym items) (insert_adds old c.in-Err.at c.args.item)
+    subst (λ l. AddsItem old l c.args.item) (sym items) (insert_adds old c.in-Err.at c.args.item)
 
 pub returns-after-insert-clause-rises : goal.returns-after-insert-clause-rises
 returns-after-insert-clause-rises g c =

@@ -2,7 +2,7 @@ use Rattle.std.proofs.Common.{◌≡◌, ◌↔◌, ◌+◌, ◌<◌, ◌≤◌,
 use Rattle.std.proofs.lemmas.Result.{IfOk-from_err}
 use Rattle.vol_sector.specs.declared.fault.VolumeFault.TheVariants as faults
 use Rattle.vol_log.specs.Log.{view, device_of}
-use Rattle.vol_alloc.specs.Numbers.{AreDistinct, ArePlaces, Names}
+use Rattle.vol_alloc.specs.Numbers.{AreDistinct, ArePlaces, ListsNumber}
 use Rattle.vol_alloc.specs.Alloc.{taken_of}
 use Rattle.vol_body.proofs.Surveys.{handed_on, failed_on, not_device, or_memory}
 use Rattle.vol_tree.proofs.Passes.{tree_passes, places_pass}
@@ -120,7 +120,7 @@ returns g c =
       parts = λ h. record {
         volume = is_content content v found (passed h);
         shows = read.shows h;
-        taken = taken_found content v found (passed h) c.in_ok-sectors.sectors (subst (λ (l : List ℕ). (n : ℕ) → IsTrue (taken_of c.in_ok-sectors.sectors n) ↔ Names l n) same e.taken);
+        taken = taken_found content v found (passed h) c.in_ok-sectors.sectors (subst (λ (l : List ℕ). (n : ℕ) → IsTrue (taken_of c.in_ok-sectors.sectors n) ↔ ListsNumber l n) same e.taken);
         reserved = space_found content v found (passed h);
       };
       damaged = λ h. tt;

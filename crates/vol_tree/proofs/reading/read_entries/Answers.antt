@@ -8,7 +8,7 @@ use Rattle.vol_body.proofs.Surveys.{handed_on, failed_on}
 use Rattle.vol_dirs.specs.Names.{Shows}
 use Rattle.vol_dirs.proofs.Shown.{shown_first}
 use Rattle.vol_tree.specs.declared.reading.Entries.{Entries}
-use Rattle.vol_tree.specs.internal.Reads.{held_at, Adds, IsRight, FitIn, HaveRead}
+use Rattle.vol_tree.specs.internal.Reads.{held_at, AddsSlot, IsRight, FitIn, HaveRead}
 use Rattle.vol_tree.proofs.Checked.{none_inside, none_read, more_read}
 use Rattle.vol_tree.proofs.Passes.{not_refused}
 use Rattle.vol_tree.proofs.reading.read_entries.Goals as goal
@@ -34,7 +34,7 @@ loop-slot-preserved g c =
       read = λ h.
           let h1 = so_far.reads.honest.0 h in
           more_read content v s c.loop-slot.found c.read_slot.new.found c.loop-slot-test.true (so_far.read h)
-          (subst (λ (m : Image). Adds m (held_at m v s) c.loop-slot.found c.read_slot.new.found) (so_far.reads.view h) (done.adds h1))
+          (subst (λ (m : Image). AddsSlot m (held_at m v s) c.loop-slot.found c.read_slot.new.found) (so_far.reads.view h) (done.adds h1))
           (subst (λ (m : Image). IsRight m v s (held_at m v s)) (so_far.reads.view h) (done.right h1));
     }
 

@@ -11,7 +11,7 @@ use Rattle.vol_body.specs.Survey.{AreInside, IsTrimmed}
 use Rattle.vol_body.proofs.Surveys.{handed_on, failed_on, device_not_damaged, no_device_failed}
 use Rattle.vol_dirs.proofs.Shown.{shown_more, shown_past}
 use Rattle.vol_tree.specs.Opened.{data_sectors}
-use Rattle.vol_tree.specs.internal.Reads.{Adds, IsNew, FitIn}
+use Rattle.vol_tree.specs.internal.Reads.{AddsSlot, IsNew, FitIn}
 use Rattle.vol_tree.proofs.Checked.{held_none, right_none, held_some, right_some, new_placed, some_contradicts, refused_contradicts}
 use Rattle.vol_tree.proofs.Committing.{at_ok, on_ok}
 use Rattle.vol_tree.proofs.Refusals.{memory_not_damage, err_not_ok}
@@ -80,8 +80,8 @@ returns-in-Ok-Some g c =
     record {
       adds = λ h.
           let is = held_some content v c.args.slot c.requires.slot e both.0 (spelled h) in
-          subst (λ (o : Option Entry). OnOk r (Adds content o found c.take_up.new.found)) (sym is)
-          (subst (λ (m : Image). OnOk r (Adds m (Some e) found c.take_up.new.found)) (read.view h) (taken.adds (read.honest.0 h)));
+          subst (λ (o : Option Entry). OnOk r (AddsSlot content o found c.take_up.new.found)) (sym is)
+          (subst (λ (m : Image). OnOk r (AddsSlot m (Some e) found c.take_up.new.found)) (read.view h) (taken.adds (read.honest.0 h)));
       within = taken.within;
       count = taken.count;
       slots = taken.slots;
@@ -117,7 +117,7 @@ returns-in-Ok-None g c =
     record {
       adds = λ h.
           let is = held_none content v c.args.slot c.requires.slot (none h) in
-          on_ok_weaker r (λ adds. subst (λ (o : Option Entry). Adds content o found c.pass.new.self) (sym is) (adds content)) passed.adds;
+          on_ok_weaker r (λ adds. subst (λ (o : Option Entry). AddsSlot content o found c.pass.new.self) (sym is) (adds content)) passed.adds;
       within = on_ok r _ (λ done. record {
         inside = subst (AreInside (FIRST_AFTER_LOG + v.slots) v.sectors) (sym passed.named) c.requires.within.inside;
         room = subst (λ (n : ℕ). n ≤ data_sectors v) (sym passed.reserved) c.requires.within.room;

@@ -1,6 +1,6 @@
 use Rattle.std.proofs.Common.{◌≡◌, ℕ, List, refl, sym, ap, ◌∙◌, subst, inl}
 use Rattle.path_walk.specs.Paths.{components_of, wants_directory, resolved, stays_inside}
-use Rattle.path_walk.specs.Walk.{Gives}
+use Rattle.path_walk.specs.Walk.{GivesOrIo}
 use Rattle.path_walk.specs.declared.walking.Reached.{Reached as ReachedValue}
 use Rattle.wasi_calls.proofs.checks.CausesOf29.{no_text_io, walk_io}
 use Rattle.wasi_calls.proofs.paths.Walks.{by_text, reaches_by, step_by, places}
@@ -14,8 +14,8 @@ returns-in-Ok-clause-reaches g c = λ h w o serial shown.
     let same : c.in-Ok.path ≡ text = c.in-Ok.ensures.0 in
     reaches_by g.D.Device.honest g.D.Device.disk g.D.Device.size g.D.Device.failures v c.walk.new.volume w o text (components_of text) c.walk.result
     c.in-Ok.ensures.1 shown (c.walk.ensures.tree h)
-    (subst (λ (n : ℕ). Gives (resolved v.tree n (wants_directory text) (components_of text)) c.walk.result) (sym serial)
-    (subst (λ (l : List ℕ). Gives (resolved v.tree c.args.directory (wants_directory l) (components_of l)) c.walk.result) same (rw c.new.ensures at c.walk.ensures.answer h)))
+    (subst (λ (n : ℕ). GivesOrIo (resolved v.tree n (wants_directory text) (components_of text)) c.walk.result) (sym serial)
+    (subst (λ (l : List ℕ). GivesOrIo (resolved v.tree c.args.directory (wants_directory l) (components_of l)) c.walk.result) same (rw c.new.ensures at c.walk.ensures.answer h)))
     (λ inside. c.walk.ensures.kept (ap (λ (l : List ℕ). stays_inside 0 (components_of l)) same ∙ inside))
     (λ out. c.walk.ensures.outside (ap (λ (l : List ℕ). stays_inside 0 (components_of l)) same ∙ out))
 

@@ -14,7 +14,7 @@ use Rattle.wasi_calls.specs.descriptors.Rows.{entry_stat}
 use Rattle.wasi_calls.specs.paths.Rows.{path_filestat_get, path_at}
 use Rattle.wasi_calls.specs.Calls.{Answered}
 use Rattle.wasi_calls.specs.internal.Bodies.{with_volume}
-use Rattle.wasi_calls.specs.internal.paths.Walks.{entered}
+use Rattle.wasi_calls.specs.internal.paths.Walks.{starting_directory}
 use Rattle.wasi_calls.proofs.checks.Chains.{goes_on, stops}
 use Rattle.wasi_calls.proofs.OpenEntries.{entered_row, entry_of}
 use Rattle.wasi_calls.proofs.paths.Walks.{found_never}
@@ -31,7 +31,7 @@ of_reached w at r = and_then (found r) (λ s. and_then (tree_call w (Ok (entry_s
 abbrev rest : World → List ℕ → ℕ → ℕ → ℕ → Opened → Checked Done
 rest w m path len at o = and_then (path_at w m o path len) (of_reached w at)
 
-to_rest : (w : World) (m : List ℕ) (fd path len at : ℕ) (o : Opened) → entered w m fd (2 ^ 18) path len ≡ Ok o → range m at 64 ≡ Ok tt → path_filestat_get w m fd path len at ≡ rest w m path len at o
+to_rest : (w : World) (m : List ℕ) (fd path len at : ℕ) (o : Opened) → starting_directory w m fd (2 ^ 18) path len ≡ Ok o → range m at 64 ≡ Ok tt → path_filestat_get w m fd path len at ≡ rest w m path len at o
 to_rest w m fd path len at o invokes inside = entered_row _ _ _ ∙ (goes_on _ _ o invokes ∙ goes_on _ _ tt inside)
 
 rest_never : (w : World) (at : ℕ) → w.volume_failed ≡ false → (r : Reached) → of_reached w at r ≢ Err 29
@@ -47,7 +47,7 @@ returns-in-Err g c = record {
       let m = c.args.memory.now in
       refused_first w m (λ v. path_filestat_get v m c.args.fd c.args.path c.args.len c.args.result_at) c.args.volume.now _ shown
       (entered_row _ _ _ ∙ stops _ _ _ (c.in-Err.ensures.row w table));
-  io = check_not_29 (table_of c.args.descriptors.now) (λ w. entered w c.args.memory.now c.args.fd (2 ^ 18) c.args.path c.args.len) _ (entered_never c.args.memory.now c.args.fd (2 ^ 18) c.args.path c.args.len) c.in-Err.ensures.row;
+  io = check_not_29 (table_of c.args.descriptors.now) (λ w. starting_directory w c.args.memory.now c.args.fd (2 ^ 18) c.args.path c.args.len) _ (entered_never c.args.memory.now c.args.fd (2 ^ 18) c.args.path c.args.len) c.in-Err.ensures.row;
 }
 
 pub returns-in-Err-check_range : goal.returns-in-Err-check_range

@@ -9,7 +9,7 @@ use Rattle.wasi_fd.specs.declared.descriptor.Opened.{Opened as OpenedEntry}
 use Rattle.wasi_fd.specs.declared.descriptor.Descriptor.TheVariants.{Entry}
 use Rattle.wasi_fd.specs.Table.{Table}
 use Rattle.wasi_calls.specs.World.{World, volume_gone, with_descriptor, moved_to}
-use Rattle.wasi_calls.specs.Checks.{Checked, Done, ◌>>=◌, ◌>>◌, guard, get, of_kind, only_files, has, opened, range, with_result}
+use Rattle.wasi_calls.specs.Checks.{Checked, Done, ◌>>=◌, ◌>>◌, guard, get, of_kind, only_files, has, opened_entry, range, with_result}
 use Rattle.wasi_calls.specs.descriptors.Rows.{shifted, last_position, seek_from}
 use Rattle.wasi_calls.specs.internal.Bodies.{with_volume}
 
@@ -21,7 +21,7 @@ seekable w memory fd delta whence result = do
   guard (has d (2 ^ 2) || ((delta == 0) && (whence == 1) && has d (2 ^ 5))) 76
   guard (nat_le whence 2) 28
   range memory result 8
-  opened d
+  opened_entry d
 
 -- the place a signed distance away, where it is a position
 abbrev pub position_at : ℕ → ℕ → Checked ℕ

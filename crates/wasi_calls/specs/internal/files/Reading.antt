@@ -14,9 +14,9 @@ use Rattle.wasi_calls.specs.Checks.{Checked, Done, Buffer, ◌>>=◌, tree_call,
 use Rattle.wasi_calls.specs.internal.streams.Inputs.{read_to}
 
 -- the buffers cut to this many bytes in all
-abbrev pub cut : ℕ → List Buffer → List Buffer
-cut n [] = []
-cut n (b ∷ bs) = (b.0, min b.1 n) ∷ cut (n - b.1) bs
+abbrev pub limited_buffers : ℕ → List Buffer → List Buffer
+limited_buffers n [] = []
+limited_buffers n (b ∷ bs) = (b.0, min b.1 n) ∷ limited_buffers (n - b.1) bs
 
 -- a place is in some of the buffers
 abbrev pub covered : ℕ → List Buffer → Bool

@@ -8,8 +8,8 @@ use Rattle.wasi_calls.specs.Checks.{Checked, Done, ◌>>=◌, with_result}
 use Rattle.wasi_calls.specs.files.Rows.{file_write, write_to}
 
 -- the bytes at a place of a file
-abbrev pub placed : World → Opened → ℕ → List ℕ → ℕ → Checked Done
-placed w o at bytes result = do
+abbrev pub written_at_offset : World → Opened → ℕ → List ℕ → ℕ → Checked Done
+written_at_offset w o at bytes result = do
   r ← file_write w o at bytes
   Ok (with_result r.0 result (little_bytes 4 r.1))
 

@@ -31,12 +31,12 @@ fault_as errno.NotEmpty = Preopen
 fault_as errno.NotCapable = Preopen
 
 -- what is meant was found, or there is none, or the volume fails
-abbrev pub Finds : {X : Type 0} → Option X → Result X HostFault → Type 0
-Finds meant (Ok x) = meant ≡ Some x
-Finds meant (Err Setting) = ⊥
-Finds meant (Err Preopen) = meant ≡ None
-Finds meant (Err Device) = Unit {0}
-Finds meant (Err Memory) = ⊥
+abbrev pub FindsOrFails : {X : Type 0} → Option X → Result X HostFault → Type 0
+FindsOrFails meant (Ok x) = meant ≡ Some x
+FindsOrFails meant (Err Setting) = ⊥
+FindsOrFails meant (Err Preopen) = meant ≡ None
+FindsOrFails meant (Err Device) = Unit {0}
+FindsOrFails meant (Err Memory) = ⊥
 
 -- the serials of the first n directories
 abbrev pub AreFound : Tree → List PreopenValue → List ℕ → ℕ → Type 0

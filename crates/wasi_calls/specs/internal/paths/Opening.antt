@@ -81,10 +81,10 @@ IsTarget T oflags r (Entry serial kind) = (r ≡ Found serial) × (directory_at 
 IsTarget T oflags r (Cut serial) = (r ≡ Found serial) × (directory_at T serial ≡ false) × (is_set oflags trunc ≡ true)
 IsTarget T oflags r (New parent name) = r ≡ Missing parent name.now
 
-abbrev pub IsAt : ℕ → Target → Type 0
-IsAt serial (Entry s kind) = s ≡ serial
-IsAt serial (Cut s) = s ≡ serial
-IsAt serial (New parent name) = ⊥
+abbrev pub LeadsToSerial : ℕ → Target → Type 0
+LeadsToSerial serial (Entry s kind) = s ≡ serial
+LeadsToSerial serial (Cut s) = s ≡ serial
+LeadsToSerial serial (New parent name) = ⊥
 
 abbrev pub target_is_directory : Target → Bool
 target_is_directory (Entry s kind) = is_directory_kind kind

@@ -8,7 +8,7 @@ use Rattle.wasi_fd.specs.declared.descriptor.Descriptor.{Descriptor}
 use Rattle.wasi_fd.specs.declared.descriptor.Opened.{Opened}
 use Rattle.wasm_store.specs.declared.call.Errno.{Errno as Number}
 use Rattle.wasi_calls.specs.World.{World, held_open}
-use Rattle.wasi_calls.specs.Checks.{Checked, ◌>>=◌, ◌>>◌, guard, get, of_kind, has, opened, only_directories, range, found}
+use Rattle.wasi_calls.specs.Checks.{Checked, ◌>>=◌, ◌>>◌, guard, get, of_kind, has, opened_entry, only_directories, range, found}
 use Rattle.wasi_calls.specs.paths.Rows.{path_at, rename_to}
 use Rattle.wasi_calls.specs.Calls.{word}
 use Rattle.wasi_calls.specs.declared.paths.renaming.RenameCall.{RenameCall}
@@ -47,8 +47,8 @@ rename_entered w memory a = do
   both ← rename_allowed w a
   range memory a.from_path a.from_len
   range memory a.to_path a.to_len
-  from ← opened both.0
-  to ← opened both.1
+  from ← opened_entry both.0
+  to ← opened_entry both.1
   Ok (from, to)
 
 -- not the directory itself

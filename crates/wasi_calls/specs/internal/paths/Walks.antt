@@ -23,8 +23,8 @@ Places T (Ok (values.Missing parent name)) = IsDirectory T parent
 Places T (Err e) = Unit {0}
 
 -- the checks of a call on a path before it is walked
-abbrev pub entered : World → List ℕ → ℕ → ℕ → ℕ → ℕ → Checked OpenedEntry
-entered w memory fd rights path len = do
+abbrev pub starting_directory : World → List ℕ → ℕ → ℕ → ℕ → ℕ → Checked OpenedEntry
+starting_directory w memory fd rights path len = do
   o ← entry_at w fd only_directories rights
   range memory path len
   Ok o
@@ -55,6 +55,6 @@ module _ {D : Type 0} (honest : D → Type 0) (disk : D → Disk) (sectors_on fa
   Reaches old new w o text (Err e) = RefusesText old new w o text e ⊎ RefusesWalk old new w o text e
 
 -- A body that finds bytes to be written at a place: the row is done by them in the same world, or the call answers.
-abbrev pub Finds : {D : Type 0} → (World → Checked Done) → World → List ℕ → Opened D → ℕ → Result (List ℕ) Number → Type 0
-Finds run w memory new at (Ok bytes) = (run w ≡ Ok (with_result w at bytes)) × (with_volume new w ≡ w)
-Finds run w memory new at (Err e) = Answered run w memory (with_volume new w) memory e.0
+abbrev pub FindsBytes : {D : Type 0} → (World → Checked Done) → World → List ℕ → Opened D → ℕ → Result (List ℕ) Number → Type 0
+FindsBytes run w memory new at (Ok bytes) = (run w ≡ Ok (with_result w at bytes)) × (with_volume new w ≡ w)
+FindsBytes run w memory new at (Err e) = Answered run w memory (with_volume new w) memory e.0

@@ -3,7 +3,7 @@ use Rattle.std.proofs.lemmas.Bool.{false≢true}
 use Rattle.std.proofs.lemmas.List.{with_items_is}
 use Rattle.std.proofs.lemmas.Result.{IfOk-from_err}
 use Rattle.vol_sector.specs.declared.fault.VolumeFault.TheVariants as faults
-use Rattle.vol_alloc.specs.Numbers.{Names}
+use Rattle.vol_alloc.specs.Numbers.{ListsNumber}
 use Rattle.vol_alloc.specs.internal.Numbers.{AreFree}
 use Rattle.vol_alloc.proofs.Named.{handed_on, memory_not_damage, places_wider, places_back, flags_name}
 use Rattle.vol_alloc.proofs.sectors.Alloc.from_named.Goals as goal
@@ -79,7 +79,7 @@ returns c =
     let count = c.deref_mut.ensures.len ∙ c.in_ok-taken.ensures.len ∙ c.saturating_sub.ensures in
     let same = with_items_is c.in_ok-taken.taken flags (c.take_all.auto.taken ∙ c.deref_mut.ensures.len) in
     record {
-      taken = subst (λ (l : List Bool). (n : ℕ) → ((if nat_lt n first then false else get_or l (n - first) false) ≡ true) ↔ Names named n) (sym same) (flags_name first _ flags named (set.taken all) (set.right all));
+      taken = subst (λ (l : List Bool). (n : ℕ) → ((if nat_lt n first then false else get_or l (n - first) false) ≡ true) ↔ ListsNumber named n) (sym same) (flags_name first _ flags named (set.taken all) (set.right all));
       range = (refl, refl);
       count = ap (λ (l : List Bool). count_by not l + length named) same ∙ set.count all ∙ count;
       right = places_back first c.args.end _ named count (set.right all);

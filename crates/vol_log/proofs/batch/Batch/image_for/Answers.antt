@@ -2,7 +2,7 @@ use Rattle.std.proofs.Common.{ℕ, ◌∙◌, sym, ap, subst, arith}
 use Rattle.std.proofs.lemmas.List.{get_or_read}
 use Rattle.std.proofs.lemmas.Grind.{common_steps}
 use Rattle.vol_log.specs.internal.Index.{Index}
-use Rattle.vol_log.specs.internal.Index.{IsAt, IsGapFor}
+use Rattle.vol_log.specs.internal.Index.{IsEntryOfNumber, IsGapFor}
 use Rattle.vol_log.specs.declared.staged.Staged.{Staged}
 use Rattle.vol_log.proofs.Staging.{found_place, none_at_all, over_first, over_none, holds_at, holds_none}
 use Rattle.vol_log.proofs.Images.{blank}
@@ -12,7 +12,7 @@ pub returns-in-Ok-clause-image : goal.returns-in-Ok-clause-image
 returns-in-Ok-clause-image c m =
     let old = c.args.self.now.staged.items in
     let index = c.args.self.now.index.items in
-    let found = subst (λ (l : Index). IsAt l c.args.n c.in-Ok.at) c.deref.ensures.value c.in-Ok.ensures.found in
+    let found = subst (λ (l : Index). IsEntryOfNumber l c.args.n c.in-Ok.at) c.deref.ensures.value c.in-Ok.ensures.found in
     let entry = get_or_read index c.in-Ok.at c.index.result.now found.in_range c.index.ensures (0, 0) in
     let place = found_place old index c.requires c.args.n c.in-Ok.at found c.index.result.now.1 (ap (λ (e : ℕ × ℕ). e.1) entry) in
     over_first old _ c.args.n m place.inside place.here place.before
@@ -22,7 +22,7 @@ pub returns-in-Ok-clause-staged : goal.returns-in-Ok-clause-staged
 returns-in-Ok-clause-staged c =
     let old = c.args.self.now.staged.items in
     let index = c.args.self.now.index.items in
-    let found = subst (λ (l : Index). IsAt l c.args.n c.in-Ok.at) c.deref.ensures.value c.in-Ok.ensures.found in
+    let found = subst (λ (l : Index). IsEntryOfNumber l c.args.n c.in-Ok.at) c.deref.ensures.value c.in-Ok.ensures.found in
     let entry = get_or_read index c.in-Ok.at c.index.result.now found.in_range c.index.ensures (0, 0) in
     let place = found_place old index c.requires c.args.n c.in-Ok.at found c.index.result.now.1 (ap (λ (e : ℕ × ℕ). e.1) entry) in
     sym (holds_at old _ c.args.n place.inside place.here)

@@ -6,7 +6,7 @@ use Rattle.vol_log.specs.Header.{Places}
 use Rattle.vol_log.specs.Batch.{over, holds}
 use Rattle.vol_log.specs.internal.Batch.{numbers}
 use Rattle.vol_log.specs.internal.Index.{Index, IsIndex}
-use Rattle.vol_log.specs.internal.Index.{IsAt, IsGapFor}
+use Rattle.vol_log.specs.internal.Index.{IsEntryOfNumber, IsGapFor}
 use Rattle.vol_log.specs.declared.staged.Staged.{Staged}
 use Rattle.vol_log.proofs.Finding.{index_more}
 use Rattle.vol_log.proofs.Staging.{found_place, none_at_all, over_set, over_push, numbers_replaced, places_push, holds_at, holds_none, holds_set, holds_push}
@@ -17,7 +17,7 @@ pub returns-in-Ok-clause-over : goal.returns-in-Ok-clause-over
 returns-in-Ok-clause-over c m =
     let old = c.args.self.now.staged.items in
     let index = c.args.self.now.index.items in
-    let found = subst (λ (l : Index). IsAt l c.args.new.sector c.in-Ok.at) c.deref.ensures.value c.in-Ok.ensures.found in
+    let found = subst (λ (l : Index). IsEntryOfNumber l c.args.new.sector c.in-Ok.at) c.deref.ensures.value c.in-Ok.ensures.found in
     let entry = get_or_read index c.in-Ok.at c.index.result.now found.in_range c.index.ensures (0, 0) in
     let place = found_place old index c.requires.indexed c.args.new.sector c.in-Ok.at found c.index.result.now.1 (ap (λ (e : ℕ × ℕ). e.1) entry) in
     over_set old _ c.args.new m place.inside place.here place.before
@@ -26,7 +26,7 @@ pub returns-in-Ok-clause-places : goal.returns-in-Ok-clause-places
 returns-in-Ok-clause-places c s places short after_log there =
     let old = c.args.self.now.staged.items in
     let index = c.args.self.now.index.items in
-    let found = subst (λ (l : Index). IsAt l c.args.new.sector c.in-Ok.at) c.deref.ensures.value c.in-Ok.ensures.found in
+    let found = subst (λ (l : Index). IsEntryOfNumber l c.args.new.sector c.in-Ok.at) c.deref.ensures.value c.in-Ok.ensures.found in
     let entry = get_or_read index c.in-Ok.at c.index.result.now found.in_range c.index.ensures (0, 0) in
     let place = found_place old index c.requires.indexed c.args.new.sector c.in-Ok.at found c.index.result.now.1 (ap (λ (e : ℕ × ℕ). e.1) entry) in
     subst (Places s) (sym (numbers_replaced old _ c.args.new place.inside place.here)) places
@@ -35,7 +35,7 @@ pub returns-in-Ok-clause-len : goal.returns-in-Ok-clause-len
 returns-in-Ok-clause-len c =
     let old = c.args.self.now.staged.items in
     let index = c.args.self.now.index.items in
-    let found = subst (λ (l : Index). IsAt l c.args.new.sector c.in-Ok.at) c.deref.ensures.value c.in-Ok.ensures.found in
+    let found = subst (λ (l : Index). IsEntryOfNumber l c.args.new.sector c.in-Ok.at) c.deref.ensures.value c.in-Ok.ensures.found in
     let entry = get_or_read index c.in-Ok.at c.index.result.now found.in_range c.index.ensures (0, 0) in
     let place = found_place old index c.requires.indexed c.args.new.sector c.in-Ok.at found c.index.result.now.1 (ap (λ (e : ℕ × ℕ). e.1) entry) in
     let before = vec_len c.args.self.now.staged in
@@ -45,7 +45,7 @@ pub returns-in-Ok-clause-holds : goal.returns-in-Ok-clause-holds
 returns-in-Ok-clause-holds c k =
     let old = c.args.self.now.staged.items in
     let index = c.args.self.now.index.items in
-    let found = subst (λ (l : Index). IsAt l c.args.new.sector c.in-Ok.at) c.deref.ensures.value c.in-Ok.ensures.found in
+    let found = subst (λ (l : Index). IsEntryOfNumber l c.args.new.sector c.in-Ok.at) c.deref.ensures.value c.in-Ok.ensures.found in
     let entry = get_or_read index c.in-Ok.at c.index.result.now found.in_range c.index.ensures (0, 0) in
     let place = found_place old index c.requires.indexed c.args.new.sector c.in-Ok.at found c.index.result.now.1 (ap (λ (e : ℕ × ℕ). e.1) entry) in
     holds_set old _ c.args.new k place.inside place.here
@@ -54,7 +54,7 @@ pub returns-in-Ok-clause-indexed : goal.returns-in-Ok-clause-indexed
 returns-in-Ok-clause-indexed c =
     let old = c.args.self.now.staged.items in
     let index = c.args.self.now.index.items in
-    let found = subst (λ (l : Index). IsAt l c.args.new.sector c.in-Ok.at) c.deref.ensures.value c.in-Ok.ensures.found in
+    let found = subst (λ (l : Index). IsEntryOfNumber l c.args.new.sector c.in-Ok.at) c.deref.ensures.value c.in-Ok.ensures.found in
     let entry = get_or_read index c.in-Ok.at c.index.result.now found.in_range c.index.ensures (0, 0) in
     let place = found_place old index c.requires.indexed c.args.new.sector c.in-Ok.at found c.index.result.now.1 (ap (λ (e : ℕ × ℕ). e.1) entry) in
     subst (λ (ns : List ℕ). IsIndex ns index) (sym (numbers_replaced old _ c.args.new place.inside place.here)) c.requires.indexed

@@ -1,6 +1,6 @@
 use Rattle.std.proofs.Common.{ℕ, true, false, refl, ap, ◌∙◌}
 use Rattle.std.proofs.lemmas.Bool.{true≢false, false≢true}
-use Rattle.vol_sector.specs.Faulty.{device_of, operations_of, failures_of}
+use Rattle.vol_sector.specs.Faulty.{device_of, operations_of, injected_failures}
 use Rattle.vol_sector.specs.Disk.{both_counts}
 use Rattle.vol_sector.proofs.Counting.{leaves_passed, keeps_passed, leaves_kept, keeps_kept, counts_one, both_counted, one_failed}
 use Rattle.vol_sector.proofs.faulty.FaultyDeviceDevice.sync.Goals as goal
@@ -23,7 +23,7 @@ returns g c =
       operation_count = λ h. counts_one old new true p.operations;
       honest = e.honest;
       size = e.size;
-      failures = ap (λ (n : ℕ). both_counts failures n) p.failures ∙ both_counted _ (g.D.Device.failures (device_of f)) failures (failures_of f) e.failures;
+      failures = ap (λ (n : ℕ). both_counts failures n) p.failures ∙ both_counted _ (g.D.Device.failures (device_of f)) failures (injected_failures f) e.failures;
       count = p.left;
       fails = λ at. absurd (true≢false (p.fails at));
       passes = λ on. e.failures;
@@ -45,7 +45,7 @@ returns-then-not-passes g c =
       operation_count = λ h. counts_one old new false p.operations;
       honest = (λ h. h, λ h. h);
       size = refl;
-      failures = one_failed (g.D.Device.failures (device_of f)) (failures_of f) c.passes.new.self.failures p.failures;
+      failures = one_failed (g.D.Device.failures (device_of f)) (injected_failures f) c.passes.new.self.failures p.failures;
       count = p.left;
       fails = λ at. (refl, refl);
       passes = λ on. absurd (false≢true (p.passes on));

@@ -3,7 +3,7 @@ use Rattle.std.proofs.lemmas.List.{length_push}
 use Rattle.std.proofs.lemmas.Grind.{common_steps}
 use Rattle.vol_sector.specs.Disk.{Leaves, Keeps, Only}
 use Rattle.vol_sector.specs.Counting.{counting}
-use Rattle.vol_sector.specs.Memory.{first_of, record_of, operations_of, disk_of}
+use Rattle.vol_sector.specs.Memory.{initial_image, record_of, operations_of, disk_of}
 use Rattle.vol_sector.specs.Record.{newest, recorded, LeftBy}
 use Rattle.vol_sector.specs.Record.{image_of}
 use Rattle.vol_sector.specs.declared.record.Operation.{Operation}
@@ -27,7 +27,7 @@ returns-in-Ok-clause-durable c h =
 pub returns-in-Ok-clause-crash : goal.returns-in-Ok-clause-crash
 returns-in-Ok-clause-crash c h =
     let m = c.args.self.now in
-    let first = first_of m in
+    let first = initial_image m in
     let ops = record_of m in
     let operations = c.passed-self.result.outcomes in
     subst (λ (r : List Operation). Leaves (disk_of m) (counting operations (recorded first r)) (λ x. ⊥)) (sym c.in-Ok.ensures.items)
@@ -36,7 +36,7 @@ returns-in-Ok-clause-crash c h =
 pub returns-in-Ok-clause-keeps : goal.returns-in-Ok-clause-keeps
 returns-in-Ok-clause-keeps c h =
     let m = c.args.self.now in
-    let first = first_of m in
+    let first = initial_image m in
     let ops = record_of m in
     let operations = c.passed-self.result.outcomes in
     subst (λ (r : List Operation). Keeps (disk_of m) (counting operations (recorded first r))) (sym c.in-Ok.ensures.items)

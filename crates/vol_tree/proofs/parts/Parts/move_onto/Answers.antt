@@ -12,7 +12,7 @@ use Rattle.vol_tree.specs.Stands.{Slots}
 use Rattle.vol_tree.specs.Opened.{tree_in, slots_in}
 use Rattle.vol_tree.specs.internal.Slots.{slot_of}
 use Rattle.vol_tree.specs.internal.Commits.{Commits}
-use Rattle.vol_tree.specs.internal.Moves.{Moves}
+use Rattle.vol_tree.specs.internal.Moves.{MovesToName}
 use Rattle.vol_tree.specs.internal.Replacing.{replacing}
 use Rattle.vol_tree.proofs.Committing.{commits_then, no_commit}
 use Rattle.vol_tree.proofs.Changing.{quiet_then, refused_io, done_open, stages_then}
@@ -215,7 +215,7 @@ relocate-requires g c =
           let bare : Childless T c.args.target = bare_target (view old.log) old.numbers old.dirs content (c.requires.is_open.shows h) c.in_ok-child.child c.args.target e.kind t
           c.requires.target_first slot_two c.in_ok-child.ensures.found okay in
           let tree_is : tree_in (view last.log) last.numbers ≡ changed T c.args.target None = gone.tree h2 ∙ ap (λ (U : Tree). changed U c.args.target None) (all.tree h) in
-          subst (λ (U : Tree). Moves U c.args.serial c.args.parent c.args.name.now) (sym tree_is)
+          subst (λ (U : Tree). MovesToName U c.args.serial c.args.parent c.args.name.now) (sym tree_is)
           (moves_after T content.volume.tree c.args.serial c.args.parent c.args.target c.args.name.now m c.requires.other some bare);
     }
 

@@ -7,7 +7,7 @@ use Rattle.vol_tree.specs.declared.superblock.Superblock.{Superblock}
 use Rattle.vol_tree.specs.Tree.{Tree}
 use Rattle.vol_tree.specs.Calls.{moved}
 use Rattle.vol_tree.specs.Stands.{Slots}
-use Rattle.vol_tree.specs.internal.Moves.{Moves}
+use Rattle.vol_tree.specs.internal.Moves.{MovesToName}
 use Rattle.vol_tree.proofs.Committing.{commits_then}
 use Rattle.vol_tree.proofs.Changing.{refused_io, done_open}
 use Rattle.vol_tree.proofs.Taking.{refused_by}
@@ -55,7 +55,7 @@ relocate-requires g c =
           ap (λ (s : Slots). get_or s (c.args.serial - 1) None) (commits.slots h) ∙ c.in_ok-entry.ensures.found h m.into.not_top m.into.used;
       moves = λ h1.
           let h = commits.kept.honest.1 h1 in
-          subst (λ (T : Tree). Moves T c.args.serial c.args.parent c.args.name.now) (sym (commits.tree h)) (c.requires.moves h);
+          subst (λ (T : Tree). MovesToName T c.args.serial c.args.parent c.args.name.now) (sym (commits.tree h)) (c.requires.moves h);
     }
 
 pub returns : goal.returns

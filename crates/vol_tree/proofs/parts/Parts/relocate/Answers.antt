@@ -6,7 +6,7 @@ use Rattle.vol_dirs.specs.Names.{Shows, slots_of}
 use Rattle.vol_inode.specs.Spelling.{spelling}
 use Rattle.vol_tree.specs.Calls.{moved}
 use Rattle.vol_tree.specs.Opened.{tree_in}
-use Rattle.vol_tree.specs.internal.Moves.{Moves}
+use Rattle.vol_tree.specs.internal.Moves.{MovesToName}
 use Rattle.vol_tree.proofs.Changing.{stages, staged_open}
 use Rattle.vol_tree.proofs.Relocating.{relocated_tree, relocated_space, relocated_content, relocated_is_tree, relocated_taken, relocated_front}
 use Rattle.vol_tree.proofs.parts.Parts.relocate.Goals as goal
@@ -32,7 +32,7 @@ returns g c =
     let right = is_to.right v.version c.requires.right in
     let k : slots_of old.dirs ≡ v.slots = is.slots in
     let slot = c.requires.slot in
-    let moves = λ (h : g.D.Device.honest (device_of old.log)). subst (λ (m : ℕ). Moves (tree_in a v) m c.args.parent c.args.name.now) (sym here) (c.requires.moves h) in
+    let moves = λ (h : g.D.Device.honest (device_of old.log)). subst (λ (m : ℕ). MovesToName (tree_in a v) m c.args.parent c.args.name.now) (sym here) (c.requires.moves h) in
     record {
       is_open = staged_open old new is all_stages c.requires.working (λ h.
           let working = is.working h c.requires.working in

@@ -8,7 +8,7 @@ use Rattle.vol_tree.specs.declared.errno.Errno.TheVariants as errno
 use Rattle.vol_tree.specs.Tree.{Tree, lookup}
 use Rattle.vol_tree.specs.Calls.{moved, moved_onto, with_unit, is_within}
 use Rattle.vol_tree.specs.Opened.{tree_in}
-use Rattle.vol_tree.specs.internal.Moves.{Moves, MovesIn}
+use Rattle.vol_tree.specs.internal.Moves.{MovesToName, MovesIn}
 use Rattle.vol_tree.proofs.Committing.{no_commit}
 use Rattle.vol_tree.proofs.Changing.{nothing_done, refused, refused_io}
 use Rattle.vol_tree.proofs.Climbing.{onto_itself, renamed_root, renamed_within, renamed_free, renamed_onto, may_move_in, may_move}
@@ -75,7 +75,7 @@ move_to-requires g c =
           let apart : is_within (length T) T c.args.serial c.args.parent ≡ false = sym (c.in_ok-is_within.ensures.answer h) ∙ c.if-branch.false in
           let into = may_move_in T content.volume.tree c.args.serial c.args.parent (c.requires.used h) (different c.args.serial 1 (sym c.eq.ensures ∙ c.if-eq.false)) (c.requires.directory h) apart in
           let none : lookup T c.args.parent c.args.name.now ≡ None = sym looks ∙ c.in-None.is in
-          subst (λ (U : Tree). Moves U c.args.serial c.args.parent c.args.name.now) (sym (commits.tree h)) (may_move T c.args.serial c.args.parent c.args.name.now into none);
+          subst (λ (U : Tree). MovesToName U c.args.serial c.args.parent c.args.name.now) (sym (commits.tree h)) (may_move T c.args.serial c.args.parent c.args.name.now into none);
     }
 
 pub move_onto-requires : goal.move_onto-requires

@@ -7,7 +7,7 @@ use Rattle.vol_tree.specs.Calls.{bytes_at}
 use Rattle.wasi_calls.specs.Checks.{Buffer, total, is_inside, put, scattered}
 use Rattle.wasi_calls.specs.Calls.{IsMixed}
 use Rattle.wasi_calls.specs.internal.checks.Buffers.{list_of}
-use Rattle.wasi_calls.specs.internal.files.Reading.{cut}
+use Rattle.wasi_calls.specs.internal.files.Reading.{limited_buffers}
 use Rattle.wasi_calls.proofs.files.OverlappingBuffers.{cut_total, cut_inside}
 use Rattle.wasi_calls.proofs.files.FilledBuffers.{as_many, cut_fits, cut_received}
 use Rattle.wasi_calls.proofs.bodies.AskingCalls.{asked_on}
@@ -47,7 +47,7 @@ returns-in-Ok-fill_buffers g c = record {
       let counted = c.count_from-len.ensures.count in
       let count : n ≡ min (total bs) (length F - from) = omega (arith, len, counted, size) in
       let meant = λ (U : Tree) (l : List Buffer). total l ≤ length (bytes_at U c.args.serial) - from → c.fill_buffers.new.memory ≡ put m (scattered (drop from (bytes_at U c.args.serial)) l) in
-      let filled = subst (λ (U : Tree). meant U (cut n bs)) tree (subst (meant T) c.cut_to.ensures (c.in-Ok-fill_buffers.ensures.filled (c.in-Ok.ensures.kept.honest.0 h))) in
+      let filled = subst (λ (U : Tree). meant U (limited_buffers n bs)) tree (subst (meant T) c.cut_to.ensures (c.in-Ok-fill_buffers.ensures.filled (c.in-Ok.ensures.kept.honest.0 h))) in
       (as_many F from n bs count, filled (cut_fits F from n bs count) ∙ cut_received F from n bs count m);
   broke = λ h. tt;
   asked = let told = c.in-Ok.ensures in
@@ -75,7 +75,7 @@ returns-in-Err-fill_buffers g c = record {
       let count : n ≡ min (total bs) (length F - from) = omega (arith, len, counted, size) in
       let meant = λ (U : Tree) (l : List Buffer). total l ≤ length (bytes_at U c.args.serial) - from
       → (c.in-Err-fill_buffers.errno ≡ errno.Io) × IsMixed m (put m (scattered (drop from (bytes_at U c.args.serial)) l)) m' in
-      let broke = subst (λ (U : Tree). meant U (cut n bs)) tree (subst (meant T) c.cut_to.ensures (c.in-Err-fill_buffers.ensures.broke (c.in-Ok.ensures.kept.honest.0 h))) in
+      let broke = subst (λ (U : Tree). meant U (limited_buffers n bs)) tree (subst (meant T) c.cut_to.ensures (c.in-Err-fill_buffers.ensures.broke (c.in-Ok.ensures.kept.honest.0 h))) in
       let both = broke (cut_fits F from n bs count) in
       (both.0, subst (λ (l : List ℕ). IsMixed m l m') (cut_received F from n bs count m) both.1);
   asked = let told = c.in-Ok.ensures in

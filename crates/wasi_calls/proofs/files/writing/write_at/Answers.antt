@@ -9,7 +9,7 @@ use Rattle.wasi_calls.specs.Checks.{tree_call, gathered, with_result}
 use Rattle.wasi_calls.specs.Calls.{Answered}
 use Rattle.wasi_calls.specs.internal.Bodies.{with_volume}
 use Rattle.wasi_calls.specs.internal.checks.Buffers.{list_of}
-use Rattle.wasi_calls.specs.internal.files.Writing.{placed}
+use Rattle.wasi_calls.specs.internal.files.Writing.{written_at_offset}
 use Rattle.wasi_calls.proofs.bodies.VolumeCalls.{was_working, steps}
 use Rattle.wasi_calls.proofs.files.WriteCalls.{one_after, left_ok, left_err, written_never}
 use Rattle.wasi_calls.proofs.files.writing.write_at.Goals as goal
@@ -29,7 +29,7 @@ returns-in-Ok g c = record {
       let kept = c.in-Ok.ensures.kept in
       let (count, gives) = c.in-Ok.ensures.written h in
       let working : old.failed ≡ false = was_working g.D.Device.honest g.D.Device.size g.D.Device.failures old new false kept refl in
-      left_ok g.D.Device.honest g.D.Device.size g.D.Device.failures w m (λ v. placed v o at all result) (λ v. tree_with v.volume v.tree o.serial at part)
+      left_ok g.D.Device.honest g.D.Device.size g.D.Device.failures w m (λ v. written_at_offset v o at all result) (λ v. tree_with v.volume v.tree o.serial at part)
       (λ v T. with_result (record v { tree = T }) result (little_bytes 4 (length part))) old new shown
       (λ u. one_after (tree_call u (tree_with u.volume u.tree o.serial at part)) (λ T. (record u { tree = T }, length part)) (λ r. with_result r.0 result (little_bytes 4 r.1)))
       kept gives (with_volume new w) c.write_bytes.new.memory
@@ -52,8 +52,8 @@ returns-in-Err g c = record {
       let part : List ℕ = take PIECE all in
       let result = c.args.result_at in
       let (tree, meant) = c.in-Err.ensures.refused h in
-      subst (λ (n : ℕ). Answered (λ v. placed v o at all result) w m (with_volume new w) m n) (sym c.refused.ensures)
-      (left_err g.D.Device.honest g.D.Device.size g.D.Device.failures w m (λ v. placed v o at all result) (λ v. tree_with v.volume v.tree o.serial at part)
+      subst (λ (n : ℕ). Answered (λ v. written_at_offset v o at all result) w m (with_volume new w) m n) (sym c.refused.ensures)
+      (left_err g.D.Device.honest g.D.Device.size g.D.Device.failures w m (λ v. written_at_offset v o at all result) (λ v. tree_with v.volume v.tree o.serial at part)
       (λ v T. with_result (record v { tree = T }) result (little_bytes 4 (length part))) old new shown
       (λ u. one_after (tree_call u (tree_with u.volume u.tree o.serial at part)) (λ T. (record u { tree = T }, length part)) (λ r. with_result r.0 result (little_bytes 4 r.1)))
       (written_never w.volume w.tree o.serial at part) c.in-Err.errno c.in-Err.ensures.kept tree meant);

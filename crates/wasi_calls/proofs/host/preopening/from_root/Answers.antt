@@ -2,7 +2,7 @@ use Rattle.std.proofs.Common.{◌≡◌, ◌⊎◌, ℕ, None, Err, inl, inr, sy
 use Rattle.vol_tree.specs.declared.errno.Errno.TheVariants as errno
 use Rattle.wasi_calls.specs.declared.host.fault.HostFault.{HostFault}
 use Rattle.wasi_calls.specs.host.Making.{from_root}
-use Rattle.wasi_calls.specs.internal.host.Preopening.{Finds}
+use Rattle.wasi_calls.specs.internal.host.Preopening.{FindsOrFails}
 use Rattle.wasi_calls.proofs.host.Preopens.{root_refused, refused_none, asked_device, reads_then}
 use Rattle.wasi_calls.proofs.bodies.AskingCalls.{works_as, still_works}
 use Rattle.path_walk.specs.declared.walking.Reached.{Reached}
@@ -17,7 +17,7 @@ returns-in-Err-clause-found g c = λ h.
       | inl is ↦ inl (root_refused T rest e is)
       | inr io ↦ inr io
     ] in
-    subst (λ (fault : HostFault). Finds {X = ℕ} (from_root T rest) (Err fault)) (sym c.fault_of.ensures) (refused_none (from_root T rest) e why)
+    subst (λ (fault : HostFault). FindsOrFails {X = ℕ} (from_root T rest) (Err fault)) (sym c.fault_of.ensures) (refused_none (from_root T rest) e why)
 
 pub returns-in-Err-clause-reads : goal.returns-in-Err-clause-reads
 returns-in-Err-clause-reads g c = asked_device (Reached × Bool) ℕ g.D.Device.honest g.D.Device.disk g.D.Device.size g.D.Device.failures c.args.volume.now c.walk_from_root.new.volume c.in-Err.errno c.fault_of.result c.fault_of.ensures c.in-Err.ensures.asked

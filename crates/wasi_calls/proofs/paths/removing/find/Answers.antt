@@ -10,7 +10,7 @@ use Rattle.wasi_calls.specs.World.{World, volume_gone}
 use Rattle.wasi_calls.specs.Checks.{and_then, found}
 use Rattle.wasi_calls.specs.paths.Rows.{path_at}
 use Rattle.wasi_calls.specs.internal.Asking.{Stops}
-use Rattle.wasi_calls.specs.internal.paths.Walks.{entered}
+use Rattle.wasi_calls.specs.internal.paths.Walks.{starting_directory}
 use Rattle.wasi_calls.specs.internal.paths.Removing.{found_at}
 use Rattle.wasi_calls.proofs.checks.Chains.{goes_on, stops}
 use Rattle.wasi_calls.proofs.OpenEntries.{entered_row, entry_of}
@@ -19,7 +19,7 @@ use Rattle.wasi_calls.proofs.bodies.AskingCalls.{passes_on, refuses_on, ends_par
 use Rattle.wasi_calls.proofs.bodies.PlainCalls.{volume_rests}
 use Rattle.wasi_calls.proofs.paths.removing.find.Goals as goal
 
-to_walk : (w : World) (m : List ℕ) (fd rights path len : ℕ) (o : Opened) → entered w m fd rights path len ≡ Ok o → found_at w m fd rights path len ≡ and_then (path_at w m o path len) found
+to_walk : (w : World) (m : List ℕ) (fd rights path len : ℕ) (o : Opened) → starting_directory w m fd rights path len ≡ Ok o → found_at w m fd rights path len ≡ and_then (path_at w m o path len) found
 to_walk w m fd rights path len o invokes = entered_row _ _ _ ∙ goes_on _ _ o invokes
 
 pub reach-requires : goal.reach-requires
@@ -32,7 +32,7 @@ returns-in-Err g c = record {
   works = tt;
   entry = tt;
   asks = λ h w table shown. inl (record { is = entered_row _ _ _ ∙ stops _ _ _ (c.in-Err.ensures.row w table); same = sym shown });
-  io = check_not_29 (table_of c.args.descriptors.now) (λ w. entered w c.args.memory.now c.args.fd (bits_of c.args.rights) c.args.path c.args.len) _ (entered_never c.args.memory.now c.args.fd (bits_of c.args.rights) c.args.path c.args.len) c.in-Err.ensures.row;
+  io = check_not_29 (table_of c.args.descriptors.now) (λ w. starting_directory w c.args.memory.now c.args.fd (bits_of c.args.rights) c.args.path c.args.len) _ (entered_never c.args.memory.now c.args.fd (bits_of c.args.rights) c.args.path c.args.len) c.in-Err.ensures.row;
 }
 
 pub returns-in-Ok-Found-clause-asks : goal.returns-in-Ok-Found-clause-asks

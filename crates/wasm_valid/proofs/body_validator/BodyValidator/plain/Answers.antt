@@ -3,7 +3,7 @@ use Rattle.std.proofs.lemmas.Result.{IfOk-weaker}
 use Rattle.wasm_valid.specs.Typing.{Context}
 use Rattle.wasm_valid.specs.internal.Effects.{after}
 use Rattle.wasm_valid.specs.internal.Blocks.{OpenBlock, plain_in}
-use Rattle.wasm_valid.specs.internal.Operands.{blocks_of, control_frame_labels, Answers}
+use Rattle.wasm_valid.specs.internal.Operands.{blocks_of, control_frame_labels, StepsTo}
 use Rattle.wasm_valid.specs.internal.Contexts.{IsFunctionContext}
 use Rattle.wasm_valid.proofs.Nested.{plain_answers, nested_still}
 use Rattle.wasm_valid.proofs.body_validator.BodyValidator.plain.Goals as goal
@@ -17,8 +17,8 @@ returns c =
     let p = c.plain.new.operands in
     let i = c.args.instruction.now in
     IfOk-weaker c.plain.result
-    (λ (typed : Bool). (k : Context) → IsFunctionContext c.args.function_context.now k → Answers typed (after k (control_frame_labels w.control_frames) i w.operands.stack) p.stack)
-    (λ (typed : Bool). (k : Context) → IsFunctionContext c.args.function_context.now k → Answers typed (plain_in k i c.args.self.now) (blocks_of p w.control_frames))
-    (λ typed h k is. subst (λ (l : List OpenBlock). Answers typed (plain_in k i l) (blocks_of p w.control_frames)) c.self.view_is
+    (λ (typed : Bool). (k : Context) → IsFunctionContext c.args.function_context.now k → StepsTo typed (after k (control_frame_labels w.control_frames) i w.operands.stack) p.stack)
+    (λ (typed : Bool). (k : Context) → IsFunctionContext c.args.function_context.now k → StepsTo typed (plain_in k i c.args.self.now) (blocks_of p w.control_frames))
+    (λ typed h k is. subst (λ (l : List OpenBlock). StepsTo typed (plain_in k i l) (blocks_of p w.control_frames)) c.self.view_is
     (plain_answers k i w.operands p w.control_frames typed c.self.invariant.0 c.plain.ensures.below (h k is)))
     c.plain.ensures.stack

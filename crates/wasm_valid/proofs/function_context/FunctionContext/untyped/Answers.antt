@@ -6,9 +6,9 @@ use Rattle.wasm_module.specs.declared.instruction.Instruction.{Instruction}
 use Rattle.wasm_module.specs.declared.instruction.Instruction.TheVariants as op
 use Rattle.wasm_valid.specs.declared.control_frames.BlockKind.TheVariants.{Block}
 use Rattle.wasm_valid.specs.Typing.{Context}
-use Rattle.wasm_valid.specs.internal.Blocks.{opened, stepped}
+use Rattle.wasm_valid.specs.internal.Blocks.{new_block, stepped}
 use Rattle.wasm_valid.specs.internal.Bodies.{Going}
-use Rattle.wasm_valid.specs.internal.Operands.{Answers}
+use Rattle.wasm_valid.specs.internal.Operands.{StepsTo}
 use Rattle.wasm_valid.specs.internal.Contexts.{IsFunctionContext}
 use Rattle.wasm_valid.proofs.Going.{whole_of, GoesOn-more, GoesOn-stops, GoesOn-ends, no_end}
 use Rattle.wasm_valid.proofs.function_context.FunctionContext.untyped.Goals as goal
@@ -26,28 +26,28 @@ returns-in_default-last c = λ k at.
 pub returns-then-not-branch : goal.returns-then-not-branch
 returns-then-not-branch c = λ k at q.
     let function_context = c.args.self.now in
-    let start = opened Block function_context.returns ∷ [] in
+    let start = new_block Block function_context.returns ∷ [] in
     let inner = c.in-Some.inner.now in
     let item = c.index-inner-i.result in
     let l = c.loop-i in
     let code : c.args.code.now ≡ whole_of inner = c.in-Some.ensures.cases.0 ∙ ap (λ (e : Instruction). inner ++ e ∷ []) c.in-End.is in
-    let step = subst (λ (t : Bool). (k : Context) → IsFunctionContext function_context k → Answers t (stepped k item l.walk) c.step.new.self) c.if-not-branch.true c.in_ok-step.ensures in
+    let step = subst (λ (t : Bool). (k : Context) → IsFunctionContext function_context k → StepsTo t (stepped k item l.walk) c.step.new.self) c.if-not-branch.true c.in_ok-step.ensures in
     GoesOn-stops function_context start inner l.i item l.walk c.step.new.self (omega arith) c.index-inner-i.is l.invariant step k at (subst (Going k start) code q)
 
 pub loop-i-preserved : goal.loop-i-preserved
 loop-i-preserved c =
     let function_context = c.args.self.now in
-    let start = opened Block function_context.returns ∷ [] in
+    let start = new_block Block function_context.returns ∷ [] in
     let inner = c.in-Some.inner.now in
     let item = c.index-inner-i.result in
     let l = c.loop-i in
-    let step = subst (λ (t : Bool). (k : Context) → IsFunctionContext function_context k → Answers t (stepped k item l.walk) c.step.new.self) c.if-not-branch.false c.in_ok-step.ensures in
+    let step = subst (λ (t : Bool). (k : Context) → IsFunctionContext function_context k → StepsTo t (stepped k item l.walk) c.step.new.self) c.if-not-branch.false c.in_ok-step.ensures in
     GoesOn-more function_context start inner l.i item l.walk c.step.new.self (omega arith) c.index-inner-i.is l.invariant step
 
 pub returns-then-finish : goal.returns-then-finish
 returns-then-finish c = λ k at.
     let function_context = c.args.self.now in
-    let start = opened Block function_context.returns ∷ [] in
+    let start = new_block Block function_context.returns ∷ [] in
     let inner = c.in-Some.inner.now in
     let l = c.loop-i in
     let code : c.args.code.now ≡ whole_of inner = c.in-Some.ensures.cases.0 ∙ ap (λ (e : Instruction). inner ++ e ∷ []) c.in-End.is in
@@ -56,7 +56,7 @@ returns-then-finish c = λ k at.
 pub returns : goal.returns
 returns c = λ k at q.
     let function_context = c.args.self.now in
-    let start = opened Block function_context.returns ∷ [] in
+    let start = new_block Block function_context.returns ∷ [] in
     let inner = c.in-Some.inner.now in
     let l = c.loop-i in
     let code : c.args.code.now ≡ whole_of inner = c.in-Some.ensures.cases.0 ∙ ap (λ (e : Instruction). inner ++ e ∷ []) c.in-End.is in

@@ -14,7 +14,7 @@ use Rattle.wasi_calls.specs.Calls.{word, long}
 use Rattle.wasi_calls.specs.host.Worlds.{world_of}
 use Rattle.wasi_calls.specs.internal.Bodies.{state_of, errno_of}
 use Rattle.wasi_calls.specs.internal.checks.Buffers.{list_of, AreUsable}
-use Rattle.wasi_calls.specs.internal.files.Writing.{placed}
+use Rattle.wasi_calls.specs.internal.files.Writing.{written_at_offset}
 use Rattle.wasi_calls.proofs.checks.Chains.{goes_on, stops}
 use Rattle.wasi_calls.proofs.OpenEntries.{file_of}
 use Rattle.wasi_calls.proofs.bodies.VolumeCalls.{refused_first}
@@ -61,7 +61,7 @@ returns-in-Err-find_buffers g c = λ used.
     refused_first w m run s.volume _ refl
     ((λ i. fd_pwrite w m (sym asked.fd i) (sym asked.iovs i) (sym asked.count i) (sym c.long-offset.ensures i) (sym asked.result_at i))
     ∙ (goes_on _ _ o (c.in-Ok.ensures w refl)
-    ∙ (usable_row m q.iovs q.count q.result_at (λ bs. placed w o c.long-offset.result (gathered m bs) q.result_at) ∙ stops _ _ _ c.in-Err-find_buffers.ensures.found))))
+    ∙ (usable_row m q.iovs q.count q.result_at (λ bs. written_at_offset w o c.long-offset.result (gathered m bs) q.result_at) ∙ stops _ _ _ c.in-Err-find_buffers.ensures.found))))
 
 pub write_at-requires-clause-file : goal.write_at-requires-clause-file
 write_at-requires-clause-file g c =
@@ -91,17 +91,17 @@ returns g c = λ used.
     } in
     let found : list_of c.find_buffers.new.room.items ≡ bs =
     ap list_of (sym c.as_slice-buffers.ensures.value) in
-    let same : (w : World) → w.table ≡ table_of s.descriptors → run w ≡ placed w o offset (gathered m bs) q.result_at = λ w table.
+    let same : (w : World) → w.table ≡ table_of s.descriptors → run w ≡ written_at_offset w o offset (gathered m bs) q.result_at = λ w table.
     (λ i. fd_pwrite w m (sym asked.fd i) (sym asked.iovs i) (sym asked.count i) (sym c.long-offset.ensures i) (sym asked.result_at i))
     ∙ (goes_on _ _ o (c.in-Ok.ensures w table)
-    ∙ (usable_row m q.iovs q.count q.result_at (λ bs. placed w o offset (gathered m bs) q.result_at)
+    ∙ (usable_row m q.iovs q.count q.result_at (λ bs. written_at_offset w o offset (gathered m bs) q.result_at)
     ∙ goes_on _ _ bs (c.in_default.ensures.found ∙ ap Ok found))) in
     serves_roomy g.D.Device.honest g.D.Device.disk g.D.Device.size g.D.Device.failures g.R.Read.remaining g.W1.Write.contents g.W2.Write.contents
     call.FdPwrite used a s new m c.write_at.new.memory (errno_of c.write_at.result) c.write_at.ensures.io c.requires.set_up c.find_buffers.ensures.place c.requires.set_up.piece refl
     c.write_at.ensures.step (no_more (table_of s.descriptors))
     (λ h b.
     let w = world_of (state_of s) b in
-    answered_so run (λ v. placed v o offset (gathered m bs) q.result_at) w (λ v table tree. same v table) m _ _ _ (c.write_at.ensures.answered (h refl) w refl))
+    answered_so run (λ v. written_at_offset v o offset (gathered m bs) q.result_at) w (λ v table tree. same v table) m _ _ _ (c.write_at.ensures.answered (h refl) w refl))
 
 pub write_at-requires-clause-few : goal.write_at-requires-clause-few
 write_at-requires-clause-few g c = omega (arith, c.as_slice-buffers.ensures.len, c.in_default.ensures.few)
