@@ -168,7 +168,8 @@ fn survey_indirect_block<D: Device>(
     push_all(named, &numbers, first, end)
 }
 
-/// Pushes the numbers of the inner blocks and those that they list.
+/// Pushes the numbers of the inner blocks and those that they list. None may stand for a data block from `count` on: the i-th
+/// inner block lists those from `LISTED + NUMBERS * i` on.
 fn survey_inner_blocks<D: Device>(
     log: &mut Log<D>,
     inner_blocks: &Numbers,

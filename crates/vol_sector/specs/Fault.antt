@@ -1,5 +1,5 @@
 -- Which refusals are the device's (`docs/VOLUME.md`, "The device").
-use Rattle.std.specs.Prelude.{Bool, true, false, Result, Ok, Err}
+use Rattle.std.specs.Prelude.{ℕ, Bool, true, false, Option, Some, None, Result, Ok, Err}
 use Rattle.vol_sector.specs.declared.fault.VolumeFault.{VolumeFault}
 use Rattle.vol_sector.specs.declared.fault.VolumeFault.TheVariants.{NotAVolume, Version, Damaged, Device, TooSmall, Upgraded, Geometry, Memory}
 
@@ -28,3 +28,19 @@ IsDamage TooSmall = ⊥
 IsDamage Upgraded = ⊥
 IsDamage Geometry = ⊥
 IsDamage Memory = ⊥
+
+-- the sector that is known, or this one
+abbrev pub sector_or : Option ℕ → ℕ → ℕ
+sector_or None n = n
+sector_or (Some known) n = known
+
+-- a refusal, of which the sector is this one if it is a damage and no sector is known
+abbrev pub at_sector : VolumeFault → ℕ → VolumeFault
+at_sector NotAVolume n = NotAVolume
+at_sector Version n = Version
+at_sector (Damaged damage) n = Damaged (record damage { sector = Some (sector_or damage.sector n) })
+at_sector Device n = Device
+at_sector TooSmall n = TooSmall
+at_sector Upgraded n = Upgraded
+at_sector Geometry n = Geometry
+at_sector Memory n = Memory

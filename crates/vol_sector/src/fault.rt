@@ -1,7 +1,7 @@
 //! Why a volume is refused.
 
 ghost use Rattle.std.specs.Prelude.{◌≡◌, ◌↔◌};
-ghost use Rattle.vol_sector.specs.Fault.{IsDamage};
+ghost use Rattle.vol_sector.specs.Fault.{IsDamage, at_sector};
 ghost use Rattle.vol_sector.specs.declared.fault.VolumeFault.TheVariants.{Device, Memory};
 
 use crate::DeviceFault;
@@ -87,6 +87,7 @@ pub enum VolumeFault {
 impl VolumeFault {
     /// It with the sector of its damage, where that isn't known yet.
     pub fn at(self, sector: u32) -> VolumeFault
+        ensures is { result ≡ at_sector self sector }
         ensures damage { IsDamage result ↔ IsDamage self }
         ensures other { (IsDamage self → ⊥) → result ≡ self }
     {

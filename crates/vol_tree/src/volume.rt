@@ -232,7 +232,8 @@ impl<D: Device> Volume<D> {
         Ok(parts.dirs.next_child(&parts.log, directory, after)?)
     }
 
-    /// What an entry is, and where it stands.
+    /// What an entry is, and where it stands. It refuses with `Io` where the volume has failed or a read fails, and with `Invalid`
+    /// where a device that doesn't keep its model shows an entry whose parent can be none.
     pub fn stat(&mut self, serial: Serial) -> Result<Stat, Errno>
         requires first { 1 ≤ serial }
         requires last { serial ≤ self.old.numbers.slots }

@@ -9,7 +9,8 @@ use crate::{Descriptor, DescriptorFault, Fd, Stream};
 use std::alloc::{AllocError, Global};
 use vol_inode::Serial;
 
-/// How many descriptors can be open.
+/// How many descriptors can be open at once, the three streams and the preopened directories among them. Numbers from here on
+/// name none.
 pub const PLACES: usize = 256;
 
 /// What each descriptor of a guest stands for. Its places are reserved when it is made; no other

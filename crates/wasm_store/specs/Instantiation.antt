@@ -47,7 +47,7 @@ AreLinked links types [] (c ∷ cs) = ⊥
 AreLinked links types (i ∷ is) [] = ⊥
 AreLinked links types (i ∷ is) (c ∷ cs) = IsLinked links types i c × AreLinked links types is cs
 
--- an import is no function, or the host has no call for it
+-- one of the imports is no function, or the host has no call of its names and type
 abbrev pub SomeUnlinked : LinksOf → List FuncType → List Import → Type 0
 SomeUnlinked links types [] = ⊥
 SomeUnlinked links types (i ∷ is) = ((c : Callee) → IsLinked links types i c → ⊥) ⊎ SomeUnlinked links types is

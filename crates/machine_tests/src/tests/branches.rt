@@ -19,15 +19,15 @@ fn module(alloc: Global, type_index: u8, code: &[u8]) -> Result<Vec<u8>, AllocEr
 }
 
 /// A position, how many values are kept, and the height.
-type Place = (usize, usize, usize);
+type TargetParts = (usize, usize, usize);
 
 /// Whether these are the targets, in order.
-fn are(found: &[Target], want: &[Place]) -> bool {
-    for (i, place) in want.iter().enumerate() {
+fn are_at(found: &[Target], want: &[TargetParts]) -> bool {
+    for (i, parts) in want.iter().enumerate() {
         let Some(target) = found.get(i) else {
             return false;
         };
-        if (target.position, target.kept, target.height) != *place {
+        if (target.position, target.kept, target.height) != *parts {
             return false;
         }
     }
@@ -35,11 +35,11 @@ fn are(found: &[Target], want: &[Place]) -> bool {
 }
 
 /// A function and an instruction in it, and where that leads.
-type Row<'a> = (usize, usize, &'a [Place]);
+type Row<'a> = (usize, usize, &'a [TargetParts]);
 
 fn assert_targets(rt: &impl Abort, targets: &Targets, rows: &[Row<'_>]) {
     for (function, pc, want) in rows {
-        assert_row(rt, *pc, are(targets.of(*function, *pc), want));
+        assert_row(rt, *pc, are_at(targets.of(*function, *pc), want));
     }
 }
 

@@ -16,10 +16,11 @@ kept_bytes size indirect_block = 4 * min NUMBERS (blocks_for_size size - DIRECT)
 kept_bytes size double_indirect_block = 4 * min NUMBERS (inner_blocks_for (blocks_for_size size - LISTED))
 kept_bytes size (inner_block i) = 4 * min NUMBERS (blocks_for_size size - (LISTED + NUMBERS * i))
 
--- the only positions of which a file of this size keeps only a beginning, beside the double-indirect block
+-- the data block that this size ends in; with the next one and the double-indirect block the only ones of which a beginning is kept
 abbrev pub cut_data_block : ℕ → BlockPosition
 cut_data_block size = data_block (size / 512)
 
+-- the pointer sector that lists it; where the entry itself names it, the indirect block, of which nothing is kept
 abbrev pub cut_segment : ℕ → BlockPosition
 cut_segment size = segment (segment_of (size / 512))
 

@@ -3,6 +3,7 @@ use Rattle.std.specs.Prelude.{◌≡◌, ◌≤◌, ◌<◌, ◌^◌, ℕ, zero,
 use Rattle.byteorder.specs.Endian.{big_number}
 use Rattle.vol_dirs.specs.Key.{key_of}
 
+-- the bytes before the first zero, which ends a name of less than 255 bytes
 abbrev pub before_zero : List ℕ → List ℕ
 before_zero [] = []
 before_zero (zero ∷ bytes) = []

@@ -20,7 +20,7 @@ fresh_slot s = if s == 0 then spelling root_entry else unused
 abbrev pub HasFreshSlots : ℕ → Image → Type 0
 HasFreshSlots slots image = (s : ℕ) → s < slots → image (slot_sector (s + 1)) ≡ fresh_slot s
 
--- the log is empty, and the slots hold only the root
+-- a new volume after its first sector: the log is empty, and the slots hold only the root
 pub record IsFresh (slots : ℕ) (image : Image) : Type 0 where
   pub log : image 1 ≡ header_bytes []
   pub entries : HasFreshSlots slots image

@@ -16,7 +16,8 @@ use std::io::Read;
 use vol_tree::Span;
 use wasm_store::{Errno, Memory};
 
-/// How many bytes a call takes from the input at once.
+/// How many bytes a call takes from the input at once. They come into a piece of our own, and from there into memory, since no
+/// contract says what a reader leaves after its count.
 pub(crate) const INPUT_PIECE: usize = 16_384;
 
 /// A reader has failed.
@@ -87,7 +88,8 @@ fn read_some<R: Read>(
     }
 }
 
-/// Reads into memory from a place on until this many bytes came or the input ends, and says how many came.
+/// Reads into memory from a place on until this many bytes came or the input ends, which it marks, and says how many came. After
+/// a failure what came before stands in memory, uncounted.
 fn fill<R: Read>(
     input: &mut Input<R>,
     piece: &mut [u8],

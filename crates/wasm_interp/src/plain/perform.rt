@@ -16,7 +16,7 @@ use wasm_branch::{Table as BodyTargets, Target};
 use wasm_module::Instruction;
 
 impl State {
-    /// Goes on at this place of the function, one unit later.
+    /// Goes on at this position of the function, one unit later.
     fn go_to(&mut self, pc: usize)
         requires { self.old.used + 1 < 2 ^ 64 }
         ensures { self.new ≡ record self.old { current = record self.old.current { pc = pc }; used = suc self.old.used } }
@@ -98,8 +98,8 @@ impl State {
         ensures len { vec_len self.new.values ≤ vec_len self.old.values }
         ensures room { vec_capacity self.new.values ≡ vec_capacity self.old.values }
     {
-        let place = (pop(&mut self.values) as usize).min(targets.len() - 1);
-        self.branch(targets[place]);
+        let index = (pop(&mut self.values) as usize).min(targets.len() - 1);
+        self.branch(targets[index]);
     }
 
     fn get_local(&mut self, index: u32) -> Result<(), Halt>

@@ -65,7 +65,7 @@ fn has_memory(module: &Module<'_>, limits: Limits) -> bool {
 }
 
 /// Where the only body stands, how many bytes and locals it has, where its instructions stand, and how many there are.
-fn places(body: &Body<'_>) -> [usize; 5] {
+fn layout(body: &Body<'_>) -> [usize; 5] {
     [
         body.bytes.offset() as usize,
         body.bytes.as_slice().len(),
@@ -77,7 +77,7 @@ fn places(body: &Body<'_>) -> [usize; 5] {
 
 fn has_code(module: &Module<'_>) -> bool {
     match module.bodies.as_slice() {
-        [body] => places(body) == [132, 17, 0, 133, 9] && calls_write(body.code.as_slice()),
+        [body] => layout(body) == [132, 17, 0, 133, 9] && calls_write(body.code.as_slice()),
         _ => false,
     }
 }

@@ -55,10 +55,10 @@ pub select_top-requires : goal.select_top-requires
 select_top-requires c = is_ready c.args.instruction.now op.Select (reverse c.args.values.now.items) c.in-Select.is c.requires.ready
 
 pub load_top-requires : goal.load_top-requires
-load_top-requires c = is_ready c.args.instruction.now (op.Load c.in-Load.operator c.in-Load.place) (reverse c.args.values.now.items) c.in-Load.is c.requires.ready
+load_top-requires c = is_ready c.args.instruction.now (op.Load c.in-Load.operator c.in-Load.memarg) (reverse c.args.values.now.items) c.in-Load.is c.requires.ready
 
 pub store_top-requires : goal.store_top-requires
-store_top-requires c = is_ready c.args.instruction.now (op.Store c.in-Store.operator c.in-Store.place) (reverse c.args.values.now.items) c.in-Store.is c.requires.ready
+store_top-requires c = is_ready c.args.instruction.now (op.Store c.in-Store.operator c.in-Store.memarg) (reverse c.args.values.now.items) c.in-Store.is c.requires.ready
 
 pub grow_top-requires : goal.grow_top-requires
 grow_top-requires c = is_ready c.args.instruction.now op.MemoryGrow (reverse c.args.values.now.items) c.in-MemoryGrow.is c.requires.ready
@@ -203,7 +203,7 @@ returns-else-not-store_top c =
     let vs = reverse c.args.values.now.items in
     let ws = reverse c.store_top.new.values.items in
     record {
-      performed = performs (op.Store c.in-Store.operator c.in-Store.place) c.args.instruction.now c.args.limit vs c.args.memory.now ws c.store_top.new.memory c.in-Store.is c.if-not-store_top.ensures.inside;
+      performed = performs (op.Store c.in-Store.operator c.in-Store.memarg) c.args.instruction.now c.args.limit vs c.args.memory.now ws c.store_top.new.memory c.in-Store.is c.if-not-store_top.ensures.inside;
       halted = tt;
       same = tt;
       spare = spare_still c.args.values.now c.store_top.new.values (taken_off vs ws 2 c.if-not-store_top.ensures.inside.1) c.requires.spare c.store_top.ensures.room;
@@ -215,10 +215,10 @@ returns-else-not-load_top c =
     let vs = reverse c.args.values.now.items in
     let ws = reverse c.load_top.new.values.items in
     record {
-      performed = performs (op.Load c.in-Load.operator c.in-Load.place) c.args.instruction.now c.args.limit vs c.args.memory.now ws c.args.memory.now c.in-Load.is (c.if-not-load_top.ensures.inside, refl);
+      performed = performs (op.Load c.in-Load.operator c.in-Load.memarg) c.args.instruction.now c.args.limit vs c.args.memory.now ws c.args.memory.now c.in-Load.is (c.if-not-load_top.ensures.inside, refl);
       halted = tt;
       same = tt;
-      spare = spare_still c.args.values.now c.load_top.new.values (put_for vs ws c.if-not-load_top.ensures.inside.0 1 (omega arith) (is_ready c.args.instruction.now (op.Load c.in-Load.operator c.in-Load.place) vs c.in-Load.is c.requires.ready).0 c.if-not-load_top.ensures.inside.2) c.requires.spare c.load_top.ensures.room;
+      spare = spare_still c.args.values.now c.load_top.new.values (put_for vs ws c.if-not-load_top.ensures.inside.0 1 (omega arith) (is_ready c.args.instruction.now (op.Load c.in-Load.operator c.in-Load.memarg) vs c.in-Load.is c.requires.ready).0 c.if-not-load_top.ensures.inside.2) c.requires.spare c.load_top.ensures.room;
       room = same_room _ _ c.load_top.ensures.room;
     }
 
@@ -243,7 +243,7 @@ returns-then-not-fill_top c = record {
 pub returns-then-not-store_top : goal.returns-then-not-store_top
 returns-then-not-store_top c = record {
   performed = tt;
-  halted = traps_so (op.Store c.in-Store.operator c.in-Store.place) c.args.instruction.now traps.OutOfBoundsMemory (reverse c.args.values.now.items) c.args.memory.now c.in-Store.is (refl, c.if-not-store_top.ensures.outside.0);
+  halted = traps_so (op.Store c.in-Store.operator c.in-Store.memarg) c.args.instruction.now traps.OutOfBoundsMemory (reverse c.args.values.now.items) c.args.memory.now c.in-Store.is (refl, c.if-not-store_top.ensures.outside.0);
   same = (c.if-not-store_top.ensures.outside.2, c.if-not-store_top.ensures.outside.1);
   spare = spare_still c.args.values.now c.store_top.new.values (same_few _ _ c.if-not-store_top.ensures.outside.2) c.requires.spare c.store_top.ensures.room;
   room = same_room _ _ c.store_top.ensures.room;
@@ -252,7 +252,7 @@ returns-then-not-store_top c = record {
 pub returns-then-not-load_top : goal.returns-then-not-load_top
 returns-then-not-load_top c = record {
   performed = tt;
-  halted = traps_so (op.Load c.in-Load.operator c.in-Load.place) c.args.instruction.now traps.OutOfBoundsMemory (reverse c.args.values.now.items) c.args.memory.now c.in-Load.is (refl, c.if-not-load_top.ensures.outside.0);
+  halted = traps_so (op.Load c.in-Load.operator c.in-Load.memarg) c.args.instruction.now traps.OutOfBoundsMemory (reverse c.args.values.now.items) c.args.memory.now c.in-Load.is (refl, c.if-not-load_top.ensures.outside.0);
   same = (c.if-not-load_top.ensures.outside.1, refl);
   spare = spare_still c.args.values.now c.load_top.new.values (same_few _ _ c.if-not-load_top.ensures.outside.1) c.requires.spare c.load_top.ensures.room;
   room = same_room _ _ c.load_top.ensures.room;
