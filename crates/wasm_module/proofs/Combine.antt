@@ -24,11 +24,11 @@ reads_byte b = record { takes = byte_takes b; again = byte_again b } where
   byte_again b text x rest e = rw (e, eq-eqb b b refl) refl
 
 -- what is read of two readers, one after the other, is spelled so
-pub then_takes : (X Y : Type 0) (A : List ℕ → X → Type 0) (B : List ℕ → Y → Type 0) (a : Reader X) (b : Reader Y)
+pub then_takes : {X Y : Type 0} {A : List ℕ → X → Type 0} {B : List ℕ → Y → Type 0} {a : Reader X} {b : Reader Y}
     → ((bytes : List ℕ) (x : X) (rest : List ℕ) → a bytes ≡ Some (x, rest) → Front X A bytes x rest)
     → ((bytes : List ℕ) (y : Y) (rest : List ℕ) → b bytes ≡ Some (y, rest) → Front Y B bytes y rest)
     → (bytes : List ℕ) (x : X × Y) (rest : List ℕ) → then_at a b bytes ≡ Some (x, rest) → Front (X × Y) (Then A B) bytes x rest
-then_takes X Y A B a b a_takes b_takes bytes x rest e =
+then_takes {X} {Y} {A} {B} {a} {b} a_takes b_takes bytes x rest e =
     let s = bind_some (a bytes) (λ u. b u.1 >>= λ v. Some ((u.0, v.0), v.1)) (x, rest) e in
     let t = bind_some (b s.0.1) (λ v. Some ((s.0.0, v.0), v.1)) (x, rest) s.2 in
     let p = some_is ((s.0.0, t.0.0), t.0.1) (x, rest) t.2 in
@@ -38,17 +38,17 @@ then_takes X Y A B a b a_takes b_takes bytes x rest e =
     subst (λ (q : (X × Y) × List ℕ). Front (X × Y) (Then A B) bytes q.0 q.1) p made
 
 -- two readers, one after the other
-pub reads_then : (X Y : Type 0) (A : List ℕ → X → Type 0) (B : List ℕ → Y → Type 0) (a : Reader X) (b : Reader Y) → Reads X A a → Reads Y B b → Reads (X × Y) (Then A B) (then_at a b)
-reads_then X Y A B a b ra rb = record {
-  takes = then_takes X Y A B a b ra.takes rb.takes;
+pub reads_then : {X Y : Type 0} {A : List ℕ → X → Type 0} {B : List ℕ → Y → Type 0} {a : Reader X} {b : Reader Y} → Reads X A a → Reads Y B b → Reads (X × Y) (Then A B) (then_at a b)
+reads_then ra rb = record {
+  takes = then_takes ra.takes rb.takes;
   again = λ text x rest h.
       let regrouped : text ++ rest ≡ h.0 ++ (h.1 ++ rest) = rw h.4 (append_assoc h.0 h.1 rest) in
       rw (regrouped, ra.again h.0 x.0 (h.1 ++ rest) h.2, rb.again h.1 x.1 rest h.3) refl;
 }
 
 -- a record in place of a tuple
-pub reads_as : (X Y : Type 0) (A : List ℕ → X → Type 0) (a : Reader X) (f : X → Y) (g : Y → X) → ((x : X) → g (f x) ≡ x) → ((y : Y) → f (g y) ≡ y) → Reads X A a → Reads Y (λ text y. A text (g y)) (map_at f a)
-reads_as X Y A a f g gf fg ra = record {
+pub reads_as : {X Y : Type 0} {A : List ℕ → X → Type 0} {a : Reader X} → Reads X A a → (f : X → Y) (g : Y → X) → ((x : X) → g (f x) ≡ x) → ((y : Y) → f (g y) ≡ y) → Reads Y (λ text y. A text (g y)) (map_at f a)
+reads_as {X} {Y} {A} {a} ra f g gf fg = record {
   takes = λ bytes y rest e.
       let s = bind_some (a bytes) (λ u. Some (f u.0, u.1)) (y, rest) e in
       let p = some_is (f s.0.0, s.0.1) (y, rest) s.2 in
@@ -90,9 +90,9 @@ unfolding u32_at
 reads_u32 = reads_number Unsigned 32
 
 -- a vector of what is read
-pub reads_vector : (X : Type 0) (A : List ℕ → X → Type 0) (a : Reader X) → Reads X A a → Reads (List X) (Vector A) (vector_at a)
+pub reads_vector : {X : Type 0} {A : List ℕ → X → Type 0} {a : Reader X} → Reads X A a → Reads (List X) (Vector A) (vector_at a)
 unfolding vector_at
-reads_vector X A a ra = record {
+reads_vector {X} {A} {a} ra = record {
   takes = λ bytes xs rest e.
       let s = bind_some (u32_at bytes) (λ n. many_at a n.0 n.1) (xs, rest) e in
       let fa = reads_u32.takes bytes s.0.0 s.0.1 s.1 in
@@ -106,8 +106,8 @@ reads_vector X A a ra = record {
 -- ---- sizes
 
 -- what fills the bytes
-pub reads_whole : (X : Type 0) (A : List ℕ → X → Type 0) (a : Reader X) → Reads X A a → ReadsWhole X A (whole a)
-reads_whole X A a ra = record {
+pub reads_whole : {X : Type 0} {A : List ℕ → X → Type 0} {a : Reader X} → Reads X A a → ReadsWhole X A (whole a)
+reads_whole {X} {A} {a} ra = record {
   takes = λ bytes x e.
       let s = bind_some (a bytes) (λ u. cond (eqb (length u.1) 0) (Some u.0) None) x e in
       let g = guard_some (eqb (length s.0.1) 0) s.0.0 x s.2 in
@@ -121,9 +121,9 @@ reads_whole X A a ra = record {
 }
 
 -- what is read after its size
-pub reads_sized : (X : Type 0) (A : List ℕ → X → Type 0) (w : WholeReader X) → ReadsWhole X A w → Reads X (Sized A) (sized_at w)
+pub reads_sized : {X : Type 0} {A : List ℕ → X → Type 0} {w : WholeReader X} → ReadsWhole X A w → Reads X (Sized A) (sized_at w)
 unfolding sized_at
-reads_sized X A w rw_ = record {
+reads_sized {X} {A} {w} rw_ = record {
   takes = λ bytes x rest e.
       let s = bind_some (u32_at bytes) (λ n. piece_at n.0 n.1 >>= λ p. w p.0 >>= λ x. Some (x, p.1)) (x, rest) e in
       let n = s.0.0 in
@@ -159,7 +159,7 @@ reads_text = record {
 -- names
 pub reads_name : Reads (List ℕ) SpellsName name_at
 unfolding name_at
-reads_name = reads_sized (List ℕ) Utf8Text utf8_text_of reads_text
+reads_name = reads_sized reads_text
 
 -- any bytes
 pub reads_raw : ReadsWhole (List ℕ) Raw raw_of
@@ -169,32 +169,40 @@ reads_raw = record { takes = λ bytes x e. some_is bytes x e; again = λ bytes x
 -- ---- what begins with a byte that says how it goes on
 
 -- a byte says how it goes on, or the bytes are read otherwise
-pub choice : (X : Type 0) (S : List ℕ → X → Type 0) (code b : ℕ) (f g : Reader X) (rest : List ℕ) (x : X) (after : List ℕ) → (b ≡ code → f rest ≡ Some (x, after) → Front X S (b ∷ rest) x after) → (g rest ≡ Some (x, after) → Front X S (b ∷ rest) x after) → cond (eqb b code) f g rest ≡ Some (x, after) → Front X S (b ∷ rest) x after
-choice X S code b f g rest x after yes_ no_ e = by_test (eqb b code) refl e where
+pub choice : {X : Type 0} {S : List ℕ → X → Type 0} {b : ℕ} {rest : List ℕ} {x : X} {after : List ℕ} (code : ℕ) (f g : Reader X) → (b ≡ code → f rest ≡ Some (x, after) → Front X S (b ∷ rest) x after) → (g rest ≡ Some (x, after) → Front X S (b ∷ rest) x after) → cond (eqb b code) f g rest ≡ Some (x, after) → Front X S (b ∷ rest) x after
+choice {X} {S} {b} {rest} {x} {after} code f g yes_ no_ e = by_test (eqb b code) refl e where
   by_test : (t : Bool) → eqb b code ≡ t → cond t f g rest ≡ Some (x, after) → Front X S (b ∷ rest) x after
   by_test true is e = yes_ (eqb-true _ _ is) e
   by_test false is e = no_ e
 
 -- a value for which no byte is read
-abbrev pub read_as : {X : Type 0} → X → List ℕ → Option (X × List ℕ)
+abbrev read_as : {X : Type 0} → X → List ℕ → Option (X × List ℕ)
 read_as x rest = Some (x, rest)
 
 -- a byte says all
-pub alone : (X : Type 0) (S : List ℕ → X → Type 0) (code b : ℕ) (y : X) (rest : List ℕ) (x : X) (after : List ℕ) → S (code ∷ []) y → b ≡ code → read_as y rest ≡ read_as x after → Front X S (b ∷ rest) x after
-alone X S code b y rest x after spells is e =
+alone : {X : Type 0} {S : List ℕ → X → Type 0} {b : ℕ} {rest : List ℕ} {x : X} {after : List ℕ} (y : X) (code : ℕ) → S (code ∷ []) y → b ≡ code → read_as y rest ≡ read_as x after → Front X S (b ∷ rest) x after
+alone {X} {S} {b} {rest} {x} {after} y code spells is e =
     subst (λ (q : X × List ℕ). Front X S (b ∷ rest) q.0 q.1) (some_is (y, rest) (x, after) e) (record { text = code ∷ []; spells = spells; parts = ap (λ (c : ℕ). c ∷ rest) is })
 
 -- what is read follows a byte
-pub operand : (X : Type 0) (S : List ℕ → X → Type 0) (Y : Type 0) (A : List ℕ → Y → Type 0) (a : Reader Y) (f : Y → X) (code b : ℕ) (rest : List ℕ) (x : X) (after : List ℕ) → Reads Y A a → ((text : List ℕ) (y : Y) → A text y → S (code ∷ text) (f y)) → b ≡ code → map_at f a rest ≡ Some (x, after) → Front X S (b ∷ rest) x after
-operand X S Y A a f code b rest x after ra spells is e =
+pub operand : {X Y : Type 0} {S : List ℕ → X → Type 0} {A : List ℕ → Y → Type 0} {a : Reader Y} {b : ℕ} {rest : List ℕ} {x : X} {after : List ℕ} (f : Y → X) (code : ℕ) → Reads Y A a → ((text : List ℕ) (y : Y) → A text y → S (code ∷ text) (f y)) → b ≡ code → map_at f a rest ≡ Some (x, after) → Front X S (b ∷ rest) x after
+operand {X} {Y} {S} {A} {a} {b} {rest} {x} {after} f code ra spells is e =
     let s = bind_some (a rest) (λ u. Some (f u.0, u.1)) (x, after) e in
     let fa = ra.takes rest s.0.0 s.0.1 s.1 in
     let made : Front X S (b ∷ rest) (f s.0.0) s.0.1 = record { text = code ∷ fa.text; spells = spells fa.text s.0.0 fa.spells; parts = ap (λ (c : ℕ). c ∷ rest) is ∙ ap (λ (r : List ℕ). code ∷ r) fa.parts } in
     subst (λ (q : X × List ℕ). Front X S (b ∷ rest) q.0 q.1) (some_is (f s.0.0, s.0.1) (x, after) s.2) made
 
+-- a byte says all, or the bytes are read otherwise
+pub alone_then : {X : Type 0} {S : List ℕ → X → Type 0} {b : ℕ} {rest : List ℕ} {x : X} {after : List ℕ} (y : X) (code : ℕ) (g : Reader X) → S (code ∷ []) y → (g rest ≡ Some (x, after) → Front X S (b ∷ rest) x after) → cond (eqb b code) (read_as y) g rest ≡ Some (x, after) → Front X S (b ∷ rest) x after
+alone_then y code g spells = choice code (read_as y) g (alone y code spells)
+
+-- what is read follows a byte, or the bytes are read otherwise
+pub operand_then : {X Y : Type 0} {S : List ℕ → X → Type 0} {A : List ℕ → Y → Type 0} {a : Reader Y} {b : ℕ} {rest : List ℕ} {x : X} {after : List ℕ} (f : Y → X) (code : ℕ) (g : Reader X) → Reads Y A a → ((text : List ℕ) (y : Y) → A text y → S (code ∷ text) (f y)) → (g rest ≡ Some (x, after) → Front X S (b ∷ rest) x after) → cond (eqb b code) (map_at f a) g rest ≡ Some (x, after) → Front X S (b ∷ rest) x after
+operand_then {a = a} f code g ra spells = choice code (map_at f a) g (operand f code ra spells)
+
 -- what follows the byte is read again
-pub reread : (X Y : Type 0) (A : List ℕ → Y → Type 0) (a : Reader Y) (f : Y → X) (r : Reader X) (code : ℕ) (text operands : List ℕ) (y : Y) (rest : List ℕ) → Reads Y A a → ((s : List ℕ) → r (code ∷ s) ≡ map_at f a s) → text ≡ code ∷ operands → A operands y → r (text ++ rest) ≡ Some (f y, rest)
-reread X Y A a f r code text operands y rest ra is text-is h =
+pub reread : {X Y : Type 0} {A : List ℕ → Y → Type 0} {a : Reader Y} {text operands : List ℕ} (f : Y → X) (r : Reader X) (code : ℕ) (y : Y) (rest : List ℕ) → Reads Y A a → ((s : List ℕ) → r (code ∷ s) ≡ map_at f a s) → text ≡ code ∷ operands → A operands y → r (text ++ rest) ≡ Some (f y, rest)
+reread {text = text} {operands = operands} f r code y rest ra is text-is h =
     let whole_text : text ++ rest ≡ code ∷ (operands ++ rest) = rw text-is refl in
     ap r whole_text ∙ is (operands ++ rest) ∙ rw (ra.again operands y rest h) refl
 

@@ -3,7 +3,6 @@ use Rattle.std.proofs.Common.{◌≡◌, ℕ, ◌+◌, Bool, true, false, cond, 
 use Rattle.std.proofs.lemmas.Bool.{eqb-true}
 use Rattle.wasm_module.specs.declared.number.Sign.TheVariants.{Signed}
 use Rattle.wasm_module.specs.declared.instruction.ValueType.TheVariants.{I32, I64}
-use Rattle.wasm_module.specs.declared.instruction.BlockType.{BlockType}
 use Rattle.wasm_module.specs.declared.instruction.MemArg.{MemArg}
 use Rattle.wasm_module.specs.declared.accesses.LoadOperator.{LoadOperator}
 use Rattle.wasm_module.specs.declared.accesses.StoreOperator.{StoreOperator}
@@ -11,13 +10,11 @@ use Rattle.wasm_module.specs.declared.instruction.Instruction.{Instruction}
 use Rattle.wasm_module.specs.declared.instruction.Instruction.TheVariants as op
 use Rattle.wasm_module.specs.Number.{SpellsNumber}
 use Rattle.wasm_module.specs.Grammar.{Byte, Then, U32, Vector}
-use Rattle.wasm_module.specs.Types.{SpellsBlockType}
 use Rattle.wasm_module.specs.Instructions.{comparison_number, binary_operator_number, unary_opcode, load_opcode, store_opcode, SpellsMemArg, SpellsInstruction}
-use Rattle.wasm_module.specs.internal.TypesReading.{block_type_at}
 use Rattle.wasm_module.specs.internal.CodeReading.{s32_at, s64_at, mem_arg_at, numeric_of, numeric_after, control_after, variable_after, load_of, load_after, store_of, store_after, size_after, bulk_after, bulk_at, instruction_after, instruction_at}
 use Rattle.wasm_module.specs.internal.Reading.{◌>>=◌, Reader, byte_at, u32_at, then_at, map_at, vector_at}
 use Rattle.wasm_module.proofs.Laws.{bind_some, some_is, Front, Reads, reads_number}
-use Rattle.wasm_module.proofs.Combine.{reads_byte, reads_then, reads_as, reads_u32, reads_vector, choice, alone, operand, read_as, reread}
+use Rattle.wasm_module.proofs.Combine.{reads_byte, reads_then, reads_as, reads_u32, reads_vector, choice, operand, alone_then, operand_then, reread}
 use Rattle.wasm_module.proofs.TypeLaws.{reads_block_type}
 use Rattle.wasm_module.proofs.OperatorLaws.{numeric_takes, load_has_opcode, store_has_opcode, compare32, compare64, operate32, operate64, load_again, store_again, unary32, unary64}
 
@@ -36,11 +33,11 @@ reads_s64 = reads_number Signed 64
 -- what loads and stores say of their address
 reads_mem_arg : Reads MemArg SpellsMemArg mem_arg_at
 unfolding mem_arg_at
-reads_mem_arg = reads_as (ℕ × ℕ) MemArg (Then U32 U32) (then_at u32_at u32_at) (λ p. record { align = p.0; offset = p.1 }) (λ m. (m.align, m.offset)) (λ p. refl) (λ m. refl) (reads_then ℕ ℕ U32 U32 u32_at u32_at reads_u32 reads_u32)
+reads_mem_arg = reads_as (reads_then reads_u32 reads_u32) (λ p. record { align = p.0; offset = p.1 }) (λ m. (m.align, m.offset)) (λ p. refl) (λ m. refl)
 
 -- the labels of a branch table
 reads_labels : Reads (List ℕ × ℕ) (Then (Vector U32) U32) (then_at (vector_at u32_at) u32_at)
-reads_labels = reads_then (List ℕ) ℕ (Vector U32) U32 (vector_at u32_at) u32_at (reads_vector ℕ U32 u32_at reads_u32) reads_u32
+reads_labels = reads_then (reads_vector reads_u32) reads_u32
 
 -- a byte that is 0
 reads_zero : Reads (Unit {0}) (Byte 0x00) (byte_at 0x00)
@@ -48,25 +45,17 @@ reads_zero = reads_byte 0x00
 
 -- the type of an indirect call, and a byte that is 0
 reads_indirect : Reads (ℕ × Unit {0}) (Then U32 (Byte 0x00)) (then_at u32_at (byte_at 0x00))
-reads_indirect = reads_then ℕ (Unit {0}) U32 (Byte 0x00) u32_at (byte_at 0x00) reads_u32 reads_zero
+reads_indirect = reads_then reads_u32 reads_zero
 
 -- two bytes that are 0
 reads_zeros : Reads (Unit {0} × Unit {0}) (Then (Byte 0x00) (Byte 0x00)) (then_at (byte_at 0x00) (byte_at 0x00))
-reads_zeros = reads_then (Unit {0}) (Unit {0}) (Byte 0x00) (Byte 0x00) (byte_at 0x00) (byte_at 0x00) reads_zero reads_zero
+reads_zeros = reads_then reads_zero reads_zero
 
 -- ---- what is read is spelled so
 
 -- what an opcode and the rest say
 abbrev Said : ℕ → List ℕ → Instruction → List ℕ → Type 0
 Said b rest x after = Front Instruction SpellsInstruction (b ∷ rest) x after
-
--- an opcode with nothing after it, or what is read otherwise
-alone_then : (code b : ℕ) (y : Instruction) (g : Reader Instruction) (rest : List ℕ) (x : Instruction) (after : List ℕ) → SpellsInstruction (code ∷ []) y → (g rest ≡ Some (x, after) → Said b rest x after) → cond (eqb b code) (read_as y) g rest ≡ Some (x, after) → Said b rest x after
-alone_then code b y g rest x after spells = choice Instruction SpellsInstruction code b (read_as y) g rest x after (alone Instruction SpellsInstruction code b y rest x after spells)
-
--- an opcode and what follows it, or what is read otherwise
-operand_then : (Y : Type 0) (A : List ℕ → Y → Type 0) (a : Reader Y) (f : Y → Instruction) (code b : ℕ) (g : Reader Instruction) (rest : List ℕ) (x : Instruction) (after : List ℕ) → Reads Y A a → ((text : List ℕ) (y : Y) → A text y → SpellsInstruction (code ∷ text) (f y)) → (g rest ≡ Some (x, after) → Said b rest x after) → cond (eqb b code) (map_at f a) g rest ≡ Some (x, after) → Said b rest x after
-operand_then Y A a f code b g rest x after ra spells = choice Instruction SpellsInstruction code b (map_at f a) g rest x after (operand Instruction SpellsInstruction Y A a f code b rest x after ra spells)
 
 -- what is read in one of two ways
 either : (t : Bool) (f g : Reader Instruction) (b : ℕ) (rest : List ℕ) (x : Instruction) (after : List ℕ) → (f rest ≡ Some (x, after) → Said b rest x after) → (g rest ≡ Some (x, after) → Said b rest x after) → cond t f g rest ≡ Some (x, after) → Said b rest x after
@@ -77,39 +66,39 @@ either false f g b rest x after yes_ no_ e = no_ e
 control_takes : (b : ℕ) (rest : List ℕ) (x : Instruction) (after : List ℕ) → control_after b rest ≡ Some (x, after) → Said b rest x after
 unfolding control_after
 control_takes b rest x after =
-    alone_then 0x00 b op.Unreachable _ rest x after ([], refl, refl) (
-    alone_then 0x01 b op.Nop _ rest x after ([], refl, refl) (
-    operand_then BlockType SpellsBlockType block_type_at op.Block 0x02 b _ rest x after reads_block_type (λ text y h. (text, h, refl)) (
-    operand_then BlockType SpellsBlockType block_type_at op.Loop 0x03 b _ rest x after reads_block_type (λ text y h. (text, h, refl)) (
-    operand_then BlockType SpellsBlockType block_type_at op.If 0x04 b _ rest x after reads_block_type (λ text y h. (text, h, refl)) (
-    alone_then 0x05 b op.Else _ rest x after ([], refl, refl) (
-    alone_then 0x0B b op.End _ rest x after ([], refl, refl) (
-    operand_then ℕ U32 u32_at op.Br 0x0C b _ rest x after reads_u32 (λ text y h. (text, h, refl)) (
-    operand_then ℕ U32 u32_at op.BrIf 0x0D b _ rest x after reads_u32 (λ text y h. (text, h, refl)) (
-    operand_then (List ℕ × ℕ) (Then (Vector U32) U32) (then_at (vector_at u32_at) u32_at) op.BrTable 0x0E b _ rest x after reads_labels (λ text y h. (text, h, refl)) (
-    alone_then 0x0F b op.Return _ rest x after ([], refl, refl) (
-    operand_then ℕ U32 u32_at op.Call 0x10 b _ rest x after reads_u32 (λ text y h. (text, h, refl)) (
-    operand_then (ℕ × Unit {0}) (Then U32 (Byte 0x00)) (then_at u32_at (byte_at 0x00)) (λ p. op.CallIndirect p.0) 0x11 b _ rest x after reads_indirect (λ text y h. (text, h, refl)) (
+    alone_then op.Unreachable 0x00 _ ([], refl, refl) (
+    alone_then op.Nop 0x01 _ ([], refl, refl) (
+    operand_then op.Block 0x02 _ reads_block_type (λ text y h. (text, h, refl)) (
+    operand_then op.Loop 0x03 _ reads_block_type (λ text y h. (text, h, refl)) (
+    operand_then op.If 0x04 _ reads_block_type (λ text y h. (text, h, refl)) (
+    alone_then op.Else 0x05 _ ([], refl, refl) (
+    alone_then op.End 0x0B _ ([], refl, refl) (
+    operand_then op.Br 0x0C _ reads_u32 (λ text y h. (text, h, refl)) (
+    operand_then op.BrIf 0x0D _ reads_u32 (λ text y h. (text, h, refl)) (
+    operand_then op.BrTable 0x0E _ reads_labels (λ text y h. (text, h, refl)) (
+    alone_then op.Return 0x0F _ ([], refl, refl) (
+    operand_then op.Call 0x10 _ reads_u32 (λ text y h. (text, h, refl)) (
+    operand_then (λ p. op.CallIndirect p.0) 0x11 _ reads_indirect (λ text y h. (text, h, refl)) (
     λ e. absurd cc)))))))))))))
 
 -- the parametric and variable instructions
 variable_takes : (b : ℕ) (rest : List ℕ) (x : Instruction) (after : List ℕ) → variable_after b rest ≡ Some (x, after) → Said b rest x after
 unfolding variable_after
 variable_takes b rest x after =
-    alone_then 0x1A b op.Drop _ rest x after ([], refl, refl) (
-    alone_then 0x1B b op.Select _ rest x after ([], refl, refl) (
-    operand_then ℕ U32 u32_at op.LocalGet 0x20 b _ rest x after reads_u32 (λ text y h. (text, h, refl)) (
-    operand_then ℕ U32 u32_at op.LocalSet 0x21 b _ rest x after reads_u32 (λ text y h. (text, h, refl)) (
-    operand_then ℕ U32 u32_at op.LocalTee 0x22 b _ rest x after reads_u32 (λ text y h. (text, h, refl)) (
-    operand_then ℕ U32 u32_at op.GlobalGet 0x23 b _ rest x after reads_u32 (λ text y h. (text, h, refl)) (
-    operand_then ℕ U32 u32_at op.GlobalSet 0x24 b _ rest x after reads_u32 (λ text y h. (text, h, refl)) (
+    alone_then op.Drop 0x1A _ ([], refl, refl) (
+    alone_then op.Select 0x1B _ ([], refl, refl) (
+    operand_then op.LocalGet 0x20 _ reads_u32 (λ text y h. (text, h, refl)) (
+    operand_then op.LocalSet 0x21 _ reads_u32 (λ text y h. (text, h, refl)) (
+    operand_then op.LocalTee 0x22 _ reads_u32 (λ text y h. (text, h, refl)) (
+    operand_then op.GlobalGet 0x23 _ reads_u32 (λ text y h. (text, h, refl)) (
+    operand_then op.GlobalSet 0x24 _ reads_u32 (λ text y h. (text, h, refl)) (
     λ e. absurd cc)))))))
 
 -- an operator by its opcode, and what its address says
 accessed : (O : Type 0) (of : ℕ → Option O) (made : O → MemArg → Instruction) (b : ℕ) (rest : List ℕ) (x : Instruction) (after : List ℕ) → ((o : O) → of b ≡ Some o → (text : List ℕ) (m : MemArg) → SpellsMemArg text m → SpellsInstruction (b ∷ text) (made o m)) → (of b >>= λ o. map_at (made o) mem_arg_at rest) ≡ Some (x, after) → Said b rest x after
 accessed O of made b rest x after spells e =
     let s = bind_some (of b) (λ o. map_at (made o) mem_arg_at rest) (x, after) e in
-    operand Instruction SpellsInstruction MemArg SpellsMemArg mem_arg_at (made s.0) b b rest x after reads_mem_arg (spells s.0 s.1) refl s.2
+    operand (made s.0) b reads_mem_arg (spells s.0 s.1) refl s.2
 
 -- the loads
 load_takes : (b : ℕ) (rest : List ℕ) (x : Instruction) (after : List ℕ) → load_after b rest ≡ Some (x, after) → Said b rest x after
@@ -125,8 +114,8 @@ store_takes b rest x after e = accessed StoreOperator store_of op.Store b rest x
 size_takes : (b : ℕ) (rest : List ℕ) (x : Instruction) (after : List ℕ) → size_after b rest ≡ Some (x, after) → Said b rest x after
 unfolding size_after
 size_takes b rest x after =
-    operand_then (Unit {0}) (Byte 0x00) (byte_at 0x00) (λ x. op.MemorySize) 0x3F b _ rest x after reads_zero (λ text y h. (text, h, refl)) (
-    operand_then (Unit {0}) (Byte 0x00) (byte_at 0x00) (λ x. op.MemoryGrow) 0x40 b _ rest x after reads_zero (λ text y h. (text, h, refl)) (
+    operand_then (λ x. op.MemorySize) 0x3F _ reads_zero (λ text y h. (text, h, refl)) (
+    operand_then (λ x. op.MemoryGrow) 0x40 _ reads_zero (λ text y h. (text, h, refl)) (
     λ e. absurd cc))
 
 -- the operators
@@ -168,9 +157,9 @@ bulk_takes rest x after e =
 after_takes : (b : ℕ) (rest : List ℕ) (x : Instruction) (after : List ℕ) → instruction_after b rest ≡ Some (x, after) → Said b rest x after
 unfolding instruction_after
 after_takes b rest x after =
-    operand_then ℕ (SpellsNumber Signed 32) s32_at op.I32Const 0x41 b _ rest x after reads_s32 (λ text y h. (text, h, refl)) (
-    operand_then ℕ (SpellsNumber Signed 64) s64_at op.I64Const 0x42 b _ rest x after reads_s64 (λ text y h. (text, h, refl)) (
-    choice Instruction SpellsInstruction 0xFC b _ _ rest x after (λ is e. subst (λ (c : ℕ). Said c rest x after) (sym is) (bulk_takes rest x after e)) (
+    operand_then op.I32Const 0x41 _ reads_s32 (λ text y h. (text, h, refl)) (
+    operand_then op.I64Const 0x42 _ reads_s64 (λ text y h. (text, h, refl)) (
+    choice 0xFC _ _ (λ is e. subst (λ (c : ℕ). Said c rest x after) (sym is) (bulk_takes rest x after e)) (
     either (ltb b 0x12) _ _ b rest x after (control_takes b rest x after) (
     either (ltb b 0x28) _ _ b rest x after (variable_takes b rest x after) (
     either (ltb b 0x36) _ _ b rest x after (load_takes b rest x after) (
@@ -197,30 +186,30 @@ again : (text : List ℕ) (x : Instruction) (rest : List ℕ) → SpellsInstruct
 unfolding instruction_at instruction_after control_after variable_after load_after store_after size_after bulk_at bulk_after numeric_after numeric_of
 again text op.Unreachable rest h = read_bare 0x00 op.Unreachable text h.0 rest (λ s. refl) h.1 h.2
 again text op.Nop rest h = read_bare 0x01 op.Nop text h.0 rest (λ s. refl) h.1 h.2
-again text (op.Block x) rest h = reread Instruction BlockType SpellsBlockType block_type_at op.Block instruction_at 0x02 text h.0 x rest reads_block_type (λ s. refl) h.2 h.1
-again text (op.Loop x) rest h = reread Instruction BlockType SpellsBlockType block_type_at op.Loop instruction_at 0x03 text h.0 x rest reads_block_type (λ s. refl) h.2 h.1
-again text (op.If x) rest h = reread Instruction BlockType SpellsBlockType block_type_at op.If instruction_at 0x04 text h.0 x rest reads_block_type (λ s. refl) h.2 h.1
+again text (op.Block x) rest h = reread op.Block instruction_at 0x02 x rest reads_block_type (λ s. refl) h.2 h.1
+again text (op.Loop x) rest h = reread op.Loop instruction_at 0x03 x rest reads_block_type (λ s. refl) h.2 h.1
+again text (op.If x) rest h = reread op.If instruction_at 0x04 x rest reads_block_type (λ s. refl) h.2 h.1
 again text op.Else rest h = read_bare 0x05 op.Else text h.0 rest (λ s. refl) h.1 h.2
 again text op.End rest h = read_bare 0x0B op.End text h.0 rest (λ s. refl) h.1 h.2
-again text (op.Br x) rest h = reread Instruction ℕ U32 u32_at op.Br instruction_at 0x0C text h.0 x rest reads_u32 (λ s. refl) h.2 h.1
-again text (op.BrIf x) rest h = reread Instruction ℕ U32 u32_at op.BrIf instruction_at 0x0D text h.0 x rest reads_u32 (λ s. refl) h.2 h.1
-again text (op.BrTable x) rest h = reread Instruction (List ℕ × ℕ) (Then (Vector U32) U32) (then_at (vector_at u32_at) u32_at) op.BrTable instruction_at 0x0E text h.0 x rest reads_labels (λ s. refl) h.2 h.1
+again text (op.Br x) rest h = reread op.Br instruction_at 0x0C x rest reads_u32 (λ s. refl) h.2 h.1
+again text (op.BrIf x) rest h = reread op.BrIf instruction_at 0x0D x rest reads_u32 (λ s. refl) h.2 h.1
+again text (op.BrTable x) rest h = reread op.BrTable instruction_at 0x0E x rest reads_labels (λ s. refl) h.2 h.1
 again text op.Return rest h = read_bare 0x0F op.Return text h.0 rest (λ s. refl) h.1 h.2
-again text (op.Call x) rest h = reread Instruction ℕ U32 u32_at op.Call instruction_at 0x10 text h.0 x rest reads_u32 (λ s. refl) h.2 h.1
-again text (op.CallIndirect x) rest h = reread Instruction (ℕ × Unit {0}) (Then U32 (Byte 0x00)) (then_at u32_at (byte_at 0x00)) (λ p. op.CallIndirect p.0) instruction_at 0x11 text h.0 (x, tt) rest reads_indirect (λ s. refl) h.2 h.1
+again text (op.Call x) rest h = reread op.Call instruction_at 0x10 x rest reads_u32 (λ s. refl) h.2 h.1
+again text (op.CallIndirect x) rest h = reread (λ p. op.CallIndirect p.0) instruction_at 0x11 (x, tt) rest reads_indirect (λ s. refl) h.2 h.1
 again text op.Drop rest h = read_bare 0x1A op.Drop text h.0 rest (λ s. refl) h.1 h.2
 again text op.Select rest h = read_bare 0x1B op.Select text h.0 rest (λ s. refl) h.1 h.2
-again text (op.LocalGet x) rest h = reread Instruction ℕ U32 u32_at op.LocalGet instruction_at 0x20 text h.0 x rest reads_u32 (λ s. refl) h.2 h.1
-again text (op.LocalSet x) rest h = reread Instruction ℕ U32 u32_at op.LocalSet instruction_at 0x21 text h.0 x rest reads_u32 (λ s. refl) h.2 h.1
-again text (op.LocalTee x) rest h = reread Instruction ℕ U32 u32_at op.LocalTee instruction_at 0x22 text h.0 x rest reads_u32 (λ s. refl) h.2 h.1
-again text (op.GlobalGet x) rest h = reread Instruction ℕ U32 u32_at op.GlobalGet instruction_at 0x23 text h.0 x rest reads_u32 (λ s. refl) h.2 h.1
-again text (op.GlobalSet x) rest h = reread Instruction ℕ U32 u32_at op.GlobalSet instruction_at 0x24 text h.0 x rest reads_u32 (λ s. refl) h.2 h.1
-again text (op.Load o x) rest h = reread Instruction MemArg SpellsMemArg mem_arg_at (op.Load o) instruction_at (load_opcode o) text h.0 x rest reads_mem_arg (load_again o) h.2 h.1
-again text (op.Store o x) rest h = reread Instruction MemArg SpellsMemArg mem_arg_at (op.Store o) instruction_at (store_opcode o) text h.0 x rest reads_mem_arg (store_again o) h.2 h.1
-again text op.MemorySize rest h = reread Instruction (Unit {0}) (Byte 0x00) (byte_at 0x00) (λ x. op.MemorySize) instruction_at 0x3F text h.0 tt rest reads_zero (λ s. refl) h.2 h.1
-again text op.MemoryGrow rest h = reread Instruction (Unit {0}) (Byte 0x00) (byte_at 0x00) (λ x. op.MemoryGrow) instruction_at 0x40 text h.0 tt rest reads_zero (λ s. refl) h.2 h.1
-again text (op.I32Const x) rest h = reread Instruction ℕ (SpellsNumber Signed 32) s32_at op.I32Const instruction_at 0x41 text h.0 x rest reads_s32 (λ s. refl) h.2 h.1
-again text (op.I64Const x) rest h = reread Instruction ℕ (SpellsNumber Signed 64) s64_at op.I64Const instruction_at 0x42 text h.0 x rest reads_s64 (λ s. refl) h.2 h.1
+again text (op.LocalGet x) rest h = reread op.LocalGet instruction_at 0x20 x rest reads_u32 (λ s. refl) h.2 h.1
+again text (op.LocalSet x) rest h = reread op.LocalSet instruction_at 0x21 x rest reads_u32 (λ s. refl) h.2 h.1
+again text (op.LocalTee x) rest h = reread op.LocalTee instruction_at 0x22 x rest reads_u32 (λ s. refl) h.2 h.1
+again text (op.GlobalGet x) rest h = reread op.GlobalGet instruction_at 0x23 x rest reads_u32 (λ s. refl) h.2 h.1
+again text (op.GlobalSet x) rest h = reread op.GlobalSet instruction_at 0x24 x rest reads_u32 (λ s. refl) h.2 h.1
+again text (op.Load o x) rest h = reread (op.Load o) instruction_at (load_opcode o) x rest reads_mem_arg (load_again o) h.2 h.1
+again text (op.Store o x) rest h = reread (op.Store o) instruction_at (store_opcode o) x rest reads_mem_arg (store_again o) h.2 h.1
+again text op.MemorySize rest h = reread (λ x. op.MemorySize) instruction_at 0x3F tt rest reads_zero (λ s. refl) h.2 h.1
+again text op.MemoryGrow rest h = reread (λ x. op.MemoryGrow) instruction_at 0x40 tt rest reads_zero (λ s. refl) h.2 h.1
+again text (op.I32Const x) rest h = reread op.I32Const instruction_at 0x41 x rest reads_s32 (λ s. refl) h.2 h.1
+again text (op.I64Const x) rest h = reread op.I64Const instruction_at 0x42 x rest reads_s64 (λ s. refl) h.2 h.1
 again text op.MemoryCopy rest h =
     let p = h.1 in
     let whole : text ++ rest ≡ 0xFC ∷ (p.0 ++ (p.1 ++ rest)) = rw (h.2, p.4) (simp append_assoc) in

@@ -1,5 +1,13 @@
 -- The module of sections, by its parts.
 use Rattle.std.proofs.Common.{◌≡◌, ◌∙◌, ℕ, List, [], Option, Some, None, unwrap_or, refl, sym, ap}
+use Rattle.wasm_module.specs.declared.module.FuncType.{FuncType}
+use Rattle.wasm_module.specs.declared.module.Limits.{Limits}
+use Rattle.wasm_module.specs.declared.module.Import.{Import}
+use Rattle.wasm_module.specs.declared.module.Export.{Export}
+use Rattle.wasm_module.specs.declared.module.GlobalEntry.{GlobalEntry}
+use Rattle.wasm_module.specs.declared.module.ElementSegment.{ElementSegment}
+use Rattle.wasm_module.specs.declared.module.Body.{Body}
+use Rattle.wasm_module.specs.declared.module.DataSegment.{DataSegment}
 use Rattle.wasm_module.specs.Module.{module_of}
 use Rattle.wasm_module.specs.internal.TypesReading.{func_type_at, limits_at, table_at}
 use Rattle.wasm_module.specs.internal.ModuleReading.{import_at, global_at, export_at, elements_at, body_at, data_at, Held, sections_of, sections_at, module_and_count, list_at, code_parts_at, start_parts_at, link_parts_at, storage_parts_at, Parts, parts_at, decoded_of}
@@ -47,10 +55,13 @@ both {X} {Y} {U} {V} {f} {g} {a} {c} {b} {d} first second = record { at = λ byt
   by_first None = refl
   by_first (Some x) = rw (second.at x.1) (by_second x.0 (b x.1))
 
--- the reader of all sections
-abbrev held_at : Reader Held
-held_at =
-    then_at customs_at (
+-- what the sections that have a place in the order hold
+abbrev pub HeldInOrder : Type 0
+HeldInOrder = Option (List FuncType) × (Option (List Import) × (Option (List ℕ) × (Option (List Limits) × (Option (List Limits) × (Option (List GlobalEntry) × (Option (List Export) × (Option ℕ × (Option (List ElementSegment) × (Option ℕ × (Option (List Body) × (Option (List DataSegment))))))))))))
+
+-- their reader
+abbrev pub in_order : Reader HeldInOrder
+in_order =
     then_at (section_at 1 (whole (vector_at func_type_at))) (
     then_at (section_at 2 (whole (vector_at import_at))) (
     then_at (section_at 3 (whole (vector_at u32_at))) (
@@ -62,7 +73,11 @@ held_at =
     then_at (section_at 9 (whole (vector_at elements_at))) (
     then_at (section_at 12 (whole u32_at)) (
     then_at (section_at 10 (whole (vector_at body_at)))
-    (section_at 11 (whole (vector_at data_at))))))))))))))
+    (section_at 11 (whole (vector_at data_at)))))))))))))
+
+-- the reader of all sections
+abbrev pub held_at : Reader Held
+held_at = then_at customs_at in_order
 
 -- what the sections hold; one that is absent is empty
 abbrev parts_of : Held → Parts

@@ -6,26 +6,20 @@ use Rattle.std.proofs.lemmas.List.{append-nil, nil_from_length}
 use Rattle.wasm_module.specs.declared.fault.LoadFault.{LoadFault}
 use Rattle.wasm_module.specs.declared.fault.LoadFault.TheVariants as faults
 use Rattle.wasm_module.specs.declared.module.FuncType.{FuncType}
-use Rattle.wasm_module.specs.declared.module.Limits.{Limits}
-use Rattle.wasm_module.specs.declared.module.Import.{Import}
-use Rattle.wasm_module.specs.declared.module.Export.{Export}
-use Rattle.wasm_module.specs.declared.module.GlobalEntry.{GlobalEntry}
-use Rattle.wasm_module.specs.declared.module.ElementSegment.{ElementSegment}
 use Rattle.wasm_module.specs.declared.module.Body.{Body}
-use Rattle.wasm_module.specs.declared.module.DataSegment.{DataSegment}
 use Rattle.wasm_module.specs.declared.module.Module.{Module}
 use Rattle.wasm_module.specs.Grammar.{Then, U32, Vector, Sized}
 use Rattle.wasm_module.specs.Types.{SpellsFuncType, SpellsLimits, SpellsTable}
 use Rattle.wasm_module.specs.Sections.{Customs, Section, SpellsImport, SpellsGlobal, SpellsExport, SpellsElements, BodyContent, SpellsData}
 use Rattle.wasm_module.specs.Module.{Sections, SpellsSections, SpellsParts, Spells, CountsAgree, FitsProfile, module_of}
-use Rattle.wasm_module.specs.internal.TypesReading.{func_type_at, limits_at, table_at}
-use Rattle.wasm_module.specs.internal.ModuleReading.{import_at, global_at, export_at, elements_at, body_at, data_at, preamble_at, Held, sections_of, sections_at, is_few, fits_profile, is_counted, counts_agree, module_and_count, module_from}
-use Rattle.wasm_module.specs.internal.Reading.{◌>>=◌, Gives, Reader, then_at, byte_at, map_at, u32_at, vector_at, whole, customs_at, section_at}
-use Rattle.wasm_module.proofs.Laws.{bind_some, guard_some, some_is, Front, ReadsWhole}
+use Rattle.wasm_module.specs.internal.ModuleReading.{preamble_at, Held, sections_of, sections_at, is_few, fits_profile, is_counted, counts_agree, module_and_count, module_from}
+use Rattle.wasm_module.specs.internal.Reading.{◌>>=◌, Gives, Reader, byte_at, map_at, vector_at, whole, customs_at, section_at}
+use Rattle.wasm_module.proofs.Laws.{bind_some, guard_some, some_is, Front, Reads}
 use Rattle.wasm_module.proofs.Combine.{then_takes, reads_byte, reads_u32, reads_vector, reads_whole}
 use Rattle.wasm_module.proofs.TypeLaws.{reads_func_type, reads_limits, reads_table}
 use Rattle.wasm_module.proofs.PartLaws.{reads_import, reads_global, reads_export, reads_elements, reads_body, reads_data}
-use Rattle.wasm_module.proofs.Sections.{customs_take, customs_reread, Past-nil, ReadsSections, one_section, sections_then}
+use Rattle.wasm_module.proofs.Sections.{customs_take, customs_reread, Past-nil, is_new, ReadsSections, one_section, sections_then}
+use Rattle.wasm_module.proofs.ModuleOf.{HeldInOrder, in_order, held_at}
 
 -- ---- the preamble
 
@@ -62,225 +56,45 @@ preamble_again rest = refl
 
 -- ---- sections
 
--- the laws of what fills each section
-fills_1 : ReadsWhole (List FuncType) (Vector SpellsFuncType) (whole (vector_at func_type_at))
-fills_1 = reads_whole (List FuncType) (Vector SpellsFuncType) (vector_at func_type_at) (reads_vector FuncType SpellsFuncType func_type_at reads_func_type)
-
-fills_2 : ReadsWhole (List Import) (Vector SpellsImport) (whole (vector_at import_at))
-fills_2 = reads_whole (List Import) (Vector SpellsImport) (vector_at import_at) (reads_vector Import SpellsImport import_at reads_import)
-
-fills_3 : ReadsWhole (List ℕ) (Vector U32) (whole (vector_at u32_at))
-fills_3 = reads_whole (List ℕ) (Vector U32) (vector_at u32_at) (reads_vector ℕ U32 u32_at reads_u32)
-
-fills_4 : ReadsWhole (List Limits) (Vector SpellsTable) (whole (vector_at table_at))
-fills_4 = reads_whole (List Limits) (Vector SpellsTable) (vector_at table_at) (reads_vector Limits SpellsTable table_at reads_table)
-
-fills_5 : ReadsWhole (List Limits) (Vector SpellsLimits) (whole (vector_at limits_at))
-fills_5 = reads_whole (List Limits) (Vector SpellsLimits) (vector_at limits_at) (reads_vector Limits SpellsLimits limits_at reads_limits)
-
-fills_6 : ReadsWhole (List GlobalEntry) (Vector SpellsGlobal) (whole (vector_at global_at))
-fills_6 = reads_whole (List GlobalEntry) (Vector SpellsGlobal) (vector_at global_at) (reads_vector GlobalEntry SpellsGlobal global_at reads_global)
-
-fills_7 : ReadsWhole (List Export) (Vector SpellsExport) (whole (vector_at export_at))
-fills_7 = reads_whole (List Export) (Vector SpellsExport) (vector_at export_at) (reads_vector Export SpellsExport export_at reads_export)
-
-fills_8 : ReadsWhole ℕ U32 (whole u32_at)
-fills_8 = reads_whole ℕ U32 u32_at reads_u32
-
-fills_9 : ReadsWhole (List ElementSegment) (Vector SpellsElements) (whole (vector_at elements_at))
-fills_9 = reads_whole (List ElementSegment) (Vector SpellsElements) (vector_at elements_at) (reads_vector ElementSegment SpellsElements elements_at reads_elements)
-
-fills_12 : ReadsWhole ℕ U32 (whole u32_at)
-fills_12 = reads_whole ℕ U32 u32_at reads_u32
-
-fills_10 : ReadsWhole (List Body) (Vector (Sized BodyContent)) (whole (vector_at body_at))
-fills_10 = reads_whole (List Body) (Vector (Sized BodyContent)) (vector_at body_at) (reads_vector Body (Sized BodyContent) body_at reads_body)
-
-fills_11 : ReadsWhole (List DataSegment) (Vector SpellsData) (whole (vector_at data_at))
-fills_11 = reads_whole (List DataSegment) (Vector SpellsData) (vector_at data_at) (reads_vector DataSegment SpellsData data_at reads_data)
-
--- the ids up to each section
-abbrev through_1 : List ℕ
-through_1 = 1 ∷ []
-
-abbrev through_2 : List ℕ
-through_2 = 2 ∷ through_1
-
-abbrev through_3 : List ℕ
-through_3 = 3 ∷ through_2
-
-abbrev through_4 : List ℕ
-through_4 = 4 ∷ through_3
-
-abbrev through_5 : List ℕ
-through_5 = 5 ∷ through_4
-
-abbrev through_6 : List ℕ
-through_6 = 6 ∷ through_5
-
-abbrev through_7 : List ℕ
-through_7 = 7 ∷ through_6
-
-abbrev through_8 : List ℕ
-through_8 = 8 ∷ through_7
-
-abbrev through_9 : List ℕ
-through_9 = 9 ∷ through_8
-
-abbrev through_12 : List ℕ
-through_12 = 12 ∷ through_9
-
-abbrev through_10 : List ℕ
-through_10 = 10 ∷ through_12
-
-abbrev through_11 : List ℕ
-through_11 = 11 ∷ through_10
-
--- from a section on: what is held, its spelling and its reader
-
-abbrev Held11 : Type 0
-Held11 = Option (List DataSegment)
-
-abbrev Spells11 : List ℕ → Held11 → Type 0
-Spells11 = Section 11 (Vector SpellsData)
-
-abbrev from_11 : Reader Held11
-from_11 = section_at 11 (whole (vector_at data_at))
-
-reads_11 : ReadsSections through_10 through_11 Held11 Spells11 from_11
-reads_11 = one_section through_10 11 (List DataSegment) (Vector SpellsData) (whole (vector_at data_at)) refl fills_11
-
-abbrev Held10 : Type 0
-Held10 = Option (List Body) × Held11
-
-abbrev Spells10 : List ℕ → Held10 → Type 0
-Spells10 = Then (Section 10 (Vector (Sized BodyContent))) Spells11
-
-abbrev from_10 : Reader Held10
-from_10 = then_at (section_at 10 (whole (vector_at body_at))) from_11
-
-reads_10 : ReadsSections through_12 through_11 Held10 Spells10 from_10
-reads_10 = sections_then through_12 through_10 through_11 (Option (List Body)) Held11 (Section 10 (Vector (Sized BodyContent))) Spells11 (section_at 10 (whole (vector_at body_at))) from_11 (one_section through_12 10 (List Body) (Vector (Sized BodyContent)) (whole (vector_at body_at)) refl fills_10) reads_11
-
-abbrev Held12 : Type 0
-Held12 = Option ℕ × Held10
-
-abbrev Spells12 : List ℕ → Held12 → Type 0
-Spells12 = Then (Section 12 U32) Spells10
-
-abbrev from_12 : Reader Held12
-from_12 = then_at (section_at 12 (whole u32_at)) from_10
-
-reads_12 : ReadsSections through_9 through_11 Held12 Spells12 from_12
-reads_12 = sections_then through_9 through_12 through_11 (Option ℕ) Held10 (Section 12 U32) Spells10 (section_at 12 (whole u32_at)) from_10 (one_section through_9 12 ℕ U32 (whole u32_at) refl fills_12) reads_10
-
-abbrev Held9 : Type 0
-Held9 = Option (List ElementSegment) × Held12
-
-abbrev Spells9 : List ℕ → Held9 → Type 0
-Spells9 = Then (Section 9 (Vector SpellsElements)) Spells12
-
-abbrev from_9 : Reader Held9
-from_9 = then_at (section_at 9 (whole (vector_at elements_at))) from_12
-
-reads_9 : ReadsSections through_8 through_11 Held9 Spells9 from_9
-reads_9 = sections_then through_8 through_9 through_11 (Option (List ElementSegment)) Held12 (Section 9 (Vector SpellsElements)) Spells12 (section_at 9 (whole (vector_at elements_at))) from_12 (one_section through_8 9 (List ElementSegment) (Vector SpellsElements) (whole (vector_at elements_at)) refl fills_9) reads_12
-
-abbrev Held8 : Type 0
-Held8 = Option ℕ × Held9
-
-abbrev Spells8 : List ℕ → Held8 → Type 0
-Spells8 = Then (Section 8 U32) Spells9
-
-abbrev from_8 : Reader Held8
-from_8 = then_at (section_at 8 (whole u32_at)) from_9
-
-reads_8 : ReadsSections through_7 through_11 Held8 Spells8 from_8
-reads_8 = sections_then through_7 through_8 through_11 (Option ℕ) Held9 (Section 8 U32) Spells9 (section_at 8 (whole u32_at)) from_9 (one_section through_7 8 ℕ U32 (whole u32_at) refl fills_8) reads_9
-
-abbrev Held7 : Type 0
-Held7 = Option (List Export) × Held8
-
-abbrev Spells7 : List ℕ → Held7 → Type 0
-Spells7 = Then (Section 7 (Vector SpellsExport)) Spells8
-
-abbrev from_7 : Reader Held7
-from_7 = then_at (section_at 7 (whole (vector_at export_at))) from_8
-
-reads_7 : ReadsSections through_6 through_11 Held7 Spells7 from_7
-reads_7 = sections_then through_6 through_7 through_11 (Option (List Export)) Held8 (Section 7 (Vector SpellsExport)) Spells8 (section_at 7 (whole (vector_at export_at))) from_8 (one_section through_6 7 (List Export) (Vector SpellsExport) (whole (vector_at export_at)) refl fills_7) reads_8
-
-abbrev Held6 : Type 0
-Held6 = Option (List GlobalEntry) × Held7
-
-abbrev Spells6 : List ℕ → Held6 → Type 0
-Spells6 = Then (Section 6 (Vector SpellsGlobal)) Spells7
-
-abbrev from_6 : Reader Held6
-from_6 = then_at (section_at 6 (whole (vector_at global_at))) from_7
-
-reads_6 : ReadsSections through_5 through_11 Held6 Spells6 from_6
-reads_6 = sections_then through_5 through_6 through_11 (Option (List GlobalEntry)) Held7 (Section 6 (Vector SpellsGlobal)) Spells7 (section_at 6 (whole (vector_at global_at))) from_7 (one_section through_5 6 (List GlobalEntry) (Vector SpellsGlobal) (whole (vector_at global_at)) refl fills_6) reads_7
-
-abbrev Held5 : Type 0
-Held5 = Option (List Limits) × Held6
-
-abbrev Spells5 : List ℕ → Held5 → Type 0
-Spells5 = Then (Section 5 (Vector SpellsLimits)) Spells6
-
-abbrev from_5 : Reader Held5
-from_5 = then_at (section_at 5 (whole (vector_at limits_at))) from_6
-
-reads_5 : ReadsSections through_4 through_11 Held5 Spells5 from_5
-reads_5 = sections_then through_4 through_5 through_11 (Option (List Limits)) Held6 (Section 5 (Vector SpellsLimits)) Spells6 (section_at 5 (whole (vector_at limits_at))) from_6 (one_section through_4 5 (List Limits) (Vector SpellsLimits) (whole (vector_at limits_at)) refl fills_5) reads_6
-
-abbrev Held4 : Type 0
-Held4 = Option (List Limits) × Held5
-
-abbrev Spells4 : List ℕ → Held4 → Type 0
-Spells4 = Then (Section 4 (Vector SpellsTable)) Spells5
-
-abbrev from_4 : Reader Held4
-from_4 = then_at (section_at 4 (whole (vector_at table_at))) from_5
-
-reads_4 : ReadsSections through_3 through_11 Held4 Spells4 from_4
-reads_4 = sections_then through_3 through_4 through_11 (Option (List Limits)) Held5 (Section 4 (Vector SpellsTable)) Spells5 (section_at 4 (whole (vector_at table_at))) from_5 (one_section through_3 4 (List Limits) (Vector SpellsTable) (whole (vector_at table_at)) refl fills_4) reads_5
-
-abbrev Held3 : Type 0
-Held3 = Option (List ℕ) × Held4
-
-abbrev Spells3 : List ℕ → Held3 → Type 0
-Spells3 = Then (Section 3 (Vector U32)) Spells4
-
-abbrev from_3 : Reader Held3
-from_3 = then_at (section_at 3 (whole (vector_at u32_at))) from_4
-
-reads_3 : ReadsSections through_2 through_11 Held3 Spells3 from_3
-reads_3 = sections_then through_2 through_3 through_11 (Option (List ℕ)) Held4 (Section 3 (Vector U32)) Spells4 (section_at 3 (whole (vector_at u32_at))) from_4 (one_section through_2 3 (List ℕ) (Vector U32) (whole (vector_at u32_at)) refl fills_3) reads_4
-
-abbrev Held2 : Type 0
-Held2 = Option (List Import) × Held3
-
-abbrev Spells2 : List ℕ → Held2 → Type 0
-Spells2 = Then (Section 2 (Vector SpellsImport)) Spells3
-
-abbrev from_2 : Reader Held2
-from_2 = then_at (section_at 2 (whole (vector_at import_at))) from_3
-
-reads_2 : ReadsSections through_1 through_11 Held2 Spells2 from_2
-reads_2 = sections_then through_1 through_2 through_11 (Option (List Import)) Held3 (Section 2 (Vector SpellsImport)) Spells3 (section_at 2 (whole (vector_at import_at))) from_3 (one_section through_1 2 (List Import) (Vector SpellsImport) (whole (vector_at import_at)) refl fills_2) reads_3
-
-abbrev Held1 : Type 0
-Held1 = Option (List FuncType) × Held2
-
-abbrev Spells1 : List ℕ → Held1 → Type 0
-Spells1 = Then (Section 1 (Vector SpellsFuncType)) Spells2
-
-abbrev from_1 : Reader Held1
-from_1 = then_at (section_at 1 (whole (vector_at func_type_at))) from_2
-
-reads_1 : ReadsSections [] through_11 Held1 Spells1 from_1
-reads_1 = sections_then [] through_1 through_11 (Option (List FuncType)) Held2 (Section 1 (Vector SpellsFuncType)) Spells2 (section_at 1 (whole (vector_at func_type_at))) from_2 (one_section [] 1 (List FuncType) (Vector SpellsFuncType) (whole (vector_at func_type_at)) refl fills_1) reads_2
+-- the spellings of the sections that have a place in the order
+abbrev InOrder : List ℕ → HeldInOrder → Type 0
+InOrder =
+    Then (Section 1 (Vector SpellsFuncType)) (
+    Then (Section 2 (Vector SpellsImport)) (
+    Then (Section 3 (Vector U32)) (
+    Then (Section 4 (Vector SpellsTable)) (
+    Then (Section 5 (Vector SpellsLimits)) (
+    Then (Section 6 (Vector SpellsGlobal)) (
+    Then (Section 7 (Vector SpellsExport)) (
+    Then (Section 8 U32) (
+    Then (Section 9 (Vector SpellsElements)) (
+    Then (Section 12 U32) (
+    Then (Section 10 (Vector (Sized BodyContent)))
+    (Section 11 (Vector SpellsData))))))))))))
+
+-- the ids of these sections, the last first
+abbrev ids : List ℕ
+ids = 11 ∷ 10 ∷ 12 ∷ 9 ∷ 8 ∷ 7 ∷ 6 ∷ 5 ∷ 4 ∷ 3 ∷ 2 ∷ 1 ∷ []
+
+-- a section with this id that is a vector
+vector_section : {before : List ℕ} {X : Type 0} {A : List ℕ → X → Type 0} {a : Reader X} (id : ℕ) → is_new id (0 ∷ before) ≡ true → Reads X A a → ReadsSections before (id ∷ before) (Option (List X)) (Section id (Vector A)) (section_at id (whole (vector_at a)))
+vector_section id new ra = one_section id new (reads_whole (reads_vector ra))
+
+-- the laws of these sections
+reads_in_order : ReadsSections [] ids HeldInOrder InOrder in_order
+reads_in_order =
+    sections_then (vector_section 1 refl reads_func_type) (
+    sections_then (vector_section 2 refl reads_import) (
+    sections_then (vector_section 3 refl reads_u32) (
+    sections_then (vector_section 4 refl reads_table) (
+    sections_then (vector_section 5 refl reads_limits) (
+    sections_then (vector_section 6 refl reads_global) (
+    sections_then (vector_section 7 refl reads_export) (
+    sections_then (one_section 8 refl (reads_whole reads_u32)) (
+    sections_then (vector_section 9 refl reads_elements) (
+    sections_then (one_section 12 refl (reads_whole reads_u32)) (
+    sections_then (vector_section 10 refl reads_body)
+    (vector_section 11 refl reads_data)))))))))))
 
 -- ---- all sections
 
@@ -290,22 +104,18 @@ customs_front bytes x rest e = let c = customs_take bytes x rest e in record { t
 
 -- custom sections, and the others in their order
 abbrev AllSections : List ℕ → Held → Type 0
-AllSections = Then (λ text x. Customs text) Spells1
-
--- the reader of all sections
-abbrev all_sections : Reader Held
-all_sections = then_at customs_at from_1
+AllSections = Then (λ text x. Customs text) InOrder
 
 -- sections that are read are spelled so
-all_sections_take : (bytes : List ℕ) (x : Held) (rest : List ℕ) → all_sections bytes ≡ Some (x, rest) → Front Held AllSections bytes x rest
-all_sections_take = then_takes (Unit {0}) Held1 (λ text x. Customs text) Spells1 customs_at from_1 customs_front reads_1.takes
+all_sections_take : (bytes : List ℕ) (x : Held) (rest : List ℕ) → held_at bytes ≡ Some (x, rest) → Front Held AllSections bytes x rest
+all_sections_take = then_takes customs_front reads_in_order.takes
 
 -- sections that are spelled so are read
-all_sections_again : (text : List ℕ) (x : Held) → AllSections text x → all_sections text ≡ Some (x, [])
+all_sections_again : (text : List ℕ) (x : Held) → AllSections text x → held_at text ≡ Some (x, [])
 all_sections_again text x h =
-    let stop = (reads_1.past h.1 x.1 [] (Past-nil through_11) h.3).no_custom in
+    let stop = (reads_in_order.past h.1 x.1 [] (Past-nil ids) h.3).no_custom in
     let regrouped : text ≡ h.0 ++ (h.1 ++ []) = rw (append-nil h.1) h.4 in
-    rw (regrouped, customs_reread h.0 (h.1 ++ []) stop h.2, reads_1.again h.1 x.1 [] (Past-nil through_11) h.3) refl
+    rw (regrouped, customs_reread h.0 (h.1 ++ []) stop h.2, reads_in_order.again h.1 x.1 [] (Past-nil ids) h.3) refl
 
 -- the sections as they are spelled
 sections_are : (text : List ℕ) (x : Held) → AllSections text x → SpellsSections text (sections_of x)
@@ -357,25 +167,13 @@ held s = (tt, (s.types, (s.imports, (s.functions, (s.tables, (s.memories, (s.glo
 
 -- the sections are spelled one after the other
 sections_back : (text : List ℕ) (s : Sections) → SpellsSections text s → AllSections text (held s)
-sections_back text s h =
-    let rest10 = h.bodies ++ h.data_segments in
-    let rest12 = h.data_count ++ rest10 in
-    let rest9 = h.element_segments ++ rest12 in
-    let rest8 = h.start ++ rest9 in
-    let rest7 = h.exports ++ rest8 in
-    let rest6 = h.globals ++ rest7 in
-    let rest5 = h.memories ++ rest6 in
-    let rest4 = h.tables ++ rest5 in
-    let rest3 = h.functions ++ rest4 in
-    let rest2 = h.imports ++ rest3 in
-    let rest1 = h.types ++ rest2 in
-    (h.customs, rest1, h.customs_are, (h.types, rest2, h.types_are, (h.imports, rest3, h.imports_are, (h.functions, rest4, h.functions_are, (h.tables, rest5, h.tables_are, (h.memories, rest6, h.memories_are, (h.globals, rest7, h.globals_are, (h.exports, rest8, h.exports_are, (h.start, rest9, h.start_is, (h.element_segments, rest12, h.element_segments_are, (h.data_count, rest10, h.data_count_is, (h.bodies, h.data_segments, h.bodies_are, h.data_segments_are, refl), refl), refl), refl), refl), refl), refl), refl), refl), refl), refl), h.text_is)
+sections_back text s h = (h.customs, _, h.customs_are, (h.types, _, h.types_are, (h.imports, _, h.imports_are, (h.functions, _, h.functions_are, (h.tables, _, h.tables_are, (h.memories, _, h.memories_are, (h.globals, _, h.globals_are, (h.exports, _, h.exports_are, (h.start, _, h.start_is, (h.element_segments, _, h.element_segments_are, (h.data_count, _, h.data_count_is, (h.bodies, h.data_segments, h.bodies_are, h.data_segments_are, refl), refl), refl), refl), refl), refl), refl), refl), refl), refl), refl), h.text_is)
 
 -- the sections that are read
 sections_take : (bytes : List ℕ) (s : Sections) (rest : List ℕ) → sections_at bytes ≡ Some (s, rest) → Front Sections SpellsSections bytes s rest
 unfolding sections_at
 sections_take bytes s rest e =
-    let q = bind_some (all_sections bytes) (λ u. Some (sections_of u.0, u.1)) (s, rest) e in
+    let q = bind_some (held_at bytes) (λ u. Some (sections_of u.0, u.1)) (s, rest) e in
     let f = all_sections_take bytes q.0.0 q.0.1 q.1 in
     let here : Front Sections SpellsSections bytes (sections_of q.0.0) q.0.1 = record { text = f.text; spells = sections_are f.text q.0.0 f.spells; parts = f.parts } in
     subst (λ (p : Sections × List ℕ). Front Sections SpellsSections bytes p.0 p.1) (some_is (sections_of q.0.0, q.0.1) (s, rest) q.2) here

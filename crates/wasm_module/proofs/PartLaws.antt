@@ -1,9 +1,6 @@
 -- The laws of the parts of sections.
 use Rattle.std.proofs.Common.{◌≡◌, ℕ, List, [], ◌∷◌, ◌++◌, Some, refl, ap, subst}
-use Rattle.wasm_module.specs.declared.instruction.ValueType.{ValueType}
 use Rattle.wasm_module.specs.declared.instruction.Instruction.{Instruction}
-use Rattle.wasm_module.specs.declared.module.Limits.{Limits}
-use Rattle.wasm_module.specs.declared.module.GlobalType.{GlobalType}
 use Rattle.wasm_module.specs.declared.module.ImportKind.{ImportKind}
 use Rattle.wasm_module.specs.declared.module.ImportKind.TheVariants as imported
 use Rattle.wasm_module.specs.declared.module.Import.{Import}
@@ -15,16 +12,15 @@ use Rattle.wasm_module.specs.declared.module.ElementSegment.{ElementSegment}
 use Rattle.wasm_module.specs.declared.module.Locals.{Locals}
 use Rattle.wasm_module.specs.declared.module.Body.{Body}
 use Rattle.wasm_module.specs.declared.module.DataSegment.{DataSegment}
-use Rattle.wasm_module.specs.Grammar.{Then, U32, Vector, Sized, Raw, SpellsName}
-use Rattle.wasm_module.specs.Types.{SpellsValueType, SpellsLimits, SpellsTable, SpellsGlobalType}
+use Rattle.wasm_module.specs.Grammar.{Then, U32, Vector, Sized}
+use Rattle.wasm_module.specs.Types.{SpellsLimits, SpellsTable, SpellsGlobalType}
 use Rattle.wasm_module.specs.Instructions.{SpellsExpression}
 use Rattle.wasm_module.specs.Sections.{SpellsImportKind, SpellsImport, SpellsGlobal, SpellsExportKind, SpellsExport, SpellsElements, SpellsLocals, BodyContent, SpellsData}
-use Rattle.wasm_module.specs.internal.TypesReading.{value_type_at, limits_at, table_at, global_type_at}
 use Rattle.wasm_module.specs.internal.CodeReading.{code_at}
 use Rattle.wasm_module.specs.internal.ModuleReading.{import_after, import_kind_at, import_at, global_at, export_after, export_kind_at, export_at, elements_at, locals_at, body_of, body_at, data_at}
-use Rattle.wasm_module.specs.internal.Reading.{then_at, u32_at, vector_at, whole, sized_at, raw_of, name_at}
+use Rattle.wasm_module.specs.internal.Reading.{then_at, vector_at, whole}
 use Rattle.wasm_module.proofs.Laws.{bind_some, some_is, Front, Reads, ReadsWhole}
-use Rattle.wasm_module.proofs.Combine.{reads_then, reads_as, reads_u32, reads_vector, reads_whole, reads_sized, reads_raw, reads_name, choice, operand, reread, tagged, untagged}
+use Rattle.wasm_module.proofs.Combine.{reads_then, reads_as, reads_u32, reads_vector, reads_whole, reads_sized, reads_raw, reads_name, operand_then, reread, tagged, untagged}
 use Rattle.wasm_module.proofs.TypeLaws.{reads_value_type, reads_limits, reads_table, reads_global_type}
 use Rattle.wasm_module.proofs.Nesting.{reads_code}
 
@@ -35,19 +31,19 @@ imports_take : (bytes : List ℕ) (x : ImportKind) (rest : List ℕ) → import_
 unfolding import_kind_at import_after
 imports_take [] x rest e = absurd cc
 imports_take (b ∷ bs) x rest e =
-    choice ImportKind SpellsImportKind 0x00 b _ _ bs x rest (operand ImportKind SpellsImportKind ℕ U32 u32_at imported.Function 0x00 b bs x rest reads_u32 (λ text y h. tagged U32 0x00 text y h)) (
-    choice ImportKind SpellsImportKind 0x01 b _ _ bs x rest (operand ImportKind SpellsImportKind Limits SpellsTable table_at imported.Table 0x01 b bs x rest reads_table (λ text y h. tagged SpellsTable 0x01 text y h)) (
-    choice ImportKind SpellsImportKind 0x02 b _ _ bs x rest (operand ImportKind SpellsImportKind Limits SpellsLimits limits_at imported.Memory 0x02 b bs x rest reads_limits (λ text y h. tagged SpellsLimits 0x02 text y h)) (
-    choice ImportKind SpellsImportKind 0x03 b _ _ bs x rest (operand ImportKind SpellsImportKind GlobalType SpellsGlobalType global_type_at imported.Global 0x03 b bs x rest reads_global_type (λ text y h. tagged SpellsGlobalType 0x03 text y h)) (
+    operand_then imported.Function 0x00 _ reads_u32 (tagged U32 0x00) (
+    operand_then imported.Table 0x01 _ reads_table (tagged SpellsTable 0x01) (
+    operand_then imported.Memory 0x02 _ reads_limits (tagged SpellsLimits 0x02) (
+    operand_then imported.Global 0x03 _ reads_global_type (tagged SpellsGlobalType 0x03) (
     λ e. absurd cc)))) e
 
 -- a kind of import that is spelled so is read
 imports_again : (text : List ℕ) (x : ImportKind) (rest : List ℕ) → SpellsImportKind text x → import_kind_at (text ++ rest) ≡ Some (x, rest)
 unfolding import_kind_at import_after
-imports_again text (imported.Function x) rest h = reread ImportKind ℕ U32 u32_at imported.Function import_kind_at 0x00 text h.1 x rest reads_u32 (λ s. refl) (untagged U32 0x00 text x h) h.3
-imports_again text (imported.Table x) rest h = reread ImportKind Limits SpellsTable table_at imported.Table import_kind_at 0x01 text h.1 x rest reads_table (λ s. refl) (untagged SpellsTable 0x01 text x h) h.3
-imports_again text (imported.Memory x) rest h = reread ImportKind Limits SpellsLimits limits_at imported.Memory import_kind_at 0x02 text h.1 x rest reads_limits (λ s. refl) (untagged SpellsLimits 0x02 text x h) h.3
-imports_again text (imported.Global x) rest h = reread ImportKind GlobalType SpellsGlobalType global_type_at imported.Global import_kind_at 0x03 text h.1 x rest reads_global_type (λ s. refl) (untagged SpellsGlobalType 0x03 text x h) h.3
+imports_again text (imported.Function x) rest h = reread imported.Function import_kind_at 0x00 x rest reads_u32 (λ s. refl) (untagged U32 0x00 text x h) h.3
+imports_again text (imported.Table x) rest h = reread imported.Table import_kind_at 0x01 x rest reads_table (λ s. refl) (untagged SpellsTable 0x01 text x h) h.3
+imports_again text (imported.Memory x) rest h = reread imported.Memory import_kind_at 0x02 x rest reads_limits (λ s. refl) (untagged SpellsLimits 0x02 text x h) h.3
+imports_again text (imported.Global x) rest h = reread imported.Global import_kind_at 0x03 x rest reads_global_type (λ s. refl) (untagged SpellsGlobalType 0x03 text x h) h.3
 
 -- kinds of imports
 reads_import_kind : Reads ImportKind SpellsImportKind import_kind_at
@@ -56,16 +52,14 @@ reads_import_kind = record { takes = imports_take; again = imports_again }
 -- imports
 pub reads_import : Reads Import SpellsImport import_at
 unfolding import_at
-reads_import =
-    let parts = reads_then (List ℕ) (List ℕ × ImportKind) SpellsName (Then SpellsName SpellsImportKind) name_at (then_at name_at import_kind_at) reads_name (reads_then (List ℕ) ImportKind SpellsName SpellsImportKind name_at import_kind_at reads_name reads_import_kind) in
-    reads_as (List ℕ × (List ℕ × ImportKind)) Import (Then SpellsName (Then SpellsName SpellsImportKind)) (then_at name_at (then_at name_at import_kind_at)) (λ p. record { module_name = p.0; name = p.1.0; kind = p.1.1 }) (λ i. (i.module_name, (i.name, i.kind))) (λ p. refl) (λ i. refl) parts
+reads_import = reads_as (reads_then reads_name (reads_then reads_name reads_import_kind)) (λ p. record { module_name = p.0; name = p.1.0; kind = p.1.1 }) (λ i. (i.module_name, (i.name, i.kind))) (λ p. refl) (λ i. refl)
 
 -- ---- globals
 
 -- globals with their initial values
 pub reads_global : Reads GlobalEntry SpellsGlobal global_at
 unfolding global_at
-reads_global = reads_as (GlobalType × List Instruction) GlobalEntry (Then SpellsGlobalType SpellsExpression) (then_at global_type_at code_at) (λ p. record { global_type = p.0; init = p.1 }) (λ g. (g.global_type, g.init)) (λ p. refl) (λ g. refl) (reads_then GlobalType (List Instruction) SpellsGlobalType SpellsExpression global_type_at code_at reads_global_type reads_code)
+reads_global = reads_as (reads_then reads_global_type reads_code) (λ p. record { global_type = p.0; init = p.1 }) (λ g. (g.global_type, g.init)) (λ p. refl) (λ g. refl)
 
 -- ---- exports
 
@@ -74,19 +68,19 @@ exports_take : (bytes : List ℕ) (x : ExportKind) (rest : List ℕ) → export_
 unfolding export_kind_at export_after
 exports_take [] x rest e = absurd cc
 exports_take (b ∷ bs) x rest e =
-    choice ExportKind SpellsExportKind 0x00 b _ _ bs x rest (operand ExportKind SpellsExportKind ℕ U32 u32_at exported.Function 0x00 b bs x rest reads_u32 (λ text y h. tagged U32 0x00 text y h)) (
-    choice ExportKind SpellsExportKind 0x01 b _ _ bs x rest (operand ExportKind SpellsExportKind ℕ U32 u32_at exported.Table 0x01 b bs x rest reads_u32 (λ text y h. tagged U32 0x01 text y h)) (
-    choice ExportKind SpellsExportKind 0x02 b _ _ bs x rest (operand ExportKind SpellsExportKind ℕ U32 u32_at exported.Memory 0x02 b bs x rest reads_u32 (λ text y h. tagged U32 0x02 text y h)) (
-    choice ExportKind SpellsExportKind 0x03 b _ _ bs x rest (operand ExportKind SpellsExportKind ℕ U32 u32_at exported.Global 0x03 b bs x rest reads_u32 (λ text y h. tagged U32 0x03 text y h)) (
+    operand_then exported.Function 0x00 _ reads_u32 (tagged U32 0x00) (
+    operand_then exported.Table 0x01 _ reads_u32 (tagged U32 0x01) (
+    operand_then exported.Memory 0x02 _ reads_u32 (tagged U32 0x02) (
+    operand_then exported.Global 0x03 _ reads_u32 (tagged U32 0x03) (
     λ e. absurd cc)))) e
 
 -- a kind of export that is spelled so is read
 exports_again : (text : List ℕ) (x : ExportKind) (rest : List ℕ) → SpellsExportKind text x → export_kind_at (text ++ rest) ≡ Some (x, rest)
 unfolding export_kind_at export_after
-exports_again text (exported.Function x) rest h = reread ExportKind ℕ U32 u32_at exported.Function export_kind_at 0x00 text h.1 x rest reads_u32 (λ s. refl) (untagged U32 0x00 text x h) h.3
-exports_again text (exported.Table x) rest h = reread ExportKind ℕ U32 u32_at exported.Table export_kind_at 0x01 text h.1 x rest reads_u32 (λ s. refl) (untagged U32 0x01 text x h) h.3
-exports_again text (exported.Memory x) rest h = reread ExportKind ℕ U32 u32_at exported.Memory export_kind_at 0x02 text h.1 x rest reads_u32 (λ s. refl) (untagged U32 0x02 text x h) h.3
-exports_again text (exported.Global x) rest h = reread ExportKind ℕ U32 u32_at exported.Global export_kind_at 0x03 text h.1 x rest reads_u32 (λ s. refl) (untagged U32 0x03 text x h) h.3
+exports_again text (exported.Function x) rest h = reread exported.Function export_kind_at 0x00 x rest reads_u32 (λ s. refl) (untagged U32 0x00 text x h) h.3
+exports_again text (exported.Table x) rest h = reread exported.Table export_kind_at 0x01 x rest reads_u32 (λ s. refl) (untagged U32 0x01 text x h) h.3
+exports_again text (exported.Memory x) rest h = reread exported.Memory export_kind_at 0x02 x rest reads_u32 (λ s. refl) (untagged U32 0x02 text x h) h.3
+exports_again text (exported.Global x) rest h = reread exported.Global export_kind_at 0x03 x rest reads_u32 (λ s. refl) (untagged U32 0x03 text x h) h.3
 
 -- kinds of exports
 reads_export_kind : Reads ExportKind SpellsExportKind export_kind_at
@@ -95,24 +89,21 @@ reads_export_kind = record { takes = exports_take; again = exports_again }
 -- exports
 pub reads_export : Reads Export SpellsExport export_at
 unfolding export_at
-reads_export = reads_as (List ℕ × ExportKind) Export (Then SpellsName SpellsExportKind) (then_at name_at export_kind_at) (λ p. record { name = p.0; kind = p.1 }) (λ x. (x.name, x.kind)) (λ p. refl) (λ x. refl) (reads_then (List ℕ) ExportKind SpellsName SpellsExportKind name_at export_kind_at reads_name reads_export_kind)
+reads_export = reads_as (reads_then reads_name reads_export_kind) (λ p. record { name = p.0; kind = p.1 }) (λ x. (x.name, x.kind)) (λ p. refl) (λ x. refl)
 
 -- ---- element segments
 
 -- element segments
 pub reads_elements : Reads ElementSegment SpellsElements elements_at
 unfolding elements_at
-reads_elements =
-    let functions = reads_vector ℕ U32 u32_at reads_u32 in
-    let parts = reads_then ℕ (List Instruction × List ℕ) U32 (Then SpellsExpression (Vector U32)) u32_at (then_at code_at (vector_at u32_at)) reads_u32 (reads_then (List Instruction) (List ℕ) SpellsExpression (Vector U32) code_at (vector_at u32_at) reads_code functions) in
-    reads_as (ℕ × (List Instruction × List ℕ)) ElementSegment (Then U32 (Then SpellsExpression (Vector U32))) (then_at u32_at (then_at code_at (vector_at u32_at))) (λ p. record { table = p.0; offset = p.1.0; functions = p.1.1 }) (λ x. (x.table, (x.offset, x.functions))) (λ p. refl) (λ x. refl) parts
+reads_elements = reads_as (reads_then reads_u32 (reads_then reads_code (reads_vector reads_u32))) (λ p. record { table = p.0; offset = p.1.0; functions = p.1.1 }) (λ x. (x.table, (x.offset, x.functions))) (λ p. refl) (λ x. refl)
 
 -- ---- bodies
 
 -- groups of locals
 reads_locals : Reads Locals SpellsLocals locals_at
 unfolding locals_at
-reads_locals = reads_as (ℕ × ValueType) Locals (Then U32 SpellsValueType) (then_at u32_at value_type_at) (λ p. record { count = p.0; value_type = p.1 }) (λ l. (l.count, l.value_type)) (λ p. refl) (λ l. refl) (reads_then ℕ ValueType U32 SpellsValueType u32_at value_type_at reads_u32 reads_value_type)
+reads_locals = reads_as (reads_then reads_u32 reads_value_type) (λ p. record { count = p.0; value_type = p.1 }) (λ l. (l.count, l.value_type)) (λ p. refl) (λ l. refl)
 
 -- what a body holds
 abbrev Content : List ℕ → List Locals × List Instruction → Type 0
@@ -120,7 +111,7 @@ Content = Then (Vector SpellsLocals) SpellsExpression
 
 -- what a body holds fills it
 reads_content : ReadsWhole (List Locals × List Instruction) Content (whole (then_at (vector_at locals_at) code_at))
-reads_content = reads_whole (List Locals × List Instruction) Content (then_at (vector_at locals_at) code_at) (reads_then (List Locals) (List Instruction) (Vector SpellsLocals) SpellsExpression (vector_at locals_at) code_at (reads_vector Locals SpellsLocals locals_at reads_locals) reads_code)
+reads_content = reads_whole (reads_then (reads_vector reads_locals) reads_code)
 
 -- a body of these parts
 abbrev made_body : List ℕ → List Locals × List Instruction → Body
@@ -141,13 +132,11 @@ reads_body_content = record {
 -- bodies after their size
 pub reads_body : Reads Body (Sized BodyContent) body_at
 unfolding body_at
-reads_body = reads_sized Body BodyContent body_of reads_body_content
+reads_body = reads_sized reads_body_content
 
 -- ---- data segments
 
 -- data segments
 pub reads_data : Reads DataSegment SpellsData data_at
 unfolding data_at
-reads_data =
-    let parts = reads_then ℕ (List Instruction × List ℕ) U32 (Then SpellsExpression (Sized Raw)) u32_at (then_at code_at (sized_at raw_of)) reads_u32 (reads_then (List Instruction) (List ℕ) SpellsExpression (Sized Raw) code_at (sized_at raw_of) reads_code (reads_sized (List ℕ) Raw raw_of reads_raw)) in
-    reads_as (ℕ × (List Instruction × List ℕ)) DataSegment (Then U32 (Then SpellsExpression (Sized Raw))) (then_at u32_at (then_at code_at (sized_at raw_of))) (λ p. record { memory = p.0; offset = p.1.0; bytes = p.1.1 }) (λ d. (d.memory, (d.offset, d.bytes))) (λ p. refl) (λ d. refl) parts
+reads_data = reads_as (reads_then reads_u32 (reads_then reads_code (reads_sized reads_raw))) (λ p. record { memory = p.0; offset = p.1.0; bytes = p.1.1 }) (λ d. (d.memory, (d.offset, d.bytes))) (λ p. refl) (λ d. refl)

@@ -30,7 +30,7 @@ reads_ignored = record {
 
 -- a custom section after its id
 reads_custom : Reads (Unit {0}) (Sized Ignored) (sized_at custom_of)
-reads_custom = reads_sized (Unit {0}) Ignored custom_of reads_ignored
+reads_custom = reads_sized reads_ignored
 
 -- a custom section that is read is one
 custom_text : (text : List ℕ) → Sized Ignored text tt → (c : List ℕ × List ℕ) × Custom (0 ∷ text) c
@@ -103,16 +103,16 @@ abbrev present : {X : Type 0} → WholeReader X → Reader (Option X)
 present w bytes = sized_at w bytes >>= λ x. customs_at x.1 >>= λ y. Some (Some x.0, y.1)
 
 -- a section that is read is spelled so
-section_takes : (X : Type 0) (A : List ℕ → X → Type 0) (w : WholeReader X) (id : ℕ) → ReadsWhole X A w → (bytes : List ℕ) (o : Option X) (rest : List ℕ) → section_at id w bytes ≡ Some (o, rest) → Front (Option X) (Section id A) bytes o rest
+section_takes : {X : Type 0} {A : List ℕ → X → Type 0} {w : WholeReader X} (id : ℕ) → ReadsWhole X A w → (bytes : List ℕ) (o : Option X) (rest : List ℕ) → section_at id w bytes ≡ Some (o, rest) → Front (Option X) (Section id A) bytes o rest
 unfolding section_at
-section_takes X A w id rw_ bytes o rest e =
+section_takes {X} {A} {w} id rw_ bytes o rest e =
     elim (chosen (begins id bytes) (next_at bytes >>= λ b. present w b.1) (Some (None, bytes)) (Some (o, rest)) e) [
       | inl h ↦
           let at = starts id bytes h.0 in
           let read : present w at.0 ≡ Some (o, rest) = subst (λ (bs : List ℕ). (next_at bs >>= λ b. present w b.1) ≡ Some (o, rest)) at.1 h.1 in
           let s = bind_some (sized_at w at.0) (λ x. customs_at x.1 >>= λ y. Some (Some x.0, y.1)) (o, rest) read in
           let t = bind_some (customs_at s.0.1) (λ y. Some (Some s.0.0, y.1)) (o, rest) s.2 in
-          let f = (reads_sized X A w rw_).takes at.0 s.0.0 s.0.1 s.1 in
+          let f = (reads_sized rw_).takes at.0 s.0.0 s.0.1 s.1 in
           let c = customs_take s.0.1 t.0.0 t.0.1 t.1 in
           let made : Front (Option X) (Section id A) bytes (Some s.0.0) t.0.1 = record {
             text = (id ∷ f.text) ++ c.0;
@@ -126,13 +126,13 @@ section_takes X A w id rw_ bytes o rest e =
     ]
 
 -- a section that is spelled so is read
-section_again : (X : Type 0) (A : List ℕ → X → Type 0) (w : WholeReader X) (id : ℕ) → ReadsWhole X A w → (text : List ℕ) (o : Option X) (rest : List ℕ) → begins 0 rest ≡ false → begins id rest ≡ false → Section id A text o → section_at id w (text ++ rest) ≡ Some (o, rest)
+section_again : {X : Type 0} {A : List ℕ → X → Type 0} {w : WholeReader X} (id : ℕ) → ReadsWhole X A w → (text : List ℕ) (o : Option X) (rest : List ℕ) → begins 0 rest ≡ false → begins id rest ≡ false → Section id A text o → section_at id w (text ++ rest) ≡ Some (o, rest)
 unfolding section_at
-section_again X A w id rw_ text None rest stop other h = rw (h, other) refl
-section_again X A w id rw_ text (Some x) rest stop other h =
+section_again id rw_ text None rest stop other h = rw (h, other) refl
+section_again {w = w} id rw_ text (Some x) rest stop other h =
     let one = h.2 in
     let whole : text ++ rest ≡ id ∷ (one.1 ++ (h.1 ++ rest)) = rw (h.4, one.4, one.2) (simp append_assoc) in
-    ap (section_at id w) whole ∙ rw (does_start id (one.1 ++ (h.1 ++ rest)), (reads_sized X A w rw_).again one.1 x (h.1 ++ rest) one.3, customs_reread h.1 rest stop h.3) refl
+    ap (section_at id w) whole ∙ rw (does_start id (one.1 ++ (h.1 ++ rest)), (reads_sized rw_).again one.1 x (h.1 ++ rest) one.3, customs_reread h.1 rest stop h.3) refl
 
 -- ---- sections in their order
 
@@ -177,17 +177,17 @@ pub record ReadsSections (before through : List ℕ) (X : Type 0) (S : List ℕ 
   pub past : (text : List ℕ) (x : X) (rest : List ℕ) → Past through rest → S text x → Past before (text ++ rest)
 
 -- one section
-pub one_section : (before : List ℕ) (id : ℕ) (X : Type 0) (A : List ℕ → X → Type 0) (w : WholeReader X) → is_new id (0 ∷ before) ≡ true → ReadsWhole X A w → ReadsSections before (id ∷ before) (Option X) (Section id A) (section_at id w)
-one_section before id X A w new rw_ = record {
-  takes = section_takes X A w id rw_;
-  again = λ text o rest past. section_again X A w id rw_ text o rest past.no_custom past.none.0;
+pub one_section : {before : List ℕ} {X : Type 0} {A : List ℕ → X → Type 0} {w : WholeReader X} (id : ℕ) → is_new id (0 ∷ before) ≡ true → ReadsWhole X A w → ReadsSections before (id ∷ before) (Option X) (Section id A) (section_at id w)
+one_section {before} {X} {A} id new rw_ = record {
+  takes = section_takes id rw_;
+  again = λ text o rest past. section_again id rw_ text o rest past.no_custom past.none.0;
   past = λ text o rest. Past-section X A before id text o rest new;
 }
 
 -- sections, and those after them
-pub sections_then : (before middle through : List ℕ) (X Y : Type 0) (A : List ℕ → X → Type 0) (B : List ℕ → Y → Type 0) (a : Reader X) (b : Reader Y) → ReadsSections before middle X A a → ReadsSections middle through Y B b → ReadsSections before through (X × Y) (Then A B) (then_at a b)
-sections_then before middle through X Y A B a b ra rb = record {
-  takes = then_takes X Y A B a b ra.takes rb.takes;
+pub sections_then : {before middle through : List ℕ} {X Y : Type 0} {A : List ℕ → X → Type 0} {B : List ℕ → Y → Type 0} {a : Reader X} {b : Reader Y} → ReadsSections before middle X A a → ReadsSections middle through Y B b → ReadsSections before through (X × Y) (Then A B) (then_at a b)
+sections_then {before} ra rb = record {
+  takes = then_takes ra.takes rb.takes;
   again = λ text x rest p h.
       let regrouped : text ++ rest ≡ h.0 ++ (h.1 ++ rest) = rw h.4 (append_assoc h.0 h.1 rest) in
       rw (regrouped, ra.again h.0 x.0 (h.1 ++ rest) (rb.past h.1 x.1 rest p h.3) h.2, rb.again h.1 x.1 rest p h.3) refl;

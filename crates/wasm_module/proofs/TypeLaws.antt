@@ -8,12 +8,12 @@ use Rattle.wasm_module.specs.declared.instruction.BlockType.TheVariants.{Empty, 
 use Rattle.wasm_module.specs.declared.module.FuncType.{FuncType}
 use Rattle.wasm_module.specs.declared.module.Limits.{Limits}
 use Rattle.wasm_module.specs.declared.module.GlobalType.{GlobalType}
-use Rattle.wasm_module.specs.Grammar.{Byte, Then, U32, Vector}
+use Rattle.wasm_module.specs.Grammar.{Then, U32}
 use Rattle.wasm_module.specs.Types.{SpellsValueType, SpellsBlockType, SpellsFuncType, SpellsBounds, SpellsLimits, SpellsTable, SpellsMutability, SpellsGlobalType}
 use Rattle.wasm_module.specs.internal.TypesReading.{value_type_of, value_type_at, block_type_at, func_type_at, bounds_after, limits_at, table_at, mutability_of, mutability_at, global_type_at}
-use Rattle.wasm_module.specs.internal.Reading.{◌>>=◌, byte_at, u32_at, then_at, vector_at}
+use Rattle.wasm_module.specs.internal.Reading.{◌>>=◌, byte_at, u32_at, then_at}
 use Rattle.wasm_module.proofs.Laws.{bind_some, guard_some, chosen, some_is, Front, Reads}
-use Rattle.wasm_module.proofs.Combine.{reads_byte, reads_then, reads_as, reads_u32, reads_vector, choice, operand, reread, tagged, untagged}
+use Rattle.wasm_module.proofs.Combine.{reads_byte, reads_then, reads_as, reads_u32, reads_vector, operand_then, reread, tagged, untagged}
 
 -- ---- value types
 
@@ -67,10 +67,8 @@ reads_block_type = record { takes = takes; again = again } where
 pub reads_func_type : Reads FuncType SpellsFuncType func_type_at
 unfolding func_type_at
 reads_func_type =
-    let types = reads_vector ValueType SpellsValueType value_type_at reads_value_type in
-    let both = reads_then (List ValueType) (List ValueType) (Vector SpellsValueType) (Vector SpellsValueType) (vector_at value_type_at) (vector_at value_type_at) types types in
-    let all = reads_then (Unit {0}) (List ValueType × List ValueType) (Byte 0x60) (Then (Vector SpellsValueType) (Vector SpellsValueType)) (byte_at 0x60) (then_at (vector_at value_type_at) (vector_at value_type_at)) (reads_byte 0x60) both in
-    reads_as (Unit {0} × (List ValueType × List ValueType)) FuncType (Then (Byte 0x60) (Then (Vector SpellsValueType) (Vector SpellsValueType))) (then_at (byte_at 0x60) (then_at (vector_at value_type_at) (vector_at value_type_at))) (λ p. record { params = p.1.0; results = p.1.1 }) (λ t. (tt, (t.params, t.results))) (λ p. refl) (λ t. refl) all
+    let types = reads_vector reads_value_type in
+    reads_as (reads_then (reads_byte 0x60) (reads_then types types)) (λ p. record { params = p.1.0; results = p.1.1 }) (λ t. (tt, (t.params, t.results))) (λ p. refl) (λ t. refl)
 
 -- ---- limits
 
@@ -84,14 +82,14 @@ closed_limits p = record { min = p.0; max = Some p.1 }
 
 -- two numbers
 reads_two : Reads (ℕ × ℕ) (Then U32 U32) (then_at u32_at u32_at)
-reads_two = reads_then ℕ ℕ U32 U32 u32_at u32_at reads_u32 reads_u32
+reads_two = reads_then reads_u32 reads_u32
 
 -- the numbers that follow the first byte
 bounds_take : (b : ℕ) (rest : List ℕ) (x : Limits) (after : List ℕ) → bounds_after b rest ≡ Some (x, after) → Front Limits SpellsLimits (b ∷ rest) x after
 unfolding bounds_after
 bounds_take b rest x after =
-    choice Limits SpellsLimits 0x00 b _ _ rest x after (operand Limits SpellsLimits ℕ U32 u32_at open_limits 0x00 b rest x after reads_u32 (λ text y h. tagged U32 0x00 text y h)) (
-    choice Limits SpellsLimits 0x01 b _ _ rest x after (operand Limits SpellsLimits (ℕ × ℕ) (Then U32 U32) (then_at u32_at u32_at) closed_limits 0x01 b rest x after reads_two (λ text y h. tagged (Then U32 U32) 0x01 text y h)) (
+    operand_then open_limits 0x00 _ reads_u32 (tagged U32 0x00) (
+    operand_then closed_limits 0x01 _ reads_two (tagged (Then U32 U32) 0x01) (
     λ e. absurd cc))
 
 -- limits that are read are spelled so
@@ -103,8 +101,8 @@ limits_take (b ∷ bs) x rest e = bounds_take b bs x rest e
 -- limits that are spelled so are read
 bounds_again : (text : List ℕ) (min : ℕ) (max : Option ℕ) (rest : List ℕ) → SpellsBounds text min max → limits_at (text ++ rest) ≡ Some (record { min = min; max = max }, rest)
 unfolding limits_at bounds_after
-bounds_again text min None rest h = reread Limits ℕ U32 u32_at open_limits limits_at 0x00 text h.1 min rest reads_u32 (λ s. refl) (untagged U32 0x00 text min h) h.3
-bounds_again text min (Some max) rest h = reread Limits (ℕ × ℕ) (Then U32 U32) (then_at u32_at u32_at) closed_limits limits_at 0x01 text h.1 (min, max) rest reads_two (λ s. refl) (untagged (Then U32 U32) 0x01 text (min, max) h) h.3
+bounds_again text min None rest h = reread open_limits limits_at 0x00 min rest reads_u32 (λ s. refl) (untagged U32 0x00 text min h) h.3
+bounds_again text min (Some max) rest h = reread closed_limits limits_at 0x01 (min, max) rest reads_two (λ s. refl) (untagged (Then U32 U32) 0x01 text (min, max) h) h.3
 
 -- limits
 pub reads_limits : Reads Limits SpellsLimits limits_at
@@ -163,4 +161,4 @@ reads_mutability = record { takes = takes; again = again } where
 -- types of globals
 pub reads_global_type : Reads GlobalType SpellsGlobalType global_type_at
 unfolding global_type_at
-reads_global_type = reads_as (ValueType × Bool) GlobalType (Then SpellsValueType SpellsMutability) (then_at value_type_at mutability_at) (λ p. record { value_type = p.0; mutable = p.1 }) (λ g. (g.value_type, g.mutable)) (λ p. refl) (λ g. refl) (reads_then ValueType Bool SpellsValueType SpellsMutability value_type_at mutability_at reads_value_type reads_mutability)
+reads_global_type = reads_as (reads_then reads_value_type reads_mutability) (λ p. record { value_type = p.0; mutable = p.1 }) (λ g. (g.value_type, g.mutable)) (λ p. refl) (λ g. refl)
