@@ -1,5 +1,5 @@
 -- A module is read exactly where the grammar has one.
-use Rattle.std.proofs.Common.{eq-eqb, ◌≡◌, ℕ, Bool, true, false, cond, eqb, leb, ◌&&◌, List, [], ◌∷◌, ◌++◌, length, Option, Some, None, Result, Ok, Err, refl, sym, ap, subst, ◌∙◌}
+use Rattle.std.proofs.Common.{eq-eqb, ◌≡◌, ℕ, Bool, true, false, cond, eqb, leb, List, [], ◌∷◌, ◌++◌, length, Option, Some, None, Result, Ok, Err, refl, sym, ap, subst, ◌∙◌}
 use Rattle.std.specs.Prelude.{unwrap_or, IfOk, IfErr, IfSome}
 use Rattle.std.proofs.lemmas.Bool.{eqb-true, leb-true, le-leb}
 use Rattle.std.proofs.lemmas.List.{append-nil, nil_from_length}
@@ -14,7 +14,7 @@ use Rattle.wasm_module.specs.Sections.{Customs, Section, SpellsImport, SpellsGlo
 use Rattle.wasm_module.specs.Module.{Sections, SpellsSections, SpellsParts, Spells, CountsAgree, FitsProfile, module_of}
 use Rattle.wasm_module.specs.internal.ModuleReading.{preamble_at, Held, sections_of, sections_at, is_few, fits_profile, is_counted, counts_agree, module_and_count, module_from}
 use Rattle.wasm_module.specs.internal.Reading.{◌>>=◌, Gives, Reader, byte_at, map_at, vector_at, whole, customs_at, section_at}
-use Rattle.wasm_module.proofs.Laws.{bind_some, guard_some, some_is, Front, Reads}
+use Rattle.wasm_module.proofs.Laws.{both_true, bind_some, guard_some, some_is, Front, Reads}
 use Rattle.wasm_module.proofs.Combine.{then_takes, reads_byte, reads_u32, reads_vector, reads_whole}
 use Rattle.wasm_module.proofs.TypeLaws.{reads_func_type, reads_limits, reads_table}
 use Rattle.wasm_module.proofs.PartLaws.{reads_import, reads_global, reads_export, reads_elements, reads_body, reads_data}
@@ -184,12 +184,6 @@ unfolding sections_at
 sections_again text s h = rw (all_sections_again text (held s) (sections_back text s h)) refl
 
 -- ---- the limits
-
--- both sides of a conjunction hold
-both_true : (a b : Bool) → (a && b) ≡ true → (a ≡ true) × (b ≡ true)
-both_true true true e = (refl, refl)
-both_true true false e = absurd cc
-both_true false b e = absurd cc
 
 -- the test of the limit says no more than it
 fits_take : (types : List FuncType) (functions : List ℕ) (bodies : List Body) → fits_profile types functions bodies ≡ true → FitsProfile types functions bodies

@@ -1,5 +1,5 @@
 -- The laws of operators, which have nothing after their opcode.
-use Rattle.std.proofs.Common.{◌≡◌, ℕ, ◌+◌, ◌-◌, ◌≤◌, Bool, true, false, cond, eqb, leb, ◌&&◌, List, [], ◌∷◌, Option, Some, refl, ap, subst, arith}
+use Rattle.std.proofs.Common.{◌≡◌, ℕ, ◌+◌, ◌-◌, ◌≤◌, Bool, true, false, cond, eqb, leb, List, [], ◌∷◌, Option, Some, refl, ap, subst, arith}
 use Rattle.std.proofs.lemmas.Bool.{eqb-true, leb-true}
 use Rattle.wasm_module.specs.declared.instruction.ValueType.{ValueType}
 use Rattle.wasm_module.specs.declared.instruction.ValueType.TheVariants.{I32, I64}
@@ -18,7 +18,7 @@ use Rattle.wasm_module.specs.declared.instruction.Instruction.TheVariants as op
 use Rattle.wasm_module.specs.Instructions.{comparison_number, binary_operator_number, unary_opcode, load_opcode, store_opcode, SpellsImmediates, SpellsInstruction}
 use Rattle.wasm_module.specs.internal.CodeReading.{comparison_of, binary_operator_of, unary_of, is_between, compared, operated, numeric_of, numeric_after, mem_arg_at, load_of, load_after, store_of, store_after, instruction_after, instruction_at}
 use Rattle.wasm_module.specs.internal.Reading.{◌>>=◌, map_at}
-use Rattle.wasm_module.proofs.Laws.{bind_some, some_is}
+use Rattle.wasm_module.proofs.Laws.{both_true, bind_some, some_is}
 
 -- ---- tables
 
@@ -29,16 +29,11 @@ picked {X} P b code y x more here rest e = by_test (eqb b code) refl e where
   by_test true is e = subst P (some_is y x e) (here (eqb-true _ _ is))
   by_test false is e = rest e
 
--- the first side of a conjunction holds
-first_true : (a b : Bool) → (a && b) ≡ true → a ≡ true
-first_true true b e = refl
-first_true false b e = absurd cc
-
 -- a range of a table
 ranged : {X : Type 0} (P : X → Type 0) (low high b : ℕ) (x : X) (here more : Option X) → (low ≤ b → here ≡ Some x → P x) → (more ≡ Some x → P x) → cond (is_between low high b) here more ≡ Some x → P x
 ranged {X} P low high b x here more inside rest e = by_test (is_between low high b) refl e where
   by_test : (t : Bool) → is_between low high b ≡ t → cond t here more ≡ Some x → P x
-  by_test true is e = inside (leb-true _ _ (first_true (leb low b) (leb b high) is)) e
+  by_test true is e = inside (leb-true _ _ (both_true (leb low b) (leb b high) is).0) e
   by_test false is e = rest e
 
 -- ---- operators by their numbers
