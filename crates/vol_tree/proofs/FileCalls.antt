@@ -25,9 +25,9 @@ use Rattle.vol_tree.specs.Stands.{Slots, entry_of}
 use Rattle.vol_tree.specs.Opened.{tree_in, data_sectors, geometry}
 use Rattle.vol_tree.specs.internal.Slots.{slot_of}
 use Rattle.vol_tree.specs.internal.Parts.{IsOpen}
-use Rattle.vol_tree.specs.internal.Commits.{Commits}
+use Rattle.vol_tree.specs.internal.Commits.{Commits, Reads}
 use Rattle.vol_tree.specs.internal.Changes.{Changes}
-use Rattle.vol_tree.proofs.Changing.{IsQuiet, refused, done}
+use Rattle.vol_tree.proofs.Changing.{refused, done}
 use Rattle.vol_tree.proofs.Committing.{commits_then}
 use Rattle.vol_tree.proofs.Filling.{Fills, file_stages, filled_front, filled_content, filled_is, filled_fits, filled_shows, filled_taken, space_is}
 use Rattle.vol_tree.proofs.Finding.{tree_entry}
@@ -40,7 +40,7 @@ abbrev pub IsReserved : Superblock → (before after old new : ℕ) → Type 0
 IsReserved v before after old new = need_of old ≤ before → (after + need_of old ≡ before + need_of new) × (after ≤ data_sectors v)
 
 -- `one` are the parts once the entry is read, and `rewrite` says which bytes the call is to make of those of the file.
-module _ {D : Type 0} {g : Ghosts D} (old one : Parts D g) (file : ℕ) (d : Entry) (rewrite : List ℕ → List ℕ) (meant : Result (Tree × Unit {0}) Errno) (is : IsOpen old) (first : 1 ≤ file) (read : Commits old one false)
+module _ {D : Type 0} {g : Ghosts D} (old one : Parts D g) (file : ℕ) (d : Entry) (rewrite : List ℕ → List ℕ) (meant : Result (Tree × Unit {0}) Errno) (is : IsOpen old) (first : 1 ≤ file) (read : Reads old one false)
     (used : g.honest (device_of old.log) → is_file_at (tree_in (view old.log) old.numbers) file ≡ true)
     (found : g.honest (device_of old.log) → is_some (tree.entry (tree_in (view old.log) old.numbers) file) ≡ true → slot_of (view old.log) old.numbers file ≡ Some d)
     (meant_is : meant ≡ with_unit (if_it_fits (geometry old.numbers) (tree_in (view old.log) old.numbers) file (rewrite (bytes_at (tree_in (view old.log) old.numbers) file)))) where
@@ -56,36 +56,36 @@ module _ {D : Type 0} {g : Ghosts D} (old one : Parts D g) (file : ℕ) (d : Ent
   entry_is : g.honest (device_of old.log) → tree.entry T file ≡ Some (entry_of (view old.log) d)
   entry_is h = tree_entry (view old.log) old.numbers file d first (slot_is h)
 
-  pub too_big_for : IsQuiet old one → (n : ℕ) → (g.honest (device_of old.log) → slot_of (view old.log) old.numbers file ≡ Some d → length B ≡ n) → size_limit one.numbers.version < n → Changes meant old one (Err errno.TooBig)
-  too_big_for quiet n long over = refused meant old one errno.TooBig read quiet (λ h.
-      let more = subst (λ (w : Superblock). size_limit w.version < n) read.kept.numbers over in
+  pub too_big_for : (n : ℕ) → (g.honest (device_of old.log) → slot_of (view old.log) old.numbers file ≡ Some d → length B ≡ n) → size_limit one.numbers.version < n → Changes meant old one (Err errno.TooBig)
+  too_big_for n long over = refused meant old one errno.TooBig read.commits read.quiet (λ h.
+      let more = subst (λ (w : Superblock). size_limit w.version < n) read.commits.kept.numbers over in
       inl (meant_is ∙ ap with_unit (too_big (geometry old.numbers) T file (entry_of (view old.log) d) (entry_is h) B (omega (arith, more, long h (slot_is h))))))
 
   -- the file's old sectors are among those that are needed
   le : g.honest (device_of old.log) → need_of d.size ≤ one.reserved
-  le h = omega (arith, need_le (view old.log) old.numbers (is.content h) file first d (slot_is h) (used h), read.reserved, is.reserved h)
+  le h = omega (arith, need_le (view old.log) old.numbers (is.content h) file first d (slot_is h) (used h), read.commits.reserved, is.reserved h)
 
-  pub no_space_for : IsQuiet old one → (n : ℕ) → (g.honest (device_of old.log) → slot_of (view old.log) old.numbers file ≡ Some d → length B ≡ n) → n ≤ size_limit one.numbers.version
+  pub no_space_for : (n : ℕ) → (g.honest (device_of old.log) → slot_of (view old.log) old.numbers file ≡ Some d → length B ≡ n) → n ≤ size_limit one.numbers.version
       → (need_of d.size ≤ one.reserved → data_sectors one.numbers + need_of d.size < one.reserved + need_of n) → Changes meant old one (Err errno.NoSpace)
-  no_space_for quiet n long small few = refused meant old one errno.NoSpace read quiet (λ h.
-      let limit = subst (λ (w : Superblock). n ≤ size_limit w.version) read.kept.numbers small in
+  no_space_for n long small few = refused meant old one errno.NoSpace read.commits read.quiet (λ h.
+      let limit = subst (λ (w : Superblock). n ≤ size_limit w.version) read.commits.kept.numbers small in
       let more = few (le h) in
-      let room : data_sectors one.numbers ≡ data_sectors old.numbers = ap data_sectors read.kept.numbers in
+      let room : data_sectors one.numbers ≡ data_sectors old.numbers = ap data_sectors read.commits.kept.numbers in
       let needs : need_of (length B) ≡ need_of n = ap need_of (long h (slot_is h)) in
       let sums = space_with (view old.log) old.numbers (is.content h) file first d (slot_is h) (used h) B in
-      inl (meant_is ∙ ap with_unit (no_space (geometry old.numbers) T file (entry_of (view old.log) d) (entry_is h) B (omega (arith, limit, long h (slot_is h))) (omega (arith, more, room, needs, sums, read.reserved, is.reserved h)))))
+      inl (meant_is ∙ ap with_unit (no_space (geometry old.numbers) T file (entry_of (view old.log) d) (entry_is h) B (omega (arith, limit, long h (slot_is h))) (omega (arith, more, room, needs, sums, read.commits.reserved, is.reserved h)))))
 
   -- a file that isn't cut stays within the limit
   pub small_for : IsEntry old.numbers.version d → (end size : ℕ) → size ≡ max d.size end → end ≤ size_limit one.numbers.version → size ≤ size_limit one.numbers.version
   small_for right end size is_size small =
-      let before = subst (λ (w : Superblock). d.size ≤ size_limit w.version) (sym read.kept.numbers) right.rules.size.small in
+      let before = subst (λ (w : Superblock). d.size ≤ size_limit w.version) (sym read.commits.kept.numbers) right.rules.size.small in
       omega (arith, before, small, is_size)
 
   -- ---- once there is room
 
   module _ (mid : Parts D g) (made : Commits one mid false) where
     commits : Commits old mid false
-    commits = commits_then old one mid false read made
+    commits = commits_then old one mid false read.commits made
 
     pub can_change : (most at : ℕ) → most ≤ room_of mid.log → file ≤ old.numbers.slots → at ≡ slot_sector file → IsEntry old.numbers.version d → CanChange most at mid.log mid.sectors d
     can_change most at room last place right =

@@ -12,7 +12,7 @@ use Rattle.vol_tree.specs.Tree.{Tree}
 use Rattle.vol_tree.specs.Opened.{Answers, LeavesAlone}
 use Rattle.vol_tree.specs.internal.Changes.{Changes}
 use Rattle.vol_tree.specs.Parts.{opened}
-use Rattle.vol_tree.specs.internal.Commits.{Commits}
+use Rattle.vol_tree.specs.internal.Commits.{Commits, Reads}
 use Rattle.vol_tree.specs.internal.Removals.{Fails}
 use Rattle.vol_tree.proofs.Committing.{crash_on}
 use Rattle.vol_tree.proofs.Changing.{IsQuiet, quiet_then, refused}
@@ -66,11 +66,11 @@ passed_err (Ok x) why P p io = absurd p
 passed_err (Err e) why P p io = p ∙ io
 
 -- a call that passes on why another one was refused
-pub refused_by : {D : Type 0} {g : Ghosts D} {X : Type 0} (Y : Type 0) (meant : Result (Tree × X) Errno) (old new : Parts D g) (r : Result X Errno) (why : Errno) → IsErrAnd r (λ e. e ≡ why) → Commits old new (is_io {X = Y} (Err why)) → IsQuiet old new
+pub refused_by : {D : Type 0} {g : Ghosts D} {X : Type 0} (Y : Type 0) (meant : Result (Tree × X) Errno) (old new : Parts D g) (r : Result X Errno) (why : Errno) → IsErrAnd r (λ e. e ≡ why) → Reads old new (is_io {X = Y} (Err why))
     → (g.honest (device_of old.log) → (meant ≡ Err why) ⊎ (why ≡ errno.Io)) → Changes meant old new r
-refused_by Y meant old new (Ok x) why p c quiet because = absurd p
-refused_by {X = X} Y meant old new (Err e) why p c quiet because =
-    refused meant old new e (subst (λ (io : Bool). Commits old new io) (same_io Y X why ∙ ap (λ (x : Errno). is_io {X = X} (Err x)) (sym p)) c) quiet
+refused_by Y meant old new (Ok x) why p reads because = absurd p
+refused_by {X = X} Y meant old new (Err e) why p reads because =
+    refused meant old new e (subst (λ (io : Bool). Commits old new io) (same_io Y X why ∙ ap (λ (x : Errno). is_io {X = X} (Err x)) (sym p)) reads.commits) reads.quiet
     (λ h. ⊎_elim (λ is. inl (is ∙ ap (λ (x : Errno). Err x) (sym p))) (λ io. inr (p ∙ io)) (because h))
 
 left_alone : {D : Type 0} {g : Ghosts D} {X : Type 0} (a b c : Parts D g) (r : Result X Errno) → (g.honest (device_of a.log) → g.honest (device_of b.log)) → IsQuiet a b

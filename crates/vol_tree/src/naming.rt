@@ -1,7 +1,6 @@
 //! What the calls on names do to the parts of an open volume.
 
 ghost use Rattle.std.specs.Prelude.{◌≡◌, ◌≢◌, ◌≤◌, IsSome, IfOk, MatchResult, Some, None, Ok, true, false, is_err};
-ghost use Rattle.vol_sector.specs.Disk.{Leaves};
 ghost use Rattle.vol_inode.specs.Entry.{IsEntry, name_of};
 ghost use Rattle.vol_log.specs.Log.{view, device_of, room_of, has_failed};
 ghost use Rattle.vol_dirs.specs.Names.{Names};
@@ -21,7 +20,7 @@ impl<D: Device> Parts<D> {
     ghost use Rattle.vol_tree.specs.internal.Changes.{Changes};
     ghost use Rattle.vol_tree.specs.Parts.{opened};
     ghost use Rattle.vol_tree.specs.internal.Parts.{IsOpen};
-    ghost use Rattle.vol_tree.specs.internal.Commits.{Commits};
+    ghost use Rattle.vol_tree.specs.internal.Commits.{Reads};
     ghost use Rattle.vol_tree.specs.internal.Removals.{IsBare, Removes, TakesOut};
 
     /// Takes a file out of its directory, and its space back.
@@ -80,11 +79,7 @@ impl<D: Device> Parts<D> {
         requires is_open { IsOpen self.old }
         requires first { 1 ≤ serial }
         requires last { serial ≤ self.old.numbers.slots }
-        ensures commits { Commits self.old self.new (is_io result) }
-        ensures quiet { D.honest (device_of self.old.log)
-            → Leaves (D.disk (device_of self.old.log)) (D.disk (device_of self.new.log)) (λ c. ⊥) }
-        ensures view { D.honest (device_of self.old.log)
-            → view self.new.log ≡ view self.old.log }
+        ensures reads { Reads self.old self.new (is_io result) }
         ensures right { IfOk result (λ e. IsEntry self.old.numbers.version e) }
         ensures held { IfOk result (λ e. Names self.new.dirs e.parent (name_of e) serial) }
         ensures found { D.honest (device_of self.old.log) → serial ≢ 1

@@ -7,7 +7,7 @@ use Rattle.vol_inode.specs.declared.entry.Entry.{Entry}
 use Rattle.vol_inode.specs.Entry.{name_of}
 use Rattle.vol_dirs.specs.Names.{Names}
 use Rattle.vol_tree.specs.internal.Slots.{slot_of}
-use Rattle.vol_tree.specs.internal.Commits.{Commits}
+use Rattle.vol_tree.specs.internal.Commits.{Reads}
 use Rattle.vol_tree.specs.Stands.{Slots}
 use Rattle.vol_tree.proofs.Children.{is_found}
 use Rattle.vol_tree.proofs.Finding.{looks_up}
@@ -28,9 +28,7 @@ returns-in_err-entry g c =
     let x = c.in_err-entry.field-0.0 in
     let e = c.in_err-entry.ensures in
     record {
-      commits = subst (λ (io : Bool). Commits c.args.self.now c.entry.new.self io) (passed_io Entry r x is) e.commits;
-      quiet = e.quiet;
-      view = e.view;
+      reads = subst (λ (io : Bool). Reads c.args.self.now c.entry.new.self io) (passed_io Entry r x is) e.reads;
       right = IfOk-from_err r _ is_err_now;
       held = IfOk-from_err r _ is_err_now;
       found = λ h other used. passed_err r x _ is (e.found h used);
@@ -40,12 +38,10 @@ pub returns-then-not-is_name : goal.returns-then-not-is_name
 returns-then-not-is_name g c =
     let mid = c.entry.new.self in
     let e = c.in_ok-entry.ensures in
-    let commits = e.commits in
+    let commits = e.reads.commits in
     let d = c.in_ok-entry.entry in
     record {
-      commits = commits;
-      quiet = e.quiet;
-      view = e.view;
+      reads = e.reads;
       right = tt;
       held = tt;
       found = λ h other used.
@@ -57,7 +53,7 @@ returns-then-not-is_name g c =
 
 -- The log has not failed, as the entry was read.
 pub returns-in_err-found : goal.returns-in_err-found
-returns-in_err-found g c = absurd (true≢false (c.in_err-found.ensures.failed ∙ c.in_ok-entry.ensures.commits.kept.failed))
+returns-in_err-found g c = absurd (true≢false (c.in_err-found.ensures.failed ∙ c.in_ok-entry.ensures.reads.commits.kept.failed))
 
 -- `==` of serials that may be none
 some_same : (o : Option ℕ) (s : ℕ) → o ≡ Some s → option_eq (λ (a b : ℕ). a == b) o (Some s) ≡ true
@@ -73,9 +69,7 @@ returns-then-eq g c =
     let e = c.in_ok-entry.ensures in
     let d = c.in_ok-entry.entry in
     record {
-      commits = e.commits;
-      quiet = e.quiet;
-      view = e.view;
+      reads = e.reads;
       right = e.right;
       held = subst (λ (o : Option ℕ). MatchOption o ((s : ℕ) → Names dirs d.parent (name_of d) s → ⊥) (λ s. Names dirs d.parent (name_of d) s)) (same_some _ c.args.serial (sym c.eq.ensures ∙ c.if-eq.true)) (rw c.new.ensures at c.in_ok-found.ensures.found);
       found = λ h other used. e.found h used;
@@ -85,12 +79,10 @@ pub returns : goal.returns
 returns g c =
     let mid = c.entry.new.self in
     let e = c.in_ok-entry.ensures in
-    let commits = e.commits in
+    let commits = e.reads.commits in
     let d = c.in_ok-entry.entry in
     record {
-      commits = commits;
-      quiet = e.quiet;
-      view = e.view;
+      reads = e.reads;
       right = tt;
       held = tt;
       found = λ h other used.

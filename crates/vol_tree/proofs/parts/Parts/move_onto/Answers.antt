@@ -11,11 +11,11 @@ use Rattle.vol_tree.specs.Calls.{moved, with_unit}
 use Rattle.vol_tree.specs.Stands.{Slots}
 use Rattle.vol_tree.specs.Opened.{tree_in, slots_in}
 use Rattle.vol_tree.specs.internal.Slots.{slot_of}
-use Rattle.vol_tree.specs.internal.Commits.{Commits}
+use Rattle.vol_tree.specs.internal.Commits.{Reads}
 use Rattle.vol_tree.specs.internal.Moves.{MovesToName}
 use Rattle.vol_tree.specs.internal.Replacing.{replacing}
 use Rattle.vol_tree.proofs.Committing.{commits_then, no_commit}
-use Rattle.vol_tree.proofs.Changing.{quiet_then, refused_io, done_open, stages_then}
+use Rattle.vol_tree.proofs.Changing.{reads_then, refused_io, done_open, stages_then}
 use Rattle.vol_tree.proofs.Climbing.{onto_refused, onto_done, moves_after}
 use Rattle.vol_tree.proofs.Filling.{fails_io}
 use Rattle.vol_tree.proofs.Taking.{commits_fail, refused_by}
@@ -31,7 +31,7 @@ held_entry-requires g c = record { is_open = c.requires.is_open; first = c.requi
 
 pub held_entry-requires-2 : goal.held_entry-requires-2
 held_entry-requires-2 g c =
-    let first = c.in_ok-entry.ensures.commits in
+    let first = c.in_ok-entry.ensures.reads.commits in
     record {
       is_open = first.is_open;
       first = c.requires.target_first;
@@ -39,7 +39,7 @@ held_entry-requires-2 g c =
     }
 
 pub make_room-requires : goal.make_room-requires
-make_room-requires g c = record { «open» = c.in_ok-gone.ensures.commits.is_open }
+make_room-requires g c = record { «open» = c.in_ok-gone.ensures.reads.commits.is_open }
 
 pub returns-in_err-child : goal.returns-in_err-child
 returns-in_err-child g c =
@@ -50,7 +50,7 @@ pub returns-in_err-entry : goal.returns-in_err-entry
 returns-in_err-entry g c =
     let old = c.args.self.now in
     let one = c.held_entry.new.self in
-    refused_by Entry _ old one c.from_residual-in_err-entry.result c.in_err-entry.field-0.0 c.from_residual-in_err-entry.ensures.1 c.in_err-entry.ensures.commits c.in_err-entry.ensures.quiet (λ h.
+    refused_by Entry _ old one c.from_residual-in_err-entry.result c.in_err-entry.field-0.0 c.from_residual-in_err-entry.ensures.1 c.in_err-entry.ensures.reads (λ h.
     let m = c.requires.moves h in
     inr (c.in_err-entry.ensures.found h m.not_top m.used))
 
@@ -59,9 +59,9 @@ returns-in_err-gone g c =
     let old = c.args.self.now in
     let one = c.held_entry.new.self in
     let two = c.held_entry-2.new.self in
-    let first = c.in_ok-entry.ensures.commits in
+    let first = c.in_ok-entry.ensures.reads.commits in
     let e = c.in_err-gone.field-0.0 in
-    refused_by Entry _ old two c.from_residual-in_err-gone.result e c.from_residual-in_err-gone.ensures.1 (commits_then old one two _ first c.in_err-gone.ensures.commits) (quiet_then old one two first.kept.honest.0 c.in_ok-entry.ensures.quiet c.in_err-gone.ensures.quiet) (λ h.
+    refused_by Entry _ old two c.from_residual-in_err-gone.result e c.from_residual-in_err-gone.ensures.1 (reads_then old one two _ c.in_ok-entry.ensures.reads c.in_err-gone.ensures.reads) (λ h.
     let there = target_there old one c.args.parent c.args.target c.args.name.now c.requires.is_open first h c.requires.name (c.requires.there h) in
     inr (c.in_err-gone.ensures.found (first.kept.honest.0 h) there.0 there.1))
 
@@ -71,15 +71,14 @@ returns-in_err-may_replace g c =
     let one = c.held_entry.new.self in
     let two = c.held_entry-2.new.self in
     let T = tree_in (view old.log) old.numbers in
-    let first = c.in_ok-entry.ensures.commits in
-    let commits = commits_then old one two false first c.in_ok-gone.ensures.commits in
+    let first = c.in_ok-entry.ensures.reads.commits in
     let k = c.in_ok-entry.entry.kind in
     let t = c.in_ok-gone.gone.kind in
     let f = is_some c.in_ok-child.child in
     let e = c.in_err-may_replace.field-0.0 in
     let why : replacing k t f ≡ Err e = ap (replacing k t) (sym c.is_some.ensures) ∙ sym c.in_err-may_replace.ensures in
     let io : is_io {X = Unit {0}} (Err e) ≡ false = ap is_io (sym why) ∙ never_io k t f in
-    refused_by (Unit {0}) _ old two c.from_residual-in_err-may_replace.result e c.from_residual-in_err-may_replace.ensures.1 (subst (λ (b : Bool). Commits old two b) (sym io) commits) (quiet_then old one two first.kept.honest.0 c.in_ok-entry.ensures.quiet c.in_ok-gone.ensures.quiet) (λ h.
+    refused_by (Unit {0}) _ old two c.from_residual-in_err-may_replace.result e c.from_residual-in_err-may_replace.ensures.1 (subst (λ (b : Bool). Reads old two b) (sym io) (reads_then old one two false c.in_ok-entry.ensures.reads c.in_ok-gone.ensures.reads)) (λ h.
     let read = are_read old one c.args.serial c.args.parent c.args.target c.args.name.now c.in_ok-entry.entry c.in_ok-gone.gone c.in_ok-child.child c.requires.is_open first h c.requires.first c.requires.target_first c.requires.name (c.requires.moves h) (c.requires.there h) c.in_ok-child.ensures.found (c.in_ok-entry.ensures.found h) (c.in_ok-gone.ensures.found (first.kept.honest.0 h)) in
     inl (ap with_unit (onto_refused T c.args.serial c.args.parent c.args.target c.args.name.now k t f c.requires.other read.kind_one read.kind_other read.full_is e why)))
 
@@ -88,8 +87,8 @@ returns-in_err-make_room g c =
     let old = c.args.self.now in
     let one = c.held_entry.new.self in
     let two = c.held_entry-2.new.self in
-    let first = c.in_ok-entry.ensures.commits in
-    let commits = commits_then old one two false first c.in_ok-gone.ensures.commits in
+    let first = c.in_ok-entry.ensures.reads.commits in
+    let commits = commits_then old one two false first c.in_ok-gone.ensures.reads.commits in
     refused_io _ old c.make_room.new.self c.from_residual-in_err-make_room.result c.from_residual-in_err-make_room.ensures.1
     (commits_then old two c.make_room.new.self true commits c.in_err-make_room.ensures.commits)
 
@@ -98,8 +97,8 @@ take_out-requires g c =
     let old = c.args.self.now in
     let one = c.held_entry.new.self in
     let two = c.held_entry-2.new.self in
-    let first = c.in_ok-entry.ensures.commits in
-    let second = c.in_ok-gone.ensures.commits in
+    let first = c.in_ok-entry.ensures.reads.commits in
+    let second = c.in_ok-gone.ensures.reads.commits in
     let third = c.in_ok-make_room.ensures.commits in
     let commits = commits_then old one two false first second in
     let mid = c.make_room.new.self in
@@ -131,8 +130,8 @@ returns-in_err-take_out g c =
     let old = c.args.self.now in
     let one = c.held_entry.new.self in
     let two = c.held_entry-2.new.self in
-    let first = c.in_ok-entry.ensures.commits in
-    let commits = commits_then old one two false first c.in_ok-gone.ensures.commits in
+    let first = c.in_ok-entry.ensures.reads.commits in
+    let commits = commits_then old one two false first c.in_ok-gone.ensures.reads.commits in
     let mid = c.make_room.new.self in
     let all = commits_then old two mid false commits c.in_ok-make_room.ensures.commits in
     fails_io _ old c.take_out.new.self c.from_residual-in_err-take_out.result c.from_residual-in_err-take_out.ensures.1 (commits_fail old mid c.take_out.new.self all (c.in_err-take_out.ensures.fails refl))
@@ -143,8 +142,8 @@ relocate-requires g c =
     let one = c.held_entry.new.self in
     let two = c.held_entry-2.new.self in
     let T = tree_in (view old.log) old.numbers in
-    let first = c.in_ok-entry.ensures.commits in
-    let second = c.in_ok-gone.ensures.commits in
+    let first = c.in_ok-entry.ensures.reads.commits in
+    let second = c.in_ok-gone.ensures.reads.commits in
     let third = c.in_ok-make_room.ensures.commits in
     let commits = commits_then old one two false first second in
     let mid = c.make_room.new.self in
@@ -188,8 +187,8 @@ returns g c =
     let one = c.held_entry.new.self in
     let two = c.held_entry-2.new.self in
     let T = tree_in (view old.log) old.numbers in
-    let first = c.in_ok-entry.ensures.commits in
-    let commits = commits_then old one two false first c.in_ok-gone.ensures.commits in
+    let first = c.in_ok-entry.ensures.reads.commits in
+    let commits = commits_then old one two false first c.in_ok-gone.ensures.reads.commits in
     let mid = c.make_room.new.self in
     let all = commits_then old two mid false commits c.in_ok-make_room.ensures.commits in
     let last = c.take_out.new.self in
