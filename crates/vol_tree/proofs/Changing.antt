@@ -41,14 +41,14 @@ reads_then a b c io first second = record {
 }
 
 -- a call that is refused, after reads or none
-pub refused : {D : Type 0} {g : Ghosts D} {X : Type 0} (meant : Result (Tree × X) Errno) (old new : Parts D g) (e : Errno) → Commits old new (is_io {X = X} (Err e)) → IsQuiet old new
+pub refused : {D : Type 0} {g : Ghosts D} {X : Type 0} (meant : Result (Tree × X) Errno) (old new : Parts D g) (e : Errno) → Reads old new (is_io {X = X} (Err e))
     → (g.honest (device_of old.log) → (meant ≡ Err e) ⊎ (e ≡ errno.Io)) → Changes meant old new (Err e)
-refused meant old new e c quiet why = record {
-  is_open = c.is_open;
-  answer = λ h. (c.tree h, why h);
-  crash = c.crash;
-  refused = λ h other. quiet h;
-  kept = c.kept;
+refused meant old new e reads why = record {
+  is_open = reads.commits.is_open;
+  answer = λ h. (reads.commits.tree h, why h);
+  crash = reads.commits.crash;
+  refused = λ h other. reads.quiet h;
+  kept = reads.commits.kept;
 }
 
 -- what is kept in memory fits the new content

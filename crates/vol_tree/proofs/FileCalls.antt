@@ -57,7 +57,7 @@ module _ {D : Type 0} {g : Ghosts D} (old one : Parts D g) (file : ℕ) (d : Ent
   entry_is h = tree_entry (view old.log) old.numbers file d first (slot_is h)
 
   pub too_big_for : (n : ℕ) → (g.honest (device_of old.log) → slot_of (view old.log) old.numbers file ≡ Some d → length B ≡ n) → size_limit one.numbers.version < n → Changes meant old one (Err errno.TooBig)
-  too_big_for n long over = refused meant old one errno.TooBig read.commits read.quiet (λ h.
+  too_big_for n long over = refused meant old one errno.TooBig read (λ h.
       let more = subst (λ (w : Superblock). size_limit w.version < n) read.commits.kept.numbers over in
       inl (meant_is ∙ ap with_unit (too_big (geometry old.numbers) T file (entry_of (view old.log) d) (entry_is h) B (omega (arith, more, long h (slot_is h))))))
 
@@ -67,7 +67,7 @@ module _ {D : Type 0} {g : Ghosts D} (old one : Parts D g) (file : ℕ) (d : Ent
 
   pub no_space_for : (n : ℕ) → (g.honest (device_of old.log) → slot_of (view old.log) old.numbers file ≡ Some d → length B ≡ n) → n ≤ size_limit one.numbers.version
       → (need_of d.size ≤ one.reserved → data_sectors one.numbers + need_of d.size < one.reserved + need_of n) → Changes meant old one (Err errno.NoSpace)
-  no_space_for n long small few = refused meant old one errno.NoSpace read.commits read.quiet (λ h.
+  no_space_for n long small few = refused meant old one errno.NoSpace read (λ h.
       let limit = subst (λ (w : Superblock). n ≤ size_limit w.version) read.commits.kept.numbers small in
       let more = few (le h) in
       let room : data_sectors one.numbers ≡ data_sectors old.numbers = ap data_sectors read.commits.kept.numbers in

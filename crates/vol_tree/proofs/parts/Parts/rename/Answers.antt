@@ -10,7 +10,7 @@ use Rattle.vol_tree.specs.Calls.{moved, moved_onto, with_unit, is_within}
 use Rattle.vol_tree.specs.Opened.{tree_in}
 use Rattle.vol_tree.specs.internal.Moves.{MovesToName, MovesIn}
 use Rattle.vol_tree.proofs.Committing.{no_commit}
-use Rattle.vol_tree.proofs.Changing.{nothing_done, refused, refused_io}
+use Rattle.vol_tree.proofs.Changing.{no_reads, refused, refused_io}
 use Rattle.vol_tree.proofs.Climbing.{onto_itself, renamed_root, renamed_within, renamed_free, renamed_onto, may_move_in, may_move}
 use Rattle.vol_tree.proofs.Finding.{looks_up}
 use Rattle.vol_tree.proofs.Taking.{changes_after, done_nothing, refused_by}
@@ -29,7 +29,7 @@ returns-in_err-target g c =
 pub returns-then-eq : goal.returns-then-eq
 returns-then-eq g c =
     let old = c.args.self.now in
-    refused _ old old errno.Invalid (no_commit old false c.requires.is_open (sym c.in_ok-target.ensures.failed)) (nothing_done old) (λ h.
+    refused _ old old errno.Invalid (no_reads old c.requires.is_open (sym c.in_ok-target.ensures.failed)) (λ h.
     inl (ap with_unit (renamed_root (tree_in (view old.log) old.numbers) c.args.serial c.args.parent c.args.name.now (equal c.args.serial 1 (sym c.eq.ensures ∙ c.if-eq.true)))))
 
 pub is_within-requires : goal.is_within-requires
@@ -52,7 +52,7 @@ pub returns-then-branch : goal.returns-then-branch
 returns-then-branch g c =
     let old = c.args.self.now in
     let T = tree_in (view old.log) old.numbers in
-    refused _ old c.is_within.new.self errno.Invalid c.in_ok-is_within.ensures.reads.commits c.in_ok-is_within.ensures.reads.quiet (λ h.
+    refused _ old c.is_within.new.self errno.Invalid c.in_ok-is_within.ensures.reads (λ h.
     inl (ap with_unit (renamed_within T c.args.serial c.args.parent c.args.name.now (different c.args.serial 1 (sym c.eq.ensures ∙ c.if-eq.false)) (sym (c.in_ok-is_within.ensures.answer h) ∙ c.if-branch.true))))
 
 -- ---- it moves
@@ -115,7 +115,7 @@ returns-in-None g c =
     let one = c.is_within.new.self in
     let T = tree_in (view old.log) old.numbers in
     let commits = c.in_ok-is_within.ensures.reads.commits in
-    changes_after _ _ old one c.move_to.new.self c.move_to.result commits c.in_ok-is_within.ensures.reads.quiet c.move_to.ensures (λ h.
+    changes_after _ _ old one c.move_to.new.self c.move_to.result c.in_ok-is_within.ensures.reads c.move_to.ensures (λ h.
     let content = c.requires.is_open.content h in
     let looks = looks_up (view old.log) old.numbers old.dirs content (c.requires.is_open.shows h) c.in_ok-target.target c.args.parent c.args.name.now c.in_ok-target.ensures.found in
     let apart : is_within (length T) T c.args.serial c.args.parent ≡ false = sym (c.in_ok-is_within.ensures.answer h) ∙ c.if-branch.false in
@@ -145,7 +145,7 @@ returns-in-Some-2 g c =
     let one = c.is_within.new.self in
     let T = tree_in (view old.log) old.numbers in
     let commits = c.in_ok-is_within.ensures.reads.commits in
-    changes_after _ _ old one c.move_onto.new.self c.move_onto.result commits c.in_ok-is_within.ensures.reads.quiet c.move_onto.ensures (λ h.
+    changes_after _ _ old one c.move_onto.new.self c.move_onto.result c.in_ok-is_within.ensures.reads c.move_onto.ensures (λ h.
     let content = c.requires.is_open.content h in
     let looks = looks_up (view old.log) old.numbers old.dirs content (c.requires.is_open.shows h) c.in_ok-target.target c.args.parent c.args.name.now c.in_ok-target.ensures.found in
     let apart : is_within (length T) T c.args.serial c.args.parent ≡ false = sym (c.in_ok-is_within.ensures.answer h) ∙ c.if-branch.false in
