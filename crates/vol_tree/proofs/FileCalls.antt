@@ -35,11 +35,12 @@ use Rattle.vol_tree.proofs.OneTree.{limit_small}
 use Rattle.vol_tree.proofs.WriteCalls.{enough, file_used, is_file, need_le, old_bytes, space_with}
 use Rattle.vol_tree.proofs.Writes.{no_space, too_big}
 
--- A file may need so many sectors in place of those of its old size.
+-- The sectors that all files need become this many where one has a new size in place of its old one, and there are as many.
 abbrev pub IsReserved : Superblock → (before after old new : ℕ) → Type 0
 IsReserved v before after old new = need_of old ≤ before → (after + need_of old ≡ before + need_of new) × (after ≤ data_sectors v)
 
--- `one` are the parts once the entry is read, and `rewrite` says which bytes the call is to make of those of the file.
+-- A call makes other bytes of those of a file, by `rewrite`. `old` are the parts when it begins, `one` those once the file's entry
+-- is read.
 module _ {D : Type 0} {g : Ghosts D} (old one : Parts D g) (file : ℕ) (d : Entry) (rewrite : List ℕ → List ℕ) (meant : Result (Tree × Unit {0}) Errno) (is : IsOpen old) (first : 1 ≤ file) (read : Reads old one false)
     (used : g.honest (device_of old.log) → is_file_at (tree_in (view old.log) old.numbers) file ≡ true)
     (found : g.honest (device_of old.log) → is_some (tree.entry (tree_in (view old.log) old.numbers) file) ≡ true → slot_of (view old.log) old.numbers file ≡ Some d)
@@ -56,8 +57,8 @@ module _ {D : Type 0} {g : Ghosts D} (old one : Parts D g) (file : ℕ) (d : Ent
   entry_is : g.honest (device_of old.log) → tree.entry T file ≡ Some (entry_of (view old.log) d)
   entry_is h = tree_entry (view old.log) old.numbers file d first (slot_is h)
 
-  pub too_big_for : (n : ℕ) → (g.honest (device_of old.log) → slot_of (view old.log) old.numbers file ≡ Some d → length B ≡ n) → size_limit one.numbers.version < n → Changes meant old one (Err errno.TooBig)
-  too_big_for n long over = refused meant old one errno.TooBig read (λ h.
+  pub is_too_big : (n : ℕ) → (g.honest (device_of old.log) → slot_of (view old.log) old.numbers file ≡ Some d → length B ≡ n) → size_limit one.numbers.version < n → Changes meant old one (Err errno.TooBig)
+  is_too_big n long over = refused meant old one errno.TooBig read (λ h.
       let more = subst (λ (w : Superblock). size_limit w.version < n) read.commits.kept.numbers over in
       inl (meant_is ∙ ap with_unit (too_big (geometry old.numbers) T file (entry_of (view old.log) d) (entry_is h) B (omega (arith, more, long h (slot_is h))))))
 
@@ -65,9 +66,9 @@ module _ {D : Type 0} {g : Ghosts D} (old one : Parts D g) (file : ℕ) (d : Ent
   le : g.honest (device_of old.log) → need_of d.size ≤ one.reserved
   le h = omega (arith, need_le (view old.log) old.numbers (is.content h) file first d (slot_is h) (used h), read.commits.reserved, is.reserved h)
 
-  pub no_space_for : (n : ℕ) → (g.honest (device_of old.log) → slot_of (view old.log) old.numbers file ≡ Some d → length B ≡ n) → n ≤ size_limit one.numbers.version
+  pub has_no_space : (n : ℕ) → (g.honest (device_of old.log) → slot_of (view old.log) old.numbers file ≡ Some d → length B ≡ n) → n ≤ size_limit one.numbers.version
       → (need_of d.size ≤ one.reserved → data_sectors one.numbers + need_of d.size < one.reserved + need_of n) → Changes meant old one (Err errno.NoSpace)
-  no_space_for n long small few = refused meant old one errno.NoSpace read (λ h.
+  has_no_space n long small few = refused meant old one errno.NoSpace read (λ h.
       let limit = subst (λ (w : Superblock). n ≤ size_limit w.version) read.commits.kept.numbers small in
       let more = few (le h) in
       let room : data_sectors one.numbers ≡ data_sectors old.numbers = ap data_sectors read.commits.kept.numbers in
@@ -76,12 +77,12 @@ module _ {D : Type 0} {g : Ghosts D} (old one : Parts D g) (file : ℕ) (d : Ent
       inl (meant_is ∙ ap with_unit (no_space (geometry old.numbers) T file (entry_of (view old.log) d) (entry_is h) B (omega (arith, limit, long h (slot_is h))) (omega (arith, more, room, needs, sums, read.commits.reserved, is.reserved h)))))
 
   -- a file that isn't cut stays within the limit
-  pub small_for : IsEntry old.numbers.version d → (end size : ℕ) → size ≡ max d.size end → end ≤ size_limit one.numbers.version → size ≤ size_limit one.numbers.version
-  small_for right end size is_size small =
+  pub stays_small : IsEntry old.numbers.version d → (end size : ℕ) → size ≡ max d.size end → end ≤ size_limit one.numbers.version → size ≤ size_limit one.numbers.version
+  stays_small right end size is_size small =
       let before = subst (λ (w : Superblock). d.size ≤ size_limit w.version) (sym read.commits.kept.numbers) right.rules.size.small in
       omega (arith, before, small, is_size)
 
-  -- ---- once there is room
+  -- ---- the parts are `mid` once there is room for what the call stages
 
   module _ (mid : Parts D g) (made : Commits one mid false) where
     commits : Commits old mid false
@@ -109,15 +110,15 @@ module _ {D : Type 0} {g : Ghosts D} (old one : Parts D g) (file : ℕ) (d : Ent
     room_is : data_sectors mid.numbers ≡ data_sectors one.numbers
     room_is = ap data_sectors made.kept.numbers
 
-    pub enough_for : (after size : ℕ) → IsReserved one.numbers one.reserved after d.size size → g.honest (device_of mid.log) → need_of size ≤ free_of mid.sectors + used_of (view mid.log) d
-    enough_for after size reserved h1 =
+    pub has_enough : (after size : ℕ) → IsReserved one.numbers one.reserved after d.size size → g.honest (device_of mid.log) → need_of size ≤ free_of mid.sectors + used_of (view mid.log) d
+    has_enough after size reserved h1 =
         let h = commits.kept.honest.1 h1 in
         let is_open = commits.is_open in
         let sums = reserved (le h) in
         enough (view mid.log) mid.numbers (is_open.content h1) file first d (slot_mid h) (file_mid h) mid.sectors size (is_open.working h1 commits.kept.failed).taken is_open.first is_open.end
         (omega (arith, sums.0, sums.1, room_is, made.reserved, is_open.reserved h1))
 
-    -- the parts of the sectors and of the entry that the call leaves
+    -- the file is changed, and its new size is counted
     module _ (log : Log D g) (new : Alloc) (after at size : ℕ) (e : Entry) (bytes : List ℕ) (place : at ≡ slot_sector file) (small : size ≤ size_limit one.numbers.version) (reserved : IsReserved one.numbers one.reserved after d.size size)
         (staged : OnlyStages mid.log log) (fine : has_failed log ≡ false) (range : (first_of new ≡ first_of mid.sectors) × (end_of new ≡ end_of mid.sectors)) (becomes : EntryBecomes at size (view log) d e)
         (file_becomes : IfSound mid.log mid.sectors d (FileBecomes at mid.sectors new (view mid.log) (view log) d e bytes)) (rewritten : bytes ≡ rewrite (bytes_of (view mid.log) d)) where
@@ -161,8 +162,8 @@ module _ {D : Type 0} {g : Ghosts D} (old one : Parts D g) (file : ℕ) (d : Ent
             fits = omega (arith, sums.1, room_is);
           }
 
-      pub done_for : Changes meant old (record mid { log = log; sectors = new; reserved = after }) (Ok tt)
-      done_for =
+      pub is_filled : Changes meant old (record mid { log = log; sectors = new; reserved = after }) (Ok tt)
+      is_filled =
           let a = view mid.log in
           let b = view log in
           let v = mid.numbers in

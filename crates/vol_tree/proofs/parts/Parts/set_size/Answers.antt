@@ -9,7 +9,7 @@ use Rattle.vol_tree.proofs.Changing.{refused_io}
 use Rattle.vol_tree.proofs.WriteCalls.{file_used, long_resized}
 use Rattle.vol_tree.proofs.OneTree.{limit_small}
 use Rattle.vol_tree.proofs.Taking.{refused_by}
-use Rattle.vol_tree.proofs.FileCalls.{can_change, done_for, no_space_for, too_big_for}
+use Rattle.vol_tree.proofs.FileCalls.{can_change, is_filled, has_no_space, is_too_big}
 use Rattle.vol_tree.proofs.Filling.{fails_after, fails_io}
 use Rattle.vol_tree.proofs.parts.Parts.set_size.Goals as goal
 
@@ -30,12 +30,12 @@ make_room-requires g c = record { «open» = c.in_ok-entry.ensures.reads.commits
 
 pub returns-in_default : goal.returns-in_default
 returns-in_default g c =
-    too_big_for c.args.self.now c.entry.new.self c.args.file c.in_ok-entry.entry (resized_bytes c.args.size) _ c.requires.is_open c.requires.first c.in_ok-entry.ensures.reads c.requires.used c.in_ok-entry.ensures.found refl
+    is_too_big c.args.self.now c.entry.new.self c.args.file c.in_ok-entry.entry (resized_bytes c.args.size) _ c.requires.is_open c.requires.first c.in_ok-entry.ensures.reads c.requires.used c.in_ok-entry.ensures.found refl
     c.args.size (λ h slot. long_resized c.args.size _) c.in_default.ensures
 
 pub returns-in_default-reserved_with : goal.returns-in_default-reserved_with
 returns-in_default-reserved_with g c =
-    no_space_for c.args.self.now c.entry.new.self c.args.file c.in_ok-entry.entry (resized_bytes c.args.size) _ c.requires.is_open c.requires.first c.in_ok-entry.ensures.reads c.requires.used c.in_ok-entry.ensures.found refl
+    has_no_space c.args.self.now c.entry.new.self c.args.file c.in_ok-entry.entry (resized_bytes c.args.size) _ c.requires.is_open c.requires.first c.in_ok-entry.ensures.reads c.requires.used c.in_ok-entry.ensures.found refl
     c.in-Some.size (λ h slot. long_resized c.args.size _ ∙ sym c.in-Some.ensures.0) c.in-Some.ensures.1 c.in_default-reserved_with.ensures
 
 pub returns-in_err-make_room : goal.returns-in_err-make_room
@@ -66,6 +66,6 @@ returns-in_err-set_size g c =
 pub returns : goal.returns
 returns g c =
     let done = c.in_ok-set_size.ensures in
-    done_for c.args.self.now c.entry.new.self c.args.file c.in_ok-entry.entry (resized_bytes c.args.size) _ c.requires.is_open c.requires.first c.in_ok-entry.ensures.reads c.requires.used c.in_ok-entry.ensures.found refl
+    is_filled c.args.self.now c.entry.new.self c.args.file c.in_ok-entry.entry (resized_bytes c.args.size) _ c.requires.is_open c.requires.first c.in_ok-entry.ensures.reads c.requires.used c.in_ok-entry.ensures.found refl
     c.make_room.new.self c.in_ok-make_room.ensures.commits c.set_size.new.log c.set_size.new.sectors c.in-Some-reserved_with.reserved c.slot_sector.result c.in-Some.size c.set_size.new.entry _ c.slot_sector.ensures c.in-Some.ensures.1 c.in-Some-reserved_with.ensures
     c.set_size.ensures.steps.log done.steps.failed c.set_size.ensures.steps.range done.entry done.file (ap (λ (k : ℕ). resized_bytes k (bytes_of (view c.make_room.new.self.log) c.in_ok-entry.entry)) c.in-Some.ensures.0)

@@ -14,7 +14,7 @@ use Rattle.vol_tree.proofs.WriteCalls.{file_used, long_written}
 use Rattle.vol_tree.proofs.Writes.{some_written}
 use Rattle.vol_tree.proofs.OneTree.{limit_small}
 use Rattle.vol_tree.proofs.Taking.{refused_by}
-use Rattle.vol_tree.proofs.FileCalls.{can_change, done_for, enough_for, no_space_for, small_for, too_big_for}
+use Rattle.vol_tree.proofs.FileCalls.{can_change, is_filled, has_enough, has_no_space, stays_small, is_too_big}
 use Rattle.vol_tree.proofs.Filling.{fails_after, fails_io}
 use Rattle.vol_tree.proofs.parts.Parts.write.Goals as goal
 
@@ -39,7 +39,7 @@ end_of_write-requires g c = subst (λ (n : ℕ). n ≤ 16384) (sym c.len-count.e
 pub returns-in_default : goal.returns-in_default
 returns-in_default g c =
     let old = c.args.self.now in
-    too_big_for old c.entry.new.self c.args.file c.in_ok-entry.entry (λ (l : List ℕ). written_bytes l c.args.offset c.args.bytes.now) _ c.requires.is_open c.requires.first c.in_ok-entry.ensures.reads c.requires.used c.in_ok-entry.ensures.found
+    is_too_big old c.entry.new.self c.args.file c.in_ok-entry.entry (λ (l : List ℕ). written_bytes l c.args.offset c.args.bytes.now) _ c.requires.is_open c.requires.first c.in_ok-entry.ensures.reads c.requires.used c.in_ok-entry.ensures.found
     (ap with_unit (some_written (geometry old.numbers) (tree_in (view old.log) old.numbers) c.args.file c.args.offset c.args.bytes.now c.requires.some))
     _ (λ h slot. long_written (view old.log) old.numbers (c.requires.is_open.content h) c.args.file c.requires.first c.in_ok-entry.entry slot (c.requires.used h) c.args.offset c.args.bytes.now c.requires.some)
     (omega (arith, c.in_default.ensures, c.len-count.ensures))
@@ -49,11 +49,11 @@ returns-in_default-reserved_with g c =
     let old = c.args.self.now in
     let d = c.in_ok-entry.entry in
     let end_is : c.in-Some.end ≡ c.args.offset + length c.args.bytes.now = c.in-Some.ensures.0 ∙ ap (λ (k : ℕ). c.args.offset + k) c.len-count.ensures in
-    no_space_for old c.entry.new.self c.args.file c.in_ok-entry.entry (λ (l : List ℕ). written_bytes l c.args.offset c.args.bytes.now) _ c.requires.is_open c.requires.first c.in_ok-entry.ensures.reads c.requires.used c.in_ok-entry.ensures.found
+    has_no_space old c.entry.new.self c.args.file c.in_ok-entry.entry (λ (l : List ℕ). written_bytes l c.args.offset c.args.bytes.now) _ c.requires.is_open c.requires.first c.in_ok-entry.ensures.reads c.requires.used c.in_ok-entry.ensures.found
     (ap with_unit (some_written (geometry old.numbers) (tree_in (view old.log) old.numbers) c.args.file c.args.offset c.args.bytes.now c.requires.some))
     c.max-size.result
     (λ h slot. long_written (view old.log) old.numbers (c.requires.is_open.content h) c.args.file c.requires.first c.in_ok-entry.entry slot (c.requires.used h) c.args.offset c.args.bytes.now c.requires.some ∙ sym (c.max-size.ensures ∙ ap (max d.size) end_is))
-    (small_for old c.entry.new.self c.args.file c.in_ok-entry.entry (λ (l : List ℕ). written_bytes l c.args.offset c.args.bytes.now) _ c.requires.is_open c.requires.first c.in_ok-entry.ensures.reads c.requires.used c.in_ok-entry.ensures.found
+    (stays_small old c.entry.new.self c.args.file c.in_ok-entry.entry (λ (l : List ℕ). written_bytes l c.args.offset c.args.bytes.now) _ c.requires.is_open c.requires.first c.in_ok-entry.ensures.reads c.requires.used c.in_ok-entry.ensures.found
     (ap with_unit (some_written (geometry old.numbers) (tree_in (view old.log) old.numbers) c.args.file c.args.offset c.args.bytes.now c.requires.some))
     c.in_ok-entry.ensures.right c.in-Some.end c.max-size.result c.max-size.ensures c.in-Some.ensures.1) c.in_default-reserved_with.ensures
 
@@ -80,7 +80,7 @@ write_at-requires g c =
       small = omega (arith, c.in-Some.ensures.0, c.in-Some.ensures.1, c.len-count.ensures, limit_small c.entry.new.self.numbers.version);
       few = c.requires.piece;
       space = λ h names body. subst (λ (size : ℕ). need_of size ≤ free_of mid.sectors + used_of (view mid.log) d) (sym size_is)
-          (enough_for old c.entry.new.self c.args.file c.in_ok-entry.entry (λ (l : List ℕ). written_bytes l c.args.offset c.args.bytes.now) _ c.requires.is_open c.requires.first c.in_ok-entry.ensures.reads c.requires.used c.in_ok-entry.ensures.found
+          (has_enough old c.entry.new.self c.args.file c.in_ok-entry.entry (λ (l : List ℕ). written_bytes l c.args.offset c.args.bytes.now) _ c.requires.is_open c.requires.first c.in_ok-entry.ensures.reads c.requires.used c.in_ok-entry.ensures.found
           (ap with_unit (some_written (geometry old.numbers) (tree_in (view old.log) old.numbers) c.args.file c.args.offset c.args.bytes.now c.requires.some))
           mid c.in_ok-make_room.ensures.commits c.in-Some-reserved_with.reserved c.max-size.result c.in-Some-reserved_with.ensures h);
     }
@@ -103,10 +103,10 @@ returns g c =
     let at : c.in-Some.end - c.len-count.result ≡ c.args.offset = omega (arith, c.in-Some.ensures.0) in
     let back : c.in-Some.end - c.len-count.result + length c.args.bytes.now ≡ c.in-Some.end = omega (arith, c.in-Some.ensures.0, c.len-count.ensures) in
     let size_is : max c.in_ok-entry.entry.size (c.in-Some.end - c.len-count.result + length c.args.bytes.now) ≡ c.max-size.result = ap (max c.in_ok-entry.entry.size) back ∙ sym c.max-size.ensures in
-    let small = small_for old c.entry.new.self c.args.file c.in_ok-entry.entry (λ (l : List ℕ). written_bytes l c.args.offset c.args.bytes.now) _ c.requires.is_open c.requires.first c.in_ok-entry.ensures.reads c.requires.used c.in_ok-entry.ensures.found
+    let small = stays_small old c.entry.new.self c.args.file c.in_ok-entry.entry (λ (l : List ℕ). written_bytes l c.args.offset c.args.bytes.now) _ c.requires.is_open c.requires.first c.in_ok-entry.ensures.reads c.requires.used c.in_ok-entry.ensures.found
     (ap with_unit (some_written (geometry old.numbers) (tree_in (view old.log) old.numbers) c.args.file c.args.offset c.args.bytes.now c.requires.some))
     c.in_ok-entry.ensures.right c.in-Some.end c.max-size.result c.max-size.ensures c.in-Some.ensures.1 in
-    done_for old c.entry.new.self c.args.file c.in_ok-entry.entry (λ (l : List ℕ). written_bytes l c.args.offset c.args.bytes.now) _ c.requires.is_open c.requires.first c.in_ok-entry.ensures.reads c.requires.used c.in_ok-entry.ensures.found
+    is_filled old c.entry.new.self c.args.file c.in_ok-entry.entry (λ (l : List ℕ). written_bytes l c.args.offset c.args.bytes.now) _ c.requires.is_open c.requires.first c.in_ok-entry.ensures.reads c.requires.used c.in_ok-entry.ensures.found
     (ap with_unit (some_written (geometry old.numbers) (tree_in (view old.log) old.numbers) c.args.file c.args.offset c.args.bytes.now c.requires.some))
     mid c.in_ok-make_room.ensures.commits c.write_at.new.log c.write_at.new.sectors c.in-Some-reserved_with.reserved c.slot_sector.result c.max-size.result c.write_at.new.entry _ c.slot_sector.ensures small c.in-Some-reserved_with.ensures
     c.write_at.ensures.steps.log done.steps.failed c.write_at.ensures.steps.range (subst (λ (k : ℕ). EntryBecomes c.slot_sector.result k (view c.write_at.new.log) d c.write_at.new.entry) size_is (done.entry c.requires.some))
