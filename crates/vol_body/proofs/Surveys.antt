@@ -1,5 +1,6 @@
 -- Steps of a survey.
 use Rattle.std.proofs.Common.{◌≡◌, ◌≢◌, ◌⊎◌, inl, inr, ⊎_elim, Bool, false, OnOk, ◌≤◌, ◌<◌, ◌+◌, ◌-◌, ◌*◌, ◌==◌, not, ℕ, zero, suc, List, [], ◌∷◌, ◌++◌, length, take, drop, map, get_or, replicate, Result, Ok, Err, IfErr, IsErrAnd, refl, sym, ◌∙◌, ap, subst, arith}
+use Rattle.std.proofs.lemmas.Result.{IfErr-weaker, on_ok_weaker}
 use Rattle.std.proofs.lemmas.List.{append_assoc, append-nil, length-append, take_more, take-append-drop, ext_get_or, flat_map_more, length-replicate, get_or-replicate}
 use Rattle.std.proofs.lemmas.List.FromFn.{length-map-range_with_len, get_or-map-range_with_len}
 use Rattle.std.proofs.lemmas.Grind.{flat_map-append}
@@ -9,13 +10,18 @@ use Rattle.std.specs.List.{range_with_len}
 use Rattle.byteorder.specs.Endian.{little_number}
 use Rattle.vol_sector.specs.Disk.{Image}
 use Rattle.vol_sector.specs.Fault.{is_device, device_failed, IsDamage}
+use Rattle.vol_sector.specs.declared.device.Device.{Ghosts}
 use Rattle.vol_sector.proofs.Damages.{damage_not_device}
 use Rattle.vol_sector.specs.declared.fault.VolumeFault.{VolumeFault}
 use Rattle.vol_sector.specs.declared.fault.VolumeFault.TheVariants as faults
+use Rattle.vol_log.specs.Log.{device_of, has_failed}
+use Rattle.vol_log.specs.Reading.{OnlyReads}
+use Rattle.vol_log.specs.declared.log.Log.{Log}
+use Rattle.vol_log.proofs.Readings.{reads_same, reads_then}
 use Rattle.vol_body.specs.Body.{number_in}
 use Rattle.vol_body.specs.Survey.{nonzero, AreInside}
 use Rattle.vol_inode.specs.Space.{inner_blocks_for}
-use Rattle.vol_body.specs.internal.Surveying.{listed, with_listed, all_listed, Pushes, Overflows, ListsNoneFrom, LaterNone}
+use Rattle.vol_body.specs.internal.Surveying.{listed, with_listed, all_listed, Pushes, Overflows, Surveys, ListsNoneFrom, LaterNone}
 use Rattle.vol_body.proofs.Places.{number_there}
 
 -- a beginning of numbers that are inside
@@ -134,12 +140,9 @@ pub length-listed : (content : Image) (n : ℕ) → length (listed content n) �
 unfolding listed
 length-listed content n = length-map-range_with_len (number_in content n) 0 128
 
--- one more list is pushed
-pub pushes_list : (content : Image) (first end : ℕ) (a b c xs : List ℕ) (i : ℕ) → i < length xs → Pushes first end a b (all_listed content (take i xs)) → Pushes first end b c (with_listed content (get_or xs i 0))
-    → Pushes first end a c (all_listed content (take (i + 1) xs))
-pushes_list content first end a b c xs i lt one two =
-    subst (Pushes first end a c) (flat_map_more (with_listed content) [] (take i xs) (get_or xs i 0) ∙ ap (all_listed content) (sym (take_more xs i 0 lt)))
-    (pushes_then first end a b c (all_listed content (take i xs)) (with_listed content (get_or xs i 0)) one two)
+-- one more list
+pub listed_more : (content : Image) (xs : List ℕ) (i : ℕ) → i < length xs → all_listed content (take i xs) ++ with_listed content (get_or xs i 0) ≡ all_listed content (take (i + 1) xs)
+listed_more content xs i lt = flat_map_more (with_listed content) [] (take i xs) (get_or xs i 0) ∙ ap (all_listed content) (sym (take_more xs i 0 lt))
 
 pub overflows_list : (content : Image) (first end : ℕ) (a b xs : List ℕ) (i : ℕ) → i < length xs → Pushes first end a b (all_listed content (take i xs)) → Overflows first end b (with_listed content (get_or xs i 0))
     → Overflows first end a (all_listed content xs)
@@ -148,7 +151,7 @@ overflows_list content first end a b xs i lt one over =
     let this = with_listed content (get_or xs i 0) in
     let rest = all_listed content (drop (i + 1) xs) in
     subst (Overflows first end a)
-    (ap (λ (l : List ℕ). l ++ rest) (flat_map_more (with_listed content) [] (take i xs) (get_or xs i 0) ∙ ap (all_listed content) (sym (take_more xs i 0 lt)))
+    (ap (λ (l : List ℕ). l ++ rest) (listed_more content xs i lt)
     ∙ sym (flat_map-append (with_listed content) (take (i + 1) xs) (drop (i + 1) xs)) ∙ ap (all_listed content) (take-append-drop (i + 1) xs))
     (overflows_before first end a (so_far ++ this) rest (overflows_then first end a b so_far this one over))
 
@@ -169,7 +172,7 @@ none_of_all content (suc k) =
 pub none_later : (content : Image) (n : ℕ) → n ≡ 0 → nonzero (n ∷ all_listed content (listed content n)) ≡ []
 none_later content n none = (λ i. nonzero (none i ∷ all_listed content (sym (listed_none content n none) i))) ∙ none_of_all content 128
 
-pub pushes_zeros : (first end : ℕ) (old numbers : List ℕ) → AreInside first end old → nonzero numbers ≡ [] → Pushes first end old old numbers
+pushes_zeros : (first end : ℕ) (old numbers : List ℕ) → AreInside first end old → nonzero numbers ≡ [] → Pushes first end old old numbers
 pushes_zeros first end old numbers all none = record { named = sym (append-nil old) ∙ ap (λ (l : List ℕ). old ++ l) (sym none); inside = all }
 
 pub lists_none : (content : Image) (n from : ℕ) → n ≡ 0 → ListsNoneFrom content n from
@@ -180,3 +183,49 @@ later_list_none content n count none = record {
   own = lists_none content n (inner_blocks_for (count - 186)) none;
   later = λ i lt. lists_none content (get_or (listed content n) i 0) (count - (186 + 128 * i)) (number_listed content n i lt ∙ ap (λ (m : ℕ). number_in content m i) none);
 }
+
+-- ---- what a step of a survey answers
+
+module _ {D : Type 0} {g : Ghosts D} (first end : ℕ) where
+  -- a `?` hands on the fault
+  pub surveys_handed : (old new : Log D g) (a z numbers : List ℕ) (NonePast : Type 0) (r : Result (Unit {0}) VolumeFault) (x : VolumeFault) → IsErrAnd r (λ y. y ≡ x)
+      → (g.honest (device_of old) → IsDamage x → NonePast → Overflows first end a numbers) → IsDamage x ⊎ ((x ≡ faults.Device) ⊎ (x ≡ faults.Memory)) → OnlyReads old new → has_failed new ≡ is_device x → Surveys first end old new a z numbers NonePast r
+  surveys_handed old new a z numbers NonePast (Ok t) x is damaged refused reads failed = absurd is
+  surveys_handed old new a z numbers NonePast (Err e) x is damaged refused reads failed = record {
+    pushes = λ h. tt;
+    past = λ h. tt;
+    inside = tt;
+    damaged = λ h. subst (λ (y : VolumeFault). IsDamage y → NonePast → Overflows first end a numbers) (sym is) (damaged h);
+    refused = subst (λ (y : VolumeFault). IsDamage y ⊎ ((y ≡ faults.Device) ⊎ (y ≡ faults.Memory))) (sym is) refused;
+    reads = reads;
+    failed = failed ∙ ap is_device (sym is);
+  }
+
+  -- none is pushed
+  pub surveys_none : (log : Log D g) (a numbers : List ℕ) (NonePast : Type 0) → AreInside first end a → nonzero numbers ≡ [] → NonePast → has_failed log ≡ false → Surveys first end log log a a numbers NonePast (Ok tt)
+  surveys_none log a numbers NonePast all none past working = record {
+    pushes = λ h. pushes_zeros first end a numbers all none;
+    past = λ h. past;
+    inside = all;
+    damaged = λ h. tt;
+    refused = tt;
+    reads = reads_same log;
+    failed = working;
+  }
+
+  -- a step after others
+  pub surveys_then : (old mid new : Log D g) (a b z xs ys zs : List ℕ) (NonePast Rest : Type 0) (r : Result (Unit {0}) VolumeFault) → (g.honest (device_of old) → Pushes first end a b xs) → OnlyReads old mid → has_failed mid ≡ false
+      → Surveys first end mid new b z zs Rest r → (g.honest (device_of old) → zs ≡ ys) → (g.honest (device_of old) → Rest → NonePast) → (g.honest (device_of old) → NonePast → Rest) → Surveys first end old new a z (xs ++ ys) NonePast r
+  surveys_then old mid new a b z xs ys zs NonePast Rest r pushed reads working step same whole part = record {
+    pushes = λ h. on_ok_weaker r (λ p. pushes_then first end a b z xs ys (pushed h) (subst (Pushes first end b z) (same h) p)) (step.pushes (reads.honest.0 h));
+    past = λ h. on_ok_weaker r (whole h) (step.past (reads.honest.0 h));
+    inside = step.inside;
+    damaged = λ h. IfErr-weaker r
+        (λ fault. IsDamage fault → Rest → Overflows first end b zs)
+        (λ fault. IsDamage fault → NonePast → Overflows first end a (xs ++ ys))
+        (λ fault holds is past. overflows_then first end a b xs ys (pushed h) (subst (Overflows first end b) (same h) (holds is (part h past))))
+        (step.damaged (reads.honest.0 h));
+    refused = step.refused;
+    reads = reads_then old mid new working reads step.reads;
+    failed = step.failed;
+  }

@@ -9,7 +9,7 @@ ghost use Rattle.vol_log.specs.Reading.{OnlyReads};
 ghost use Rattle.vol_inode.specs.Entry.{UnusedPointersAreZero};
 ghost use Rattle.vol_body.specs.Body.{data_block, named as named_at, number_in};
 ghost use Rattle.vol_body.specs.Survey.{every_position, sectors_named, AreInside, IsTrimmed};
-ghost use Rattle.vol_body.specs.internal.Surveying.{listed, with_listed, all_listed, Pushes, Overflows};
+ghost use Rattle.vol_body.specs.internal.Surveying.{listed, with_listed, all_listed, Pushes, Overflows, Surveys};
 ghost use Rattle.vol_body.specs.internal.Surveying.{ListsNoneFrom, LaterListNone, LaterNone};
 ghost use Rattle.vol_body.specs.internal.Surveying.{NamesNonePast, NamesBelow, EndsInZeros};
 ghost use Rattle.vol_inode.specs.declared.pointers.TheConstants.{MOST_BLOCKS};
@@ -146,19 +146,9 @@ fn survey_indirect_block<D: Device>(
     requires there { end ≤ log_sectors log.old }
     requires working { has_failed log.old ≡ false }
     requires inside { AreInside first end named.old.items }
-    ensures pushes { D.honest (device_of log.old) → OnOk result (Pushes first end
-        named.old.items named.new.items (with_listed (view log.old) indirect_block)) }
-    ensures past { D.honest (device_of log.old)
-        → OnOk result (ListsNoneFrom (view log.old) indirect_block from) }
-    ensures inside { OnOk result (AreInside first end named.new.items) }
-    ensures damaged { D.honest (device_of log.old)
-        → IfErr result (λ fault. IsDamage fault
-        → ListsNoneFrom (view log.old) indirect_block from
-        → Overflows first end named.old.items (with_listed (view log.old) indirect_block)) }
-    ensures refused { IfErr result (λ fault. IsDamage fault
-        ⊎ ((fault ≡ VolumeFault.Device) ⊎ (fault ≡ VolumeFault.Memory))) }
-    ensures reads { OnlyReads log.old log.new }
-    ensures failed { has_failed log.new ≡ device_failed result }
+    ensures { Surveys first end log.old log.new named.old.items named.new.items
+        (with_listed (view log.old) indirect_block)
+        (ListsNoneFrom (view log.old) indirect_block from) result }
 {
     if indirect_block == 0 {
         return Ok(()); // no numbers are listed
@@ -181,19 +171,9 @@ fn survey_inner_blocks<D: Device>(
     requires there { end ≤ log_sectors log.old }
     requires working { has_failed log.old ≡ false }
     requires inside { AreInside first end named.old.items }
-    ensures pushes { D.honest (device_of log.old) → OnOk result (Pushes first end
-        named.old.items named.new.items (all_listed (view log.old) inner_blocks.now)) }
-    ensures past { D.honest (device_of log.old)
-        → OnOk result (LaterListNone (view log.old) inner_blocks.now count) }
-    ensures inside { OnOk result (AreInside first end named.new.items) }
-    ensures damaged { D.honest (device_of log.old)
-        → IfErr result (λ fault. IsDamage fault
-        → LaterListNone (view log.old) inner_blocks.now count
-        → Overflows first end named.old.items (all_listed (view log.old) inner_blocks.now)) }
-    ensures refused { IfErr result (λ fault. IsDamage fault
-        ⊎ ((fault ≡ VolumeFault.Device) ⊎ (fault ≡ VolumeFault.Memory))) }
-    ensures reads { OnlyReads log.old log.new }
-    ensures failed { has_failed log.new ≡ device_failed result }
+    ensures { Surveys first end log.old log.new named.old.items named.new.items
+        (all_listed (view log.old) inner_blocks.now)
+        (LaterListNone (view log.old) inner_blocks.now count) result }
 {
     for i in 0..NUMBERS {
         let from = count.saturating_sub(LISTED + NUMBERS * i);
@@ -215,20 +195,9 @@ fn survey_double_indirect_block<D: Device>(
     requires there { end ≤ log_sectors log.old }
     requires working { has_failed log.old ≡ false }
     requires inside { AreInside first end named.old.items }
-    ensures pushes { D.honest (device_of log.old) → OnOk result (Pushes first end
-        named.old.items named.new.items
-        (double_indirect_block ∷ all_listed (view log.old) (listed (view log.old) double_indirect_block))) }
-    ensures past { D.honest (device_of log.old)
-        → OnOk result (LaterNone (view log.old) double_indirect_block count) }
-    ensures inside { OnOk result (AreInside first end named.new.items) }
-    ensures damaged { D.honest (device_of log.old)
-        → IfErr result (λ fault. IsDamage fault
-        → LaterNone (view log.old) double_indirect_block count → Overflows first end named.old.items
-        (double_indirect_block ∷ all_listed (view log.old) (listed (view log.old) double_indirect_block))) }
-    ensures refused { IfErr result (λ fault. IsDamage fault
-        ⊎ ((fault ≡ VolumeFault.Device) ⊎ (fault ≡ VolumeFault.Memory))) }
-    ensures reads { OnlyReads log.old log.new }
-    ensures failed { has_failed log.new ≡ device_failed result }
+    ensures { Surveys first end log.old log.new named.old.items named.new.items
+        (double_indirect_block ∷ all_listed (view log.old) (listed (view log.old) double_indirect_block))
+        (LaterNone (view log.old) double_indirect_block count) result }
 {
     if double_indirect_block == 0 {
         return Ok(()); // nor are there any inner blocks
@@ -251,19 +220,9 @@ fn survey_sectors<D: Device>(
     requires working { has_failed log.old ≡ false }
     requires pointers { UnusedPointersAreZero entry.now }
     requires inside { AreInside first end named.old.items }
-    ensures pushes { D.honest (device_of log.old) → OnOk result (Pushes first end
-        named.old.items named.new.items (map (named_at (view log.old) entry.now) every_position)) }
-    ensures past { D.honest (device_of log.old)
-        → OnOk result (NamesNonePast (view log.old) entry.now) }
-    ensures inside { OnOk result (AreInside first end named.new.items) }
-    ensures damaged { D.honest (device_of log.old)
-        → IfErr result (λ fault. IsDamage fault
-        → NamesNonePast (view log.old) entry.now → Overflows first end named.old.items
-        (map (named_at (view log.old) entry.now) every_position)) }
-    ensures refused { IfErr result (λ fault. IsDamage fault
-        ⊎ ((fault ≡ VolumeFault.Device) ⊎ (fault ≡ VolumeFault.Memory))) }
-    ensures reads { OnlyReads log.old log.new }
-    ensures failed { has_failed log.new ≡ device_failed result }
+    ensures { Surveys first end log.old log.new named.old.items named.new.items
+        (map (named_at (view log.old) entry.now) every_position)
+        (NamesNonePast (view log.old) entry.now) result }
 {
     let count = entry.size.div_ceil(512);
     push_all(named, &entry.pointers[..DIRECT as usize], first, end)?;

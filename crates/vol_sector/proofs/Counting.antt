@@ -2,7 +2,7 @@
 use Rattle.std.proofs.Common.{◌≡◌, ◌≤◌, inl, ⊎_elim, ◌+◌, ◌-◌, ℕ, suc, List, ◌∷◌, Bool, true, false, length, take, sym, ◌∙◌, ap, subst, arith}
 use Rattle.std.specs.Prelude.{count_by, cond}
 use Rattle.std.proofs.lemmas.List.Sums.{sum_by-cons}
-use Rattle.vol_sector.specs.Disk.{Image, Disk, Leaves, Keeps, OneMore, counted, both_counts}
+use Rattle.vol_sector.specs.Disk.{Image, Disk, Leaves, Keeps, OneMore}
 use Rattle.vol_sector.specs.Counting.{passed_since, counting}
 
 count : List Bool → ℕ
@@ -71,12 +71,3 @@ leaves_any a b P leaves = record {
 -- one operation more
 pub counts_one : (old new : List Bool) (passed : Bool) → new ≡ passed ∷ old → length new ≡ length old + 1
 counts_one old new passed is = omega (arith, ap length is)
-
--- a failure of the device below is one of the two counts together
-pub both_counted : (failed : Bool) (before after own : ℕ) → after ≡ counted failed before → both_counts after own ≡ counted failed (both_counts before own)
-both_counted true before after own is = omega (arith, is)
-both_counted false before after own is = ap (λ (n : ℕ). both_counts n own) is
-
--- a failure above the device below is one of the two counts together
-pub one_failed : (before own after : ℕ) → after ≡ counted true own → both_counts before after ≡ counted true (both_counts before own)
-one_failed before own after is = omega (arith, is)

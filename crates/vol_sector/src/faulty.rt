@@ -30,10 +30,8 @@ impl Countdown {
         self.left = self.left.saturating_sub(1);
         if fails {
             self.failures = self.failures.saturating_add(1);
-            self.operations = self.operations.kept();
-        } else {
-            self.operations = self.operations.passed();
         }
+        self.operations = self.operations.and(!fails);
         !fails
     }
 }

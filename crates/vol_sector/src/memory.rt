@@ -131,7 +131,7 @@ impl MemoryDevice {
         ensures crash { Leaves (disk_of self.old) (disk_of self.new) (λ c. ⊥) }
         ensures keeps { Keeps (disk_of self.old) (disk_of self.new) }
     {
-        self.operations = self.operations.kept();
+        self.operations = self.operations.and(false);
         self.failures = self.failures.saturating_add(1);
         DeviceFault
     }
@@ -250,7 +250,7 @@ impl Device for MemoryDevice {
         ensures never_fails { IsOk result }
         ensures same { IsUnchanged self.old self.new }
     {
-        self.operations = self.operations.kept(); // a read is tried, but not recorded
+        self.operations = self.operations.and(false); // a read is tried, but not recorded
         Ok(self.current[n as usize])
     }
 
@@ -283,7 +283,7 @@ impl Device for MemoryDevice {
         match self.history.push(Operation::Write(n, image)) {
             Ok(()) => {
                 self.current[n as usize] = image;
-                self.operations = self.operations.passed(); // the write is in the record now
+                self.operations = self.operations.and(true); // the write is in the record now
                 Ok(())
             }
             Err(_) => Err(self.fail()),
@@ -312,7 +312,7 @@ impl Device for MemoryDevice {
         }
         match self.history.push(Operation::Sync) {
             Ok(()) => {
-                self.operations = self.operations.passed();
+                self.operations = self.operations.and(true);
                 Ok(())
             }
             Err(_) => Err(self.fail()),

@@ -2,7 +2,7 @@
 use Rattle.std.proofs.Common.{is_some, ◌≡◌, ◌≢◌, inl, inr, ℕ, zero, suc, ◌+◌, ◌-◌, ◌≤◌, ◌<◌, ◌==◌, ◌||◌, true, false, not, Bool, [], ◌∷◌, length, drop, get_or, Option, Some, None, Ok, Err, MatchOption, refl, sym, ◌∙◌, ap, subst, arith}
 use Rattle.std.specs.List.{list_any}
 use Rattle.std.specs.Option.{option_map_or}
-use Rattle.std.proofs.lemmas.Bool.{cases_lt, cases_Bool, false≢true, eq-eqb, eqb-true}
+use Rattle.std.proofs.lemmas.Bool.{cases_lt, cases_Bool, false≢true, not-true, eq-eqb, eqb-true}
 use Rattle.std.proofs.lemmas.Option.{none-some}
 use Rattle.std.proofs.lemmas.List.{get_or-drop, length-drop}
 use Rattle.vol_sector.specs.Disk.{Image}
@@ -20,11 +20,13 @@ use Rattle.vol_tree.specs.Stands.{entry_of}
 use Rattle.vol_tree.specs.Opened.{tree_in}
 use Rattle.vol_tree.specs.internal.Slots.{slot_of}
 use Rattle.vol_tree.specs.internal.Parts.{IsContent}
+use Rattle.vol_tree.specs.internal.Removals.{IsBare}
 use Rattle.vol_tree.proofs.Entries.{used_within}
 use Rattle.vol_tree.proofs.Finding.{held, is_held, tree_entry}
 use Rattle.vol_tree.proofs.Lookups.{found, looked_up}
 use Rattle.vol_tree.proofs.Grows.{none_passes, not_there}
-use Rattle.vol_tree.proofs.Trees.{Childless, empty_childless}
+use Rattle.vol_tree.proofs.Trees.{Childless, empty_childless, file_childless}
+use Rattle.vol_tree.proofs.WriteCalls.{file_used}
 use Rattle.vol_tree.proofs.Writes.{first_refuses, next_decides}
 
 -- an entry that stands in the directory
@@ -150,7 +152,14 @@ removed_is T d other empty =
     ∙ next_decides (not (is_empty T d)) errno.NotEmpty [] (Ok (changed T d None)) (ap not empty)
 
 -- a file isn't the root
-pub file_not_top : (T : Tree) → IsTree T → (s : ℕ) → is_file_at T s ≡ true → s ≢ 1
+file_not_top : (T : Tree) → IsTree T → (s : ℕ) → is_file_at T s ≡ true → s ≢ 1
 file_not_top T t s file same =
     let at : tree.entry T s ≡ Some root = ap (tree.entry T) same ∙ t.top in
     false≢true (ap (λ (o : Option tree.Entry). option_map_or (λ (c : tree.Entry). not (is_directory c.node)) o false) (sym at) ∙ file)
+
+pub file_bare : (T : Tree) → IsTree T → (s : ℕ) → is_file_at T s ≡ true → IsBare T s
+file_bare T t s file = record { used = file_used T s file; not_top = file_not_top T t s file; bare = go (tree.entry T s) refl file }
+  where
+    go : (o : Option tree.Entry) → tree.entry T s ≡ o → option_map_or (λ (c : tree.Entry). not (is_directory c.node)) o false ≡ true → Childless T s
+    go None at is = absurd (false≢true is)
+    go (Some e) at is = file_childless T t s e at (not-true (is_directory e.node) is)

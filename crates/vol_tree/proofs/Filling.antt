@@ -3,14 +3,14 @@ use Rattle.std.proofs.Common.{◌≡◌, inr, ℕ, suc, ◌+◌, ◌-◌, ◌≤
 use Rattle.std.proofs.lemmas.List.FromFn.{length-map-range_with_len}
 use Rattle.vol_sector.specs.Disk.{Image, counted}
 use Rattle.vol_sector.specs.declared.device.Device.{Ghosts}
-use Rattle.vol_log.specs.Log.{view, device_of, has_failed}
+use Rattle.vol_log.specs.Log.{device_of, has_failed}
 use Rattle.vol_log.specs.Reading.{OnlyReads}
 use Rattle.vol_log.specs.declared.log.Log.{Log}
 use Rattle.vol_log.proofs.Moments.{leaves_quiet}
 use Rattle.vol_inode.specs.declared.entry.Entry.{Entry}
 use Rattle.vol_inode.specs.declared.entry.Kind.{Kind}
 use Rattle.vol_inode.specs.declared.entry.Kind.TheVariants as kinds
-use Rattle.vol_inode.specs.Space.{need_of}
+use Rattle.vol_inode.specs.Space.{size_limit, need_of}
 use Rattle.vol_body.specs.Body.{bytes_of, byte_at}
 use Rattle.vol_body.specs.Reading.{OnlyStages}
 use Rattle.vol_alloc.specs.declared.sectors.Alloc.{Alloc}
@@ -22,19 +22,20 @@ use Rattle.vol_tree.specs.declared.parts.Parts.{Parts}
 use Rattle.vol_tree.specs.declared.superblock.Superblock.{Superblock}
 use Rattle.vol_tree.specs.Tree as tree
 use Rattle.vol_tree.specs.Tree.{Tree, Node, Directory, File, IsTree, changed}
+use Rattle.vol_tree.specs.Calls.{if_it_fits}
 use Rattle.vol_tree.specs.Space.{space, size_of}
 use Rattle.vol_tree.specs.Stands.{entry_of, node_by}
-use Rattle.vol_tree.specs.Opened.{slots_in, tree_in, data_sectors, Keeps}
+use Rattle.vol_tree.specs.Opened.{slots_in, tree_in, data_sectors, geometry, Keeps}
 use Rattle.vol_tree.specs.internal.Slots.{slot_of}
 use Rattle.vol_tree.specs.Parts.{opened}
 use Rattle.vol_tree.specs.internal.Parts.{IsContent, AreTaken}
 use Rattle.vol_tree.specs.internal.Commits.{Commits}
 use Rattle.vol_tree.specs.internal.Changes.{Changes, Stages}
 use Rattle.vol_tree.specs.internal.Removals.{Fails}
-use Rattle.vol_tree.proofs.Changing.{done, fault_is_io}
+use Rattle.vol_tree.proofs.Changing.{fault_is_io}
 use Rattle.vol_tree.proofs.Rewriting.{Rewrites, filled_tree, rewritten_tree, rewritten_taken, rewritten_content, rewritten_front, rewritten_shows}
 use Rattle.vol_tree.proofs.Finding.{tree_entry, length_tree, slot_within}
-use Rattle.vol_tree.proofs.Writes.{space_changed}
+use Rattle.vol_tree.proofs.Writes.{it_fits, space_changed}
 use Rattle.vol_log.specs.declared.layout.TheConstants.{FIRST_AFTER_LOG}
 
 -- ---- a call that fails
@@ -145,20 +146,25 @@ module _ {D : Type 0} {g : Ghosts D} (a b : Image) (v : Superblock) (file : ℕ)
   tree_stays : IsTree U
   tree_stays = filled_tree T is.volume.tree file was at is_file bytes
 
+  long : length bytes ≡ e.size
+  long = ap length (sym r.content) ∙ length-map-range_with_len (byte_at b e) 0 e.size
+
   pub space_is : after ≡ space U
   space_is =
       let lt : file - 1 < length T = omega (arith, length_tree a v, slot_within a v.slots (file - 1) d r.slot) in
       let sums = space_changed T (file - 1) was (record was { node = File bytes }) (ap (tree.entry T) here ∙ at) lt in
       let same : space (changed T (suc (file - 1)) (Some (record was { node = File bytes }))) ≡ space U = ap (λ (s : ℕ). space (changed T s (Some (record was { node = File bytes })))) here in
       let long_was : length (bytes_of a d) ≡ d.size = length-map-range_with_len (byte_at a d) 0 d.size in
-      let long_now : length bytes ≡ e.size = ap length (sym r.content) ∙ length-map-range_with_len (byte_at b e) 0 e.size in
       let needs_was : need_of (size_of was.node) ≡ need_of d.size = ap (λ (n : Node). need_of (size_of n)) node_was ∙ ap need_of long_was in
-      let needs_now : need_of (length bytes) ≡ need_of e.size = ap need_of long_now in
+      let needs_now : need_of (length bytes) ≡ need_of e.size = ap need_of long in
       let reserved = r.reserved in
       omega (arith, sums, same, needs_was, needs_now, reserved, total)
 
   space_fits : space U ≤ data_sectors v
   space_fits = let fits = r.fits in omega (arith, space_is, fits)
+
+  pub filled_fits : e.size ≤ size_limit v.version → if_it_fits (geometry v) T file bytes ≡ Ok U
+  filled_fits small = it_fits (geometry v) T file was at bytes (omega (arith, small, long)) space_fits
 
   pub filled_content : IsContent b v
   filled_content = rewritten_content a b v (file - 1) d e mid.sectors new is r.slot first_is end_is low taken r.rewrites (subst IsTree (sym whole) tree_stays) (subst (λ (V : Tree). space V ≤ data_sectors v) (sym whole) space_fits)
@@ -171,32 +177,3 @@ module _ {D : Type 0} {g : Ghosts D} (a b : Image) (v : Superblock) (file : ℕ)
 
   pub filled_shows : Shows v.version a v.slots mid.dirs → Shows v.version b v.slots mid.dirs
   filled_shows shows = rewritten_shows a b v (file - 1) d e mid.sectors new is r.slot first_is end_is low taken r.rewrites mid.dirs shows
-
-module _ {D : Type 0} {g : Ghosts D} where
-  pub fills : (meant : Result (Tree × Unit {0}) Errno) (old mid : Parts D g) (log : Log D g) (new : Alloc) (after file : ℕ) (d e : Entry) (bytes : List ℕ) → Commits old mid false → OnlyStages mid.log log → has_failed log ≡ false
-      → first_of new ≡ first_of mid.sectors → end_of new ≡ end_of mid.sectors → 1 ≤ file
-      → (g.honest (device_of old.log) → Fills (view mid.log) (view log) mid.numbers file d e mid.sectors new mid.reserved after bytes)
-      → (g.honest (device_of old.log) → meant ≡ Ok (changed (tree_in (view mid.log) mid.numbers) file (Some (record (entry_of (view mid.log) d) { node = File bytes })), tt))
-      → Changes meant old (record mid { log = log; sectors = new; reserved = after }) (Ok tt)
-  fills meant old mid log new after file d e bytes c s fine first_same end_same first how is_meant =
-      let v = mid.numbers in
-      let is = c.is_open in
-      done meant old mid (record mid { log = log; sectors = new; reserved = after }) tt c (file_stages mid log new after s c.kept.failed fine first_same end_same)
-      (λ h.
-      let h1 = c.kept.honest.0 h in
-      let content = is.content h1 in
-      let working = is.working h1 c.kept.failed in
-      let total = is.reserved h1 in
-      record {
-        front = filled_front (view mid.log) (view log) v file first d e mid new after bytes content is.first is.end is.ranges.room working.taken total (how h) ∙ working.front;
-        content = filled_content (view mid.log) (view log) v file first d e mid new after bytes content is.first is.end is.ranges.room working.taken total (how h);
-        reserved = space_is (view mid.log) (view log) v file first d e mid new after bytes content is.first is.end is.ranges.room working.taken total (how h)
-            ∙ ap space (sym (filled_is (view mid.log) (view log) v file first d e mid new after bytes content is.first is.end is.ranges.room working.taken total (how h)));
-        shows = filled_shows (view mid.log) (view log) v file first d e mid new after bytes content is.first is.end is.ranges.room working.taken total (how h) (is.shows h1);
-        taken = filled_taken (view mid.log) (view log) v file first d e mid new after bytes content is.first is.end is.ranges.room working.taken total (how h);
-      })
-      (λ h.
-      let h1 = c.kept.honest.0 h in
-      let working = is.working h1 c.kept.failed in
-      let tree_is = filled_is (view mid.log) (view log) v file first d e mid new after bytes (is.content h1) is.first is.end is.ranges.room working.taken (is.reserved h1) (how h) in
-      is_meant h ∙ ap (λ (V : Tree). Ok (V, tt)) (sym tree_is))

@@ -24,6 +24,7 @@ pub mod Rewriting
 pub mod Writes
 pub mod WriteCalls
 pub mod Filling
+pub mod FileCalls
 pub mod ReadCalls
 pub mod Removing
 pub mod Taking

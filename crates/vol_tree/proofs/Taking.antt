@@ -12,7 +12,7 @@ use Rattle.vol_tree.specs.Tree.{Tree}
 use Rattle.vol_tree.specs.Opened.{Answers, LeavesAlone}
 use Rattle.vol_tree.specs.internal.Changes.{Changes}
 use Rattle.vol_tree.specs.Parts.{opened}
-use Rattle.vol_tree.specs.internal.Commits.{Commits}
+use Rattle.vol_tree.specs.internal.Commits.{Commits, Reads}
 use Rattle.vol_tree.specs.internal.Removals.{Fails}
 use Rattle.vol_tree.proofs.Committing.{crash_on}
 use Rattle.vol_tree.proofs.Changing.{IsQuiet, quiet_then, refused}
@@ -66,11 +66,11 @@ passed_err (Ok x) why P p io = absurd p
 passed_err (Err e) why P p io = p ∙ io
 
 -- a call that passes on why another one was refused
-pub refused_by : {D : Type 0} {g : Ghosts D} {X : Type 0} (Y : Type 0) (meant : Result (Tree × X) Errno) (old new : Parts D g) (r : Result X Errno) (why : Errno) → IsErrAnd r (λ e. e ≡ why) → Commits old new (is_io {X = Y} (Err why)) → IsQuiet old new
+pub refused_by : {D : Type 0} {g : Ghosts D} {X : Type 0} (Y : Type 0) (meant : Result (Tree × X) Errno) (old new : Parts D g) (r : Result X Errno) (why : Errno) → IsErrAnd r (λ e. e ≡ why) → Reads old new (is_io {X = Y} (Err why))
     → (g.honest (device_of old.log) → (meant ≡ Err why) ⊎ (why ≡ errno.Io)) → Changes meant old new r
-refused_by Y meant old new (Ok x) why p c quiet because = absurd p
-refused_by {X = X} Y meant old new (Err e) why p c quiet because =
-    refused meant old new e (subst (λ (io : Bool). Commits old new io) (same_io Y X why ∙ ap (λ (x : Errno). is_io {X = X} (Err x)) (sym p)) c) quiet
+refused_by Y meant old new (Ok x) why p reads because = absurd p
+refused_by {X = X} Y meant old new (Err e) why p reads because =
+    refused meant old new e (subst (λ (io : Bool). Reads old new io) (same_io Y X why ∙ ap (λ (x : Errno). is_io {X = X} (Err x)) (sym p)) reads)
     (λ h. ⊎_elim (λ is. inl (is ∙ ap (λ (x : Errno). Err x) (sym p))) (λ io. inr (p ∙ io)) (because h))
 
 left_alone : {D : Type 0} {g : Ghosts D} {X : Type 0} (a b c : Parts D g) (r : Result X Errno) → (g.honest (device_of a.log) → g.honest (device_of b.log)) → IsQuiet a b
@@ -79,22 +79,22 @@ left_alone a b c (Ok x) on first second h = tt
 left_alone a b c (Err e) on first second h = λ other. quiet_then a b c on first (λ h1. second h1 other) h
 
 -- a call that changes what reads left
-pub changes_after : {D : Type 0} {g : Ghosts D} {X : Type 0} (meant other : Result (Tree × X) Errno) (a b c : Parts D g) (r : Result X Errno) → Commits a b false → IsQuiet a b → Changes other b c r
+pub changes_after : {D : Type 0} {g : Ghosts D} {X : Type 0} (meant other : Result (Tree × X) Errno) (a b c : Parts D g) (r : Result X Errno) → Reads a b false → Changes other b c r
     → (g.honest (device_of a.log) → other ≡ meant) → Changes meant a c r
-changes_after {D} {g} {X} meant other a b c r first quiet second same = record {
+changes_after {D} {g} {X} meant other a b c r reads second same = record {
   is_open = second.is_open;
   answer = λ h.
-      let told = subst (λ (T : Tree). Answers other T (opened c).tree r) (first.tree h) (second.answer (first.kept.honest.0 h)) in
+      let told = subst (λ (T : Tree). Answers other T (opened c).tree r) (reads.commits.tree h) (second.answer (reads.commits.kept.honest.0 h)) in
       subst (λ (m : Result (Tree × X) Errno). Answers m (opened a).tree (opened c).tree r) (same h) told;
-  crash = λ h. crash_on (g.disk (device_of a.log)) (g.disk (device_of b.log)) (g.disk (device_of c.log)) b.numbers a.numbers (opened b).tree (opened a).tree first.kept.numbers (first.tree h) (first.crash h) (second.crash (first.kept.honest.0 h));
-  refused = left_alone a b c r first.kept.honest.0 quiet second.refused;
+  crash = λ h. crash_on (g.disk (device_of a.log)) (g.disk (device_of b.log)) (g.disk (device_of c.log)) b.numbers a.numbers (opened b).tree (opened a).tree reads.commits.kept.numbers (reads.commits.tree h) (reads.commits.crash h) (second.crash (reads.commits.kept.honest.0 h));
+  refused = left_alone a b c r reads.commits.kept.honest.0 reads.quiet second.refused;
   kept = record {
-    numbers = second.kept.numbers ∙ first.kept.numbers;
+    numbers = second.kept.numbers ∙ reads.commits.kept.numbers;
     failed = second.kept.failed;
-    failures = λ ok. second.kept.failures first.kept.failed ∙ ap (counted (is_io r)) (first.kept.failures ok);
-    idle = λ failed. absurd (let i = (first.kept.idle failed).1 in cc);
-    honest = (λ h. second.kept.honest.0 (first.kept.honest.0 h), λ h. first.kept.honest.1 (second.kept.honest.1 h));
-    size = second.kept.size ∙ first.kept.size;
+    failures = λ ok. second.kept.failures reads.commits.kept.failed ∙ ap (counted (is_io r)) (reads.commits.kept.failures ok);
+    idle = λ failed. absurd (let i = (reads.commits.kept.idle failed).1 in cc);
+    honest = (λ h. second.kept.honest.0 (reads.commits.kept.honest.0 h), λ h. reads.commits.kept.honest.1 (second.kept.honest.1 h));
+    size = second.kept.size ∙ reads.commits.kept.size;
   };
 }
 

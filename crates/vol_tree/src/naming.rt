@@ -1,11 +1,10 @@
 //! What the calls on names do to the parts of an open volume.
 
-ghost use Rattle.std.specs.Prelude.{◌≡◌, ◌≢◌, ◌≤◌, IsSome, IfOk, MatchResult, Some, true, false, is_err};
-ghost use Rattle.vol_sector.specs.Disk.{Leaves};
+ghost use Rattle.std.specs.Prelude.{◌≡◌, ◌≢◌, ◌≤◌, IsSome, IfOk, MatchResult, Some, None, Ok, true, false, is_err};
 ghost use Rattle.vol_inode.specs.Entry.{IsEntry, name_of};
 ghost use Rattle.vol_log.specs.Log.{view, device_of, room_of, has_failed};
 ghost use Rattle.vol_dirs.specs.Names.{Names};
-ghost use Rattle.vol_tree.specs.Tree.{IsDirectory, entry};
+ghost use Rattle.vol_tree.specs.Tree.{IsDirectory, entry, changed};
 ghost use Rattle.vol_tree.specs.Calls.{unlinked, directory_removed, with_unit, is_file_at};
 ghost use Rattle.vol_tree.specs.Opened.{is_io};
 
@@ -21,8 +20,8 @@ impl<D: Device> Parts<D> {
     ghost use Rattle.vol_tree.specs.internal.Changes.{Changes};
     ghost use Rattle.vol_tree.specs.Parts.{opened};
     ghost use Rattle.vol_tree.specs.internal.Parts.{IsOpen};
-    ghost use Rattle.vol_tree.specs.internal.Commits.{Commits};
-    ghost use Rattle.vol_tree.specs.internal.Removals.{Removes, TakesOut};
+    ghost use Rattle.vol_tree.specs.internal.Commits.{Reads};
+    ghost use Rattle.vol_tree.specs.internal.Removals.{IsBare, Removes, TakesOut};
 
     /// Takes a file out of its directory, and its space back.
     pub fn unlink(&mut self, file: Serial) -> Result<(), Errno>
@@ -34,10 +33,7 @@ impl<D: Device> Parts<D> {
         ensures { Changes (with_unit (Ok (unlinked (opened self.old).tree file))) self.old self.new
             result }
     {
-        let entry = self.held_entry(file)?;
-        self.make_room()?;
-        self.take_out(file, entry)?;
-        Ok(())
+        self.remove(file)
     }
 
     /// Takes an empty directory out of the one that it is in.
@@ -57,9 +53,22 @@ impl<D: Device> Parts<D> {
         if child.is_some() {
             return Err(Errno::NotEmpty);
         }
-        let entry = self.held_entry(directory)?;
+        self.remove(directory)
+    }
+
+    /// Takes an entry out in which nothing stands, and its space back.
+    fn remove(&mut self, serial: Serial) -> Result<(), Errno>
+        requires is_open { IsOpen self.old }
+        requires first { 1 ≤ serial }
+        requires last { serial ≤ self.old.numbers.slots }
+        requires bare { D.honest (device_of self.old.log)
+            → IsBare (opened self.old).tree serial }
+        ensures { Changes (with_unit (Ok (changed (opened self.old).tree serial None)))
+            self.old self.new result }
+    {
+        let entry = self.held_entry(serial)?;
         self.make_room()?;
-        self.take_out(directory, entry)?;
+        self.take_out(serial, entry)?;
         Ok(())
     }
 
@@ -70,11 +79,7 @@ impl<D: Device> Parts<D> {
         requires is_open { IsOpen self.old }
         requires first { 1 ≤ serial }
         requires last { serial ≤ self.old.numbers.slots }
-        ensures commits { Commits self.old self.new (is_io result) }
-        ensures quiet { D.honest (device_of self.old.log)
-            → Leaves (D.disk (device_of self.old.log)) (D.disk (device_of self.new.log)) (λ c. ⊥) }
-        ensures view { D.honest (device_of self.old.log)
-            → view self.new.log ≡ view self.old.log }
+        ensures reads { Reads self.old self.new (is_io result) }
         ensures right { IfOk result (λ e. IsEntry self.old.numbers.version e) }
         ensures held { IfOk result (λ e. Names self.new.dirs e.parent (name_of e) serial) }
         ensures found { D.honest (device_of self.old.log) → serial ≢ 1
@@ -88,13 +93,13 @@ impl<D: Device> Parts<D> {
         if !is_name(name) {
             return Err(Errno::Invalid);
         }
-        match self
+        let found = self
             .dirs
-            .lookup(&self.log, Serial::new(entry.parent), name)?
-        {
-            Some(found) if found == serial => Ok(entry),
-            _ => Err(Errno::Invalid),
+            .lookup(&self.log, Serial::new(entry.parent), name)?;
+        if found == Some(serial) {
+            return Ok(entry);
         }
+        Err(Errno::Invalid)
     }
 
     /// Takes an entry out that nothing stands in, with the sectors that it names.

@@ -1,7 +1,14 @@
 -- Steps of a survey.
-use Rattle.std.specs.Prelude.{◌≡◌, ◌≢◌, ◌/◌, ◌%◌, ◌≤◌, ◌<◌, ◌+◌, ◌-◌, ◌*◌, ℕ, List, ◌++◌, ◌∷◌, map, slice_index}
+use Rattle.std.specs.Prelude.{◌≡◌, ◌≢◌, ◌⊎◌, ◌/◌, ◌%◌, ◌≤◌, ◌<◌, ◌+◌, ◌-◌, ◌*◌, ℕ, List, ◌++◌, ◌∷◌, map, slice_index, Result, OnOk, IfErr}
 use Rattle.std.specs.List.{range_with_len, flat_map}
 use Rattle.vol_sector.specs.Disk.{Image}
+use Rattle.vol_sector.specs.Fault.{IsDamage, device_failed}
+use Rattle.vol_sector.specs.declared.device.Device.{Ghosts}
+use Rattle.vol_sector.specs.declared.fault.VolumeFault.{VolumeFault}
+use Rattle.vol_sector.specs.declared.fault.VolumeFault.TheVariants as faults
+use Rattle.vol_log.specs.Log.{device_of, has_failed}
+use Rattle.vol_log.specs.Reading.{OnlyReads}
+use Rattle.vol_log.specs.declared.log.Log.{Log}
 use Rattle.vol_inode.specs.declared.entry.Entry.{Entry}
 use Rattle.vol_inode.specs.Space.{blocks_for_size, inner_blocks_for}
 use Rattle.vol_inode.specs.declared.pointers.TheConstants.{LISTED, NUMBERS}
@@ -28,6 +35,17 @@ pub record Pushes (first end : ℕ) (old new numbers : List ℕ) : Type 0 where
 -- with these numbers not all would be inside the range
 abbrev pub Overflows : ℕ → ℕ → List ℕ → List ℕ → Type 0
 Overflows first end old numbers = AreInside first end (old ++ nonzero numbers) → ⊥
+
+-- A step of a survey pushes these numbers, and finds that none stands past the file's size. A damage is that it does, or
+-- that not all numbers would be inside the range.
+pub record Surveys {D : Type 0} {g : Ghosts D} (first end : ℕ) (old new : Log D g) (before after numbers : List ℕ) (NonePast : Type 0) (result : Result (Unit {0}) VolumeFault) : Type 0 where
+  pub pushes : g.honest (device_of old) → OnOk result (Pushes first end before after numbers)
+  pub past : g.honest (device_of old) → OnOk result NonePast
+  pub inside : OnOk result (AreInside first end after)
+  pub damaged : g.honest (device_of old) → IfErr result (λ fault. IsDamage fault → NonePast → Overflows first end before numbers)
+  pub refused : IfErr result (λ fault. IsDamage fault ⊎ ((fault ≡ faults.Device) ⊎ (fault ≡ faults.Memory)))
+  pub reads : OnlyReads old new
+  pub failed : has_failed new ≡ device_failed result
 
 -- a pointer sector lists none from one position on
 abbrev pub ListsNoneFrom : Image → ℕ → ℕ → Type 0

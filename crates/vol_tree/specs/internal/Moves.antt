@@ -1,12 +1,11 @@
 -- What moving an entry asks and leaves.
 use Rattle.std.specs.Prelude.{◌≡◌, ◌≢◌, ◌≤◌, ◌-◌, ℕ, false, Some, IsSome}
-use Rattle.vol_sector.specs.Disk.{Leaves}
 use Rattle.vol_sector.specs.declared.device.Device.{Ghosts}
 use Rattle.vol_log.specs.Log.{device_of}
 use Rattle.vol_tree.specs.declared.parts.Parts.{Parts}
 use Rattle.vol_tree.specs.Tree.{Tree, Path, Name, Entry, entry, Leads, IsDirectory}
 use Rattle.vol_tree.specs.Calls.{moved, is_within}
-use Rattle.vol_tree.specs.internal.Commits.{Commits}
+use Rattle.vol_tree.specs.internal.Commits.{Reads}
 use Rattle.vol_tree.specs.Parts.{opened}
 use Rattle.vol_tree.specs.internal.Parts.{IsOpen}
 use Rattle.vol_tree.specs.internal.Changes.{Stages}
@@ -37,8 +36,7 @@ pub record MovesTo {D : Type 0} {g : Ghosts D} (serial parent : ℕ) (name : Nam
 
 -- After some steps up from the directory the way has come to this one, and what is above it decides.
 pub record ClimbsTo {D : Type 0} {g : Ghosts D} (start now : Parts D g) (serial directory step at : ℕ) : Type 0 where
-  pub commits : Commits start now false
-  pub quiet : g.honest (device_of start.log) → Leaves (g.disk (device_of start.log)) (g.disk (device_of now.log)) (λ c. ⊥)
+  pub reads : Reads start now false
   pub first : 1 ≤ at
   pub last : at ≤ start.numbers.slots
   pub used : g.honest (device_of start.log) → IsSome (entry (opened start).tree at)

@@ -1,5 +1,5 @@
 -- What taking an entry out of a volume leaves of its parts.
-use Rattle.std.specs.Prelude.{◌≡◌, ◌≢◌, ◌↔◌, ◌+◌, ◌-◌, ◌≤◌, ℕ, Bool, true, false, List, Some, None, set}
+use Rattle.std.specs.Prelude.{◌≡◌, ◌≢◌, ◌↔◌, ◌+◌, ◌-◌, ◌≤◌, ℕ, Bool, true, false, List, Some, None, IsSome, set}
 use Rattle.vol_sector.specs.Disk.{Image, Leaves}
 use Rattle.vol_sector.specs.declared.device.Device.{Ghosts}
 use Rattle.vol_inode.specs.declared.entry.Entry.{Entry}
@@ -14,6 +14,12 @@ use Rattle.vol_tree.specs.internal.Slots.{slot_of}
 use Rattle.vol_tree.specs.Parts.{opened}
 use Rattle.vol_tree.specs.internal.Parts.{IsOpen}
 use Rattle.vol_tree.specs.internal.Changes.{Stages}
+
+-- It is an entry, and not the root, and nothing stands in it.
+pub record IsBare (T : tree.Tree) (serial : ℕ) : Type 0 where
+  pub used : IsSome (tree.entry T serial)
+  pub not_top : serial ≢ 1
+  pub bare : (t : ℕ) (d : tree.Entry) → tree.entry T t ≡ Some d → d.parent ≢ serial
 
 -- The entry is the serial's, and not the root's, and nothing stands in it.
 pub record Removes (content : Image) (v : Superblock) (serial : ℕ) (e : Entry) : Type 0 where

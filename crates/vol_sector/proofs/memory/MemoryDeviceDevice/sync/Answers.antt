@@ -29,18 +29,18 @@ returns-in-Ok-clause-crash c h =
     let m = c.args.self.now in
     let first = initial_image m in
     let ops = record_of m in
-    let operations = c.passed-self.result.outcomes in
+    let operations = c.and-self.result.outcomes in
     subst (λ (r : List Operation). Leaves (disk_of m) (counting operations (recorded first r)) (λ x. ⊥)) (sym c.in-Ok.ensures.items)
-    (leaves_passed (operations_of m) operations (recorded first ops) (recorded first _) (λ x. ⊥) c.passed-self.ensures (length_push ops Sync) (leaves_sync first ops))
+    (leaves_passed (operations_of m) operations (recorded first ops) (recorded first _) (λ x. ⊥) c.and-self.ensures (length_push ops Sync) (leaves_sync first ops))
 
 pub returns-in-Ok-clause-keeps : goal.returns-in-Ok-clause-keeps
 returns-in-Ok-clause-keeps c h =
     let m = c.args.self.now in
     let first = initial_image m in
     let ops = record_of m in
-    let operations = c.passed-self.result.outcomes in
+    let operations = c.and-self.result.outcomes in
     subst (λ (r : List Operation). Keeps (disk_of m) (counting operations (recorded first r))) (sym c.in-Ok.ensures.items)
-    (keeps_passed (operations_of m) operations (recorded first ops) (recorded first _) c.passed-self.ensures (length_push ops Sync) (keeps_push first ops Sync))
+    (keeps_passed (operations_of m) operations (recorded first ops) (recorded first _) c.and-self.ensures (length_push ops Sync) (keeps_push first ops Sync))
 
 pub returns-in-Err-clause-keeps : goal.returns-in-Err-clause-keeps
 returns-in-Err-clause-keeps c = grind (arith, common_steps)

@@ -23,19 +23,19 @@ returns-in-Ok-clause-crash c h =
     let m = c.args.self.now in
     let first = initial_image m in
     let ops = record_of m in
-    let operations = c.passed-self.result.outcomes in
+    let operations = c.and-self.result.outcomes in
     let step = After (Wrote c.args.n c.args.image.now) (LeftBy first ops) in
     subst (λ (r : List Operation). Leaves (disk_of m) (counting operations (recorded first r)) step) (sym c.in-Ok.ensures.items)
-    (leaves_passed (operations_of m) operations (recorded first ops) (recorded first _) step c.passed-self.ensures (length_push ops (Write c.args.n c.args.image.now)) (leaves_write first ops c.args.n c.args.image.now))
+    (leaves_passed (operations_of m) operations (recorded first ops) (recorded first _) step c.and-self.ensures (length_push ops (Write c.args.n c.args.image.now)) (leaves_write first ops c.args.n c.args.image.now))
 
 pub returns-in-Ok-clause-keeps : goal.returns-in-Ok-clause-keeps
 returns-in-Ok-clause-keeps c h =
     let m = c.args.self.now in
     let first = initial_image m in
     let ops = record_of m in
-    let operations = c.passed-self.result.outcomes in
+    let operations = c.and-self.result.outcomes in
     subst (λ (r : List Operation). Keeps (disk_of m) (counting operations (recorded first r))) (sym c.in-Ok.ensures.items)
-    (keeps_passed (operations_of m) operations (recorded first ops) (recorded first _) c.passed-self.ensures (length_push ops (Write c.args.n c.args.image.now)) (keeps_push first ops (Write c.args.n c.args.image.now)))
+    (keeps_passed (operations_of m) operations (recorded first ops) (recorded first _) c.and-self.ensures (length_push ops (Write c.args.n c.args.image.now)) (keeps_push first ops (Write c.args.n c.args.image.now)))
 
 pub returns-then-len-self-clause-crash : goal.returns-then-len-self-clause-crash
 returns-then-len-self-clause-crash c h = leaves_any (disk_of c.args.self.now) (disk_of c.fail.new.self) _ c.fail.ensures.crash

@@ -27,7 +27,7 @@ returns-then-self-entry-clause-answer g c h other used =
     let up = (c.requires.is_open.content h).volume.tree.inside c.args.serial (entry_of (view old.log) d) (tree_entry (view old.log) old.numbers c.args.serial d c.requires.first found) other in
     let back : suc (d.parent - 1) ≡ d.parent = omega (arith, c.if-entry-eq0.false) in
     let within = used_within T (d.parent - 1) up.0 (ap (entry T) back ∙ up.1) in
-    let slots : c.entry.new.self.numbers.slots ≡ old.numbers.slots = ap (λ (w : Superblock). w.slots) c.in_ok-entry.ensures.commits.kept.numbers in
+    let slots : c.entry.new.self.numbers.slots ≡ old.numbers.slots = ap (λ (w : Superblock). w.slots) c.in_ok-entry.ensures.reads.commits.kept.numbers in
     absurd (omega (arith, within, length_tree (view old.log) old.numbers, slots, c.if-self-entry.true))
 
 pub returns-clause-answer : goal.returns-clause-answer

@@ -11,7 +11,7 @@ use Rattle.vol_tree.specs.Stands.{node_by}
 use Rattle.vol_tree.specs.Opened.{tree_in}
 use Rattle.vol_tree.proofs.Committing.{no_commit}
 use Rattle.vol_tree.proofs.Finding.{looks_up, least_unused}
-use Rattle.vol_tree.proofs.Changing.{nothing_done, refused, refused_io, done, stages}
+use Rattle.vol_tree.proofs.Changing.{no_reads, refused, refused_io, done, stages}
 use Rattle.vol_tree.proofs.Adding.{created_no_space}
 use Rattle.vol_tree.proofs.Creating.{found_exists, missing_none, creates}
 use Rattle.vol_tree.proofs.parts.Parts.create.Goals as goal
@@ -32,7 +32,7 @@ returns-then-is_some g c =
     let old = c.args.self.now in
     let ok : has_failed old.log ≡ false = sym c.in_ok-lookup.ensures.failed in
     record {
-      changes = refused _ old old errno.Exist (no_commit old false c.requires.is_open ok) (nothing_done old) (λ h.
+      changes = refused _ old old errno.Exist (no_reads old c.requires.is_open ok) (λ h.
           let working = c.requires.is_open.working h ok in
           let found = looks_up (view old.log) old.numbers old.dirs (c.requires.is_open.content h) (c.requires.is_open.shows h) c.in_ok-lookup.field-0 c.args.parent c.args.name.now c.in_ok-lookup.ensures.found in
           inl (found_exists (tree_in (view old.log) old.numbers) c.args.parent c.args.name.now (node_by c.args.kind []) c.in_ok-lookup.field-0 found (sym c.is_some.ensures ∙ c.if-is_some.true)));
@@ -44,7 +44,7 @@ returns-in_default g c =
     let old = c.args.self.now in
     let ok : has_failed old.log ≡ false = sym c.in_ok-lookup.ensures.failed in
     record {
-      changes = refused _ old old errno.NoSpace (no_commit old false c.requires.is_open ok) (nothing_done old) (λ h.
+      changes = refused _ old old errno.NoSpace (no_reads old c.requires.is_open ok) (λ h.
           let working = c.requires.is_open.working h ok in
           let T = tree_in (view old.log) old.numbers in
           let found = looks_up (view old.log) old.numbers old.dirs (c.requires.is_open.content h) (c.requires.is_open.shows h) c.in_ok-lookup.field-0 c.args.parent c.args.name.now c.in_ok-lookup.ensures.found in

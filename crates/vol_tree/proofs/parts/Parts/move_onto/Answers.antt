@@ -6,23 +6,22 @@ use Rattle.vol_inode.specs.Entry.{IsEntry, name_of}
 use Rattle.vol_dirs.specs.declared.dirs.Dirs.{Dirs}
 use Rattle.vol_dirs.specs.Names.{Names}
 use Rattle.vol_tree.specs.declared.superblock.Superblock.{Superblock}
-use Rattle.vol_tree.specs.Tree.{Tree, changed, entry}
+use Rattle.vol_tree.specs.Tree.{Tree, changed}
 use Rattle.vol_tree.specs.Calls.{moved, with_unit}
 use Rattle.vol_tree.specs.Stands.{Slots}
 use Rattle.vol_tree.specs.Opened.{tree_in, slots_in}
 use Rattle.vol_tree.specs.internal.Slots.{slot_of}
-use Rattle.vol_tree.specs.internal.Commits.{Commits}
+use Rattle.vol_tree.specs.internal.Commits.{Reads}
 use Rattle.vol_tree.specs.internal.Moves.{MovesToName}
 use Rattle.vol_tree.specs.internal.Replacing.{replacing}
 use Rattle.vol_tree.proofs.Committing.{commits_then, no_commit}
-use Rattle.vol_tree.proofs.Changing.{quiet_then, refused_io, done_open, stages_then}
-use Rattle.vol_tree.proofs.Climbing.{kind_at, onto_refused, onto_done, target_not_top, moves_after}
+use Rattle.vol_tree.proofs.Changing.{reads_then, refused_io, done_open, stages_then}
+use Rattle.vol_tree.proofs.Climbing.{onto_refused, onto_done, moves_after}
 use Rattle.vol_tree.proofs.Filling.{fails_io}
-use Rattle.vol_tree.proofs.Lookups.{looked_up}
 use Rattle.vol_tree.proofs.Taking.{commits_fail, refused_by}
 use Rattle.vol_tree.specs.Opened.{is_io}
 use Rattle.vol_tree.proofs.Trees.{Childless}
-use Rattle.vol_tree.proofs.Targets.{is_full, bare_target, never_io}
+use Rattle.vol_tree.proofs.Targets.{are_read, never_io, target_there}
 use Rattle.vol_tree.proofs.parts.Parts.move_onto.Goals as goal
 
 -- ---- each entry is read, and a commit makes room
@@ -32,7 +31,7 @@ held_entry-requires g c = record { is_open = c.requires.is_open; first = c.requi
 
 pub held_entry-requires-2 : goal.held_entry-requires-2
 held_entry-requires-2 g c =
-    let first = c.in_ok-entry.ensures.commits in
+    let first = c.in_ok-entry.ensures.reads.commits in
     record {
       is_open = first.is_open;
       first = c.requires.target_first;
@@ -40,7 +39,7 @@ held_entry-requires-2 g c =
     }
 
 pub make_room-requires : goal.make_room-requires
-make_room-requires g c = record { «open» = c.in_ok-gone.ensures.commits.is_open }
+make_room-requires g c = record { «open» = c.in_ok-gone.ensures.reads.commits.is_open }
 
 pub returns-in_err-child : goal.returns-in_err-child
 returns-in_err-child g c =
@@ -51,7 +50,7 @@ pub returns-in_err-entry : goal.returns-in_err-entry
 returns-in_err-entry g c =
     let old = c.args.self.now in
     let one = c.held_entry.new.self in
-    refused_by Entry _ old one c.from_residual-in_err-entry.result c.in_err-entry.field-0.0 c.from_residual-in_err-entry.ensures.1 c.in_err-entry.ensures.commits c.in_err-entry.ensures.quiet (λ h.
+    refused_by Entry _ old one c.from_residual-in_err-entry.result c.in_err-entry.field-0.0 c.from_residual-in_err-entry.ensures.1 c.in_err-entry.ensures.reads (λ h.
     let m = c.requires.moves h in
     inr (c.in_err-entry.ensures.found h m.not_top m.used))
 
@@ -60,15 +59,11 @@ returns-in_err-gone g c =
     let old = c.args.self.now in
     let one = c.held_entry.new.self in
     let two = c.held_entry-2.new.self in
-    let T = tree_in (view old.log) old.numbers in
-    let first = c.in_ok-entry.ensures.commits in
+    let first = c.in_ok-entry.ensures.reads.commits in
     let e = c.in_err-gone.field-0.0 in
-    refused_by Entry _ old two c.from_residual-in_err-gone.result e c.from_residual-in_err-gone.ensures.1 (commits_then old one two _ first c.in_err-gone.ensures.commits) (quiet_then old one two first.kept.honest.0 c.in_ok-entry.ensures.quiet c.in_err-gone.ensures.quiet) (λ h.
-    let some = c.requires.there h in
-    let is_child = looked_up T c.args.parent c.args.target c.args.name.now some in
-    let target_other = target_not_top T (c.requires.is_open.content h).volume.tree c.args.parent c.args.target c.args.name.now c.requires.name some in
-    let there1 : is_some (entry (tree_in (view one.log) one.numbers) c.args.target) ≡ true = ap (λ (U : Tree). is_some (entry U c.args.target)) (first.tree h) ∙ ap is_some is_child.1 in
-    inr (c.in_err-gone.ensures.found (first.kept.honest.0 h) target_other there1))
+    refused_by Entry _ old two c.from_residual-in_err-gone.result e c.from_residual-in_err-gone.ensures.1 (reads_then old one two _ c.in_ok-entry.ensures.reads c.in_err-gone.ensures.reads) (λ h.
+    let there = target_there old one c.args.parent c.args.target c.args.name.now c.requires.is_open first h c.requires.name (c.requires.there h) in
+    inr (c.in_err-gone.ensures.found (first.kept.honest.0 h) there.0 there.1))
 
 pub returns-in_err-may_replace : goal.returns-in_err-may_replace
 returns-in_err-may_replace g c =
@@ -76,38 +71,24 @@ returns-in_err-may_replace g c =
     let one = c.held_entry.new.self in
     let two = c.held_entry-2.new.self in
     let T = tree_in (view old.log) old.numbers in
-    let first = c.in_ok-entry.ensures.commits in
-    let commits = commits_then old one two false first c.in_ok-gone.ensures.commits in
+    let first = c.in_ok-entry.ensures.reads.commits in
     let k = c.in_ok-entry.entry.kind in
     let t = c.in_ok-gone.gone.kind in
     let f = is_some c.in_ok-child.child in
     let e = c.in_err-may_replace.field-0.0 in
     let why : replacing k t f ≡ Err e = ap (replacing k t) (sym c.is_some.ensures) ∙ sym c.in_err-may_replace.ensures in
     let io : is_io {X = Unit {0}} (Err e) ≡ false = ap is_io (sym why) ∙ never_io k t f in
-    refused_by (Unit {0}) _ old two c.from_residual-in_err-may_replace.result e c.from_residual-in_err-may_replace.ensures.1 (subst (λ (b : Bool). Commits old two b) (sym io) commits) (quiet_then old one two first.kept.honest.0 c.in_ok-entry.ensures.quiet c.in_ok-gone.ensures.quiet) (λ h.
-    let content = c.requires.is_open.content h in
-    let m = c.requires.moves h in
-    let some = c.requires.there h in
-    let is_child = looked_up T c.args.parent c.args.target c.args.name.now some in
-    let target_used : is_some (entry T c.args.target) ≡ true = ap is_some is_child.1 in
-    let target_other = target_not_top T content.volume.tree c.args.parent c.args.target c.args.name.now c.requires.name some in
-    let slot_one : slot_of (view old.log) old.numbers c.args.serial ≡ Some c.in_ok-entry.entry = c.in_ok-entry.ensures.found h m.not_top m.used in
-    let h1 = first.kept.honest.0 h in
-    let there1 : is_some (entry (tree_in (view one.log) one.numbers) c.args.target) ≡ true = ap (λ (U : Tree). is_some (entry U c.args.target)) (first.tree h) ∙ target_used in
-    let slot_two : slot_of (view old.log) old.numbers c.args.target ≡ Some c.in_ok-gone.gone = sym (ap (λ (s : Slots). get_or s (c.args.target - 1) None) (first.slots h)) ∙ c.in_ok-gone.ensures.found h1 target_other there1 in
-    let kind_one = kind_at (view old.log) old.numbers c.args.serial c.in_ok-entry.entry c.requires.first slot_one in
-    let kind_two = kind_at (view old.log) old.numbers c.args.target c.in_ok-gone.gone c.requires.target_first slot_two in
-    let full = is_full (view old.log) old.numbers old.dirs content (c.requires.is_open.shows h) c.in_ok-child.child c.args.target c.in_ok-child.ensures.found in
-    inl (ap with_unit (onto_refused T c.args.serial c.args.parent c.args.target c.args.name.now k t f c.requires.other kind_one kind_two full e why)))
+    refused_by (Unit {0}) _ old two c.from_residual-in_err-may_replace.result e c.from_residual-in_err-may_replace.ensures.1 (subst (λ (b : Bool). Reads old two b) (sym io) (reads_then old one two false c.in_ok-entry.ensures.reads c.in_ok-gone.ensures.reads)) (λ h.
+    let read = are_read old one c.args.serial c.args.parent c.args.target c.args.name.now c.in_ok-entry.entry c.in_ok-gone.gone c.in_ok-child.child c.requires.is_open first h c.requires.first c.requires.target_first c.requires.name (c.requires.moves h) (c.requires.there h) c.in_ok-child.ensures.found (c.in_ok-entry.ensures.found h) (c.in_ok-gone.ensures.found (first.kept.honest.0 h)) in
+    inl (ap with_unit (onto_refused T c.args.serial c.args.parent c.args.target c.args.name.now k t f c.requires.other read.kind_one read.kind_other read.full_is e why)))
 
 pub returns-in_err-make_room : goal.returns-in_err-make_room
 returns-in_err-make_room g c =
     let old = c.args.self.now in
     let one = c.held_entry.new.self in
     let two = c.held_entry-2.new.self in
-    let T = tree_in (view old.log) old.numbers in
-    let first = c.in_ok-entry.ensures.commits in
-    let commits = commits_then old one two false first c.in_ok-gone.ensures.commits in
+    let first = c.in_ok-entry.ensures.reads.commits in
+    let commits = commits_then old one two false first c.in_ok-gone.ensures.reads.commits in
     refused_io _ old c.make_room.new.self c.from_residual-in_err-make_room.result c.from_residual-in_err-make_room.ensures.1
     (commits_then old two c.make_room.new.self true commits c.in_err-make_room.ensures.commits)
 
@@ -116,9 +97,8 @@ take_out-requires g c =
     let old = c.args.self.now in
     let one = c.held_entry.new.self in
     let two = c.held_entry-2.new.self in
-    let T = tree_in (view old.log) old.numbers in
-    let first = c.in_ok-entry.ensures.commits in
-    let second = c.in_ok-gone.ensures.commits in
+    let first = c.in_ok-entry.ensures.reads.commits in
+    let second = c.in_ok-gone.ensures.reads.commits in
     let third = c.in_ok-make_room.ensures.commits in
     let commits = commits_then old one two false first second in
     let mid = c.make_room.new.self in
@@ -137,19 +117,11 @@ take_out-requires g c =
       held = subst (λ (d : Dirs). Names d gone.parent (name_of gone) c.args.target) (sym third.dirs) c.in_ok-gone.ensures.held;
       removes = λ h2.
           let h = all.kept.honest.1 h2 in
-          let content = c.requires.is_open.content h in
-          let some = c.requires.there h in
-          let is_child = looked_up T c.args.parent c.args.target c.args.name.now some in
-          let target_used : is_some (entry T c.args.target) ≡ true = ap is_some is_child.1 in
-          let target_other = target_not_top T content.volume.tree c.args.parent c.args.target c.args.name.now c.requires.name some in
-          let there1 : is_some (entry (tree_in (view one.log) one.numbers) c.args.target) ≡ true = ap (λ (U : Tree). is_some (entry U c.args.target)) (first.tree h) ∙ target_used in
-          let slot_two : slot_of (view old.log) old.numbers c.args.target ≡ Some gone = sym (ap (λ (s : Slots). get_or s (c.args.target - 1) None) (first.slots h)) ∙ c.in_ok-gone.ensures.found (first.kept.honest.0 h) target_other there1 in
-          let bare : Childless T c.args.target = bare_target (view old.log) old.numbers old.dirs content (c.requires.is_open.shows h) c.in_ok-child.child c.args.target k gone
-          c.requires.target_first slot_two c.in_ok-child.ensures.found okay in
+          let read = are_read old one c.args.serial c.args.parent c.args.target c.args.name.now c.in_ok-entry.entry c.in_ok-gone.gone c.in_ok-child.child c.requires.is_open first h c.requires.first c.requires.target_first c.requires.name (c.requires.moves h) (c.requires.there h) c.in_ok-child.ensures.found (c.in_ok-entry.ensures.found h) (c.in_ok-gone.ensures.found (first.kept.honest.0 h)) in
           record {
-            slot = ap (λ (s : Slots). get_or s (c.args.target - 1) None) (all.slots h) ∙ slot_two;
-            not_top = target_other;
-            bare = subst (λ (U : Tree). Childless U c.args.target) (sym (all.tree h)) bare;
+            slot = ap (λ (s : Slots). get_or s (c.args.target - 1) None) (all.slots h) ∙ read.other;
+            not_top = read.not_top;
+            bare = subst (λ (U : Tree). Childless U c.args.target) (sym (all.tree h)) (read.bare okay);
           };
     }
 
@@ -158,9 +130,8 @@ returns-in_err-take_out g c =
     let old = c.args.self.now in
     let one = c.held_entry.new.self in
     let two = c.held_entry-2.new.self in
-    let T = tree_in (view old.log) old.numbers in
-    let first = c.in_ok-entry.ensures.commits in
-    let commits = commits_then old one two false first c.in_ok-gone.ensures.commits in
+    let first = c.in_ok-entry.ensures.reads.commits in
+    let commits = commits_then old one two false first c.in_ok-gone.ensures.reads.commits in
     let mid = c.make_room.new.self in
     let all = commits_then old two mid false commits c.in_ok-make_room.ensures.commits in
     fails_io _ old c.take_out.new.self c.from_residual-in_err-take_out.result c.from_residual-in_err-take_out.ensures.1 (commits_fail old mid c.take_out.new.self all (c.in_err-take_out.ensures.fails refl))
@@ -171,8 +142,8 @@ relocate-requires g c =
     let one = c.held_entry.new.self in
     let two = c.held_entry-2.new.self in
     let T = tree_in (view old.log) old.numbers in
-    let first = c.in_ok-entry.ensures.commits in
-    let second = c.in_ok-gone.ensures.commits in
+    let first = c.in_ok-entry.ensures.reads.commits in
+    let second = c.in_ok-gone.ensures.reads.commits in
     let third = c.in_ok-make_room.ensures.commits in
     let commits = commits_then old one two false first second in
     let mid = c.make_room.new.self in
@@ -204,19 +175,10 @@ relocate-requires g c =
       moves = λ h3.
           let h2 = gone.stages.honest.1 h3 in
           let h = all.kept.honest.1 h2 in
-          let content = c.requires.is_open.content h in
-          let m = c.requires.moves h in
-          let some = c.requires.there h in
-          let is_child = looked_up T c.args.parent c.args.target c.args.name.now some in
-          let target_used : is_some (entry T c.args.target) ≡ true = ap is_some is_child.1 in
-          let target_other = target_not_top T content.volume.tree c.args.parent c.args.target c.args.name.now c.requires.name some in
-          let there1 : is_some (entry (tree_in (view one.log) one.numbers) c.args.target) ≡ true = ap (λ (U : Tree). is_some (entry U c.args.target)) (first.tree h) ∙ target_used in
-          let slot_two : slot_of (view old.log) old.numbers c.args.target ≡ Some t = sym (ap (λ (s : Slots). get_or s (c.args.target - 1) None) (first.slots h)) ∙ c.in_ok-gone.ensures.found (first.kept.honest.0 h) target_other there1 in
-          let bare : Childless T c.args.target = bare_target (view old.log) old.numbers old.dirs content (c.requires.is_open.shows h) c.in_ok-child.child c.args.target e.kind t
-          c.requires.target_first slot_two c.in_ok-child.ensures.found okay in
+          let read = are_read old one c.args.serial c.args.parent c.args.target c.args.name.now c.in_ok-entry.entry c.in_ok-gone.gone c.in_ok-child.child c.requires.is_open first h c.requires.first c.requires.target_first c.requires.name (c.requires.moves h) (c.requires.there h) c.in_ok-child.ensures.found (c.in_ok-entry.ensures.found h) (c.in_ok-gone.ensures.found (first.kept.honest.0 h)) in
           let tree_is : tree_in (view last.log) last.numbers ≡ changed T c.args.target None = gone.tree h2 ∙ ap (λ (U : Tree). changed U c.args.target None) (all.tree h) in
           subst (λ (U : Tree). MovesToName U c.args.serial c.args.parent c.args.name.now) (sym tree_is)
-          (moves_after T content.volume.tree c.args.serial c.args.parent c.args.target c.args.name.now m c.requires.other some bare);
+          (moves_after T (c.requires.is_open.content h).volume.tree c.args.serial c.args.parent c.args.target c.args.name.now (c.requires.moves h) c.requires.other (c.requires.there h) (read.bare okay));
     }
 
 pub returns : goal.returns
@@ -225,8 +187,8 @@ returns g c =
     let one = c.held_entry.new.self in
     let two = c.held_entry-2.new.self in
     let T = tree_in (view old.log) old.numbers in
-    let first = c.in_ok-entry.ensures.commits in
-    let commits = commits_then old one two false first c.in_ok-gone.ensures.commits in
+    let first = c.in_ok-entry.ensures.reads.commits in
+    let commits = commits_then old one two false first c.in_ok-gone.ensures.reads.commits in
     let mid = c.make_room.new.self in
     let all = commits_then old two mid false commits c.in_ok-make_room.ensures.commits in
     let last = c.take_out.new.self in
@@ -239,19 +201,7 @@ returns g c =
     done_open _ old mid c.relocate.new.self tt all to.is_open (stages_then mid last c.relocate.new.self gone.stages to.stages) (λ h.
     let h2 = all.kept.honest.0 h in
     let h3 = gone.stages.honest.0 h2 in
-    let content = c.requires.is_open.content h in
-    let m = c.requires.moves h in
-    let some = c.requires.there h in
-    let is_child = looked_up T c.args.parent c.args.target c.args.name.now some in
-    let target_used : is_some (entry T c.args.target) ≡ true = ap is_some is_child.1 in
-    let target_other = target_not_top T content.volume.tree c.args.parent c.args.target c.args.name.now c.requires.name some in
-    let slot_one : slot_of (view old.log) old.numbers c.args.serial ≡ Some c.in_ok-entry.entry = c.in_ok-entry.ensures.found h m.not_top m.used in
-    let h1 = first.kept.honest.0 h in
-    let there1 : is_some (entry (tree_in (view one.log) one.numbers) c.args.target) ≡ true = ap (λ (U : Tree). is_some (entry U c.args.target)) (first.tree h) ∙ target_used in
-    let slot_two : slot_of (view old.log) old.numbers c.args.target ≡ Some c.in_ok-gone.gone = sym (ap (λ (s : Slots). get_or s (c.args.target - 1) None) (first.slots h)) ∙ c.in_ok-gone.ensures.found h1 target_other there1 in
-    let kind_one = kind_at (view old.log) old.numbers c.args.serial c.in_ok-entry.entry c.requires.first slot_one in
-    let kind_two = kind_at (view old.log) old.numbers c.args.target c.in_ok-gone.gone c.requires.target_first slot_two in
-    let full = is_full (view old.log) old.numbers old.dirs content (c.requires.is_open.shows h) c.in_ok-child.child c.args.target c.in_ok-child.ensures.found in
+    let read = are_read old one c.args.serial c.args.parent c.args.target c.args.name.now c.in_ok-entry.entry c.in_ok-gone.gone c.in_ok-child.child c.requires.is_open first h c.requires.first c.requires.target_first c.requires.name (c.requires.moves h) (c.requires.there h) c.in_ok-child.ensures.found (c.in_ok-entry.ensures.found h) (c.in_ok-gone.ensures.found (first.kept.honest.0 h)) in
     let tree_is : tree_in (view last.log) last.numbers ≡ changed T c.args.target None = gone.tree h2 ∙ ap (λ (U : Tree). changed U c.args.target None) (all.tree h) in
-    ap with_unit (onto_done T c.args.serial c.args.parent c.args.target c.args.name.now k t f c.requires.other kind_one kind_two full okay)
+    ap with_unit (onto_done T c.args.serial c.args.parent c.args.target c.args.name.now k t f c.requires.other read.kind_one read.kind_other read.full_is okay)
     ∙ ap (λ (U : Tree). Ok (U, tt)) (ap (λ (U : Tree). moved U c.args.serial c.args.parent c.args.name.now) (sym tree_is) ∙ sym (to.tree h3)))

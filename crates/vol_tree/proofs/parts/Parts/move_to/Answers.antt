@@ -19,24 +19,24 @@ held_entry-requires g c = record { is_open = c.requires.is_open; first = c.requi
 pub returns-in_err-entry : goal.returns-in_err-entry
 returns-in_err-entry g c =
     let old = c.args.self.now in
-    refused_by Entry _ old c.held_entry.new.self c.from_residual.result c.in_err-entry.field-0.0 c.from_residual.ensures.1 c.in_err-entry.ensures.commits c.in_err-entry.ensures.quiet (λ h.
+    refused_by Entry _ old c.held_entry.new.self c.from_residual.result c.in_err-entry.field-0.0 c.from_residual.ensures.1 c.in_err-entry.ensures.reads (λ h.
     let m = c.requires.moves h in
     inr (c.in_err-entry.ensures.found h m.into.not_top m.into.used))
 
 pub make_room-requires : goal.make_room-requires
-make_room-requires g c = record { «open» = c.in_ok-entry.ensures.commits.is_open }
+make_room-requires g c = record { «open» = c.in_ok-entry.ensures.reads.commits.is_open }
 
 pub returns-in_err-make_room : goal.returns-in_err-make_room
 returns-in_err-make_room g c =
     let old = c.args.self.now in
-    let commits = commits_then old c.held_entry.new.self c.make_room.new.self true c.in_ok-entry.ensures.commits c.in_err-make_room.ensures.commits in
+    let commits = commits_then old c.held_entry.new.self c.make_room.new.self true c.in_ok-entry.ensures.reads.commits c.in_err-make_room.ensures.commits in
     refused_io _ old c.make_room.new.self c.from_residual-in_err-make_room.result c.from_residual-in_err-make_room.ensures.1 commits
 
 pub relocate-requires : goal.relocate-requires
 relocate-requires g c =
     let old = c.args.self.now in
     let mid = c.make_room.new.self in
-    let first = c.in_ok-entry.ensures.commits in
+    let first = c.in_ok-entry.ensures.reads.commits in
     let second = c.in_ok-make_room.ensures.commits in
     let commits = commits_then old c.held_entry.new.self mid false first second in
     let d = c.in_ok-entry.entry in
@@ -62,7 +62,7 @@ pub returns : goal.returns
 returns g c =
     let old = c.args.self.now in
     let mid = c.make_room.new.self in
-    let commits = commits_then old c.held_entry.new.self mid false c.in_ok-entry.ensures.commits c.in_ok-make_room.ensures.commits in
+    let commits = commits_then old c.held_entry.new.self mid false c.in_ok-entry.ensures.reads.commits c.in_ok-make_room.ensures.commits in
     let to = c.relocate.ensures in
     done_open _ old mid c.relocate.new.self tt commits to.is_open to.stages (λ h.
     ap (λ (U : Tree). Ok (U, tt)) (ap (λ (T : Tree). moved T c.args.serial c.args.parent c.args.name.now) (sym (commits.tree h)) ∙ sym (to.tree (commits.kept.honest.0 h))))

@@ -10,7 +10,7 @@ use Rattle.vol_tree.specs.Calls.{moved, moved_onto, with_unit, is_within}
 use Rattle.vol_tree.specs.Opened.{tree_in}
 use Rattle.vol_tree.specs.internal.Moves.{MovesToName, MovesIn}
 use Rattle.vol_tree.proofs.Committing.{no_commit}
-use Rattle.vol_tree.proofs.Changing.{nothing_done, refused, refused_io}
+use Rattle.vol_tree.proofs.Changing.{no_reads, refused, refused_io}
 use Rattle.vol_tree.proofs.Climbing.{onto_itself, renamed_root, renamed_within, renamed_free, renamed_onto, may_move_in, may_move}
 use Rattle.vol_tree.proofs.Finding.{looks_up}
 use Rattle.vol_tree.proofs.Taking.{changes_after, done_nothing, refused_by}
@@ -29,7 +29,7 @@ returns-in_err-target g c =
 pub returns-then-eq : goal.returns-then-eq
 returns-then-eq g c =
     let old = c.args.self.now in
-    refused _ old old errno.Invalid (no_commit old false c.requires.is_open (sym c.in_ok-target.ensures.failed)) (nothing_done old) (λ h.
+    refused _ old old errno.Invalid (no_reads old c.requires.is_open (sym c.in_ok-target.ensures.failed)) (λ h.
     inl (ap with_unit (renamed_root (tree_in (view old.log) old.numbers) c.args.serial c.args.parent c.args.name.now (equal c.args.serial 1 (sym c.eq.ensures ∙ c.if-eq.true)))))
 
 pub is_within-requires : goal.is_within-requires
@@ -45,14 +45,14 @@ is_within-requires g c = record {
 pub returns-in_err-is_within : goal.returns-in_err-is_within
 returns-in_err-is_within g c =
     let old = c.args.self.now in
-    refused_by Bool _ old c.is_within.new.self c.from_residual-in_err-is_within.result c.in_err-is_within.field-0.0 c.from_residual-in_err-is_within.ensures.1 c.in_err-is_within.ensures.commits c.in_err-is_within.ensures.quiet
+    refused_by Bool _ old c.is_within.new.self c.from_residual-in_err-is_within.result c.in_err-is_within.field-0.0 c.from_residual-in_err-is_within.ensures.1 c.in_err-is_within.ensures.reads
     (λ h. inr (c.in_err-is_within.ensures.answer h))
 
 pub returns-then-branch : goal.returns-then-branch
 returns-then-branch g c =
     let old = c.args.self.now in
     let T = tree_in (view old.log) old.numbers in
-    refused _ old c.is_within.new.self errno.Invalid c.in_ok-is_within.ensures.commits c.in_ok-is_within.ensures.quiet (λ h.
+    refused _ old c.is_within.new.self errno.Invalid c.in_ok-is_within.ensures.reads (λ h.
     inl (ap with_unit (renamed_within T c.args.serial c.args.parent c.args.name.now (different c.args.serial 1 (sym c.eq.ensures ∙ c.if-eq.false)) (sym (c.in_ok-is_within.ensures.answer h) ∙ c.if-branch.true))))
 
 -- ---- it moves
@@ -61,7 +61,7 @@ pub move_to-requires : goal.move_to-requires
 move_to-requires g c =
     let old = c.args.self.now in
     let T = tree_in (view old.log) old.numbers in
-    let commits = c.in_ok-is_within.ensures.commits in
+    let commits = c.in_ok-is_within.ensures.reads.commits in
     record {
       is_open = commits.is_open;
       first = c.requires.first;
@@ -82,7 +82,7 @@ pub move_onto-requires : goal.move_onto-requires
 move_onto-requires g c =
     let old = c.args.self.now in
     let T = tree_in (view old.log) old.numbers in
-    let commits = c.in_ok-is_within.ensures.commits in
+    let commits = c.in_ok-is_within.ensures.reads.commits in
     let dirs = old.dirs in
     let target = c.in-Some-2.target in
     let names : Names dirs c.args.parent c.args.name.now target = subst (λ (o : Option ℕ). MatchOption o ((s : ℕ) → Names dirs c.args.parent c.args.name.now s → ⊥) (λ s. Names dirs c.args.parent c.args.name.now s)) c.in-Some-2.is c.in_ok-target.ensures.found in
@@ -114,8 +114,8 @@ returns-in-None g c =
     let old = c.args.self.now in
     let one = c.is_within.new.self in
     let T = tree_in (view old.log) old.numbers in
-    let commits = c.in_ok-is_within.ensures.commits in
-    changes_after _ _ old one c.move_to.new.self c.move_to.result commits c.in_ok-is_within.ensures.quiet c.move_to.ensures (λ h.
+    let commits = c.in_ok-is_within.ensures.reads.commits in
+    changes_after _ _ old one c.move_to.new.self c.move_to.result c.in_ok-is_within.ensures.reads c.move_to.ensures (λ h.
     let content = c.requires.is_open.content h in
     let looks = looks_up (view old.log) old.numbers old.dirs content (c.requires.is_open.shows h) c.in_ok-target.target c.args.parent c.args.name.now c.in_ok-target.ensures.found in
     let apart : is_within (length T) T c.args.serial c.args.parent ≡ false = sym (c.in_ok-is_within.ensures.answer h) ∙ c.if-branch.false in
@@ -129,7 +129,7 @@ returns-in-Some g c =
     let old = c.args.self.now in
     let one = c.is_within.new.self in
     let T = tree_in (view old.log) old.numbers in
-    let commits = c.in_ok-is_within.ensures.commits in
+    let commits = c.in_ok-is_within.ensures.reads.commits in
     done_nothing _ old one tt commits (λ h.
     let content = c.requires.is_open.content h in
     let looks = looks_up (view old.log) old.numbers old.dirs content (c.requires.is_open.shows h) c.in_ok-target.target c.args.parent c.args.name.now c.in_ok-target.ensures.found in
@@ -144,8 +144,8 @@ returns-in-Some-2 g c =
     let old = c.args.self.now in
     let one = c.is_within.new.self in
     let T = tree_in (view old.log) old.numbers in
-    let commits = c.in_ok-is_within.ensures.commits in
-    changes_after _ _ old one c.move_onto.new.self c.move_onto.result commits c.in_ok-is_within.ensures.quiet c.move_onto.ensures (λ h.
+    let commits = c.in_ok-is_within.ensures.reads.commits in
+    changes_after _ _ old one c.move_onto.new.self c.move_onto.result c.in_ok-is_within.ensures.reads c.move_onto.ensures (λ h.
     let content = c.requires.is_open.content h in
     let looks = looks_up (view old.log) old.numbers old.dirs content (c.requires.is_open.shows h) c.in_ok-target.target c.args.parent c.args.name.now c.in_ok-target.ensures.found in
     let apart : is_within (length T) T c.args.serial c.args.parent ≡ false = sym (c.in_ok-is_within.ensures.answer h) ∙ c.if-branch.false in

@@ -86,15 +86,9 @@ returns-in-Err-open g c =
       durable = λ h. tt;
       crash_ok = λ w T h on. tt;
       crash_err = λ w T h on.
-          let d0 = g.D.Device.disk c.args.device in
-          let d1 = g.D.Device.disk c.read_front.new.device in
-          let read = c.in-Ok.ensures in
           crash_over d0 d1 (g.D.Device.size c.args.device) c.in-Ok.numbers w T read.ranges (read.front h) (read.seen h) on (g.D.Device.disk c.in-Err-open.refused.device) (read.crash h)
           (λ m has. c.in-Err-open.ensures.crash_err m (read.honest.0 h) has);
       kept_tree = λ w T h on.
-          let d0 = g.D.Device.disk c.args.device in
-          let d1 = g.D.Device.disk c.read_front.new.device in
-          let read = c.in-Ok.ensures in
           let after = c.in-Err-open.refused.device in
           kept_over d0 d1 (g.D.Device.size c.args.device) c.in-Ok.numbers w T read.ranges (read.front h) (read.seen h) on (g.D.Device.disk after).seen (g.D.Device.size after)
           (c.in-Err-open.ensures.kept_err.1 ∙ read.size)
@@ -147,23 +141,15 @@ returns-in-Err-read_parts g c =
       durable = λ h. tt;
       crash_ok = λ w T h on. tt;
       crash_err = λ w T h on.
-          let d0 = g.D.Device.disk c.args.device in
-          let d1 = g.D.Device.disk c.read_front.new.device in
           let d2 = g.D.Device.disk (device_of c.in-Ok-open.log) in
-          let read = c.in-Ok.ensures in
           let h1 = read.honest.0 h in
-          let installed = c.in-Ok-open.ensures in
           let h2 = installed.kept_ok.0.0 h1 in
           let first = crash_over d0 d1 (g.D.Device.size c.args.device) c.in-Ok.numbers w T read.ranges (read.front h) (read.seen h) on d2 (read.crash h) (λ m has. installed.crash_ok m h1 has) in
           subst (λ d. Leaves d0 (g.D.Device.disk d) (λ m. StandsAs m w T)) (sym c.into_device.ensures)
           (leaves_quiet d0 d2 (g.D.Device.disk (device_of c.read_parts.new.log)) (λ m. StandsAs m w T) first (c.in-Err-read_parts.ensures.reads.crash h2));
       kept_tree = λ w T h on.
-          let d0 = g.D.Device.disk c.args.device in
-          let d1 = g.D.Device.disk c.read_front.new.device in
           let d2 = g.D.Device.disk (device_of c.in-Ok-open.log) in
-          let read = c.in-Ok.ensures in
           let h1 = read.honest.0 h in
-          let installed = c.in-Ok-open.ensures in
           let h2 = installed.kept_ok.0.0 h1 in
           let reads = c.in-Err-read_parts.ensures.reads in
           let v = c.in-Ok.numbers in
@@ -215,12 +201,9 @@ returns-in-Ok-read_parts g c =
     let size = g.D.Device.size c.args.device in
     let log = c.read_parts.new.log in
     let d0 = g.D.Device.disk c.args.device in
-    let stands = λ (h : g.D.Device.honest c.args.device). (
-    let on : StandsOn size d0.seen c.in-Ok.numbers (tree_in (view log) c.in-Ok.numbers) = finds_stands (g.D.Device.size c.args.device) d0 (g.D.Device.disk (device_of log)) (view log) c.in-Ok.numbers
-    (log_finds c.args.device c.read_front.new.device c.in-Ok-open.log log c.in-Ok.numbers c.in-Ok-read_parts.dirs c.in-Ok-read_parts.sectors c.in-Ok-read_parts.reserved h (read.honest.0 h) (installed.kept_ok.0.0 (read.honest.0 h))
-    read.ranges read.room (read.front h) (read.seen h) installed.fresh.1 (λ m has. installed.content m (read.honest.0 h) has) (installed.right (read.honest.0 h)) (installed.settled (read.honest.0 h))
-    c.in-Ok-read_parts.ensures.reads (c.in-Ok-read_parts.ensures.parts (installed.kept_ok.0.0 (read.honest.0 h)))) in
-    on) in
+    let found = λ (h : g.D.Device.honest c.args.device). log_finds c.args.device c.read_front.new.device c.in-Ok-open.log log c.in-Ok.numbers c.in-Ok-read_parts.dirs c.in-Ok-read_parts.sectors c.in-Ok-read_parts.reserved h (read.honest.0 h) (installed.kept_ok.0.0 (read.honest.0 h))
+    read.ranges read.room (read.front h) (read.seen h) installed.fresh.1 (λ m has. installed.content m (read.honest.0 h) has) (installed.right (read.honest.0 h)) (installed.settled (read.honest.0 h)) done.reads (done.parts (installed.kept_ok.0.0 (read.honest.0 h))) in
+    let stands = λ (h : g.D.Device.honest c.args.device). finds_stands size d0 (g.D.Device.disk (device_of log)) (view log) c.in-Ok.numbers (found h) in
     record {
       stands = stands;
       working = done.failed;
@@ -230,22 +213,11 @@ returns-in-Ok-read_parts g c =
       damaged = λ h. tt;
       few_sectors = λ few. absurd (omega (arith, few, read.ranges.least, read.room));
       faults_named = tt;
-      durable = λ h.
-          let d0 = g.D.Device.disk c.args.device in
-          let log = c.read_parts.new.log in
-          let read = c.in-Ok.ensures in
-          let installed = c.in-Ok-open.ensures in
-          finds_lasting (g.D.Device.size c.args.device) d0 (g.D.Device.disk (device_of log)) (view log) c.in-Ok.numbers
-          (log_finds c.args.device c.read_front.new.device c.in-Ok-open.log log c.in-Ok.numbers c.in-Ok-read_parts.dirs c.in-Ok-read_parts.sectors c.in-Ok-read_parts.reserved h (read.honest.0 h) (installed.kept_ok.0.0 (read.honest.0 h))
-          read.ranges read.room (read.front h) (read.seen h) installed.fresh.1 (λ m has. installed.content m (read.honest.0 h) has) (installed.right (read.honest.0 h)) (installed.settled (read.honest.0 h))
-          c.in-Ok-read_parts.ensures.reads (c.in-Ok-read_parts.ensures.parts (installed.kept_ok.0.0 (read.honest.0 h))));
+      durable = λ h. finds_lasting size d0 (g.D.Device.disk (device_of log)) (view log) c.in-Ok.numbers (found h);
       crash_ok = λ w T h on.
-          let d0 = g.D.Device.disk c.args.device in
           let d1 = g.D.Device.disk c.read_front.new.device in
           let d2 = g.D.Device.disk (device_of c.in-Ok-open.log) in
-          let read = c.in-Ok.ensures in
           let h1 = read.honest.0 h in
-          let installed = c.in-Ok-open.ensures in
           let h2 = installed.kept_ok.0.0 h1 in
           let first = crash_over d0 d1 (g.D.Device.size c.args.device) c.in-Ok.numbers w T read.ranges (read.front h) (read.seen h) on d2 (read.crash h) (λ m has. installed.crash_ok m h1 has) in
           leaves_quiet d0 d2 (g.D.Device.disk (device_of c.read_parts.new.log)) (λ m. StandsAs m w T) first (c.in-Ok-read_parts.ensures.reads.crash h2);
