@@ -16,8 +16,8 @@ use Rattle.wasi_calls.specs.paths.Rows.{path_create_directory, path_at, missing}
 use Rattle.wasi_calls.specs.Calls.{Answered}
 use Rattle.wasi_calls.specs.internal.Bodies.{with_volume}
 use Rattle.wasi_calls.specs.internal.paths.Walks.{starting_directory, Places}
-use Rattle.wasi_calls.proofs.checks.Chains.{goes_on, stops}
-use Rattle.wasi_calls.proofs.OpenEntries.{entered_row, entry_of}
+use Rattle.wasi_calls.proofs.checks.Chains.{goes_on, paired, stops}
+use Rattle.wasi_calls.proofs.OpenEntries.{entry_of}
 use Rattle.wasi_calls.proofs.paths.Walks.{missing_name_never}
 use Rattle.wasi_calls.proofs.bodies.VolumeCalls.{never_after, was_working, same_volume, refused_first, refused_by, tree_refuses, steps, steps_after, created_never, making, making_never, made_ok, made_err}
 use Rattle.wasi_calls.proofs.bodies.PlainCalls.{volume_rests}
@@ -31,7 +31,7 @@ abbrev of_reached : World → Reached → Checked Done
 of_reached w r = and_then (missing r) (λ place. making (made_at place) w)
 
 to_rest : (w : World) (m : List ℕ) (fd path len : ℕ) (o : Opened) → starting_directory w m fd (2 ^ 9) path len ≡ Ok o → path_create_directory w m fd path len ≡ and_then (path_at w m o path len) (of_reached w)
-to_rest w m fd path len o invokes = entered_row _ _ _ ∙ goes_on _ _ o invokes
+to_rest w m fd path len o invokes = paired _ _ _ ∙ goes_on _ _ o invokes
 
 rest_never : (w : World) → w.volume_failed ≡ false → (r : Reached) → of_reached w r ≢ Err 29
 rest_never w alive r = never_after (missing r) (λ place. making (made_at place) w) (missing_name_never r)
@@ -43,7 +43,7 @@ returns-in-Err g c = record {
   answered = λ h w table shown.
       let m = c.args.memory.now in
       refused_first w m (λ v. path_create_directory v m c.args.fd c.args.path c.args.len) c.args.volume.now _ shown
-      (entered_row _ _ _ ∙ stops _ _ _ (c.in-Err.ensures.row w table));
+      (paired _ _ _ ∙ stops _ _ _ (c.in-Err.ensures.row w table));
   io = check_not_29 (table_of c.args.descriptors.now) (λ w. starting_directory w c.args.memory.now c.args.fd (2 ^ 9) c.args.path c.args.len) _ (entered_never c.args.memory.now c.args.fd (2 ^ 9) c.args.path c.args.len) c.in-Err.ensures.row;
 }
 

@@ -15,8 +15,8 @@ use Rattle.wasi_calls.specs.paths.Rows.{path_filestat_get, path_at}
 use Rattle.wasi_calls.specs.Calls.{Answered}
 use Rattle.wasi_calls.specs.internal.Bodies.{with_volume}
 use Rattle.wasi_calls.specs.internal.paths.Walks.{starting_directory}
-use Rattle.wasi_calls.proofs.checks.Chains.{goes_on, stops}
-use Rattle.wasi_calls.proofs.OpenEntries.{entered_row, entry_of}
+use Rattle.wasi_calls.proofs.checks.Chains.{goes_on, paired, stops}
+use Rattle.wasi_calls.proofs.OpenEntries.{entry_of}
 use Rattle.wasi_calls.proofs.paths.Walks.{found_never}
 use Rattle.wasi_calls.proofs.bodies.VolumeCalls.{is_no_err, never_after, was_working, same_volume, refused_first, refused_by, failed_by, tree_refuses, tree_called_alive}
 use Rattle.wasi_calls.proofs.bodies.PlainCalls.{volume_rests}
@@ -32,7 +32,7 @@ abbrev rest : World → List ℕ → ℕ → ℕ → ℕ → Opened → Checked 
 rest w m path len at o = and_then (path_at w m o path len) (of_reached w at)
 
 to_rest : (w : World) (m : List ℕ) (fd path len at : ℕ) (o : Opened) → starting_directory w m fd (2 ^ 18) path len ≡ Ok o → range m at 64 ≡ Ok tt → path_filestat_get w m fd path len at ≡ rest w m path len at o
-to_rest w m fd path len at o invokes inside = entered_row _ _ _ ∙ (goes_on _ _ o invokes ∙ goes_on _ _ tt inside)
+to_rest w m fd path len at o invokes inside = paired _ _ _ ∙ (goes_on _ _ o invokes ∙ goes_on _ _ tt inside)
 
 rest_never : (w : World) (at : ℕ) → w.volume_failed ≡ false → (r : Reached) → of_reached w at r ≢ Err 29
 rest_never w at alive r =
@@ -46,7 +46,7 @@ returns-in-Err g c = record {
   finds = λ h w table shown.
       let m = c.args.memory.now in
       refused_first w m (λ v. path_filestat_get v m c.args.fd c.args.path c.args.len c.args.result_at) c.args.volume.now _ shown
-      (entered_row _ _ _ ∙ stops _ _ _ (c.in-Err.ensures.row w table));
+      (paired _ _ _ ∙ stops _ _ _ (c.in-Err.ensures.row w table));
   io = check_not_29 (table_of c.args.descriptors.now) (λ w. starting_directory w c.args.memory.now c.args.fd (2 ^ 18) c.args.path c.args.len) _ (entered_never c.args.memory.now c.args.fd (2 ^ 18) c.args.path c.args.len) c.in-Err.ensures.row;
 }
 
@@ -57,7 +57,7 @@ returns-in-Err-check_range g c = record {
   finds = λ h w table shown.
       let m = c.args.memory.now in
       refused_first w m (λ v. path_filestat_get v m c.args.fd c.args.path c.args.len c.args.result_at) c.args.volume.now _ shown
-      (entered_row _ _ _ ∙ (goes_on _ _ c.in-Ok.entered.0 (c.in-Ok.ensures.row w table) ∙ stops _ _ _ c.in-Err-check_range.ensures.range));
+      (paired _ _ _ ∙ (goes_on _ _ c.in-Ok.entered.0 (c.in-Ok.ensures.row w table) ∙ stops _ _ _ c.in-Err-check_range.ensures.range));
   io = not_29 (range c.args.memory.now c.args.result_at 64) _ (range_never c.args.memory.now c.args.result_at 64) c.in-Err-check_range.ensures.range;
 }
 

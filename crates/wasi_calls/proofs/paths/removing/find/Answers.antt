@@ -12,15 +12,15 @@ use Rattle.wasi_calls.specs.paths.Rows.{path_at}
 use Rattle.wasi_calls.specs.internal.Asking.{Stops}
 use Rattle.wasi_calls.specs.internal.paths.Walks.{starting_directory}
 use Rattle.wasi_calls.specs.internal.paths.Removing.{found_at}
-use Rattle.wasi_calls.proofs.checks.Chains.{goes_on, stops}
-use Rattle.wasi_calls.proofs.OpenEntries.{entered_row, entry_of}
+use Rattle.wasi_calls.proofs.checks.Chains.{goes_on, paired, stops}
+use Rattle.wasi_calls.proofs.OpenEntries.{entry_of}
 use Rattle.wasi_calls.proofs.paths.Walks.{found_never}
 use Rattle.wasi_calls.proofs.bodies.AskingCalls.{passes_on, refuses_on, ends_part, passes_as, stops_as, walk_passes, walk_stops}
 use Rattle.wasi_calls.proofs.bodies.PlainCalls.{volume_rests}
 use Rattle.wasi_calls.proofs.paths.removing.find.Goals as goal
 
 to_walk : (w : World) (m : List ℕ) (fd rights path len : ℕ) (o : Opened) → starting_directory w m fd rights path len ≡ Ok o → found_at w m fd rights path len ≡ and_then (path_at w m o path len) found
-to_walk w m fd rights path len o invokes = entered_row _ _ _ ∙ goes_on _ _ o invokes
+to_walk w m fd rights path len o invokes = paired _ _ _ ∙ goes_on _ _ o invokes
 
 pub reach-requires : goal.reach-requires
 reach-requires g c =
@@ -31,7 +31,7 @@ returns-in-Err g c = record {
   step = volume_rests g.D.Device.honest g.D.Device.disk g.D.Device.size g.D.Device.failures c.args.volume.now;
   works = tt;
   entry = tt;
-  asks = λ h w table shown. inl (record { is = entered_row _ _ _ ∙ stops _ _ _ (c.in-Err.ensures.row w table); same = sym shown });
+  asks = λ h w table shown. inl (record { is = paired _ _ _ ∙ stops _ _ _ (c.in-Err.ensures.row w table); same = sym shown });
   io = check_not_29 (table_of c.args.descriptors.now) (λ w. starting_directory w c.args.memory.now c.args.fd (bits_of c.args.rights) c.args.path c.args.len) _ (entered_never c.args.memory.now c.args.fd (bits_of c.args.rights) c.args.path c.args.len) c.in-Err.ensures.row;
 }
 
