@@ -16,7 +16,7 @@ ghost use Rattle.wasi_calls.specs.internal.Asking.{Asks};
 ghost use Rattle.wasi_calls.specs.internal.paths.Removing.{found_at, removable as removable_row, removal_checked, is_kind, taken_out, remove as remove_row};
 
 use crate::errno::{BUSY, ISDIR, NOENT, NOTDIR, refused};
-use crate::paths::{enter, reach};
+use crate::paths::reach_from;
 use path_walk::{Reached, is_directory};
 use vol_inode::Kind;
 use vol_sector::Device;
@@ -42,14 +42,10 @@ pub(crate) fn find<D: Device>(
     ensures asks { D.honest volume.old.device → (w : World) → w.table ≡ table_of descriptors.now → w ≡ with_volume volume.old w
         → Asks (λ v. found_at v memory.now fd (bits_of rights) path len) w volume.new result }
 {
-    let (directory, text) = match enter(descriptors, memory, fd, path, len, rights) {
-        Ok(entered) => entered,
-        Err(errno) => return Err(errno),
-    };
-    match reach(volume, Serial::new(directory.serial), text) {
+    match reach_from(volume, descriptors, memory, fd, path, len, rights) {
         Ok(Reached::Found(serial)) => Ok(Serial::new(serial)),
         Ok(Reached::Missing { .. }) => Err(NOENT),
-        Err(errno) => Err(refused(errno)),
+        Err(errno) => Err(errno),
     }
 }
 

@@ -6,16 +6,12 @@ use Rattle.vol_tree.specs.declared.errno.Errno.{Errno}
 use Rattle.vol_tree.specs.Tree.{Tree}
 use Rattle.vol_tree.specs.Calls.{directory_at, directory_removed, unlinked}
 use Rattle.wasi_calls.specs.World.{World, held_open}
-use Rattle.wasi_calls.specs.Checks.{Checked, Done, ◌>>=◌, ◌>>◌, guard, entry_at, only_directories, range, found, tree_call, only_world}
-use Rattle.wasi_calls.specs.paths.Rows.{path_at}
+use Rattle.wasi_calls.specs.Checks.{Checked, Done, ◌>>=◌, ◌>>◌, guard, found, tree_call, only_world}
+use Rattle.wasi_calls.specs.internal.paths.Walks.{reached_from}
 
 -- what a path finds
 abbrev pub found_at : World → List ℕ → ℕ → ℕ → ℕ → ℕ → Checked ℕ
-found_at w memory fd rights path len = do
-  directory ← entry_at w fd only_directories rights
-  range memory path len
-  reached ← path_at w memory directory path len
-  found reached
+found_at w memory fd rights path len = reached_from w memory fd rights path len >>= found
 
 -- whether a directory, or a file, is of this kind
 abbrev pub is_kind : Kind → Bool → Bool

@@ -9,10 +9,12 @@ use Rattle.vol_tree.specs.Tree.{Tree, IsDirectory}
 use Rattle.path_walk.specs.declared.walking.Reached.{Reached as ReachedValue}
 use Rattle.path_walk.specs.declared.walking.Reached.TheVariants as values
 use Rattle.path_walk.specs.Walk.{reached_as}
+use Rattle.path_walk.specs.Paths.{Reached}
 use Rattle.wasi_fd.specs.declared.descriptor.Opened.{Opened as OpenedEntry}
 use Rattle.wasi_calls.specs.World.{World, with_volume_failed}
 use Rattle.wasi_calls.specs.Checks.{Checked, Done, ◌>>=◌, ◌>>◌, entry_at, only_directories, range, walk, with_result}
 use Rattle.wasi_calls.specs.Calls.{Answered}
+use Rattle.wasi_calls.specs.paths.Rows.{path_at}
 use Rattle.wasm_store.specs.declared.call.Errno.{Errno as Number}
 use Rattle.wasi_calls.specs.internal.Bodies.{with_volume}
 
@@ -28,6 +30,13 @@ starting_directory w memory fd rights path len = do
   o ← entry_at w fd only_directories rights
   range memory path len
   Ok o
+
+-- what a path reaches from an open directory
+abbrev pub reached_from : World → List ℕ → ℕ → ℕ → ℕ → ℕ → Checked Reached
+reached_from w memory fd rights path len = do
+  o ← entry_at w fd only_directories rights
+  range memory path len
+  path_at w memory o path len
 
 module _ {D : Type 0} (honest : D → Type 0) (disk : D → Disk) (sectors_on failures : D → ℕ) where
   -- the volume was only asked, and still works

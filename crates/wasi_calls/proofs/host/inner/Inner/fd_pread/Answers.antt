@@ -1,7 +1,6 @@
 use Rattle.std.proofs.Common.{◌≡◌, ◌+◌, ◌^◌, List, Ok, refl, sym, ap, ◌∙◌, subst, arith}
 use Rattle.std.specs.Vec.{with_items}
 use Rattle.wasi_fd.specs.Table.{table_of}
-use Rattle.vol_body.specs.declared.source.Span.{Span}
 use Rattle.wasm_store.specs.declared.call.HostCall.TheVariants as call
 use Rattle.wasi_calls.specs.declared.checks.Takes.TheVariants as takes
 use Rattle.wasi_calls.proofs.checks.NoneAnswers29.{entry_never}
@@ -10,11 +9,11 @@ use Rattle.wasi_calls.specs.files.Rows.{fd_pread}
 use Rattle.wasi_calls.specs.Calls.{row}
 use Rattle.wasi_calls.specs.host.Worlds.{world_of}
 use Rattle.wasi_calls.specs.internal.Bodies.{state_of, errno_of}
-use Rattle.wasi_calls.specs.internal.checks.Buffers.{list_of, AreUsable}
+use Rattle.wasi_calls.specs.internal.checks.Buffers.{list_of}
 use Rattle.wasi_calls.specs.internal.files.Reading.{read_into}
 use Rattle.wasi_calls.proofs.OpenEntries.{file_of}
 use Rattle.wasi_calls.proofs.bodies.PlainCalls.{no_more}
-use Rattle.wasi_calls.proofs.bodies.BufferCalls.{after_buffers, refused_buffers, refused_check}
+use Rattle.wasi_calls.proofs.bodies.BufferCalls.{after_buffers, refused_buffers, refused_check, shown_usable}
 use Rattle.wasi_calls.proofs.descriptors.MovingCalls.{serves_roomy}
 use Rattle.wasi_calls.proofs.checks.AfterBuffers.{answered_so}
 use Rattle.wasi_calls.proofs.host.inner.Inner.fd_pread.Goals as goal
@@ -46,9 +45,7 @@ read_placed-requires-clause-file g c =
 
 pub read_placed-requires-clause-usable : goal.read_placed-requires-clause-usable
 read_placed-requires-clause-usable g c =
-    let q = c.new-request.result in
-    let whole : c.as_mut_slice-room.result.now ≡ c.find_buffers.new.room.items = c.as_mut_slice-room.ensures.value in
-    subst (λ (bs : List Span). AreUsable c.args.memory.now (list_of bs) q.result_at) (sym whole) c.in_default.ensures.usable
+    shown_usable _ _ _ _ c.as_mut_slice-room.ensures.value c.in_default.ensures.usable
 
 pub returns : goal.returns
 returns g c = λ used.
@@ -60,11 +57,10 @@ returns g c = λ used.
     let o = c.in-Ok.opened in
     let offset = c.long-offset.result in
     let bs = list_of c.as_mut_slice-room.result.now in
-    let whole : c.as_mut_slice-room.result.now ≡ c.find_buffers.new.room.items = c.as_mut_slice-room.ensures.value in
     let same = after_buffers g.D.Device.honest g.D.Device.disk g.D.Device.size g.D.Device.failures g.R.Read.remaining g.W1.Write.contents g.W2.Write.contents
     call.FdPread used a s c.requires.set_up m q (λ w. entry_at w q.fd only_files (2 ^ 1 + 2 ^ 2)) (λ w o bs. read_into w o offset bs q.result_at)
     (λ w i. fd_pread w m (sym asked.fd i) (sym asked.iovs i) (sym asked.count i) (sym c.long-offset.ensures i) (sym asked.result_at i))
-    o c.in-Ok.ensures bs (c.in_default.ensures.found ∙ ap Ok (ap list_of (sym whole))) in
+    o c.in-Ok.ensures c.find_buffers.new.room.items _ c.as_mut_slice-room.ensures.value c.in_default.ensures.found in
     let new = record s { volume = c.read_placed.new.volume; buffers = with_items c.find_buffers.new.room c.read_placed.new.buffers } in
     serves_roomy g.D.Device.honest g.D.Device.disk g.D.Device.size g.D.Device.failures g.R.Read.remaining g.W1.Write.contents g.W2.Write.contents
     call.FdPread used a s new m c.read_placed.new.memory (errno_of c.read_placed.result) c.read_placed.ensures.io c.requires.set_up c.find_buffers.ensures.place c.requires.set_up.piece refl

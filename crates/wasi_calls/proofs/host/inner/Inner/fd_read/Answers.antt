@@ -4,7 +4,6 @@ use Rattle.wasi_fd.specs.declared.descriptor.Stream.TheVariants.{Input, Output, 
 use Rattle.wasi_fd.specs.declared.descriptor.Descriptor.{Descriptor}
 use Rattle.wasi_fd.specs.declared.descriptor.Descriptor.TheVariants.{Stream, Entry}
 use Rattle.wasi_fd.specs.Table.{table_of}
-use Rattle.vol_body.specs.declared.source.Span.{Span}
 use Rattle.wasm_store.specs.declared.call.HostCall.TheVariants as call
 use Rattle.wasi_calls.specs.declared.checks.Takes.TheVariants as takes
 use Rattle.wasi_calls.proofs.checks.NoneAnswers29.{descriptor_never}
@@ -13,11 +12,11 @@ use Rattle.wasi_calls.specs.files.Rows.{fd_read}
 use Rattle.wasi_calls.specs.Calls.{word, is_entry, row}
 use Rattle.wasi_calls.specs.host.Worlds.{world_of}
 use Rattle.wasi_calls.specs.internal.Bodies.{state_of, errno_of}
-use Rattle.wasi_calls.specs.internal.checks.Buffers.{list_of, AreUsable}
+use Rattle.wasi_calls.specs.internal.checks.Buffers.{list_of}
 use Rattle.wasi_calls.specs.internal.streams.Inputs.{read_to}
 use Rattle.wasi_calls.proofs.checks.Chains.{goes_on}
 use Rattle.wasi_calls.proofs.OpenEntries.{at_descriptor, file_of}
-use Rattle.wasi_calls.proofs.bodies.BufferCalls.{after_buffers, lacks_right, refused_buffers, refused_check}
+use Rattle.wasi_calls.proofs.bodies.BufferCalls.{after_buffers, lacks_right, refused_buffers, refused_check, shown_usable}
 use Rattle.wasi_calls.proofs.descriptors.MovingCalls.{serves_roomy}
 use Rattle.wasi_calls.proofs.streams.InputCalls.{served_in}
 use Rattle.wasi_calls.proofs.checks.AfterBuffers.{answered_so}
@@ -45,15 +44,11 @@ returns-in-Err-find_buffers g c = λ used.
 
 pub read_stream-requires-clause-usable : goal.read_stream-requires-clause-usable
 read_stream-requires-clause-usable g c =
-    let q = c.new-request.result in
-    let whole : c.as_slice-buffers.result.now ≡ c.find_buffers.new.room.items = c.as_slice-buffers.ensures.value in
-    subst (λ (bs : List Span). AreUsable c.args.memory.now (list_of bs) q.result_at) (sym whole) c.in_default.ensures.usable
+    shown_usable _ _ _ _ c.as_slice-buffers.ensures.value c.in_default.ensures.usable
 
 pub read_file-requires-clause-usable : goal.read_file-requires-clause-usable
 read_file-requires-clause-usable g c =
-    let q = c.new-request.result in
-    let whole : c.as_mut_slice-room.result.now ≡ c.find_buffers.new.room.items = c.as_mut_slice-room.ensures.value in
-    subst (λ (bs : List Span). AreUsable c.args.memory.now (list_of bs) q.result_at) (sym whole) c.in_default.ensures.usable
+    shown_usable _ _ _ _ c.as_mut_slice-room.ensures.value c.in_default.ensures.usable
 
 pub read_file-requires-clause-open : goal.read_file-requires-clause-open
 read_file-requires-clause-open g c =
@@ -75,11 +70,10 @@ returns-in-Stream-Input g c = λ used.
     let one : c.in-Stream-Input.field-0 ≡ Input = rw c.in-Stream-Input.is at c.in-Stream-Input.field-0-is in
     let is : c.in-Ok.target ≡ Stream Input = c.in-Stream-Input.is ∙ ap Stream one in
     let bs = list_of c.as_slice-buffers.result.now in
-    let whole : c.as_slice-buffers.result.now ≡ c.find_buffers.new.room.items = c.as_slice-buffers.ensures.value in
     let same = after_buffers g.D.Device.honest g.D.Device.disk g.D.Device.size g.D.Device.failures g.R.Read.remaining g.W1.Write.contents g.W2.Write.contents
     call.FdRead used c.args.arguments.now s c.requires.set_up m q (λ w. descriptor w q.fd no_directories (2 ^ 1)) (λ w d bs. read_to w q.fd d bs q.result_at)
     (λ w i. fd_read w m (sym asked.fd i) (sym asked.iovs i) (sym asked.count i) (sym asked.result_at i))
-    (Stream Input) (λ w table. c.in-Ok.ensures w table ∙ ap Ok is) bs (c.in_default.ensures.found ∙ ap Ok (ap list_of (sym whole))) in
+    (Stream Input) (λ w table. c.in-Ok.ensures w table ∙ ap Ok is) c.find_buffers.new.room.items _ c.as_slice-buffers.ensures.value c.in_default.ensures.found in
     let new = record s {
       input = c.read_stream.new.input;
       buffers = c.find_buffers.new.room;
@@ -113,11 +107,10 @@ returns-in-Entry g c = λ used.
     ap (table_of s.descriptors) (sym asked.fd) ∙ (at_descriptor (table_of s.descriptors) q.fd no_directories (2 ^ 1) c.in-Ok.target c.in-Ok.ensures ∙ ap Some is) in
     let reaches : IsTrue (is_entry (table_of s.descriptors (word a 0))) = subst (λ (d : Option Descriptor). IsTrue (is_entry d)) (sym open_there) refl in
     let bs = list_of c.as_mut_slice-room.result.now in
-    let whole : c.as_mut_slice-room.result.now ≡ c.find_buffers.new.room.items = c.as_mut_slice-room.ensures.value in
     let same = after_buffers g.D.Device.honest g.D.Device.disk g.D.Device.size g.D.Device.failures g.R.Read.remaining g.W1.Write.contents g.W2.Write.contents
     call.FdRead used a s c.requires.set_up m q (λ w. descriptor w q.fd no_directories (2 ^ 1)) (λ w d bs. read_to w q.fd d bs q.result_at)
     (λ w i. fd_read w m (sym asked.fd i) (sym asked.iovs i) (sym asked.count i) (sym asked.result_at i))
-    (Entry o) (λ w table. c.in-Ok.ensures w table ∙ ap Ok is) bs (c.in_default.ensures.found ∙ ap Ok (ap list_of (sym whole))) in
+    (Entry o) (λ w table. c.in-Ok.ensures w table ∙ ap Ok is) c.find_buffers.new.room.items _ c.as_mut_slice-room.ensures.value c.in_default.ensures.found in
     let new = record s {
       volume = c.read_file.new.volume;
       descriptors = c.read_file.new.descriptors;

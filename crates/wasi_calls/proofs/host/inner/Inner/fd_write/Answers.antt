@@ -3,7 +3,6 @@ use Rattle.wasi_fd.specs.declared.descriptor.Stream.TheVariants.{Input, Output, 
 use Rattle.wasi_fd.specs.declared.descriptor.Descriptor.{Descriptor}
 use Rattle.wasi_fd.specs.declared.descriptor.Descriptor.TheVariants.{Stream, Entry}
 use Rattle.wasi_fd.specs.Table.{table_of}
-use Rattle.vol_body.specs.declared.source.Span.{Span}
 use Rattle.wasm_store.specs.declared.call.HostCall.TheVariants as call
 use Rattle.wasi_calls.specs.declared.checks.Takes.TheVariants as takes
 use Rattle.wasi_calls.proofs.checks.NoneAnswers29.{descriptor_never}
@@ -12,11 +11,11 @@ use Rattle.wasi_calls.specs.files.Rows.{fd_write}
 use Rattle.wasi_calls.specs.Calls.{word, is_entry, row}
 use Rattle.wasi_calls.specs.host.Worlds.{world_of}
 use Rattle.wasi_calls.specs.internal.Bodies.{state_of, errno_of}
-use Rattle.wasi_calls.specs.internal.checks.Buffers.{list_of, AreUsable}
+use Rattle.wasi_calls.specs.internal.checks.Buffers.{list_of}
 use Rattle.wasi_calls.specs.internal.files.Writing.{written_to}
 use Rattle.wasi_calls.proofs.checks.Chains.{goes_on}
 use Rattle.wasi_calls.proofs.OpenEntries.{at_descriptor, file_of}
-use Rattle.wasi_calls.proofs.bodies.BufferCalls.{after_buffers, lacks_right, refused_buffers, refused_check}
+use Rattle.wasi_calls.proofs.bodies.BufferCalls.{after_buffers, lacks_right, refused_buffers, refused_check, shown_usable}
 use Rattle.wasi_calls.proofs.descriptors.MovingCalls.{serves_roomy}
 use Rattle.wasi_calls.proofs.streams.OutputCalls.{err_takes, out_takes, served}
 use Rattle.wasi_calls.proofs.checks.AfterBuffers.{answered_so}
@@ -44,18 +43,15 @@ returns-in-Err-find_buffers g c = λ used.
 
 pub write_stream-requires-clause-usable : goal.write_stream-requires-clause-usable
 write_stream-requires-clause-usable g c =
-    subst (λ (bs : List Span). AreUsable c.args.memory.now (list_of bs) c.new-request.result.result_at) (sym c.as_slice-buffers.ensures.value)
-    c.in_default.ensures.usable
+    shown_usable _ _ _ _ c.as_slice-buffers.ensures.value c.in_default.ensures.usable
 
 pub write_stream-requires-in-Stream-Error-clause-usable : goal.write_stream-requires-in-Stream-Error-clause-usable
 write_stream-requires-in-Stream-Error-clause-usable g c =
-    subst (λ (bs : List Span). AreUsable c.args.memory.now (list_of bs) c.new-request.result.result_at) (sym c.as_slice-buffers.ensures.value)
-    c.in_default.ensures.usable
+    shown_usable _ _ _ _ c.as_slice-buffers.ensures.value c.in_default.ensures.usable
 
 pub write_file-requires-clause-usable : goal.write_file-requires-clause-usable
 write_file-requires-clause-usable g c =
-    subst (λ (bs : List Span). AreUsable c.args.memory.now (list_of bs) c.new-request.result.result_at) (sym c.as_slice-buffers.ensures.value)
-    c.in_default.ensures.usable
+    shown_usable _ _ _ _ c.as_slice-buffers.ensures.value c.in_default.ensures.usable
 
 pub write_file-requires-clause-open : goal.write_file-requires-clause-open
 write_file-requires-clause-open g c =
@@ -86,7 +82,7 @@ returns-in-Stream-Output g c = λ used.
     let same = after_buffers g.D.Device.honest g.D.Device.disk g.D.Device.size g.D.Device.failures g.R.Read.remaining g.W1.Write.contents g.W2.Write.contents
     call.FdWrite used c.args.arguments.now s c.requires.set_up m q (λ w. descriptor w q.fd no_directories (2 ^ 6)) (λ w d bs. written_to w q.fd d (gathered m bs) q.result_at)
     (λ w i. fd_write w m (sym asked.fd i) (sym asked.iovs i) (sym asked.count i) (sym asked.result_at i))
-    (Stream Output) (λ w table. c.in-Ok.ensures w table ∙ ap Ok is) bs (c.in_default.ensures.found ∙ ap Ok (ap list_of (sym c.as_slice-buffers.ensures.value))) in
+    (Stream Output) (λ w table. c.in-Ok.ensures w table ∙ ap Ok is) c.find_buffers.new.room.items _ c.as_slice-buffers.ensures.value c.in_default.ensures.found in
     let new = record s { out = c.write_stream.new.output; buffers = c.find_buffers.new.room } in
     served g.D.Device.honest g.D.Device.disk g.D.Device.size g.D.Device.failures g.R.Read.remaining g.W1.Write.contents g.W2.Write.contents g.W1.Write.contents
     call.FdWrite used c.args.arguments.now s new m c.write_stream.new.memory q.fd (gathered m bs) q.result_at c.requires.set_up c.find_buffers.ensures.place c.requires.set_up.piece refl
@@ -106,7 +102,7 @@ returns-in-Stream-Error g c = λ used.
     let same = after_buffers g.D.Device.honest g.D.Device.disk g.D.Device.size g.D.Device.failures g.R.Read.remaining g.W1.Write.contents g.W2.Write.contents
     call.FdWrite used c.args.arguments.now s c.requires.set_up m q (λ w. descriptor w q.fd no_directories (2 ^ 6)) (λ w d bs. written_to w q.fd d (gathered m bs) q.result_at)
     (λ w i. fd_write w m (sym asked.fd i) (sym asked.iovs i) (sym asked.count i) (sym asked.result_at i))
-    (Stream Error) (λ w table. c.in-Ok.ensures w table ∙ ap Ok is) bs (c.in_default.ensures.found ∙ ap Ok (ap list_of (sym c.as_slice-buffers.ensures.value))) in
+    (Stream Error) (λ w table. c.in-Ok.ensures w table ∙ ap Ok is) c.find_buffers.new.room.items _ c.as_slice-buffers.ensures.value c.in_default.ensures.found in
     let new = record s { err = c.write_stream-in-Stream-Error.new.output; buffers = c.find_buffers.new.room } in
     served g.D.Device.honest g.D.Device.disk g.D.Device.size g.D.Device.failures g.R.Read.remaining g.W1.Write.contents g.W2.Write.contents g.W2.Write.contents
     call.FdWrite used c.args.arguments.now s new m c.write_stream-in-Stream-Error.new.memory q.fd (gathered m bs) q.result_at c.requires.set_up c.find_buffers.ensures.place c.requires.set_up.piece refl
@@ -129,7 +125,7 @@ returns-in-Entry g c = λ used.
     let same = after_buffers g.D.Device.honest g.D.Device.disk g.D.Device.size g.D.Device.failures g.R.Read.remaining g.W1.Write.contents g.W2.Write.contents
     call.FdWrite used a s c.requires.set_up m q (λ w. descriptor w q.fd no_directories (2 ^ 6)) (λ w d bs. written_to w q.fd d (gathered m bs) q.result_at)
     (λ w i. fd_write w m (sym asked.fd i) (sym asked.iovs i) (sym asked.count i) (sym asked.result_at i))
-    (Entry o) (λ w table. c.in-Ok.ensures w table ∙ ap Ok is) bs (c.in_default.ensures.found ∙ ap Ok (ap list_of (sym c.as_slice-buffers.ensures.value))) in
+    (Entry o) (λ w table. c.in-Ok.ensures w table ∙ ap Ok is) c.find_buffers.new.room.items _ c.as_slice-buffers.ensures.value c.in_default.ensures.found in
     let new = record s {
       volume = c.write_file.new.volume;
       descriptors = c.write_file.new.descriptors;
