@@ -1,4 +1,4 @@
-use Rattle.std.proofs.Common.{◌≡◌, ◌+◌, ◌^◌, List, Ok, refl, sym, ap, ◌∙◌, subst, arith}
+use Rattle.std.proofs.Common.{◌+◌, ◌^◌, refl, sym, arith}
 use Rattle.std.specs.Vec.{with_items}
 use Rattle.wasi_fd.specs.Table.{table_of}
 use Rattle.wasm_store.specs.declared.call.HostCall.TheVariants as call
