@@ -35,8 +35,8 @@ pub(crate) fn reach<'p, D: Device>(
     text: &'p [u8],
 ) -> Result<Reached<'p>, vol_tree::Errno>
     requires { IsEntryOf D.honest volume.old directory }
-    ensures reaches { D.honest volume.old.device → (w : World) (o : _) → o.serial ≡ directory → w ≡ with_volume volume.old w
-        → Reaches D.honest D.disk D.size D.failures volume.old volume.new w o text.now result }
+    ensures reaches { D.honest volume.old.device → (w : World) (o : _) (path : _) → o.serial ≡ directory → text.now ≡ path → w ≡ with_volume volume.old w
+        → Reaches volume.new w o path result }
     ensures place { D.honest volume.old.device → Places volume.old.tree result }
     ensures works { IfOk result (λ r. StillWorks D.honest D.disk D.size D.failures volume.old volume.new) }
     ensures reached { IfOk result (IsReached D.honest volume.new) }

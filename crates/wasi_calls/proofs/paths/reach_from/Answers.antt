@@ -11,7 +11,7 @@ use Rattle.wasi_calls.specs.internal.Asking.{Stops}
 use Rattle.wasi_calls.specs.internal.paths.Walks.{starting_directory, reached_from}
 use Rattle.wasi_calls.proofs.checks.Chains.{goes_on, paired, stops}
 use Rattle.wasi_calls.proofs.OpenEntries.{entry_of}
-use Rattle.wasi_calls.proofs.bodies.AskingCalls.{passes_as, stops_as, walk_passes, walk_stops}
+use Rattle.wasi_calls.proofs.bodies.AskingCalls.{passes_as, stops_as}
 use Rattle.wasi_calls.proofs.bodies.PlainCalls.{volume_rests}
 use Rattle.wasi_calls.proofs.paths.reach_from.Goals as goal
 
@@ -38,8 +38,7 @@ returns-in-Ok-reach-clause-asks g c = λ h w table shown.
     let o = c.in-Ok.entered.0 in
     let goes = λ (v : World) (same : v.table ≡ table_of c.args.descriptors.now). to_walk v m c.args.fd (bits_of c.args.rights) c.args.path c.args.len o (c.in-Ok.ensures.row v same) in
     passes_as w (λ v. reached_from v m c.args.fd (bits_of c.args.rights) c.args.path c.args.len) (λ v. path_at v m o c.args.path c.args.len) c.reach.new.volume _ (goes w table) (goes (with_volume_failed w) table)
-    (walk_passes g.D.Device.honest g.D.Device.disk g.D.Device.size g.D.Device.failures c.args.volume.now c.reach.new.volume w o m c.args.path c.args.len c.in-Ok.entered.1.now
-    c.in-Ok.ensures.text h shown c.in-Ok-reach.reached c.in-Ok-reach.ensures.works (c.in-Ok-reach.ensures.reaches h w o (sym c.new.ensures) shown))
+    (c.in-Ok-reach.ensures.reaches h w o _ (sym c.new.ensures) c.in-Ok.ensures.text shown)
 
 pub returns-in-Err-reach : goal.returns-in-Err-reach
 returns-in-Err-reach g c = record {
@@ -54,7 +53,6 @@ returns-in-Err-reach g c = record {
       let goes = λ (v : World) (same : v.table ≡ table_of c.args.descriptors.now). to_walk v m c.args.fd (bits_of c.args.rights) c.args.path c.args.len o (c.in-Ok.ensures.row v same) in
       subst (λ (n : ℕ). Stops part w c.reach.new.volume n) (sym c.refused.ensures)
       (stops_as w part (λ v. path_at v m o c.args.path c.args.len) c.reach.new.volume _ (goes w table) (goes (with_volume_failed w) table)
-      (walk_stops g.D.Device.honest g.D.Device.disk g.D.Device.size g.D.Device.failures c.args.volume.now c.reach.new.volume w o m c.args.path c.args.len c.in-Ok.entered.1.now
-      c.in-Ok.ensures.text h shown c.in-Err-reach.errno (c.in-Err-reach.ensures.reaches h w o (sym c.new.ensures) shown)));
+      (c.in-Err-reach.ensures.reaches h w o _ (sym c.new.ensures) c.in-Ok.ensures.text shown));
   io = asked_29 ReachedValue c.in-Err-reach.errno _ c.in-Err-reach.ensures.io c.refused.ensures;
 }
