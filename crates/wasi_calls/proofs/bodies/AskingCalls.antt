@@ -1,13 +1,12 @@
 -- Bodies that only ask the volume: they go on in the same world, or end the call.
-use Rattle.std.proofs.Common.{◌≡◌, ◌≢◌, ◌⊎◌, ℕ, Bool, true, false, List, [], Option, Some, None, IsSome, IsTrue, Result, Ok, Err, IsErrAnd, MatchResult, not, refl, sym, ◌∙◌, ap, subst, inl, inr, arith}
-use Rattle.std.specs.Option.{option_map_or}
+use Rattle.std.proofs.Common.{◌≡◌, ◌≢◌, ◌⊎◌, ℕ, Bool, true, false, List, [], IsSome, Result, Ok, Err, IsErrAnd, MatchResult, refl, sym, ◌∙◌, ap, subst, inl, inr, arith}
 use Rattle.std.proofs.lemmas.Bool.{false≢true}
 use Rattle.vol_sector.specs.Disk.{Disk, Leaves, counted}
 use Rattle.vol_tree.specs.declared.errno.Errno.{Errno}
 use Rattle.vol_tree.specs.declared.errno.Errno.TheVariants as errno
 use Rattle.vol_tree.specs.Numbers.{number_of}
-use Rattle.vol_tree.specs.Tree.{Tree, Entry as TreeEntry, entry}
-use Rattle.vol_tree.specs.Calls.{with_unit, directory_at, is_directory, is_file_at}
+use Rattle.vol_tree.specs.Tree.{Tree, entry}
+use Rattle.vol_tree.specs.Calls.{with_unit}
 use Rattle.vol_tree.specs.Opened.{Opened, Keeps, IsSerial, is_io}
 use Rattle.vol_tree.specs.declared.superblock.Superblock.{Superblock}
 use Rattle.path_walk.specs.Walk.{IsEntryOf}
@@ -156,9 +155,6 @@ module _ {D : Type 0} (honest : D → Type 0) (disk : D → Disk) (sectors_on fa
     };
   }
 
-  pub works_step : (a b : Opened D) → StillWorks honest disk sectors_on failures a b → VolumeStep honest disk sectors_on failures a b
-  works_step a b works = asked_step a b false (record { kept = works.kept; tree = works.tree; crash = works.crash })
-
   pub asked_after : (a b c : Opened D) (io : Bool) → StillWorks honest disk sectors_on failures a b → Asked honest disk sectors_on failures b c io → VolumeStep honest disk sectors_on failures a c
   asked_after a b c io works asked = steps_after honest disk sectors_on failures a b c works (asked_step b c io asked)
 
@@ -193,15 +189,6 @@ changing_err honest sectors_on failures w m run r v v' shown same is_gone never 
     ])
     is_gone
     (λ alive is. changing_never r w alive never (sym same ∙ is))
-
--- ---- what an entry is
-
-file_if : (o : Option TreeEntry) → IsSome o → option_map_or (λ (e : TreeEntry). is_directory e.node) o false ≡ false → option_map_or (λ (e : TreeEntry). not (is_directory e.node)) o false ≡ true
-file_if None h is = absurd (false≢true h)
-file_if (Some e) h is = ap not is
-
-pub is_file : (T : Tree) (serial : ℕ) → IsSome (entry T serial) → directory_at T serial ≡ false → IsTrue (is_file_at T serial)
-is_file T serial h is = file_if (entry T serial) h is
 
 -- ---- parts as others
 

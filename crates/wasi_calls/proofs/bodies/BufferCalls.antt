@@ -29,7 +29,7 @@ module _ {D R W1 W2 X : Type 0} (honest : D → Type 0) (disk : D → Disk) (sec
     (c : HostCall) (used : ℕ) (args : List ℕ) (old : Inner D R W1 W2) (h : IsSetUp remaining old) (m : List ℕ) (q : Request)
     (check : World → Checked X) (rest : World → X → List Buffer → Checked Done)
     (same : (w : World) → row c w m used args ≡ and_then (check w) (λ x. and_then (buffers m q.iovs q.count) (λ bs. and_then (range m q.result_at 4) (λ _. rest w x bs)))) where
-  -- the room for buffers may have any
+  -- a check refuses, whatever the room for the buffers has by then
   refused : (room : _) (e : ℕ) → MOST_BUFFERS ≤ vec_capacity room → (e ≡ 29 → HasFailed c (state_of old)) → ((w : World) → w.table ≡ table_of old.descriptors → row c w m used args ≡ Err e)
       → Serves honest disk sectors_on failures remaining out_contents err_contents c used args old m (record old { buffers = room }) m e
   refused room e place io is =
@@ -54,7 +54,7 @@ module _ {D R W1 W2 X : Type 0} (honest : D → Type 0) (disk : D → Disk) (sec
     after_buffers found shown whole is w table =
         same w ∙ (goes_on _ _ x (passes w table) ∙ (usable_row m q.iovs q.count q.result_at (rest w x) ∙ goes_on _ _ (list_of shown) (is ∙ ap Ok (ap list_of (sym whole)))))
 
--- the buffers through a slice of all of them
+-- the buffers that were found, as a slice of the room shows them
 pub shown_usable : (m : List ℕ) (found shown : List Span) (at : ℕ) → shown ≡ found → AreUsable m (list_of found) at → AreUsable m (list_of shown) at
 shown_usable m found shown at whole usable = subst (λ (bs : List Span). AreUsable m (list_of bs) at) (sym whole) usable
 

@@ -173,15 +173,6 @@ opens_as w oflags r (targets.Cut serial) alive h =
     ∙ mapped (resized w.volume w.tree serial 0) serial))
 opens_as w oflags r (targets.New parent name) alive h = ap (open_entry w oflags) h ∙ tree_called_alive w (created w.tree parent name.now (File [])) alive
 
-with_serial_never : (serial : ℕ) (r : Result Tree Errno) → r ≢ Err errno.Io → with_serial serial r ≢ Err errno.Io
-with_serial_never serial (Ok T) h = λ is. cc
-with_serial_never serial (Err e) h = λ is. h (let same : e ≡ errno.Io = cc in ap Err same)
-
-pub made_never : (volume : Geometry) (T : Tree) (t : Target) → made volume T t ≢ Err errno.Io
-made_never volume T (targets.Entry serial kind) = λ is. cc
-made_never volume T (targets.Cut serial) = with_serial_never serial (resized volume T serial 0) (resized_never volume T serial 0)
-made_never volume T (targets.New parent name) = created_never T parent name.now (File [])
-
 alive_never : {X : Type 0} (w : World) (r : Result X Errno) → w.volume_failed ≡ false → r ≢ Err errno.Io → tree_call w r ≢ Err 29
 alive_never w r alive never = λ is. numbered_io r never (sym (tree_called_alive w r alive) ∙ is)
 

@@ -37,12 +37,12 @@ either : (b : Bool) → (b ≡ true) ⊎ (b ≡ false)
 either true = inl refl
 either false = inr refl
 
--- the beginning of what an output then has
+-- what a writer took is the beginning of what the output would have
 beginning : (had taken missing all : List ℕ) → all ≡ taken ++ missing → had ++ taken ≡ take (length (had ++ taken)) (had ++ all)
 beginning had taken missing all parts = sym (ap (λ (l : List ℕ). take (length (had ++ taken)) (had ++ l)) parts
     ∙ (ap (λ (l : List ℕ). take (length (had ++ taken)) l) (sym (append_assoc had taken missing)) ∙ take-append_seam (had ++ taken) missing))
 
--- One of the outputs takes bytes, of which each output has its own, and nothing else of the host changes.
+-- One of a host's outputs takes bytes, and nothing else of the host changes. Of these bytes `out` and `err` are what each output gets.
 pub record Takes {D R W1 W2 W : Type 0} (remaining : R → Option (List ℕ)) (out_contents : W1 → Option (List ℕ)) (err_contents : W2 → Option (List ℕ)) (contents : W → Option (List ℕ))
     (s : StreamValue) (old new : HostState D R W1 W2) (before after : OutputValue W) : Type 0 where
   out : List ℕ → List ℕ

@@ -125,7 +125,8 @@ fn take_out<D: Device>(
     }
 }
 
-/// Removes what a path finds: `path_remove_directory` and `path_unlink_file`.
+/// `path_remove_directory(fd, path, length)` and `path_unlink_file(fd, path, length)`, by the kind of
+/// the entries that they remove.
 pub(crate) fn remove<D: Device>(
     volume: &mut Volume<D>,
     descriptors: &Descriptors<'_>,
