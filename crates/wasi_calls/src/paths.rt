@@ -5,8 +5,8 @@ pub mod opening;
 pub mod removing;
 pub mod renaming;
 
-ghost use Rattle.std.specs.Prelude.{true, ◌≡◌, ◌+◌, ◌≤◌, length, Ok, Err, MatchResult, IfOk, OnOk};
-ghost use Rattle.vol_tree.specs.Opened.{is_io};
+ghost use Rattle.std.specs.Prelude.{true, ◌≡◌, ◌⊎◌, ◌+◌, ◌≤◌, length, Ok, Err, MatchResult, IfOk, OnOk};
+ghost use Rattle.vol_tree.specs.Opened.{Keeps, is_io};
 ghost use Rattle.wasi_calls.specs.Calls.{Answered};
 ghost use Rattle.wasm_store.specs.Bytes.{bytes_at};
 ghost use Rattle.wasi_fd.specs.Table.{table_of};
@@ -37,6 +37,7 @@ pub(crate) fn reach<'p, D: Device>(
     requires { IsEntryOf D.honest volume.old directory }
     ensures reaches { D.honest volume.old.device → (w : World) (o : _) (path : _) → o.serial ≡ directory → text.now ≡ path → w ≡ with_volume volume.old w
         → Reaches volume.new w o path result }
+    ensures kept { (volume.new ≡ volume.old) ⊎ Keeps D.honest D.size D.failures volume.old volume.new (is_io result) }
     ensures place { D.honest volume.old.device → Places volume.old.tree result }
     ensures works { IfOk result (λ r. StillWorks D.honest D.disk D.size D.failures volume.old volume.new) }
     ensures reached { IfOk result (IsReached D.honest volume.new) }

@@ -1,5 +1,5 @@
 -- Walks of a guest's paths.
-use Rattle.std.proofs.Common.{◌≡◌, ◌≢◌, ℕ, Bool, true, false, cond, not, List, [], ◌∷◌, Option, Some, None, Result, Ok, Err, refl, sym, ◌∙◌, ap, subst, inl, inr, arith}
+use Rattle.std.proofs.Common.{◌≡◌, ◌≢◌, ◌⊎◌, ℕ, Bool, true, false, cond, not, List, [], ◌∷◌, Option, Some, None, Result, Ok, Err, refl, sym, ◌∙◌, ap, subst, inl, inr, arith}
 use Rattle.std.specs.Option.{option_map_or}
 use Rattle.std.proofs.lemmas.Bool.{false≢true}
 use Rattle.vol_sector.specs.Disk.{Disk, Leaves}
@@ -144,6 +144,10 @@ module _ {D : Type 0} (honest : D → Type 0) (disk : D → Disk) (sectors_on fa
       → Reaches v' w o text result
   reaches_by v v' w o text names result read shown tree gives kept out =
       reaches_if (stays_inside 0 names) v v' w o text names result read refl shown tree gives kept out
+
+  pub same_or_kept : (b : Bool) (v v' : Opened D) (io : Bool) → (b ≡ true → Keeps honest sectors_on failures v v' io) → (b ≡ false → v' ≡ v) → (v' ≡ v) ⊎ Keeps honest sectors_on failures v v' io
+  same_or_kept true v v' io kept same = inr (kept refl)
+  same_or_kept false v v' io kept same = inl (same refl)
 
   step_if : (b : Bool) (v v' : Opened D) (io : Bool) → (b ≡ true → Keeps honest sectors_on failures v v' io) → (b ≡ false → v' ≡ v)
       → (honest v.device → Leaves (disk v.device) (disk v'.device) (λ c. ⊥)) → VolumeStep honest disk sectors_on failures v v'

@@ -1,10 +1,10 @@
-use Rattle.std.proofs.Common.{◌≡◌, ℕ, List, sym, ap, ◌∙◌, subst, inl}
+use Rattle.std.proofs.Common.{◌≡◌, ℕ, List, refl, sym, ap, ◌∙◌, subst, inl}
 use Rattle.path_walk.specs.Paths.{components_of, path_read, wants_directory, resolved, stays_inside}
 use Rattle.path_walk.specs.Walk.{GivesOrIo}
 use Rattle.path_walk.specs.declared.walking.Reached.{Reached as ReachedValue}
 use Rattle.wasi_calls.specs.internal.paths.Walks.{Reaches}
 use Rattle.wasi_calls.proofs.checks.CausesOf29.{no_text_io, walk_io}
-use Rattle.wasi_calls.proofs.paths.Walks.{by_text, reaches_by, step_by, places}
+use Rattle.wasi_calls.proofs.paths.Walks.{by_text, reaches_by, same_or_kept, step_by, places}
 use Rattle.wasi_calls.proofs.bodies.PlainCalls.{volume_rests}
 use Rattle.wasi_calls.proofs.paths.reach.Goals as goal
 
@@ -20,6 +20,14 @@ returns-in-Ok-clause-reaches g c = λ h w o path serial is shown.
     (subst (λ (l : List ℕ). GivesOrIo (resolved v.tree c.args.directory (wants_directory l) (components_of l)) c.walk.result) same (c.walk.ensures.answer h)))
     (λ inside. c.walk.ensures.kept (ap (λ (l : List ℕ). stays_inside 0 (components_of l)) same ∙ inside))
     (λ out. c.walk.ensures.outside (ap (λ (l : List ℕ). stays_inside 0 (components_of l)) same ∙ out)))
+
+pub returns-in-Ok-clause-kept : goal.returns-in-Ok-clause-kept
+returns-in-Ok-clause-kept g c =
+    same_or_kept g.D.Device.honest g.D.Device.disk g.D.Device.size g.D.Device.failures (stays_inside 0 (components_of c.in-Ok.path)) c.args.volume.now c.walk.new.volume _
+    c.walk.ensures.kept (λ out. (c.walk.ensures.outside out).0)
+
+pub returns-in-Err-clause-kept : goal.returns-in-Err-clause-kept
+returns-in-Err-clause-kept g c = inl refl
 
 pub returns-in-Ok-clause-step : goal.returns-in-Ok-clause-step
 returns-in-Ok-clause-step g c =
