@@ -1,5 +1,5 @@
 -- Entries that are open.
-use Rattle.std.proofs.Common.{◌≡◌, ◌^◌, ℕ, Bool, true, false, cond, not, ◌==◌, List, [], Option, Some, IsSome, Ok, Err, refl, sym, ◌∙◌, ap, subst}
+use Rattle.std.proofs.Common.{◌≡◌, ◌^◌, ℕ, Bool, true, false, cond, not, ◌==◌, List, [], Option, Some, IsSome, Ok, refl, sym, ◌∙◌, ap, subst}
 use Rattle.std.specs.Option.{option_map_or}
 use Rattle.vol_inode.specs.declared.version.Version.TheVariants.{One}
 use Rattle.vol_tree.specs.Tree.{Tree, Entry as TreeEntry, entry}
@@ -14,7 +14,7 @@ use Rattle.wasi_fd.specs.declared.descriptor.Opened.{Opened as OpenedEntry}
 use Rattle.wasi_fd.specs.Table.{Table, streams}
 use Rattle.wasi_calls.specs.supplies.Random.{listed}
 use Rattle.wasi_calls.specs.World.{World}
-use Rattle.wasi_calls.specs.Checks.{Checked, Refusals, and_then, get, of_kind, descriptor, entry_at, range, only_directories, only_files, has, opened_entry}
+use Rattle.wasi_calls.specs.Checks.{Refusals, get, of_kind, descriptor, entry_at, range, only_directories, only_files, has, opened_entry}
 use Rattle.wasi_calls.specs.internal.descriptors.Positions.{seekable}
 use Rattle.wasi_calls.specs.internal.Bodies.{KnowsEntries, IsFileOf}
 use Rattle.path_walk.specs.Walk.{IsEntryOf}
@@ -72,13 +72,6 @@ pub is_used : (T : Tree) (serial : ℕ) (e : TreeEntry) → entry T serial ≡ S
 is_used T serial e used = subst (λ (o : Option TreeEntry). IsSome o) (sym used) refl
 
 -- ---- a directory that a path is walked from
-
-pub entered_row : {X : Type 0} (r : Checked OpenedEntry) (g : Checked (Unit {0})) (k : OpenedEntry → Checked X)
-    → and_then r (λ o. and_then g (λ _. k o)) ≡ and_then (and_then r (λ o. and_then g (λ _. Ok o))) k
-unfolding and_then
-entered_row (Ok o) (Ok u) k = refl
-entered_row (Ok o) (Err e) k = refl
-entered_row (Err e) g k = refl
 
 pub entry_of : {D : Type 0} (honest : D → Type 0) (v : Opened D) (table : Table) → KnowsEntries honest v table → (m : List ℕ) (fd rights path len : ℕ) (o : OpenedEntry)
     → ((w : World) → w.table ≡ table → starting_directory w m fd rights path len ≡ Ok o) → IsEntryOf honest v o.serial

@@ -5,17 +5,18 @@ pub mod opening;
 pub mod removing;
 pub mod renaming;
 
-ghost use Rattle.std.specs.Prelude.{true, ◌≡◌, ◌+◌, ◌≤◌, length, Ok, Err, MatchResult, IfOk, OnOk};
-ghost use Rattle.vol_tree.specs.Opened.{is_io};
+ghost use Rattle.std.specs.Prelude.{true, ◌≡◌, ◌⊎◌, ◌+◌, ◌≤◌, length, Ok, Err, MatchResult, IfOk, OnOk};
+ghost use Rattle.vol_tree.specs.Opened.{Keeps, is_io};
 ghost use Rattle.wasi_calls.specs.Calls.{Answered};
 ghost use Rattle.wasm_store.specs.Bytes.{bytes_at};
 ghost use Rattle.wasi_fd.specs.Table.{table_of};
 ghost use Rattle.wasi_fd.specs.Rights.{bits_of};
-ghost use Rattle.path_walk.specs.Walk.{IsEntryOf, IsReached};
+ghost use Rattle.path_walk.specs.Walk.{IsEntryOf, IsReached, reached_as};
 ghost use Rattle.wasi_calls.specs.World.{World};
 ghost use Rattle.wasi_calls.specs.host.Worlds.{VolumeStep};
 ghost use Rattle.wasi_calls.specs.internal.Bodies.{with_volume, KnowsEntries, errno_of};
-ghost use Rattle.wasi_calls.specs.internal.paths.Walks.{StillWorks, Reaches, Places, FindsBytes, starting_directory};
+ghost use Rattle.wasi_calls.specs.internal.Asking.{Passes, Stops};
+ghost use Rattle.wasi_calls.specs.internal.paths.Walks.{StillWorks, Reaches, Places, FindsBytes, starting_directory, reached_from};
 ghost use Rattle.wasi_calls.specs.paths.Rows.{path_filestat_get as stat_row, path_create_directory as create_row};
 
 use crate::checks::{Takes, check_range, entry_at, write_bytes};
@@ -34,8 +35,9 @@ pub(crate) fn reach<'p, D: Device>(
     text: &'p [u8],
 ) -> Result<Reached<'p>, vol_tree::Errno>
     requires { IsEntryOf D.honest volume.old directory }
-    ensures reaches { D.honest volume.old.device → (w : World) (o : _) → o.serial ≡ directory → w ≡ with_volume volume.old w
-        → Reaches D.honest D.disk D.size D.failures volume.old volume.new w o text.now result }
+    ensures reaches { D.honest volume.old.device → (w : World) (o : _) (path : _) → o.serial ≡ directory → text.now ≡ path → w ≡ with_volume volume.old w
+        → Reaches volume.new w o path result }
+    ensures kept { (volume.new ≡ volume.old) ⊎ Keeps D.honest D.size D.failures volume.old volume.new (is_io result) }
     ensures place { D.honest volume.old.device → Places volume.old.tree result }
     ensures works { IfOk result (λ r. StillWorks D.honest D.disk D.size D.failures volume.old volume.new) }
     ensures reached { IfOk result (IsReached D.honest volume.new) }
@@ -69,6 +71,36 @@ pub(crate) fn enter<'t, 'm>(
     match memory.slice(path, len) {
         Some(text) => Ok((opened, text)),
         None => Err(Errno::FAULT),
+    }
+}
+
+/// What a path of the guest reaches from an open directory whose descriptor has the rights.
+pub(crate) fn reach_from<'m, D: Device>(
+    volume: &mut Volume<D>,
+    descriptors: &Descriptors<'_>,
+    memory: &'m Memory,
+    fd: Fd,
+    path: u32,
+    len: u32,
+    rights: Rights,
+) -> Result<Reached<'m>, Errno>
+    requires { KnowsEntries D.honest volume.old (table_of descriptors.now) }
+    ensures step { VolumeStep D.honest D.disk D.size D.failures volume.old volume.new }
+    ensures io { errno_of result ≡ 29 → volume.new.failed ≡ true }
+    ensures works { IfOk result (λ r. StillWorks D.honest D.disk D.size D.failures volume.old volume.new) }
+    ensures reached { IfOk result (IsReached D.honest volume.new) }
+    ensures place { D.honest volume.old.device → IfOk result (λ r. Places volume.old.tree (Ok r)) }
+    ensures asks { D.honest volume.old.device → (w : World) → w.table ≡ table_of descriptors.now → w ≡ with_volume volume.old w → MatchResult result
+        (λ r. Passes (λ v. reached_from v memory.now fd (bits_of rights) path len) w volume.new (reached_as r))
+        (λ e. Stops (λ v. reached_from v memory.now fd (bits_of rights) path len) w volume.new e.0) }
+{
+    let (directory, text) = match enter(descriptors, memory, fd, path, len, rights) {
+        Ok(entered) => entered,
+        Err(errno) => return Err(errno),
+    };
+    match reach(volume, Serial::new(directory.serial), text) {
+        Ok(reached) => Ok(reached),
+        Err(errno) => Err(refused(errno)),
     }
 }
 
@@ -154,11 +186,7 @@ pub(crate) fn path_create_directory<D: Device>(
         → Answered (λ v. create_row v memory.now fd path len) w memory.now (with_volume volume.new w) memory.now (errno_of result) }
 {
     let right = Rights::PATH_CREATE_DIRECTORY;
-    let (directory, text) = match enter(descriptors, memory, fd, path, len, right) {
-        Ok(entered) => entered,
-        Err(errno) => return Err(errno),
-    };
-    match reach(volume, Serial::new(directory.serial), text) {
+    match reach_from(volume, descriptors, memory, fd, path, len, right) {
         Ok(Reached::Missing { parent, name }) => match volume.create_dir(
             Serial::new(parent),
             name,
@@ -167,6 +195,6 @@ pub(crate) fn path_create_directory<D: Device>(
             Err(errno) => Err(refused(errno)),
         },
         Ok(Reached::Found(_)) => Err(EXIST),
-        Err(errno) => Err(refused(errno)),
+        Err(errno) => Err(errno),
     }
 }

@@ -1,31 +1,26 @@
 -- Bodies that only ask the volume: they go on in the same world, or end the call.
-use Rattle.std.proofs.Common.{◌≡◌, ◌≢◌, ◌⊎◌, ℕ, Bool, true, false, List, [], Option, Some, None, IsSome, IsTrue, Result, Ok, Err, IsErrAnd, MatchResult, not, refl, sym, ◌∙◌, ap, subst, inl, inr, arith}
-use Rattle.std.specs.Option.{option_map_or}
+use Rattle.std.proofs.Common.{◌≡◌, ◌≢◌, ◌⊎◌, ℕ, Bool, true, false, List, [], IsSome, Result, Ok, Err, IsErrAnd, MatchResult, refl, sym, ◌∙◌, ap, subst, inl, inr, arith}
 use Rattle.std.proofs.lemmas.Bool.{false≢true}
 use Rattle.vol_sector.specs.Disk.{Disk, Leaves, counted}
 use Rattle.vol_tree.specs.declared.errno.Errno.{Errno}
 use Rattle.vol_tree.specs.declared.errno.Errno.TheVariants as errno
 use Rattle.vol_tree.specs.Numbers.{number_of}
-use Rattle.vol_tree.specs.Tree.{Tree, Entry as TreeEntry, entry}
-use Rattle.vol_tree.specs.Calls.{with_unit, directory_at, is_directory, is_file_at}
+use Rattle.vol_tree.specs.Tree.{Tree, entry}
+use Rattle.vol_tree.specs.Calls.{with_unit}
 use Rattle.vol_tree.specs.Opened.{Opened, Keeps, IsSerial, is_io}
-use Rattle.wasm_store.specs.Bytes.{bytes_at}
-use Rattle.path_walk.specs.declared.walking.Reached.{Reached as ReachedValue}
 use Rattle.vol_tree.specs.declared.superblock.Superblock.{Superblock}
-use Rattle.path_walk.specs.Walk.{reached_as, IsEntryOf}
-use Rattle.wasi_fd.specs.declared.descriptor.Opened.{Opened as OpenedEntry}
+use Rattle.path_walk.specs.Walk.{IsEntryOf}
 use Rattle.wasi_calls.specs.World.{World, with_volume_failed}
-use Rattle.wasi_calls.specs.paths.Rows.{path_at}
-use Rattle.wasi_calls.specs.Checks.{Checked, Done, and_then, walk, tree_call, numbered, only_world}
+use Rattle.wasi_calls.specs.Checks.{Checked, Done, and_then, tree_call, numbered, only_world}
 use Rattle.wasi_calls.specs.Calls.{Answered, by_row, volume_fails}
 use Rattle.wasi_calls.specs.host.Worlds.{VolumeStep}
 use Rattle.wasi_calls.specs.internal.Bodies.{with_volume}
-use Rattle.wasi_calls.specs.internal.paths.Walks.{StillWorks, Reaches}
+use Rattle.wasi_calls.specs.internal.paths.Walks.{StillWorks}
 use Rattle.path_walk.specs.Walk.{Asked}
 use Rattle.wasi_calls.specs.internal.Asking.{Passes, Stops, StopsNext}
 use Rattle.wasi_calls.proofs.checks.Chains.{goes_on, stops}
 use Rattle.wasi_calls.proofs.bodies.Answering.{answers_refused}
-use Rattle.wasi_calls.proofs.bodies.VolumeCalls.{io_or, was_working, never_after, same_volume, gone, tree_refuses, numbered_io, tree_called_alive, changing, steps_after}
+use Rattle.wasi_calls.proofs.bodies.VolumeCalls.{never_after, same_volume, gone, tree_refuses, numbered_io, tree_called_alive, changing, steps_after}
 
 -- ---- rows cut in parts
 
@@ -160,9 +155,6 @@ module _ {D : Type 0} (honest : D → Type 0) (disk : D → Disk) (sectors_on fa
     };
   }
 
-  pub works_step : (a b : Opened D) → StillWorks honest disk sectors_on failures a b → VolumeStep honest disk sectors_on failures a b
-  works_step a b works = asked_step a b false (record { kept = works.kept; tree = works.tree; crash = works.crash })
-
   pub asked_after : (a b c : Opened D) (io : Bool) → StillWorks honest disk sectors_on failures a b → Asked honest disk sectors_on failures b c io → VolumeStep honest disk sectors_on failures a c
   asked_after a b c io works asked = steps_after honest disk sectors_on failures a b c works (asked_step b c io asked)
 
@@ -198,16 +190,7 @@ changing_err honest sectors_on failures w m run r v v' shown same is_gone never 
     is_gone
     (λ alive is. changing_never r w alive never (sym same ∙ is))
 
--- ---- what an entry is
-
-file_if : (o : Option TreeEntry) → IsSome o → option_map_or (λ (e : TreeEntry). is_directory e.node) o false ≡ false → option_map_or (λ (e : TreeEntry). not (is_directory e.node)) o false ≡ true
-file_if None h is = absurd (false≢true h)
-file_if (Some e) h is = ap not is
-
-pub is_file : (T : Tree) (serial : ℕ) → IsSome (entry T serial) → directory_at T serial ≡ false → IsTrue (is_file_at T serial)
-is_file T serial h is = file_if (entry T serial) h is
-
--- ---- walks as parts
+-- ---- parts as others
 
 module _ {D : Type 0} (w : World) where
   -- a part that is the same in the world, and in it with its volume failed
@@ -228,38 +211,6 @@ module _ {D : Type 0} (w : World) where
     never = λ alive is. f.never alive (sym (goes_on _ _ x p.is) ∙ is);
     after = f.after;
   })
-
-module _ {D : Type 0} (honest : D → Type 0) (disk : D → Disk) (sectors_on failures : D → ℕ) (old new : Opened D) (w : World) (o : OpenedEntry) (m : List ℕ) (path len : ℕ) (text : List ℕ)
-    (bytes : text ≡ bytes_at m path len) (h : honest old.device) (shown : w ≡ with_volume old w) where
-  pub walk_passes : (r : ReachedValue) → StillWorks honest disk sectors_on failures old new → Reaches honest disk sectors_on failures old new w o text (Ok r)
-      → Passes (λ v. path_at v m o path len) w new (reached_as r)
-  walk_passes r works reaches =
-      let working : old.failed ≡ false = was_working honest sectors_on failures old new false works.kept refl in
-      let alive : w.volume_failed ≡ false = ap (λ (w : World). w.volume_failed) shown ∙ working in
-      record {
-        is = ap (walk w o) (sym bytes) ∙ reaches.0 alive;
-        gone = ap (walk (with_volume_failed w) o) (sym bytes) ∙ reaches.1;
-        same = same_volume w m old new shown works.kept.numbers (works.tree h) (works.kept.failed ∙ sym working);
-        working = alive;
-      }
-
-  pub walk_stops : (e : Errno) → Reaches honest disk sectors_on failures old new w o text (Err e) → Stops (λ v. path_at v m o path len) w new (number_of e)
-  walk_stops e (inl t) = inl (record { is = ap (walk w o) (sym bytes) ∙ t.answer; same = ap (λ (v : Opened D). with_volume v w) t.same ∙ sym shown })
-  walk_stops e (inr r) = elim (io_or ReachedValue e) [
-    | inl (io, fails) ↦ inr (record {
-      answer = ap number_of io;
-      gone = ap (walk (with_volume_failed w) o) (sym bytes) ∙ r.gone;
-      never = λ alive is. r.never alive (ap (walk w o) bytes ∙ is);
-      after = gone w m old new shown r.kept.numbers r.tree (r.kept.failed ∙ fails);
-    })
-    | inr (other, works) ↦
-        let working : old.failed ≡ false = was_working honest sectors_on failures old new _ r.kept works in
-        let alive : w.volume_failed ≡ false = ap (λ (w : World). w.volume_failed) shown ∙ working in
-        inl (record {
-          is = ap (walk w o) (sym bytes) ∙ r.answer alive (λ io. other (ap number_of io));
-          same = same_volume w m old new shown r.kept.numbers r.tree (r.kept.failed ∙ (works ∙ sym working));
-        })
-  ]
 
 module _ {D : Type 0} (honest : D → Type 0) (disk : D → Disk) (sectors_on failures : D → ℕ) where
   -- one question after others

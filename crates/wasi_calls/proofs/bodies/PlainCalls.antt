@@ -1,10 +1,8 @@
 -- Calls that reach neither the volume nor a stream.
-use Rattle.std.proofs.Common.{◌≡◌, ◌≢◌, Err, ℕ, IsTrue, Bool, true, false, List, [], ◌++◌, append-nil, Option, Some, None, refl, sym, ◌∙◌, subst, inl, inr, arith}
+use Rattle.std.proofs.Common.{◌≡◌, ◌≢◌, Err, ℕ, IsTrue, Bool, true, false, List, [], append-nil, Option, Some, None, refl, sym, ◌∙◌, subst, inl, inr, arith}
 use Rattle.std.proofs.lemmas.Bool.{cases_eq, cond-true, cond-false, eq-eqb, ne_eqb}
 use Rattle.std.proofs.lemmas.Option.{none-some}
-use Rattle.std.specs.Io.KnownBytes.{Appends}
 use Rattle.std.proofs.KnownBytes.{Consumes-nil, Appends-nil}
-use Rattle.wasi_calls.specs.declared.streams.Output.{Output}
 use Rattle.vol_sector.specs.Disk.{Disk, counted}
 use Rattle.vol_tree.specs.declared.superblock.Superblock.{Superblock}
 use Rattle.vol_tree.specs.Opened.{Opened, IsSerial}
@@ -157,49 +155,13 @@ module _ {D R W1 W2 : Type 0} (honest : D → Type 0) (disk : D → Disk) (secto
         io = io;
       }
 
--- ---- a stream that took more bytes
+-- ---- the input gives bytes
 
--- the output, or the error output, takes them
-abbrev pub to_out : List ℕ → StreamBytes
-to_out taken = record { input = []; output = taken; errors = [] }
-
-abbrev pub to_err : List ℕ → StreamBytes
-to_err taken = record { input = []; output = []; errors = taken }
-
--- the input gives them
 abbrev pub from_in : List ℕ → StreamBytes
 from_in bytes = record { input = bytes; output = []; errors = [] }
 
-pub after_out : (taken : List ℕ) (others : StreamBytes) → after_moving (to_out taken) others ≡ record others { output = others.output ++ taken }
-after_out taken others = λ i. record { input = others.input; output = others.output ++ taken; errors = append-nil others.errors i }
-
-pub after_err : (taken : List ℕ) (others : StreamBytes) → after_moving (to_err taken) others ≡ record others { errors = others.errors ++ taken }
-after_err taken others = λ i. record { input = others.input; output = append-nil others.output i; errors = others.errors ++ taken }
-
 pub after_in : (bytes : List ℕ) (others : StreamBytes) → after_moving (from_in bytes) others ≡ others
 after_in bytes others = λ i. record { input = others.input; output = append-nil others.output i; errors = append-nil others.errors i }
-
-module _ {D R W1 W2 : Type 0} (honest : D → Type 0) (disk : D → Disk) (sectors_on failures : D → ℕ)
-    (remaining : R → Option (List ℕ)) (out_contents : W1 → Option (List ℕ)) (err_contents : W2 → Option (List ℕ)) where
-  pub moved_by_out : (old : Inner D R W1 W2) (o : Output W1) (taken : List ℕ) → Appends (out_contents old.out.writer) (out_contents o.writer) taken
-      → StreamsMove remaining out_contents err_contents (state_of old) (state_of (record old { out = o })) (to_out taken)
-  moved_by_out old o taken more = record {
-    input = Consumes-nil (remaining old.input.reader);
-    output = more;
-    errors = Appends-nil (err_contents old.err.writer);
-    ended = λ is. (refl, is);
-    end = λ is. inl is;
-  }
-
-  pub moved_by_err : (old : Inner D R W1 W2) (o : Output W2) (taken : List ℕ) → Appends (err_contents old.err.writer) (err_contents o.writer) taken
-      → StreamsMove remaining out_contents err_contents (state_of old) (state_of (record old { err = o })) (to_err taken)
-  moved_by_err old o taken more = record {
-    input = Consumes-nil (remaining old.input.reader);
-    output = Appends-nil (out_contents old.out.writer);
-    errors = more;
-    ended = λ is. (refl, is);
-    end = λ is. inl is;
-  }
 
 -- ---- calls that change the volume and the descriptors
 

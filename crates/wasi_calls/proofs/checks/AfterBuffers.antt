@@ -1,12 +1,12 @@
 -- Calls whose checks have passed.
-use Rattle.std.proofs.Common.{◌≡◌, ℕ, ◌+◌, ◌≤◌, ◌++◌, List, length, take, true, Ok, Err, refl, sym, ap, ◌∙◌, subst}
+use Rattle.std.proofs.Common.{◌≡◌, ℕ, ◌+◌, ◌≤◌, ◌++◌, List, length, take, true, Ok, refl, sym, ap, ◌∙◌, subst}
 use Rattle.std.proofs.Math.Seq.{take-append_seam}
 use Rattle.wasi_fd.specs.declared.descriptor.Stream.{Stream as StreamValue}
 use Rattle.wasi_fd.specs.declared.descriptor.Stream.TheVariants.{Input, Output, Error}
 use Rattle.wasi_calls.specs.World.{World, with_volume_failed, with_stream_failed}
 use Rattle.wasi_calls.specs.Checks.{Checked, Done, Buffer, and_then, buffers, range, Refusals, get, of_kind, has, descriptor}
 use Rattle.wasi_fd.specs.declared.descriptor.Descriptor.{Descriptor}
-use Rattle.wasi_calls.proofs.checks.Chains.{bound, passed}
+use Rattle.wasi_calls.proofs.checks.Chains.{bound, paired, passed}
 use Rattle.wasi_calls.proofs.checks.Passing.{same_Ok}
 use Rattle.wasi_calls.specs.Calls.{Answers, Answered, Reaches, IsMixed, VolumeFails, InputFails, OutputFails, by_row, volume_fails, input_fails, output_fails, errors_fail, filled, input_left, output_after, with_all}
 use Rattle.wasi_calls.specs.internal.checks.Buffers.{usable}
@@ -54,12 +54,6 @@ module _ (run r : World → Checked Done) (w : World) (same : (v : World) → v.
   answered_so m w' m' e (errors_fail f) = errors_fail (output_so Error refl refl m w' m' e f)
 
 -- ---- buffers and the place of the result are checked together
-
-paired : {A X : Type 0} (r : Checked A) (g : Checked (Unit {0})) (k : A → Checked X) → and_then r (λ a. and_then g (λ _. k a)) ≡ and_then (and_then r (λ a. and_then g (λ _. Ok a))) k
-unfolding and_then
-paired (Ok a) (Ok u) k = refl
-paired (Ok a) (Err e) k = refl
-paired (Err e) g k = refl
 
 pub usable_row : {X : Type 0} (m : List ℕ) (iovs count result : ℕ) (k : List Buffer → Checked X)
     → and_then (buffers m iovs count) (λ bs. and_then (range m result 4) (λ _. k bs)) ≡ and_then (usable m iovs count result) k

@@ -4,9 +4,10 @@ use Rattle.std.specs.Option.{option_map_or, ok_or, is_none}
 use Rattle.std.proofs.lemmas.Option.{none-some}
 use Rattle.std.proofs.lemmas.Bool.{cases_eq, cond-true, cond-false, eq-eqb, ne_eqb}
 use Rattle.wasm_store.specs.Bytes.{bytes_at}
+use Rattle.wasm_store.specs.declared.call.Errno.{Errno as Number}
 use Rattle.vol_tree.specs.declared.errno.Errno.{Errno}
 use Rattle.vol_tree.specs.declared.errno.Errno.TheVariants as errno
-use Rattle.vol_tree.specs.Tree.{Tree, File, Entry as TreeEntry, entry, changed}
+use Rattle.vol_tree.specs.Tree.{Tree, Name, File, Entry as TreeEntry, entry, changed}
 use Rattle.vol_tree.specs.Space.{Geometry, space}
 use Rattle.vol_body.specs.Bytes.{resized_bytes}
 use Rattle.vol_tree.specs.Calls.{directory_at, created, resized, with_bytes, bytes_at as tree_bytes}
@@ -17,12 +18,12 @@ use Rattle.vol_tree.proofs.Entries.{entry-changed_same}
 use Rattle.vol_inode.specs.Space.{size_limit}
 use Rattle.vol_tree.specs.declared.superblock.Superblock.{Superblock}
 use Rattle.std.specs.Prelude.{nat_lt}
-use Rattle.path_walk.specs.Paths.{Reached, Found, Missing, wants_directory}
+use Rattle.path_walk.specs.Paths.{Reached, Found, Missing, path_read, wants_directory}
 use Rattle.wasi_fd.specs.declared.descriptor.Descriptor.{Descriptor}
 use Rattle.wasi_fd.specs.declared.descriptor.Descriptor.TheVariants as descriptors
 use Rattle.wasi_fd.specs.declared.descriptor.Opened.{Opened}
 use Rattle.wasi_fd.specs.Table.{Table, with_at}
-use Rattle.wasi_calls.specs.World.{World, least_closed, with_descriptor}
+use Rattle.wasi_calls.specs.World.{World, least_closed, with_descriptor, with_volume_failed}
 use Rattle.wasi_calls.specs.Checks.{Checked, Done, and_then, guard, tree_call, numbered, with_result}
 use Rattle.wasi_calls.specs.paths.Rows.{path_open, path_at, open_checks, open_entry, new_number, is_set, trunc, creat, excl, new_descriptor}
 use Rattle.byteorder.specs.Endian.{little_bytes}
@@ -31,11 +32,11 @@ use Rattle.wasi_calls.specs.declared.paths.opening.Target.{Target}
 use Rattle.wasi_calls.specs.declared.paths.opening.Target.TheVariants as targets
 use Rattle.wasi_calls.specs.internal.Bodies.{with_volume}
 use Rattle.wasi_calls.specs.internal.Asking.{Passes, Stops, StopsNext}
-use Rattle.wasi_calls.specs.internal.paths.Opening.{open_part, open_entered, found_checked, missing_checked, IsTarget, made, with_serial, target_is_directory, with_both, AreSerials}
+use Rattle.wasi_calls.specs.internal.paths.Opening.{open_part, open_entered, found_checked, missing_checked, ChecksAs, Reaches as Finds, IsTarget, made, with_serial, target_is_directory, with_both, AreSerials}
 use Rattle.wasi_calls.proofs.checks.Chains.{goes_on, stops}
-use Rattle.wasi_calls.proofs.checks.Passing.{passes_on}
+use Rattle.wasi_calls.proofs.checks.Passing.{passes_on, walked_to}
 use Rattle.wasi_calls.proofs.bodies.VolumeCalls.{never_after, never_guard, numbered_io, tree_called_alive, resized_never, created_never}
-use Rattle.wasi_calls.proofs.bodies.AskingCalls.{and_then_assoc, ok_then, refuses_on, fails_on}
+use Rattle.wasi_calls.proofs.bodies.AskingCalls.{and_then_assoc, ok_then, refuses_on, fails_on, passes_as, passes_on as part_passes, stops_as}
 use Rattle.wasi_fd.specs.declared.table.TheConstants.{PLACES}
 
 -- ---- no check answers 29
@@ -172,15 +173,6 @@ opens_as w oflags r (targets.Cut serial) alive h =
     ∙ mapped (resized w.volume w.tree serial 0) serial))
 opens_as w oflags r (targets.New parent name) alive h = ap (open_entry w oflags) h ∙ tree_called_alive w (created w.tree parent name.now (File [])) alive
 
-with_serial_never : (serial : ℕ) (r : Result Tree Errno) → r ≢ Err errno.Io → with_serial serial r ≢ Err errno.Io
-with_serial_never serial (Ok T) h = λ is. cc
-with_serial_never serial (Err e) h = λ is. h (let same : e ≡ errno.Io = cc in ap Err same)
-
-pub made_never : (volume : Geometry) (T : Tree) (t : Target) → made volume T t ≢ Err errno.Io
-made_never volume T (targets.Entry serial kind) = λ is. cc
-made_never volume T (targets.Cut serial) = with_serial_never serial (resized volume T serial 0) (resized_never volume T serial 0)
-made_never volume T (targets.New parent name) = created_never T parent name.now (File [])
-
 alive_never : {X : Type 0} (w : World) (r : Result X Errno) → w.volume_failed ≡ false → r ≢ Err errno.Io → tree_call w r ≢ Err 29
 alive_never w r alive never = λ is. numbered_io r never (sym (tree_called_alive w r alive) ∙ is)
 
@@ -276,3 +268,45 @@ opened_world w between new old table n k d e shown numbers failed alive same num
     let works : new.failed ≡ w.volume_failed = failed ∙ sym alive in
     let tables : table ≡ with_at n (Some e) w.table = (λ i j. opened j i) ∙ (λ i. with_at (number i) (Some (descriptor i)) (sym same i)) in
     λ i. record w { volume = volume i; tree = new.tree; volume_failed = works i; table = tables i }
+
+-- ---- what is found to be opened
+
+module _ {D : Type 0} (between new : OpenedVolume D) (w : World) (m : List ℕ) (a : OpenCall) (o : Opened) (text : List ℕ) (bytes : text ≡ bytes_at m a.path a.len)
+    (enters : (v : World) → v.table ≡ w.table → open_entered v m a ≡ Ok o) (r : Reached) (walked : Passes (λ v. path_at v m o a.path a.len) w between r) where
+  -- what the checks on what was reached say
+  abbrev Checks : Result Target Number → Type 0
+  Checks result = (v : World) (names : List Name) → path_read text ≡ Ok names → v.volume_failed ≡ false → v ≡ with_volume between v → ChecksAs a.oflags (wants_directory text) r v new result
+
+  checked : (result : Result Target Number) → Checks result → ChecksAs a.oflags (wants_directory (bytes_at m a.path a.len)) r w new result
+  checked result checks =
+      let to = walked_to w o (bytes_at m a.path a.len) r walked.is in
+      subst (λ (l : List ℕ). ChecksAs a.oflags (wants_directory l) r w new result) bytes (checks w to.0 (ap path_read bytes ∙ to.1) walked.working (sym walked.same))
+
+  abbrev part : World → Checked (Opened × Reached × ℕ)
+  part v = and_then (path_at v m o a.path a.len) (after_walk v a m o)
+
+  as_part : (v : World) → v.table ≡ w.table → open_part v m a ≡ part v
+  as_part v same = entered_part v m a o (enters v same)
+
+  stops_open : (e : ℕ) → Stops part w new e → Stops (λ v. open_part v m a) w new e
+  stops_open e stop = stops_as w (λ v. open_part v m a) part new e (as_part w refl) (as_part (with_volume_failed w) refl) stop
+
+  pub checks_refuse : (e : Number) → Checks (Err e) → Stops (λ v. open_part v m a) w new e.0
+  checks_refuse e checks = stops_open e.0 (checks_stop w a m o between new r e.0 walked (checked (Err e) checks))
+
+  pub no_place : (t : Target) → Checks (Ok t) → new_number w ≡ Err 33 → Stops (λ v. open_part v m a) w new 33
+  no_place t checks none =
+      let holds = checked (Ok t) checks in
+      stops_open 33 (refuses_on w (λ v. path_at v m o a.path a.len) (λ v. after_walk v a m o) between r walked new 33 holds.2 (goes_on _ _ tt holds.0 ∙ stops _ _ 33 none))
+
+  pub finds_target : (t : Target) → Checks (Ok t) → (n : ℕ) × (new_number w ≡ Ok n) → Finds m a w new o t
+  finds_target t checks (n, free) =
+      let holds = checked (Ok t) checks in
+      record {
+        reached = r;
+        number = n;
+        free = free;
+        passes = passes_as w (λ v. open_part v m a) part new (o, r, n) (as_part w refl) (as_part (with_volume_failed w) refl)
+            (part_passes w (λ v. path_at v m o a.path a.len) (λ v. after_walk v a m o) between r walked new (o, r, n) holds.2 (goes_on _ _ tt holds.0 ∙ goes_on _ _ n free));
+        target = holds.1;
+      }

@@ -6,20 +6,20 @@ use Rattle.wasm_store.specs.declared.call.Errno.{Errno as Number}
 use Rattle.path_walk.specs.Paths.{Reached, wants_directory}
 use Rattle.wasm_store.specs.Bytes.{bytes_at}
 use Rattle.wasi_fd.specs.declared.descriptor.Opened.{Opened}
-use Rattle.wasi_calls.specs.World.{World}
+use Rattle.wasi_calls.specs.World.{World, with_volume_failed}
 use Rattle.wasi_calls.specs.Checks.{Checked, Done, and_then, guard, found, only_world}
 use Rattle.wasi_calls.specs.paths.Rows.{path_at, path_rename, rename_to}
 use Rattle.wasi_calls.specs.Calls.{Answered, by_row}
 use Rattle.wasi_calls.specs.declared.paths.renaming.RenameCall.{RenameCall}
 use Rattle.wasi_calls.specs.internal.Bodies.{with_volume, errno_of}
-use Rattle.wasi_calls.specs.internal.Asking.{Passes, StopsNext}
+use Rattle.wasi_calls.specs.internal.Asking.{Passes, Stops, StopsNext}
 use Rattle.wasi_calls.specs.internal.paths.Renaming.{rename_entered, rename_part, source_checked, RenamesTo}
-use Rattle.wasi_calls.proofs.checks.Chains.{goes_on}
+use Rattle.wasi_calls.proofs.checks.Chains.{goes_on, stops}
 use Rattle.wasi_calls.proofs.bodies.Answering.{answers_done}
 use Rattle.wasi_calls.proofs.bodies.VolumeCalls.{never_after, never_guard}
 use Rattle.wasi_calls.proofs.paths.Walks.{found_never, walk_never}
 use Rattle.wasi_calls.proofs.paths.RenameCalls.{rename_never}
-use Rattle.wasi_calls.proofs.bodies.AskingCalls.{and_then_assoc, ok_then, ends_call, next_stops}
+use Rattle.wasi_calls.proofs.bodies.AskingCalls.{and_then_assoc, ok_then, ends_call, ends_part, next_stops, passes_as, passes_on, refuses_on, stops_as, stops_on}
 
 -- the part from the first walk on, and that from the second on
 abbrev pub after_second : Opened × Opened → Reached → Reached → Checked (ℕ × Reached)
@@ -50,6 +50,34 @@ second_never both moved target = never_after {B = ℕ × Reached} (source_checke
 pub first_never : (w : World) (m : List ℕ) (a : RenameCall) (both : Opened × Opened) (moved : Reached) → w.volume_failed ≡ false → after_first w m a both moved ≢ Err 29
 first_never w m a both moved alive =
     never_after (path_at w m both.1 a.to_path a.to_len) (after_second both moved) (walk_never w both.1 (bytes_at m a.to_path a.to_len) alive) (λ target _. second_never both moved target)
+
+-- ---- both walks
+
+module _ {D : Type 0} (mid new : OpenedVolume D) (w : World) (m : List ℕ) (a : RenameCall) (both : Opened × Opened) (enters : (v : World) → v.table ≡ w.table → rename_entered v m a ≡ Ok both)
+    (moved : Reached) (one : Passes (λ v. path_at v m both.0 a.from_path a.from_len) w mid moved) where
+  abbrev second : World → Checked Reached
+  second v = path_at v m both.1 a.to_path a.to_len
+
+  as_both : (v : World) → v.table ≡ w.table → rename_part v m a ≡ and_then (path_at v m both.0 a.from_path a.from_len) (after_first v m a both)
+  as_both v same = entered_both v m a both (enters v same)
+
+  stops_rename : (e : ℕ) → Stops (λ v. after_first v m a both moved) w new e → Stops (λ v. rename_part v m a) w new e
+  stops_rename e stop =
+      stops_as w (λ v. rename_part v m a) (λ v. and_then (path_at v m both.0 a.from_path a.from_len) (after_first v m a both)) new e (as_both w refl) (as_both (with_volume_failed w) refl)
+      (stops_on w (λ v. path_at v m both.0 a.from_path a.from_len) (λ v. after_first v m a both) mid new moved e one stop)
+
+  pub second_stops : (e : ℕ) → Stops second w new e → Stops (λ v. rename_part v m a) w new e
+  second_stops e stop = stops_rename e (ends_part w second (λ v. after_second both moved) new e (λ alive r. second_never both moved r) stop)
+
+  module _ (target : Reached) (two : Passes second w new target) where
+    pub source_stops : (e : ℕ) → source_checked both.0.serial moved ≡ Err e → Stops (λ v. rename_part v m a) w new e
+    source_stops e is = stops_rename e (refuses_on w second (λ v. after_second both moved) new target two new e two.same (stops _ _ e is))
+
+    pub both_walked : (source : ℕ) → source_checked both.0.serial moved ≡ Ok source → Passes (λ v. rename_part v m a) w new (source, target)
+    both_walked source is =
+        passes_as w (λ v. rename_part v m a) (λ v. and_then (path_at v m both.0 a.from_path a.from_len) (after_first v m a both)) new (source, target) (as_both w refl) (as_both (with_volume_failed w) refl)
+        (passes_on w (λ v. path_at v m both.0 a.from_path a.from_len) (λ v. after_first v m a both) mid moved one new (source, target) two.same
+        (goes_on _ _ target two.is ∙ goes_on _ _ source is))
 
 -- ---- the whole row
 

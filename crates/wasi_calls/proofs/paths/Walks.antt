@@ -1,5 +1,5 @@
 -- Walks of a guest's paths.
-use Rattle.std.proofs.Common.{◌≡◌, ◌≢◌, ℕ, Bool, true, false, cond, not, List, [], ◌∷◌, Option, Some, None, Result, Ok, Err, refl, sym, ◌∙◌, ap, subst, inl, inr, arith}
+use Rattle.std.proofs.Common.{◌≡◌, ◌≢◌, ◌⊎◌, ℕ, Bool, true, false, cond, not, List, [], ◌∷◌, Option, Some, None, Result, Ok, Err, refl, sym, ◌∙◌, ap, subst, inl, inr, arith}
 use Rattle.std.specs.Option.{option_map_or}
 use Rattle.std.proofs.lemmas.Bool.{false≢true}
 use Rattle.vol_sector.specs.Disk.{Disk, Leaves}
@@ -23,7 +23,7 @@ use Rattle.wasi_calls.specs.internal.Bodies.{with_volume}
 use Rattle.wasi_calls.specs.internal.paths.Walks.{Reaches, Places}
 use Rattle.wasi_calls.proofs.checks.Chains.{guard_passes, guard_fails, goes_on, stops}
 use Rattle.wasi_calls.proofs.bodies.PlainCalls.{volume_rests}
-use Rattle.wasi_calls.proofs.bodies.VolumeCalls.{never_after, never_guard, never_if, ok_no_io, numbered_io}
+use Rattle.wasi_calls.proofs.bodies.VolumeCalls.{gone, io_or, never_after, never_guard, never_if, ok_no_io, numbered_io, same_volume, was_working}
 
 -- ---- a walk never says that the device failed
 
@@ -98,34 +98,56 @@ module _ {D : Type 0} (honest : D → Type 0) (disk : D → Disk) (sectors_on fa
       → path_read text ≡ Ok names → stays_inside 0 names ≡ b → w ≡ with_volume v w → v'.tree ≡ v.tree
       → GivesOrIo (resolved v.tree o.serial (wants_directory text) names) result
       → (b ≡ true → Keeps honest sectors_on failures v v' (is_io result)) → (b ≡ false → (v' ≡ v) × (result ≡ Err errno.NotCapable))
-      → Reaches honest disk sectors_on failures v v' w o text result
-  reaches_if true v v' w o text names (Ok r) read inside shown tree gives kept out = (
-    (λ alive. by_walk w o text names read inside alive ∙ ap numbered (ap (λ (w : World). resolved w.tree o.serial (wants_directory text) names) shown ∙ gives)),
-    by_gone w o text names read inside,
-  )
-  reaches_if true v v' w o text names (Err e) read inside shown tree gives kept out = inr (record {
-    kept = kept refl;
-    tree = tree;
-    answer = λ alive other. elim gives [
-      | inl is ↦ by_walk w o text names read inside alive ∙ ap numbered (ap (λ (w : World). resolved w.tree o.serial (wants_directory text) names) shown ∙ is)
-      | inr io ↦ absurd (other io)
-    ];
-    gone = by_gone w o text names read inside;
-    never = λ alive is. numbered_io _ (resolved_never w.tree o.serial (wants_directory text) names) (sym (by_walk w o text names read inside alive) ∙ is);
-  })
+      → Reaches v' w o text result
+  reaches_if true v v' w o text names (Ok r) read inside shown tree gives kept out =
+      let k = kept refl in
+      let working : v.failed ≡ false = was_working honest sectors_on failures v v' false k refl in
+      let alive : w.volume_failed ≡ false = ap (λ (w : World). w.volume_failed) shown ∙ working in
+      record {
+        is = by_walk w o text names read inside alive ∙ ap numbered (ap (λ (w : World). resolved w.tree o.serial (wants_directory text) names) shown ∙ gives);
+        gone = by_gone w o text names read inside;
+        same = same_volume w [] v v' shown k.numbers tree (k.failed ∙ sym working);
+        working = alive;
+      }
+  reaches_if true v v' w o text names (Err e) read inside shown tree gives kept out = elim (io_or ReachedValue e) [
+    | inl (io, fails) ↦ inr (record {
+      answer = ap number_of io;
+      gone = by_gone w o text names read inside;
+      never = λ alive is. numbered_io _ (resolved_never w.tree o.serial (wants_directory text) names) (sym (by_walk w o text names read inside alive) ∙ is);
+      after = gone w [] v v' shown (kept refl).numbers tree ((kept refl).failed ∙ fails);
+    })
+    | inr (other, works) ↦
+        let k = kept refl in
+        let working : v.failed ≡ false = was_working honest sectors_on failures v v' _ k works in
+        let alive : w.volume_failed ≡ false = ap (λ (w : World). w.volume_failed) shown ∙ working in
+        inl (record {
+          is = elim gives [
+            | inl is ↦ by_walk w o text names read inside alive ∙ ap numbered (ap (λ (w : World). resolved w.tree o.serial (wants_directory text) names) shown ∙ is)
+            | inr io ↦ absurd (other (ap number_of io))
+          ];
+          same = same_volume w [] v v' shown k.numbers tree (k.failed ∙ (works ∙ sym working));
+        })
+  ]
   reaches_if false v v' w o text names (Ok r) read inside shown tree gives kept out = let both = (out refl).1 in absurd (let never : ◌≡◌ {A = Result ReachedValue Errno} (Ok r) (Err errno.NotCapable) = both in cc)
   reaches_if false v v' w o text names (Err e) read inside shown tree gives kept out =
       let both : ◌≡◌ {A = Result ReachedValue Errno} (Err e) (Err errno.NotCapable) = (out refl).1 in
       let same : e ≡ errno.NotCapable = cc in
-      inl (record { same = (out refl).0; answer = by_outside w o text names read inside ∙ ap (λ (e : Errno). Err (number_of e)) (sym same) })
+      inl (record {
+        is = by_outside w o text names read inside ∙ ap (λ (e : Errno). Err (number_of e)) (sym same);
+        same = ap (λ (v : Opened D). with_volume v w) (out refl).0 ∙ sym shown;
+      })
 
   pub reaches_by : (v v' : Opened D) (w : World) (o : OpenedEntry) (text : List ℕ) (names : List Name) (result : Result ReachedValue Errno)
       → path_read text ≡ Ok names → w ≡ with_volume v w → v'.tree ≡ v.tree
       → GivesOrIo (resolved v.tree o.serial (wants_directory text) names) result
       → (stays_inside 0 names ≡ true → Keeps honest sectors_on failures v v' (is_io result)) → (stays_inside 0 names ≡ false → (v' ≡ v) × (result ≡ Err errno.NotCapable))
-      → Reaches honest disk sectors_on failures v v' w o text result
+      → Reaches v' w o text result
   reaches_by v v' w o text names result read shown tree gives kept out =
       reaches_if (stays_inside 0 names) v v' w o text names result read refl shown tree gives kept out
+
+  pub same_or_kept : (b : Bool) (v v' : Opened D) (io : Bool) → (b ≡ true → Keeps honest sectors_on failures v v' io) → (b ≡ false → v' ≡ v) → (v' ≡ v) ⊎ Keeps honest sectors_on failures v v' io
+  same_or_kept true v v' io kept same = inr (kept refl)
+  same_or_kept false v v' io kept same = inl (same refl)
 
   step_if : (b : Bool) (v v' : Opened D) (io : Bool) → (b ≡ true → Keeps honest sectors_on failures v v' io) → (b ≡ false → v' ≡ v)
       → (honest v.device → Leaves (disk v.device) (disk v'.device) (λ c. ⊥)) → VolumeStep honest disk sectors_on failures v v'

@@ -1,30 +1,32 @@
 -- Calls that write to a stream.
-use Rattle.std.proofs.Common.{◌≡◌, ◌≤◌, ◌⊎◌, inl, inr, Bool, Result, OnOk, OnErr, IfErr, ℕ, true, false, not, List, ◌++◌, length, take, Option, Some, Ok, Err, vec_capacity, refl, sym, ap, ◌∙◌, subst, append_assoc, arith}
+use Rattle.std.proofs.Common.{◌≡◌, ◌≤◌, ◌⊎◌, inl, inr, Bool, Result, OnOk, OnErr, IfErr, ℕ, true, false, not, List, [], ◌++◌, length, take, Option, Some, Ok, Err, vec_capacity, refl, sym, ap, ◌∙◌, subst, append-nil, append_assoc, arith}
 use Rattle.std.proofs.lemmas.List.{length-append}
 use Rattle.std.proofs.Math.Seq.{take-append_seam}
 use Rattle.std.specs.Io.KnownBytes.{Appends, IsAtEnd}
+use Rattle.std.proofs.KnownBytes.{Consumes-nil, Appends-nil}
 use Rattle.byteorder.specs.Endian.{little_bytes}
 use Rattle.wasm_store.specs.Bytes.{written}
 use Rattle.wasm_store.specs.declared.call.Errno.{Errno}
 use Rattle.vol_sector.specs.Disk.{Disk}
 use Rattle.vol_tree.specs.Opened.{IsSerial}
+use Rattle.wasi_fd.specs.declared.descriptor.Stream.{Stream as StreamValue}
 use Rattle.wasi_fd.specs.declared.descriptor.Stream.TheVariants.{Output, Error}
 use Rattle.wasi_fd.specs.declared.descriptor.Descriptor.TheVariants.{Stream, Entry}
 use Rattle.wasi_fd.specs.declared.descriptor.Opened.{Opened as OpenedEntry}
 use Rattle.wasi_fd.specs.Table.{table_of}
 use Rattle.wasi_calls.specs.declared.host.inner.Inner.{Inner}
 use Rattle.wasi_calls.specs.host.Settings.{settings_fit}
-use Rattle.wasi_calls.specs.World.{World, with_stream_failed, with_output}
+use Rattle.wasi_calls.specs.World.{World, has_stream_failed, with_stream_failed, with_output}
 use Rattle.wasi_calls.specs.Checks.{Checked, Done, with_result}
 use Rattle.wasm_store.specs.declared.call.HostCall.{HostCall}
-use Rattle.wasi_calls.specs.Calls.{row, Answered, by_row, output_fails, errors_fail, output_after}
+use Rattle.wasi_calls.specs.Calls.{row, Answered, OutputFails, by_row, output_fails, errors_fail, output_of, output_after, with_all}
 use Rattle.wasi_calls.specs.host.Worlds.{HostState, StreamBytes, HasFailed, StreamsMove, after_moving, world_of, VolumeStep}
 use Rattle.wasi_calls.specs.internal.Bodies.{state_of, errno_of, IsSetUp, Serves}
 use Rattle.wasi_calls.specs.internal.files.Writing.{written_to}
 use Rattle.wasi_calls.specs.internal.streams.Outputs.{AppendsSome}
 use Rattle.wasi_calls.proofs.checks.Chains.{guard_passes, guard_fails, goes_on, stops}
 use Rattle.wasi_calls.proofs.bodies.Answering.{answers_done, answers_refused}
-use Rattle.wasi_calls.proofs.bodies.PlainCalls.{nothing, same_after, to_out, to_err, after_out, after_err, volume_rests, settings_rest, streams_rest, moved_by_out, moved_by_err}
+use Rattle.wasi_calls.proofs.bodies.PlainCalls.{nothing, same_after, volume_rests, settings_rest, streams_rest}
 use Rattle.wasi_calls.proofs.bodies.VolumeCalls.{is_no_err}
 use Rattle.wasi_calls.proofs.checks.CausesOf29.{no_29_at_0}
 use Rattle.wasi_calls.specs.declared.streams.Output.{Output as OutputValue}
@@ -35,20 +37,73 @@ either : (b : Bool) → (b ≡ true) ⊎ (b ≡ false)
 either true = inl refl
 either false = inr refl
 
--- ---- the output
+-- what a writer took is the beginning of what the output would have
+beginning : (had taken missing all : List ℕ) → all ≡ taken ++ missing → had ++ taken ≡ take (length (had ++ taken)) (had ++ all)
+beginning had taken missing all parts = sym (ap (λ (l : List ℕ). take (length (had ++ taken)) (had ++ l)) parts
+    ∙ (ap (λ (l : List ℕ). take (length (had ++ taken)) l) (sym (append_assoc had taken missing)) ∙ take-append_seam (had ++ taken) missing))
 
-module _ {D R W1 W2 : Type 0} (honest : D → Type 0) (disk : D → Disk) (sectors_on failures : D → ℕ)
-    (remaining : R → Option (List ℕ)) (out_contents : W1 → Option (List ℕ)) (err_contents : W2 → Option (List ℕ))
+-- One of a host's outputs takes bytes, and nothing else of the host changes. Of these bytes `out` and `err` are what each output gets.
+pub record Takes {D R W1 W2 W : Type 0} (remaining : R → Option (List ℕ)) (out_contents : W1 → Option (List ℕ)) (err_contents : W2 → Option (List ℕ)) (contents : W → Option (List ℕ))
+    (s : StreamValue) (old new : HostState D R W1 W2) (before after : OutputValue W) : Type 0 where
+  out : List ℕ → List ℕ
+  err : List ℕ → List ℕ
+  rests : after ≡ before → new ≡ old
+  moves : (taken : List ℕ) → Appends (contents before.writer) (contents after.writer) taken
+      → StreamsMove remaining out_contents err_contents old new (record { input = []; output = out taken; errors = err taken })
+  mark : (b : StreamBytes) → has_stream_failed (world_of old b) s ≡ before.failed
+  done : (b : StreamBytes) (taken : List ℕ) → after.failed ≡ before.failed
+      → world_of new (after_moving (record { input = []; output = out taken; errors = err taken }) b) ≡ with_output (world_of old b) s taken
+  broken : (b : StreamBytes) (taken bytes : List ℕ) → after.failed ≡ true → output_of s (world_of old b) ++ taken ≡ bytes
+      → world_of new (after_moving (record { input = []; output = out taken; errors = err taken }) b) ≡ with_stream_failed s (with_all s (world_of old b) bytes)
+  has : (w : World) (bytes : List ℕ) → output_of s w ++ bytes ≡ output_of s (with_output w s bytes)
+  marked : (w : World) → has_stream_failed (with_stream_failed s w) s ≡ true
+  table : (w : World) → (with_stream_failed s w).table ≡ w.table
+  fails : (run : World → Checked Done) (w : World) (m : List ℕ) (w' : World) (m' : List ℕ) (e : ℕ) → OutputFails s run w m w' m' e → Answered run w m w' m' e
+
+module _ {D R W1 W2 : Type 0} (remaining : R → Option (List ℕ)) (out_contents : W1 → Option (List ℕ)) (err_contents : W2 → Option (List ℕ)) (old : HostState D R W1 W2) where
+  pub out_takes : (o : OutputValue W1) → Takes remaining out_contents err_contents out_contents Output old (record old { out = o }) old.out o
+  out_takes o = record {
+    out = λ taken. taken;
+    err = λ taken. [];
+    rests = λ is i. record old { out = is i };
+    moves = λ taken more. record { input = Consumes-nil (remaining old.input.reader); output = more; errors = Appends-nil (err_contents old.err.writer); ended = λ is. (refl, is); end = λ is. inl is };
+    mark = λ b. refl;
+    done = λ b taken same i. record (world_of old b) { output = b.output ++ taken; errors = append-nil b.errors i; output_failed = same i };
+    broken = λ b taken bytes failed is i. record (world_of old b) { output = is i; errors = append-nil b.errors i; output_failed = failed i };
+    has = λ w bytes. refl;
+    marked = λ w. refl;
+    table = λ w. refl;
+    fails = λ run w m w' m' e h. output_fails h;
+  }
+
+  pub err_takes : (o : OutputValue W2) → Takes remaining out_contents err_contents err_contents Error old (record old { err = o }) old.err o
+  err_takes o = record {
+    out = λ taken. [];
+    err = λ taken. taken;
+    rests = λ is i. record old { err = is i };
+    moves = λ taken more. record { input = Consumes-nil (remaining old.input.reader); output = Appends-nil (out_contents old.out.writer); errors = more; ended = λ is. (refl, is); end = λ is. inl is };
+    mark = λ b. refl;
+    done = λ b taken same i. record (world_of old b) { output = append-nil b.output i; errors = b.errors ++ taken; errors_failed = same i };
+    broken = λ b taken bytes failed is i. record (world_of old b) { output = append-nil b.output i; errors = is i; errors_failed = failed i };
+    has = λ w bytes. refl;
+    marked = λ w. refl;
+    table = λ w. refl;
+    fails = λ run w m w' m' e h. errors_fail h;
+  }
+
+module _ {D R W1 W2 W : Type 0} (honest : D → Type 0) (disk : D → Disk) (sectors_on failures : D → ℕ)
+    (remaining : R → Option (List ℕ)) (out_contents : W1 → Option (List ℕ)) (err_contents : W2 → Option (List ℕ)) (contents : W → Option (List ℕ))
     (c : HostCall) (used : ℕ) (args : List ℕ) (old new : Inner D R W1 W2) (m m' : List ℕ) (fd : ℕ) (all : List ℕ) (result : ℕ)
     (h : IsSetUp remaining old) (buffers : MOST_BUFFERS ≤ vec_capacity new.buffers) (piece : INPUT_PIECE ≤ vec_capacity new.piece)
-    (state : state_of new ≡ state_of (record old { out = new.out }))
-    (same : (v : World) → v.table ≡ table_of old.descriptors → row c v m used args ≡ written_to v fd (Stream Output) all result)
-    (cause : new.out.failed ≡ true → HasFailed c (state_of new)) where
-  abbrev out_run : World → Checked Done
-  out_run w = row c w m used args
+    (state : state_of new ≡ state_of (record old { out = new.out; err = new.err }))
+    (s : StreamValue) (before after : OutputValue W) (takes : Takes remaining out_contents err_contents contents s (state_of old) (state_of new) before after)
+    (same : (v : World) → v.table ≡ table_of old.descriptors → row c v m used args ≡ written_to v fd (Stream s) all result)
+    (cause : after.failed ≡ true → HasFailed c (state_of new)) where
+  abbrev run : World → Checked Done
+  run w = row c w m used args
 
-  out_set_up : IsSetUp remaining new
-  out_set_up = record {
+  set_up : IsSetUp remaining new
+  set_up = record {
     settings = ap (λ (s : HostState D R W1 W2). settings_fit s.settings) state ∙ h.settings;
     buffers = buffers;
     piece = piece;
@@ -56,223 +111,75 @@ module _ {D R W1 W2 : Type 0} (honest : D → Type 0) (disk : D → Disk) (secto
     serials = subst (λ (s : HostState D R W1 W2). (fd : ℕ) (o : OpenedEntry) → table_of s.descriptors fd ≡ Some (Entry o) → IsSerial s.volume.numbers o.serial) (sym state) h.serials;
   }
 
-  out_rests : VolumeStep honest disk sectors_on failures old.volume new.volume
-  out_rests = subst (λ (s : HostState D R W1 W2). VolumeStep honest disk sectors_on failures old.volume s.volume) (sym state) (volume_rests honest disk sectors_on failures old.volume)
-
-  out_moves : (taken : List ℕ) → Appends (out_contents old.out.writer) (out_contents new.out.writer) taken
-      → StreamsMove remaining out_contents err_contents (state_of old) (state_of new) (to_out taken)
-  out_moves taken more =
-      subst (λ (s : HostState D R W1 W2). StreamsMove remaining out_contents err_contents (state_of old) s (to_out taken)) (sym state)
-      (moved_by_out honest disk sectors_on failures remaining out_contents err_contents old new.out taken more)
-
-  pub idle_out : old.out.failed ≡ true → new.out ≡ old.out → m' ≡ m → Serves honest disk sectors_on failures remaining out_contents err_contents c used args old m new m' 29
-  idle_out failed none bytes =
-      let still : state_of new ≡ state_of old = state ∙ λ i. state_of (record old { out = none i }) in
-      record {
-        set_up = out_set_up;
-        row = λ _. (
-          nothing,
-          subst (λ (s : HostState D R W1 W2). StreamsMove remaining out_contents err_contents (state_of old) s nothing) (sym still)
-              (streams_rest honest disk sectors_on failures remaining out_contents err_contents old old.volume old.descriptors old.settings old.generator),
-          λ others end.
-              let w = world_of (state_of old) others in
-              by_row (answers_refused (out_run w) w m (world_of (state_of new) (after_moving nothing others)) m' 29
-              (same w refl ∙ stops _ _ 29 (stops _ _ 29 (guard_fails _ 29 (ap not failed)))) (λ i. world_of (still i) (same_after others i)) bytes),
-        );
-        volume = out_rests;
-        settings = settings_rest old.settings new.settings (ap (λ (s : HostState D R W1 W2). s.settings) state);
-        io = λ _. cause (ap (λ (o : OutputValue W1). o.failed) none ∙ failed);
-      }
-
-  out_alive : (w : World) → w.output_failed ≡ false → written_to w fd (Stream Output) all result ≡ Ok (with_result (with_output w Output all) result (little_bytes 4 (length all)))
-  out_alive w alive = goes_on _ _ (with_output w Output all, length all) (goes_on _ _ tt (guard_passes _ 29 (ap not alive)))
-
-  pub took_out : old.out.failed ≡ false → new.out.failed ≡ false → Appends (out_contents old.out.writer) (out_contents new.out.writer) all → m' ≡ written m result (little_bytes 4 (length all))
-      → Serves honest disk sectors_on failures remaining out_contents err_contents c used args old m new m' 0
-  took_out before after more bytes =
-      record {
-        set_up = out_set_up;
-        row = λ _. (
-          to_out all,
-          out_moves all more,
-          λ b end.
-              let w = world_of (state_of old) b in
-              let b' : StreamBytes = record b { output = b.output ++ all } in
-              subst (λ (x : StreamBytes). Answered out_run w m (world_of (state_of new) x) m' 0) (sym (after_out all b))
-              (subst (λ (s : HostState D R W1 W2). Answered out_run w m (world_of s b') m' 0) (sym state)
-              (by_row (answers_done (out_run w) w m (world_of (state_of (record old { out = new.out })) b') m' (with_result (with_output w Output all) result (little_bytes 4 (length all)))
-              (same w refl ∙ out_alive w before) (λ i. record w { output = b.output ++ all; output_failed = (after ∙ sym before) i }) bytes))),
-        );
-        volume = out_rests;
-        settings = settings_rest old.settings new.settings (ap (λ (s : HostState D R W1 W2). s.settings) state);
-        io = no_29_at_0;
-      }
-
-  pub broke_out : old.out.failed ≡ false → new.out.failed ≡ true → AppendsSome (out_contents old.out.writer) (out_contents new.out.writer) all → m' ≡ m
-      → Serves honest disk sectors_on failures remaining out_contents err_contents c used args old m new m' 29
-  broke_out before after some bytes =
-      let taken = some.taken in
-      record {
-        set_up = out_set_up;
-        row = λ _. (
-          to_out taken,
-          out_moves taken some.appended,
-          λ b end.
-              let w = world_of (state_of old) b in
-              let b' : StreamBytes = record b { output = b.output ++ taken } in
-              let is_row : out_run w ≡ Ok (with_result (with_output w Output all) result (little_bytes 4 (length all))) = same w refl ∙ out_alive w before in
-              let beginning : b.output ++ taken ≡ take (length (b.output ++ taken)) (output_after Output (out_run w) w) =
-              sym (ap (λ (x : Checked Done). take (length (b.output ++ taken)) (output_after Output x w)) is_row
-              ∙ (ap (λ (l : List ℕ). take (length (b.output ++ taken)) (b.output ++ l)) some.parts
-              ∙ (ap (λ (l : List ℕ). take (length (b.output ++ taken)) l) (sym (append_assoc b.output taken some.missing)) ∙ take-append_seam (b.output ++ taken) some.missing))) in
-              subst (λ (x : StreamBytes). Answered out_run w m (world_of (state_of new) x) m' 29) (sym (after_out taken b))
-              (subst (λ (s : HostState D R W1 W2). Answered out_run w m (world_of s b') m' 29) (sym state)
-              (output_fails (record {
-                reaches = record {
-                  refused = same (with_stream_failed Output w) refl ∙ stops _ _ 29 (stops _ _ 29 (guard_fails _ 29 refl));
-                  only_so = is_no_err (out_run w) (with_result (with_output w Output all) result (little_bytes 4 (length all))) 29 is_row;
-                };
-                answer = refl;
-                count = length (b.output ++ taken);
-                at_least = omega (arith, length-append b.output taken);
-                after = λ i. record w { output = beginning i; output_failed = after i };
-                bytes = bytes;
-              }))),
-        );
-        volume = out_rests;
-        settings = settings_rest old.settings new.settings (ap (λ (s : HostState D R W1 W2). s.settings) state);
-        io = λ _. cause after;
-      }
-
-  pub served_out : (r : Result (Unit {0}) Errno) → (old.out.failed ≡ true → new.out ≡ old.out)
-      → OnOk r ((old.out.failed ≡ false) × (new.out.failed ≡ false) × Appends (out_contents old.out.writer) (out_contents new.out.writer) all × (m' ≡ written m result (little_bytes 4 (length all))))
-      → OnErr r (old.out.failed ≡ false → (new.out.failed ≡ true) × AppendsSome (out_contents old.out.writer) (out_contents new.out.writer) all)
-      → IfErr r (λ e. (e.0 ≡ 29) × (m' ≡ m)) → Serves honest disk sectors_on failures remaining out_contents err_contents c used args old m new m' (errno_of r)
-  served_out (Ok u) idle took broke answer = took_out took.0 took.1 took.2 took.3
-  served_out (Err e) idle took broke answer =
-      subst (λ (n : ℕ). Serves honest disk sectors_on failures remaining out_contents err_contents c used args old m new m' n) (sym answer.0)
-      (elim (either old.out.failed) [
-        | inl is ↦ idle_out is (idle is) answer.1
-        | inr works ↦ let b = broke works in broke_out works b.0 b.1 answer.1
-      ])
-
--- ---- the error output
-
-module _ {D R W1 W2 : Type 0} (honest : D → Type 0) (disk : D → Disk) (sectors_on failures : D → ℕ)
-    (remaining : R → Option (List ℕ)) (out_contents : W1 → Option (List ℕ)) (err_contents : W2 → Option (List ℕ))
-    (c : HostCall) (used : ℕ) (args : List ℕ) (old new : Inner D R W1 W2) (m m' : List ℕ) (fd : ℕ) (all : List ℕ) (result : ℕ)
-    (h : IsSetUp remaining old) (buffers : MOST_BUFFERS ≤ vec_capacity new.buffers) (piece : INPUT_PIECE ≤ vec_capacity new.piece)
-    (state : state_of new ≡ state_of (record old { err = new.err }))
-    (same : (v : World) → v.table ≡ table_of old.descriptors → row c v m used args ≡ written_to v fd (Stream Error) all result)
-    (cause : new.err.failed ≡ true → HasFailed c (state_of new)) where
-  abbrev err_run : World → Checked Done
-  err_run w = row c w m used args
-
-  err_set_up : IsSetUp remaining new
-  err_set_up = record {
-    settings = ap (λ (s : HostState D R W1 W2). settings_fit s.settings) state ∙ h.settings;
-    buffers = buffers;
-    piece = piece;
-    ended = subst (λ (s : HostState D R W1 W2). s.input.ended ≡ true → IsAtEnd (remaining s.input.reader)) (sym state) h.ended;
-    serials = subst (λ (s : HostState D R W1 W2). (fd : ℕ) (o : OpenedEntry) → table_of s.descriptors fd ≡ Some (Entry o) → IsSerial s.volume.numbers o.serial) (sym state) h.serials;
+  -- what the call leaves, by the bytes that its outputs take
+  leaves : (out err : List ℕ) (e : ℕ) → (e ≡ 29 → HasFailed c (state_of new))
+      → StreamsMove remaining out_contents err_contents (state_of old) (state_of new) (record { input = []; output = out; errors = err })
+      → ((b : StreamBytes) → Answered run (world_of (state_of old) b) m (world_of (state_of new) (after_moving (record { input = []; output = out; errors = err }) b)) m' e)
+      → Serves honest disk sectors_on failures remaining out_contents err_contents c used args old m new m' e
+  leaves out err e io moves answered = record {
+    set_up = set_up;
+    row = λ _. (record { input = []; output = out; errors = err }, moves, λ b end. answered b);
+    volume = subst (λ (s : HostState D R W1 W2). VolumeStep honest disk sectors_on failures old.volume s.volume) (sym state) (volume_rests honest disk sectors_on failures old.volume);
+    settings = settings_rest old.settings new.settings (ap (λ (s : HostState D R W1 W2). s.settings) state);
+    io = io;
   }
 
-  err_rests : VolumeStep honest disk sectors_on failures old.volume new.volume
-  err_rests = subst (λ (s : HostState D R W1 W2). VolumeStep honest disk sectors_on failures old.volume s.volume) (sym state) (volume_rests honest disk sectors_on failures old.volume)
+  idle : before.failed ≡ true → after ≡ before → m' ≡ m → Serves honest disk sectors_on failures remaining out_contents err_contents c used args old m new m' 29
+  idle failed none bytes =
+      let still : state_of new ≡ state_of old = takes.rests none in
+      leaves [] [] 29 (λ _. cause (ap (λ (o : OutputValue W). o.failed) none ∙ failed))
+      (subst (λ (s : HostState D R W1 W2). StreamsMove remaining out_contents err_contents (state_of old) s nothing) (sym still)
+      (streams_rest honest disk sectors_on failures remaining out_contents err_contents old old.volume old.descriptors old.settings old.generator))
+      (λ b.
+      let w = world_of (state_of old) b in
+      by_row (answers_refused (run w) w m (world_of (state_of new) (after_moving nothing b)) m' 29
+      (same w refl ∙ stops _ _ 29 (stops _ _ 29 (guard_fails _ 29 (ap not (takes.mark b ∙ failed))))) (λ i. world_of (still i) (same_after b i)) bytes))
 
-  err_moves : (taken : List ℕ) → Appends (err_contents old.err.writer) (err_contents new.err.writer) taken
-      → StreamsMove remaining out_contents err_contents (state_of old) (state_of new) (to_err taken)
-  err_moves taken more =
-      subst (λ (s : HostState D R W1 W2). StreamsMove remaining out_contents err_contents (state_of old) s (to_err taken)) (sym state)
-      (moved_by_err honest disk sectors_on failures remaining out_contents err_contents old new.err taken more)
+  abbrev done : World → Done
+  done w = with_result (with_output w s all) result (little_bytes 4 (length all))
 
-  pub idle_err : old.err.failed ≡ true → new.err ≡ old.err → m' ≡ m → Serves honest disk sectors_on failures remaining out_contents err_contents c used args old m new m' 29
-  idle_err failed none bytes =
-      let still : state_of new ≡ state_of old = state ∙ λ i. state_of (record old { err = none i }) in
-      record {
-        set_up = err_set_up;
-        row = λ _. (
-          nothing,
-          subst (λ (s : HostState D R W1 W2). StreamsMove remaining out_contents err_contents (state_of old) s nothing) (sym still)
-              (streams_rest honest disk sectors_on failures remaining out_contents err_contents old old.volume old.descriptors old.settings old.generator),
-          λ others end.
-              let w = world_of (state_of old) others in
-              by_row (answers_refused (err_run w) w m (world_of (state_of new) (after_moving nothing others)) m' 29
-              (same w refl ∙ stops _ _ 29 (stops _ _ 29 (guard_fails _ 29 (ap not failed)))) (λ i. world_of (still i) (same_after others i)) bytes),
-        );
-        volume = err_rests;
-        settings = settings_rest old.settings new.settings (ap (λ (s : HostState D R W1 W2). s.settings) state);
-        io = λ _. cause (ap (λ (o : OutputValue W2). o.failed) none ∙ failed);
-      }
+  writes : (b : StreamBytes) → before.failed ≡ false → run (world_of (state_of old) b) ≡ Ok (done (world_of (state_of old) b))
+  writes b works =
+      let w = world_of (state_of old) b in
+      same w refl ∙ goes_on _ _ (with_output w s all, length all) (goes_on _ _ tt (guard_passes _ 29 (ap not (takes.mark b ∙ works))))
 
-  err_alive : (w : World) → w.errors_failed ≡ false → written_to w fd (Stream Error) all result ≡ Ok (with_result (with_output w Error all) result (little_bytes 4 (length all)))
-  err_alive w alive = goes_on _ _ (with_output w Error all, length all) (goes_on _ _ tt (guard_passes _ 29 (ap not alive)))
-
-  pub took_err : old.err.failed ≡ false → new.err.failed ≡ false → Appends (err_contents old.err.writer) (err_contents new.err.writer) all → m' ≡ written m result (little_bytes 4 (length all))
+  took : before.failed ≡ false → after.failed ≡ false → Appends (contents before.writer) (contents after.writer) all → m' ≡ written m result (little_bytes 4 (length all))
       → Serves honest disk sectors_on failures remaining out_contents err_contents c used args old m new m' 0
-  took_err before after more bytes =
-      record {
-        set_up = err_set_up;
-        row = λ _. (
-          to_err all,
-          err_moves all more,
-          λ b end.
-              let w = world_of (state_of old) b in
-              let b' : StreamBytes = record b { errors = b.errors ++ all } in
-              subst (λ (x : StreamBytes). Answered err_run w m (world_of (state_of new) x) m' 0) (sym (after_err all b))
-              (subst (λ (s : HostState D R W1 W2). Answered err_run w m (world_of s b') m' 0) (sym state)
-              (by_row (answers_done (err_run w) w m (world_of (state_of (record old { err = new.err })) b') m' (with_result (with_output w Error all) result (little_bytes 4 (length all)))
-              (same w refl ∙ err_alive w before) (λ i. record w { errors = b.errors ++ all; errors_failed = (after ∙ sym before) i }) bytes))),
-        );
-        volume = err_rests;
-        settings = settings_rest old.settings new.settings (ap (λ (s : HostState D R W1 W2). s.settings) state);
-        io = no_29_at_0;
-      }
+  took works working more bytes =
+      leaves (takes.out all) (takes.err all) 0 no_29_at_0 (takes.moves all more)
+      (λ b.
+      let w = world_of (state_of old) b in
+      by_row (answers_done (run w) w m _ m' (done w) (writes b works) (takes.done b all (working ∙ sym works)) bytes))
 
-  pub broke_err : old.err.failed ≡ false → new.err.failed ≡ true → AppendsSome (err_contents old.err.writer) (err_contents new.err.writer) all → m' ≡ m
+  broke : before.failed ≡ false → after.failed ≡ true → AppendsSome (contents before.writer) (contents after.writer) all → m' ≡ m
       → Serves honest disk sectors_on failures remaining out_contents err_contents c used args old m new m' 29
-  broke_err before after some bytes =
+  broke works failed some bytes =
       let taken = some.taken in
-      record {
-        set_up = err_set_up;
-        row = λ _. (
-          to_err taken,
-          err_moves taken some.appended,
-          λ b end.
-              let w = world_of (state_of old) b in
-              let b' : StreamBytes = record b { errors = b.errors ++ taken } in
-              let is_row : err_run w ≡ Ok (with_result (with_output w Error all) result (little_bytes 4 (length all))) = same w refl ∙ err_alive w before in
-              let beginning : b.errors ++ taken ≡ take (length (b.errors ++ taken)) (output_after Error (err_run w) w) =
-              sym (ap (λ (x : Checked Done). take (length (b.errors ++ taken)) (output_after Error x w)) is_row
-              ∙ (ap (λ (l : List ℕ). take (length (b.errors ++ taken)) (b.errors ++ l)) some.parts
-              ∙ (ap (λ (l : List ℕ). take (length (b.errors ++ taken)) l) (sym (append_assoc b.errors taken some.missing)) ∙ take-append_seam (b.errors ++ taken) some.missing))) in
-              subst (λ (x : StreamBytes). Answered err_run w m (world_of (state_of new) x) m' 29) (sym (after_err taken b))
-              (subst (λ (s : HostState D R W1 W2). Answered err_run w m (world_of s b') m' 29) (sym state)
-              (errors_fail (record {
-                reaches = record {
-                  refused = same (with_stream_failed Error w) refl ∙ stops _ _ 29 (stops _ _ 29 (guard_fails _ 29 refl));
-                  only_so = is_no_err (err_run w) (with_result (with_output w Error all) result (little_bytes 4 (length all))) 29 is_row;
-                };
-                answer = refl;
-                count = length (b.errors ++ taken);
-                at_least = omega (arith, length-append b.errors taken);
-                after = λ i. record w { errors = beginning i; errors_failed = after i };
-                bytes = bytes;
-              }))),
-        );
-        volume = err_rests;
-        settings = settings_rest old.settings new.settings (ap (λ (s : HostState D R W1 W2). s.settings) state);
-        io = λ _. cause after;
-      }
+      leaves (takes.out taken) (takes.err taken) 29 (λ _. cause failed) (takes.moves taken some.appended)
+      (λ b.
+      let w = world_of (state_of old) b in
+      let had = output_of s w in
+      takes.fails run w m _ m' 29 (record {
+        reaches = record {
+          refused = same (with_stream_failed s w) (takes.table w) ∙ stops _ _ 29 (stops _ _ 29 (guard_fails _ 29 (ap not (takes.marked w))));
+          only_so = is_no_err (run w) (done w) 29 (writes b works);
+        };
+        answer = refl;
+        count = length (had ++ taken);
+        at_least = omega (arith, length-append had taken);
+        after = takes.broken b taken _ failed (beginning had taken some.missing all some.parts
+            ∙ (ap (take (length (had ++ taken))) (takes.has w all) ∙ ap (λ (x : Checked Done). take (length (had ++ taken)) (output_after s x w)) (sym (writes b works))));
+        bytes = bytes;
+      }))
 
-  pub served_err : (r : Result (Unit {0}) Errno) → (old.err.failed ≡ true → new.err ≡ old.err)
-      → OnOk r ((old.err.failed ≡ false) × (new.err.failed ≡ false) × Appends (err_contents old.err.writer) (err_contents new.err.writer) all × (m' ≡ written m result (little_bytes 4 (length all))))
-      → OnErr r (old.err.failed ≡ false → (new.err.failed ≡ true) × AppendsSome (err_contents old.err.writer) (err_contents new.err.writer) all)
+  pub served : (r : Result (Unit {0}) Errno) → (before.failed ≡ true → after ≡ before)
+      → OnOk r ((before.failed ≡ false) × (after.failed ≡ false) × Appends (contents before.writer) (contents after.writer) all × (m' ≡ written m result (little_bytes 4 (length all))))
+      → OnErr r (before.failed ≡ false → (after.failed ≡ true) × AppendsSome (contents before.writer) (contents after.writer) all)
       → IfErr r (λ e. (e.0 ≡ 29) × (m' ≡ m)) → Serves honest disk sectors_on failures remaining out_contents err_contents c used args old m new m' (errno_of r)
-  served_err (Ok u) idle took broke answer = took_err took.0 took.1 took.2 took.3
-  served_err (Err e) idle took broke answer =
+  served (Ok u) rests takes_all breaks answer = took takes_all.0 takes_all.1 takes_all.2 takes_all.3
+  served (Err e) rests takes_all breaks answer =
       subst (λ (n : ℕ). Serves honest disk sectors_on failures remaining out_contents err_contents c used args old m new m' n) (sym answer.0)
-      (elim (either old.err.failed) [
-        | inl is ↦ idle_err is (idle is) answer.1
-        | inr works ↦ let b = broke works in broke_err works b.0 b.1 answer.1
+      (elim (either before.failed) [
+        | inl is ↦ idle is (rests is) answer.1
+        | inr works ↦ let b = breaks works in broke works b.0 b.1 answer.1
       ])

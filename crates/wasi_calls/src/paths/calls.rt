@@ -10,7 +10,9 @@ use crate::paths::opening::OpenCall;
 use crate::paths::renaming::RenameCall;
 use crate::paths::{opening, removing, renaming};
 use std::io::{Read, Write};
+use vol_inode::Kind;
 use vol_sector::Device;
+use wasi_fd::Rights;
 use wasm_store::{Errno, Memory};
 
 impl<'s, 't, D: Device, R: Read, W1: Write, W2: Write> Inner<'s, 't, D, R, W1, W2> {
@@ -57,7 +59,9 @@ impl<'s, 't, D: Device, R: Read, W1: Write, W2: Write> Inner<'s, 't, D, R, W1, W
     {
         let fd = descriptor(arguments, 0);
         let (path, len) = (word(arguments, 1), word(arguments, 2));
-        removing::path_remove_directory(&mut self.volume, &self.descriptors, memory, fd, path, len)
+        let (right, kind) = (Rights::PATH_REMOVE_DIRECTORY, Kind::Directory);
+        let (volume, descriptors) = (&mut self.volume, &self.descriptors);
+        removing::remove(volume, descriptors, memory, fd, path, len, right, kind)
     }
 
     /// `path_rename(fd, path, length, fd, path, length)`.
@@ -78,6 +82,8 @@ impl<'s, 't, D: Device, R: Read, W1: Write, W2: Write> Inner<'s, 't, D, R, W1, W
     {
         let fd = descriptor(arguments, 0);
         let (path, len) = (word(arguments, 1), word(arguments, 2));
-        removing::path_unlink_file(&mut self.volume, &self.descriptors, memory, fd, path, len)
+        let (right, kind) = (Rights::PATH_UNLINK_FILE, Kind::File);
+        let (volume, descriptors) = (&mut self.volume, &self.descriptors);
+        removing::remove(volume, descriptors, memory, fd, path, len, right, kind)
     }
 }

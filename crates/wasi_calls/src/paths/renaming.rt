@@ -26,8 +26,8 @@ use crate::checks::{Takes, check_range, check_rights, check_that, described, ope
 use crate::errno::{BUSY, ISDIR, NOENT, NOTDIR, NOTEMPTY, refused};
 use crate::paths::opening::ends_open;
 use crate::paths::reach;
-use crate::paths::removing::{is_directory, is_held};
-use path_walk::Reached;
+use crate::paths::removing::is_held;
+use path_walk::{Reached, is_directory};
 use vol_inode::is_name;
 use vol_sector::Device;
 use vol_tree::{Serial, Volume};

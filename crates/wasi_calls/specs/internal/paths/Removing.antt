@@ -1,19 +1,17 @@
 -- The entries that may be removed.
-use Rattle.std.specs.Prelude.{ℕ, not, List, Bool, Ok}
+use Rattle.std.specs.Prelude.{ℕ, not, List, Bool, Result, Ok}
 use Rattle.vol_inode.specs.declared.entry.Kind.{Kind}
 use Rattle.vol_inode.specs.declared.entry.Kind.TheVariants as nodes
-use Rattle.vol_tree.specs.Calls.{directory_at}
+use Rattle.vol_tree.specs.declared.errno.Errno.{Errno}
+use Rattle.vol_tree.specs.Tree.{Tree}
+use Rattle.vol_tree.specs.Calls.{directory_at, directory_removed, unlinked}
 use Rattle.wasi_calls.specs.World.{World, held_open}
-use Rattle.wasi_calls.specs.Checks.{Checked, ◌>>=◌, ◌>>◌, guard, entry_at, only_directories, range, found}
-use Rattle.wasi_calls.specs.paths.Rows.{path_at}
+use Rattle.wasi_calls.specs.Checks.{Checked, Done, ◌>>=◌, ◌>>◌, guard, found, tree_call, only_world}
+use Rattle.wasi_calls.specs.internal.paths.Walks.{reached_from}
 
 -- what a path finds
 abbrev pub found_at : World → List ℕ → ℕ → ℕ → ℕ → ℕ → Checked ℕ
-found_at w memory fd rights path len = do
-  directory ← entry_at w fd only_directories rights
-  range memory path len
-  reached ← path_at w memory directory path len
-  found reached
+found_at w memory fd rights path len = reached_from w memory fd rights path len >>= found
 
 -- whether a directory, or a file, is of this kind
 abbrev pub is_kind : Kind → Bool → Bool
@@ -25,10 +23,27 @@ abbrev pub other_kind : Kind → ℕ
 other_kind nodes.Directory = 54
 other_kind nodes.File = 31
 
--- the same, where it is of this kind and no descriptor has it
+-- it is of this kind, and no descriptor has it
+abbrev pub removal_checked : Kind → Bool → Bool → Checked (Unit {0})
+removal_checked kind is_directory held = do
+  guard (is_kind kind is_directory) (other_kind kind)
+  guard (not held) 10
+
+-- what a path finds, where that holds
 abbrev pub removable : Kind → World → List ℕ → ℕ → ℕ → ℕ → ℕ → Checked ℕ
 removable kind w memory fd rights path len = do
   serial ← found_at w memory fd rights path len
-  guard (is_kind kind (directory_at w.tree serial)) (other_kind kind)
-  guard (not (held_open w serial)) 10
+  removal_checked kind (directory_at w.tree serial) (held_open w serial)
   Ok serial
+
+-- the tree without it
+abbrev pub taken_out : Kind → Tree → ℕ → Result Tree Errno
+taken_out nodes.Directory T serial = directory_removed T serial
+taken_out nodes.File T serial = Ok (unlinked T serial)
+
+-- the rows of `path_remove_directory` and `path_unlink_file`
+abbrev pub remove : Kind → World → List ℕ → ℕ → ℕ → ℕ → ℕ → Checked Done
+remove kind w memory fd rights path len = do
+  serial ← removable kind w memory fd rights path len
+  T ← tree_call w (taken_out kind w.tree serial)
+  Ok (only_world (record w { tree = T }))

@@ -1,19 +1,21 @@
 -- What a walk from an open directory says of the row that makes it.
-use Rattle.std.specs.Prelude.{◌≡◌, ◌≢◌, ◌⊎◌, ℕ, false, List, Result, Ok, Err}
+use Rattle.std.specs.Prelude.{◌≡◌, ℕ, false, List, Result, Ok, Err}
 use Rattle.vol_sector.specs.Disk.{Disk, Leaves}
 use Rattle.vol_tree.specs.declared.errno.Errno.{Errno}
-use Rattle.vol_tree.specs.declared.errno.Errno.TheVariants as errno
 use Rattle.vol_tree.specs.Numbers.{number_of}
-use Rattle.vol_tree.specs.Opened.{Opened, Keeps, is_io}
+use Rattle.vol_tree.specs.Opened.{Opened, Keeps}
 use Rattle.vol_tree.specs.Tree.{Tree, IsDirectory}
 use Rattle.path_walk.specs.declared.walking.Reached.{Reached as ReachedValue}
 use Rattle.path_walk.specs.declared.walking.Reached.TheVariants as values
 use Rattle.path_walk.specs.Walk.{reached_as}
+use Rattle.path_walk.specs.Paths.{Reached}
 use Rattle.wasi_fd.specs.declared.descriptor.Opened.{Opened as OpenedEntry}
-use Rattle.wasi_calls.specs.World.{World, with_volume_failed}
+use Rattle.wasi_calls.specs.World.{World}
 use Rattle.wasi_calls.specs.Checks.{Checked, Done, ◌>>=◌, ◌>>◌, entry_at, only_directories, range, walk, with_result}
 use Rattle.wasi_calls.specs.Calls.{Answered}
+use Rattle.wasi_calls.specs.paths.Rows.{path_at}
 use Rattle.wasm_store.specs.declared.call.Errno.{Errno as Number}
+use Rattle.wasi_calls.specs.internal.Asking.{Passes, Stops}
 use Rattle.wasi_calls.specs.internal.Bodies.{with_volume}
 
 -- what is missing may be made in a directory
@@ -29,6 +31,13 @@ starting_directory w memory fd rights path len = do
   range memory path len
   Ok o
 
+-- what a path reaches from an open directory
+abbrev pub reached_from : World → List ℕ → ℕ → ℕ → ℕ → ℕ → Checked Reached
+reached_from w memory fd rights path len = do
+  o ← entry_at w fd only_directories rights
+  range memory path len
+  path_at w memory o path len
+
 module _ {D : Type 0} (honest : D → Type 0) (disk : D → Disk) (sectors_on failures : D → ℕ) where
   -- the volume was only asked, and still works
   pub record StillWorks (old new : Opened D) : Type 0 where
@@ -36,23 +45,10 @@ module _ {D : Type 0} (honest : D → Type 0) (disk : D → Disk) (sectors_on fa
     pub tree : honest old.device → new.tree ≡ old.tree
     pub crash : honest old.device → Leaves (disk old.device) (disk new.device) (λ c. ⊥)
 
-  -- a refusal of the path itself, before the volume is asked
-  pub record RefusesText (old new : Opened D) (w : World) (o : OpenedEntry) (text : List ℕ) (e : Errno) : Type 0 where
-    pub same : new ≡ old
-    pub answer : walk w o text ≡ Err (number_of e)
-
-  -- a refusal of the volume, or 29
-  pub record RefusesWalk (old new : Opened D) (w : World) (o : OpenedEntry) (text : List ℕ) (e : Errno) : Type 0 where
-    pub kept : Keeps honest sectors_on failures old new (is_io {X = ReachedValue} (Err e))
-    pub tree : new.tree ≡ old.tree
-    pub answer : w.volume_failed ≡ false → e ≢ errno.Io → walk w o text ≡ Err (number_of e)
-    pub gone : walk (with_volume_failed w) o text ≡ Err 29
-    pub never : w.volume_failed ≡ false → walk w o text ≢ Err 29
-
-  -- what is reached in the world, or why nothing is
-  abbrev pub Reaches : Opened D → Opened D → World → OpenedEntry → List ℕ → Result ReachedValue Errno → Type 0
-  Reaches old new w o text (Ok r) = (w.volume_failed ≡ false → walk w o text ≡ Ok (reached_as r)) × (walk (with_volume_failed w) o text ≡ Err 29)
-  Reaches old new w o text (Err e) = RefusesText old new w o text e ⊎ RefusesWalk old new w o text e
+-- what is reached in the world, or why nothing is
+abbrev pub Reaches : {D : Type 0} → Opened D → World → OpenedEntry → List ℕ → Result ReachedValue Errno → Type 0
+Reaches new w o text (Ok r) = Passes (λ v. walk v o text) w new (reached_as r)
+Reaches new w o text (Err e) = Stops (λ v. walk v o text) w new (number_of e)
 
 -- A body that finds bytes to be written at a place: the row is done by them in the same world, or the call answers.
 abbrev pub FindsBytes : {D : Type 0} → (World → Checked Done) → World → List ℕ → Opened D → ℕ → Result (List ℕ) Number → Type 0

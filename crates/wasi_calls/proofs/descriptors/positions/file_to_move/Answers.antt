@@ -5,15 +5,13 @@ use Rattle.wasi_calls.proofs.checks.Chains.{goes_on, stops}
 use Rattle.wasi_calls.proofs.descriptors.positions.file_to_move.Goals as goal
 
 pub returns-in_err-check_range : goal.returns-in_err-check_range
-returns-in_err-check_range c = record {
-  whence = no_ok _ c.from_residual-in_err-check_range.result c.from_residual-in_err-check_range.ensures.0;
-  inside = no_ok _ c.from_residual-in_err-check_range.result c.from_residual-in_err-check_range.ensures.0;
-  checked = λ w is.
-      let r = c.from_residual-in_err-check_range.result in
-      let x = c.in_err-check_range.field-0.0 in
-      let is_x = c.from_residual-in_err-check_range.ensures.1 in
-      refusal_told r x _ _ is_x (goes_on _ _ c.in_ok-descriptor.descriptor (c.in_ok-descriptor.ensures w is) ∙ (goes_on _ _ tt c.in_ok-check.ensures ∙ (goes_on _ _ tt c.in_ok-check_seek.ensures ∙ (goes_on _ _ tt c.in_ok-check_that.ensures.meaning ∙ stops _ _ _ c.in_err-check_range.ensures.range))));
-}
+returns-in_err-check_range c =
+    let refused = c.from_residual-in_err-check_range in
+    record {
+      whence = no_ok _ refused.result refused.ensures.0;
+      inside = no_ok _ refused.result refused.ensures.0;
+      checked = λ w is. refusal_told refused.result c.in_err-check_range.field-0.0 _ _ refused.ensures.1 (goes_on _ _ c.in_ok-descriptor.descriptor (c.in_ok-descriptor.ensures w is) ∙ (goes_on _ _ tt c.in_ok-check.ensures ∙ (goes_on _ _ tt c.in_ok-check_seek.ensures ∙ (goes_on _ _ tt c.in_ok-check_that.ensures.meaning ∙ stops _ _ _ c.in_err-check_range.ensures.range))));
+    }
 
 pub returns : goal.returns
 returns c = record {
@@ -24,45 +22,37 @@ returns c = record {
 }
 
 pub returns-in_err-check_that : goal.returns-in_err-check_that
-returns-in_err-check_that c = record {
-  whence = no_ok _ c.from_residual-in_err-check_that.result c.from_residual-in_err-check_that.ensures.0;
-  inside = no_ok _ c.from_residual-in_err-check_that.result c.from_residual-in_err-check_that.ensures.0;
-  checked = λ w is.
-      let r = c.from_residual-in_err-check_that.result in
-      let x = c.in_err-check_that.field-0.0 in
-      let is_x = c.from_residual-in_err-check_that.ensures.1 in
-      refusal_told r x _ _ is_x (goes_on _ _ c.in_ok-descriptor.descriptor (c.in_ok-descriptor.ensures w is) ∙ (goes_on _ _ tt c.in_ok-check.ensures ∙ (goes_on _ _ tt c.in_ok-check_seek.ensures ∙ stops _ _ _ c.in_err-check_that.ensures.meaning)));
-}
+returns-in_err-check_that c =
+    let refused = c.from_residual-in_err-check_that in
+    record {
+      whence = no_ok _ refused.result refused.ensures.0;
+      inside = no_ok _ refused.result refused.ensures.0;
+      checked = λ w is. refusal_told refused.result c.in_err-check_that.field-0.0 _ _ refused.ensures.1 (goes_on _ _ c.in_ok-descriptor.descriptor (c.in_ok-descriptor.ensures w is) ∙ (goes_on _ _ tt c.in_ok-check.ensures ∙ (goes_on _ _ tt c.in_ok-check_seek.ensures ∙ stops _ _ _ c.in_err-check_that.ensures.meaning)));
+    }
 
 pub returns-in_err-check_seek : goal.returns-in_err-check_seek
-returns-in_err-check_seek c = record {
-  whence = no_ok _ c.from_residual-in_err-check_seek.result c.from_residual-in_err-check_seek.ensures.0;
-  inside = no_ok _ c.from_residual-in_err-check_seek.result c.from_residual-in_err-check_seek.ensures.0;
-  checked = λ w is.
-      let r = c.from_residual-in_err-check_seek.result in
-      let x = c.in_err-check_seek.field-0.0 in
-      let is_x = c.from_residual-in_err-check_seek.ensures.1 in
-      refusal_told r x _ _ is_x (goes_on _ _ c.in_ok-descriptor.descriptor (c.in_ok-descriptor.ensures w is) ∙ (goes_on _ _ tt c.in_ok-check.ensures ∙ stops _ _ _ c.in_err-check_seek.ensures));
-}
+returns-in_err-check_seek c =
+    let refused = c.from_residual-in_err-check_seek in
+    record {
+      whence = no_ok _ refused.result refused.ensures.0;
+      inside = no_ok _ refused.result refused.ensures.0;
+      checked = λ w is. refusal_told refused.result c.in_err-check_seek.field-0.0 _ _ refused.ensures.1 (goes_on _ _ c.in_ok-descriptor.descriptor (c.in_ok-descriptor.ensures w is) ∙ (goes_on _ _ tt c.in_ok-check.ensures ∙ stops _ _ _ c.in_err-check_seek.ensures));
+    }
 
 pub returns-in_err-check : goal.returns-in_err-check
-returns-in_err-check c = record {
-  whence = no_ok _ c.from_residual-in_err-check.result c.from_residual-in_err-check.ensures.0;
-  inside = no_ok _ c.from_residual-in_err-check.result c.from_residual-in_err-check.ensures.0;
-  checked = λ w is.
-      let r = c.from_residual-in_err-check.result in
-      let x = c.in_err-check.field-0.0 in
-      let is_x = c.from_residual-in_err-check.ensures.1 in
-      refusal_told r x _ _ is_x (goes_on _ _ c.in_ok-descriptor.descriptor (c.in_ok-descriptor.ensures w is) ∙ stops _ _ _ c.in_err-check.ensures);
-}
+returns-in_err-check c =
+    let refused = c.from_residual-in_err-check in
+    record {
+      whence = no_ok _ refused.result refused.ensures.0;
+      inside = no_ok _ refused.result refused.ensures.0;
+      checked = λ w is. refusal_told refused.result c.in_err-check.field-0.0 _ _ refused.ensures.1 (goes_on _ _ c.in_ok-descriptor.descriptor (c.in_ok-descriptor.ensures w is) ∙ stops _ _ _ c.in_err-check.ensures);
+    }
 
 pub returns-in_err-descriptor : goal.returns-in_err-descriptor
-returns-in_err-descriptor c = record {
-  whence = no_ok _ c.from_residual.result c.from_residual.ensures.0;
-  inside = no_ok _ c.from_residual.result c.from_residual.ensures.0;
-  checked = λ w is.
-      let r = c.from_residual.result in
-      let x = c.in_err-descriptor.field-0.0 in
-      let is_x = c.from_residual.ensures.1 in
-      refusal_told r x _ _ is_x (stops _ _ _ (c.in_err-descriptor.ensures w is));
-}
+returns-in_err-descriptor c =
+    let refused = c.from_residual in
+    record {
+      whence = no_ok _ refused.result refused.ensures.0;
+      inside = no_ok _ refused.result refused.ensures.0;
+      checked = λ w is. refusal_told refused.result c.in_err-descriptor.field-0.0 _ _ refused.ensures.1 (stops _ _ _ (c.in_err-descriptor.ensures w is));
+    }

@@ -1,7 +1,5 @@
-use Rattle.std.proofs.Common.{◌≡◌, ℕ, List, Ok, Err, sym, ap, ◌∙◌, subst, inl, arith}
+use Rattle.std.proofs.Common.{◌≡◌, ℕ, sym, ◌∙◌, subst, inl, arith}
 use Rattle.std.proofs.lemmas.Bool.{false≢true}
-use Rattle.wasm_store.specs.Bytes.{bytes_at}
-use Rattle.path_walk.specs.Paths.{wants_directory, path_read}
 use Rattle.path_walk.specs.Walk.{reached_as}
 use Rattle.wasi_fd.specs.Table.{table_of}
 use Rattle.path_walk.specs.declared.walking.Reached.{Reached as ReachedValue}
@@ -11,13 +9,12 @@ use Rattle.wasi_calls.specs.World.{World, with_volume_failed}
 use Rattle.wasi_calls.specs.Checks.{and_then}
 use Rattle.wasi_calls.specs.paths.Rows.{path_at}
 use Rattle.wasi_calls.specs.internal.Asking.{Stops}
-use Rattle.wasi_calls.specs.internal.paths.Opening.{open_part, ChecksAs, open_entered}
-use Rattle.wasi_calls.proofs.checks.Chains.{goes_on, stops}
+use Rattle.wasi_calls.specs.internal.paths.Opening.{open_part, open_entered}
+use Rattle.wasi_calls.proofs.checks.Chains.{stops}
 use Rattle.wasi_calls.proofs.OpenEntries.{opened_at}
-use Rattle.wasi_calls.proofs.checks.Passing.{walked_to}
 use Rattle.wasi_calls.proofs.bodies.VolumeCalls.{steps_after}
-use Rattle.wasi_calls.proofs.bodies.AskingCalls.{ends_part, stops_as, passes_as, passes_on, refuses_on, walk_passes, walk_stops, works_on}
-use Rattle.wasi_calls.proofs.paths.OpenCalls.{entered_part, after_walk, after_walk_never, checks_stop, no_number, some_number}
+use Rattle.wasi_calls.proofs.bodies.AskingCalls.{ends_part, stops_as, works_on}
+use Rattle.wasi_calls.proofs.paths.OpenCalls.{entered_part, after_walk, after_walk_never, checks_refuse, no_place, finds_target, no_number, some_number}
 use Rattle.wasi_calls.proofs.bodies.PlainCalls.{volume_rests}
 use Rattle.wasi_calls.proofs.paths.opening.find_target.Goals as goal
 
@@ -50,8 +47,7 @@ returns-in-Err-reach g c = record {
       subst (λ (n : ℕ). Stops (λ v. open_part v m a) w new n) (sym c.refused.ensures)
       (stops_as w (λ v. open_part v m a) (λ v. and_then (path_at v m o a.path a.len) (after_walk v a m o)) new _ (goes w table) (goes (with_volume_failed w) table)
       (ends_part w (λ v. path_at v m o a.path a.len) (λ v. after_walk v a m o) new _ (λ alive r. after_walk_never w a m o r)
-      (walk_stops g.D.Device.honest g.D.Device.disk g.D.Device.size g.D.Device.failures c.args.volume.now new w o m a.path a.len c.in-Ok.entered.1.now c.in-Ok.ensures.text h shown
-      c.in-Err-reach.errno (c.in-Err-reach.ensures.reaches h w o (sym c.new.ensures) shown))));
+      (c.in-Err-reach.ensures.reaches h w o _ (sym c.new.ensures) c.in-Ok.ensures.text shown)));
   io = asked_29 ReachedValue c.in-Err-reach.errno _ c.in-Err-reach.ensures.io c.refused.ensures;
 }
 
@@ -63,24 +59,9 @@ returns-in-Err-reached_target g c = record {
   inside = tt;
   can = tt;
   targets = λ h w table shown.
-      let m = c.args.memory.now in
-      let a = c.args.asked.now in
-      let o = c.in-Ok.entered.0 in
-      let old = c.args.volume.now in
-      let between = c.reach.new.volume in
-      let new = c.reached_target.new.volume in
-      let r = reached_as c.in-Ok-reach.reached in
-      let text : List ℕ = c.in-Ok.entered.1.now in
-      let same : text ≡ bytes_at m a.path a.len = c.in-Ok.ensures.text in
-      let goes = λ (v : World) (same : v.table ≡ table_of c.args.descriptors.now). entered_part v m a o (c.in-Ok.ensures.row v same) in
-      let walked = walk_passes g.D.Device.honest g.D.Device.disk g.D.Device.size g.D.Device.failures old between w o m a.path a.len text same h shown c.in-Ok-reach.reached
-      c.in-Ok-reach.ensures.works (c.in-Ok-reach.ensures.reaches h w o (sym c.new.ensures) shown) in
-      let to = walked_to w o (bytes_at m a.path a.len) r walked.is in
-      let now = c.in-Ok-reach.ensures.works.kept.honest.0 h in
-      let checks = c.in-Err-reached_target.ensures.checks now w to.0 (ap path_read same ∙ to.1) walked.working (sym walked.same) in
-      stops_as w (λ v. open_part v m a) (λ v. and_then (path_at v m o a.path a.len) (after_walk v a m o)) new _ (goes w table) (goes (with_volume_failed w) table)
-      (checks_stop w a m o between new r _ walked
-      (subst (λ (l : List ℕ). ChecksAs a.oflags (wants_directory l) r w new (Err c.in-Err-reached_target.errno)) same checks));
+      checks_refuse c.reach.new.volume c.reached_target.new.volume w c.args.memory.now c.args.asked.now c.in-Ok.entered.0 c.in-Ok.entered.1.now c.in-Ok.ensures.text (λ v same. c.in-Ok.ensures.row v (same ∙ table))
+      (reached_as c.in-Ok-reach.reached) (c.in-Ok-reach.ensures.reaches h w c.in-Ok.entered.0 _ (sym c.new.ensures) c.in-Ok.ensures.text shown)
+      c.in-Err-reached_target.errno (c.in-Err-reached_target.ensures.checks (c.in-Ok-reach.ensures.works.kept.honest.0 h));
   io = c.in-Err-reached_target.ensures.io;
 }
 
@@ -92,25 +73,9 @@ returns-then-is_full g c = record {
   inside = tt;
   can = tt;
   targets = λ h w table shown.
-      let m = c.args.memory.now in
-      let a = c.args.asked.now in
-      let o = c.in-Ok.entered.0 in
-      let old = c.args.volume.now in
-      let between = c.reach.new.volume in
-      let new = c.reached_target.new.volume in
-      let r = reached_as c.in-Ok-reach.reached in
-      let text : List ℕ = c.in-Ok.entered.1.now in
-      let same : text ≡ bytes_at m a.path a.len = c.in-Ok.ensures.text in
-      let goes = λ (v : World) (same : v.table ≡ table_of c.args.descriptors.now). entered_part v m a o (c.in-Ok.ensures.row v same) in
-      let walked = walk_passes g.D.Device.honest g.D.Device.disk g.D.Device.size g.D.Device.failures old between w o m a.path a.len text same h shown c.in-Ok-reach.reached
-      c.in-Ok-reach.ensures.works (c.in-Ok-reach.ensures.reaches h w o (sym c.new.ensures) shown) in
-      let to = walked_to w o (bytes_at m a.path a.len) r walked.is in
-      let now = c.in-Ok-reach.ensures.works.kept.honest.0 h in
-      let checks = subst (λ (l : List ℕ). ChecksAs a.oflags (wants_directory l) r w new (Ok c.in-Ok-reached_target.target)) same
-      (c.in-Ok-reached_target.ensures.checks now w to.0 (ap path_read same ∙ to.1) walked.working (sym walked.same)) in
-      stops_as w (λ v. open_part v m a) (λ v. and_then (path_at v m o a.path a.len) (after_walk v a m o)) new 33 (goes w table) (goes (with_volume_failed w) table)
-      (refuses_on w (λ v. path_at v m o a.path a.len) (λ v. after_walk v a m o) between r walked new 33 checks.2
-      (goes_on _ _ tt checks.0 ∙ stops _ _ 33 (no_number w (table_of c.args.descriptors.now) table (c.is_full.ensures.0 c.if-is_full.true))));
+      no_place c.reach.new.volume c.reached_target.new.volume w c.args.memory.now c.args.asked.now c.in-Ok.entered.0 c.in-Ok.entered.1.now c.in-Ok.ensures.text (λ v same. c.in-Ok.ensures.row v (same ∙ table))
+      (reached_as c.in-Ok-reach.reached) (c.in-Ok-reach.ensures.reaches h w c.in-Ok.entered.0 _ (sym c.new.ensures) c.in-Ok.ensures.text shown)
+      c.in-Ok-reached_target.target (c.in-Ok-reached_target.ensures.checks (c.in-Ok-reach.ensures.works.kept.honest.0 h)) (no_number w (table_of c.args.descriptors.now) table (c.is_full.ensures.0 c.if-is_full.true));
   io = λ is. absurd (omega (arith, is));
 }
 
@@ -122,31 +87,8 @@ returns g c = record {
   inside = c.in-Ok.ensures.inside;
   can = c.in-Ok-reached_target.ensures.can;
   targets = λ h w table shown.
-      let m = c.args.memory.now in
-      let a = c.args.asked.now in
-      let o = c.in-Ok.entered.0 in
-      let old = c.args.volume.now in
-      let between = c.reach.new.volume in
-      let new = c.reached_target.new.volume in
-      let r = reached_as c.in-Ok-reach.reached in
-      let text : List ℕ = c.in-Ok.entered.1.now in
-      let same : text ≡ bytes_at m a.path a.len = c.in-Ok.ensures.text in
-      let goes = λ (v : World) (same : v.table ≡ table_of c.args.descriptors.now). entered_part v m a o (c.in-Ok.ensures.row v same) in
-      let walked = walk_passes g.D.Device.honest g.D.Device.disk g.D.Device.size g.D.Device.failures old between w o m a.path a.len text same h shown c.in-Ok-reach.reached
-      c.in-Ok-reach.ensures.works (c.in-Ok-reach.ensures.reaches h w o (sym c.new.ensures) shown) in
-      let to = walked_to w o (bytes_at m a.path a.len) r walked.is in
-      let now = c.in-Ok-reach.ensures.works.kept.honest.0 h in
-      let checks = subst (λ (l : List ℕ). ChecksAs a.oflags (wants_directory l) r w new (Ok c.in-Ok-reached_target.target)) same
-      (c.in-Ok-reached_target.ensures.checks now w to.0 (ap path_read same ∙ to.1) walked.working (sym walked.same)) in
-      let number = some_number w (table_of c.args.descriptors.now) table (λ full. false≢true (sym c.if-is_full.false ∙ c.is_full.ensures.1 full)) in
-      record {
-        reached = r;
-        number = number.0;
-        free = number.1;
-        passes = passes_as w (λ v. open_part v m a) (λ v. and_then (path_at v m o a.path a.len) (after_walk v a m o)) new (o, r, number.0) (goes w table) (goes (with_volume_failed w) table)
-            (passes_on w (λ v. path_at v m o a.path a.len) (λ v. after_walk v a m o) between r walked new (o, r, number.0) checks.2
-            (goes_on _ _ tt checks.0 ∙ goes_on _ _ number.0 number.1));
-        target = checks.1;
-      };
+      finds_target c.reach.new.volume c.reached_target.new.volume w c.args.memory.now c.args.asked.now c.in-Ok.entered.0 c.in-Ok.entered.1.now c.in-Ok.ensures.text (λ v same. c.in-Ok.ensures.row v (same ∙ table))
+      (reached_as c.in-Ok-reach.reached) (c.in-Ok-reach.ensures.reaches h w c.in-Ok.entered.0 _ (sym c.new.ensures) c.in-Ok.ensures.text shown)
+      c.in-Ok-reached_target.target (c.in-Ok-reached_target.ensures.checks (c.in-Ok-reach.ensures.works.kept.honest.0 h)) (some_number w (table_of c.args.descriptors.now) table (λ full. false≢true (sym c.if-is_full.false ∙ c.is_full.ensures.1 full)));
   io = no_29_at_0;
 }

@@ -21,7 +21,7 @@ returns-in-Err g c = record {
   checks = λ h w slash alive shown.
       let old = c.args.volume.now in
       let new = c.is_directory.new.volume in
-      let io = c.in-Err.ensures.told h in
+      let io = c.in-Err.ensures.answer h in
       let asked : Asked g.D.Device.honest g.D.Device.disk g.D.Device.size g.D.Device.failures old new true =
       subst (Asked g.D.Device.honest g.D.Device.disk g.D.Device.size g.D.Device.failures old new) (ap (λ (e : _). is_io {X = Bool} (Err e)) io) c.in-Err.ensures.asked in
       subst (λ (n : ℕ). StopsNext (λ v. open_checks v c.args.oflags slash (Found c.args.serial)) w new n) (sym (c.refused.ensures ∙ ap number_of io))

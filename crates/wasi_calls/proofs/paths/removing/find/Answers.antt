@@ -1,87 +1,25 @@
-use Rattle.std.proofs.Common.{◌≡◌, ℕ, List, Ok, sym, ap, ◌∙◌, subst, inl, arith}
+use Rattle.std.proofs.Common.{ap}
 use Rattle.path_walk.specs.declared.walking.Reached.{Reached as ReachedValue}
 use Rattle.path_walk.specs.Walk.{reached_as}
 use Rattle.wasi_fd.specs.Rights.{bits_of}
-use Rattle.wasi_fd.specs.Table.{table_of}
-use Rattle.wasi_fd.specs.declared.descriptor.Opened.{Opened}
-use Rattle.wasi_calls.proofs.checks.CausesOf29.{asked_29, check_not_29}
-use Rattle.wasi_calls.proofs.checks.NoneAnswers29.{entered_never}
-use Rattle.wasi_calls.specs.World.{World, with_volume_failed}
-use Rattle.wasi_calls.specs.Checks.{and_then, found}
-use Rattle.wasi_calls.specs.paths.Rows.{path_at}
-use Rattle.wasi_calls.specs.internal.Asking.{Stops}
-use Rattle.wasi_calls.specs.internal.paths.Walks.{starting_directory}
-use Rattle.wasi_calls.specs.internal.paths.Removing.{found_at}
-use Rattle.wasi_calls.proofs.checks.Chains.{goes_on, stops}
-use Rattle.wasi_calls.proofs.OpenEntries.{entered_row, entry_of}
+use Rattle.wasi_calls.specs.Checks.{found}
+use Rattle.wasi_calls.specs.internal.paths.Walks.{reached_from}
 use Rattle.wasi_calls.proofs.paths.Walks.{found_never}
-use Rattle.wasi_calls.proofs.bodies.AskingCalls.{passes_on, refuses_on, ends_part, passes_as, stops_as, walk_passes, walk_stops}
-use Rattle.wasi_calls.proofs.bodies.PlainCalls.{volume_rests}
+use Rattle.wasi_calls.proofs.bodies.AskingCalls.{ends_part, passes_on, refuses_on}
 use Rattle.wasi_calls.proofs.paths.removing.find.Goals as goal
 
-to_walk : (w : World) (m : List ℕ) (fd rights path len : ℕ) (o : Opened) → starting_directory w m fd rights path len ≡ Ok o → found_at w m fd rights path len ≡ and_then (path_at w m o path len) found
-to_walk w m fd rights path len o invokes = entered_row _ _ _ ∙ goes_on _ _ o invokes
-
-pub reach-requires : goal.reach-requires
-reach-requires g c =
-    rw c.new.ensures (entry_of g.D.Device.honest c.args.volume.now (table_of c.args.descriptors.now) c.requires c.args.memory.now c.args.fd (bits_of c.args.rights) c.args.path c.args.len c.in-Ok.entered.0 c.in-Ok.ensures.row)
-
-pub returns-in-Err : goal.returns-in-Err
-returns-in-Err g c = record {
-  step = volume_rests g.D.Device.honest g.D.Device.disk g.D.Device.size g.D.Device.failures c.args.volume.now;
-  works = tt;
-  entry = tt;
-  asks = λ h w table shown. inl (record { is = entered_row _ _ _ ∙ stops _ _ _ (c.in-Err.ensures.row w table); same = sym shown });
-  io = check_not_29 (table_of c.args.descriptors.now) (λ w. starting_directory w c.args.memory.now c.args.fd (bits_of c.args.rights) c.args.path c.args.len) _ (entered_never c.args.memory.now c.args.fd (bits_of c.args.rights) c.args.path c.args.len) c.in-Err.ensures.row;
-}
+pub returns-in-Err-clause-asks : goal.returns-in-Err-clause-asks
+returns-in-Err-clause-asks g c = λ h w table shown.
+    ends_part w (λ v. reached_from v c.args.memory.now c.args.fd (bits_of c.args.rights) c.args.path c.args.len) (λ v. found) c.reach_from.new.volume _ (λ alive r. found_never r) (c.in-Err.ensures.asks h w table shown)
 
 pub returns-in-Ok-Found-clause-asks : goal.returns-in-Ok-Found-clause-asks
 returns-in-Ok-Found-clause-asks g c = λ h w table shown.
-    let m = c.args.memory.now in
-    let o = c.in-Ok.entered.0 in
-    let part = λ (v : World). path_at v m o c.args.path c.args.len in
-    let goes = λ (v : World) (same : v.table ≡ table_of c.args.descriptors.now). to_walk v m c.args.fd (bits_of c.args.rights) c.args.path c.args.len o (c.in-Ok.ensures.row v same) in
-    let walked = walk_passes g.D.Device.honest g.D.Device.disk g.D.Device.size g.D.Device.failures c.args.volume.now c.reach.new.volume w o m c.args.path c.args.len c.in-Ok.entered.1.now
-    c.in-Ok.ensures.text h shown c.in-Ok-Found.field-0 c.in-Ok-Found.ensures.works (c.in-Ok-Found.ensures.reaches h w o (sym c.new.ensures) shown) in
-    rw c.new-in-Ok-Found.ensures (passes_as w (λ v. found_at v m c.args.fd (bits_of c.args.rights) c.args.path c.args.len) (λ v. and_then (part v) found) c.reach.new.volume c.in-Ok-Found.serial
-    (goes w table) (goes (with_volume_failed w) table)
-    (passes_on w part (λ v. found) c.reach.new.volume (reached_as c.in-Ok-Found.field-0) walked c.reach.new.volume c.in-Ok-Found.serial walked.same
-    (ap (λ (r : ReachedValue). found (reached_as r)) c.in-Ok-Found.field-0-is)))
+    let passes = c.in-Ok-Found.ensures.asks h w table shown in
+    rw c.new.ensures (passes_on w (λ v. reached_from v c.args.memory.now c.args.fd (bits_of c.args.rights) c.args.path c.args.len) (λ v. found) c.reach_from.new.volume (reached_as c.in-Ok-Found.field-0) passes
+    c.reach_from.new.volume c.in-Ok-Found.serial passes.same (ap (λ (r : ReachedValue). found (reached_as r)) c.in-Ok-Found.field-0-is))
 
-pub returns-in-Ok-Missing : goal.returns-in-Ok-Missing
-returns-in-Ok-Missing g c = record {
-  step = c.in-Ok-Missing.ensures.step;
-  works = tt;
-  entry = tt;
-  asks = λ h w table shown.
-      let m = c.args.memory.now in
-      let o = c.in-Ok.entered.0 in
-      let part = λ (v : World). path_at v m o c.args.path c.args.len in
-      let goes = λ (v : World) (same : v.table ≡ table_of c.args.descriptors.now). to_walk v m c.args.fd (bits_of c.args.rights) c.args.path c.args.len o (c.in-Ok.ensures.row v same) in
-      let walked = walk_passes g.D.Device.honest g.D.Device.disk g.D.Device.size g.D.Device.failures c.args.volume.now c.reach.new.volume w o m c.args.path c.args.len c.in-Ok.entered.1.now
-      c.in-Ok.ensures.text h shown c.in-Ok-Missing.field-0 c.in-Ok-Missing.ensures.works (c.in-Ok-Missing.ensures.reaches h w o (sym c.new.ensures) shown) in
-      stops_as w (λ v. found_at v m c.args.fd (bits_of c.args.rights) c.args.path c.args.len) (λ v. and_then (part v) found) c.reach.new.volume 44
-      (goes w table) (goes (with_volume_failed w) table)
-      (refuses_on w part (λ v. found) c.reach.new.volume (reached_as c.in-Ok-Missing.field-0) walked c.reach.new.volume 44 walked.same
-      (ap (λ (r : ReachedValue). found (reached_as r)) c.in-Ok-Missing.field-0-is));
-  io = λ is. absurd (omega (arith, is));
-}
-
-pub returns-in-Err-reach : goal.returns-in-Err-reach
-returns-in-Err-reach g c = record {
-  step = c.in-Err-reach.ensures.step;
-  works = tt;
-  entry = tt;
-  asks = λ h w table shown.
-      let m = c.args.memory.now in
-      let o = c.in-Ok.entered.0 in
-      let part = λ (v : World). path_at v m o c.args.path c.args.len in
-      let found_by = λ (v : World). found_at v m c.args.fd (bits_of c.args.rights) c.args.path c.args.len in
-      let goes = λ (v : World) (same : v.table ≡ table_of c.args.descriptors.now). to_walk v m c.args.fd (bits_of c.args.rights) c.args.path c.args.len o (c.in-Ok.ensures.row v same) in
-      subst (λ (n : ℕ). Stops found_by w c.reach.new.volume n) (sym c.refused.ensures)
-      (stops_as w found_by (λ v. and_then (part v) found) c.reach.new.volume _ (goes w table) (goes (with_volume_failed w) table)
-      (ends_part w part (λ v. found) c.reach.new.volume _ (λ alive r. found_never r)
-      (walk_stops g.D.Device.honest g.D.Device.disk g.D.Device.size g.D.Device.failures c.args.volume.now c.reach.new.volume w o m c.args.path c.args.len c.in-Ok.entered.1.now
-      c.in-Ok.ensures.text h shown c.in-Err-reach.errno (c.in-Err-reach.ensures.reaches h w o (sym c.new.ensures) shown))));
-  io = asked_29 ReachedValue c.in-Err-reach.errno _ c.in-Err-reach.ensures.io c.refused.ensures;
-}
+pub returns-in-Ok-Missing-clause-asks : goal.returns-in-Ok-Missing-clause-asks
+returns-in-Ok-Missing-clause-asks g c = λ h w table shown.
+    let passes = c.in-Ok-Missing.ensures.asks h w table shown in
+    refuses_on w (λ v. reached_from v c.args.memory.now c.args.fd (bits_of c.args.rights) c.args.path c.args.len) (λ v. found) c.reach_from.new.volume (reached_as c.in-Ok-Missing.field-0) passes
+    c.reach_from.new.volume 44 passes.same (ap (λ (r : ReachedValue). found (reached_as r)) c.in-Ok-Missing.field-0-is)

@@ -17,7 +17,7 @@ returns-in_err-source_is_directory g c =
     let is = c.from_residual.ensures.1 in
     record {
       asked = asked_handed Bool g.D.Device.honest g.D.Device.disk g.D.Device.size g.D.Device.failures c.args.volume.now c.is_directory.new.volume r e is c.in_err-source_is_directory.ensures.asked;
-      told = λ h. io_handed r _ e is (c.in_err-source_is_directory.ensures.told h);
+      told = λ h. io_handed r _ e is (c.in_err-source_is_directory.ensures.answer h);
     }
 
 pub returns-in_err-is_within : goal.returns-in_err-is_within
@@ -40,7 +40,7 @@ returns-in_err-target_is_directory g c =
     let second = works_on g.D.Device.honest g.D.Device.disk g.D.Device.size g.D.Device.failures c.args.volume.now c.is_directory.new.volume c.is_within.new.volume first c.in_ok-is_within.ensures.asked in
     record {
       asked = asked_handed Bool g.D.Device.honest g.D.Device.disk g.D.Device.size g.D.Device.failures c.args.volume.now c.is_directory-2.new.volume r e is (asked_on g.D.Device.honest g.D.Device.disk g.D.Device.size g.D.Device.failures c.args.volume.now c.is_within.new.volume c.is_directory-2.new.volume _ second c.in_err-target_is_directory.ensures.asked);
-      told = λ h. io_handed r _ e is (c.in_err-target_is_directory.ensures.told (second.kept.honest.0 h));
+      told = λ h. io_handed r _ e is (c.in_err-target_is_directory.ensures.answer (second.kept.honest.0 h));
     }
 
 pub returns-in_err-is_empty : goal.returns-in_err-is_empty

@@ -20,7 +20,7 @@ returns-in-Err g c = record {
   renames = λ h w alive shown.
       let old = c.args.volume.now in
       let new = c.is_directory.new.volume in
-      let io = c.in-Err.ensures.told h in
+      let io = c.in-Err.ensures.answer h in
       let asked : Asked g.D.Device.honest g.D.Device.disk g.D.Device.size g.D.Device.failures old new true =
       subst (Asked g.D.Device.honest g.D.Device.disk g.D.Device.size g.D.Device.failures old new) (ap (λ (e : _). is_io {X = Bool} (Err e)) io) c.in-Err.ensures.asked in
       subst (λ (n : ℕ). StopsNext (λ v. rename_to v c.args.source c.args.slash (Missing c.args.parent c.args.name.now)) w new n) (sym (c.refused.ensures ∙ ap number_of io))
@@ -38,7 +38,7 @@ returns-in-Err-check_slash g c = record {
   renames = λ h w alive shown.
       let old = c.args.volume.now in
       let new = c.is_directory.new.volume in
-      let told : directory_at w.tree c.args.source ≡ c.in-Ok.is_directory = ap (λ (v : World). directory_at v.tree c.args.source) shown ∙ sym (c.in-Ok.ensures.told h) in
+      let told : directory_at w.tree c.args.source ≡ c.in-Ok.is_directory = ap (λ (v : World). directory_at v.tree c.args.source) shown ∙ sym (c.in-Ok.ensures.answer h) in
       let (refused, number) = c.in-Err-check_slash.ensures in
       subst (λ (n : ℕ). StopsNext (λ v. rename_to v c.args.source c.args.slash (Missing c.args.parent c.args.name.now)) w new n) (sym number)
       (inl (record {
@@ -67,7 +67,7 @@ returns-in-Ok-rename-clause-renames g c = λ h w alive shown.
     let s = c.args.source in
     let p = c.args.parent in
     let n = c.args.name.now in
-    let told : directory_at w.tree s ≡ c.in-Ok.is_directory = ap (λ (v : World). directory_at v.tree s) shown ∙ sym (c.in-Ok.ensures.told h) in
+    let told : directory_at w.tree s ≡ c.in-Ok.is_directory = ap (λ (v : World). directory_at v.tree s) shown ∙ sym (c.in-Ok.ensures.answer h) in
     let passes : (not c.args.slash || directory_at w.tree s) ≡ true = ap (λ (b : Bool). not c.args.slash || b) told ∙ c.in_default.ensures in
     renames_ok g.D.Device.honest g.D.Device.size g.D.Device.failures w s c.args.slash (Missing p n) between c.rename.new.self (λ (T : Tree). renamed T s p n)
     (asked_same g.D.Device.honest g.D.Device.disk g.D.Device.size g.D.Device.failures w old between shown alive h c.in-Ok.ensures.asked) alive
@@ -80,7 +80,7 @@ returns-in-Err-rename-clause-renames g c = λ h w alive shown.
     let s = c.args.source in
     let p = c.args.parent in
     let n = c.args.name.now in
-    let told : directory_at w.tree s ≡ c.in-Ok.is_directory = ap (λ (v : World). directory_at v.tree s) shown ∙ sym (c.in-Ok.ensures.told h) in
+    let told : directory_at w.tree s ≡ c.in-Ok.is_directory = ap (λ (v : World). directory_at v.tree s) shown ∙ sym (c.in-Ok.ensures.answer h) in
     let passes : (not c.args.slash || directory_at w.tree s) ≡ true = ap (λ (b : Bool). not c.args.slash || b) told ∙ c.in_default.ensures in
     let (tree, meant) = c.in-Err-rename.ensures.answer (c.in-Ok.ensures.asked.kept.honest.0 h) in
     subst (λ (k : ℕ). StopsNext (λ v. rename_to v s c.args.slash (Missing p n)) w c.rename.new.self k) (sym c.refused-in-Err-rename.ensures)

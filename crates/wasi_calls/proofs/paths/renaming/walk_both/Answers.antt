@@ -1,7 +1,6 @@
 use Rattle.std.proofs.Common.{◌≡◌, ℕ, sym, ap, ◌∙◌, subst, inl, Ok}
-use Rattle.wasm_store.specs.Bytes.{bytes_at}
-use Rattle.path_walk.specs.Paths.{Reached, wants_directory, path_read}
 use Rattle.path_walk.specs.Walk.{reached_as, IsReached}
+use Rattle.path_walk.specs.Paths.{path_read, wants_directory}
 use Rattle.wasi_fd.specs.Table.{table_of}
 use Rattle.wasi_fd.specs.declared.descriptor.Opened.{Opened}
 use Rattle.path_walk.specs.declared.walking.Reached.{Reached as ReachedValue}
@@ -12,12 +11,12 @@ use Rattle.wasi_calls.specs.Checks.{and_then}
 use Rattle.wasi_calls.specs.paths.Rows.{path_at}
 use Rattle.wasi_calls.specs.internal.Asking.{Stops}
 use Rattle.wasi_calls.specs.internal.paths.Renaming.{rename_part, rename_entered}
-use Rattle.wasi_calls.proofs.checks.Chains.{goes_on, stops}
-use Rattle.wasi_calls.proofs.OpenEntries.{renames_at}
+use Rattle.wasi_calls.proofs.checks.Chains.{stops}
 use Rattle.wasi_calls.proofs.checks.Passing.{walked_to}
+use Rattle.wasi_calls.proofs.OpenEntries.{renames_at}
 use Rattle.wasi_calls.proofs.bodies.VolumeCalls.{steps_after}
-use Rattle.wasi_calls.proofs.bodies.AskingCalls.{entry_still, ends_part, stops_as, stops_on, passes_as, passes_on, refuses_on, walk_passes, walk_stops, asked_after, works_as, works_on}
-use Rattle.wasi_calls.proofs.paths.RenameWalks.{entered_both, after_first, after_second, first_never, second_never, source_never}
+use Rattle.wasi_calls.proofs.bodies.AskingCalls.{entry_still, ends_part, stops_as, asked_after, works_as, works_on}
+use Rattle.wasi_calls.proofs.paths.RenameWalks.{entered_both, after_first, first_never, second_stops, source_stops, both_walked, source_never}
 use Rattle.wasi_calls.proofs.bodies.PlainCalls.{volume_rests}
 use Rattle.vol_tree.specs.Tree.{Tree}
 use Rattle.wasi_calls.specs.internal.paths.Walks.{Places}
@@ -62,8 +61,7 @@ returns-in-Err-reach g c = record {
       subst (λ (n : ℕ). Stops (λ v. rename_part v m a) w mid n) (sym c.refused.ensures)
       (stops_as w (λ v. rename_part v m a) (λ v. and_then (path_at v m from a.from_path a.from_len) (after_first v m a both)) mid _ (goes w table) (goes (with_volume_failed w) table)
       (ends_part w (λ v. path_at v m from a.from_path a.from_len) (λ v. after_first v m a both) mid _ (λ alive r. first_never w m a both r alive)
-      (walk_stops g.D.Device.honest g.D.Device.disk g.D.Device.size g.D.Device.failures old mid w from m a.from_path a.from_len c.in-Ok.ends.from_text.now c.in-Ok.ensures.from h shown
-      c.in-Err-reach.errno (c.in-Err-reach.ensures.reaches h w from (sym c.new-from.ensures) shown))));
+      (c.in-Err-reach.ensures.reaches h w from _ (sym c.new-from.ensures) c.in-Ok.ensures.from shown)));
   io = asked_29 ReachedValue c.in-Err-reach.errno _ c.in-Err-reach.ensures.io c.refused.ensures;
 }
 
@@ -75,25 +73,11 @@ returns-in-Err-reach-2 g c = record {
   reached = tt;
   place = tt;
   walks = λ h w table shown.
-      let m = c.args.memory.now in
-      let a = c.args.asked.now in
-      let from : Opened = c.in-Ok.ends.from in
-      let to : Opened = c.in-Ok.ends.to in
-      let both : Opened × Opened = (from, to) in
-      let old = c.args.volume.now in
-      let mid = c.reach.new.volume in
-      let goes = λ (v : World) (same : v.table ≡ table_of c.args.descriptors.now). entered_both v m a both (c.in-Ok.ensures.row v same) in
-      let moved : Reached = reached_as c.in-Ok-reach.moved in
-      let new = c.reach-2.new.volume in
-      let one = walk_passes g.D.Device.honest g.D.Device.disk g.D.Device.size g.D.Device.failures old mid w from m a.from_path a.from_len c.in-Ok.ends.from_text.now c.in-Ok.ensures.from h shown
-      c.in-Ok-reach.moved c.in-Ok-reach.ensures.works (c.in-Ok-reach.ensures.reaches h w from (sym c.new-from.ensures) shown) in
+      let one = c.in-Ok-reach.ensures.reaches h w c.in-Ok.ends.from _ (sym c.new-from.ensures) c.in-Ok.ensures.from shown in
       let now = c.in-Ok-reach.ensures.works.kept.honest.0 h in
-      subst (λ (n : ℕ). Stops (λ v. rename_part v m a) w new n) (sym c.refused-in-Err-reach-2.ensures)
-      (stops_as w (λ v. rename_part v m a) (λ v. and_then (path_at v m from a.from_path a.from_len) (after_first v m a both)) new _ (goes w table) (goes (with_volume_failed w) table)
-      (stops_on w (λ v. path_at v m from a.from_path a.from_len) (λ v. after_first v m a both) mid new moved _ one
-      (ends_part w (λ v. path_at v m to a.to_path a.to_len) (λ v. after_second both moved) new _ (λ alive r. second_never both moved r)
-      (walk_stops g.D.Device.honest g.D.Device.disk g.D.Device.size g.D.Device.failures mid new w to m a.to_path a.to_len c.in-Ok.ends.to_text.now c.in-Ok.ensures.to now (sym one.same)
-      c.in-Err-reach-2.errno (c.in-Err-reach-2.ensures.reaches now w to (sym c.new-to.ensures) (sym one.same))))));
+      subst (λ (n : ℕ). Stops (λ v. rename_part v c.args.memory.now c.args.asked.now) w c.reach-2.new.volume n) (sym c.refused-in-Err-reach-2.ensures)
+      (second_stops c.reach.new.volume c.reach-2.new.volume w c.args.memory.now c.args.asked.now (c.in-Ok.ends.from, c.in-Ok.ends.to) (λ v same. c.in-Ok.ensures.row v (same ∙ table)) (reached_as c.in-Ok-reach.moved) one
+      _ (c.in-Err-reach-2.ensures.reaches now w c.in-Ok.ends.to _ (sym c.new-to.ensures) c.in-Ok.ensures.to (sym one.same)));
   io = asked_29 ReachedValue c.in-Err-reach-2.errno _ c.in-Err-reach-2.ensures.io c.refused-in-Err-reach-2.ensures;
 }
 
@@ -106,25 +90,11 @@ returns-in-Err-source_of g c = record {
   reached = tt;
   place = tt;
   walks = λ h w table shown.
-      let m = c.args.memory.now in
-      let a = c.args.asked.now in
-      let from : Opened = c.in-Ok.ends.from in
-      let to : Opened = c.in-Ok.ends.to in
-      let both : Opened × Opened = (from, to) in
-      let old = c.args.volume.now in
-      let mid = c.reach.new.volume in
-      let goes = λ (v : World) (same : v.table ≡ table_of c.args.descriptors.now). entered_both v m a both (c.in-Ok.ensures.row v same) in
-      let moved : Reached = reached_as c.in-Ok-reach.moved in
-      let new = c.reach-2.new.volume in
-      let one = walk_passes g.D.Device.honest g.D.Device.disk g.D.Device.size g.D.Device.failures old mid w from m a.from_path a.from_len c.in-Ok.ends.from_text.now c.in-Ok.ensures.from h shown
-      c.in-Ok-reach.moved c.in-Ok-reach.ensures.works (c.in-Ok-reach.ensures.reaches h w from (sym c.new-from.ensures) shown) in
+      let one = c.in-Ok-reach.ensures.reaches h w c.in-Ok.ends.from _ (sym c.new-from.ensures) c.in-Ok.ensures.from shown in
       let now = c.in-Ok-reach.ensures.works.kept.honest.0 h in
-      let target : Reached = reached_as c.in-Ok-reach-2.target in
-      let two = walk_passes g.D.Device.honest g.D.Device.disk g.D.Device.size g.D.Device.failures mid new w to m a.to_path a.to_len c.in-Ok.ends.to_text.now c.in-Ok.ensures.to now (sym one.same)
-      c.in-Ok-reach-2.target c.in-Ok-reach-2.ensures.works (c.in-Ok-reach-2.ensures.reaches now w to (sym c.new-to.ensures) (sym one.same)) in
-      stops_as w (λ v. rename_part v m a) (λ v. and_then (path_at v m from a.from_path a.from_len) (after_first v m a both)) new _ (goes w table) (goes (with_volume_failed w) table)
-      (stops_on w (λ v. path_at v m from a.from_path a.from_len) (λ v. after_first v m a both) mid new moved _ one
-      (refuses_on w (λ v. path_at v m to a.to_path a.to_len) (λ v. after_second both moved) new target two new _ two.same (stops _ _ _ (rw c.new-from.ensures at c.in-Err-source_of.ensures.row))));
+      let two = c.in-Ok-reach-2.ensures.reaches now w c.in-Ok.ends.to _ (sym c.new-to.ensures) c.in-Ok.ensures.to (sym one.same) in
+      source_stops c.reach.new.volume c.reach-2.new.volume w c.args.memory.now c.args.asked.now (c.in-Ok.ends.from, c.in-Ok.ends.to) (λ v same. c.in-Ok.ensures.row v (same ∙ table)) (reached_as c.in-Ok-reach.moved) one
+      (reached_as c.in-Ok-reach-2.target) two _ (rw c.new-from.ensures at c.in-Err-source_of.ensures.row);
   io = not_29 _ _ (source_never _ _) c.in-Err-source_of.ensures.row;
 }
 
@@ -141,30 +111,13 @@ returns g c = record {
       let before = walked.works.kept.honest.1 h in
       subst (λ (T : Tree). Places T (Ok c.in-Ok-reach-2.target)) (sym (walked.works.tree before)) (walked.place before);
   walks = λ h w table shown.
-      let m = c.args.memory.now in
-      let a = c.args.asked.now in
-      let from : Opened = c.in-Ok.ends.from in
-      let to : Opened = c.in-Ok.ends.to in
-      let both : Opened × Opened = (from, to) in
-      let old = c.args.volume.now in
-      let mid = c.reach.new.volume in
-      let goes = λ (v : World) (same : v.table ≡ table_of c.args.descriptors.now). entered_both v m a both (c.in-Ok.ensures.row v same) in
-      let moved : Reached = reached_as c.in-Ok-reach.moved in
-      let new = c.reach-2.new.volume in
-      let one = walk_passes g.D.Device.honest g.D.Device.disk g.D.Device.size g.D.Device.failures old mid w from m a.from_path a.from_len c.in-Ok.ends.from_text.now c.in-Ok.ensures.from h shown
-      c.in-Ok-reach.moved c.in-Ok-reach.ensures.works (c.in-Ok-reach.ensures.reaches h w from (sym c.new-from.ensures) shown) in
+      let one = c.in-Ok-reach.ensures.reaches h w c.in-Ok.ends.from _ (sym c.new-from.ensures) c.in-Ok.ensures.from shown in
       let now = c.in-Ok-reach.ensures.works.kept.honest.0 h in
-      let target : Reached = reached_as c.in-Ok-reach-2.target in
-      let two = walk_passes g.D.Device.honest g.D.Device.disk g.D.Device.size g.D.Device.failures mid new w to m a.to_path a.to_len c.in-Ok.ends.to_text.now c.in-Ok.ensures.to now (sym one.same)
-      c.in-Ok-reach-2.target c.in-Ok-reach-2.ensures.works (c.in-Ok-reach-2.ensures.reaches now w to (sym c.new-to.ensures) (sym one.same)) in
-      let source = c.in-Ok-source_of.source in
-      let ends : ℕ × Reached = (source, target) in
-      let same : c.in-Ok.ends.to_text.now ≡ bytes_at m a.to_path a.to_len = c.in-Ok.ensures.to in
-      let read = walked_to w to (bytes_at m a.to_path a.to_len) target two.is in
-      let inner = passes_on w (λ v. path_at v m to a.to_path a.to_len) (λ v. after_second both moved) new target two new ends two.same (goes_on _ _ source (rw c.new-from.ensures at c.in-Ok-source_of.ensures.row)) in (
-        passes_as w (λ v. rename_part v m a) (λ v. and_then (path_at v m from a.from_path a.from_len) (after_first v m a both)) new ends (goes w table) (goes (with_volume_failed w) table)
-            (passes_on w (λ v. path_at v m from a.from_path a.from_len) (λ v. after_first v m a both) mid moved one new ends two.same inner.is),
-        c.ends_open-slash.ensures read.0 (ap path_read same ∙ read.1) ∙ ap wants_directory same,
+      let two = c.in-Ok-reach-2.ensures.reaches now w c.in-Ok.ends.to _ (sym c.new-to.ensures) c.in-Ok.ensures.to (sym one.same) in
+      let read = walked_to w c.in-Ok.ends.to _ (reached_as c.in-Ok-reach-2.target) two.is in (
+        both_walked c.reach.new.volume c.reach-2.new.volume w c.args.memory.now c.args.asked.now (c.in-Ok.ends.from, c.in-Ok.ends.to) (λ v same. c.in-Ok.ensures.row v (same ∙ table)) (reached_as c.in-Ok-reach.moved) one
+            (reached_as c.in-Ok-reach-2.target) two c.in-Ok-source_of.source (rw c.new-from.ensures at c.in-Ok-source_of.ensures.row),
+        c.ends_open-slash.ensures read.0 (ap path_read c.in-Ok.ensures.to ∙ read.1) ∙ ap wants_directory c.in-Ok.ensures.to,
       );
   io = no_29_at_0;
 }

@@ -1,67 +1,41 @@
-use Rattle.std.proofs.Common.{◌≡◌, ◌+◌, ◌^◌, List, Ok, refl, sym, ap, ◌∙◌, subst, arith}
+use Rattle.std.proofs.Common.{◌+◌, ◌^◌, refl, sym, arith}
 use Rattle.wasi_fd.specs.Table.{table_of}
-use Rattle.vol_body.specs.declared.source.Span.{Span}
 use Rattle.wasm_store.specs.declared.call.HostCall.TheVariants as call
-use Rattle.wasi_calls.specs.World.{World}
 use Rattle.wasi_calls.specs.declared.checks.Takes.TheVariants as takes
-use Rattle.wasi_calls.specs.internal.checks.Buffers.{usable}
-use Rattle.wasi_calls.specs.internal.Bodies.{refusals_of}
-use Rattle.wasi_calls.proofs.checks.CausesOf29.{check_not_29, not_29}
-use Rattle.wasi_calls.proofs.checks.NoneAnswers29.{entry_never, usable_never}
-use Rattle.wasi_calls.specs.Checks.{Checked, Done, entry_at, only_files, gathered}
+use Rattle.wasi_calls.proofs.checks.NoneAnswers29.{entry_never}
+use Rattle.wasi_calls.specs.Checks.{entry_at, only_files, gathered}
 use Rattle.wasi_calls.specs.files.Rows.{fd_pwrite}
-use Rattle.wasi_calls.specs.Calls.{word, long}
+use Rattle.wasi_calls.specs.Calls.{row}
 use Rattle.wasi_calls.specs.host.Worlds.{world_of}
 use Rattle.wasi_calls.specs.internal.Bodies.{state_of, errno_of}
-use Rattle.wasi_calls.specs.internal.checks.Buffers.{list_of, AreUsable}
+use Rattle.wasi_calls.specs.internal.checks.Buffers.{list_of}
 use Rattle.wasi_calls.specs.internal.files.Writing.{written_at_offset}
-use Rattle.wasi_calls.proofs.checks.Chains.{goes_on, stops}
 use Rattle.wasi_calls.proofs.OpenEntries.{file_of}
-use Rattle.wasi_calls.proofs.bodies.VolumeCalls.{refused_first}
-use Rattle.wasi_calls.proofs.bodies.PlainCalls.{no_more, volume_rests}
+use Rattle.wasi_calls.proofs.bodies.PlainCalls.{no_more}
+use Rattle.wasi_calls.proofs.bodies.BufferCalls.{after_buffers, refused_buffers, refused_check, shown_usable}
 use Rattle.wasi_calls.proofs.descriptors.MovingCalls.{serves_roomy}
-use Rattle.wasi_calls.proofs.checks.AfterBuffers.{answered_so, usable_row}
+use Rattle.wasi_calls.proofs.checks.AfterBuffers.{answered_so}
 use Rattle.wasi_calls.proofs.host.inner.Inner.fd_pwrite.Goals as goal
 
 pub returns-in-Err : goal.returns-in-Err
 returns-in-Err g c = λ used.
-    let s = c.args.self.now in
     let m = c.args.memory.now in
-    let a = c.args.arguments.now in
     let q = c.new-request.result in
     let asked = c.new-request.ensures in
-    let run : World → Checked Done = λ w. fd_pwrite w m (word a 0) (word a 1) (word a 2) (long a 3) (word a 4) in
-    serves_roomy g.D.Device.honest g.D.Device.disk g.D.Device.size g.D.Device.failures g.R.Read.remaining g.W1.Write.contents g.W2.Write.contents
-    call.FdPwrite used a s s m m _
-    (check_not_29 (table_of s.descriptors) (λ w. entry_at w q.fd (refusals_of takes.Files) (2 ^ 6 + 2 ^ 2)) _ (entry_never q.fd takes.Files (2 ^ 6 + 2 ^ 2)) c.in-Err.ensures)
-    c.requires.set_up c.requires.set_up.buffers c.requires.set_up.piece refl
-    (volume_rests g.D.Device.honest g.D.Device.disk g.D.Device.size g.D.Device.failures s.volume) (no_more (table_of s.descriptors))
-    (λ h b.
-    let w = world_of (state_of s) b in
-    refused_first w m run s.volume _ refl
-    ((λ i. fd_pwrite w m (sym asked.fd i) (sym asked.iovs i) (sym asked.count i) (sym c.long-offset.ensures i) (sym asked.result_at i))
-    ∙ stops _ _ _ (c.in-Err.ensures w refl)))
+    refused_check g.D.Device.honest g.D.Device.disk g.D.Device.size g.D.Device.failures g.R.Read.remaining g.W1.Write.contents g.W2.Write.contents
+    call.FdPwrite used c.args.arguments.now c.args.self.now c.requires.set_up m q (λ w. entry_at w q.fd only_files (2 ^ 6 + 2 ^ 2)) (λ w o bs. written_at_offset w o c.long-offset.result (gathered m bs) q.result_at)
+    (λ w i. fd_pwrite w m (sym asked.fd i) (sym asked.iovs i) (sym asked.count i) (sym c.long-offset.ensures i) (sym asked.result_at i))
+    _ (entry_never q.fd takes.Files (2 ^ 6 + 2 ^ 2)) c.in-Err.ensures
 
 pub returns-in-Err-find_buffers : goal.returns-in-Err-find_buffers
 returns-in-Err-find_buffers g c = λ used.
-    let s = c.args.self.now in
     let m = c.args.memory.now in
-    let a = c.args.arguments.now in
     let q = c.new-request.result in
     let asked = c.new-request.ensures in
-    let o = c.in-Ok.opened in
-    let run : World → Checked Done = λ w. fd_pwrite w m (word a 0) (word a 1) (word a 2) (long a 3) (word a 4) in
-    serves_roomy g.D.Device.honest g.D.Device.disk g.D.Device.size g.D.Device.failures g.R.Read.remaining g.W1.Write.contents g.W2.Write.contents
-    call.FdPwrite used a s (record s { buffers = c.find_buffers.new.room }) m m _
-    (not_29 (usable m q.iovs q.count q.result_at) _ (usable_never m q.iovs q.count q.result_at) c.in-Err-find_buffers.ensures.found)
-    c.requires.set_up c.find_buffers.ensures.place c.requires.set_up.piece refl
-    (volume_rests g.D.Device.honest g.D.Device.disk g.D.Device.size g.D.Device.failures s.volume) (no_more (table_of s.descriptors))
-    (λ h b.
-    let w = world_of (state_of s) b in
-    refused_first w m run s.volume _ refl
-    ((λ i. fd_pwrite w m (sym asked.fd i) (sym asked.iovs i) (sym asked.count i) (sym c.long-offset.ensures i) (sym asked.result_at i))
-    ∙ (goes_on _ _ o (c.in-Ok.ensures w refl)
-    ∙ (usable_row m q.iovs q.count q.result_at (λ bs. written_at_offset w o c.long-offset.result (gathered m bs) q.result_at) ∙ stops _ _ _ c.in-Err-find_buffers.ensures.found))))
+    refused_buffers g.D.Device.honest g.D.Device.disk g.D.Device.size g.D.Device.failures g.R.Read.remaining g.W1.Write.contents g.W2.Write.contents
+    call.FdPwrite used c.args.arguments.now c.args.self.now c.requires.set_up m q (λ w. entry_at w q.fd only_files (2 ^ 6 + 2 ^ 2)) (λ w o bs. written_at_offset w o c.long-offset.result (gathered m bs) q.result_at)
+    (λ w i. fd_pwrite w m (sym asked.fd i) (sym asked.iovs i) (sym asked.count i) (sym c.long-offset.ensures i) (sym asked.result_at i))
+    c.in-Ok.opened c.in-Ok.ensures c.find_buffers.new.room _ c.find_buffers.ensures.place c.in-Err-find_buffers.ensures.found
 
 pub write_at-requires-clause-file : goal.write_at-requires-clause-file
 write_at-requires-clause-file g c =
@@ -70,9 +44,7 @@ write_at-requires-clause-file g c =
 
 pub write_at-requires-clause-usable : goal.write_at-requires-clause-usable
 write_at-requires-clause-usable g c =
-    let q = c.new-request.result in
-    subst (λ (bs : List Span). AreUsable c.args.memory.now (list_of bs) q.result_at) (sym c.as_slice-buffers.ensures.value)
-    c.in_default.ensures.usable
+    shown_usable _ _ _ _ c.as_slice-buffers.ensures.value c.in_default.ensures.usable
 
 pub returns : goal.returns
 returns g c = λ used.
@@ -84,24 +56,17 @@ returns g c = λ used.
     let o = c.in-Ok.opened in
     let offset = c.long-offset.result in
     let bs = list_of c.as_slice-buffers.result.now in
-    let run : World → Checked Done = λ w. fd_pwrite w m (word a 0) (word a 1) (word a 2) (long a 3) (word a 4) in
-    let new = record s {
-      volume = c.write_at.new.volume;
-      buffers = c.find_buffers.new.room;
-    } in
-    let found : list_of c.find_buffers.new.room.items ≡ bs =
-    ap list_of (sym c.as_slice-buffers.ensures.value) in
-    let same : (w : World) → w.table ≡ table_of s.descriptors → run w ≡ written_at_offset w o offset (gathered m bs) q.result_at = λ w table.
-    (λ i. fd_pwrite w m (sym asked.fd i) (sym asked.iovs i) (sym asked.count i) (sym c.long-offset.ensures i) (sym asked.result_at i))
-    ∙ (goes_on _ _ o (c.in-Ok.ensures w table)
-    ∙ (usable_row m q.iovs q.count q.result_at (λ bs. written_at_offset w o offset (gathered m bs) q.result_at)
-    ∙ goes_on _ _ bs (c.in_default.ensures.found ∙ ap Ok found))) in
+    let same = after_buffers g.D.Device.honest g.D.Device.disk g.D.Device.size g.D.Device.failures g.R.Read.remaining g.W1.Write.contents g.W2.Write.contents
+    call.FdPwrite used a s c.requires.set_up m q (λ w. entry_at w q.fd only_files (2 ^ 6 + 2 ^ 2)) (λ w o bs. written_at_offset w o offset (gathered m bs) q.result_at)
+    (λ w i. fd_pwrite w m (sym asked.fd i) (sym asked.iovs i) (sym asked.count i) (sym c.long-offset.ensures i) (sym asked.result_at i))
+    o c.in-Ok.ensures c.find_buffers.new.room.items _ c.as_slice-buffers.ensures.value c.in_default.ensures.found in
+    let new = record s { volume = c.write_at.new.volume; buffers = c.find_buffers.new.room } in
     serves_roomy g.D.Device.honest g.D.Device.disk g.D.Device.size g.D.Device.failures g.R.Read.remaining g.W1.Write.contents g.W2.Write.contents
     call.FdPwrite used a s new m c.write_at.new.memory (errno_of c.write_at.result) c.write_at.ensures.io c.requires.set_up c.find_buffers.ensures.place c.requires.set_up.piece refl
     c.write_at.ensures.step (no_more (table_of s.descriptors))
     (λ h b.
     let w = world_of (state_of s) b in
-    answered_so run (λ v. written_at_offset v o offset (gathered m bs) q.result_at) w (λ v table tree. same v table) m _ _ _ (c.write_at.ensures.answered (h refl) w refl))
+    answered_so (λ v. row call.FdPwrite v m used a) (λ v. written_at_offset v o offset (gathered m bs) q.result_at) w (λ v table tree. same v table) m _ _ _ (c.write_at.ensures.answered (h refl) w refl))
 
 pub write_at-requires-clause-few : goal.write_at-requires-clause-few
 write_at-requires-clause-few g c = omega (arith, c.as_slice-buffers.ensures.len, c.in_default.ensures.few)

@@ -1,16 +1,23 @@
-use Rattle.std.proofs.Common.{refl, sym}
+use Rattle.std.proofs.Common.{◌≡◌, ◌^◌, ℕ, List, ◌∙◌, refl, sym}
+use Rattle.vol_inode.specs.declared.entry.Kind.TheVariants as nodes
 use Rattle.wasm_store.specs.declared.call.HostCall.TheVariants as call
+use Rattle.wasi_calls.specs.World.{World}
 use Rattle.wasi_calls.specs.paths.Rows.{path_remove_directory}
 use Rattle.wasi_calls.specs.host.Worlds.{world_of}
 use Rattle.wasi_calls.specs.internal.Bodies.{state_of}
+use Rattle.wasi_calls.specs.internal.paths.Removing.{remove}
+use Rattle.wasi_calls.proofs.bodies.AskingCalls.{and_then_assoc, ok_then}
 use Rattle.wasi_calls.proofs.bodies.PlainCalls.{serves_volume}
 use Rattle.wasi_calls.proofs.host.inner.Inner.path_remove_directory.Goals as goal
+
+removes : (w : World) (m : List ℕ) (fd path len : ℕ) → path_remove_directory w m fd path len ≡ remove nodes.Directory w m fd (2 ^ 25) path len
+removes w m fd path len = simp (and_then_assoc, ok_then)
 
 pub returns : goal.returns
 returns g c = λ used.
     let s = c.args.self.now in
     let m = c.args.memory.now in
     serves_volume g.D.Device.honest g.D.Device.disk g.D.Device.size g.D.Device.failures g.R.Read.remaining g.W1.Write.contents g.W2.Write.contents
-    call.PathRemoveDirectory used c.args.arguments.now _ s c.path_remove_directory.new.volume m m _ refl c.path_remove_directory.ensures.io c.requires.set_up c.path_remove_directory.ensures.step
-    (λ w i. path_remove_directory w m (sym c.descriptor-fd.ensures i) (sym c.word-path.ensures i) (sym c.word-len.ensures i))
-    (λ h b. c.path_remove_directory.ensures.answered h (world_of (state_of s) b) refl refl)
+    call.PathRemoveDirectory used c.args.arguments.now _ s c.remove.new.volume m m _ refl c.remove.ensures.io c.requires.set_up c.remove.ensures.step
+    (λ w. (λ i. path_remove_directory w m (sym c.descriptor-fd.ensures i) (sym c.word-path.ensures i) (sym c.word-len.ensures i)) ∙ removes w m _ _ _)
+    (λ h b. c.remove.ensures.answered h (world_of (state_of s) b) refl refl)
