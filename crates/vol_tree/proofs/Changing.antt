@@ -17,7 +17,7 @@ use Rattle.vol_tree.specs.Tree.{Tree}
 use Rattle.vol_tree.specs.Opened.{Keeps, is_io, tree_in, slots_in}
 use Rattle.vol_tree.specs.Parts.{opened}
 use Rattle.vol_tree.specs.internal.Parts.{IsOpen, IsContent, AreTaken}
-use Rattle.vol_tree.specs.internal.Commits.{Commits, Reads}
+use Rattle.vol_tree.specs.internal.Commits.{Commits, ReadsOnly}
 use Rattle.vol_tree.specs.internal.Changes.{Changes, Stages}
 
 -- a crash leaves nothing new
@@ -30,10 +30,10 @@ nothing_done {D} {g} old h = leaves_same (g.disk (device_of old.log)) (λ c. ⊥
 pub quiet_then : {D : Type 0} {g : Ghosts D} (a b c : Parts D g) → (g.honest (device_of a.log) → g.honest (device_of b.log)) → IsQuiet a b → IsQuiet b c → IsQuiet a c
 quiet_then {D} {g} a b c on first second h = leaves_quiet (g.disk (device_of a.log)) (g.disk (device_of b.log)) (g.disk (device_of c.log)) (λ m. ⊥) (first h) (second (on h))
 
-pub no_reads : {D : Type 0} {g : Ghosts D} (old : Parts D g) → IsOpen old → has_failed old.log ≡ false → Reads old old false
+pub no_reads : {D : Type 0} {g : Ghosts D} (old : Parts D g) → IsOpen old → has_failed old.log ≡ false → ReadsOnly old old false
 no_reads old is ok = record { commits = no_commit old false is ok; quiet = nothing_done old; view = λ h. refl }
 
-pub reads_then : {D : Type 0} {g : Ghosts D} (a b c : Parts D g) (io : Bool) → Reads a b false → Reads b c io → Reads a c io
+pub reads_then : {D : Type 0} {g : Ghosts D} (a b c : Parts D g) (io : Bool) → ReadsOnly a b false → ReadsOnly b c io → ReadsOnly a c io
 reads_then a b c io first second = record {
   commits = commits_then a b c io first.commits second.commits;
   quiet = quiet_then a b c first.commits.kept.honest.0 first.quiet second.quiet;
@@ -41,7 +41,7 @@ reads_then a b c io first second = record {
 }
 
 -- a call that is refused, after reads or none
-pub refused : {D : Type 0} {g : Ghosts D} {X : Type 0} (meant : Result (Tree × X) Errno) (old new : Parts D g) (e : Errno) → Reads old new (is_io {X = X} (Err e))
+pub refused : {D : Type 0} {g : Ghosts D} {X : Type 0} (meant : Result (Tree × X) Errno) (old new : Parts D g) (e : Errno) → ReadsOnly old new (is_io {X = X} (Err e))
     → (g.honest (device_of old.log) → (meant ≡ Err e) ⊎ (e ≡ errno.Io)) → Changes meant old new (Err e)
 refused meant old new e reads why = record {
   is_open = reads.commits.is_open;

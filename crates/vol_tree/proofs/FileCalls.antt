@@ -25,7 +25,7 @@ use Rattle.vol_tree.specs.Stands.{Slots, entry_of}
 use Rattle.vol_tree.specs.Opened.{tree_in, data_sectors, geometry}
 use Rattle.vol_tree.specs.internal.Slots.{slot_of}
 use Rattle.vol_tree.specs.internal.Parts.{IsOpen}
-use Rattle.vol_tree.specs.internal.Commits.{Commits, Reads}
+use Rattle.vol_tree.specs.internal.Commits.{Commits, ReadsOnly}
 use Rattle.vol_tree.specs.internal.Changes.{Changes}
 use Rattle.vol_tree.proofs.Changing.{refused, done}
 use Rattle.vol_tree.proofs.Committing.{commits_then}
@@ -41,7 +41,7 @@ IsReserved v before after old new = need_of old ≤ before → (after + need_of 
 
 -- A call makes other bytes of those of a file, by `rewrite`. `old` are the parts when it begins, `one` those once the file's entry
 -- is read.
-module _ {D : Type 0} {g : Ghosts D} (old one : Parts D g) (file : ℕ) (d : Entry) (rewrite : List ℕ → List ℕ) (meant : Result (Tree × Unit {0}) Errno) (is : IsOpen old) (first : 1 ≤ file) (read : Reads old one false)
+module _ {D : Type 0} {g : Ghosts D} (old one : Parts D g) (file : ℕ) (d : Entry) (rewrite : List ℕ → List ℕ) (meant : Result (Tree × Unit {0}) Errno) (is : IsOpen old) (first : 1 ≤ file) (read : ReadsOnly old one false)
     (used : g.honest (device_of old.log) → is_file_at (tree_in (view old.log) old.numbers) file ≡ true)
     (found : g.honest (device_of old.log) → is_some (tree.entry (tree_in (view old.log) old.numbers) file) ≡ true → slot_of (view old.log) old.numbers file ≡ Some d)
     (meant_is : meant ≡ with_unit (if_it_fits (geometry old.numbers) (tree_in (view old.log) old.numbers) file (rewrite (bytes_at (tree_in (view old.log) old.numbers) file)))) where

@@ -12,7 +12,7 @@ use Rattle.vol_tree.specs.Tree.{Tree}
 use Rattle.vol_tree.specs.Opened.{Answers, LeavesAlone}
 use Rattle.vol_tree.specs.internal.Changes.{Changes}
 use Rattle.vol_tree.specs.Parts.{opened}
-use Rattle.vol_tree.specs.internal.Commits.{Commits, Reads}
+use Rattle.vol_tree.specs.internal.Commits.{Commits, ReadsOnly}
 use Rattle.vol_tree.specs.internal.Removals.{Fails}
 use Rattle.vol_tree.proofs.Committing.{crash_on}
 use Rattle.vol_tree.proofs.Changing.{IsQuiet, quiet_then, refused}
@@ -66,11 +66,11 @@ passed_err (Ok x) why P p io = absurd p
 passed_err (Err e) why P p io = p ∙ io
 
 -- a call that passes on why another one was refused
-pub refused_by : {D : Type 0} {g : Ghosts D} {X : Type 0} (Y : Type 0) (meant : Result (Tree × X) Errno) (old new : Parts D g) (r : Result X Errno) (why : Errno) → IsErrAnd r (λ e. e ≡ why) → Reads old new (is_io {X = Y} (Err why))
+pub refused_by : {D : Type 0} {g : Ghosts D} {X : Type 0} (Y : Type 0) (meant : Result (Tree × X) Errno) (old new : Parts D g) (r : Result X Errno) (why : Errno) → IsErrAnd r (λ e. e ≡ why) → ReadsOnly old new (is_io {X = Y} (Err why))
     → (g.honest (device_of old.log) → (meant ≡ Err why) ⊎ (why ≡ errno.Io)) → Changes meant old new r
 refused_by Y meant old new (Ok x) why p reads because = absurd p
 refused_by {X = X} Y meant old new (Err e) why p reads because =
-    refused meant old new e (subst (λ (io : Bool). Reads old new io) (same_io Y X why ∙ ap (λ (x : Errno). is_io {X = X} (Err x)) (sym p)) reads)
+    refused meant old new e (subst (λ (io : Bool). ReadsOnly old new io) (same_io Y X why ∙ ap (λ (x : Errno). is_io {X = X} (Err x)) (sym p)) reads)
     (λ h. ⊎_elim (λ is. inl (is ∙ ap (λ (x : Errno). Err x) (sym p))) (λ io. inr (p ∙ io)) (because h))
 
 left_alone : {D : Type 0} {g : Ghosts D} {X : Type 0} (a b c : Parts D g) (r : Result X Errno) → (g.honest (device_of a.log) → g.honest (device_of b.log)) → IsQuiet a b
@@ -79,7 +79,7 @@ left_alone a b c (Ok x) on first second h = tt
 left_alone a b c (Err e) on first second h = λ other. quiet_then a b c on first (λ h1. second h1 other) h
 
 -- a call that changes what reads left
-pub changes_after : {D : Type 0} {g : Ghosts D} {X : Type 0} (meant other : Result (Tree × X) Errno) (a b c : Parts D g) (r : Result X Errno) → Reads a b false → Changes other b c r
+pub changes_after : {D : Type 0} {g : Ghosts D} {X : Type 0} (meant other : Result (Tree × X) Errno) (a b c : Parts D g) (r : Result X Errno) → ReadsOnly a b false → Changes other b c r
     → (g.honest (device_of a.log) → other ≡ meant) → Changes meant a c r
 changes_after {D} {g} {X} meant other a b c r reads second same = record {
   is_open = second.is_open;

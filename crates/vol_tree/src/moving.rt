@@ -21,7 +21,7 @@ impl<D: Device> Parts<D> {
     ghost use Rattle.vol_tree.specs.internal.Changes.{Changes};
     ghost use Rattle.vol_tree.specs.Parts.{opened};
     ghost use Rattle.vol_tree.specs.internal.Parts.{IsOpen};
-    ghost use Rattle.vol_tree.specs.internal.Commits.{Reads};
+    ghost use Rattle.vol_tree.specs.internal.Commits.{ReadsOnly};
     ghost use Rattle.vol_tree.specs.internal.Moves.{MovesToName, MovesIn, IsAbove, MovesTo};
 
     /// Gives an entry another place or name, in place of the one that has it.
@@ -114,7 +114,7 @@ impl<D: Device> Parts<D> {
         requires last { directory ≤ self.old.numbers.slots }
         requires used { D.honest (device_of self.old.log)
             → IsDirectory (opened self.old).tree directory }
-        ensures reads { Reads self.old self.new (is_io result) }
+        ensures reads { ReadsOnly self.old self.new (is_io result) }
         ensures answer { D.honest (device_of self.old.log) → MatchResult result
             (λ within. within ≡ is_within (length (opened self.old).tree) (opened self.old).tree
             serial directory) (λ e. e ≡ Errno.Io) }
@@ -139,7 +139,7 @@ impl<D: Device> Parts<D> {
         requires is_open { IsOpen self.old }
         requires first { 1 ≤ serial }
         requires last { serial ≤ self.old.numbers.slots }
-        ensures reads { Reads self.old self.new (is_io result) }
+        ensures reads { ReadsOnly self.old self.new (is_io result) }
         ensures range { IfOk result (λ p. (1 ≤ p) × (p ≤ self.old.numbers.slots)) }
         ensures answer { D.honest (device_of self.old.log) → serial ≢ 1
             → IsSome (entry (opened self.old).tree serial)

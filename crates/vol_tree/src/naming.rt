@@ -20,7 +20,7 @@ impl<D: Device> Parts<D> {
     ghost use Rattle.vol_tree.specs.internal.Changes.{Changes};
     ghost use Rattle.vol_tree.specs.Parts.{opened};
     ghost use Rattle.vol_tree.specs.internal.Parts.{IsOpen};
-    ghost use Rattle.vol_tree.specs.internal.Commits.{Reads};
+    ghost use Rattle.vol_tree.specs.internal.Commits.{ReadsOnly};
     ghost use Rattle.vol_tree.specs.internal.Removals.{IsBare, Removes, TakesOut};
 
     /// Takes a file out of its directory, and its space back.
@@ -79,7 +79,7 @@ impl<D: Device> Parts<D> {
         requires is_open { IsOpen self.old }
         requires first { 1 ≤ serial }
         requires last { serial ≤ self.old.numbers.slots }
-        ensures reads { Reads self.old self.new (is_io result) }
+        ensures reads { ReadsOnly self.old self.new (is_io result) }
         ensures right { IfOk result (λ e. IsEntry self.old.numbers.version e) }
         ensures held { IfOk result (λ e. Names self.new.dirs e.parent (name_of e) serial) }
         ensures found { D.honest (device_of self.old.log) → serial ≢ 1

@@ -1,4 +1,9 @@
 //! Calls on paths.
+//!
+//! Clauses that each call has. On any device: `step` (what a call leaves of the volume and of its crash images), `io` (29 is answered
+//! only where the volume has failed), `works` (after an `Ok` it still works, and was only asked), `reached` (what is reached is an
+//! entry). On one that keeps its model: `place` (what is missing may be made in its directory), `asks` (the answer is that of this
+//! part of the row).
 
 pub mod calls;
 pub mod opening;

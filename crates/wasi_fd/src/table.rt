@@ -10,7 +10,7 @@ use std::alloc::{AllocError, Global};
 use vol_inode::Serial;
 
 /// How many descriptors can be open at once, the three streams and the preopened directories among them. Numbers from here on
-/// name none.
+/// name none. At least three and `MOST_PREOPENS` of `wasi_calls`.
 pub const PLACES: usize = 256;
 
 /// What each descriptor of a guest stands for. Its places are reserved when it is made; no other

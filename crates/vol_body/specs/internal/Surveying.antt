@@ -36,8 +36,9 @@ pub record Pushes (first end : ℕ) (old new numbers : List ℕ) : Type 0 where
 abbrev pub Overflows : ℕ → ℕ → List ℕ → List ℕ → Type 0
 Overflows first end old numbers = AreInside first end (old ++ nonzero numbers) → ⊥
 
--- A step of a survey pushes these numbers, and finds that none stands past the file's size. A damage is that it does, or
--- that not all numbers would be inside the range.
+-- A step of a survey pushes these numbers but for zeros, and finds that no number stands past the file's size. It is refused as
+-- damaged only where one does, or where not all would be inside the range or as few as it has sectors. On any device what is pushed
+-- is inside; the rest is of one that keeps its model.
 pub record Surveys {D : Type 0} {g : Ghosts D} (first end : ℕ) (old new : Log D g) (before after numbers : List ℕ) (NonePast : Type 0) (result : Result (Unit {0}) VolumeFault) : Type 0 where
   pub pushes : g.honest (device_of old) → OnOk result (Pushes first end before after numbers)
   pub past : g.honest (device_of old) → OnOk result NonePast

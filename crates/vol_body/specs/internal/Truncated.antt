@@ -16,11 +16,13 @@ kept_bytes size indirect_block = 4 * min NUMBERS (blocks_for_size size - DIRECT)
 kept_bytes size double_indirect_block = 4 * min NUMBERS (inner_blocks_for (blocks_for_size size - LISTED))
 kept_bytes size (inner_block i) = 4 * min NUMBERS (blocks_for_size size - (LISTED + NUMBERS * i))
 
--- the data block that this size ends in; with the next one and the double-indirect block the only ones of which a beginning is kept
+-- The data block that the first byte past this size falls in: at a border of blocks the next one, of which nothing is kept. Only of
+-- this block, of `cut_segment` and of the double-indirect block may a part be kept.
 abbrev pub cut_data_block : ℕ → BlockPosition
 cut_data_block size = data_block (size / 512)
 
--- the pointer sector that lists it; where the entry itself names it, the indirect block, of which nothing is kept
+-- The pointer sector (`segment`) that lists `cut_data_block`. Where the entry names that one itself, it is the indirect block, of
+-- which nothing is kept then.
 abbrev pub cut_segment : ℕ → BlockPosition
 cut_segment size = segment (segment_of (size / 512))
 

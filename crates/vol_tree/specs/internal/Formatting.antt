@@ -12,7 +12,7 @@ use Rattle.vol_dirs.specs.Slots.{slot_sector}
 abbrev pub root_entry : Entry
 root_entry = record { kind = Directory; name_length = 0; parent = 0; size = 0; name = replicate 255 0; pointers = replicate 60 0 }
 
--- the slot of a new volume: the root in the first one
+-- the slot of a new volume, that of serial s + 1: the root in the first one
 abbrev pub fresh_slot : ℕ → List ℕ
 fresh_slot s = if s == 0 then spelling root_entry else unused
 
@@ -20,7 +20,8 @@ fresh_slot s = if s == 0 then spelling root_entry else unused
 abbrev pub HasFreshSlots : ℕ → Image → Type 0
 HasFreshSlots slots image = (s : ℕ) → s < slots → image (slot_sector (s + 1)) ≡ fresh_slot s
 
--- a new volume after its first sector: the log is empty, and the slots hold only the root
+-- What a new volume has beside its superblock in sector 0: an empty header of the log in sector 1, and slots that hold only the
+-- root. Of all other sectors nothing is asked.
 pub record IsFresh (slots : ℕ) (image : Image) : Type 0 where
   pub log : image 1 ≡ header_bytes []
   pub entries : HasFreshSlots slots image

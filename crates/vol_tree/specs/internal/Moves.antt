@@ -5,7 +5,7 @@ use Rattle.vol_log.specs.Log.{device_of}
 use Rattle.vol_tree.specs.declared.parts.Parts.{Parts}
 use Rattle.vol_tree.specs.Tree.{Tree, Path, Name, Entry, entry, Leads, IsDirectory}
 use Rattle.vol_tree.specs.Calls.{moved, is_within}
-use Rattle.vol_tree.specs.internal.Commits.{Reads}
+use Rattle.vol_tree.specs.internal.Commits.{ReadsOnly}
 use Rattle.vol_tree.specs.Parts.{opened}
 use Rattle.vol_tree.specs.internal.Parts.{IsOpen}
 use Rattle.vol_tree.specs.internal.Changes.{Stages}
@@ -36,7 +36,7 @@ pub record MovesTo {D : Type 0} {g : Ghosts D} (serial parent : ℕ) (name : Nam
 
 -- After some steps up from the directory the way has come to this one, and what is above it decides.
 pub record ClimbsTo {D : Type 0} {g : Ghosts D} (start now : Parts D g) (serial directory step at : ℕ) : Type 0 where
-  pub reads : Reads start now false
+  pub reads : ReadsOnly start now false
   pub first : 1 ≤ at
   pub last : at ≤ start.numbers.slots
   pub used : g.honest (device_of start.log) → IsSome (entry (opened start).tree at)

@@ -14,7 +14,7 @@ use Rattle.wasi_fd.specs.Rights.{bits_of, file_rights, directory_rights}
 use Rattle.wasi_calls.specs.World.{World, with_descriptor, least_closed, held_open}
 use Rattle.wasi_calls.specs.Checks.{Checked, ◌>>=◌, ◌>>◌, guard, get, of_kind, has, opened_entry, entry_at, only_directories, range, walk, tree_call, found, Done, only_world, with_result}
 use Rattle.wasi_calls.specs.descriptors.Rows.{entry_stat}
-use Rattle.wasi_calls.specs.Errnos.{BUSY, EXIST, INVAL, ISDIR, NOENT, NOTCAPABLE, NOTDIR, NOTEMPTY, NOTSUP}
+use Rattle.wasi_calls.specs.Errnos.{BUSY, EXIST, INVAL, ISDIR, MFILE, NOENT, NOTCAPABLE, NOTDIR, NOTEMPTY, NOTSUP}
 use Rattle.wasi_fd.specs.declared.table.TheConstants.{PLACES}
 use Rattle.wasi_fd.specs.Rights.{PATH_CREATE_DIRECTORY, PATH_CREATE_FILE, PATH_OPEN, PATH_FILESTAT_SET_SIZE, PATH_FILESTAT_GET, PATH_REMOVE_DIRECTORY, PATH_RENAME_SOURCE, PATH_RENAME_TARGET, PATH_UNLINK_FILE}
 
@@ -129,9 +129,9 @@ new_descriptor T directory serial base inheriting fdflags =
       guest_name = None;
     })
 
--- the least number that stands for nothing
+-- the least number that stands for nothing, or MFILE where there is none
 abbrev pub new_number : World → Checked ℕ
-new_number w = ok_or (least_closed PLACES 0 w.table) 33
+new_number w = ok_or (least_closed PLACES 0 w.table) MFILE
 
 -- path_open(fd, flags, path, length, oflags, base, inheriting, fdflags, result)
 abbrev pub path_open : World → List ℕ → ℕ → ℕ → ℕ → ℕ → ℕ → ℕ → ℕ → ℕ → Checked Done

@@ -105,7 +105,8 @@ fn removable<D: Device>(
     }
 }
 
-/// Takes out an entry of this kind: a file, or a directory that is empty.
+/// Takes out an entry of this kind. A directory that isn't empty is refused as `NotEmpty`, the root as `Invalid`. That no
+/// descriptor has the entry was looked at by `removable`.
 fn take_out<D: Device>(
     volume: &mut Volume<D>,
     kind: Kind,

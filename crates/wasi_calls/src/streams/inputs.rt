@@ -89,7 +89,7 @@ fn read_some<R: Read>(
 }
 
 /// Reads into memory from a place on until this many bytes came or the input ends, which it marks, and says how many came. After
-/// a failure what came before stands in memory, uncounted.
+/// a failure what came before stands in memory, uncounted. The reader's failure is marked by `read_stream`, not here.
 fn fill<R: Read>(
     input: &mut Input<R>,
     piece: &mut [u8],
@@ -97,6 +97,9 @@ fn fill<R: Read>(
     start: usize,
     len: usize,
 ) -> Result<usize, ReaderFailed>
+    // `room` to `goes_on` are asked for. An `Ok` has the bytes that `came`, and how many they are (`full`, `short`); an `Err`
+    // leaves the input open (`still`) and what came by then (`broke`); either way the memory keeps its length (`long`), a marked
+    // end is the reader's (`end`), and the mark of failure is as it was (`mark`).
     requires room { 0 < length piece.old }
     requires small { start + len < 2 ^ 64 }
     requires inside { start + len ≤ length memory.old }
@@ -132,9 +135,7 @@ fn fill_next<R: Read>(
     memory: &mut Memory,
     buffer: Span,
 ) -> Result<usize, ReaderFailed>
-    // `room` to `end` are asked for. An `Ok` has the bytes that `came`, how many they are (`full`, `short`, `small`), and `none`
-    // after the end; an `Err` leaves the input open (`still`) and what came by then (`broke`); either way the memory keeps its
-    // length (`long`), a marked end is the reader's (`end`), and the mark of failure is as it was (`mark`).
+    // The groups of `fill`, with how many bytes there may be (`small`) and `none` after the end.
     requires room { 0 < length piece.old }
     requires inside { buffer.pointer + buffer.len ≤ length memory.old }
     requires end { input.old.ended ≡ true → IsAtEnd (R.remaining input.old.reader) }

@@ -7,6 +7,7 @@ use Rattle.vol_tree.specs.Tree.{Tree}
 use Rattle.vol_tree.specs.Calls.{directory_at, directory_removed, unlinked}
 use Rattle.wasi_calls.specs.World.{World, held_open}
 use Rattle.wasi_calls.specs.Checks.{Checked, Done, ◌>>=◌, ◌>>◌, guard, found, tree_call, only_world}
+use Rattle.wasi_calls.specs.Errnos.{BUSY, ISDIR, NOTDIR}
 use Rattle.wasi_calls.specs.internal.paths.Walks.{reached_from}
 
 -- what a path finds
@@ -20,14 +21,14 @@ is_kind nodes.File is_directory = not is_directory
 
 -- the errno for an entry of the other kind
 abbrev pub other_kind : Kind → ℕ
-other_kind nodes.Directory = 54
-other_kind nodes.File = 31
+other_kind nodes.Directory = NOTDIR
+other_kind nodes.File = ISDIR
 
 -- it is of this kind, and no descriptor has it
 abbrev pub removal_checked : Kind → Bool → Bool → Checked (Unit {0})
 removal_checked kind is_directory held = do
   guard (is_kind kind is_directory) (other_kind kind)
-  guard (not held) 10
+  guard (not held) BUSY
 
 -- what a path finds, where that holds
 abbrev pub removable : Kind → World → List ℕ → ℕ → ℕ → ℕ → ℕ → Checked ℕ

@@ -7,7 +7,7 @@ use Rattle.vol_inode.specs.declared.entry.Entry.{Entry}
 use Rattle.vol_inode.specs.Entry.{name_of}
 use Rattle.vol_dirs.specs.Names.{Names}
 use Rattle.vol_tree.specs.internal.Slots.{slot_of}
-use Rattle.vol_tree.specs.internal.Commits.{Reads}
+use Rattle.vol_tree.specs.internal.Commits.{ReadsOnly}
 use Rattle.vol_tree.specs.Stands.{Slots}
 use Rattle.vol_tree.proofs.Children.{is_found}
 use Rattle.vol_tree.proofs.Finding.{looks_up}
@@ -28,7 +28,7 @@ returns-in_err-entry g c =
     let x = c.in_err-entry.field-0.0 in
     let e = c.in_err-entry.ensures in
     record {
-      reads = subst (λ (io : Bool). Reads c.args.self.now c.entry.new.self io) (passed_io Entry r x is) e.reads;
+      reads = subst (λ (io : Bool). ReadsOnly c.args.self.now c.entry.new.self io) (passed_io Entry r x is) e.reads;
       right = IfOk-from_err r _ is_err_now;
       held = IfOk-from_err r _ is_err_now;
       found = λ h other used. passed_err r x _ is (e.found h used);

@@ -9,7 +9,7 @@ use Rattle.vol_tree.specs.internal.Moves.{IsAbove}
 use Rattle.vol_tree.proofs.Climbing.{within_here, within_root, within_step, above_used}
 use Rattle.vol_tree.proofs.Changing.{no_reads, reads_then}
 use Rattle.vol_tree.proofs.Taking.{passed_io, passed_err}
-use Rattle.vol_tree.specs.internal.Commits.{Reads}
+use Rattle.vol_tree.specs.internal.Commits.{ReadsOnly}
 use Rattle.vol_tree.proofs.Entries.{directory_used}
 use Rattle.vol_tree.proofs.Finding.{length_tree}
 use Rattle.vol_tree.proofs.parts.Parts.is_within.Goals as goal
@@ -55,7 +55,7 @@ above-requires-clause-last g c =
 pub returns-in_err-at-clause-reads : goal.returns-in_err-at-clause-reads
 returns-in_err-at-clause-reads g c =
     let io = passed_io ℕ c.from_residual.result c.in_err-at.field-0.0 c.from_residual.ensures.1 in
-    subst (λ (b : Bool). Reads c.args.self.now c.above.new.self b) io (reads_then c.args.self.now c.loop-step.self c.above.new.self _ c.loop-step.invariant.reads c.in_err-at.ensures.reads)
+    subst (λ (b : Bool). ReadsOnly c.args.self.now c.above.new.self b) io (reads_then c.args.self.now c.loop-step.self c.above.new.self _ c.loop-step.invariant.reads c.in_err-at.ensures.reads)
 
 pub returns-in_err-at-clause-answer : goal.returns-in_err-at-clause-answer
 returns-in_err-at-clause-answer g c h =

@@ -11,7 +11,7 @@ use Rattle.vol_tree.specs.Calls.{moved, with_unit}
 use Rattle.vol_tree.specs.Stands.{Slots}
 use Rattle.vol_tree.specs.Opened.{tree_in, slots_in}
 use Rattle.vol_tree.specs.internal.Slots.{slot_of}
-use Rattle.vol_tree.specs.internal.Commits.{Reads}
+use Rattle.vol_tree.specs.internal.Commits.{ReadsOnly}
 use Rattle.vol_tree.specs.internal.Moves.{MovesToName}
 use Rattle.vol_tree.specs.internal.Replacing.{replacing}
 use Rattle.vol_tree.proofs.Committing.{commits_then, no_commit}
@@ -78,7 +78,7 @@ returns-in_err-may_replace g c =
     let e = c.in_err-may_replace.field-0.0 in
     let why : replacing k t f ≡ Err e = ap (replacing k t) (sym c.is_some.ensures) ∙ sym c.in_err-may_replace.ensures in
     let io : is_io {X = Unit {0}} (Err e) ≡ false = ap is_io (sym why) ∙ never_io k t f in
-    refused_by (Unit {0}) _ old two c.from_residual-in_err-may_replace.result e c.from_residual-in_err-may_replace.ensures.1 (subst (λ (b : Bool). Reads old two b) (sym io) (reads_then old one two false c.in_ok-entry.ensures.reads c.in_ok-gone.ensures.reads)) (λ h.
+    refused_by (Unit {0}) _ old two c.from_residual-in_err-may_replace.result e c.from_residual-in_err-may_replace.ensures.1 (subst (λ (b : Bool). ReadsOnly old two b) (sym io) (reads_then old one two false c.in_ok-entry.ensures.reads c.in_ok-gone.ensures.reads)) (λ h.
     let read = are_read old one c.args.serial c.args.parent c.args.target c.args.name.now c.in_ok-entry.entry c.in_ok-gone.gone c.in_ok-child.child c.requires.is_open first h c.requires.first c.requires.target_first c.requires.name (c.requires.moves h) (c.requires.there h) c.in_ok-child.ensures.found (c.in_ok-entry.ensures.found h) (c.in_ok-gone.ensures.found (first.kept.honest.0 h)) in
     inl (ap with_unit (onto_refused T c.args.serial c.args.parent c.args.target c.args.name.now k t f c.requires.other read.kind_one read.kind_other read.full_is e why)))
 
