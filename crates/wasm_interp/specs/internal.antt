@@ -1,8 +1,9 @@
--- Definitions that only private contracts and proofs cite. `Plain` is of the plain machine alone, `Fast` of the fast loop.
+-- Definitions that only private contracts and proofs cite, and those that `Machine.antt` names. `Plain` is of the plain machine alone, `Fast` of the fast loop.
 pub mod BranchTables
 pub mod Standing
 pub mod Programs
 pub mod Driving
+pub mod HeldState
 pub mod Plain
 pub mod Running
 pub mod Signatures

@@ -3,4 +3,4 @@ use Rattle.wasm_interp.proofs.laws.machines_show_their_stores.Goals as goal
 
 pub returns : goal.returns
 unfolding Represents
-returns c = λ s i d stands. stands.shows
+returns c = λ s i d stands. stands.0
