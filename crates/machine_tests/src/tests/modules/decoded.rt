@@ -64,7 +64,8 @@ fn has_memory(module: &Module<'_>, limits: Limits) -> bool {
     module.memories.as_slice() == [limits].as_slice()
 }
 
-/// Where the only body stands, how many bytes and locals it has, where its instructions stand, and how many there are.
+/// Where a body stands, how many bytes and declarations of locals (each a count and a type) it has, where its instructions stand, and
+/// how many there are.
 fn layout(body: &Body<'_>) -> [usize; 5] {
     [
         body.bytes.offset() as usize,
