@@ -10,7 +10,7 @@ pub mod Sources
 pub mod Space
 pub mod Added
 pub mod Steps
-pub mod Surveys
+pub mod SurveyExits
 pub mod Surveyed
 pub mod Repeats
 pub mod Loads

@@ -13,7 +13,7 @@ use Rattle.vol_alloc.specs.Numbers.{AreDistinct}
 use Rattle.vol_inode.specs.declared.entry.Entry.{Entry}
 use Rattle.vol_body.specs.Body.{BlockPosition, data_block, indirect_block, double_indirect_block, inner_block, IsPosition, named, IsBody}
 use Rattle.vol_body.specs.Survey.{data_blocks_from, inner_positions, all_inner_positions, every_position, nonzero, sectors_named}
-use Rattle.vol_body.proofs.Surveys.{nonzero-append, one_number}
+use Rattle.vol_body.proofs.SurveyExits.{nonzero-append, one_number}
 use Rattle.vol_body.proofs.Surveyed.{every_is, was_there}
 
 -- ---- each position has a number, at which it stands in the list

@@ -16,7 +16,7 @@ use Rattle.vol_body.specs.Change.{NamesSector}
 use Rattle.vol_body.specs.Survey.{data_blocks_from, inner_positions, all_inner_positions, every_position, nonzero, sectors_named, AreInside, IsTrimmed}
 use Rattle.vol_body.specs.internal.Surveying.{listed, with_listed, all_listed, ListsNoneFrom, LaterNone, NamesNonePast, NamesBelow, EndsInZeros}
 use Rattle.vol_body.proofs.Places.{part_direct, part_listed, part_later}
-use Rattle.vol_body.proofs.Surveys.{nonzero-append, one_number, number_listed, length-listed}
+use Rattle.vol_body.proofs.SurveyExits.{nonzero-append, one_number, number_listed, length-listed}
 use Rattle.vol_inode.specs.declared.version.TheConstants.{LARGEST_SIZE}
 
 -- ---- every position stands in the list

@@ -159,7 +159,7 @@ fn survey_indirect_block<D: Device>(
 }
 
 /// Pushes the numbers of the inner blocks and those that they list. None may stand for a data block from `count` on: the i-th
-/// inner block lists those from `LISTED + NUMBERS * i` on. One that lies wholly past `count` may list nothing (`from` is 0), and
+/// inner block lists those from `LISTED + NUMBERS * i` on. One that lies wholly past `count` must list nothing (`from` is 0), and
 /// a 0 among the inner blocks is no block.
 fn survey_inner_blocks<D: Device>(
     log: &mut Log<D>,

@@ -9,7 +9,7 @@ use Rattle.vol_alloc.specs.Numbers.{AreDistinct}
 use Rattle.vol_body.specs.Survey.{AreInside}
 use Rattle.vol_body.proofs.Repeats.{few_in_range}
 use Rattle.vol_body.proofs.Surveyed.{not_in_both}
-use Rattle.vol_body.proofs.Surveys.{inside_left}
+use Rattle.vol_body.proofs.SurveyExits.{inside_left}
 
 pub distinct_left : (xs ys : List ℕ) → AreDistinct (xs ++ ys) → AreDistinct xs
 distinct_left xs ys distinct j k lt below same =

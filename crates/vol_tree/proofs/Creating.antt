@@ -21,7 +21,7 @@ use Rattle.vol_tree.specs.Space.{space}
 use Rattle.vol_tree.specs.Stands.{node_by, entry_of}
 use Rattle.vol_tree.specs.Opened.{slots_in, tree_in}
 use Rattle.vol_tree.specs.internal.Parts.{IsContent, AreTaken}
-use Rattle.vol_tree.proofs.Creates.{created_least}
+use Rattle.vol_tree.proofs.LeastSerial.{created_least}
 use Rattle.vol_tree.proofs.Grows.{created_grows}
 use Rattle.vol_tree.proofs.Adding.{created_is, created_exists, added_tree, added_reserved, added_front, added_content, added_taken, added_is, zero_at}
 use Rattle.vol_log.specs.declared.layout.TheConstants.{FIRST_AFTER_LOG}

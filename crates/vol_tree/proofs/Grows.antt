@@ -11,7 +11,7 @@ use Rattle.vol_tree.specs.Laws.{CreatesLeast, CreatedIsTree}
 use Rattle.vol_tree.specs.declared.errno.Errno.{Errno}
 use Rattle.vol_tree.specs.declared.errno.Errno.TheVariants as errno
 use Rattle.vol_tree.proofs.Entries.{used_within}
-use Rattle.vol_tree.proofs.Creates.{created_least}
+use Rattle.vol_tree.proofs.LeastSerial.{created_least}
 
 pub none_passes : (n : ℕ) (test : Option Entry → Bool) (T : Tree) → least_from n test T ≡ None → (i : ℕ) → i < length T → test (get_or T i None) ≡ false
 none_passes n test [] h i l = absurd (omega arith)

@@ -1,7 +1,7 @@
 pub mod Entries
 pub mod Moves
 pub mod Lookups
-pub mod Creates
+pub mod LeastSerial
 pub mod Determines
 pub mod Grows
 pub mod Within
@@ -43,8 +43,8 @@ pub mod WaysUp
 pub mod Checked
 pub mod AllNamed
 pub mod Refusals
-pub mod Passes
-pub mod Passed
+pub mod ChecksHold
+pub mod ChecksSuffice
 pub mod Openings
 pub mod FreshVolumes
 mod Fronts

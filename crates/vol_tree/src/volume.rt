@@ -233,7 +233,7 @@ impl<D: Device> Volume<D> {
     }
 
     /// What an entry is, and where it stands. It refuses with `Io` where the volume has failed or a read fails, and with `Invalid`
-    /// where a device that doesn't keep its model shows no entry in its slot, or one whose parent can be none.
+    /// where a device that doesn't keep its model shows no entry in its slot, or one whose parent's number is no serial of the volume.
     pub fn stat(&mut self, serial: Serial) -> Result<Stat, Errno>
         requires first { 1 ≤ serial }
         requires last { serial ≤ self.old.numbers.slots }

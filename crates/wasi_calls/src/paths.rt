@@ -3,7 +3,9 @@
 //! Clauses that each call has. On any device: `step` (what a call leaves of the volume and of its crash images), `io` (29 is answered
 //! only where the volume has failed), `works` (after an `Ok` it still works, and was only asked), `reached` (what is reached is an
 //! entry). On one that keeps its model: `place` (what is missing may be made in its directory), `asks` (the answer is that of this
-//! part of the row).
+//! part of the call's row, which is its definition over the world, `row` of `specs/Calls.antt`): an `Ok` is what that part gives,
+//! an `Err` has the number by which it refuses, or 29 where the volume fails. `w ≡ with_volume volume.old w` says that the world has
+//! this volume.
 
 pub mod calls;
 pub mod opening;
@@ -21,7 +23,7 @@ ghost use Rattle.wasi_calls.specs.World.{World};
 ghost use Rattle.wasi_calls.specs.host.Worlds.{VolumeStep};
 ghost use Rattle.wasi_calls.specs.internal.Bodies.{with_volume, KnowsEntries, errno_of};
 ghost use Rattle.wasi_calls.specs.internal.Asking.{Passes, Stops};
-ghost use Rattle.wasi_calls.specs.internal.paths.Walks.{StillWorks, Reaches, Places, FindsBytes, starting_directory, reached_from};
+ghost use Rattle.wasi_calls.specs.internal.paths.Walks.{StillWorks, ReachesFrom, Places, FindsBytes, starting_directory, reached_from};
 ghost use Rattle.wasi_calls.specs.paths.Rows.{path_filestat_get as stat_row, path_create_directory as create_row};
 
 use crate::checks::{Takes, check_range, entry_at, write_bytes};
@@ -41,7 +43,7 @@ pub(crate) fn reach<'p, D: Device>(
 ) -> Result<Reached<'p>, vol_tree::Errno>
     requires { IsEntryOf D.honest volume.old directory }
     ensures reaches { D.honest volume.old.device → (w : World) (o : _) (path : _) → o.serial ≡ directory → text.now ≡ path → w ≡ with_volume volume.old w
-        → Reaches volume.new w o path result }
+        → ReachesFrom volume.new w o path result }
     ensures kept { (volume.new ≡ volume.old) ⊎ Keeps D.honest D.size D.failures volume.old volume.new (is_io result) }
     ensures place { D.honest volume.old.device → Places volume.old.tree result }
     ensures works { IfOk result (λ r. StillWorks D.honest D.disk D.size D.failures volume.old volume.new) }

@@ -13,7 +13,7 @@ use Rattle.vol_body.specs.Bytes.{resized_bytes}
 use Rattle.vol_tree.specs.Calls.{directory_at, created, resized, with_bytes, bytes_at as tree_bytes}
 use Rattle.vol_tree.specs.Opened.{Opened as OpenedVolume, geometry, IsSerial}
 use Rattle.vol_tree.proofs.Trees.{is_directory_at}
-use Rattle.vol_tree.proofs.Creates.{created_least}
+use Rattle.vol_tree.proofs.LeastSerial.{created_least}
 use Rattle.vol_tree.proofs.Entries.{entry-changed_same}
 use Rattle.vol_inode.specs.Space.{size_limit}
 use Rattle.vol_tree.specs.declared.superblock.Superblock.{Superblock}
@@ -32,7 +32,7 @@ use Rattle.wasi_calls.specs.declared.paths.opening.Target.{Target}
 use Rattle.wasi_calls.specs.declared.paths.opening.Target.TheVariants as targets
 use Rattle.wasi_calls.specs.internal.Bodies.{with_volume}
 use Rattle.wasi_calls.specs.internal.Asking.{Passes, Stops, StopsNext}
-use Rattle.wasi_calls.specs.internal.paths.Opening.{open_part, open_entered, found_checked, missing_checked, ChecksAs, Reaches as Finds, IsTarget, made, with_serial, target_is_directory, with_both, AreSerials}
+use Rattle.wasi_calls.specs.internal.paths.Opening.{open_part, open_entered, found_checked, missing_checked, ChecksAs, ReachesTarget as Finds, IsTarget, made, with_serial, target_is_directory, with_both, AreSerials}
 use Rattle.wasi_calls.proofs.checks.Chains.{goes_on, stops}
 use Rattle.wasi_calls.proofs.checks.Passing.{passes_on, walked_to}
 use Rattle.wasi_calls.proofs.bodies.VolumeCalls.{never_after, never_guard, numbered_io, tree_called_alive, resized_never, created_never}

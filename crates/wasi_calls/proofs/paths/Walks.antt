@@ -20,7 +20,7 @@ use Rattle.wasi_calls.specs.Checks.{Checked, guard, numbered, walk, found}
 use Rattle.wasi_calls.specs.paths.Rows as rows
 use Rattle.wasi_calls.specs.host.Worlds.{VolumeStep}
 use Rattle.wasi_calls.specs.internal.Bodies.{with_volume}
-use Rattle.wasi_calls.specs.internal.paths.Walks.{Reaches, Places}
+use Rattle.wasi_calls.specs.internal.paths.Walks.{ReachesFrom, Places}
 use Rattle.wasi_calls.proofs.checks.Chains.{guard_passes, guard_fails, goes_on, stops}
 use Rattle.wasi_calls.proofs.bodies.PlainCalls.{volume_rests}
 use Rattle.wasi_calls.proofs.bodies.VolumeCalls.{gone, io_or, never_after, never_guard, never_if, ok_no_io, numbered_io, same_volume, was_working}
@@ -98,7 +98,7 @@ module _ {D : Type 0} (honest : D → Type 0) (disk : D → Disk) (sectors_on fa
       → path_read text ≡ Ok names → stays_inside 0 names ≡ b → w ≡ with_volume v w → v'.tree ≡ v.tree
       → GivesOrIo (resolved v.tree o.serial (wants_directory text) names) result
       → (b ≡ true → Keeps honest sectors_on failures v v' (is_io result)) → (b ≡ false → (v' ≡ v) × (result ≡ Err errno.NotCapable))
-      → Reaches v' w o text result
+      → ReachesFrom v' w o text result
   reaches_if true v v' w o text names (Ok r) read inside shown tree gives kept out =
       let k = kept refl in
       let working : v.failed ≡ false = was_working honest sectors_on failures v v' false k refl in
@@ -141,7 +141,7 @@ module _ {D : Type 0} (honest : D → Type 0) (disk : D → Disk) (sectors_on fa
       → path_read text ≡ Ok names → w ≡ with_volume v w → v'.tree ≡ v.tree
       → GivesOrIo (resolved v.tree o.serial (wants_directory text) names) result
       → (stays_inside 0 names ≡ true → Keeps honest sectors_on failures v v' (is_io result)) → (stays_inside 0 names ≡ false → (v' ≡ v) × (result ≡ Err errno.NotCapable))
-      → Reaches v' w o text result
+      → ReachesFrom v' w o text result
   reaches_by v v' w o text names result read shown tree gives kept out =
       reaches_if (stays_inside 0 names) v v' w o text names result read refl shown tree gives kept out
 

@@ -6,7 +6,7 @@ use Rattle.vol_inode.specs.Name.{IsName}
 use Rattle.vol_tree.specs.Tree.{Tree, Path, Name, Node, File, Entry as TreeEntry, entry, changed, Leads, IsTree, IsDirectory, root}
 use Rattle.vol_tree.specs.Calls.{is_directory, created}
 use Rattle.vol_tree.proofs.Entries.{entry-changed_same, entry-changed_other}
-use Rattle.vol_tree.proofs.Creates.{created_least}
+use Rattle.vol_tree.proofs.LeastSerial.{created_least}
 use Rattle.vol_tree.proofs.Grows.{created_grows}
 use Rattle.wasi_fd.specs.declared.descriptor.Descriptor.{Descriptor}
 use Rattle.wasi_fd.specs.declared.descriptor.Descriptor.TheVariants.{Entry}

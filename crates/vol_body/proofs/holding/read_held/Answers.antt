@@ -1,5 +1,5 @@
 use Rattle.std.proofs.Common.{◌≡◌, ◌∙◌, ap, ℕ, ◌/◌, sym, arith}
-use Rattle.vol_body.proofs.Surveys.{at_any_ok}
+use Rattle.vol_body.proofs.SurveyExits.{at_any_ok}
 use Rattle.vol_log.proofs.Readings.{reads_then}
 use Rattle.std.proofs.lemmas.Result.{IfOk-weaker, IfOk-from_err}
 use Rattle.vol_sector.specs.Disk.{Image}

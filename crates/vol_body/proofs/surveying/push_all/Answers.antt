@@ -1,7 +1,7 @@
 use Rattle.std.proofs.Common.{subst}
 use Rattle.std.proofs.lemmas.List.{take_all}
 use Rattle.vol_body.specs.internal.Surveying.{Pushes}
-use Rattle.vol_body.proofs.Surveys.{pushes_none, pushes_next, overflows_next, handed_on}
+use Rattle.vol_body.proofs.SurveyExits.{pushes_none, pushes_next, overflows_next, handed_on}
 use Rattle.std.proofs.lemmas.Result.{IfOk-from_err}
 use Rattle.vol_body.proofs.surveying.push_all.Goals as goal
 

@@ -1,6 +1,6 @@
 use Rattle.std.proofs.Common.{arith, rules}
 use Rattle.std.proofs.lemmas.Grind.{common_steps}
-use Rattle.vol_body.proofs.Surveys.{overflows_outside, overflows_full, pushes_one}
+use Rattle.vol_body.proofs.SurveyExits.{overflows_outside, overflows_full, pushes_one}
 use Rattle.vol_body.proofs.surveying.push_number.Goals as goal
 use Rattle.vol_body.proofs.surveying.push_number.Goals.{then-n-first-via-then-n-first, then-n-first-via-else-n-first+then-end-n, then-n-first-via-else-n-first+else-end-n+then-end-first}
 

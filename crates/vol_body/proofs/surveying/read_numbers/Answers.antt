@@ -3,7 +3,7 @@ use Rattle.std.proofs.lemmas.Result.{IfOk-from_err}
 use Rattle.vol_sector.specs.declared.fault.VolumeFault.TheVariants as faults
 use Rattle.vol_log.specs.Log.{view, device_of}
 use Rattle.vol_log.proofs.Readings.{reads_same, reads_of}
-use Rattle.vol_body.proofs.Surveys.{listed_none, listed_read, lists_none, number_listed, handed_on, failed_on, device_not_damaged}
+use Rattle.vol_body.proofs.SurveyExits.{listed_none, listed_read, lists_none, number_listed, handed_on, failed_on, device_not_damaged}
 use Rattle.vol_body.proofs.surveying.read_numbers.Goals as goal
 
 pub returns-then-indirect_block-eq0-clause-numbers : goal.returns-then-indirect_block-eq0-clause-numbers

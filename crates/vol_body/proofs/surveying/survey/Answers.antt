@@ -7,7 +7,7 @@ use Rattle.vol_log.proofs.Readings.{reads_same, reads_then}
 use Rattle.vol_body.specs.Survey.{AreInside}
 use Rattle.vol_body.specs.internal.Surveying.{EndsInZeros, NamesBelow}
 use Rattle.vol_body.proofs.Surveyed.{names_below, zeros_past, ends_trimmed}
-use Rattle.vol_body.proofs.Surveys.{handed_on, failed_on, device_not_damaged}
+use Rattle.vol_body.proofs.SurveyExits.{handed_on, failed_on, device_not_damaged}
 use Rattle.vol_body.proofs.surveying.survey.Goals as goal
 
 pub returns-then-failed : goal.returns-then-failed

@@ -5,7 +5,7 @@ use Rattle.vol_inode.specs.Space.{inner_blocks_for}
 use Rattle.vol_log.specs.Log.{view}
 use Rattle.vol_log.proofs.Readings.{reads_same}
 use Rattle.vol_body.specs.internal.Surveying.{listed, all_listed, ListsNoneFrom, LaterListNone}
-use Rattle.vol_body.proofs.Surveys.{none_later, later_list_none, overflows_before, surveys_handed, surveys_none, surveys_then, not_device, or_memory, or_device}
+use Rattle.vol_body.proofs.SurveyExits.{none_later, later_list_none, overflows_before, surveys_handed, surveys_none, surveys_then, not_device, or_memory, or_device}
 use Rattle.vol_body.proofs.surveying.survey_double_indirect_block.Goals as goal
 
 pub returns-then-double_indirect_block-eq0 : goal.returns-then-double_indirect_block-eq0

@@ -6,7 +6,7 @@ use Rattle.vol_sector.specs.declared.fault.VolumeFault.TheVariants as faults
 use Rattle.vol_log.specs.Log.{view}
 use Rattle.vol_log.proofs.Readings.{reads_same}
 use Rattle.vol_body.specs.internal.Surveying.{listed, with_listed, Pushes, Overflows, ListsNoneFrom}
-use Rattle.vol_body.proofs.Surveys.{none_listed, lists_none, pushes_then, overflows_before, overflows_then, surveys_handed, surveys_none, not_device, no_device_failed, or_memory, or_device, at_any_ok}
+use Rattle.vol_body.proofs.SurveyExits.{none_listed, lists_none, pushes_then, overflows_before, overflows_then, surveys_handed, surveys_none, not_device, no_device_failed, or_memory, or_device, at_any_ok}
 use Rattle.vol_body.proofs.surveying.survey_indirect_block.Goals as goal
 
 pub returns-then-indirect_block-eq0 : goal.returns-then-indirect_block-eq0

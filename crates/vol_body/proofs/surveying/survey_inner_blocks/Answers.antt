@@ -5,7 +5,7 @@ use Rattle.vol_sector.specs.Disk.{Image}
 use Rattle.vol_log.specs.Log.{view}
 use Rattle.vol_log.proofs.Readings.{reads_then}
 use Rattle.vol_body.specs.internal.Surveying.{with_listed, all_listed, Pushes, Overflows, Surveys, ListsNoneFrom}
-use Rattle.vol_body.proofs.Surveys.{listed_more, overflows_list, surveys_handed, surveys_none, surveys_then}
+use Rattle.vol_body.proofs.SurveyExits.{listed_more, overflows_list, surveys_handed, surveys_none, surveys_then}
 use Rattle.vol_body.proofs.surveying.survey_inner_blocks.Goals as goal
 
 pub survey_indirect_block-requires : goal.survey_indirect_block-requires

@@ -4,7 +4,7 @@ use Rattle.vol_inode.specs.Space.{blocks_for_size}
 use Rattle.vol_log.specs.Log.{view}
 use Rattle.vol_body.specs.Body.{indirect_block, double_indirect_block, named}
 use Rattle.vol_body.specs.internal.Surveying.{listed, with_listed, all_listed, Overflows, Surveys, ListsNoneFrom, LaterNone, NamesNonePast}
-use Rattle.vol_body.proofs.Surveys.{pushes_then, overflows_before, overflows_then, surveys_handed, surveys_then, not_device, or_memory}
+use Rattle.vol_body.proofs.SurveyExits.{pushes_then, overflows_before, overflows_then, surveys_handed, surveys_then, not_device, or_memory}
 use Rattle.vol_body.proofs.Surveyed.{at_every, none_past, past_list, past_later}
 use Rattle.vol_log.proofs.Readings.{reads_same}
 use Rattle.vol_body.proofs.surveying.survey_sectors.Goals as goal

@@ -4,9 +4,9 @@ use Rattle.vol_sector.specs.declared.fault.VolumeFault.TheVariants as faults
 use Rattle.vol_log.specs.Log.{view, device_of}
 use Rattle.vol_alloc.specs.Numbers.{AreDistinct, ArePlaces, ListsNumber}
 use Rattle.vol_alloc.specs.Alloc.{taken_of}
-use Rattle.vol_body.proofs.Surveys.{handed_on, failed_on, not_device, or_memory}
-use Rattle.vol_tree.proofs.Passes.{tree_passes, places_pass}
-use Rattle.vol_tree.proofs.Passed.{HasPassed, is_content, space_found, taken_found}
+use Rattle.vol_body.proofs.SurveyExits.{handed_on, failed_on, not_device, or_memory}
+use Rattle.vol_tree.proofs.ChecksHold.{tree_passes, places_pass}
+use Rattle.vol_tree.proofs.ChecksSuffice.{HasPassed, is_content, space_found, taken_found}
 use Rattle.vol_tree.proofs.Refusals.{memory_not_damage}
 use Rattle.vol_tree.proofs.checking.check_entries.Goals as goal
 use Rattle.vol_log.specs.declared.layout.TheConstants.{FIRST_AFTER_LOG}

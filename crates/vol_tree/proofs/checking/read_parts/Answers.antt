@@ -2,7 +2,7 @@ use Rattle.std.proofs.Common.{◌∙◌, inr, refl}
 use Rattle.std.proofs.lemmas.Result.{IfOk-from_err}
 use Rattle.vol_sector.specs.declared.fault.VolumeFault.TheVariants.{Memory}
 use Rattle.vol_log.proofs.Readings.{reads_same}
-use Rattle.vol_body.proofs.Surveys.{handed_on, failed_on}
+use Rattle.vol_body.proofs.SurveyExits.{handed_on, failed_on}
 use Rattle.vol_tree.proofs.Refusals.{memory_not_damage}
 use Rattle.vol_tree.proofs.checking.read_parts.Goals as goal
 

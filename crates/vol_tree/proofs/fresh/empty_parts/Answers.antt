@@ -4,7 +4,7 @@ use Rattle.vol_inode.specs.Entry.{IsEntry, HasName}
 use Rattle.vol_inode.specs.declared.version.Version.TheVariants.{One}
 use Rattle.vol_inode.specs.Spelling.{spelling}
 use Rattle.vol_sector.specs.declared.fault.VolumeFault.TheVariants as faults
-use Rattle.vol_body.proofs.Surveys.{handed_on}
+use Rattle.vol_body.proofs.SurveyExits.{handed_on}
 use Rattle.vol_tree.proofs.Empty.{root_is_entry}
 use Rattle.vol_tree.proofs.FreshVolumes.{first_slot, other_slots, no_places, fresh_parts}
 use Rattle.vol_tree.proofs.fresh.empty_parts.Goals as goal

@@ -1,4 +1,4 @@
-use Rattle.vol_tree.proofs.Creates.{created_least}
+use Rattle.vol_tree.proofs.LeastSerial.{created_least}
 use Rattle.vol_tree.proofs.laws.created_has_the_least_serial.Goals as goal
 
 pub returns : goal.returns

@@ -3,7 +3,7 @@ use Rattle.std.proofs.lemmas.Result.{IfOk-from_err}
 use Rattle.byteorder.specs.Endian.{little_number}
 use Rattle.vol_sector.specs.Disk.{counted}
 use Rattle.vol_sector.specs.declared.fault.VolumeFault.TheVariants as faults
-use Rattle.vol_body.proofs.Surveys.{handed_on, failed_on}
+use Rattle.vol_body.proofs.SurveyExits.{handed_on, failed_on}
 use Rattle.vol_log.proofs.Moments.{leaves_same}
 use Rattle.vol_tree.specs.declared.superblock.Superblock.{Superblock}
 use Rattle.vol_tree.specs.Superblock.{magic, IsNoVersion}

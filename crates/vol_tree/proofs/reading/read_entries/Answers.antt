@@ -8,7 +8,7 @@ use Rattle.vol_dirs.proofs.Shown.{shown_first}
 use Rattle.vol_tree.specs.declared.reading.Entries.{Entries}
 use Rattle.vol_tree.specs.internal.Reads.{held_at, AddsSlot, IsRight, FitIn, HaveRead}
 use Rattle.vol_tree.proofs.Checked.{none_inside, none_read, more_read}
-use Rattle.vol_tree.proofs.Passes.{not_refused}
+use Rattle.vol_tree.proofs.ChecksHold.{not_refused}
 use Rattle.vol_tree.proofs.Refusals.{named_at, device_at}
 use Rattle.vol_tree.proofs.reading.read_entries.Goals as goal
 use Rattle.vol_log.specs.declared.layout.TheConstants.{FIRST_AFTER_LOG}

@@ -10,7 +10,7 @@ use Rattle.vol_inode.specs.Spelling.{spelling, unused}
 use Rattle.vol_log.specs.Log.{view, device_of}
 use Rattle.vol_log.proofs.Readings.{reads_of, reads_then}
 use Rattle.vol_body.specs.Survey.{AreInside, IsTrimmed}
-use Rattle.vol_body.proofs.Surveys.{handed_on, failed_on, device_not_damaged, no_device_failed}
+use Rattle.vol_body.proofs.SurveyExits.{handed_on, failed_on, device_not_damaged, no_device_failed}
 use Rattle.vol_dirs.proofs.Shown.{shown_more, shown_past}
 use Rattle.vol_tree.specs.Opened.{data_sectors}
 use Rattle.vol_tree.specs.internal.Reads.{AddsSlot, IsNew, FitIn}

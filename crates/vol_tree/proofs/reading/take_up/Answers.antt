@@ -3,7 +3,7 @@ use Rattle.std.proofs.lemmas.List.{length_push}
 use Rattle.std.proofs.lemmas.Result.{IfOk-from_err, IfErr-weaker}
 use Rattle.vol_log.proofs.Readings.{reads_same}
 use Rattle.vol_body.specs.Survey.{AreInside}
-use Rattle.vol_body.proofs.Surveys.{handed_on, failed_on, or_memory, no_device_failed}
+use Rattle.vol_body.proofs.SurveyExits.{handed_on, failed_on, or_memory, no_device_failed}
 use Rattle.vol_tree.proofs.Committing.{at_ok, on_ok}
 use Rattle.vol_tree.proofs.OneTree.{limit_small}
 use Rattle.vol_tree.proofs.reading.take_up.Goals as goal

@@ -2,7 +2,7 @@ use Rattle.std.proofs.Common.{◌≡◌, ℕ, List, refl, sym, ap, ◌∙◌, su
 use Rattle.path_walk.specs.Paths.{components_of, path_read, wants_directory, resolved, stays_inside}
 use Rattle.path_walk.specs.Walk.{GivesOrIo}
 use Rattle.path_walk.specs.declared.walking.Reached.{Reached as ReachedValue}
-use Rattle.wasi_calls.specs.internal.paths.Walks.{Reaches}
+use Rattle.wasi_calls.specs.internal.paths.Walks.{ReachesFrom}
 use Rattle.wasi_calls.proofs.checks.CausesOf29.{no_text_io, walk_io}
 use Rattle.wasi_calls.proofs.paths.Walks.{by_text, reaches_by, same_or_kept, step_by, places}
 use Rattle.wasi_calls.proofs.bodies.PlainCalls.{volume_rests}
@@ -13,7 +13,7 @@ returns-in-Ok-clause-reaches g c = λ h w o path serial is shown.
     let text = c.args.text.now in
     let v = c.args.volume.now in
     let same : c.in-Ok.path ≡ text = c.in-Ok.ensures.0 in
-    subst (λ (l : List ℕ). Reaches c.walk.new.volume w o l c.walk.result) is
+    subst (λ (l : List ℕ). ReachesFrom c.walk.new.volume w o l c.walk.result) is
     (reaches_by g.D.Device.honest g.D.Device.disk g.D.Device.size g.D.Device.failures v c.walk.new.volume w o text (components_of text) c.walk.result
     c.in-Ok.ensures.1 shown (c.walk.ensures.tree h)
     (subst (λ (n : ℕ). GivesOrIo (resolved v.tree n (wants_directory text) (components_of text)) c.walk.result) (sym serial)

@@ -119,7 +119,7 @@ ChecksAs oflags slash r w new (Ok t) = (open_checks w oflags slash r ≡ Ok tt) 
 ChecksAs oflags slash r w new (Err e) = StopsNext (λ v. open_checks v oflags slash r) w new e.0
 
 -- what comes before anything is changed, and how the entry is opened
-pub record Reaches {D : Type 0} (memory : List ℕ) (a : OpenCall) (w : World) (new : OpenedVolume D) (directory : Opened) (t : Target) : Type 0 where
+pub record ReachesTarget {D : Type 0} (memory : List ℕ) (a : OpenCall) (w : World) (new : OpenedVolume D) (directory : Opened) (t : Target) : Type 0 where
   pub reached : Reached
   pub number : ℕ
   pub free : new_number w ≡ Ok number
@@ -127,7 +127,7 @@ pub record Reaches {D : Type 0} (memory : List ℕ) (a : OpenCall) (w : World) (
   pub target : IsTarget w.tree a.oflags reached t
 
 abbrev pub Targets : {D : Type 0} → List ℕ → OpenCall → World → OpenedVolume D → Result (Opened × Target) Number → Type 0
-Targets memory a w new (Ok p) = Reaches memory a w new p.0 p.1
+Targets memory a w new (Ok p) = ReachesTarget memory a w new p.0 p.1
 Targets memory a w new (Err e) = Stops (λ v. open_part v memory a) w new e.0
 
 -- each open entry has a number of the volume

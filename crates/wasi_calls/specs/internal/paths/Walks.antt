@@ -46,9 +46,9 @@ module _ {D : Type 0} (honest : D → Type 0) (disk : D → Disk) (sectors_on fa
     pub crash : honest old.device → Leaves (disk old.device) (disk new.device) (λ c. ⊥)
 
 -- what is reached in the world, or why nothing is
-abbrev pub Reaches : {D : Type 0} → Opened D → World → OpenedEntry → List ℕ → Result ReachedValue Errno → Type 0
-Reaches new w o text (Ok r) = Passes (λ v. walk v o text) w new (reached_as r)
-Reaches new w o text (Err e) = Stops (λ v. walk v o text) w new (number_of e)
+abbrev pub ReachesFrom : {D : Type 0} → Opened D → World → OpenedEntry → List ℕ → Result ReachedValue Errno → Type 0
+ReachesFrom new w o text (Ok r) = Passes (λ v. walk v o text) w new (reached_as r)
+ReachesFrom new w o text (Err e) = Stops (λ v. walk v o text) w new (number_of e)
 
 -- A body that finds bytes to be written at a place: the row is done by them in the same world, or the call answers.
 abbrev pub FindsBytes : {D : Type 0} → (World → Checked Done) → World → List ℕ → Opened D → ℕ → Result (List ℕ) Number → Type 0

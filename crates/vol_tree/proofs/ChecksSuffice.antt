@@ -34,7 +34,7 @@ use Rattle.vol_tree.proofs.SlotsRead.{slots_count}
 use Rattle.vol_tree.proofs.Finding.{entry_at, slot_within, slot_of_entry}
 use Rattle.vol_tree.proofs.AllNamed.{in_flat, from_flat, one_distinct, apart_in}
 use Rattle.vol_inode.specs.Spelling.{spelling}
-use Rattle.vol_tree.proofs.Passes.{space_is}
+use Rattle.vol_tree.proofs.ChecksHold.{space_is}
 use Rattle.vol_dirs.specs.Slots.{slot_sector}
 
 -- what every check that passed gives
