@@ -1,4 +1,6 @@
--- What making a volume of version 2 leaves, and how it ends (`docs/VOLUME.md`, "Formatting").
+-- What making a device an empty volume of version 2 leaves, and how it ends (`docs/VOLUME.md`, "Formatting").
+-- `MakesLarge` is the contract of `format_large`: its fields give the order of the refusals, and what a crash may
+-- leave.
 use Rattle.std.specs.Prelude.{◌≡◌, ◌⊎◌, ◌≤◌, ◌<◌, ◌↔◌, ℕ, Bool, false, Result, Ok, Err, IfErr, OnOk}
 use Rattle.vol_sector.specs.Disk.{Image, Disk, Leaves, counted}
 use Rattle.vol_sector.specs.Fault.{is_device}

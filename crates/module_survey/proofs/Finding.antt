@@ -1,7 +1,7 @@
 -- Looking for the first of some, as a loop does.
 use Rattle.std.proofs.Common.{◌≡◌, ℕ, suc, ◌+◌, ◌-◌, ◌<◌, ◌≤◌, ◌==◌, ◌&&◌, nat_lt, nat_le, cond, Bool, true, false, List, length, Option, Some, None, refl, ◌∙◌, ap, arith}
 use Rattle.std.proofs.lemmas.Bool.{lt-ltb, le-ltb, lt-leb}
-use Rattle.wasm_module.specs.internal.Reading.{◌>>=◌, u32_at, sized_at, raw_of}
+use Rattle.wasm_module.specs.Reading.{◌>>=◌, u32_at, sized_at, raw_of}
 use Rattle.module_survey.specs.declared.sections.Wanted.{Wanted}
 use Rattle.module_survey.specs.Places.{Section, section_of, is_wanted, find_section, holding_entry, name_among}
 

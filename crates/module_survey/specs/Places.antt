@@ -1,10 +1,11 @@
--- Where in a module's bytes functions stand, and what they are called; also in bytes that spell no module.
+-- Where in a module's bytes functions stand, and what they are called. Sections are found by their ids and sizes alone,
+-- so this speaks of bytes that spell no module, too; only the imports have to be readable, so that they can be counted.
 use Rattle.std.specs.Prelude.{◌≡◌, ℕ, zero, suc, ◌+◌, ◌-◌, ◌==◌, ◌&&◌, nat_le, nat_lt, Bool, false, List, length, take, drop, Option, Some, None, if◌then◌else◌, codes, bytes_eq}
 use Rattle.std.specs.List.{filter_map}
 use Rattle.std.specs.Option.{option_map_or}
 use Rattle.wasm_module.specs.declared.module.Module.{Module}
 use Rattle.wasm_module.specs.Module.{Spells}
-use Rattle.wasm_module.specs.internal.Reading.{◌>>=◌, next_at, u32_at, sized_at, raw_of}
+use Rattle.wasm_module.specs.Reading.{◌>>=◌, next_at, u32_at, sized_at, raw_of}
 use Rattle.wasm_valid.specs.Validity.{kinds_of, imported_function}
 use Rattle.module_survey.specs.declared.sections.Wanted.{Wanted}
 use Rattle.module_survey.specs.declared.sections.Wanted.TheVariants.{Code, AfterImports, Names, FunctionNames}

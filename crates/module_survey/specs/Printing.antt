@@ -1,4 +1,5 @@
--- What is printed on a writer.
+-- What `survey` leaves on its writer: the whole text (`Tells`), or nothing or a beginning of it where it fails
+-- (`PrintsBeginning`). A writer's contents are known bytes or unknown ones, hence the options.
 use Rattle.std.specs.Prelude.{◌≡◌, ℕ, ◌⊎◌, List, ◌++◌, Option, Result}
 use Rattle.std.specs.declared.io.ErrorKind.{ErrorKind}
 use Rattle.std.specs.declared.io.ErrorKind.TheVariants.{OutOfMemory}

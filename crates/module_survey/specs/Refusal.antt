@@ -1,4 +1,5 @@
--- What is told of bytes that are refused.
+-- What is told of bytes that are refused: the fault, its offset, the function that it lies in and that function's name.
+-- `IsSurvey` adds the text of a valid module from `Survey`, so it says of any bytes which text is the right one.
 use Rattle.std.specs.Prelude.{◌≡◌, ◌≢◌, ℕ, List, [], ◌∷◌, ◌++◌, Option, Some, None, Result, Ok, Err, codes}
 use Rattle.std.specs.List.{concat}
 use Rattle.std.specs.Option.{option_map_or}

@@ -1,4 +1,5 @@
--- How names and numbers are printed.
+-- How names and numbers are printed, as bytes of ASCII. A name is escaped as a string of the text format (section
+-- 6.3.3), so it never holds the blanks and line breaks that set off the parts of a line.
 use Rattle.std.specs.Prelude.{ℕ, ◌+◌, ◌/◌, ◌%◌, ◌==◌, ◌&&◌, nat_lt, not, Bool, List, [], ◌∷◌, Option, Some, None, if◌then◌else◌, codes, decimal}
 use Rattle.std.specs.List.{flat_map}
 

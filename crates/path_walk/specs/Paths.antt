@@ -1,4 +1,5 @@
--- A path of a guest, and what it reaches from a directory (`docs/PATHS.md`, "Reading a path", "Walking").
+-- A path of a guest, and what it reaches from a directory (`docs/PATHS.md`, "Reading a path", "Walking"). The meaning
+-- is `resolved`, whose walk goes back for a `..`; `stepped` goes up by parents instead, as the code does.
 use Rattle.std.specs.Prelude.{ℕ, ◌+◌, ◌-◌, Bool, true, ◌&&◌, ◌||◌, not, ◌==◌, nat_lt, List, [], ◌∷◌, length, drop, Result, Ok, Err, if◌then◌else◌, get_or}
 use Rattle.std.specs.Option.{option_map_or}
 use Rattle.std.specs.List.{filter, list_any, slice_split}

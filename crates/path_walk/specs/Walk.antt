@@ -1,4 +1,5 @@
--- What a walk over an open volume gives (`docs/PATHS.md`, "Walking").
+-- What a walk over an open volume answers and leaves (`docs/PATHS.md`, "Walking"). Calls of other crates that only read
+-- cite `Asked` too: on a device that keeps its model the tree is the same, and a crash leaves nothing new.
 use Rattle.std.specs.Prelude.{◌≡◌, ◌⊎◌, ℕ, Bool, Result, Ok, Err, IsSome}
 use Rattle.vol_sector.specs.Disk.{Disk, Leaves}
 use Rattle.vol_inode.specs.Name.{IsName}

@@ -1,4 +1,5 @@
--- How a run ended, as its report says it.
+-- How a run ended, as its report says it: a label, a number, a text, an offset (`docs/USING.md`, "The report of a
+-- run"). Each is the value of one line, and `is_machines` says for which ends the machine is to blame.
 use Rattle.std.specs.Prelude.{◌==◌, ◌||◌, ℕ, Bool, true, false, [], Option, Some, None, codes}
 use Rattle.std.specs.Option.{option_map_or}
 use Rattle.wasm_num.specs.declared.trap.Trap.{Trap}

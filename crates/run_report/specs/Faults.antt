@@ -1,4 +1,5 @@
--- The faults of a run: their numbers, and what they mean in words.
+-- The faults of a run: their numbers, their offsets, and what they mean in words (`docs/USING.md`, "Faults"). Out of
+-- memory has no number and no words here, since a report says it as an end of its own.
 use Rattle.std.specs.Prelude.{ℕ, List, [], Option, Some, None, codes}
 use Rattle.vol_sector.specs.declared.fault.VolumeFault.{VolumeFault}
 use Rattle.vol_sector.specs.declared.fault.VolumeFault.TheVariants as volume

@@ -1,4 +1,5 @@
--- The text of a report: lines of a key and a value, in a fixed order.
+-- The text of a report: lines of a key and a value, in a fixed order. `report_text` is what `print` writes where it
+-- succeeds, and `blame_of` decides between the guest and the machine.
 use Rattle.std.specs.Prelude.{◌||◌, ℕ, Bool, true, false, not, [], ◌∷◌, ◌++◌, Option, Some, None, if◌then◌else◌, codes, decimal}
 use Rattle.std.specs.List.{concat}
 use Rattle.run_report.specs.declared.summary.Kept.{Kept}

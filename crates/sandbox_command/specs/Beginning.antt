@@ -1,4 +1,5 @@
--- What a run begins with: sectors in memory, or files that can't be read.
+-- What a run begins with: sectors in memory, or files that can't be read. A run alone (`Files`) and a test of a list
+-- (`Testing`) begin alike, so both cite these.
 use Rattle.std.specs.Prelude.{◌≡◌, ◌⊎◌, ◌≤◌, ℕ, List, Option, Some, None, length, replicate}
 use Rattle.std.specs.Borrow.{Bor}
 use Rattle.std.specs.declared.io.ErrorKind.{ErrorKind}

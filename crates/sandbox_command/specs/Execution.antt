@@ -1,5 +1,6 @@
--- What the program does: how it ends, and of which run, formatting or task its status tells
--- (`README.md`, "The program").
+-- What the program does: how it ends, and of which run, formatting, task, import, export or inspection its status tells
+-- (`README.md`, "The program"). `Executes` is the contract of `execute`; its part for modules, `Runs`, takes as
+-- `Follows` what may come after the known bytes on the side of errors.
 use Rattle.std.specs.Prelude.{◌≡◌, ◌≢◌, ◌⊎◌, ℕ, true, List, Option, Some, None, Result}
 use Rattle.std.specs.Io.KnownBytes.{Keeps}
 use Rattle.vol_sector.specs.Disk.{Disk, Leaves}

@@ -1,4 +1,5 @@
--- What inspecting a module prints, and how it ends (`crates/module_survey/specs`).
+-- What inspecting a module prints, and how it ends (`crates/module_survey/specs`). `Inspects` takes the text from that
+-- crate, with the WASI calls of a guest as links, and adds the exit status.
 use Rattle.std.specs.Prelude.{◌≡◌, ◌⊎◌, ℕ, List, Bool, Option, Result, Ok, Err, if◌then◌else◌}
 use Rattle.std.specs.declared.io.ErrorKind.{ErrorKind}
 use Rattle.std.specs.declared.io.ErrorKind.TheVariants.{OutOfMemory}

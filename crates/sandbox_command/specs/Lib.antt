@@ -1,4 +1,5 @@
--- What public contracts cite, in reading order; `internal` serves private contracts and proofs.
+-- What public contracts cite, in reading order; `internal` serves private contracts and proofs. `Execution` puts
+-- together what a run or a task does on any device and streams, and the files after it go on to files that are named.
 pub mod Status
 pub mod Streams
 pub mod Checking

@@ -1,4 +1,6 @@
--- What is asked of the places where files stand, by name (`src/places.rt`), and what nothing but the host shows of a file.
+-- What is asked of the places where files stand, by name (`crates/sandbox_command/src/places.rt`), and what nothing but
+-- the host shows of a file. Contracts over any `Places` say by `Chain` what was asked for between two states, in which
+-- order.
 use Rattle.std.specs.Prelude.{◌≡◌, ◌⊎◌, List, [], ◌∷◌, Option, Some, None}
 use Rattle.std.specs.Borrow.{Bor}
 use Rattle.std.specs.declared.io.ErrorKind.{ErrorKind}

@@ -1,4 +1,5 @@
--- What the report of a run says of it (`crates/run_report/specs`).
+-- What the report of a run says of it (`crates/run_report/specs`). Here stands where each field of a `Summary` comes
+-- from, for a run that could not begin (`not_run`) and for one that did (`run_summary`).
 use Rattle.std.specs.Prelude.{◌≡◌, ◌⊎◌, ℕ, List, Bool, true, false, Option, Some, None, Result, Ok, Err}
 use Rattle.std.specs.Io.KnownBytes.{Appends}
 use Rattle.std.specs.Borrow.{Bor}

@@ -1,4 +1,5 @@
--- The exit statuses of the program (`README.md`, "The program").
+-- The exit statuses of the program (`README.md`, "The program"). `EndsWith` is for a run, `ended_status` for
+-- formatting, a task, an import or an export; in all functions here 122 means that memory was wanting.
 use Rattle.std.specs.Prelude.{◌≡◌, ℕ, Bool, Result, Ok, Err, if◌then◌else◌, nat_le}
 use Rattle.std.specs.declared.io.ErrorKind.{ErrorKind as InputKind}
 use Rattle.std.specs.declared.io.ErrorKind.TheVariants as input

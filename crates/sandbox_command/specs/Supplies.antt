@@ -1,4 +1,5 @@
--- What a guest is given by the words of its command line (`README.md`, "The program").
+-- What a guest is given by the words of its command line (`README.md`, "The program"). Each `--dir` is cut at its first
+-- `=`; `AreSettings` ties a run's settings to its words, and `IsUncut` says why there are none.
 use Rattle.std.specs.Prelude.{◌≡◌, ◌⊎◌, ◌==◌, ℕ, Bool, List, [], ◌∷◌, length, map, Option, Some, None, if◌then◌else◌, nat_lt, codes}
 use Rattle.std.specs.List.{Contains, position_or_len, before_first, after_first}
 use Rattle.wasi_calls.specs.declared.host.settings.Preopen.{Preopen}
@@ -37,8 +38,8 @@ abbrev pub IsUncut : List Text → SessionFault → Type 0
 IsUncut words fault =
     ((fault ≡ Setting) × Contains (map split_at_equals words) None) ⊎ (fault ≡ Memory)
 
--- The settings of a run: the module's word and the others, the environment, the directories, the moment, these random
--- bytes, and the pages.
+-- The settings of a run: argument 0 (the word of `--name`, or else the module's) and the others, the environment, the
+-- directories, the moment, these random bytes, and the pages.
 pub record AreSettings (run : Run) (random : Text) (settings : Settings) : Type 0 where
   pub args : texts settings.args.now ≡ arguments_of run
   pub env : texts settings.env.now ≡ texts run.env.items

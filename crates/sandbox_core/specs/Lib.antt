@@ -1,5 +1,6 @@
--- Read in this order: what is known of devices and streams, sessions with what each call of them promises, runs of a
--- machine over a host, whole runs, what a crash may leave turn by turn, and the headline over any list of resumes.
+-- What public contracts cite, in reading order: devices and streams, sessions, runs, tallies and reports, what a crash
+-- may leave turn by turn. `Headline` comes last and says what holds after any list of resumes; `internal` serves
+-- private contracts and proofs.
 pub mod Devices
 pub mod Session
 pub mod Runs

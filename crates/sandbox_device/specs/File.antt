@@ -1,5 +1,6 @@
 -- A file as a device: a crash leaves each sector, apart from the others, as some moment since the last sync had it
--- (`docs/VOLUME.md`, "The device").
+-- (`docs/VOLUME.md`, "The device"). `kept` is the disk of a `FileDevice`, by the premise `KeepsItsModel`, which nobody
+-- can show of a file.
 use Rattle.std.specs.Prelude.{◌≡◌, ◌⊎◌, ◌-◌, ℕ, List, [], ◌∷◌, length, take}
 use Rattle.vol_sector.specs.Disk.{Image, Disk}
 use Rattle.vol_sector.specs.Record.{image_of}

@@ -1,4 +1,5 @@
--- What public contracts cite, in reading order; `internal` serves private contracts and proofs.
+-- What public contracts cite, in reading order; `internal` serves private contracts and proofs. `Ram`, `File` and
+-- `Recorded` give three devices a `Disk`, and `Followed` says what the record of the third is good for.
 pub mod Ram
 pub mod File
 pub mod Recorded

@@ -1,6 +1,6 @@
--- In reading order: the numbers that a host is told, what it hands in, the volume, what a handle has and what each call
--- makes of it, the record of a volume, whole calls, texts, the headline over a host's calls, volumes that go from one session to the next, and records that
--- are done on a disk.
+-- What public contracts cite, in reading order: numbers, supplies and volumes, then what a handle has and what each
+-- call makes of it. `Headline`, `Carried` and `Settled` are laws over many calls, and `Handles` says what memory a
+-- handle owns.
 pub mod Numbers
 pub mod Supplies
 pub mod Host

@@ -1,4 +1,5 @@
--- Refusals, outcomes and pauses as the numbers that a host is told (`include/sandbox.h`).
+-- Refusals, outcomes and pauses as the numbers that a host is told (`include/sandbox.h`). Contracts speak of a fault or
+-- a pause, and these functions say which number a host in C gets for it.
 use Rattle.std.specs.Prelude.{ℕ}
 use Rattle.wasm_module.specs.declared.fault.LoadFault.{LoadFault}
 use Rattle.wasm_module.specs.declared.fault.LoadFault.TheVariants as loading

@@ -1,4 +1,5 @@
--- Why a module isn't loaded and a session doesn't begin, and with which number it is told.
+-- Why a module isn't loaded and a session doesn't begin, and with which number it is told. `NotLoaded` is for a module
+-- alone, `NotBegun` for a session of a loaded one, and `NotOpened` for both in one call.
 use Rattle.std.specs.Prelude.{◌≡◌, ◌≢◌, ◌⊎◌, ℕ, List}
 use Rattle.vol_sector.specs.declared.fault.VolumeFault.{VolumeFault}
 use Rattle.wasm_module.specs.declared.module.Module.{Module}

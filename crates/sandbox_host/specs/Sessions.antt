@@ -1,4 +1,5 @@
--- What a handle has, and what each call makes of it.
+-- What a handle has, and what each call makes of it. The first half reads a `Held` by its cases; in the second
+-- `Begins`, `Paused` and `Finishes` tie a call to the session of `sandbox_core`.
 use Rattle.std.specs.Prelude.{◌≡◌, ◌-◌, ◌^◌, ◌==◌, ℕ, Bool, true, false, List, [], length, take, drop, ◌++◌, min, Option, Some, None, Result, Ok, Err, if◌then◌else◌}
 use Rattle.vol_sector.specs.declared.fault.Refused.{Refused}
 use Rattle.wasm_module.specs.declared.module.Module.{Module}

@@ -1,4 +1,6 @@
 -- A record that a host does on a disk: wherever it stops, the disk has the volume as it was at a moment of the session.
+-- The law `record_is_settled` says it at the end and after any resumes; once all up to an answered sync is done, it is
+-- the tree after that resume.
 use Rattle.std.specs.Prelude.{◌≡◌, ◌==◌, ◌||◌, ◌⊎◌, ◌≤◌, ℕ, Bool, IsTrue, List, [], ◌∷◌, length, take}
 use Rattle.std.specs.Borrow.{Bor}
 use Rattle.vol_sector.specs.Disk.{Image}

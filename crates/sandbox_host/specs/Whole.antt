@@ -1,4 +1,5 @@
--- What a run in one call tells, and what formatting leaves.
+-- What a run in one call tells, and why formatting is refused. Neither call keeps anything behind a handle: `Ran` is
+-- for `run` where it answers 0, `IsUnformatted` for `format` where it doesn't.
 use Rattle.std.specs.Prelude.{◌≡◌, ◌⊎◌, ℕ, List, length}
 use Rattle.vol_tree.specs.declared.superblock.Superblock.{Superblock}
 use Rattle.vol_tree.specs.Superblock.{HasRanges}

@@ -1,4 +1,5 @@
--- What public contracts cite, in reading order.
+-- What public contracts cite, in reading order. `Request` reads texts out of a run that was asked for, and
+-- `CommandLine` ties what is asked for to the words by clap's own model.
 pub mod Request
 pub mod CommandLine
 -- Aids of private contracts and of proofs.

@@ -1,4 +1,6 @@
--- Lists of sector numbers (`docs/VOLUME.md`, "Sectors").
+-- Lists of sector numbers: what stands in one, and when all are different and in a range (`docs/VOLUME.md`, "Sectors").
+-- `Alloc::from_named` cites `ListsNumber` and `ArePlaces`, and laws of `vol_body` cite `AreDistinct` for the sectors
+-- that a file names.
 use Rattle.std.specs.Prelude.{◌≡◌, ◌≢◌, ◌≤◌, ◌<◌, ℕ, List, length, slice_index}
 
 -- the number stands in the list

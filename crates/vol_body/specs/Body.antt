@@ -1,4 +1,6 @@
--- The bytes of a file, over the sectors of a volume (`docs/VOLUME.md`, "File").
+-- A file as its entry and a volume's sectors give it: the sector at each position, the bytes, and the rules on both
+-- (`docs/VOLUME.md`, "File"). A `BlockPosition` is a data block or a pointer sector, and `named` follows the pointers
+-- to its sector; 0 stands for none.
 use Rattle.std.specs.Prelude.{◌≡◌, ◌≢◌, ◌≤◌, ◌<◌, ◌+◌, ◌-◌, ◌*◌, ◌/◌, ◌%◌, ◌==◌, ℕ, Bool, true, List, [], ◌++◌, ◌∷◌, map, drop, replicate, nat_lt, slice_index, if◌then◌else◌}
 use Rattle.std.specs.List.{range_with_len}
 use Rattle.byteorder.specs.Endian.{little_number}

@@ -1,4 +1,6 @@
--- What changes do to the bytes of a file (`docs/VOLUME.md`, "File").
+-- What a write and a new size do to the bytes of a file, as plain lists (`docs/VOLUME.md`, "The tree"). No sector comes
+-- in: the contracts of `write_at` and `set_size` say that the file has these bytes then, and `vol_tree` defines its
+-- calls by them.
 use Rattle.std.specs.Prelude.{◌-◌, ◌+◌, ◌++◌, ℕ, List, [], ◌∷◌, length, take, drop, replicate}
 
 -- the bytes with zeros after them, up to a length

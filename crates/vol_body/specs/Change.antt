@@ -1,4 +1,5 @@
--- What a change of one file leaves on a volume (`docs/VOLUME.md`, "File").
+-- What a change of one file asks of a volume and leaves on it (`docs/VOLUME.md`, "File"). `write_at` and `set_size`
+-- require `CanChange` and promise `FileBecomes`, `LosesNoSector` and `EntryBecomes`, the first two only `IfSound`.
 use Rattle.std.specs.Prelude.{◌≡◌, ◌≢◌, ◌≤◌, ◌<◌, ◌+◌, ◌==◌, ◌⊎◌, ℕ, Bool, true, false, not, List, count_by}
 use Rattle.vol_sector.specs.Disk.{Image}
 use Rattle.vol_sector.specs.declared.device.Device.{Ghosts}

@@ -1,4 +1,6 @@
--- What public contracts cite, in reading order; `internal` serves private contracts and proofs.
+-- The bytes of a file as public contracts see them, in reading order; `internal` serves private contracts and proofs.
+-- `Body` says what a file is on a volume, `Survey` serves opening, and from `Reading` on it is all about changes of a
+-- file.
 pub mod Body
 pub mod Survey
 pub mod Reading

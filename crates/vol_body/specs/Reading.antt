@@ -1,4 +1,6 @@
--- What stays of a log that is read and staged to (`docs/VOLUME.md`, "Log").
+-- What stays of a log that sectors are read from and then staged in (`docs/VOLUME.md`, "Log"). By `StagesAtMost` a
+-- write or a new size takes so many places of the log at most, and the log has failed exactly where the call is
+-- refused.
 use Rattle.std.specs.Prelude.{◌≡◌, ◌↔◌, ◌≤◌, ◌+◌, ℕ, Bool, false}
 use Rattle.vol_sector.specs.Disk.{Leaves, counted}
 use Rattle.vol_sector.specs.declared.device.Device.{Ghosts}

@@ -1,4 +1,5 @@
--- Bytes that stand in spans of a memory (`ciovec` of WASI preview 1).
+-- Bytes that stand in spans of a memory, one span after the other (`ciovec` of WASI preview 1). Contracts see a
+-- `Source` as one list of bytes, and these definitions say which list the spans of a memory give.
 use Rattle.std.specs.Prelude.{ℕ, ◌+◌, ◌≤◌, List, [], ◌∷◌, ◌++◌, length, take, drop}
 use Rattle.vol_body.specs.declared.source.Span.{Span}
 

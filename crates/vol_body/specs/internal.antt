@@ -1,4 +1,6 @@
--- Definitions that only private contracts and proofs cite.
+-- The steps inside the calls on a file, which only private contracts and proofs cite: survey, write, cut, and the
+-- pointer sectors in memory. `Writing` builds on `Naming`, and `Truncated` and `Holding` build on `Writing`, so read
+-- them in that order.
 pub mod Surveying
 pub mod Naming
 pub mod Truncated

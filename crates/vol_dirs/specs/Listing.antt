@@ -1,4 +1,6 @@
--- The two lists that names are answered from (`docs/VOLUME.md`, "The tree").
+-- `HoldsEntry`: a list of keys with serials holds an entry with this parent, name and serial (`docs/VOLUME.md`,
+-- "The tree"). `Names` is this for the keys that `Dirs` keeps; its second list, of children, shows in the invariant
+-- alone (`internal/Listing`).
 use Rattle.std.specs.Prelude.{◌<◌, ◌^◌, ℕ, List}
 use Rattle.std.specs.List.{Contains}
 use Rattle.vol_dirs.specs.Key.{key_of, IsPlain}

@@ -1,4 +1,6 @@
--- What a caller sees of the names of a volume (`docs/VOLUME.md`, "Entry").
+-- What callers see of the names that `Dirs` holds in memory (`docs/VOLUME.md`, "Entry"). The contracts of `Dirs` speak
+-- by `Names`, a relation of parent, name and serial, and `Shows` says that it has exactly the entries in the slots of
+-- an image.
 use Rattle.std.specs.Prelude.{◌≡◌, ◌↔◌, ◌≤◌, ◌<◌, ℕ, List}
 use Rattle.vol_sector.specs.Disk.{Image}
 use Rattle.vol_inode.specs.declared.entry.Entry.{Entry}

@@ -1,4 +1,5 @@
--- Where the slots of the entries are, and what is staged in one (`docs/VOLUME.md`, "Entry").
+-- Which sector holds the slot of a serial, and what staging one slot leaves (`docs/VOLUME.md`, "Sectors"). `add`,
+-- `remove` and `relocate` of `Dirs` require `CanStageSlot` and promise `StagesSlot`, each for one slot.
 use Rattle.std.specs.Prelude.{◌≡◌, ◌≤◌, ◌<◌, ◌+◌, ◌-◌, ◌==◌, ℕ, List, true, false, if◌then◌else◌}
 use Rattle.vol_sector.specs.Disk.{put}
 use Rattle.vol_sector.specs.declared.device.Device.{Ghosts}

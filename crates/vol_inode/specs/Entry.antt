@@ -1,4 +1,5 @@
--- The rules on one entry that its own sector shows (`docs/VOLUME.md`, "Entry").
+-- The rules on one entry that its own sector shows (`docs/VOLUME.md`, "Entry"). `IsEntry` is what `read_entry` makes
+-- sure of; rules that need other sectors or entries stand in `vol_body` (`IsBody`) and `vol_tree` (`IsVolume`).
 use Rattle.std.specs.Prelude.{◌≡◌, ◌≢◌, ◌≤◌, ◌<◌, ◌^◌, ℕ, List, All, length, take, drop, nat_lt, slice_index, if◌then◌else◌}
 use Rattle.vol_inode.specs.declared.entry.Entry.{Entry}
 use Rattle.vol_inode.specs.declared.entry.Kind.TheVariants.{Directory}

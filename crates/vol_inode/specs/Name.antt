@@ -1,4 +1,5 @@
--- Names of entries (`docs/VOLUME.md`, "Entry").
+-- `IsName`, the rules on the name of an entry (`docs/VOLUME.md`, "Entry"). `lookup`, `create_file` and `rename` of a
+-- volume require it of the name that they are given; the root's empty name is none.
 use Rattle.std.specs.Prelude.{◌≢◌, ◌≤◌, ◌<◌, ℕ, List, [], ◌∷◌, length, IsUtf8}
 use Rattle.std.specs.List.{Contains}
 

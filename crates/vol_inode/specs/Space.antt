@@ -1,4 +1,5 @@
--- The space that files take (`docs/VOLUME.md`, "Space").
+-- How many sectors a file of some size needs, and how large a file may be (`docs/VOLUME.md`, "Space"). The need depends
+-- on the size alone and not on what was written, so a sparse file needs as much as a full one.
 use Rattle.std.specs.Prelude.{◌+◌, ◌-◌, ◌/◌, ℕ, nat_le, if◌then◌else◌}
 use Rattle.vol_inode.specs.declared.pointers.TheConstants.{DIRECT, LISTED, NUMBERS}
 use Rattle.vol_inode.specs.declared.version.TheConstants.{LARGEST_SIZE}

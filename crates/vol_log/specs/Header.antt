@@ -1,4 +1,5 @@
--- The log header: which sectors the log's images are for (`docs/VOLUME.md`, "Log").
+-- The log header: which sectors the log's images are for, and its bytes (`docs/VOLUME.md`, "Log"). `Places` has the
+-- rules on the numbers, which a staged batch keeps as well; `IsHeader` adds that the sector spells them in every byte.
 use Rattle.std.specs.Prelude.{◌≡◌, ◌≢◌, ◌-◌, ◌*◌, ◌≤◌, ◌<◌, ◌++◌, ℕ, List, length, replicate, slice_index}
 use Rattle.std.specs.List.{flat_map}
 use Rattle.byteorder.specs.Endian.{little_bytes}

@@ -1,4 +1,5 @@
--- What a log's caller sees (`docs/VOLUME.md`, "Log").
+-- What callers see of an open log (`docs/VOLUME.md`, "Log"). `view` is what the layers above read: the staged batch
+-- over what reads of the device give, so a staged sector shows at once and is on the disk only after a commit.
 use Rattle.std.specs.Prelude.{ℕ, ◌-◌, List, length, Bool}
 use Rattle.vol_sector.specs.Disk.{Image}
 use Rattle.vol_sector.specs.declared.device.Device.{Ghosts}

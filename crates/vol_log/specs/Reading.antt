@@ -1,4 +1,5 @@
--- What stays of a log that is only read (`docs/VOLUME.md`, "Log").
+-- `OnlyReads`: what stays of a log that is only read (`docs/VOLUME.md`, "Log"). Calls of `vol_dirs` and `vol_body` that
+-- only read cite it as one clause; what it says of contents and crashes holds on an honest device, the rest on any.
 use Rattle.std.specs.Prelude.{◌≡◌, ◌↔◌, false}
 use Rattle.vol_sector.specs.Disk.{Leaves, counted}
 use Rattle.vol_sector.specs.declared.device.Device.{Ghosts}

@@ -1,4 +1,5 @@
--- A disk that counts each operation tried (`docs/VOLUME.md`, "The device").
+-- A disk that counts each operation tried, over one that only some of them reach (`docs/VOLUME.md`, "The device"). A
+-- memory device's reads and a faulty device's failures never get to the disk below, and still count as moments.
 use Rattle.std.specs.Prelude.{ℕ, ◌-◌, List, Bool, length, take, count_by}
 use Rattle.vol_sector.specs.Disk.{Disk}
 

@@ -1,4 +1,6 @@
--- Which image a crash leaves for which picks (`docs/VOLUME.md`, "The device").
+-- Which image a crash leaves for which picks, one for each sector that waits for a sync (`docs/VOLUME.md`,
+-- "The device"). By two laws of this crate picks give exactly the images that a crash may leave, so tests try crashes
+-- pick by pick.
 use Rattle.std.specs.Prelude.{ℕ, zero, suc, ◌+◌, ◌-◌, ◌==◌, List, [], ◌∷◌, length, min, slice_index_or, Bool, true, false, if◌then◌else◌}
 use Rattle.vol_sector.specs.Disk.{Image}
 use Rattle.vol_sector.specs.Record.{choices}

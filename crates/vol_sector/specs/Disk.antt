@@ -1,4 +1,6 @@
--- What a disk of sectors may give and leave (`docs/VOLUME.md`, "The device").
+-- A disk as contracts see it: what reads give, and what a crash may leave (`docs/VOLUME.md`, "The device"). The trait
+-- `Device` is stated by it, and each of its `crash` clauses is a `Leaves`: a crash leaves what it could leave before,
+-- or what has P.
 use Rattle.std.specs.Prelude.{◌≡◌, ◌⊎◌, ◌+◌, ◌-◌, ◌^◌, ◌≤◌, ◌==◌, ℕ, List, Bool, min, if◌then◌else◌}
 
 -- the bytes of each sector

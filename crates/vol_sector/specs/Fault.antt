@@ -1,4 +1,6 @@
--- Which refusals are the device's (`docs/VOLUME.md`, "The device").
+-- What a refusal says: that the device failed, or that the volume is damaged, and in which sector (`docs/VOLUME.md`,
+-- "What opening refuses"). Contracts count a failed operation by `is_device`, and `IsDamage` leaves open which rule is
+-- broken.
 use Rattle.std.specs.Prelude.{ℕ, Bool, true, false, Option, Some, None, Result, Ok, Err}
 use Rattle.vol_sector.specs.declared.fault.VolumeFault.{VolumeFault}
 use Rattle.vol_sector.specs.declared.fault.VolumeFault.TheVariants.{NotAVolume, Version, Damaged, Device, TooSmall, Upgraded, Geometry, Memory}

@@ -1,4 +1,5 @@
--- What a device that records its writes and syncs may leave (`docs/VOLUME.md`, "The device").
+-- The disk that a first image and a list of writes and syncs make (`docs/VOLUME.md`, "The device"). `choices` is the
+-- crash model: each sector, apart from the others, is left at its synced value or at any value written since.
 use Rattle.std.specs.Prelude.{◌≡◌, ◌⊎◌, ◌≤◌, ◌==◌, ℕ, List, [], ◌∷◌, ◌++◌, length, take, slice_index_or, if◌then◌else◌, Bool, true, false}
 use Rattle.vol_sector.specs.Disk.{Image, Disk}
 use Rattle.vol_sector.specs.declared.record.Operation.{Operation}

@@ -1,4 +1,6 @@
--- What opening says of an image, on a device with this many sectors (`docs/VOLUME.md`, "What opening refuses").
+-- What opening says of an image, on a device with this many sectors (`docs/VOLUME.md`, "What opening refuses"). Opening
+-- finds the tree of a `StandsOn` image, unless the device or memory fails; `NoVolumeOn`, `HasNoVersion` and `IsDamaged`
+-- are what the refusals 30, 31 and 32 say.
 use Rattle.std.specs.Prelude.{◌≡◌, ◌⊎◌, ◌≤◌, ◌<◌, ℕ, drop}
 use Rattle.byteorder.specs.Endian.{little_number}
 use Rattle.vol_sector.specs.Disk.{Image}

@@ -1,5 +1,5 @@
 -- The space that a tree takes: sectors of 512 bytes for the bytes of its files, and for the sectors that list them.
--- See `docs/VOLUME.md`, "Space".
+-- A write, a new size and opening compare it with the data sectors that a volume has (`docs/VOLUME.md`, "Space").
 use Rattle.std.specs.Prelude.{ℕ, length, Option, Some, None}
 use Rattle.std.specs.List.{sum_by}
 use Rattle.vol_inode.specs.declared.version.Version.{Version}

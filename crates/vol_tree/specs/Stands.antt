@@ -1,4 +1,6 @@
--- The tree that an image of a disk stands for (`docs/VOLUME.md`, "Sectors").
+-- The tree that an image of a disk stands for, and the rules of the format that such an image keeps (`docs/VOLUME.md`,
+-- "Sectors"). `StandsAs` puts all together: the superblock, the log, the slots, their files, and the tree that they
+-- make.
 use Rattle.std.specs.Prelude.{◌≡◌, ◌≢◌, ◌+◌, ◌-◌, ◌≤◌, ◌<◌, ℕ, List, ◌∷◌, length, map, get_or, take, replicate, Option, Some, None}
 use Rattle.std.specs.Option.{option_map}
 use Rattle.vol_sector.specs.Disk.{Image}

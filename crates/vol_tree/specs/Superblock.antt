@@ -1,4 +1,6 @@
--- The first sector of a volume (`docs/VOLUME.md`, "Superblock").
+-- The first sector of a volume: its bytes, and the ranges of its numbers (`docs/VOLUME.md`, "Superblock"). The record
+-- `Superblock` with version, sectors and slots is what contracts call a volume's numbers, and `format` refuses all
+-- outside of `HasRanges`.
 use Rattle.std.specs.Prelude.{◌≢◌, ◌+◌, ◌≤◌, ◌<◌, ℕ, List, [], ◌∷◌, ◌++◌, replicate}
 use Rattle.byteorder.specs.Endian.{little_bytes}
 use Rattle.vol_inode.specs.declared.version.Version.{Version}

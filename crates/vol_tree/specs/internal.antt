@@ -1,4 +1,5 @@
--- Definitions that only private contracts and proofs cite.
+-- What only private contracts and proofs say of an open volume's parts. Begin with `Parts` (its invariant `IsOpen`),
+-- then read `Commits` and `Changes`, which `Moves` and `Removals` build on; `Climbs` and `Reads` are about opening.
 pub mod Removals
 pub mod Moves
 pub mod Replacing

@@ -1,4 +1,5 @@
--- Which failures of a task are the device's (`docs/VOLUME.md`, "The device").
+-- Which failures of a task are the device's (`docs/VOLUME.md`, "The device"). Clauses count one failed operation where
+-- `blames_device` is true, and none elsewhere.
 use Rattle.std.specs.Prelude.{Bool, Result, Ok, Err, false}
 use Rattle.vol_sector.specs.Fault.{is_device}
 use Rattle.vol_tree.specs.Opened.{is_io}

@@ -1,4 +1,5 @@
--- What a change of a volume's tree means: which tree comes of it, or which errno refuses it (`docs/USING.md`, "Commands").
+-- What a change of a volume's tree means: which tree comes of it, or which errno refuses it (`docs/USING.md`,
+-- "Commands"). `meant` says it for each `Change`, and `IsPartOfChange` is what a stop inside may leave.
 use Rattle.std.specs.Prelude.{◌≡◌, ◌⊎◌, ◌&&◌, ◌==◌, ℕ, suc, Bool, not, [], ◌∷◌, length, None, Result, Ok, Err, if◌then◌else◌}
 use Rattle.vol_tree.specs.declared.errno.Errno.{Errno}
 use Rattle.vol_tree.specs.declared.errno.Errno.TheVariants as errno

@@ -1,4 +1,5 @@
--- What a task does with the volume on a device (`README.md`, "The program").
+-- What a task does with the volume on a device (`README.md`, "The program"). `Performs` is the contract of `perform`:
+-- on an honest device the task is done with the tree, or the volume is refused by its rule.
 use Rattle.std.specs.Prelude.{◌≡◌, ◌⊎◌, ◌↔◌, ℕ, List, Option, Result, Ok, Err, OnOk, IfErr}
 use Rattle.std.specs.Io.KnownBytes.{Keeps}
 use Rattle.vol_sector.specs.Disk.{Image, Disk, Leaves, counted}

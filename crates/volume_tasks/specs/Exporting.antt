@@ -1,4 +1,6 @@
--- What printing a directory of the volume on a device as a tar stream prints, and how it ends (`README.md`, "Proved").
+-- What printing a directory of the volume on a device as a tar stream prints, and how it ends (`docs/USING.md`,
+-- "Commands"). `PerformsExport` is the contract of `export_from`; the printed bytes are those of `Exports` in
+-- `volume_archive`.
 use Rattle.std.specs.Prelude.{◌≡◌, ◌⊎◌, ◌↔◌, ℕ, Bool, false, List, Option, Result, Ok, Err}
 use Rattle.std.specs.Io.KnownBytes.{Keeps}
 use Rattle.vol_sector.specs.Disk.{Disk, Leaves, counted}

@@ -1,4 +1,5 @@
--- What formatting a device leaves, and how it ends (`docs/VOLUME.md`, "Formatting").
+-- What formatting a device leaves, and how it ends (`docs/VOLUME.md`, "Formatting"). `FormatsAs` is the contract of
+-- `format_as`: version 1 is `Formats`, and version 2 comes from `large_volume`.
 use Rattle.std.specs.Prelude.{◌≡◌, ◌≤◌, ◌<◌, ◌↔◌, ℕ, Bool, true, false, Result, Ok, Err, OnOk, IfErr}
 use Rattle.vol_sector.specs.Disk.{Image, Disk, Leaves, counted}
 use Rattle.vol_sector.specs.declared.fault.Refused.{Refused}

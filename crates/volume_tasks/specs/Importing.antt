@@ -1,4 +1,6 @@
--- What bringing a tar stream into a directory of the volume on a device leaves, and how it ends (`README.md`, "An import").
+-- What bringing a tar stream into a directory of the volume on a device leaves, and how it ends (`docs/USING.md`,
+-- "Commands"). `PerformsImport` is the contract of `import_into`; `Imports` and `Halts` of `volume_archive` say which
+-- tree comes of the members.
 use Rattle.std.specs.Prelude.{◌≡◌, ◌⊎◌, ◌↔◌, ℕ, Bool, false, List, Option, Result, Ok, Err, OnOk}
 use Rattle.vol_sector.specs.Disk.{Image, Disk, Leaves, counted}
 use Rattle.vol_sector.specs.Fault.{is_device}

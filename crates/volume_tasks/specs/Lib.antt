@@ -1,4 +1,6 @@
--- What public contracts cite, in reading order; `internal` serves private contracts and proofs.
+-- What public contracts cite, in reading order; `internal` serves private contracts and proofs. `Formatting`, `Doing`,
+-- `Volumes`, `Importing` and `Exporting` have one public call each; `Blame`, `Streams`, `Tasks` and `Changes` are their
+-- parts, and `Laws` has a law.
 pub mod Blame
 pub mod Formatting
 pub mod Streams

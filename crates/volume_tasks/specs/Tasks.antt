@@ -1,4 +1,5 @@
--- What a task on a volume prints, and which tree it leaves (`README.md`, "The program").
+-- What a task on a volume prints, and which tree it leaves (`README.md`, "The program"). `Prints` is for tasks that
+-- only ask and `Puts` for `put`; `reached` says where a path of the command line leads.
 use Rattle.std.specs.Prelude.{◌≡◌, ◌⊎◌, ◌==◌, ℕ, Bool, List, [], ◌∷◌, Option, None, Some, Result, Ok, Err, if◌then◌else◌, codes, decimal, false, true}
 use Rattle.std.specs.List.{concat, flat_map}
 use Rattle.std.specs.Option.{option_map_or}

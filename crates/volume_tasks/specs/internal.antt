@@ -1,3 +1,5 @@
+-- What private contracts and proofs cite. `Working` is what most functions on an open volume require; `Reaching`,
+-- `Lines` and `Changing` are what those for paths, for printing and for changes promise.
 pub mod Reaching
 pub mod Lines
 pub mod Working

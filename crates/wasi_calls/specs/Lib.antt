@@ -1,4 +1,5 @@
--- What public contracts cite, in reading order; `internal` serves private contracts and proofs.
+-- What public contracts cite, in reading order; `internal` serves private contracts and proofs. The row of each call
+-- stands in the `Rows` of its subject; `Calls` collects the rows, and `host` says what a host answers by them.
 pub mod Errnos
 pub mod World
 pub mod Checks

@@ -1,2 +1,3 @@
--- Bytes of files and streams, and lists of directories.
+-- Calls on the bytes of files and streams, and on lists of directories. `Rows` goes from reads to writes, sizes and
+-- syncs, and ends with `fd_readdir`.
 pub mod Rows

@@ -1,4 +1,5 @@
--- Module instances (section 4.2.5).
+-- Module instances (section 4.2.5): which instance a module has when its imports are these calls of the host. A machine
+-- keeps the calls but no instance, so `Represents` asks by `IsInstanceOf` which instances fit it.
 use Rattle.std.specs.Prelude.{◌≡◌, List, ◌++◌}
 use Rattle.wasm_module.specs.declared.module.Module.{Module}
 use Rattle.wasm_store.specs.declared.call.HostCall.{HostCall}

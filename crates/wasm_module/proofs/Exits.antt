@@ -3,7 +3,7 @@ use Rattle.std.proofs.Common.{◌≡◌, ◌∙◌, ℕ, List, Option, Some, Non
 use Rattle.std.specs.Result.{IsErrAnd}
 use Rattle.wasm_module.specs.declared.fault.LoadFault.{LoadFault}
 use Rattle.wasm_module.specs.declared.fault.LoadFault.TheVariants as faults
-use Rattle.wasm_module.specs.internal.Reading.{◌>>=◌, Gives, Reader, WholeReader, u32_at, then_at, piece_at, sized_at, raw_of}
+use Rattle.wasm_module.specs.Reading.{◌>>=◌, Gives, Reader, WholeReader, u32_at, then_at, piece_at, sized_at, raw_of}
 
 -- a step's fault is handed on: where it is not that memory was refused, nothing is read
 pub handed_on : {X Y : Type 0} (view : X → Y) (read : Option Y) (r : Result X LoadFault) (e : LoadFault) → IsErrAnd r (λ d. d ≡ e) → ((e ≡ faults.Memory → ⊥) → read ≡ None) → Gives view r read

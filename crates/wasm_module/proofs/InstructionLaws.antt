@@ -12,7 +12,7 @@ use Rattle.wasm_module.specs.Number.{SpellsNumber}
 use Rattle.wasm_module.specs.Grammar.{Byte, Then, U32, Vector}
 use Rattle.wasm_module.specs.Instructions.{comparison_number, binary_operator_number, unary_opcode, load_opcode, store_opcode, SpellsMemArg, SpellsInstruction}
 use Rattle.wasm_module.specs.internal.CodeReading.{s32_at, s64_at, mem_arg_at, numeric_of, numeric_after, control_after, variable_after, load_of, load_after, store_of, store_after, size_after, bulk_after, bulk_at, instruction_after, instruction_at}
-use Rattle.wasm_module.specs.internal.Reading.{◌>>=◌, Reader, byte_at, u32_at, then_at, map_at, vector_at}
+use Rattle.wasm_module.specs.Reading.{◌>>=◌, Reader, byte_at, u32_at, then_at, map_at, vector_at}
 use Rattle.wasm_module.proofs.Laws.{bind_some, some_is, Front, Reads, reads_number}
 use Rattle.wasm_module.proofs.Combine.{reads_byte, reads_then, reads_as, reads_u32, reads_vector, choice, operand, alone_then, operand_then, reread}
 use Rattle.wasm_module.proofs.TypeLaws.{reads_block_type}

@@ -11,7 +11,7 @@ use Rattle.wasm_module.specs.declared.module.DataSegment.{DataSegment}
 use Rattle.wasm_module.specs.Module.{module_of}
 use Rattle.wasm_module.specs.internal.TypesReading.{func_type_at, limits_at, table_at}
 use Rattle.wasm_module.specs.internal.ModuleReading.{import_at, global_at, export_at, elements_at, body_at, data_at, Held, sections_of, sections_at, module_and_count, list_at, code_parts_at, start_parts_at, link_parts_at, storage_parts_at, Parts, parts_at, decoded_of}
-use Rattle.wasm_module.specs.internal.Reading.{◌>>=◌, Reader, then_at, map_at, u32_at, vector_at, whole, customs_at, section_at}
+use Rattle.wasm_module.specs.Reading.{◌>>=◌, Reader, then_at, map_at, u32_at, vector_at, whole, customs_at, section_at}
 use Rattle.wasm_module.proofs.Laws.{some_is}
 
 -- one reader reads what another does, and sees it so

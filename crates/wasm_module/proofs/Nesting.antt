@@ -9,7 +9,7 @@ use Rattle.wasm_module.specs.declared.open_blocks.OpenBlock.{OpenBlock}
 use Rattle.wasm_module.specs.declared.open_blocks.OpenBlock.TheVariants.{Plain, Conditional}
 use Rattle.wasm_module.specs.Instructions.{Instructions, done, plain, block, loop, if_then, if_else, invoke, IsPlain, flatten, SpellsInstruction, SpellsUpTo, SpellsExpression}
 use Rattle.wasm_module.specs.internal.CodeReading.{instruction_at, after_instruction, code_from, code_at}
-use Rattle.wasm_module.specs.internal.Reading.{◌>>=◌, Reader}
+use Rattle.wasm_module.specs.Reading.{◌>>=◌, Reader}
 use Rattle.wasm_module.proofs.Laws.{bind_some, some_is, chosen, Front, Reads}
 use Rattle.wasm_module.proofs.Loop.{with_front}
 use Rattle.wasm_module.proofs.InstructionLaws.{reads_instruction}

@@ -3,7 +3,7 @@ use Rattle.std.proofs.Common.{◌≡◌, ℕ, ◌+◌, ◌-◌, ◌*◌, ◌/◌
 use Rattle.std.proofs.lemmas.Bool.{lt-ltb, le-ltb, le-leb, lt-leb}
 use Rattle.wasm_module.specs.declared.number.Sign.{Sign}
 use Rattle.wasm_module.specs.declared.number.Sign.TheVariants.{Unsigned, Signed}
-use Rattle.wasm_module.specs.internal.Reading.{last_at, number_at}
+use Rattle.wasm_module.specs.Reading.{last_at, number_at}
 use Rattle.wasm_module.proofs.Powers.{double, half_is}
 
 -- the first byte is the last

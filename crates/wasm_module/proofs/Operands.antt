@@ -7,7 +7,7 @@ use Rattle.wasm_module.specs.declared.instruction.Instruction.{Instruction}
 use Rattle.wasm_module.specs.declared.instruction.Instruction.TheVariants as op
 use Rattle.wasm_module.specs.internal.CodeReading.{control_after, block_with, branch_with, variable_after, variable_with}
 use Rattle.wasm_module.specs.internal.TypesReading.{block_type_at}
-use Rattle.wasm_module.specs.internal.Reading.{◌>>=◌, Gives, Reader, map_at, u32_at}
+use Rattle.wasm_module.specs.Reading.{◌>>=◌, Gives, Reader, map_at, u32_at}
 
 -- an operand, and the instruction that is made of it
 abbrev pub made_with : {X : Type 0} → Reader X → (X → Option Instruction) → Reader Instruction

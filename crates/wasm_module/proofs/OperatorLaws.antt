@@ -17,7 +17,7 @@ use Rattle.wasm_module.specs.declared.instruction.Instruction.{Instruction}
 use Rattle.wasm_module.specs.declared.instruction.Instruction.TheVariants as op
 use Rattle.wasm_module.specs.Instructions.{comparison_number, binary_operator_number, unary_opcode, load_opcode, store_opcode, SpellsImmediates, SpellsInstruction}
 use Rattle.wasm_module.specs.internal.CodeReading.{comparison_of, binary_operator_of, unary_of, is_between, compared, operated, numeric_of, numeric_after, mem_arg_at, load_of, load_after, store_of, store_after, instruction_after, instruction_at}
-use Rattle.wasm_module.specs.internal.Reading.{◌>>=◌, map_at}
+use Rattle.wasm_module.specs.Reading.{◌>>=◌, map_at}
 use Rattle.wasm_module.proofs.Laws.{both_true, bind_some, some_is}
 
 -- ---- tables

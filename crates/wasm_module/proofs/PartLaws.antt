@@ -18,7 +18,7 @@ use Rattle.wasm_module.specs.Instructions.{SpellsExpression}
 use Rattle.wasm_module.specs.Sections.{SpellsImportKind, SpellsImport, SpellsGlobal, SpellsExportKind, SpellsExport, SpellsElements, SpellsLocals, BodyContent, SpellsData}
 use Rattle.wasm_module.specs.internal.CodeReading.{code_at}
 use Rattle.wasm_module.specs.internal.ModuleReading.{import_after, import_kind_at, import_at, global_at, export_after, export_kind_at, export_at, elements_at, locals_at, body_of, body_at, data_at}
-use Rattle.wasm_module.specs.internal.Reading.{then_at, vector_at, whole}
+use Rattle.wasm_module.specs.Reading.{then_at, vector_at, whole}
 use Rattle.wasm_module.proofs.Laws.{bind_some, some_is, Front, Reads, ReadsWhole}
 use Rattle.wasm_module.proofs.Combine.{reads_then, reads_as, reads_u32, reads_vector, reads_whole, reads_sized, reads_raw, reads_name, operand_then, reread, tagged, untagged}
 use Rattle.wasm_module.proofs.TypeLaws.{reads_value_type, reads_limits, reads_table, reads_global_type}

@@ -3,7 +3,7 @@ use Rattle.std.proofs.Common.{Bool, true, false, ◌≡◌, ℕ, suc, ◌-◌, �
 use Rattle.std.proofs.lemmas.List.{append-nil}
 use Rattle.wasm_module.specs.declared.instruction.Instruction.{Instruction}
 use Rattle.wasm_module.specs.declared.open_blocks.OpenBlock.{OpenBlock}
-use Rattle.wasm_module.specs.internal.Reading.{◌>>=◌, Reader, begins, next_at, sized_at, custom_of, customs_from, many_at}
+use Rattle.wasm_module.specs.Reading.{◌>>=◌, Reader, begins, next_at, sized_at, custom_of, customs_from, many_at}
 use Rattle.wasm_module.specs.internal.CodeReading.{instruction_at, after_instruction, one_more_at, code_from}
 use Rattle.wasm_module.proofs.Loop.{with_front}
 

@@ -11,7 +11,7 @@ use Rattle.wasm_module.specs.declared.module.GlobalType.{GlobalType}
 use Rattle.wasm_module.specs.Grammar.{Then, U32}
 use Rattle.wasm_module.specs.Types.{SpellsValueType, SpellsBlockType, SpellsFuncType, SpellsBounds, SpellsLimits, SpellsTable, SpellsMutability, SpellsGlobalType}
 use Rattle.wasm_module.specs.internal.TypesReading.{value_type_of, value_type_at, block_type_at, func_type_at, bounds_after, limits_at, table_at, mutability_of, mutability_at, global_type_at}
-use Rattle.wasm_module.specs.internal.Reading.{◌>>=◌, byte_at, u32_at, then_at}
+use Rattle.wasm_module.specs.Reading.{◌>>=◌, byte_at, u32_at, then_at}
 use Rattle.wasm_module.proofs.Laws.{bind_some, guard_some, chosen, some_is, Front, Reads}
 use Rattle.wasm_module.proofs.Combine.{reads_byte, reads_then, reads_as, reads_u32, reads_vector, operand_then, reread, tagged, untagged}
 

@@ -1,4 +1,5 @@
--- Instructions: as they nest, and how bytes spell them (section 5.4).
+-- Instructions: as they nest, and how bytes spell them (section 5.4). The decoder keeps a body as one flat list, while
+-- typing and steps are stated over nested instructions; `Nests` ties the two.
 use Rattle.std.specs.Prelude.{◌≡◌, ℕ, ◌+◌, List, [], ◌∷◌, ◌++◌}
 use Rattle.wasm_module.specs.declared.number.Sign.TheVariants.{Signed}
 use Rattle.wasm_module.specs.declared.instruction.ValueType.{ValueType}

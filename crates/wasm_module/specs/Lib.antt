@@ -1,4 +1,6 @@
--- What public contracts cite, in reading order; `internal` serves private contracts and proofs.
+-- What public contracts cite, in reading order: the grammar of the binary format, from integers up to whole modules.
+-- `decode` promises `Spells` of `Module`, to which all of it leads; `Reading` has numbers, bytes and names once more, as
+-- readers from the front, by which `module_survey` finds sections.
 pub mod Number
 pub mod Grammar
 pub mod Types
@@ -6,4 +8,5 @@ pub mod Accesses
 pub mod Instructions
 pub mod Sections
 pub mod Module
+pub mod Reading
 pub mod internal

@@ -1,4 +1,6 @@
--- The bytes of a module (section 5.5.15), with the limits of the profile.
+-- The bytes of a module (section 5.5.15), with the limits of the profile. `Spells` is the whole grammar in one
+-- relation: `decode` answers with a module that the bytes spell, or with a fault, and then (but for memory) they spell
+-- none.
 use Rattle.std.specs.Prelude.{◌≡◌, ℕ, ◌+◌, ◌≤◌, List, [], ◌∷◌, ◌++◌, length, Option, Some, None, unwrap_or, slice_get, sum_by, IfSome}
 use Rattle.wasm_module.specs.declared.module.FuncType.{FuncType}
 use Rattle.wasm_module.specs.declared.module.Limits.{Limits}

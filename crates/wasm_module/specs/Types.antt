@@ -1,4 +1,5 @@
--- The spellings of types (section 5.3).
+-- The spellings of types (section 5.3), those of floating point left out. Each relates bytes to a type that the decoder
+-- returns; the profile's limit on the size of a table stands here, too (`SpellsTable`).
 use Rattle.std.specs.Prelude.{◌≡◌, ℕ, ◌≤◌, List, [], ◌∷◌, Option, Some, None, Bool, true, false}
 use Rattle.wasm_module.specs.declared.instruction.ValueType.{ValueType}
 use Rattle.wasm_module.specs.declared.instruction.ValueType.TheVariants.{I32, I64}

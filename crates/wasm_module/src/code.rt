@@ -2,7 +2,7 @@
 
 ghost use Rattle.std.specs.Prelude.{◌≡◌};
 ghost use Rattle.wasm_module.specs.internal.CodeReading.{binary_operator_of, block_with, branch_table_at, branch_with, bulk_after, bulk_at, call_indirect_at, compared, comparison_of, control_after, load_after, load_of, numeric_of, operated, size_after, store_after, store_of, unary_instruction, variable_after, variable_with};
-ghost use Rattle.wasm_module.specs.internal.Reading.{Gives};
+ghost use Rattle.wasm_module.specs.Reading.{Gives};
 
 use crate::accesses::{LoadOperator, StoreOperator};
 use crate::cursor::{Cursor, Decode};

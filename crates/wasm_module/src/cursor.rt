@@ -2,7 +2,7 @@
 
 ghost use Rattle.std.specs.Prelude.{◌≡◌, ◌==◌, ◌^◌, ◌<◌, ◌≤◌, [], length, IfOk, MatchResult};
 ghost use Rattle.wasm_module.specs.internal.CodeReading.{s32_at, s64_at, one_more_at, code_at};
-ghost use Rattle.wasm_module.specs.internal.Reading.{Gives, Reader, byte_at, number_at, u32_at, next_at, begins, many_at, vector_at, piece_at, whole, sized_at, raw_of, utf8_text_of, name_at, custom_of, customs_at, section_at};
+ghost use Rattle.wasm_module.specs.Reading.{Gives, Reader, byte_at, number_at, u32_at, next_at, begins, many_at, vector_at, piece_at, whole, sized_at, raw_of, utf8_text_of, name_at, custom_of, customs_at, section_at};
 
 use crate::fault::LoadFault;
 use crate::instruction::Instruction;
@@ -44,7 +44,7 @@ pub trait Decode<'a>: Drop {
 // One after the other. A value that is read piece by piece is dropped at each later exit; read in
 // one call it has one.
 impl<'a, A: Decode<'a>, B: Decode<'a>> Decode<'a> for (A, B) {
-    ghost use Rattle.wasm_module.specs.internal.Reading.{then_at};
+    ghost use Rattle.wasm_module.specs.Reading.{then_at};
 
     ghost at = { then_at A.at B.at };
 

@@ -3,7 +3,7 @@
 ghost use Rattle.std.specs.Prelude.{◌≡◌, ◌≢◌, ℕ, List, IfOk, IfErr};
 ghost use Rattle.wasm_module.specs.Module.{Spells};
 ghost use Rattle.wasm_module.specs.internal.ModuleReading.{word_at, preamble_at, list_at, code_parts_at, start_parts_at, link_parts_at, storage_parts_at, sections_at, decoded_of, is_counted, counts_agree, module_and_count, module_from};
-ghost use Rattle.wasm_module.specs.internal.Reading.{Gives, Allows, map_at, then_at};
+ghost use Rattle.wasm_module.specs.Reading.{Gives, Allows, map_at, then_at};
 ghost use Rattle.wasm_module.specs.internal.TypesReading.{table_at};
 ghost use Rattle.wasm_module.specs.declared.module.Module.{Module as ModuleValue};
 

@@ -1,7 +1,7 @@
 //! Integers in LEB128 (section 5.2.2).
 
 ghost use Rattle.std.specs.Prelude.{◌≡◌, ◌^◌, ◌<◌, ◌≤◌, IfOk};
-ghost use Rattle.wasm_module.specs.internal.Reading.{Gives, last_at, number_at};
+ghost use Rattle.wasm_module.specs.Reading.{Gives, last_at, number_at};
 
 use crate::fault::LoadFault;
 

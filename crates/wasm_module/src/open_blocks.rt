@@ -1,7 +1,7 @@
 //! The blocks that are open while instructions are read.
 
 ghost use Rattle.wasm_module.specs.internal.CodeReading.{after_instruction};
-ghost use Rattle.wasm_module.specs.internal.Reading.{Gives};
+ghost use Rattle.wasm_module.specs.Reading.{Gives};
 
 use crate::fault::LoadFault;
 use crate::instruction::Instruction;

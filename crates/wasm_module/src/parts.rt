@@ -2,7 +2,7 @@
 
 ghost use Rattle.wasm_module.specs.internal.CodeReading.{code_at};
 ghost use Rattle.wasm_module.specs.internal.ModuleReading.{body_of};
-ghost use Rattle.wasm_module.specs.internal.Reading.{Gives, many_at};
+ghost use Rattle.wasm_module.specs.Reading.{Gives, many_at};
 ghost use Rattle.wasm_module.specs.internal.TypesReading.{value_type_of, table_at, mutability_at};
 
 use crate::cursor::{Cursor, Decode};
@@ -139,7 +139,7 @@ fn table_types(alloc: Global, cursor: &mut Cursor<'_>, count: u32) -> Result<Vec
 }
 
 impl<'a> Decode<'a> for Tables {
-    ghost use Rattle.wasm_module.specs.internal.Reading.{vector_at};
+    ghost use Rattle.wasm_module.specs.Reading.{vector_at};
 
     ghost at = { vector_at table_at };
 
@@ -183,7 +183,7 @@ impl<'a> Decode<'a> for GlobalType {
 }
 
 impl<'a> Decode<'a> for u32 {
-    ghost use Rattle.wasm_module.specs.internal.Reading.{u32_at};
+    ghost use Rattle.wasm_module.specs.Reading.{u32_at};
 
     ghost at = { u32_at };
 
@@ -193,7 +193,7 @@ impl<'a> Decode<'a> for u32 {
 }
 
 impl<'a, T: Decode<'a>> Decode<'a> for Items<T> {
-    ghost use Rattle.wasm_module.specs.internal.Reading.{vector_at};
+    ghost use Rattle.wasm_module.specs.Reading.{vector_at};
 
     ghost at = { vector_at T.at };
 

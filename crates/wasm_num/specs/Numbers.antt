@@ -1,4 +1,5 @@
--- Operators on whole numbers from 0 below 2 ^ n (section 4.3.2, integers), for every width n.
+-- Operators on whole numbers from 0 below 2 ^ n (section 4.3.2, integers), for every width n. The clauses of the
+-- functions on `u32` and `u64` cite them with 32 and 64; `signed` and `wrapped` lead to signed numbers and back.
 use Rattle.std.specs.Prelude.{◌≡◌, ℕ, zero, suc, ◌+◌, ◌-◌, ◌*◌, ◌/◌, ◌%◌, ◌^◌, Bool, true, false, if◌then◌else◌, nat_lt, nat_eq, ◌&&◌, Result, Ok, Err, ℤ, pos, negsuc, ◌-ℤ◌, int_div, int_rem}
 use Rattle.wasm_num.specs.declared.trap.Trap.{Trap}
 use Rattle.wasm_num.specs.declared.trap.Trap.TheVariants.{DivideByZero, IntegerOverflow}

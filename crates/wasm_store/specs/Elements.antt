@@ -1,4 +1,5 @@
--- A table as a list of elements (section 4.2.7): each holds a function's index, or nothing.
+-- A table as a list of elements (section 4.2.7): each holds a function's index, or nothing. `with_functions` is what
+-- one element segment makes of a table; `Instantiation` goes over all segments by it.
 use Rattle.std.specs.Prelude.{ℕ, ◌+◌, List, ◌++◌, length, map, take, drop, Option, Some}
 
 -- a table with these functions from an element on

@@ -1,4 +1,5 @@
--- What the functions that instantiate a module promise (section 4.5.4).
+-- What the functions that instantiate a module promise (section 4.5.4). `IsInstantiated` is the clause of `instantiate`
+-- at success: what the code returns is an instance and a first store by `Instantiates`.
 use Rattle.std.specs.Prelude.{◌≡◌, ℕ, List, [], ◌∷◌, ◌++◌, Some, slice_get}
 use Rattle.std.specs.List.{AllByRecursion}
 use Rattle.std.specs.Option.{option_to_list}

@@ -1,4 +1,5 @@
 -- From a valid module to its first configuration (section 4.5.4), cut to the profile: no import but functions.
+-- `Instantiates` says what success means, `RefusedFor` what each fault means; both take the links of any host.
 use Rattle.std.specs.Prelude.{◌≡◌, ℕ, ◌+◌, ◌*◌, ◌<◌, ◌≤◌, ◌⊎◌, min, List, [], ◌∷◌, ◌++◌, length, replicate, Option, Some, None, unwrap_or, slice_get, codes, Contains}
 use Rattle.std.specs.List.{AllByRecursion}
 use Rattle.std.specs.Option.{option_to_list}
@@ -47,7 +48,8 @@ AreLinked links types [] (c ∷ cs) = ⊥
 AreLinked links types (i ∷ is) [] = ⊥
 AreLinked links types (i ∷ is) (c ∷ cs) = IsLinked links types i c × AreLinked links types is cs
 
--- one of the imports is no function, or the host has no call of its names and type
+-- one of the imports is no function, or the host has no call of its names and type; or its type index names no type
+-- (no `type_is`), which a valid module rules out
 abbrev pub SomeUnlinked : LinksOf → List FuncType → List Import → Type 0
 SomeUnlinked links types [] = ⊥
 SomeUnlinked links types (i ∷ is) = ((c : Callee) → IsLinked links types i c → ⊥) ⊎ SomeUnlinked links types is

@@ -1,4 +1,5 @@
--- What memory (section 4.2.8) ends as, where a part of it is lent to be written.
+-- What memory (section 4.2.8) ends as, where a part of it is lent to be written. `slice_mut` and `part_mut` cite it:
+-- their caller writes after they have returned, so they promise what memory is once the loan ends.
 use Rattle.std.specs.Prelude.{ℕ, List, length, Option}
 use Rattle.std.specs.Borrow.{Lends, LendsIf, Fml, MutBor, Array, u8}
 use Rattle.std.specs.List.{refill}

@@ -1,4 +1,6 @@
--- What public contracts cite, in reading order; `internal` serves private contracts and proofs.
+-- What public contracts cite, in reading order: values, memory and tables as lists, instances, instantiation, parts of
+-- memory that are lent. `Instantiation` is the standard's, `Instantiating` ties the code to it; `internal` serves
+-- private contracts and proofs.
 pub mod Values
 pub mod Bytes
 pub mod Elements

@@ -1,4 +1,5 @@
--- Values (section 4.2.1).
+-- Values (section 4.2.1), each a type and a whole number, never a negative one. The code keeps only the numbers, so
+-- contracts compare by `numbers`; that each is one of its type is `IsInType`.
 use Rattle.std.specs.Prelude.{ℕ, ◌^◌, ◌<◌, List, [], ◌∷◌}
 use Rattle.wasm_module.specs.declared.instruction.ValueType.{ValueType}
 use Rattle.wasm_module.specs.declared.instruction.ValueType.TheVariants.{I32, I64}

@@ -1,4 +1,5 @@
--- What it means that a module is refused (section 3.4).
+-- With which faults validation refuses a module (section 3.4): it is invalid, or memory was refused. `load` of
+-- `sandbox_core` cites `IsRefusal`, since after any other fault the bytes spell no module at all.
 use Rattle.wasm_module.specs.declared.fault.LoadFault.{LoadFault}
 use Rattle.wasm_module.specs.declared.fault.LoadFault.TheVariants.{Memory, Invalid}
 

@@ -1,4 +1,5 @@
--- Which modules are valid (section 3.4), cut to the profile.
+-- Which modules are valid (section 3.4), cut to the profile. `IsValid` is the whole; the invariant of `Valid` carries
+-- it, so no later crate asks again.
 use Rattle.std.specs.Prelude.{◌≡◌, ◌≢◌, ℕ, ◌<◌, ◌≤◌, ◌^◌, ◌⊎◌, List, [], ◌∷◌, ◌++◌, Option, Some, None, Bool, true, false, slice_get, length, map, replicate, IfSome}
 use Rattle.std.specs.List.{AllByRecursion, flat_map, filter_map}
 use Rattle.wasm_module.specs.declared.instruction.ValueType.{ValueType}

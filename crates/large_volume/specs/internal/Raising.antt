@@ -1,4 +1,5 @@
--- An open volume that is made one of version 2.
+-- What the upgrade of an open volume to version 2 leaves, and how it ends. `Raises` is the contract of the private
+-- function `raise`, and goes on from the volume's tree, which an upgrade keeps.
 use Rattle.std.specs.Prelude.{◌≡◌, ◌↔◌, ℕ, Result, IfErr, OnOk}
 use Rattle.vol_sector.specs.Disk.{Image, Disk, Leaves, counted}
 use Rattle.vol_sector.specs.declared.fault.Refused.{Refused}

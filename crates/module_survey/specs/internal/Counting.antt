@@ -1,4 +1,5 @@
--- Indices of functions, where the bytes up to the end of the imports are known.
+-- Indices of functions, where the bytes up to the end of the imports are known. The decoder reads these bytes as a
+-- module by themselves, so the imported functions are counted even where it refuses the whole.
 use Rattle.std.specs.Prelude.{◌≡◌, ℕ, ◌+◌, List, Option, Some, None}
 use Rattle.wasm_module.specs.declared.module.Module.{Module}
 use Rattle.wasm_module.specs.Module.{Spells}

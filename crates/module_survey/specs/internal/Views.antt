@@ -1,4 +1,5 @@
--- What is borrowed, by its bytes.
+-- A section as the code has it, with borrowed slices, read as a `Section` of `Places`, with lists of bytes. The
+-- contracts of `src/sections.rt` compare by `found` what the code returns with what the definitions find.
 use Rattle.module_survey.specs.Places.{Section as Found}
 use Rattle.module_survey.specs.declared.sections.Section.{Section}
 

@@ -1,4 +1,5 @@
--- A walk component by component.
+-- A walk component by component, over the tree. `turned` is one step; `ends` is what the rest of the components gives
+-- where a loop stands, with a name missing already or none.
 use Rattle.std.specs.Prelude.{◌≡◌, ◌≢◌, ◌≤◌, ◌<◌, ℕ, length, get_or, not, List, ◌∷◌, Option, Some, None, Result, Ok, Err, if◌then◌else◌}
 use denote.Ref.{Bor}
 use Rattle.vol_tree.specs.declared.errno.Errno.{Errno}

@@ -1,4 +1,5 @@
--- What asks for a module to be inspected.
+-- Which invocation asks for a module to be inspected. The private function `inspect_file` requires it, so its proof
+-- leaves out all other invocations.
 use Rattle.sandbox_words.specs.declared.request.Invocation.{Invocation}
 use Rattle.sandbox_words.specs.declared.request.Invocation.TheVariants as asked
 

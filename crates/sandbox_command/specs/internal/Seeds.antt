@@ -1,4 +1,5 @@
--- A session with the random bytes of a seed.
+-- A session with the random bytes of a seed. Without a seed `with_seed` sets no generator, so the private functions
+-- `seed` and `run_within` have one contract for both cases.
 use Rattle.std.specs.Prelude.{ℕ, Option, option_map}
 use Rattle.wasi_calls.specs.supplies.Random.{seeded}
 use Rattle.sandbox_core.specs.Session.{SessionState}

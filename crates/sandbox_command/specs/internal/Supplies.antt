@@ -1,4 +1,5 @@
--- What is kept of a run's words until its settings are made.
+-- What is kept of a run's words until its settings are made. `supplied` gives it and `run_valid` requires it, so all
+-- tests of a list share it.
 use Rattle.std.specs.Prelude.{◌≡◌}
 use Rattle.sandbox_words.specs.declared.request.Run.{Run}
 use Rattle.sandbox_words.specs.Request.{texts, arguments_of}

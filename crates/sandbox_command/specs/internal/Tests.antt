@@ -1,4 +1,5 @@
--- The parts of a list and of a test.
+-- The parts of a list and of a test: a word, the files of a test, its report, its end. They are in the contracts of
+-- private functions in `crates/sandbox_command/src/testing.rt`; what `run_list` promises stands in `Testing`.
 use Rattle.std.specs.Prelude.{◌≡◌, ◌⊎◌, ◌++◌, ℕ, List, ◌∷◌, Bool, true, false, Option}
 use Rattle.std.specs.Io.KnownBytes.{Appends}
 use Rattle.std.specs.declared.io.ErrorKind.{ErrorKind}

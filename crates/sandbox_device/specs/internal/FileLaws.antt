@@ -1,4 +1,5 @@
--- What holds of a disk in a file.
+-- What holds of a disk in a file, as the trait `Device` asks it of every device. `mixed_since`, `mixed_now` and
+-- `now_may_stay` are the ghost members `counts_now`, `only_now` and `may_stay` of `FileDevice`.
 use Rattle.std.specs.Prelude.{◌≡◌, ◌-◌, ℕ, List, ◌∷◌, length, take}
 use Rattle.std.proofs.Common.{inl, inr, refl, subst, arith}
 use Rattle.vol_sector.specs.Disk.{Image}

@@ -1,4 +1,5 @@
--- What holds of a disk in memory.
+-- What holds of a disk in memory. `RamDevice` hands both laws to `Device`: a crash now counts as one since any moment,
+-- and one since the newest moment leaves the sectors as they are.
 use Rattle.std.specs.Prelude.{◌≡◌, ◌-◌, ℕ, List, ◌∷◌, length, take}
 use Rattle.std.proofs.Common.{inl, inr, subst, arith}
 use Rattle.vol_sector.specs.Disk.{Image}

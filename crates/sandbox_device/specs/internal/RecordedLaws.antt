@@ -1,4 +1,5 @@
--- What holds of a device whose writes and syncs are recorded.
+-- What holds of a device whose writes and syncs are recorded. The laws carry those of `vol_sector` for records and
+-- counts over to `written_by`, and `RecordedDevice` hands them to `Device`.
 use Rattle.std.specs.Prelude.{◌≡◌, ◌≤◌, ℕ, List, [], ◌∷◌, Bool, length}
 use Rattle.std.proofs.Common.{sym, subst}
 use Rattle.vol_sector.specs.Disk.{Image}

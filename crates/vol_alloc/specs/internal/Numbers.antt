@@ -1,4 +1,5 @@
--- Numbers of free sectors.
+-- `AreFree` says that numbers are those of free sectors, all different. The invariant of `Alloc` asks this of its list
+-- of free sectors, and their count besides, so the list misses none.
 use Rattle.std.specs.Prelude.{◌≡◌, ◌≤◌, ◌<◌, ◌-◌, ℕ, List, Bool, true, false, length, slice_index, slice_index_or}
 use Rattle.vol_alloc.specs.Numbers.{AreDistinct}
 

@@ -1,4 +1,5 @@
--- Pointer sectors that a call holds in memory.
+-- Pointer sectors that a read or a shrink holds in memory, so that it reads each of them once. `Held` has the
+-- double-indirect block and one pointer sector more (`above`), and `IsHeld` says that both are as the volume has them.
 use Rattle.std.specs.Prelude.{◌≡◌, ◌≢◌, ◌≤◌, ◌+◌, ◌*◌, ℕ, true}
 use Rattle.vol_sector.specs.Disk.{Image}
 use Rattle.vol_alloc.specs.Alloc.{taken_of}

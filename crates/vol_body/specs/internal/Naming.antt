@@ -1,4 +1,5 @@
--- What a file names, without its bytes.
+-- What a file names, without its bytes: the rules on it, and what one more name changes. Each step of a write keeps
+-- `IsNaming`; proofs go from a pointer set or a number listed to `NamesOneMore`, and from there to the rules.
 use Rattle.std.specs.Prelude.{◌≡◌, ◌≢◌, ◌≤◌, ◌<◌, ◌*◌, ℕ, drop, slice_index}
 use Rattle.byteorder.specs.Endian.{little_number}
 use Rattle.vol_sector.specs.Disk.{Image}

@@ -1,4 +1,5 @@
--- Steps of a survey.
+-- What the steps of a survey push, and when they are refused. All larger steps have the one clause `Surveys`, with the
+-- numbers that the step goes over and the rule (`NonePast`) that it checks.
 use Rattle.std.specs.Prelude.{◌≡◌, ◌≢◌, ◌⊎◌, ◌/◌, ◌%◌, ◌≤◌, ◌<◌, ◌+◌, ◌-◌, ◌*◌, ℕ, List, ◌++◌, ◌∷◌, map, slice_index, Result, OnOk, IfErr}
 use Rattle.std.specs.List.{range_with_len, flat_map}
 use Rattle.vol_sector.specs.Disk.{Image}

@@ -1,4 +1,5 @@
--- What a shorter file keeps and frees.
+-- What a shorter file keeps and frees. Of three sectors at most only a beginning is kept, and `IsTruncation` says what
+-- is written there; every other one stays whole or is freed (`IsFreed`).
 use Rattle.std.specs.Prelude.{◌≡◌, ◌≢◌, ◌≤◌, ◌<◌, ◌+◌, ◌-◌, ◌*◌, ◌/◌, ◌==◌, ◌⊎◌, ◌++◌, ℕ, Bool, true, List, take, replicate, min, if◌then◌else◌}
 use Rattle.vol_sector.specs.Disk.{Image, put}
 use Rattle.vol_inode.specs.Space.{blocks_for_size, inner_blocks_for}

@@ -1,4 +1,5 @@
--- How a key is read back, and which bytes are one.
+-- How a directory and a name are read back from a key, and which bytes are a key. The invariant of `Dirs` asks `IsKey`
+-- of each key that is held, so each of them is that of some directory and name.
 use Rattle.std.specs.Prelude.{◌≡◌, ◌≤◌, ◌<◌, ◌^◌, ℕ, zero, suc, List, [], ◌∷◌, length, drop}
 use Rattle.byteorder.specs.Endian.{big_number}
 use Rattle.vol_dirs.specs.Key.{key_of}

@@ -1,4 +1,5 @@
--- Places in rising lists, and what changes such lists.
+-- Places in rising lists, and what adds to such lists and takes from them. Nothing here is about names: `least_over`,
+-- `insert` and `remove` have contracts by it for any items with an order.
 use Rattle.std.specs.Prelude.{◌≡◌, ◌⊎◌, ◌≤◌, ◌<◌, ℕ, List, length, slice_index_or}
 use Rattle.std.specs.List.{Contains}
 use Rattle.std.specs.declared.cmp.Ordering.{Ordering}

@@ -1,4 +1,5 @@
--- What the steps of a commit leave.
+-- What the steps of a commit leave on the disk, and which sectors they may change. `log_batch` goes from `Settled` to
+-- `Logged` and `apply_batch` back to `Settled`; what `install` writes on the way is `Under` the batch, which hides it.
 use Rattle.std.specs.Prelude.{◌≡◌, ◌⊎◌, ◌≤◌, ◌<◌, ℕ, List}
 use Rattle.vol_sector.specs.Disk.{Image, Disk, Only}
 use Rattle.vol_log.specs.Header.{IsHeader}

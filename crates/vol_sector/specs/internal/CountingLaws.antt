@@ -1,4 +1,5 @@
--- What holds of a disk that counts each operation tried.
+-- Laws of a disk that counts each operation tried. They carry `counts_now` and `only_now` of the trait `Device` over
+-- from the disk below to the counting one.
 use Rattle.std.specs.Prelude.{◌≡◌, ◌≤◌, ◌-◌, ℕ, List, Bool, length, take, count_by}
 use Rattle.std.proofs.Common.{ap, subst, arith}
 use Rattle.vol_sector.specs.Disk.{Image, Disk}

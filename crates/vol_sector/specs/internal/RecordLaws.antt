@@ -1,4 +1,6 @@
--- What holds of a record of writes and syncs.
+-- Laws of a record of writes and syncs: a crash may leave what reads give, and since the last operation there is only
+-- now. `MemoryDevice` takes its `may_stay` from `stays_left`, and the other two laws of a `Device` from `left_now` and
+-- `only_left`.
 use Rattle.std.specs.Prelude.{◌≡◌, ◌≤◌, ◌==◌, ℕ, List, [], ◌∷◌, ◌++◌, length, take, refl, if◌then◌else◌, Bool, true, false}
 use Rattle.std.proofs.Common.{inl, inr, sym, subst, arith}
 use Rattle.std.proofs.lemmas.List.{take_all}

@@ -1,4 +1,5 @@
--- Going up a table of parents, slot by slot.
+-- Going up a table of parents, slot by slot, to the root. Where the check of opening passes, `AllLeadUp` holds, and it
+-- passes wherever `AllLeadUpSoon` holds.
 use Rattle.std.specs.Prelude.{◌≡◌, ◌≢◌, ◌+◌, ◌-◌, ◌≤◌, ◌<◌, ℕ, zero, suc, List, Bool, true, false, length, slice_index, slice_index_or}
 
 -- The serial of the directory that an entry is in, this many steps up. The table has 0 for the root.

@@ -1,4 +1,5 @@
--- The slots of a new volume, and what the steps of formatting leave.
+-- The slots of a new volume, and what the steps of formatting leave. Sector 0 is zeros while the other sectors are
+-- written, so of a crash in between it is enough to say which sectors stay.
 use Rattle.std.specs.Prelude.{◌≡◌, ◌+◌, ◌<◌, ◌==◌, ℕ, List, [], if◌then◌else◌, replicate}
 use Rattle.vol_sector.specs.Disk.{Image}
 use Rattle.vol_log.specs.Header.{header_bytes}

@@ -1,4 +1,5 @@
--- What an open volume keeps of its parts.
+-- What an open volume keeps of its parts: log, names, free sectors and numbers. `IsOpen` is the invariant of `Volume`;
+-- what it says of contents holds on an honest device, and of free sectors only until an operation fails (`IsWorking`).
 use Rattle.std.specs.Prelude.{◌≡◌, ◌+◌, ◌≤◌, ℕ, true, false, Some, None, get_or}
 use Rattle.vol_sector.specs.Disk.{Image, Disk}
 use Rattle.vol_sector.specs.declared.device.Device.{Ghosts}

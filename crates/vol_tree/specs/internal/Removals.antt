@@ -1,4 +1,5 @@
--- What taking an entry out of a volume leaves of its parts.
+-- What taking an entry out of a volume leaves of its parts. `unlink`, `rmdir` and a rename onto another entry all go
+-- through `TakesOut`: the entry is gone (`IsWithout`), or an operation has failed (`Fails`).
 use Rattle.std.specs.Prelude.{◌≡◌, ◌≢◌, ◌↔◌, ◌+◌, ◌-◌, ◌≤◌, ℕ, Bool, true, false, List, Some, None, IsSome, set}
 use Rattle.vol_sector.specs.Disk.{Image, Leaves}
 use Rattle.vol_sector.specs.declared.device.Device.{Ghosts}

@@ -1,4 +1,5 @@
--- The slot of a serial.
+-- `slot_of`: the entry in the slot of a serial, as the sectors spell it. Calls that read or rewrite an entry need it
+-- with its pointers, and a tree has bytes in their place.
 use Rattle.std.specs.Prelude.{◌-◌, ℕ, Option, None, get_or}
 use Rattle.vol_sector.specs.Disk.{Image}
 use Rattle.vol_inode.specs.declared.entry.Entry.{Entry}

@@ -1,4 +1,5 @@
--- What an upgrade leaves of a volume's parts.
+-- What an upgrade leaves of a volume's parts: version 2, or the numbers that it had where an operation failed. In the
+-- second case a crash may leave this tree in either version, or one that a crash could leave before.
 use Rattle.std.specs.Prelude.{◌≡◌, ◌↔◌, Bool, true, false}
 use Rattle.vol_sector.specs.Disk.{Leaves, counted}
 use Rattle.vol_sector.specs.declared.device.Device.{Ghosts}

@@ -1,4 +1,6 @@
--- What a call that changes a volume's tree leaves: the tree that is meant, or its refusal with the tree as it was, or 29.
+-- What a call that changes a volume's tree leaves: the tree that is meant, or its refusal with the tree as it was, or
+-- errno 29. `Changed` is for one changing call on the volume, `Applied` for several, between which a stop may leave a
+-- part.
 use Rattle.std.specs.Prelude.{◌≡◌, ◌⊎◌, ℕ, true, Result, Ok, Err}
 use Rattle.vol_sector.specs.Disk.{Disk, Leaves}
 use Rattle.vol_tree.specs.declared.errno.Errno.{Errno}

@@ -1,4 +1,5 @@
--- The line of an entry, by what is told of it.
+-- The line of an entry, by what is told of it. The code prints from a `Stat`, and the proofs show that `stat_line` and
+-- `stat_facts` are the texts that `Tasks` defines on the tree.
 use Rattle.std.specs.Prelude.{ℕ, List, [], ◌∷◌, take, codes, decimal}
 use Rattle.std.specs.List.{concat}
 use Rattle.vol_inode.specs.declared.entry.Kind.{Kind}

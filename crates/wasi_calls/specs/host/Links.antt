@@ -1,4 +1,5 @@
--- Which calls there are, by the names and types of WASI preview 1.
+-- Which calls there are, by the names and types of WASI preview 1. A name of `wasi_snapshot_preview1` that isn't listed
+-- links too where its type gives one i32, and such a call answers `nosys`.
 use Rattle.std.specs.Prelude.{ℕ, Bool, not, ◌&&◌, List, [], ◌∷◌, ◌++◌, map, Option, Some, None, if◌then◌else◌, codes, bytes_eq}
 use Rattle.std.specs.List.{find}
 use Rattle.std.specs.Option.{option_map_or}

@@ -1,4 +1,5 @@
--- The settings that a session can have (`README.md`, "What it takes").
+-- The settings that a session can have (`docs/USING.md`, "Limits"). `WasiHost::new` refuses any others as `Setting`,
+-- and the definition of a session cites the same test.
 use Rattle.std.specs.Prelude.{◌&&◌, Bool, List, nat_le, length}
 use Rattle.std.specs.List.{list_all}
 use Rattle.wasi_calls.specs.declared.host.settings.Preopen.{Preopen}

@@ -1,4 +1,5 @@
--- A host over a volume and streams: what callers see of it, the worlds that it shows, and what its calls say.
+-- A host over a volume and streams: what callers see of it, the worlds that it shows, and what its calls say. What a
+-- stream still holds isn't known, so `HostCalls` names the bytes that moved and holds with any others.
 use Rattle.std.specs.Prelude.{◌≡◌, ◌⊎◌, ◌||◌, ℕ, Bool, IsTrue, true, List, [], ◌++◌, Option, Some, None}
 use Rattle.std.specs.Io.KnownBytes.{Consumes, Appends}
 use Rattle.vol_sector.specs.Disk.{Disk, Leaves}

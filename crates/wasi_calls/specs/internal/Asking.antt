@@ -1,16 +1,18 @@
--- Bodies that only ask the volume: the part of a row that they go through, and how they may end the call.
+-- Bodies that only ask the volume: the part of a row that they go through, and how they may end the call. The bodies of
+-- `path_*` cite it: a part passes in the same world, or it stops the call by a check or with 29.
 use Rattle.std.specs.Prelude.{◌≡◌, ◌≢◌, ◌⊎◌, ℕ, false, Result, Ok, Err}
 use Rattle.vol_tree.specs.Opened.{Opened}
 use Rattle.wasm_store.specs.declared.call.Errno.{Errno as Number}
 use Rattle.wasi_calls.specs.World.{World, with_volume_failed}
 use Rattle.wasi_calls.specs.Checks.{Checked}
 use Rattle.wasi_calls.specs.internal.Bodies.{with_volume}
+use Rattle.wasi_calls.specs.Errnos.{IO}
 
 module _ {D X : Type 0} where
   -- the part is gone through in the same world, and needs the volume
   pub record Passes (part : World → Checked X) (w : World) (new : Opened D) (x : X) : Type 0 where
     pub is : part w ≡ Ok x
-    pub gone : part (with_volume_failed w) ≡ Err 29
+    pub gone : part (with_volume_failed w) ≡ Err IO
     pub same : with_volume new w ≡ w
     pub working : w.volume_failed ≡ false
 
@@ -22,8 +24,8 @@ module _ {D X : Type 0} where
   -- the volume fails in the part, or had failed before
   pub record Fails (part : World → Checked X) (w : World) (new : Opened D) (e : ℕ) : Type 0 where
     pub answer : e ≡ 29
-    pub gone : part (with_volume_failed w) ≡ Err 29
-    pub never : w.volume_failed ≡ false → part w ≢ Err 29
+    pub gone : part (with_volume_failed w) ≡ Err IO
+    pub never : w.volume_failed ≡ false → part w ≢ Err IO
     pub after : with_volume new w ≡ with_volume_failed w
 
   abbrev pub Stops : (World → Checked X) → World → Opened D → ℕ → Type 0
@@ -32,7 +34,7 @@ module _ {D X : Type 0} where
   -- the volume fails in a part that comes after others
   pub record FailsNext (part : World → Checked X) (w : World) (new : Opened D) (e : ℕ) : Type 0 where
     pub answer : e ≡ 29
-    pub never : part w ≢ Err 29
+    pub never : part w ≢ Err IO
     pub after : with_volume new w ≡ with_volume_failed w
 
   abbrev pub StopsNext : (World → Checked X) → World → Opened D → ℕ → Type 0

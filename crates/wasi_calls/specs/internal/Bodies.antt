@@ -1,4 +1,5 @@
--- What the bodies of calls say.
+-- What the bodies of calls say, whatever their subject. `Serves` is the main clause: each method that answers a call
+-- has it, and the contract of `WasiHost::call` is proved by it.
 use Rattle.std.specs.Prelude.{◌≡◌, ◌≤◌, IsTrue, ℕ, Bool, true, false, List, Option, Result, Ok, Err, Some, vec_capacity}
 use Rattle.std.specs.Io.KnownBytes.{IsAtEnd}
 use Rattle.vol_inode.specs.declared.entry.Kind.{Kind}

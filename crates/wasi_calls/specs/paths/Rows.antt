@@ -1,4 +1,5 @@
--- Calls on paths (`path_*` of WASI preview 1; `docs/DECISIONS.md`, "WASI calls").
+-- Calls on paths (`path_*` of WASI preview 1; `docs/DECISIONS.md`, "WASI calls"). Each row checks the descriptor and
+-- the ranges of memory, walks its path, checks what that reached, and works on the tree last.
 use Rattle.std.specs.Prelude.{ℕ, ◌+◌, Bool, not, ◌==◌, ◌&&◌, ◌||◌, nat_le, List, [], length, Some, None, Ok, Err, if◌then◌else◌, bit_and}
 use Rattle.std.specs.Option.{ok_or}
 use Rattle.byteorder.specs.Endian.{little_bytes}
@@ -18,7 +19,7 @@ use Rattle.wasi_calls.specs.Errnos.{BUSY, EXIST, INVAL, ISDIR, MFILE, NOENT, NOT
 use Rattle.wasi_fd.specs.declared.table.TheConstants.{PLACES}
 use Rattle.wasi_fd.specs.Rights.{PATH_CREATE_DIRECTORY, PATH_CREATE_FILE, PATH_OPEN, PATH_FILESTAT_SET_SIZE, PATH_FILESTAT_GET, PATH_REMOVE_DIRECTORY, PATH_RENAME_SOURCE, PATH_RENAME_TARGET, PATH_UNLINK_FILE}
 
--- a path is checked over its whole length, and walked from the descriptor's directory
+-- what the path in these bytes of memory reaches from the descriptor's directory
 abbrev pub path_at : World → List ℕ → Opened → ℕ → ℕ → Checked Reached
 path_at w memory directory path len = walk w directory (bytes_at memory path len)
 

@@ -1,4 +1,5 @@
--- Random bytes: those that were handed in, or those of a generator, which has no end.
+-- Random bytes: those that were handed in, or those of a generator, which has no end. A world holds its `Supply` as a
+-- value, so the same seed and the same calls give the same bytes.
 use Rattle.std.specs.Prelude.{ℕ, Bool, true, nat_le, List, length, take, drop, Option, Some, None}
 use Rattle.rand_core.specs.Stream.{Stream, fill_bytes}
 use Rattle.rand_core.specs.Steps.{stream_of, steps_u32}

@@ -1,4 +1,6 @@
--- Texts, clocks and random bytes (`args_*`, `environ_*`, `clock_*`, `random_get` of WASI preview 1; `docs/DECISIONS.md`, "WASI calls").
+-- Texts, clocks and random bytes (`args_*`, `environ_*`, `clock_*`, `random_get` of WASI preview 1;
+-- `docs/DECISIONS.md`, "WASI calls"). The real-time clock gives the moment of the settings, and the monotonic one the
+-- units of fuel that the guest has used.
 use Rattle.std.specs.Prelude.{ℕ, ◌+◌, ◌*◌, ◌==◌, nat_le, List, [], ◌∷◌, ◌++◌, length, Ok, if◌then◌else◌, sum_by}
 use Rattle.byteorder.specs.Endian.{little_bytes}
 use Rattle.wasi_calls.specs.supplies.Random.{has_left, next_bytes, after_next}

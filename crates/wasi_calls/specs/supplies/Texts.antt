@@ -1,4 +1,5 @@
--- The texts that a guest can be given (`args_get`, `environ_get` of WASI preview 1).
+-- The texts that a guest can be given (`args_get`, `environ_get` of WASI preview 1). They are bounded in number and in
+-- bytes and have no NUL, since one ends each of them in memory; `settings_fit` cites these tests.
 use Rattle.std.specs.Prelude.{ℕ, ◌+◌, ◌==◌, ◌&&◌, Bool, not, nat_le, List, length, sum_by, map}
 use Rattle.std.specs.List.{list_any}
 use denote.Ref.{Bor}

@@ -1,4 +1,5 @@
--- How instructions are read.
+-- How instructions are read, by their opcodes, and how code ends. The decoder doesn't build a tree: `code_from` keeps
+-- the blocks that are open, and stops at the `end` that closes the last of them.
 use Rattle.std.specs.Prelude.{ℕ, zero, suc, ◌-◌, List, [], ◌∷◌, ◌++◌, length, Option, Some, None, Bool, ◌&&◌, nat_lt, nat_le, ◌==◌, if◌then◌else◌}
 use Rattle.wasm_module.specs.declared.number.Sign.TheVariants.{Signed}
 use Rattle.wasm_module.specs.declared.instruction.ValueType.{ValueType}
@@ -20,7 +21,7 @@ use Rattle.wasm_module.specs.declared.instruction.Instruction.TheVariants as op
 use Rattle.wasm_module.specs.declared.open_blocks.OpenBlock.{OpenBlock}
 use Rattle.wasm_module.specs.declared.open_blocks.OpenBlock.TheVariants.{Plain, Conditional}
 use Rattle.wasm_module.specs.internal.TypesReading.{block_type_at}
-use Rattle.wasm_module.specs.internal.Reading.{◌>>=◌, Reader, byte_at, number_at, u32_at, next_at, then_at, map_at, vector_at}
+use Rattle.wasm_module.specs.Reading.{◌>>=◌, Reader, byte_at, number_at, u32_at, next_at, then_at, map_at, vector_at}
 
 unfoldable pub s32_at : Reader ℕ
 s32_at = number_at Signed 32

@@ -1,4 +1,5 @@
--- How the parts of a module are read.
+-- How the parts of a module are read, up to `module_from`, which is what the decoder does with all bytes. The code
+-- takes the sections in groups, each a few lists and the group after them; `decoded_of` makes a module of these pairs.
 use Rattle.std.specs.Prelude.{ℕ, ◌+◌, List, [], length, Bool, true, ◌&&◌, Option, Some, None, unwrap_or, slice_get, nat_le, ◌==◌, if◌then◌else◌}
 use Rattle.std.specs.List.{list_all, zip}
 use Rattle.wasm_module.specs.declared.module.FuncType.{FuncType}
@@ -18,7 +19,7 @@ use Rattle.wasm_module.specs.declared.module.Module.{Module}
 use Rattle.wasm_module.specs.Module.{Sections, module_of, param_count, local_count}
 use Rattle.wasm_module.specs.internal.TypesReading.{value_type_at, func_type_at, limits_at, table_at, global_type_at}
 use Rattle.wasm_module.specs.internal.CodeReading.{code_at}
-use Rattle.wasm_module.specs.internal.Reading.{◌>>=◌, Reader, WholeReader, byte_at, next_at, then_at, map_at, u32_at, vector_at, whole, sized_at, raw_of, name_at, customs_at, section_at}
+use Rattle.wasm_module.specs.Reading.{◌>>=◌, Reader, WholeReader, byte_at, next_at, then_at, map_at, u32_at, vector_at, whole, sized_at, raw_of, name_at, customs_at, section_at}
 
 -- ---- parts of sections
 

@@ -1,4 +1,5 @@
--- How types are read.
+-- How types are read, one reader for each spelling of `Types`. Where `src/parts.rt` implements `Decode` for a type, it
+-- names the reader that this follows (`at`).
 use Rattle.std.specs.Prelude.{ℕ, Bool, false, true, Option, Some, None, nat_le, ◌==◌, if◌then◌else◌}
 use Rattle.wasm_module.specs.declared.instruction.ValueType.{ValueType}
 use Rattle.wasm_module.specs.declared.instruction.ValueType.TheVariants.{I32, I64}
@@ -7,7 +8,7 @@ use Rattle.wasm_module.specs.declared.instruction.BlockType.TheVariants.{Empty, 
 use Rattle.wasm_module.specs.declared.module.FuncType.{FuncType}
 use Rattle.wasm_module.specs.declared.module.Limits.{Limits}
 use Rattle.wasm_module.specs.declared.module.GlobalType.{GlobalType}
-use Rattle.wasm_module.specs.internal.Reading.{◌>>=◌, Reader, byte_at, next_at, then_at, map_at, u32_at, vector_at}
+use Rattle.wasm_module.specs.Reading.{◌>>=◌, Reader, byte_at, next_at, then_at, map_at, u32_at, vector_at}
 
 abbrev pub value_type_of : ℕ → Option ValueType
 value_type_of b = if b == 0x7F then Some I32 else (if b == 0x7E then Some I64 else None)

@@ -1,4 +1,6 @@
--- What the steps of instantiation find (section 4.5.4).
+-- What the steps of instantiation find (section 4.5.4): the host's calls, the exported `_start`, and the first memory,
+-- table and globals. A step that fails in several ways has one definition of success and one of failure (`AreFound`,
+-- `NotFound`; `AreStored`, `NotStored`).
 use Rattle.std.specs.Prelude.{◌≡◌, ℕ, ◌*◌, ◌⊎◌, List, [], Option, Some, None, replicate, slice_get, codes}
 use Rattle.std.specs.List.{AllByRecursion}
 use Rattle.wasm_module.specs.declared.module.FuncType.{FuncType}

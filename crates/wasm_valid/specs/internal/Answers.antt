@@ -1,4 +1,5 @@
--- What an answer to a question of validation says.
+-- What an answer to a question of validation says: Ok that it holds, `Invalid` that it doesn't. Refused memory says
+-- nothing, so a function may stop there, whatever the question is.
 use Rattle.std.specs.Prelude.{Result, MatchResult}
 use Rattle.wasm_module.specs.declared.fault.LoadFault.{LoadFault}
 use Rattle.wasm_module.specs.declared.fault.LoadFault.TheVariants.{Memory, Invalid}

@@ -1,4 +1,5 @@
--- What it means that the rest of a body is typed, with the blocks that are open before it.
+-- What it means that the rest of a body is typed, with the blocks that are open before it. The code is flat, so `Going`
+-- says that it can be cut into the rests of these blocks, each of which nests and is typed (`Part`).
 use Rattle.std.specs.Prelude.{◌≡◌, ℕ, ◌⊎◌, List, [], ◌∷◌, ◌++◌, Some, slice_get}
 use Rattle.wasm_module.specs.declared.instruction.ValueType.{ValueType}
 use Rattle.wasm_module.specs.declared.instruction.BlockType.{BlockType}

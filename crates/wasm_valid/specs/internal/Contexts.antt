@@ -1,4 +1,5 @@
--- What the code keeps of the context of a module and of a body (section 3.1.1).
+-- What the code keeps of the context of a module and of a body (section 3.1.1). It keeps a function as the index of its
+-- type, while a `Context` has the type itself, so typing is said of each context that fits what is kept.
 use Rattle.std.specs.Prelude.{◌≡◌}
 use Rattle.wasm_module.specs.declared.module.Module.{Module}
 use Rattle.wasm_valid.specs.declared.module_context.ModuleContext.{ModuleContext}
@@ -18,7 +19,7 @@ pub record IsFunctionContext (function_context : FunctionContext) (c : Context) 
   pub locals : c.locals ≡ function_context.locals
   pub returns : c.returns ≡ results_of function_context.returns
 
--- the space of a module
+-- the context has what the module declares
 pub record IsModuleContextOf (module_context : ModuleContext) (m : Module) : Type 0 where
   pub types : module_context.types.now ≡ m.types
   pub type_indices : module_context.type_indices.items ≡ functions_of m

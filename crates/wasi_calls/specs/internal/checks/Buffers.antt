@@ -1,8 +1,10 @@
--- Buffers of a call, as the code has them.
+-- Buffers of a call, as the code has them: spans (`list_of`) for the pairs of the rows. `usable` is what `find_buffers`
+-- checks, and `AreUsable` is what the bodies after it may rely on.
 use Rattle.std.specs.Prelude.{◌≡◌, ℕ, ◌+◌, ◌^◌, ◌<◌, ◌≤◌, nat_lt, true, List, length, map, Ok}
 use Rattle.std.specs.List.{list_all}
 use Rattle.vol_body.specs.declared.source.Span.{Span}
 use Rattle.wasi_calls.specs.Checks.{Checked, Buffer, ◌>>=◌, ◌>>◌, guard, buffers, range, total, is_inside}
+use Rattle.wasi_calls.specs.Errnos.{FAULT, INVAL}
 
 abbrev pub pair_of : Span → Buffer
 pair_of b = (b.pointer, b.len)
@@ -13,8 +15,8 @@ list_of bs = map pair_of bs
 -- few enough bytes, all of them in memory
 abbrev pub fit : List ℕ → List Buffer → Checked (List Buffer)
 fit memory all = do
-  guard (nat_lt (total all) (2 ^ 32)) 28
-  guard (list_all (is_inside memory) all) 21
+  guard (nat_lt (total all) (2 ^ 32)) INVAL
+  guard (list_all (is_inside memory) all) FAULT
   Ok all
 
 -- what that says

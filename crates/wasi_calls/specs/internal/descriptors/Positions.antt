@@ -1,4 +1,5 @@
--- Where a position is moved from.
+-- Where a position is moved from, and to. `fd_seek` comes in three parts here: its checks (`seekable`), the place to
+-- start from (`TellsFrom`, `FailsFrom`) and the move (`sought`).
 use Rattle.std.specs.Prelude.{◌≡◌, ◌≢◌, ℕ, ◌^◌, ◌==◌, ◌&&◌, ◌||◌, nat_le, true, false, List, Some, Ok, Err}
 use Rattle.std.specs.Option.{ok_or}
 use Rattle.byteorder.specs.Endian.{little_bytes}
@@ -12,22 +13,24 @@ use Rattle.wasi_calls.specs.World.{World, with_volume_failed, with_descriptor, m
 use Rattle.wasi_calls.specs.Checks.{Checked, Done, ◌>>=◌, ◌>>◌, guard, get, of_kind, only_files, has, opened_entry, range, with_result}
 use Rattle.wasi_calls.specs.descriptors.Rows.{shifted, last_position, seek_from}
 use Rattle.wasi_calls.specs.internal.Bodies.{with_volume}
+use Rattle.wasi_calls.specs.Errnos.{INVAL, IO, NOTCAPABLE, OVERFLOW}
+use Rattle.wasi_fd.specs.Rights.{FD_SEEK, FD_TELL}
 
 -- the checks of fd_seek before it is asked where to move from
 abbrev pub seekable : World → List ℕ → ℕ → ℕ → ℕ → ℕ → Checked OpenedEntry
 seekable w memory fd delta whence result = do
   d ← get w fd
   of_kind only_files d
-  guard (has d (2 ^ 2) || ((delta == 0) && (whence == 1) && has d (2 ^ 5))) 76
-  guard (nat_le whence 2) 28
+  guard (has d FD_SEEK || ((delta == 0) && (whence == 1) && has d FD_TELL)) NOTCAPABLE
+  guard (nat_le whence 2) INVAL
   range memory result 8
   opened_entry d
 
 -- the place a signed distance away, where it is a position
 abbrev pub position_at : ℕ → ℕ → Checked ℕ
 position_at from delta = do
-  at ← ok_or (shifted from delta) 28
-  guard (nat_le at last_position) 61
+  at ← ok_or (shifted from delta) INVAL
+  guard (nat_le at last_position) OVERFLOW
   Ok at
 
 -- and its end from there on
@@ -48,8 +51,8 @@ pub record FailsFrom {D : Type 0} (old new : Opened D) (w : World) (o : OpenedEn
   pub numbers : new.numbers ≡ old.numbers
   pub tree : new.tree ≡ old.tree
   pub failed : new.failed ≡ true
-  pub gone : seek_from (with_volume_failed w) o whence ≡ Err 29
-  pub never : w.volume_failed ≡ false → seek_from w o whence ≢ Err 29
+  pub gone : seek_from (with_volume_failed w) o whence ≡ Err IO
+  pub never : w.volume_failed ≡ false → seek_from w o whence ≢ Err IO
 
 -- a number stands for this entry, at whatever position
 pub record IsOpenAs (table : Table) (fd : ℕ) (o : OpenedEntry) : Type 0 where

@@ -1,4 +1,5 @@
--- How the list of a directory is told.
+-- How the list of a directory is told, one `dirent` after another. `Lists` is the invariant of that loop: the buffer
+-- has a first part of the list after the cookie, as far as there is room.
 use Rattle.std.specs.Prelude.{◌≡◌, ◌≤◌, ◌^◌, ℕ, List, [], ◌∷◌, ◌++◌, length, take, drop, min, Option, Some, None, Ok}
 use Rattle.byteorder.specs.Endian.{little_bytes}
 use Rattle.vol_sector.specs.Disk.{Disk}

@@ -1,4 +1,5 @@
--- How buffers that may overlap are filled.
+-- How buffers that may overlap are filled with bytes of a file. Where buffers share a place the last one wins, so the
+-- code passes over what later buffers cover and writes each byte once.
 use Rattle.std.specs.Prelude.{◌≡◌, ◌⊎◌, ℕ, ◌+◌, ◌-◌, ◌<◌, ◌≤◌, true, false, ◌&&◌, nat_le, nat_lt, min, Bool, List, [], ◌∷◌, length, take, get_or, Ok, if◌then◌else◌}
 use Rattle.std.specs.List.{list_any}
 use Rattle.wasi_calls.specs.declared.files.reading.Stretch.{Stretch}

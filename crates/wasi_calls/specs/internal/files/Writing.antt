@@ -1,4 +1,5 @@
--- What calls that write bytes do after their checks.
+-- What calls that write bytes do after their checks. `written_on` serves a write with append too, since the code takes
+-- such a file to stand at its end.
 use Rattle.std.specs.Prelude.{ℕ, ◌+◌, ◌==◌, List, Ok, if◌then◌else◌}
 use Rattle.byteorder.specs.Endian.{little_bytes}
 use Rattle.wasi_fd.specs.declared.descriptor.Descriptor.{Descriptor}

@@ -1,4 +1,5 @@
--- What the code says of the list of calls.
+-- What the code says of the list of calls. Its `match` on a name gives the types and the call, so an entry here has no
+-- name (`Typed`).
 use Rattle.std.specs.Prelude.{ℕ, ◌&&◌, List, Option, Some, None, if◌then◌else◌, bytes_eq}
 use Rattle.std.specs.List.{find}
 use Rattle.std.specs.Option.{option_map}

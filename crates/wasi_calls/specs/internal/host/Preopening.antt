@@ -1,4 +1,5 @@
--- What finds and opens the preopened directories.
+-- What finds and opens the preopened directories. All are found before any is opened, so where a path names none, or
+-- the volume fails, no descriptor is added.
 use Rattle.std.specs.Prelude.{◌≡◌, true, false, ◌+◌, ◌<◌, ℕ, suc, List, [], ◌∷◌, length, nat_lt, Option, Some, None, Result, Ok, Err, if◌then◌else◌, slice_get, slice_index}
 use Rattle.vol_tree.specs.Tree.{Tree}
 use Rattle.vol_tree.specs.declared.errno.Errno.{Errno}

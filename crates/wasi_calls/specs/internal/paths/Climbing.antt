@@ -1,4 +1,5 @@
--- Going up from an entry.
+-- Going up from an entry, one parent at a time. `ClimbsTo` is the invariant of the loop by which `path_rename` finds
+-- whether its target is the source or stands below it.
 use Rattle.std.specs.Prelude.{◌≡◌, ◌-◌, ℕ, Some}
 use Rattle.vol_sector.specs.Disk.{Disk}
 use Rattle.vol_tree.specs.Tree.{Tree, Entry, entry}

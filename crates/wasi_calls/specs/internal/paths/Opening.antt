@@ -1,4 +1,5 @@
--- The parts of `path_open`.
+-- The parts of `path_open`, in the order of the call. `open_part` changes nothing; after it a `Target` says whether an
+-- entry is opened as it is, cut to no bytes, or made.
 use Rattle.std.specs.Prelude.{◌≡◌, ◌≤◌, ℕ, ◌+◌, not, ◌==◌, ◌&&◌, ◌||◌, nat_le, List, [], Bool, true, false, Some, Result, Ok, Err, if◌then◌else◌, bit_and}
 use Rattle.vol_inode.specs.Name.{IsName}
 use Rattle.wasm_store.specs.Bytes.{bytes_at}
@@ -22,6 +23,7 @@ use Rattle.wasi_calls.specs.declared.paths.opening.Target.{Target}
 use Rattle.wasi_calls.specs.declared.paths.opening.Target.TheVariants.{Entry, Cut, New}
 use Rattle.wasi_calls.specs.internal.Bodies.{with_volume, is_directory_kind, IsFileOf}
 use Rattle.wasi_calls.specs.internal.Asking.{StopsNext, Passes, Stops}
+use Rattle.wasi_calls.specs.Errnos.{EXIST, INVAL, ISDIR, NOENT, NOTDIR, NOTSUP}
 
 -- the arguments of the call; those at 1 are the lookup flags
 abbrev pub open_call : List ℕ → OpenCall
@@ -39,9 +41,9 @@ open_call args = record {
 -- the checks of the flags
 abbrev pub flags_checked : ℕ → ℕ → Checked (Unit {0})
 flags_checked oflags fdflags = do
-  guard (nat_le oflags 15 && nat_le fdflags 31) 28
-  guard (not (is_set oflags directory_only && is_set oflags creat)) 28
-  guard (bit_and fdflags (2 + 8 + 16) == 0) 58
+  guard (nat_le oflags 15 && nat_le fdflags 31) INVAL
+  guard (not (is_set oflags directory_only && is_set oflags creat)) INVAL
+  guard (bit_and fdflags (2 + 8 + 16) == 0) NOTSUP
 
 -- all checks before the walk
 abbrev pub open_entered : World → List ℕ → OpenCall → Checked Opened
@@ -55,16 +57,16 @@ open_entered w memory a = do
 -- those on a directory, or a file, that is there
 abbrev pub found_checked : ℕ → Bool → Checked (Unit {0})
 found_checked oflags is_directory = do
-  guard (not (is_set oflags creat && is_set oflags excl)) 20
+  guard (not (is_set oflags creat && is_set oflags excl)) EXIST
   if is_directory
-      then guard (not (is_set oflags creat || is_set oflags trunc)) 31
-      else guard (not (is_set oflags directory_only)) 54
+      then guard (not (is_set oflags creat || is_set oflags trunc)) ISDIR
+      else guard (not (is_set oflags directory_only)) NOTDIR
 
 -- those on a name that isn't there
 abbrev pub missing_checked : ℕ → Bool → Checked (Unit {0})
 missing_checked oflags slash = do
-  guard (is_set oflags creat) 44
-  guard (not slash) 31
+  guard (is_set oflags creat) NOENT
+  guard (not slash) ISDIR
 
 -- what comes before anything is changed: the directory, what was reached and the new number
 abbrev pub open_part : World → List ℕ → OpenCall → Checked (Opened × Reached × ℕ)

@@ -1,4 +1,5 @@
--- The entries that may be removed.
+-- The parts of `path_remove_directory` and `path_unlink_file`, which differ in a right and in the kind of the entry.
+-- `remove` takes both as arguments, as the code does, and is proved to be the row of either call.
 use Rattle.std.specs.Prelude.{ℕ, not, List, Bool, Result, Ok}
 use Rattle.vol_inode.specs.declared.entry.Kind.{Kind}
 use Rattle.vol_inode.specs.declared.entry.Kind.TheVariants as nodes

@@ -1,4 +1,5 @@
--- The parts of `path_rename`.
+-- The parts of `path_rename`, in the order of the call. For a target that is there the code asks the volume for all
+-- `Facts` before it checks any, so `replace_checked` takes no tree.
 use Rattle.std.specs.Prelude.{◌≡◌, ℕ, ◌^◌, not, ◌==◌, ◌&&◌, ◌||◌, List, Bool, length, Result, Ok, Err}
 use Rattle.vol_tree.specs.Tree.{Tree, is_empty}
 use Rattle.vol_tree.specs.Calls.{directory_at, is_within}
@@ -18,6 +19,8 @@ use Rattle.path_walk.specs.Walk.{reached_as}
 use Rattle.wasm_store.specs.Bytes.{bytes_at}
 use Rattle.wasi_calls.specs.internal.Bodies.{with_volume}
 use Rattle.wasi_calls.specs.internal.Asking.{StopsNext, Passes, Stops}
+use Rattle.wasi_calls.specs.Errnos.{BUSY, INVAL, ISDIR, NOTCAPABLE, NOTDIR, NOTEMPTY}
+use Rattle.wasi_fd.specs.Rights.{PATH_RENAME_SOURCE, PATH_RENAME_TARGET}
 
 -- the arguments of the call
 abbrev pub rename_call : List ℕ → RenameCall
@@ -37,8 +40,8 @@ rename_allowed w a = do
   e ← get w a.to_fd
   of_kind only_directories d
   of_kind only_directories e
-  guard (has d (2 ^ 16)) 76
-  guard (has e (2 ^ 17)) 76
+  guard (has d PATH_RENAME_SOURCE) NOTCAPABLE
+  guard (has e PATH_RENAME_TARGET) NOTCAPABLE
   Ok (d, e)
 
 -- all checks before the walks
@@ -55,7 +58,7 @@ rename_entered w memory a = do
 abbrev pub source_checked : ℕ → Reached → Checked ℕ
 source_checked directory r = do
   source ← found r
-  guard (not (source == directory)) 10
+  guard (not (source == directory)) BUSY
   Ok source
 
 -- what comes before the row's own checks: the source, and what the second path reached
@@ -65,7 +68,7 @@ rename_part w memory a = do
   moved ← path_at w memory both.0 a.from_path a.from_len
   target ← path_at w memory both.1 a.to_path a.to_len
   source ← found moved
-  guard (not (source == both.0.serial)) 10
+  guard (not (source == both.0.serial)) BUSY
   Ok (source, target)
 
 -- what is asked of a source and a target
@@ -86,11 +89,11 @@ facts_of T source target = record {
 -- the checks on a target that is there
 abbrev pub replace_checked : Facts → Bool → Checked (Unit {0})
 replace_checked f held = do
-  guard (not (f.source_is_directory && f.is_within)) 28
-  guard (not (f.source_is_directory && not f.target_is_directory)) 54
-  guard (not (f.target_is_directory && not f.source_is_directory)) 31
-  guard (not held) 10
-  guard (not f.target_is_directory || f.is_empty) 55
+  guard (not (f.source_is_directory && f.is_within)) INVAL
+  guard (not (f.source_is_directory && not f.target_is_directory)) NOTDIR
+  guard (not (f.target_is_directory && not f.source_is_directory)) ISDIR
+  guard (not held) BUSY
+  guard (not f.target_is_directory || f.is_empty) NOTEMPTY
 
 abbrev pub replace_row : World → ℕ → ℕ → Checked (Unit {0})
 replace_row w source target = replace_checked (facts_of w.tree source target) (held_open w target)

@@ -1,4 +1,5 @@
--- What a reader gave.
+-- What a reader gave, and where its bytes stand in the guest's memory. `Came` is for one place and `Dealt` for the
+-- buffers of a call; `SomeCame` and `SomeDealt` are the same after a failure.
 use Rattle.std.specs.Prelude.{◌≡◌, ◌≤◌, ℕ, List, [], ◌∷◌, ◌||◌, nat_lt, length, true, false, Option, Ok}
 use Rattle.std.specs.Io.KnownBytes.{Consumes}
 use Rattle.byteorder.specs.Endian.{little_bytes}

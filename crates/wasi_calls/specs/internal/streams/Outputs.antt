@@ -1,4 +1,5 @@
--- What a writer took.
+-- What a writer took before it failed: a beginning of the bytes. `write_stream` cites it, and the case `OutputFails` of
+-- a call is proved from it.
 use Rattle.std.specs.Prelude.{◌≡◌, ℕ, List, ◌++◌, Option}
 use Rattle.std.specs.Io.KnownBytes.{Appends}
 

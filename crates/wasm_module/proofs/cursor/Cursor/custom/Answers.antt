@@ -1,4 +1,4 @@
-use Rattle.wasm_module.specs.internal.Reading.{custom_of}
+use Rattle.wasm_module.specs.Reading.{custom_of}
 use Rattle.wasm_module.proofs.Exits.{handed_on, given_within, none_within}
 use Rattle.wasm_module.proofs.cursor.Cursor.custom.Goals as goal
 

@@ -1,5 +1,5 @@
 use Rattle.std.proofs.Common.{refl}
-use Rattle.wasm_module.specs.internal.Reading.{section_at}
+use Rattle.wasm_module.specs.Reading.{section_at}
 use Rattle.wasm_module.proofs.Exits.{handed_on}
 use Rattle.wasm_module.proofs.cursor.Cursor.section.Goals as goal
 

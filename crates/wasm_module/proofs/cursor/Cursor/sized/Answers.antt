@@ -1,5 +1,5 @@
 use Rattle.std.proofs.Common.{refl, ◌∙◌}
-use Rattle.wasm_module.specs.internal.Reading.{whole}
+use Rattle.wasm_module.specs.Reading.{whole}
 use Rattle.wasm_module.proofs.Exits.{handed_on, none_within, sized_piece}
 use Rattle.wasm_module.proofs.cursor.Cursor.sized.Goals as goal
 
