@@ -197,7 +197,7 @@ impl<'a> Cursor<'a> {
     }
 
     #[inline(always)]
-    #[tactic(auto, unfolding(crate::specs::internal::Reading::u32_at))]
+    #[tactic(auto, unfolding(crate::specs::Reading::u32_at))]
     pub fn u32(&mut self) -> Result<u32, LoadFault>
         ensures { Gives (λ x. (x, self.new)) result (u32_at self.old) }
     {
@@ -235,7 +235,7 @@ impl<'a> Cursor<'a> {
     }
 
     /// The next bytes, by themselves, after their count.
-    #[tactic(auto, unfolding(crate::specs::internal::Reading::sized_at, crate::specs::internal::Reading::raw_of))]
+    #[tactic(auto, unfolding(crate::specs::Reading::sized_at, crate::specs::Reading::raw_of))]
     pub fn sized_piece(&mut self) -> Result<Cursor<'a>, LoadFault>
         ensures { Gives (λ x. (x, self.new)) result (sized_at raw_of self.old) }
     {
@@ -243,7 +243,7 @@ impl<'a> Cursor<'a> {
         self.piece(size)
     }
 
-    #[tactic(auto, unfolding(crate::specs::internal::Reading::vector_at))]
+    #[tactic(auto, unfolding(crate::specs::Reading::vector_at))]
     pub fn vector<T: Decode<'a>>(&mut self, alloc: Global) -> Result<Items<T>, LoadFault>
         ensures { Gives (λ x. (x, self.new)) result (vector_at T.at self.old) }
     {
@@ -316,7 +316,7 @@ impl<'a> Cursor<'a> {
         }
     }
 
-    #[tactic(auto, unfolding(crate::specs::internal::Reading::name_at))]
+    #[tactic(auto, unfolding(crate::specs::Reading::name_at))]
     fn name(&mut self) -> Result<Name<'a>, LoadFault>
         ensures { Gives (λ x. (x, self.new)) result (name_at self.old) }
     {
@@ -325,7 +325,7 @@ impl<'a> Cursor<'a> {
 
     /// The content of the custom section that begins at this offset: its name is read, and
     /// nothing else.
-    #[tactic(auto, unfolding(crate::specs::internal::Reading::custom_of))]
+    #[tactic(auto, unfolding(crate::specs::Reading::custom_of))]
     fn custom_content(mut self, section: u32) -> Result<(), LoadFault>
         ensures { Gives (λ x. x) result (custom_of self.entry) }
     {
@@ -342,7 +342,7 @@ impl<'a> Cursor<'a> {
     }
 
     /// Goes past the custom sections at the front.
-    #[tactic(auto, using(crate::proofs::Steps::customs_more, crate::proofs::Steps::customs_done), unfolding(crate::specs::internal::Reading::customs_at))]
+    #[tactic(auto, using(crate::proofs::Steps::customs_more, crate::proofs::Steps::customs_done), unfolding(crate::specs::Reading::customs_at))]
     pub fn customs(&mut self) -> Result<(), LoadFault>
         ensures { Gives (λ x. (x, self.new)) result (customs_at self.old) }
     {
@@ -358,7 +358,7 @@ impl<'a> Cursor<'a> {
     }
 
     /// A section that may be absent, and the custom sections after it.
-    #[tactic(auto, unfolding(crate::specs::internal::Reading::section_at))]
+    #[tactic(auto, unfolding(crate::specs::Reading::section_at))]
     pub fn section<T: Decode<'a>>(&mut self, alloc: Global, id: u8) -> Result<Option<T>, LoadFault>
         ensures { Gives (λ x. (x, self.new)) result (section_at id (whole T.at) self.old) }
     {

@@ -143,7 +143,7 @@ impl<'a> Decode<'a> for Tables {
 
     ghost at = { vector_at table_at };
 
-    #[tactic(auto, unfolding(crate::specs::internal::Reading::vector_at))]
+    #[tactic(auto, unfolding(crate::specs::Reading::vector_at))]
     fn decode(alloc: Global, cursor: &mut Cursor<'a>) -> Result<Tables, LoadFault> {
         let offset = cursor.offset();
         let count = cursor.u32()?;
