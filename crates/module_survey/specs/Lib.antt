@@ -1,6 +1,6 @@
--- What public contracts cite, in reading order: how words are printed, what is told of a module, where functions stand,
--- refusals. All of it meets in `Printing`, whose `Tells` and `PrintsBeginning` are the clauses of `survey`; `internal`
--- serves private contracts and proofs.
+-- What public contracts cite, in reading order: how names and numbers are printed, what is told of a valid module,
+-- where functions stand, refusals. All of it meets in `Printing`, whose `Tells` and `PrintsBeginning` are the clauses
+-- of `survey`; `internal` serves private contracts and proofs.
 pub mod Words
 pub mod Survey
 pub mod Places

@@ -1,5 +1,6 @@
--- Where in a module's bytes functions stand, and what they are called. Sections are found by their ids and sizes alone,
--- so this speaks of bytes that spell no module, too; only the imports have to be readable, so that they can be counted.
+-- Where in a module's bytes functions stand, and what they are called. Sections are found by their ids and sizes, the
+-- custom section `name` by its name too, so this speaks also of bytes that spell no module. Only the bytes up to the
+-- end of the imports have to be a module, so that imported functions can be counted.
 use Rattle.std.specs.Prelude.{◌≡◌, ℕ, zero, suc, ◌+◌, ◌-◌, ◌==◌, ◌&&◌, nat_le, nat_lt, Bool, false, List, length, take, drop, Option, Some, None, if◌then◌else◌, codes, bytes_eq}
 use Rattle.std.specs.List.{filter_map}
 use Rattle.std.specs.Option.{option_map_or}

@@ -1,5 +1,5 @@
 -- What `survey` leaves on its writer: the whole text (`Tells`), or nothing or a beginning of it where it fails
--- (`PrintsBeginning`). A writer's contents are known bytes or unknown ones, hence the options.
+-- (`PrintsBeginning`). A writer's contents are known bytes or unknown ones, hence `Option (List ℕ)`.
 use Rattle.std.specs.Prelude.{◌≡◌, ℕ, ◌⊎◌, List, ◌++◌, Option, Result}
 use Rattle.std.specs.declared.io.ErrorKind.{ErrorKind}
 use Rattle.std.specs.declared.io.ErrorKind.TheVariants.{OutOfMemory}

@@ -1,5 +1,6 @@
--- What is told of bytes that are refused: the fault, its offset, the function that it lies in and that function's name.
--- `IsSurvey` adds the text of a valid module from `Survey`, so it says of any bytes which text is the right one.
+-- What is told of bytes that are refused: the fault, its offset, the function that it lies in and that function's
+-- name. `IsSurvey` adds the text of a valid module from `Survey`. Of refused bytes it fixes the text for the fault
+-- that is told, but not the fault's offset, nor, where they spell no module, which fault that is.
 use Rattle.std.specs.Prelude.{◌≡◌, ◌≢◌, ℕ, List, [], ◌∷◌, ◌++◌, Option, Some, None, Result, Ok, Err, codes}
 use Rattle.std.specs.List.{concat}
 use Rattle.std.specs.Option.{option_map_or}

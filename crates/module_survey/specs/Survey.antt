@@ -1,6 +1,6 @@
--- What is told of a valid module: lines of a key and a value for its imports, its exports and its own parts.
--- `survey_of` computes the whole text from the module and the host's links, so that it is fixed to the byte; all else
--- here is a part of it.
+-- What is told of a valid module, as lines of a key and a value: that it loads, its imports, its exports and its own
+-- parts. `survey_of` computes the whole text from the module and the calls that its imports are linked to, so that it
+-- is fixed to the byte; all else here is a part of it.
 use Rattle.std.specs.Prelude.{ℕ, ◌&&◌, Bool, true, false, List, [], ◌∷◌, ◌++◌, length, Option, Some, None, slice_get, codes, decimal, bytes_eq}
 use Rattle.std.specs.List.{concat, flat_map, list_any}
 use Rattle.std.specs.Option.{option_map_or}

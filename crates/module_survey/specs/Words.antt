@@ -1,5 +1,5 @@
--- How names and numbers are printed, as bytes of ASCII. A name is escaped as a string of the text format (section
--- 6.3.3), so it never holds the blanks and line breaks that set off the parts of a line.
+-- How names and numbers are printed, as bytes of ASCII. In a name a backslash, and each byte that is no visible
+-- character of ASCII, becomes a backslash and two hexadecimal digits, so that no blank and no line break stands in it.
 use Rattle.std.specs.Prelude.{ℕ, ◌+◌, ◌/◌, ◌%◌, ◌==◌, ◌&&◌, nat_lt, not, Bool, List, [], ◌∷◌, Option, Some, None, if◌then◌else◌, codes, decimal}
 use Rattle.std.specs.List.{flat_map}
 
@@ -14,8 +14,8 @@ hex_digit n = if nat_lt n 10 then 48 + n else 87 + n
 abbrev pub is_plain : ℕ → Bool
 is_plain b = nat_lt 32 b && (nat_lt b 127 && not (b == 92))
 
--- A byte of a name: itself, or a backslash and its two digits, as in strings of the text format (section 6.3.3). So a name
--- has neither blanks nor line breaks, and different names are printed differently.
+-- A byte of a name: itself, or a backslash and its two hexadecimal digits, where it is a backslash or no visible character
+-- of ASCII. So a name has neither blanks nor line breaks, and different names are printed differently.
 abbrev pub byte_text : ℕ → SurveyText
 byte_text b = if is_plain b then b ∷ [] else 92 ∷ hex_digit (b / 16) ∷ hex_digit (b % 16) ∷ []
 

@@ -1,5 +1,5 @@
--- Laws over walks, by the definitions only (`docs/PATHS.md`, "Walking"). The first two say that a path leads only to
--- the directory where its walk starts, or to what stands below it.
+-- Laws over paths and walks, by the definitions only (`docs/PATHS.md`, "Walking"). The first two say that a path leads
+-- only to the directory where its walk starts, or to what stands below it.
 use Rattle.std.specs.Prelude.{◌≡◌, ◌≢◌, ◌≤◌, ℕ, List, [], ◌∷◌, None, Ok, Bool, true}
 use Rattle.std.specs.List.{Contains}
 use Rattle.vol_inode.specs.Name.{IsName}

@@ -1,5 +1,5 @@
--- Paths from the root of a volume (`docs/PATHS.md`, "From the root"). Whoever cites it has taken the first slash off;
--- the rest is read as a guest's path is, and no rest is the root.
+-- Paths from the root of a volume (`docs/PATHS.md`, "From the root"). `reached_from_root` takes what follows the first
+-- slash; this is read as a guest's path is, and where nothing follows it is the root.
 use Rattle.std.specs.Prelude.{ℕ, Bool, false, List, [], ◌∷◌, Result, Ok}
 use Rattle.vol_tree.specs.declared.errno.Errno.{Errno}
 use Rattle.vol_tree.specs.Tree.{Tree}

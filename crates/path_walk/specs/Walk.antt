@@ -1,5 +1,5 @@
--- What a walk over an open volume answers and leaves (`docs/PATHS.md`, "Walking"). Calls of other crates that only read
--- cite `Asked` too: on a device that keeps its model the tree is the same, and a crash leaves nothing new.
+-- What a walk over an open volume answers and leaves (`docs/PATHS.md`, "Walking"). Contracts of other crates cite
+-- `Asked` of a volume that is only read: where its device keeps its model, the tree stays, and a crash leaves no more.
 use Rattle.std.specs.Prelude.{◌≡◌, ◌⊎◌, ℕ, Bool, Result, Ok, Err, IsSome}
 use Rattle.vol_sector.specs.Disk.{Disk, Leaves}
 use Rattle.vol_inode.specs.Name.{IsName}
@@ -30,7 +30,7 @@ abbrev pub GivesOrIo : Result Reached Errno → Result ReachedValue Errno → Ty
 GivesOrIo meant (Ok r) = meant ≡ Ok (reached_as r)
 GivesOrIo meant (Err e) = (meant ≡ Err e) ⊎ (e ≡ errno.Io)
 
--- What a call leaves of a volume that it only asks: the tree is the same, and a crash leaves nothing new.
+-- A volume was only asked: where its device keeps its model, the tree is the same, and a crash leaves nothing new.
 pub record Asked {D : Type 0} (honest : D → Type 0) (disk : D → Disk) (size failures : D → ℕ) (old new : Opened D) (io : Bool) : Type 0 where
   pub tree : honest old.device → new.tree ≡ old.tree
   pub crash : honest old.device → Leaves (disk old.device) (disk new.device) (λ c. ⊥)

@@ -1,5 +1,6 @@
 -- How a run ended, as its report says it: a label, a number, a text, an offset (`docs/USING.md`, "The report of a
--- run"). Each is the value of one line, and `is_machines` says for which ends the machine is to blame.
+-- run"). Each is the value of one line, and `is_machines` says which ends put the blame on the machine, whatever else
+-- the report says.
 use Rattle.std.specs.Prelude.{◌==◌, ◌||◌, ℕ, Bool, true, false, [], Option, Some, None, codes}
 use Rattle.std.specs.Option.{option_map_or}
 use Rattle.wasm_num.specs.declared.trap.Trap.{Trap}

@@ -1,5 +1,6 @@
--- The faults of a run: their numbers, their offsets, and what they mean in words (`docs/USING.md`, "Faults"). Out of
--- memory has no number and no words here, since a report says it as an end of its own.
+-- The faults of the program, of runs and of tasks on volumes: their numbers, offsets and words (`docs/USING.md`,
+-- "Faults"); and in `rule_text` what is wrong where a rule of the volume's format is broken. Out of memory has no
+-- number and no words here, since a report says it as an end of its own.
 use Rattle.std.specs.Prelude.{ℕ, List, [], Option, Some, None, codes}
 use Rattle.vol_sector.specs.declared.fault.VolumeFault.{VolumeFault}
 use Rattle.vol_sector.specs.declared.fault.VolumeFault.TheVariants as volume

@@ -1,6 +1,6 @@
--- What is told of a damaged volume that is checked: the line of the fault, and a second one that says which sector
--- breaks which rule (`docs/VOLUME.md`). `Execution` cites `TellsChecked` for every task, but `checked_damage` gives a
--- damage for `check` alone.
+-- What is told of a damaged volume that is checked: the line of the fault, and a second one that says which rule of
+-- the format is broken, and in which sector where that is known (`docs/USING.md`, "Faults"). `Execution` cites
+-- `TellsChecked` for every task, but `checked_damage` gives a damage for `check` alone.
 use Rattle.std.specs.Prelude.{ℕ, List, [], ◌∷◌, Option, Some, None, Result, Ok, Err, codes, decimal}
 use Rattle.std.specs.List.{concat}
 use Rattle.vol_sector.specs.declared.fault.Damage.{Damage}

@@ -1,6 +1,7 @@
--- What the program does: how it ends, and of which run, formatting, task, import, export or inspection its status tells
--- (`README.md`, "The program"). `Executes` is the contract of `execute`; its part for modules, `Runs`, takes as
--- `Follows` what may come after the known bytes on the side of errors.
+-- What the program does: how it ends, and of which run, formatting, task, import, export or inspection its status
+-- tells (`docs/USING.md`, "Commands"). `execute` promises `Executes`; its part for a run, `Runs`, has a parameter
+-- `Follows`: what standard error may have behind what the guest wrote there, the program's own lines (`AppendsSome`)
+-- or nothing (`Keeps`).
 use Rattle.std.specs.Prelude.{◌≡◌, ◌≢◌, ◌⊎◌, ℕ, true, List, Option, Some, None, Result}
 use Rattle.std.specs.Io.KnownBytes.{Keeps}
 use Rattle.vol_sector.specs.Disk.{Disk, Leaves}

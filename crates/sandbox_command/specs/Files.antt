@@ -1,4 +1,5 @@
--- What is done on the files that a command line names (`README.md`, "The program"). No contract says what a file holds.
+-- What is done on the files that a command line names (`docs/USING.md`, "Commands"). No contract says which bytes a
+-- named file has; of a volume's file it is said what a crash leaves, by the premise `KeepsItsModel`.
 use Rattle.std.specs.Prelude.{◌≡◌, ◌⊎◌, ◌≤◌, ℕ, List, Option, Some, None, IsSome, IsSomeAnd, length, min, option_map}
 use Rattle.std.specs.Borrow.{Bor}
 use Rattle.std.specs.Io.KnownBytes.{Keeps}
@@ -51,8 +52,8 @@ NamesNoVolume (asked.Run run) = run.volume ≡ None
 NamesNoVolume (asked.Inspect «module») = Unit {0}
 NamesNoVolume _ = ⊥
 
--- what prints nothing into a file after it has ended: a run that names none for its report and none for its volume, and all
--- that is no run
+-- what prints nothing into a file after it has ended: a run without `--report` and `--volume-out`, and all that is
+-- no run
 abbrev pub AsksNothingAfter : Invocation → Type 0
 AsksNothingAfter (asked.Run run) = (run.report ≡ None) × (run.volume_out ≡ None)
 AsksNothingAfter _ = Unit {0}
@@ -109,7 +110,7 @@ module _ {R W1 W2 : Type 0} (remaining : R → Option (List ℕ)) (out_contents 
       (read : Source R) × (written : Sink W1) × (complained : Sink W2) × AreStreams invocation input out err read written complained
       × IsExecutedOn invocation read written complained status summary
 
-  -- A run couldn't read its files; or it was executed with these streams, and its volume handed out or not.
+  -- A run couldn't begin with its files; or it was executed with these streams, and its volume handed out or not.
   abbrev pub HasEndedOn : Invocation → Run → Source R → Sink W1 → Sink W2 → (status : ℕ) → Option Summary → Type 0
   HasEndedOn invocation run read written complained status summary = IsUnread run status summary
       ⊎ ((before : ℕ) × (said : Option Summary) × IsExecutedOn invocation read written complained before said × IsHandedOut run before said status summary)

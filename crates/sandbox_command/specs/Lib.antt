@@ -1,5 +1,6 @@
--- What public contracts cite, in reading order; `internal` serves private contracts and proofs. `Execution` puts
--- together what a run or a task does on any device and streams, and the files after it go on to files that are named.
+-- What public contracts cite, in reading order; `internal` serves private contracts and proofs. `Execution` says what
+-- the program does on any device and streams, and `Beginning` to `Files` what it does on the files that a command line
+-- or a list of tests names.
 pub mod Status
 pub mod Streams
 pub mod Checking

@@ -1,6 +1,7 @@
--- What is asked of the places where files stand, by name (`crates/sandbox_command/src/places.rt`), and what nothing but
--- the host shows of a file. Contracts over any `Places` say by `Chain` what was asked for between two states, in which
--- order.
+-- What is asked of `Places`, which opens, makes, reads and prints into files by name
+-- (`crates/sandbox_command/src/places.rt`): contracts over any `Places` say by `Chain` what was asked for between two
+-- of its states, in which order. `Gave`, `Took` and `WasRefused` stand for what the system did with a named file; only
+-- the proofs of `HostPlaces` introduce them.
 use Rattle.std.specs.Prelude.{◌≡◌, ◌⊎◌, List, [], ◌∷◌, Option, Some, None}
 use Rattle.std.specs.Borrow.{Bor}
 use Rattle.std.specs.declared.io.ErrorKind.{ErrorKind}
@@ -52,8 +53,8 @@ IsOfRandom is_beginning None bytes = bytes ≡ []
 IsOfRandom is_beginning (Some file) bytes = is_beginning file.now bytes
 
 -- The system gave this for the name; or took this text into the file that it gave; or refused this, and why. No contract says
--- what a file holds, nor what the system refuses, so `gave`, `took` and `was_refused` show it of anything; but only the proofs of
--- `HostPlaces` cite these, and all others see relations of which they know nothing.
+-- which bytes a named file has, nor what the system refuses, so `gave`, `took` and `was_refused` show it of anything; but only
+-- the proofs of `HostPlaces` cite these, and all others see relations of which they know nothing.
 pub Gave : {X : Type 0} → Text → X → Type 0
 Gave name x = Unit {0}
 

@@ -1,5 +1,6 @@
--- What a run of a module on an open volume says (`README.md`, "The program"). Either it gets no session (`NotOpened`),
--- or `Ran` gives one from the module's first configuration, with its report, its end and what a crash may leave.
+-- What it means that a valid module is run on an open volume (`docs/USING.md`, "How a run ends"). Either it gets no
+-- session (`NotOpened`), or `Ran` has one that ran from the module's first configuration, with its report, its end and
+-- what a crash may leave.
 use Rattle.std.specs.Prelude.{◌≡◌, ◌⊎◌, ℕ, true, List, Option, Some, Result, Ok, Err}
 use Rattle.std.proofs.Common.{inl, inr}
 use Rattle.std.specs.Io.KnownBytes.{Keeps}

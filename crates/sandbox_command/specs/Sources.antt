@@ -1,4 +1,5 @@
--- What a guest reads and writes to: the streams that the program was given, or files. Of a file's bytes nothing is known.
+-- What an execution reads and writes: the streams that the program was given, or files where a run names them. Of the
+-- bytes of such a file nothing is known, so `source_remaining` and `sink_contents` give `None` for it.
 use Rattle.std.specs.Prelude.{◌≡◌, ℕ, List, Option, Some, None}
 use Rattle.sandbox_words.specs.declared.request.Invocation.{Invocation}
 use Rattle.sandbox_words.specs.declared.request.Invocation.TheVariants as asked

@@ -1,5 +1,6 @@
--- The exit statuses of the program (`README.md`, "The program"). `EndsWith` is for a run, `ended_status` for
--- formatting, a task, an import or an export; in all functions here 122 means that memory was wanting.
+-- The exit statuses of the program (`docs/USING.md`, "How a run ends"); those of an inspection stand in `Inspecting`.
+-- `EndsWith` is for a run whose guest ran, `ended_status` for formatting, a task, an import or an export; in all
+-- functions here 122 means out of memory.
 use Rattle.std.specs.Prelude.{◌≡◌, ℕ, Bool, Result, Ok, Err, if◌then◌else◌, nat_le}
 use Rattle.std.specs.declared.io.ErrorKind.{ErrorKind as InputKind}
 use Rattle.std.specs.declared.io.ErrorKind.TheVariants as input
@@ -85,7 +86,8 @@ export_status (exporting.Volume fault) = failure_status (Volume fault)
 export_status (exporting.Path e) = 124
 export_status (exporting.Stopped w) = why_status w
 
--- The status after what is no run: 0 where it was done, or 124 where then the output couldn't be flushed; else its failure's.
+-- The status after formatting, a task, an import or an export: 0 where it was done, or 124 where then the output couldn't be
+-- flushed; else its failure's.
 abbrev pub ended_status : {X E : Type 0} → (E → ℕ) → Result X E → (flushed : Bool) → ℕ
 ended_status failed (Ok x) flushed = if flushed then 0 else 124
 ended_status failed (Err e) flushed = failed e

@@ -1,5 +1,6 @@
--- What an execution does with its streams (`README.md`, "The program"). `IsSilent` is for all that reads nothing and
--- prints nothing on the output, and `AppendsSome` leaves open which lines of its own the program prints.
+-- What an execution does with its streams (`docs/USING.md`, "How a run ends"). `IsSilent` is for a run that could not
+-- begin and for formatting, which read nothing and print nothing on the output; `AppendsSome` leaves open which lines
+-- of its own the program prints.
 use Rattle.std.specs.Prelude.{◌≡◌, ℕ, List, Option}
 use Rattle.std.specs.Io.KnownBytes.{Appends, Keeps}
 use Rattle.sandbox_command.specs.declared.program.Executed.{Executed}

@@ -1,5 +1,5 @@
--- What a guest is given by the words of its command line (`README.md`, "The program"). Each `--dir` is cut at its first
--- `=`; `AreSettings` ties a run's settings to its words, and `IsUncut` says why there are none.
+-- Which settings a guest is given by the words of its command line (`docs/USING.md`, "Options of `run`"). Each `--dir`
+-- is cut at its first `=`; `AreSettings` ties a run's settings to its words, and `IsUncut` says why there are none.
 use Rattle.std.specs.Prelude.{◌≡◌, ◌⊎◌, ◌==◌, ℕ, Bool, List, [], ◌∷◌, length, map, Option, Some, None, if◌then◌else◌, nat_lt, codes}
 use Rattle.std.specs.List.{Contains, position_or_len, before_first, after_first}
 use Rattle.wasi_calls.specs.declared.host.settings.Preopen.{Preopen}

@@ -1,5 +1,6 @@
--- Many runs of one module, each with files of its own (`docs/USING.md`, "Many runs of one module"), over any places where
--- files stand. That a file is that of a name, and what was asked for in between, shows only who asked for it.
+-- Many runs of one module, each with files of its own (`docs/USING.md`, "Many runs of one module"), over any `Places`,
+-- and in `RunsListed` and `HasTested` over the files of the system. That a file of any `Places` is the one of a name,
+-- or that something was asked for, can be shown only by the code that made that call on it.
 use Rattle.std.specs.Prelude.{◌≡◌, ◌⊎◌, ◌≢◌, ◌<◌, ◌++◌, ℕ, List, ◌∷◌, Option, Some, None, length, map, slice_index, EachIndex}
 use Rattle.std.specs.List.{All}
 use Rattle.std.specs.Str.Lines.{lines}

@@ -79,7 +79,7 @@ fn answer_words<R: Read + Drop, W1: Write + Drop, W2: Write + Drop>(
 }
 
 /// Executes the invocation on the files that it names: a module, its volume and its streams, a module and a list of tests
-/// that it is run on, a file that is made or lengthened for its sectors, or a volume. No contract says what a file holds. Where one can't be
+/// that it is run on, a file that is made or lengthened for its sectors, or a volume. Which bytes a named file has no contract says. Where one can't be
 /// read or written, or the report of a run can't be printed, or its volume not be handed out, the status is 124, or 122
 /// where it is out of memory. Options of a run that don't go together are refused before a file is opened.
 pub fn perform<R: Read + Drop, W1: Write + Drop, W2: Write + Drop>(

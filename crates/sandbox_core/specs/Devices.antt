@@ -1,5 +1,6 @@
--- What is known of the device and the three streams that a session works with, in one record. A definition takes it as
--- `on`, and a clause makes it of what the traits say of its types: `devices D.Device R.Read W1.Write W2.Write`.
+-- What the traits `Device`, `Read` and `Write` let contracts say of a session's device and of its three streams, in one
+-- record. A definition takes it as `on`, and a clause makes it of the traits' ghost members:
+-- `devices D.Device R.Read W1.Write W2.Write`.
 use Rattle.std.specs.declared.io.Read.{Ghosts as Reader}
 use Rattle.std.specs.declared.io.Write.{Ghosts as Writer}
 use Rattle.vol_sector.specs.Disk.{Disk}

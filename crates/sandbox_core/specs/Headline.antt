@@ -1,6 +1,6 @@
--- The headline: what a guest does is a run of the reduction rules over a tree of paths. What a crash leaves of its
--- volume is the tree after a first part of its calls, and what it can't reach stays as it is (`README.md`, "What is
--- proved").
+-- The headline: what a guest does is a run of the reduction rules over a tree of paths. What a crash leaves of the
+-- guest's volume is the tree after a first part of its calls, and what is outside its directories stays as it is
+-- (`README.md`, "What is proved").
 use Rattle.std.specs.Prelude.{◌≡◌, ℕ, List, [], ◌∷◌}
 use Rattle.vol_tree.specs.Tree.{Tree}
 use Rattle.wasm_module.specs.declared.module.Module.{Module}

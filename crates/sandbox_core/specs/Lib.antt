@@ -1,6 +1,6 @@
 -- What public contracts cite, in reading order: devices and streams, sessions, runs, tallies and reports, what a crash
--- may leave turn by turn. `Headline` comes last and says what holds after any list of resumes; `internal` serves
--- private contracts and proofs.
+-- may leave turn by turn, and in `Headline` what holds after any list of resumes. `internal` serves private contracts,
+-- proofs and the invariant of `Session`.
 pub mod Devices
 pub mod Session
 pub mod Runs

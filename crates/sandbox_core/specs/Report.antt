@@ -1,5 +1,6 @@
 -- What the report of a run says: how it ended, with which units of fuel, and what it left. A run resumes a session
--- until that ends or the fuel is used, and then commits all calls (`README.md`, "The program").
+-- until it ends, or until all fuel is used and the next step takes a unit, and then commits all calls (`docs/USING.md`,
+-- "How a run ends").
 use Rattle.std.specs.Prelude.{◌≡◌, ℕ, ◌≤◌, ◌/◌, length, None}
 use Rattle.vol_sector.specs.Disk.{Leaves}
 use Rattle.wasm_steps.specs.Configuration.{Instance, Configuration}

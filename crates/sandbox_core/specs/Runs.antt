@@ -1,5 +1,6 @@
--- Runs of a machine over a host: resume by resume, and all of them as one. A run goes by steps of the reduction rules
--- from one configuration to another (`docs/ARCHITECTURE.md`, "Configurations and the machine").
+-- Runs of a machine over a host, which answers the guest's calls: resume by resume, and all resumes as one. A run goes
+-- by steps of the reduction rules from one configuration to another (`docs/ARCHITECTURE.md`, "Configurations and the
+-- machine").
 use Rattle.std.specs.Prelude.{◌≡◌, ◌⊎◌, ℕ, List, [], ◌∷◌, ◌++◌}
 use Rattle.vol_sector.specs.Disk.{Image, Disk}
 use Rattle.vol_tree.specs.Tree.{Tree}

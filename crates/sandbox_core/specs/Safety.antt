@@ -1,5 +1,6 @@
--- What a crash may leave of a session's volume, one turn at a time: making a session, a resume, and finishing. A host's
--- own loop goes on from each of them, with a list of the trees so far (`docs/VOLUME.md`, "The device").
+-- What a crash may leave of a session's volume (`docs/VOLUME.md`, "The device"), one turn at a time: as the session is
+-- made, in a resume, and as it is finished. Each turn is given the trees so far and which of them a crash may leave,
+-- and gives the same for the next turn.
 use Rattle.std.specs.Prelude.{◌≡◌, ℕ, ◌-◌, Bool, not, false, List, [], ◌∷◌, ◌++◌, length, is_err, if◌then◌else◌}
 use Rattle.vol_sector.specs.Disk.{Image}
 use Rattle.vol_sector.specs.declared.device.Device.{Ghosts}

@@ -1,5 +1,5 @@
--- A session is a machine and the host that answers its calls (`docs/ARCHITECTURE.md`, "The way of the bytes"). Here
--- stands what each call of one promises: how it is made or refused, what a resume does, and what finishing it leaves.
+-- A session is a machine and the host that answers the guest's calls (`docs/ARCHITECTURE.md`, "The way of the bytes").
+-- Here stands how one is made or refused, what a resume does, and what finishing one leaves.
 use Rattle.std.specs.Prelude.{◌≡◌, ◌≢◌, ◌==◌, ◌&&◌, ℕ, true, false, Bool, List, [], ◌∷◌, map}
 use Rattle.std.specs.Prelude.{Option, Some, None, Result, Ok, Err, is_err}
 use Rattle.std.specs.Option.{option_map}

@@ -1,5 +1,5 @@
--- How many calls some resumes answered, and how many syncs among them. A tally counts up to the greatest number that it
--- holds, and stays there.
+-- How many calls some resumes answered, and how many syncs with success among them. Each of these two counts goes up to
+-- the greatest number that it holds, and stays there.
 use Rattle.std.specs.Prelude.{◌≡◌, ◌-◌, ◌^◌, min}
 use Rattle.std.specs.List.{count_by}
 use Rattle.wasm_steps.specs.declared.pause.Pause.{Pause}

@@ -1,6 +1,6 @@
--- A file as a device: a crash leaves each sector, apart from the others, as some moment since the last sync had it
--- (`docs/VOLUME.md`, "The device"). `kept` is the disk of a `FileDevice`, by the premise `KeepsItsModel`, which nobody
--- can show of a file.
+-- A file as a device: a crash leaves each sector, apart from the others, as some moment since the last sync that
+-- succeeded had it (`docs/VOLUME.md`, "The device"). `kept` is the disk of a `FileDevice`, by the premise
+-- `KeepsItsModel`, which nobody can show of a file.
 use Rattle.std.specs.Prelude.{◌≡◌, ◌⊎◌, ◌-◌, ℕ, List, [], ◌∷◌, length, take}
 use Rattle.vol_sector.specs.Disk.{Image, Disk}
 use Rattle.vol_sector.specs.Record.{image_of}
@@ -20,8 +20,8 @@ abbrev pub IsMixedAt : List (List Sectors) → Image → Type 0
 IsMixedAt [] c = ⊥
 IsMixedAt (moments ∷ others) c = IsMixed moments c ⊎ IsMixedAt others c
 
--- Its sectors now, before each write that was tried since the last sync, and at all times before an operation, each the
--- newest first.
+-- Its sectors now, before each write that was tried since the last sync that succeeded, and at all times before an
+-- operation, each the newest first.
 abbrev pub kept : Sectors → List Sectors → List (List Sectors) → Disk
 kept now unsynced times = record {
   seen = image_of now;

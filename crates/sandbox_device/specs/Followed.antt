@@ -1,5 +1,6 @@
--- What the record of a device is good for: another disk can follow it. The law `record_is_followed` says `IsFollowed`
--- of every recorded device, and `sandbox_host` builds on it for hosts that keep a disk of their own.
+-- What the record of a device is good for: a disk on which its writes and syncs are done in order follows the device.
+-- The law `record_is_followed` says `IsFollowed` of every `RecordedDevice`, and `sandbox_host` builds on it for hosts
+-- that keep a disk of their own.
 use Rattle.std.specs.Prelude.{◌≡◌, ◌≤◌, ℕ, List, length, take}
 use Rattle.vol_sector.specs.Disk.{Image, Disk}
 use Rattle.vol_sector.specs.Record.{newest, LeftBy, image_of}

@@ -1,5 +1,6 @@
--- A disk in memory: each write lasts at once (`docs/VOLUME.md`, "The device"). So `held` lets a crash leave whole lists
--- of sectors and mixes nothing, and the type `Sectors` serves the other devices too.
+-- A disk in memory: each write lasts at once, where a device of `docs/VOLUME.md`, "The device", needs a sync for that.
+-- So `held` lets a crash leave whole lists of sectors and mixes nothing, and the type `Sectors` serves the other
+-- devices too.
 use Rattle.std.specs.Prelude.{◌≡◌, ◌⊎◌, ◌-◌, ℕ, List, [], ◌∷◌, length, take}
 use Rattle.std.specs.List.{flat_map}
 use Rattle.vol_sector.specs.Disk.{Image, Disk}

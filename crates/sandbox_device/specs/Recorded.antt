@@ -1,6 +1,6 @@
--- A device in memory whose writes and syncs are recorded, as a disk that they are done on: a crash leaves each sector,
--- apart from the others, at its value of the last sync or at any value that was written since (`docs/VOLUME.md`, "The
--- device"). `written_by` is the disk of a `RecordedDevice`.
+-- The disk of a `RecordedDevice`, by its writes and syncs so far: a crash leaves each sector, apart from the others, at
+-- its value of the last sync or at any value that was written since (`docs/VOLUME.md`, "The device"). `written_by`
+-- takes these operations from what only proofs see, so it holds where the device keeps no record for its caller, too.
 use Rattle.std.specs.Prelude.{List, Bool, length}
 use Rattle.vol_sector.specs.Disk.{Disk}
 use Rattle.vol_sector.specs.Counting.{counting}

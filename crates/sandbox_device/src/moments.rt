@@ -5,7 +5,7 @@ ghost use Rattle.std.specs.Borrow.{ftrue};
 
 use std::marker::Model;
 
-/// The sectors of a file before each write since its last sync, and what those were before each
+/// The sectors of a file before each write since its last sync that succeeded, and what those were before each
 /// operation, the newest first. It takes no memory and does nothing at run time.
 #[derive(Drop)]
 pub(crate) struct Moments {

@@ -1,4 +1,4 @@
-//! Sectors in memory, of which those of zeros take no room.
+//! Sectors in memory, of which those of zeros take no more room than a number.
 
 ghost use Rattle.std.specs.Prelude.{◌≡◌, ◌<◌, ◌^◌, ◌≤◌, ◌+◌, ◌++◌, IfOk, drop, take, IsTrue, length, replicate, set};
 ghost use Rattle.vol_sector.specs.Record.{image_of};

@@ -1,5 +1,6 @@
--- A volume goes from one session to the next: the sectors that a finished session shows are opened again. The law
--- `volume_is_carried` says it of the end of a session (`IsCarried`) and from its opening on (`IsCarriedOn`).
+-- A volume goes from one session to the next: where `finish` answers 0, the sectors that it leaves are opened again as
+-- the same volume, and nothing but memory can be wanting. The law `volume_is_carried` says it of the end of a session
+-- (`IsCarried`) and from its opening on (`IsCarriedOn`).
 use Rattle.std.specs.Prelude.{◌≡◌, ◌≤◌, ℕ, List, length}
 use Rattle.vol_sector.specs.declared.fault.VolumeFault.{VolumeFault}
 use Rattle.vol_sector.specs.declared.fault.VolumeFault.TheVariants as fault

@@ -1,4 +1,5 @@
--- What a `Handle` owns: the box of what it has. One that has nothing is null.
+-- What memory a `Handle` owns: the box with the session or the module that it has. One that has nothing is a null
+-- pointer.
 use Rattle.std.specs.Prelude.{Option, None, Some}
 use Rattle.std.specs.Coded.{coded_option}
 use mir.Syntax.{Ty}

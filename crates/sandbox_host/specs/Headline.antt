@@ -1,5 +1,6 @@
--- The headline over what a host calls: one `resume` after another on a session that was opened. The law `host_headline`
--- says that these calls are resumes of `sandbox_core`, told by their numbers, and that its headline holds of them.
+-- The headline over what a host in C calls: one `resume` after another on a session that was opened. The law
+-- `host_headline` says that these calls are resumes of `sandbox_core`, told by their numbers, and that its headline
+-- holds of them.
 use Rattle.std.specs.Prelude.{◌≡◌, ℕ, List, [], ◌∷◌}
 use Rattle.wasm_module.specs.declared.module.Module.{Module}
 use Rattle.sandbox_core.specs.Session.{History, used_by}

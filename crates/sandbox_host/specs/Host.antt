@@ -1,6 +1,6 @@
--- Sessions as a host has them: over a device in memory, with input from bytes, and with output that is kept as bytes.
--- Most names here are definitions of the crates below at these types, so that the files after it can leave the types
--- out.
+-- Sessions as a host in C has them: over a device in memory, with input from bytes, and with output that is kept as
+-- bytes. Most names here are definitions of other crates (such as `sandbox_core`) at these types, so that the other
+-- files can leave the types out.
 use Rattle.std.specs.Prelude.{ℕ, List, Option, Some, Result, Vec}
 use Rattle.std.specs.Borrow.{Bor}
 use Rattle.std.specs.declared.alloc.Global.{Global}

@@ -1,6 +1,6 @@
--- What public contracts cite, in reading order: numbers, supplies and volumes, then what a handle has and what each
--- call makes of it. `Headline`, `Carried` and `Settled` are laws over many calls, and `Handles` says what memory a
--- handle owns.
+-- What public contracts cite, in reading order: the numbers that a host in C is told, supplies, types and volumes, then
+-- what a handle has and what calls make of it. `Headline`, `Carried` and `Settled` state the laws over several calls,
+-- and `Handles` says what memory a handle owns.
 pub mod Numbers
 pub mod Supplies
 pub mod Host

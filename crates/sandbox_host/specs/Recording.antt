@@ -1,5 +1,5 @@
--- What was done to a session's volume, as a host is told of it (`include/sandbox.h`). `operation_at` answers from the
--- device as it is at that time, so what a running session has not committed is not told yet.
+-- What was done to a session's volume, as a host is told of it (`include/sandbox.h`). The call `operation_at` answers
+-- from the device as it is at that time, so what a running session has not committed is not told yet.
 use Rattle.std.specs.Prelude.{ℕ, Option, Some, None, slice_get, if◌then◌else◌}
 use Rattle.vol_sector.specs.declared.record.Operation.{Operation}
 use Rattle.vol_sector.specs.declared.record.Operation.TheVariants.{Write, Sync}

@@ -1,5 +1,6 @@
--- What a handle has, and what each call makes of it. The first half reads a `Held` by its cases; in the second
--- `Begins`, `Paused` and `Finishes` tie a call to the session of `sandbox_core`.
+-- What a handle has, and what opening, resuming and finishing make of it. The first part reads a `Held` (a loaded
+-- module, a session that runs, one that is finished, or nothing) by its cases; in the second `Begins`, `Paused` and
+-- `Finishes` tie these calls to the session of `sandbox_core`.
 use Rattle.std.specs.Prelude.{◌≡◌, ◌-◌, ◌^◌, ◌==◌, ℕ, Bool, true, false, List, [], length, take, drop, ◌++◌, min, Option, Some, None, Result, Ok, Err, if◌then◌else◌}
 use Rattle.vol_sector.specs.declared.fault.Refused.{Refused}
 use Rattle.wasm_module.specs.declared.module.Module.{Module}
@@ -97,7 +98,7 @@ abbrev pub sectors : Option Held → List (List ℕ)
 sectors None = []
 sectors (Some held) = sectors_of held
 
--- ---- what each call makes of it
+-- ---- what calls make of it
 
 -- the room begins with the items, as many as it has places for, and the rest of it is as it was
 abbrev pub IsShown : {X : Type 0} → List X → List X → List X → Type 0

@@ -1,6 +1,7 @@
--- A record that a host does on a disk: wherever it stops, the disk has the volume as it was at a moment of the session.
--- The law `record_is_settled` says it at the end and after any resumes; once all up to an answered sync is done, it is
--- the tree after that resume.
+-- A host does the writes and syncs of a session in order on a disk that began with the same sectors as the session's
+-- device: wherever it stops, a crash leaves the volume as it was at the opening or after a resume. The law
+-- `record_is_settled` says so at the end (`IsSettled`) and after any resumes (`IsSettledSoFar`); once all is done that
+-- there is after a resume which told of a sync with success, it is the volume after that resume (`IsSyncSettled`).
 use Rattle.std.specs.Prelude.{◌≡◌, ◌==◌, ◌||◌, ◌⊎◌, ◌≤◌, ℕ, Bool, IsTrue, List, [], ◌∷◌, length, take}
 use Rattle.std.specs.Borrow.{Bor}
 use Rattle.vol_sector.specs.Disk.{Image}

@@ -1,5 +1,5 @@
--- What a host hands in of a guest, as the settings of a session. Only the input is left out of `settings_of`: a session
--- takes it beside its settings.
+-- What a host in C hands in for a guest, as the settings of a session. Only the input is left out of `settings_of`: a
+-- session takes it beside its settings.
 use Rattle.wasi_calls.specs.declared.host.settings.Settings.{Settings}
 use Rattle.sandbox_host.specs.declared.supplies.Supplies.{Supplies}
 

@@ -1,4 +1,4 @@
--- The texts of numbers: of an answer, of a trap, of an errno. `text_of` takes them from the tables in
+-- The texts of numbers: of an answer, of a trap, of an errno. `text_of` takes them from the constants in
 -- `crates/sandbox_host/src/texts.rt`, and no contract says what stands in these.
 use Rattle.std.specs.Prelude.{◌==◌, ℕ, List, [], map, slice_index_or, if◌then◌else◌}
 use Rattle.sandbox_host.specs.declared.texts.TheConstants.{MISUSED, FAULTS, TRAPS, ERRNOS}

@@ -1,5 +1,5 @@
--- The volume of a guest: a fresh one of 202 sectors and 16 slots, or that of sectors that a host hands in. For either
--- `Origin`, `IsVolume` says what is opened and `RefusesVolume` why it isn't.
+-- The volume of a guest: a fresh one of 202 sectors and 16 slots, or that of sectors that a host in C hands in. For
+-- either `Origin`, `IsVolume` says what is opened and `RefusesVolume` why it isn't.
 use Rattle.std.specs.Prelude.{◌≡◌, ◌≤◌, ◌<◌, ◌==◌, ℕ, List, length, Option, Some, None, true, false, if◌then◌else◌}
 use Rattle.vol_sector.specs.Disk.{Image}
 use Rattle.vol_sector.specs.Record.{image_of}

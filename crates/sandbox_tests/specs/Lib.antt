@@ -1,3 +1,3 @@
--- What the worked statement of this crate says. Its one file, `Worked`, shows how a host's author puts public contracts
--- and laws of sessions together.
+-- What the worked example of this crate (`crates/sandbox_tests/src/worked.rt`) promises. Its one file, `Worked`, states
+-- what the author of a host can conclude from public contracts and laws of sessions.
 pub mod Worked

@@ -1,5 +1,5 @@
--- A guest that is stopped at any moment of two resumes, and what is found then. `resumed_twice` promises
--- `StoppedAnywhere`, which is proved from public contracts and laws alone.
+-- A session that is stopped at any moment, as it is made or in one of two resumes, and the tree that is found then.
+-- `resumed_twice` promises `StoppedAnywhere`, which is proved from public contracts and laws alone.
 use Rattle.std.specs.Prelude.{ℕ, ◌⊎◌, List, [], ◌∷◌, if◌then◌else◌}
 use Rattle.vol_sector.specs.Disk.{Image}
 use Rattle.vol_tree.specs.Tree.{Tree}

@@ -1,6 +1,6 @@
--- The command line: the command that clap is told of, and what its matches ask for. The words are those of clap's own
--- model: an `App` is a command with its subcommands, a `Rule` an argument, and a `Row` what was found for one
--- (`README.md`, "The program").
+-- The command line (`docs/USING.md`, "Commands"): the command that clap is told of, and what its matches ask for. The
+-- terms are those of the kit's model of clap: an `App` is a command with its subcommands, a `Rule` an argument, and a
+-- `Row` what was found for one.
 use Rattle.std.specs.Prelude.{◌≡◌, ◌↔◌, IsTrue, ◌&&◌, ◌^◌, ℕ, Bool, true, List, [], ◌∷◌, length, pos, Option, Some, None, unwrap_or, option_and_then, option_map, if◌then◌else◌, nat_lt, codes}
 use Rattle.std.specs.Borrow.{Bor}
 use Rattle.std.specs.List.{Contains, list_all}

@@ -1,5 +1,5 @@
--- What a command line asks for (`README.md`, "The program"): its texts, and the arguments of a guest. A `Text` is a
--- list of byte values, and the crates that carry out a command cite it from here.
+-- The texts of a command line, and the arguments that a run gives its guest (`docs/USING.md`, "Options of `run`"). A
+-- `Text` is a list of byte values, and the crates that carry out a command cite it from here.
 use Rattle.std.specs.Prelude.{ℕ, List, ◌∷◌, map}
 use Rattle.std.specs.Option.{option_map_or}
 use Rattle.std.specs.Borrow.{Bor}

@@ -1,5 +1,5 @@
--- What callers see of the allocator: the range of data sectors, and which of them are taken (`docs/VOLUME.md`,
--- "Space"). Contracts see no list of free sectors, only flags and a count, so which sector `take` gives is left open.
+-- What callers see of the allocator: the range of data sectors, and which are taken (`docs/VOLUME.md`, "Sectors").
+-- Public contracts see flags and a count, and no list of free sectors, so which one `take` gives is left open.
 use Rattle.std.specs.Prelude.{ℕ, ◌-◌, Bool, false, not, count_by, nat_lt, slice_index_or, if◌then◌else◌}
 use Rattle.vol_alloc.specs.declared.sectors.Alloc.{Alloc}
 

@@ -1,6 +1,6 @@
--- What a write and a new size do to the bytes of a file, as plain lists (`docs/VOLUME.md`, "The tree"). No sector comes
--- in: the contracts of `write_at` and `set_size` say that the file has these bytes then, and `vol_tree` defines its
--- calls by them.
+-- What a write and a new size do to the bytes of a file, as plain lists without any sector (`docs/VOLUME.md`,
+-- "The tree"). At Ok, by the contracts of `write_at` and `set_size`, a file that kept the rules has these bytes, and
+-- `vol_tree` defines its `written` and `resized` by them.
 use Rattle.std.specs.Prelude.{◌-◌, ◌+◌, ◌++◌, ℕ, List, [], ◌∷◌, length, take, drop, replicate}
 
 -- the bytes with zeros after them, up to a length

@@ -1,5 +1,6 @@
 -- What a change of one file asks of a volume and leaves on it (`docs/VOLUME.md`, "File"). `write_at` and `set_size`
--- require `CanChange` and promise `FileBecomes`, `LosesNoSector` and `EntryBecomes`, the first two only `IfSound`.
+-- require `CanChange`, and at Ok they promise `FileBecomes` and `LosesNoSector` of a sound file (`IfSound`), and
+-- `EntryBecomes` of any, but for a write of no bytes.
 use Rattle.std.specs.Prelude.{◌≡◌, ◌≢◌, ◌≤◌, ◌<◌, ◌+◌, ◌==◌, ◌⊎◌, ℕ, Bool, true, false, not, List, count_by}
 use Rattle.vol_sector.specs.Disk.{Image}
 use Rattle.vol_sector.specs.declared.device.Device.{Ghosts}

@@ -1,6 +1,5 @@
 -- What stays of a log that sectors are read from and then staged in (`docs/VOLUME.md`, "Log"). By `StagesAtMost` a
--- write or a new size takes so many places of the log at most, and the log has failed exactly where the call is
--- refused.
+-- write or a new size takes at most `most` places of the log, and the log has failed exactly where the call is refused.
 use Rattle.std.specs.Prelude.{◌≡◌, ◌↔◌, ◌≤◌, ◌+◌, ℕ, Bool, false}
 use Rattle.vol_sector.specs.Disk.{Leaves, counted}
 use Rattle.vol_sector.specs.declared.device.Device.{Ghosts}

@@ -1,6 +1,6 @@
--- The sectors that a file names, in the order of a survey, and the rules on them that one file shows (`docs/VOLUME.md`,
--- "File"). Opening surveys every file into one list of numbers; where none comes twice, `IsTrimmed` is all that is left
--- of `IsBody`.
+-- The sectors that a file names, in the order of a survey, and the rules that a survey checks: `AreInside` and
+-- `IsTrimmed` (`docs/VOLUME.md`, "File"). Opening surveys every entry into one list of numbers; where no number stands
+-- twice in it, `IsTrimmed` is all that is left of `IsBody` to check.
 use Rattle.std.specs.Prelude.{◌≡◌, ◌≤◌, ◌<◌, ◌+◌, ◌-◌, ◌*◌, ◌==◌, ℕ, not, List, ◌++◌, ◌∷◌, length, map, filter}
 use Rattle.std.specs.List.{range_with_len, flat_map, Contains}
 use Rattle.vol_sector.specs.Disk.{Image}

@@ -1,6 +1,6 @@
 -- The key by which a name is found in memory: the directory's serial, the name, and zeros up to 259 bytes. `lookup`
--- (`docs/VOLUME.md`, "The tree") searches for it; a key tells an `IsPlain` name, since the zeros after it can't be part
--- of it.
+-- (`docs/VOLUME.md`, "The tree") searches for it; an `IsPlain` name can be read back from its key, since it has no zero
+-- of its own.
 use Rattle.std.specs.Prelude.{◌≤◌, ◌-◌, ℕ, List, ◌++◌, length, replicate}
 use Rattle.std.specs.List.{Contains}
 use Rattle.byteorder.specs.Endian.{big_bytes}

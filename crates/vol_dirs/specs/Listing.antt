@@ -1,6 +1,6 @@
 -- `HoldsEntry`: a list of keys with serials holds an entry with this parent, name and serial (`docs/VOLUME.md`,
--- "The tree"). `Names` is this for the keys that `Dirs` keeps; its second list, of children, shows in the invariant
--- alone (`internal/Listing`).
+-- "The tree"). `Names` is this for the keys of `Dirs`; the list of children that `Dirs` keeps as well stands in its
+-- invariant alone (`internal/Listing`).
 use Rattle.std.specs.Prelude.{◌<◌, ◌^◌, ℕ, List}
 use Rattle.std.specs.List.{Contains}
 use Rattle.vol_dirs.specs.Key.{key_of, IsPlain}

@@ -1,5 +1,5 @@
 -- Which sector holds the slot of a serial, and what staging one slot leaves (`docs/VOLUME.md`, "Sectors"). `add`,
--- `remove` and `relocate` of `Dirs` require `CanStageSlot` and promise `StagesSlot`, each for one slot.
+-- `remove` and `relocate` of `Dirs` require `CanStageSlot`, and promise `StagesSlot` for the slot of their serial.
 use Rattle.std.specs.Prelude.{◌≡◌, ◌≤◌, ◌<◌, ◌+◌, ◌-◌, ◌==◌, ℕ, List, true, false, if◌then◌else◌}
 use Rattle.vol_sector.specs.Disk.{put}
 use Rattle.vol_sector.specs.declared.device.Device.{Ghosts}

@@ -1,5 +1,5 @@
--- The rules on one entry that its own sector shows (`docs/VOLUME.md`, "Entry"). `IsEntry` is what `read_entry` makes
--- sure of; rules that need other sectors or entries stand in `vol_body` (`IsBody`) and `vol_tree` (`IsVolume`).
+-- The rules on an entry that its 512 bytes alone decide (`docs/VOLUME.md`, "Entry"). An entry that `read_entry` gives
+-- is an `IsEntry`; rules on other sectors and entries stand in `vol_body` (`IsBody`) and `vol_tree` (`IsVolume`).
 use Rattle.std.specs.Prelude.{◌≡◌, ◌≢◌, ◌≤◌, ◌<◌, ◌^◌, ℕ, List, All, length, take, drop, nat_lt, slice_index, if◌then◌else◌}
 use Rattle.vol_inode.specs.declared.entry.Entry.{Entry}
 use Rattle.vol_inode.specs.declared.entry.Kind.TheVariants.{Directory}
@@ -24,7 +24,7 @@ pub record HasWidths (e : Entry) : Type 0 where
   pub pointers : length e.pointers ≡ 60
   pub each : (k : ℕ) → slice_index e.pointers k < 2 ^ 32
 
--- Only the root has no parent, and it is a directory with no name. Each other entry has a name.
+-- An entry with no parent, as the root, is a directory with no name. Each other entry has a name.
 pub record HasName (e : Entry) : Type 0 where
   pub root_kind : e.parent ≡ 0 → e.kind ≡ Directory
   pub root_name : e.parent ≡ 0 → e.name_length ≡ 0

@@ -1,6 +1,6 @@
--- What a log stands for: a batch put over an image, and the content of an image once its log is installed
--- (`docs/VOLUME.md`, "Log"). `HasContent` compares sector 0 and the sectors after the log alone, since the log's own
--- sectors are no content.
+-- What a log stands for: a batch (sectors with their new images) put over an image, and the content of an image once
+-- its log is installed (`docs/VOLUME.md`, "Log"). `HasContent` asks for a right header, and compares all sectors but
+-- the log's own, which are no content.
 use Rattle.std.specs.Prelude.{◌≡◌, ◌⊎◌, ◌+◌, ◌≤◌, ◌<◌, ◌==◌, ℕ, List, [], ◌∷◌, Bool, true, false, if◌then◌else◌}
 use Rattle.vol_sector.specs.Disk.{Image, Disk, Only}
 use Rattle.vol_log.specs.Header.{IsHeader}

@@ -9,7 +9,7 @@ use Rattle.vol_log.specs.declared.layout.TheConstants.{FIRST_AFTER_LOG}
 abbrev pub header_bytes : List ℕ → List ℕ
 header_bytes numbers = little_bytes 4 (length numbers) ++ flat_map (little_bytes 4) numbers ++ replicate (508 - 4 * length numbers) 0
 
--- sectors that a log may be for: at most 120, after the log, on the disk, all different
+-- sectors that a log may be for: at most 120, after the log, in the volume, all different
 pub record Places (sectors : ℕ) (numbers : List ℕ) : Type 0 where
   pub few : length numbers ≤ 120
   pub after_log : (k : ℕ) → k < length numbers → FIRST_AFTER_LOG ≤ slice_index numbers k

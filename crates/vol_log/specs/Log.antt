@@ -1,5 +1,5 @@
 -- What callers see of an open log (`docs/VOLUME.md`, "Log"). `view` is what the layers above read: the staged batch
--- over what reads of the device give, so a staged sector shows at once and is on the disk only after a commit.
+-- over what reads of the device give, so a staged sector is read at once, before a commit puts it onto the disk.
 use Rattle.std.specs.Prelude.{ℕ, ◌-◌, List, length, Bool}
 use Rattle.vol_sector.specs.Disk.{Image}
 use Rattle.vol_sector.specs.declared.device.Device.{Ghosts}
@@ -7,7 +7,7 @@ use Rattle.vol_log.specs.Batch.{over, holds}
 use Rattle.vol_log.specs.declared.staged.Staged.{Staged}
 use Rattle.vol_log.specs.declared.log.Log.{Log}
 
--- the sectors staged since the last commit
+-- the sectors staged since the last commit that succeeded
 abbrev pub staged_of : {D : Type 0} {g : Ghosts D} → Log D g → List Staged
 staged_of log = log.batch.staged.items
 

@@ -1,5 +1,5 @@
--- `OnlyReads`: what stays of a log that is only read (`docs/VOLUME.md`, "Log"). Calls of `vol_dirs` and `vol_body` that
--- only read cite it as one clause; what it says of contents and crashes holds on an honest device, the rest on any.
+-- `OnlyReads`: what stays of a log that is only read (`docs/VOLUME.md`, "The device"). Contracts of `vol_dirs`,
+-- `vol_body` and `vol_tree` cite it; its contents and crashes need an honest device, its failures a log that worked.
 use Rattle.std.specs.Prelude.{◌≡◌, ◌↔◌, false}
 use Rattle.vol_sector.specs.Disk.{Leaves, counted}
 use Rattle.vol_sector.specs.declared.device.Device.{Ghosts}

@@ -1,5 +1,5 @@
--- A disk that counts each operation tried, over one that only some of them reach (`docs/VOLUME.md`, "The device"). A
--- memory device's reads and a faulty device's failures never get to the disk below, and still count as moments.
+-- A disk that counts each operation tried, over one that not all of them reach (`docs/VOLUME.md`, "The device"): a
+-- `MemoryDevice`'s reads don't, nor does what a `FaultyDevice` itself fails. These operations count as the others do.
 use Rattle.std.specs.Prelude.{ℕ, ◌-◌, List, Bool, length, take, count_by}
 use Rattle.vol_sector.specs.Disk.{Disk}
 

@@ -1,6 +1,6 @@
--- Which image a crash leaves for which picks, one for each sector that waits for a sync (`docs/VOLUME.md`,
--- "The device"). By two laws of this crate picks give exactly the images that a crash may leave, so tests try crashes
--- pick by pick.
+-- Which image a crash of a `MemoryDevice` leaves for a list of picks: a pick is a number, and says which value a sector
+-- that was written since the last sync is left at (`docs/VOLUME.md`, "The device"). By the laws in `src/laws.rt` picks
+-- give exactly what a crash may leave, so tests try crashes by picks.
 use Rattle.std.specs.Prelude.{ℕ, zero, suc, ◌+◌, ◌-◌, ◌==◌, List, [], ◌∷◌, length, min, slice_index_or, Bool, true, false, if◌then◌else◌}
 use Rattle.vol_sector.specs.Disk.{Image}
 use Rattle.vol_sector.specs.Record.{choices}

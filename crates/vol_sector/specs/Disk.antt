@@ -1,6 +1,6 @@
 -- A disk as contracts see it: what reads give, and what a crash may leave (`docs/VOLUME.md`, "The device"). The trait
--- `Device` is stated by it, and each of its `crash` clauses is a `Leaves`: a crash leaves what it could leave before,
--- or what has P.
+-- `Device` is stated by it, and each `crash` clause there is a `Leaves`, on an honest device: a crash leaves what it
+-- could leave before, or an image with the property `P` that the clause gives.
 use Rattle.std.specs.Prelude.{◌≡◌, ◌⊎◌, ◌+◌, ◌-◌, ◌^◌, ◌≤◌, ◌==◌, ℕ, List, Bool, min, if◌then◌else◌}
 
 -- the bytes of each sector

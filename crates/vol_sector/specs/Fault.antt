@@ -1,6 +1,6 @@
--- What a refusal says: that the device failed, or that the volume is damaged, and in which sector (`docs/VOLUME.md`,
--- "What opening refuses"). Contracts count a failed operation by `is_device`, and `IsDamage` leaves open which rule is
--- broken.
+-- Questions on a `VolumeFault`, the cause of a refusal (`docs/VOLUME.md`, "What opening refuses"). `is_device` tells a
+-- failed device, `IsDamage` a damaged volume, whichever rule it breaks; `at_sector` fills in the sector of a damage
+-- where none is known yet.
 use Rattle.std.specs.Prelude.{ℕ, Bool, true, false, Option, Some, None, Result, Ok, Err}
 use Rattle.vol_sector.specs.declared.fault.VolumeFault.{VolumeFault}
 use Rattle.vol_sector.specs.declared.fault.VolumeFault.TheVariants.{NotAVolume, Version, Damaged, Device, TooSmall, Upgraded, Geometry, Memory}

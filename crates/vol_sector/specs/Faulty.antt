@@ -1,5 +1,5 @@
--- What callers see of a device of which chosen operations fail (`docs/VOLUME.md`, "The device"). `left_of` goes down by
--- one with each operation and decides which one fails; such a failure leaves the device inside as it was.
+-- What callers see of a `FaultyDevice` (`docs/VOLUME.md`, "The device"). `left_of` goes down by one with each
+-- operation, to 0. Where it is at the type's `FAILS_AT` the operation fails, and leaves the device inside as it was.
 use Rattle.std.specs.Prelude.{ℕ, List, Bool}
 use Rattle.vol_sector.specs.Disk.{Disk}
 use Rattle.vol_sector.specs.Counting.{counting}

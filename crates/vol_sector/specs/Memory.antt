@@ -1,5 +1,5 @@
--- What callers see of a device in memory (`docs/VOLUME.md`, "The device"). What a crash may leave follows from its
--- first image and its record of writes and syncs alone; reads and failures only raise counts.
+-- What callers see of a `MemoryDevice` (`docs/VOLUME.md`, "The device"). What a crash now may leave follows from the
+-- device's first image and record of writes and syncs alone; reads and failed operations only raise counts.
 use Rattle.std.specs.Prelude.{◌≡◌, ◌<◌, ℕ, List, [], Bool, vec_len}
 use Rattle.vol_sector.specs.Disk.{Image, Disk}
 use Rattle.vol_sector.specs.Counting.{counting}

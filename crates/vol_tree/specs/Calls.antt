@@ -1,5 +1,6 @@
--- What each call on a tree answers, and the tree that it leaves, as functions (`docs/VOLUME.md`, "The tree"). No disk
--- comes in here: `Answers` and `Tells` (in `Opened`) add that a call may answer 29 instead, where the device fails.
+-- What calls on a tree answer, and the tree that they leave, as functions (`docs/VOLUME.md`, "The tree"); `lookup` is
+-- in `Tree`, and what `stat` tells in `Stat`. No disk comes in here: clauses in `Opened` add that a call may answer 29
+-- instead (`Answers`, `Tells`, `TellsBytes`), and when it does (`Keeps`).
 use Rattle.std.specs.Prelude.{ℕ, zero, suc, Bool, true, false, ◌&&◌, ◌||◌, not, ◌==◌, nat_lt, List, [], ◌∷◌, length, take, drop, Option, Some, None, Result, Ok, Err, if◌then◌else◌}
 use Rattle.std.specs.Option.{option_map_or}
 use Rattle.vol_tree.specs.declared.errno.Errno.{Errno}

@@ -1,5 +1,6 @@
--- What formatting leaves: the numbers of a new volume, and the images that a stop inside may leave (`docs/VOLUME.md`,
--- "Formatting"). `Volume::format` and `Volume::create` cite it, and both make volumes of version 1 only.
+-- What formatting leaves: the numbers of a new volume, and the images that a stop inside may leave besides those that a
+-- crash could leave before (`docs/VOLUME.md`, "Formatting"). `Volume::format` and `Volume::create` cite both, and make
+-- volumes of version 1 only.
 use Rattle.std.specs.Prelude.{◌⊎◌, ℕ}
 use Rattle.vol_sector.specs.Disk.{Image}
 use Rattle.vol_inode.specs.declared.version.Version.TheVariants.{One}

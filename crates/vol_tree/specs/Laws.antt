@@ -1,6 +1,6 @@
--- Laws over the definitions of a tree only: least serials, paths that determine a tree, the test of a move into itself
--- (`docs/VOLUME.md`, "The tree"). Each law is the whole contract of a function in `src/laws.rt`, and shows that `Tree`
--- and `Calls` say what they should.
+-- Laws over the definitions of a tree only: least serials, paths that determine a tree, that a created entry leaves a
+-- tree, and the test of a move into itself (`docs/VOLUME.md`, "The tree"). Each law is the whole contract of a function
+-- in `src/laws.rt`, and shows that `Tree` and `Calls` say what they should.
 use Rattle.std.specs.Prelude.{◌≡◌, ◌≢◌, ◌<◌, ℕ, suc, length, Some, None, Ok, IsSome, IsTrue}
 use Rattle.std.specs.Option.{option_map}
 use Rattle.vol_tree.specs.Tree.{Tree, Path, Name, Node, Entry, entry, Leads, IsAt, IsTree, IsDirectory}

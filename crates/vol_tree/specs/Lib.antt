@@ -1,5 +1,6 @@
--- Trees, their calls and open volumes as public contracts see them; `internal` serves private contracts and proofs.
--- Read from the top: no disk comes in up to `Numbers`, then come images of a volume, and last what its callers see.
+-- Trees, their calls and open volumes as public contracts see them; `internal` serves private contracts, proofs and the
+-- invariant of `Volume`. Read from the top: no disk comes in up to `Numbers`, then come images of a volume
+-- (`Superblock` to `Fresh`), and last open volumes, and how they are opened.
 pub mod Tree
 pub mod Space
 pub mod Calls

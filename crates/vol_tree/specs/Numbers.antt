@@ -1,5 +1,5 @@
--- The numbers that WASI preview 1 has for refusals. `Errno::number` gives exactly these; 25, 37, 44 and 76 come from
--- paths (`path_walk`), and no call of `docs/VOLUME.md`, "The tree", answers them.
+-- The number that WASI preview 1 has for each `Errno`, which `Errno::number` gives. The variants of 25, 37, 44 and 76
+-- are for callers that go by paths (such as `path_walk`), and no call of `docs/VOLUME.md`, "The tree", answers them.
 use Rattle.std.specs.Prelude.{ℕ}
 use Rattle.vol_tree.specs.declared.errno.Errno.{Errno}
 use Rattle.vol_tree.specs.declared.errno.Errno.TheVariants.{Exist, TooBig, BadText, Invalid, Io, IsDirectory, NameTooLong, NotFound, NoSpace, NotDirectory, NotEmpty, NotCapable}

@@ -1,6 +1,6 @@
 -- How sectors spell slots, an open volume as its callers see it, and the clauses of its calls (`docs/VOLUME.md`,
--- "The tree"). Calls that change the tree cite `Answers`, `ReflectsOr` and `Keeps`; those that look something up cite
--- `Keeps`, and `Tells` or one like it.
+-- "The tree"). Calls that change the tree, and `sync`, cite `Answers`, `ReflectsOr` and `Keeps`; `lookup`, `list_next`,
+-- `stat` and `read` cite `Keeps` and one of `Tells`, `TellsStat` and `TellsBytes`; `upgrade` cites `MayUpgrade`.
 use Rattle.std.specs.Prelude.{◌≡◌, ◌≢◌, ◌⊎◌, ◌+◌, ◌-◌, ◌*◌, ◌==◌, ◌≤◌, ◌++◌, ◌↔◌, ℕ, List, length, Bool, true, false, Option, Some, None, Result, Ok, Err, if◌then◌else◌, take, drop, map, slice_index}
 use Rattle.std.specs.List.{range_with_len}
 use Rattle.byteorder.specs.Endian.{little_number}

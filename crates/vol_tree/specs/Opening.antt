@@ -1,4 +1,4 @@
--- What opening says of an image, on a device with this many sectors (`docs/VOLUME.md`, "What opening refuses"). Opening
+-- What opening says of an image, on an honest device of `size` sectors (`docs/VOLUME.md`, "What opening refuses"). It
 -- finds the tree of a `StandsOn` image, unless the device or memory fails; `NoVolumeOn`, `HasNoVersion` and `IsDamaged`
 -- are what the refusals 30, 31 and 32 say.
 use Rattle.std.specs.Prelude.{◌≡◌, ◌⊎◌, ◌≤◌, ◌<◌, ℕ, drop}

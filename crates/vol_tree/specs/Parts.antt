@@ -1,5 +1,6 @@
 -- `opened`: what an open volume shows of its parts (`docs/VOLUME.md`, "The tree"). It is the model of `Volume`, so
--- public contracts know a device, numbers and a tree, and nothing of the names and free sectors in memory.
+-- public contracts know a device, numbers, a tree and whether the volume has failed, and nothing of the names and free
+-- sectors in memory.
 use Rattle.vol_sector.specs.declared.device.Device.{Ghosts}
 use Rattle.vol_log.specs.Log.{view, device_of, has_failed}
 use Rattle.vol_tree.specs.declared.parts.Parts.{Parts}

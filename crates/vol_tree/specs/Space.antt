@@ -1,5 +1,6 @@
--- The space that a tree takes: sectors of 512 bytes for the bytes of its files, and for the sectors that list them.
--- A write, a new size and opening compare it with the data sectors that a volume has (`docs/VOLUME.md`, "Space").
+-- The space that a tree needs: the sectors of its files' bytes, whether they were written or not, and the pointer
+-- sectors that list these. A write, a new size and opening compare it with the data sectors that a volume has
+-- (`docs/VOLUME.md`, "Space").
 use Rattle.std.specs.Prelude.{ℕ, length, Option, Some, None}
 use Rattle.std.specs.List.{sum_by}
 use Rattle.vol_inode.specs.declared.version.Version.{Version}
@@ -14,7 +15,7 @@ abbrev pub need_in : Option Entry → ℕ
 need_in None = 0
 need_in (Some e) = need_of (size_of e.node)
 
--- the sectors that a tree's files take
+-- the sectors that a tree's files need
 abbrev pub space : Tree → ℕ
 space T = sum_by need_in T
 

@@ -1,5 +1,5 @@
 -- What `stats` tells of a volume: its entries and slots, and the sectors that files need and that there are for them
--- (`docs/VOLUME.md`, "Space"). `needed` goes by the sizes of files, so it isn't the number of sectors that are taken.
+-- (`docs/VOLUME.md`, "Space"). `needed` goes by the sizes of files, so fewer sectors may be taken than that.
 use Rattle.std.specs.Prelude.{◌≡◌, ℕ}
 use Rattle.std.specs.Option.{is_some}
 use Rattle.std.specs.List.{count_by}

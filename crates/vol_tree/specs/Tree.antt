@@ -1,6 +1,6 @@
 -- A tree of directories and files, by serial numbers and by paths (`docs/VOLUME.md`, "The tree"). It is the list of a
--- volume's slots, in which each entry names its parent; `IsTree` says which lists are trees, and a `Path` has its last
--- name first.
+-- volume's slots, in which each entry has its parent's serial (the root has 0); `IsTree` says which lists are trees,
+-- and a `Path` has its last name first.
 use Rattle.std.specs.Prelude.{◌≡◌, ◌≢◌, ℕ, zero, suc, Bool, true, false, ◌&&◌, not, ◌==◌, nat_eq, List, [], ◌∷◌, get_or, set, Option, Some, None, if◌then◌else◌, IsTrue}
 use Rattle.std.specs.Option.{is_some}
 use Rattle.std.specs.List.{list_any}

@@ -1,5 +1,6 @@
--- What only private contracts and proofs say of an open volume's parts. Begin with `Parts` (its invariant `IsOpen`),
--- then read `Commits` and `Changes`, which `Moves` and `Removals` build on; `Climbs` and `Reads` are about opening.
+-- What private contracts, proofs and the invariant of `Volume` say of a volume's parts. Begin with `Parts` (that
+-- invariant is its `IsOpen`), then read `Commits` and `Changes`; `Moves` builds on both, and `Removals` on `Changes`.
+-- `Climbs` and `Reads` are about opening, and `Formatting` about new volumes.
 pub mod Removals
 pub mod Moves
 pub mod Replacing

@@ -1,5 +1,5 @@
--- Which failures of a task are the device's (`docs/VOLUME.md`, "The device"). Clauses count one failed operation where
--- `blames_device` is true, and none elsewhere.
+-- Which failures of a task, or of formatting, are the device's (`docs/VOLUME.md`, "The device"). Their contracts count
+-- one failed operation where `blames_device` is true, and none where it is false.
 use Rattle.std.specs.Prelude.{Bool, Result, Ok, Err, false}
 use Rattle.vol_sector.specs.Fault.{is_device}
 use Rattle.vol_tree.specs.Opened.{is_io}

@@ -1,5 +1,6 @@
--- What a task does with the volume on a device (`README.md`, "The program"). `Performs` is the contract of `perform`:
--- on an honest device the task is done with the tree, or the volume is refused by its rule.
+-- What a task (`ls`, `get`, `put`, `stat`, `check`, `upgrade` or a change of the tree) does with the volume on a device
+-- (`docs/USING.md`, "Commands"). `Performs` is the contract of `perform`: on an honest device (`docs/VOLUME.md`, "The
+-- device") the task is done with the volume's tree, or the volume is refused, and its fault says why (`RefusedBy`).
 use Rattle.std.specs.Prelude.{◌≡◌, ◌⊎◌, ◌↔◌, ℕ, List, Option, Result, Ok, Err, OnOk, IfErr}
 use Rattle.std.specs.Io.KnownBytes.{Keeps}
 use Rattle.vol_sector.specs.Disk.{Image, Disk, Leaves, counted}

@@ -1,6 +1,6 @@
 -- What printing a directory of the volume on a device as a tar stream prints, and how it ends (`docs/USING.md`,
--- "Commands"). `PerformsExport` is the contract of `export_from`; the printed bytes are those of `Exports` in
--- `volume_archive`.
+-- "Commands"). `PerformsExport` is the contract of `export_from`; what is printed is said by `Exports` of
+-- `volume_archive` at success, and by its `ExportsPart` where the export is refused on its way.
 use Rattle.std.specs.Prelude.{◌≡◌, ◌⊎◌, ◌↔◌, ℕ, Bool, false, List, Option, Result, Ok, Err}
 use Rattle.std.specs.Io.KnownBytes.{Keeps}
 use Rattle.vol_sector.specs.Disk.{Disk, Leaves, counted}

@@ -1,5 +1,6 @@
--- What the removal of a tree does to the map from paths (`crates/vol_tree/specs/PathLaws.antt`). The law
--- `removed_tree_takes_all_below` says it of `without`, which is defined on slots and not on paths.
+-- What the removal of an entry with all below it does to the map from paths
+-- (`crates/vol_tree/specs/PathLaws.antt`). The law `removed_tree_takes_all_below` says it of `without`, which is
+-- defined on slots and not on paths.
 use Rattle.std.specs.Prelude.{◌↔◌, ℕ, IsSome}
 use Rattle.vol_tree.specs.Tree.{Tree, Path, Node, IsTree, entry}
 use Rattle.vol_tree.specs.PathLaws.{IsBelow, Maps}

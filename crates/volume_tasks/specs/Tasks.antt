@@ -1,5 +1,5 @@
--- What a task on a volume prints, and which tree it leaves (`README.md`, "The program"). `Prints` is for tasks that
--- only ask and `Puts` for `put`; `reached` says where a path of the command line leads.
+-- What the tasks that only ask print, and which tree `put` leaves (`docs/USING.md`, "Commands"). `Prints` is for `ls`,
+-- `get`, `stat` and `check`, and `Puts` for `put`; `reached` says where a path of the command line leads.
 use Rattle.std.specs.Prelude.{◌≡◌, ◌⊎◌, ◌==◌, ℕ, Bool, List, [], ◌∷◌, Option, None, Some, Result, Ok, Err, if◌then◌else◌, codes, decimal, false, true}
 use Rattle.std.specs.List.{concat, flat_map}
 use Rattle.std.specs.Option.{option_map_or}
@@ -120,7 +120,7 @@ begun_at v T (Missing parent name, false) = created T parent name (File [])
 abbrev pub begun : Superblock → Tree → Text → Result (Tree × ℕ) Errno
 begun v T path = reached T path >>= begun_at v T
 
--- the tree with a beginning of the known bytes in the file
+-- the tree with a beginning of the input in the file
 abbrev pub HasBeginning : Tree → ℕ → Option (List ℕ) → Tree → Type 0
 HasBeginning T file known U = (bytes : List ℕ) × BeginWith known bytes × (U ≡ with_bytes T file bytes)
 

@@ -1,5 +1,5 @@
 -- What private contracts and proofs cite. `Working` is what most functions on an open volume require; `Reaching`,
--- `Lines` and `Changing` are what those for paths, for printing and for changes promise.
+-- `Lines` and `Changing` serve the functions for paths, for printing and for changes.
 pub mod Reaching
 pub mod Lines
 pub mod Working

@@ -1,5 +1,5 @@
--- The error numbers that calls answer (`errno` of WASI preview 1).
--- A row names the reason that it refuses for, and not its number.
+-- The error numbers by which rows refuse, and 0 (`errno` of WASI preview 1): a row names the reason and not its number.
+-- What a path or the tree refuses by itself has its number from `number_of` of `vol_tree`, which may have no name here.
 use Rattle.std.specs.Prelude.{ℕ}
 
 abbrev pub SUCCESS : ℕ

@@ -1,5 +1,5 @@
--- What public contracts cite, in reading order; `internal` serves private contracts and proofs. The row of each call
--- stands in the `Rows` of its subject; `Calls` collects the rows, and `host` says what a host answers by them.
+-- What public contracts cite, in reading order; `internal` serves private contracts and proofs. Rows stand in
+-- the `Rows` of their subjects; `Calls` gives each call its row, and `host` says what a host answers by them.
 pub mod Errnos
 pub mod World
 pub mod Checks

@@ -1,3 +1,3 @@
--- Calls on paths. `Rows` has a definition for each, and each walks its path from the directory that a descriptor stands
--- for.
+-- Calls on paths. `Rows` has a definition for each, in which every path is walked from the directory that a descriptor
+-- stands for.
 pub mod Rows

@@ -1,5 +1,5 @@
--- Texts, clocks and random bytes: what a guest gets without the volume or a stream. `Random` and `Texts` say what there
--- is to give, and `Rows` how the calls give it.
+-- Texts, clocks and random bytes: what a guest gets without the volume or a stream. `Random` says which bytes
+-- come next, `Texts` which texts can be given, and `Rows` what the calls answer, those of clocks among them.
 pub mod Random
 pub mod Texts
 pub mod Rows

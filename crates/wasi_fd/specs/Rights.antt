@@ -1,5 +1,5 @@
--- The rights of descriptors, as numbers (`rights` of WASI preview 1). A right that no call here asks for has no name,
--- and the sums at the end are what an open file or directory can be asked for.
+-- The rights of descriptors, as numbers (`rights` of WASI preview 1). A right that no row of `wasi_calls` asks for has
+-- no name, and the sums at the end are what an open file or directory can be asked for.
 use Rattle.std.specs.Prelude.{ℕ, ◌+◌, ◌^◌}
 use Rattle.wasi_fd.specs.declared.rights.Rights.{Rights}
 

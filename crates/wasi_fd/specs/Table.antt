@@ -1,5 +1,5 @@
 -- The map from numbers to descriptors (`fd` of WASI preview 1), each a stream or an open entry with its rights.
--- Contracts see a `Descriptors` as this function (`table_of`), which a call changes at one number (`with_at`).
+-- Contracts see `Descriptors` as this function (`table_of`); a call that changes it does so at one number (`with_at`).
 use Rattle.std.specs.Prelude.{◌≡◌, ◌==◌, ◌+◌, ℕ, Option, Some, None, slice_index_or, if◌then◌else◌}
 use Rattle.wasi_fd.specs.Rights.{bits_of, FD_READ, FD_WRITE, FD_FILESTAT_GET}
 use Rattle.wasi_fd.specs.declared.descriptor.Stream.{Stream as StreamValue}

@@ -1,4 +1,5 @@
--- Definitions that only private contracts and proofs cite, and those that `Machine.antt` names. `Plain` is of the plain machine alone, `Fast` of the fast loop.
+-- Definitions that only private contracts and proofs cite, and those that `Machine.antt` names. `Plain` is of the plain
+-- machine (of which the fast one shares `chosen`), `Fast` of the fast machine alone.
 pub mod BranchTables
 pub mod Standing
 pub mod Programs

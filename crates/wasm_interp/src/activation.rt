@@ -1,6 +1,6 @@
 //! Functions at work.
 
-/// A function at work, or one to go back to (section 4.4.10).
+/// A function at work, or one to go back to (section 4.2.12).
 #[derive(Clone, Copy)]
 pub struct Activation {
     /// Which of the module's own functions it is.

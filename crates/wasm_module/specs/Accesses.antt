@@ -1,5 +1,5 @@
--- Loads and stores (section 2.4.4): the type of the number, and how many bytes of memory it has.
--- A row for each: typing bounds the alignment by the bytes, and the steps read and write them.
+-- Loads and stores (section 2.4.4): the type of the number, and the `width` by which 2 ^ `width` bytes of memory are
+-- read or written. Typing bounds the alignment by these bytes, and the steps read and write them.
 use Rattle.std.specs.Prelude.{Bool, true, false}
 use Rattle.wasm_module.specs.declared.instruction.ValueType.TheVariants.{I32, I64}
 use Rattle.wasm_module.specs.declared.accesses.Access.{Access}

@@ -1,6 +1,7 @@
--- What public contracts cite, in reading order: the grammar of the binary format, from integers up to whole modules.
--- `decode` promises `Spells` of `Module`, to which all of it leads; `Reading` has numbers, bytes and names once more, as
--- readers from the front, by which `module_survey` finds sections.
+-- What public contracts cite, in reading order: the grammar of the binary format from integers up to `Spells` of
+-- `Module`, which `decode` promises at success, and the table of loads and stores (`Accesses`). `Reading` has a part of
+-- the grammar as readers from the front, by which `module_survey` finds sections; `internal` serves private contracts
+-- and proofs.
 pub mod Number
 pub mod Grammar
 pub mod Types

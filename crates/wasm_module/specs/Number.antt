@@ -1,5 +1,6 @@
 -- Integers of the binary format (section 5.2.2): LEB128, of any width, unsigned or signed. One number may have several
--- spellings, since bytes that add nothing are allowed up to the width; bytes spell one number at most.
+-- spellings, since bytes that add nothing are allowed up to the width; for one sign and width, bytes spell one number
+-- at most.
 use Rattle.std.specs.Prelude.{◌≡◌, ℕ, ◌+◌, ◌-◌, ◌*◌, ◌^◌, ◌<◌, ◌≤◌, ◌⊎◌, List, [], ◌∷◌}
 use Rattle.wasm_module.specs.declared.number.Sign.{Sign}
 use Rattle.wasm_module.specs.declared.number.Sign.TheVariants.{Unsigned, Signed}

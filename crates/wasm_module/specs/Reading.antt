@@ -1,5 +1,6 @@
--- Reading from the front: the value and the bytes after it, or nothing. `Gives` says that a function of the decoder
--- returned what a reader reads; where memory was refused it says nothing.
+-- Reading from the front: a `Reader` gives the value and the bytes after it, a `WholeReader` the value of all bytes,
+-- and each gives nothing where the bytes don't fit. `Gives` says that a function of the decoder returned what a reader
+-- reads; where memory was refused it says nothing.
 use Rattle.std.specs.Prelude.{Bool, true, false, ◌≡◌, ℕ, zero, suc, ◌+◌, ◌-◌, ◌*◌, ◌^◌, List, [], ◌∷◌, length, take, drop, Option, Some, None, Result, Ok, Err, nat_lt, nat_le, ◌==◌, if◌then◌else◌}
 use Rattle.std.specs.Str.{is_utf8}
 use Rattle.wasm_module.specs.declared.fault.LoadFault.{LoadFault}

@@ -1,5 +1,5 @@
--- Sections and what they hold (section 5.5). Each definition relates bytes to one part of a module; `Module` puts the
--- sections in their order, with custom sections before, between and after them.
+-- Sections and what they hold (section 5.5): which bytes spell which part of a module, or a custom section. `Module`
+-- puts the sections in their order, with custom sections before, between and after them.
 use Rattle.std.specs.Prelude.{◌≡◌, ℕ, List, [], ◌++◌, Option, Some, None}
 use Rattle.wasm_module.specs.declared.module.ImportKind.{ImportKind}
 use Rattle.wasm_module.specs.declared.module.ImportKind.TheVariants as imported

@@ -1,5 +1,5 @@
--- The spellings of types (section 5.3), those of floating point left out. Each relates bytes to a type that the decoder
--- returns; the profile's limit on the size of a table stands here, too (`SpellsTable`).
+-- The spellings of types and limits (section 5.3), those of floating point left out: which bytes spell which type that
+-- the decoder returns. The profile's limit on the elements that a table begins with stands here, too (`SpellsTable`).
 use Rattle.std.specs.Prelude.{◌≡◌, ℕ, ◌≤◌, List, [], ◌∷◌, Option, Some, None, Bool, true, false}
 use Rattle.wasm_module.specs.declared.instruction.ValueType.{ValueType}
 use Rattle.wasm_module.specs.declared.instruction.ValueType.TheVariants.{I32, I64}

@@ -1,5 +1,6 @@
--- Operators on whole numbers from 0 below 2 ^ n (section 4.3.2, integers), for every width n. The clauses of the
--- functions on `u32` and `u64` cite them with 32 and 64; `signed` and `wrapped` lead to signed numbers and back.
+-- Operators on whole numbers from 0 below 2 ^ n (section 4.3.2), where n is the width in bits. Functions on `u32` and
+-- `u64` promise them with 32 and 64 for n; `signed` and `wrapped` lead to signed numbers and back, `bool_number` from a
+-- test to a number.
 use Rattle.std.specs.Prelude.{◌≡◌, ℕ, zero, suc, ◌+◌, ◌-◌, ◌*◌, ◌/◌, ◌%◌, ◌^◌, Bool, true, false, if◌then◌else◌, nat_lt, nat_eq, ◌&&◌, Result, Ok, Err, ℤ, pos, negsuc, ◌-ℤ◌, int_div, int_rem}
 use Rattle.wasm_num.specs.declared.trap.Trap.{Trap}
 use Rattle.wasm_num.specs.declared.trap.Trap.TheVariants.{DivideByZero, IntegerOverflow}

@@ -1,5 +1,5 @@
--- Which steps take a unit of fuel: those that rewrite a plain instruction, and no others. The law
--- `steps_take_their_units` says so of every step over every host.
+-- Which steps take a unit of fuel: those that rewrite a plain instruction (here a block, a loop or an if is one, too),
+-- and no others. The law `steps_take_their_units` says so of every step over every host.
 use Rattle.std.specs.Prelude.{◌≡◌, ◌⊎◌, ℕ, suc}
 use Rattle.wasm_steps.specs.Configuration.{Instance, Configuration, code_of, used_by, NextIsPlain}
 use Rattle.wasm_steps.specs.Steps.{CallsOf, Event, Step}

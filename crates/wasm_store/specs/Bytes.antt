@@ -1,5 +1,5 @@
 -- Memory as a list of bytes (section 4.2.8), and numbers in it. `bytes_at` and `written` are defined for every address;
--- whether the range is inside memory is said beside them.
+-- whether the range is inside memory is said where they are cited.
 use Rattle.std.specs.Prelude.{ℕ, zero, suc, ◌+◌, ◌*◌, ◌/◌, ◌%◌, List, [], ◌∷◌, ◌++◌, length, take, drop}
 
 -- bytes as a number, the lowest first (section 4.3.1)

@@ -1,5 +1,5 @@
--- What the functions that instantiate a module promise (section 4.5.4). `IsInstantiated` is the clause of `instantiate`
--- at success: what the code returns is an instance and a first store by `Instantiates`.
+-- What `instantiate` promises at success (section 4.5.4), by `IsInstantiated`: what it returns is an instance and a
+-- first store by `Instantiates`. `AreCallees` says that the calls that it returns are those of the imports.
 use Rattle.std.specs.Prelude.{◌≡◌, ℕ, List, [], ◌∷◌, ◌++◌, Some, slice_get}
 use Rattle.std.specs.List.{AllByRecursion}
 use Rattle.std.specs.Option.{option_to_list}

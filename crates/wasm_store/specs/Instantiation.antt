@@ -1,5 +1,6 @@
 -- From a valid module to its first configuration (section 4.5.4), cut to the profile: no import but functions.
--- `Instantiates` says what success means, `RefusedFor` what each fault means; both take the links of any host.
+-- `Instantiates` says what success means, `RefusedFor` what each fault but `Memory` means; both take the links of any
+-- host.
 use Rattle.std.specs.Prelude.{◌≡◌, ℕ, ◌+◌, ◌*◌, ◌<◌, ◌≤◌, ◌⊎◌, min, List, [], ◌∷◌, ◌++◌, length, replicate, Option, Some, None, unwrap_or, slice_get, codes, Contains}
 use Rattle.std.specs.List.{AllByRecursion}
 use Rattle.std.specs.Option.{option_to_list}

@@ -4,7 +4,7 @@ use Rattle.std.specs.Prelude.{ℕ, ◌^◌, ◌<◌, List, [], ◌∷◌}
 use Rattle.wasm_module.specs.declared.instruction.ValueType.{ValueType}
 use Rattle.wasm_module.specs.declared.instruction.ValueType.TheVariants.{I32, I64}
 
--- a value: its type, and a number below 2 ^ the type's width
+-- a value: its type and its number, which `IsInType` bounds
 pub data Val : Type 0 where
   val : ValueType → ℕ → Val
 

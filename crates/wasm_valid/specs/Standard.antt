@@ -1,4 +1,5 @@
--- The typing of instructions by rules (sections 3.3.5 and 3.3.6). The type on top comes first.
+-- The typing of instructions by rules (sections 3.3.5 and 3.3.6), with that of one plain instruction from `Typing`. In
+-- the types before and after, the one on top of the stack comes first.
 use Rattle.std.specs.Prelude.{◌≡◌, ℕ, List, [], ◌∷◌, ◌++◌, Some, slice_get, reverse}
 use Rattle.wasm_module.specs.declared.instruction.ValueType.{ValueType}
 use Rattle.wasm_module.specs.declared.instruction.ValueType.TheVariants.{I32}

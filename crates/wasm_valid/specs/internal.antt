@@ -1,6 +1,6 @@
--- Definitions that only private contracts and proofs cite: validation as the code does it. `Rules` is about a module's
--- lists, `Stack` to `Bodies` about the walk over a body, `Contexts` and `Answers` about what the code keeps and
--- returns.
+-- Definitions that only private contracts and proofs cite: validation as the code does it. `Rules` is about a module
+-- without its bodies, `Stack` to `Bodies` about the walk over a body, `Contexts` and `Answers` about what the code
+-- keeps and returns.
 pub mod Rules
 pub mod Stack
 pub mod Effects

@@ -1,3 +1,3 @@
--- What the worked theorems say, in reading order. `Stored` is the only file: it has what a host may rest on when it
--- stores a file on a volume in memory.
+-- Definitions that the contracts of the worked theorems cite. `Stored` is the only file: it says what a stop leaves of
+-- a volume in memory while a host stores a file there.
 pub mod Stored

@@ -1,5 +1,6 @@
--- What a stop leaves of a volume in which a file is stored (`docs/VOLUME.md`, "The tree"). `store` promises `Lasts` at
--- success, and `IsFirstPart` over `IsReached` at any moment, also inside a call that is refused.
+-- What a stop leaves of a volume in memory in which a file is stored (`docs/VOLUME.md`, "The tree"). `store` promises
+-- `Lasts` at success, and at any moment, also inside a call that is refused, `IsFirstPart` with the trees of
+-- `IsReached`.
 use Rattle.std.specs.Prelude.{◌≡◌, ◌⊎◌, ℕ, List, [], Ok}
 use Rattle.vol_sector.specs.Disk.{Image, Disk}
 use Rattle.vol_sector.specs.Memory.{disk_of, sector_count}

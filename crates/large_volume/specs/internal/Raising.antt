@@ -1,5 +1,5 @@
 -- What the upgrade of an open volume to version 2 leaves, and how it ends. `Raises` is the contract of the private
--- function `raise`, and goes on from the volume's tree, which an upgrade keeps.
+-- function `raise`, and speaks of the tree that the volume has before the upgrade, which keeps it.
 use Rattle.std.specs.Prelude.{◌≡◌, ◌↔◌, ℕ, Result, IfErr, OnOk}
 use Rattle.vol_sector.specs.Disk.{Image, Disk, Leaves, counted}
 use Rattle.vol_sector.specs.declared.fault.Refused.{Refused}

@@ -1,5 +1,5 @@
--- Indices of functions, where the bytes up to the end of the imports are known. The decoder reads these bytes as a
--- module by themselves, so the imported functions are counted even where it refuses the whole.
+-- Which index a module's own function gets, after the imported ones. `IsCountedAfter` takes the bytes up to the end of
+-- the imports, which the decoder may take as a module by themselves even where it refuses the whole.
 use Rattle.std.specs.Prelude.{◌≡◌, ℕ, ◌+◌, List, Option, Some, None}
 use Rattle.wasm_module.specs.declared.module.Module.{Module}
 use Rattle.wasm_module.specs.Module.{Spells}

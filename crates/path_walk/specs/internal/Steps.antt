@@ -1,5 +1,5 @@
--- What each step of a walk asks and gives beside its answer. Where it goes on it is at an entry of the volume, and a
--- name that it lacks is one that an entry can have.
+-- What steps of a walk require and give beside their answers. Where a step goes on it is at an entry of the volume,
+-- and a name that is missing there is one that an entry can have.
 use Rattle.std.specs.Prelude.{ℕ, Option, Some, None}
 use denote.Ref.{Bor}
 use Rattle.std.specs.Prelude.{◌≢◌, List}

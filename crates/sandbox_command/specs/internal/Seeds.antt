@@ -1,5 +1,5 @@
--- A session with the random bytes of a seed. Without a seed `with_seed` sets no generator, so the private functions
--- `seed` and `run_within` have one contract for both cases.
+-- A session with the random bytes of a seed. Without a seed `with_seed` leaves no generator; the private functions
+-- `seed` and `run_within` require that there was none, so one contract of each covers both cases.
 use Rattle.std.specs.Prelude.{ℕ, Option, option_map}
 use Rattle.wasi_calls.specs.supplies.Random.{seeded}
 use Rattle.sandbox_core.specs.Session.{SessionState}

@@ -1,5 +1,5 @@
--- What is kept of a run's words until its settings are made. `supplied` gives it and `run_valid` requires it, so all
--- tests of a list share it.
+-- What is kept of a run's words until its settings are made: arguments, environment, directories. `supplied` promises
+-- `AreSupplies` and `run_valid` requires it, so they are made once for all tests of a list.
 use Rattle.std.specs.Prelude.{◌≡◌}
 use Rattle.sandbox_words.specs.declared.request.Run.{Run}
 use Rattle.sandbox_words.specs.Request.{texts, arguments_of}

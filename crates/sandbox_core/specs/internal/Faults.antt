@@ -1,4 +1,5 @@
--- Why a session is refused, by why its host or its machine is. Each refusal below has one of the session's reasons.
+-- Why a session is refused, by why its host or its machine is. `of_host` and `of_instance` give the session's reason
+-- for a refusal of its host or of its machine; memory that either lacks is the session's `Memory`.
 use Rattle.wasi_calls.specs.declared.host.fault.HostFault.{HostFault}
 use Rattle.wasi_calls.specs.declared.host.fault.HostFault.TheVariants as host
 use Rattle.wasm_store.specs.declared.fault.InstanceFault.{InstanceFault}

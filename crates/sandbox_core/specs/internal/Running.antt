@@ -1,5 +1,5 @@
--- A session on its way: that it stands for a configuration, and a run of it before the commit at its end. Callers see
--- only what the report says of the whole run.
+-- A session on its way: that its machine stands for a configuration (`HasConfiguration`), and a run of it before the
+-- commit at its end (`RunsTo`). Callers of `run` see only what its report says of the run with the commit.
 use Rattle.std.specs.Prelude.{◌≡◌, ℕ, None}
 use Rattle.vol_sector.specs.Disk.{Leaves}
 use Rattle.wasm_steps.specs.declared.pause.Outcome.{Outcome}

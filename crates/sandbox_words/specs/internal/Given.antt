@@ -1,5 +1,5 @@
 -- What `run` is asked for, where its lists of texts were read before. `run_with` gets these lists as arguments, so its
--- contract has as a premise that they are those of the rows.
+-- contract has as a premise that they are those of the rows that clap found.
 use Rattle.std.specs.Prelude.{◌≡◌, List, codes}
 use Rattle.std.specs.Borrow.{Bor}
 use Rattle.clap.specs.Words.{Row}

@@ -1,5 +1,5 @@
--- What clap's model says of the rows of the table (`crates/sandbox_words/src/table.rt`). `rule_for` and `app_for` map a
--- row to the model, and `AddsArguments` and `AddsSubcommands` say what a loop over rows adds to a command.
+-- What the kit's model of clap says of the rows of the tables in `crates/sandbox_words/src/table.rt`. `rule_for` and
+-- `app_for` map a row to the model, and `AddsArguments` and `AddsSubcommands` say what rows add to a command.
 use Rattle.std.specs.Prelude.{◌≡◌, List, [], ◌∷◌, codes}
 use Rattle.clap.specs.declared.builder.action.ArgAction.{ArgAction}
 use Rattle.clap.specs.declared.builder.action.ArgAction.TheVariants.{Set, Append, SetTrue}

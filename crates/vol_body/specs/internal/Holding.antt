@@ -1,5 +1,6 @@
--- Pointer sectors that a read or a shrink holds in memory, so that it reads each of them once. `Held` has the
--- double-indirect block and one pointer sector more (`above`), and `IsHeld` says that both are as the volume has them.
+-- Pointer sectors that `read_at` or `shrink` holds in memory, so that it reads each of them once. `Held` has the
+-- double-indirect block (`top`) and one pointer sector more (`above`), and `IsHeld` says of each that it is as the
+-- volume has it, if the call goes on to a data block that it serves.
 use Rattle.std.specs.Prelude.{◌≡◌, ◌≢◌, ◌≤◌, ◌+◌, ◌*◌, ℕ, true}
 use Rattle.vol_sector.specs.Disk.{Image}
 use Rattle.vol_alloc.specs.Alloc.{taken_of}

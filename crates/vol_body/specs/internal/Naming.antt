@@ -1,5 +1,6 @@
--- What a file names, without its bytes: the rules on it, and what one more name changes. Each step of a write keeps
--- `IsNaming`; proofs go from a pointer set or a number listed to `NamesOneMore`, and from there to the rules.
+-- Which sectors a file names: the rules on them (`IsNaming`, which is `IsBody` without the bytes past the size), and
+-- what one more named sector changes. Each step of a write keeps `IsNaming`; proofs go from a pointer that is set or a
+-- number that is listed to `NamesOneMore`, and from there to the rules.
 use Rattle.std.specs.Prelude.{◌≡◌, ◌≢◌, ◌≤◌, ◌<◌, ◌*◌, ℕ, drop, slice_index}
 use Rattle.byteorder.specs.Endian.{little_number}
 use Rattle.vol_sector.specs.Disk.{Image}

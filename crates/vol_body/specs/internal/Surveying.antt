@@ -1,5 +1,6 @@
--- What the steps of a survey push, and when they are refused. All larger steps have the one clause `Surveys`, with the
--- numbers that the step goes over and the rule (`NonePast`) that it checks.
+-- What the steps of a survey push, and when they are refused. In `src/surveying.rt` each step from
+-- `survey_indirect_block` to `survey_sectors` has the one clause `Surveys`, with the numbers that it goes over and the
+-- rule (`NonePast`) that it checks.
 use Rattle.std.specs.Prelude.{◌≡◌, ◌≢◌, ◌⊎◌, ◌/◌, ◌%◌, ◌≤◌, ◌<◌, ◌+◌, ◌-◌, ◌*◌, ℕ, List, ◌++◌, ◌∷◌, map, slice_index, Result, OnOk, IfErr}
 use Rattle.std.specs.List.{range_with_len, flat_map}
 use Rattle.vol_sector.specs.Disk.{Image}

@@ -1,6 +1,6 @@
--- Steps of a write: what changes of a file, and how its pointer sectors stand in memory. A write first reads the
--- pointer sectors that it needs (`MirrorsAll`) and then takes and stages sectors one by one, each time by a
--- `ChangesPositions`.
+-- Steps of a write: what changes of a file, and how its pointer sectors stand in memory. A write first reads all that
+-- it needs, its pointer sectors by `MirrorsAll`; then it stages data blocks and pointer sectors, each step by a
+-- `ChangesPositions`, and the entry last.
 use Rattle.std.specs.Prelude.{◌≡◌, ◌≢◌, ◌≤◌, ◌<◌, ◌+◌, ◌-◌, ◌*◌, ◌/◌, ◌==◌, ◌++◌, ℕ, zero, suc, true, false, List, length, take, drop, replicate, nat_lt, min, max, if◌then◌else◌}
 use Rattle.vol_sector.specs.Disk.{Image}
 use Rattle.vol_sector.specs.declared.device.Device.{Ghosts}

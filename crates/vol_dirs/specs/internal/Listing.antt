@@ -1,4 +1,4 @@
--- The invariant of `Dirs`: its list of keys and its list of children, both in order, and its flags of used slots. The
+-- What the invariant of `Dirs` says of its keys and children, two lists in order, and of its flags of used slots. The
 -- keys say all, and children and flags only repeat it: `lookup` searches the keys, `next_child` the children.
 use Rattle.std.specs.Prelude.{◌≡◌, ◌≤◌, ◌-◌, ℕ, List, Bool, true, false, length, slice_index_or}
 use Rattle.std.specs.List.{Contains}

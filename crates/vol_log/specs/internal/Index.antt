@@ -1,5 +1,5 @@
--- The index of a batch: each staged sector's number with its place, in the order of the numbers. A binary search
--- answers by `IsEntryOfNumber` where a number stands, or by `IsGapFor` where it would stand.
+-- The index of a batch: each staged sector's number with its place in the batch, in the order of the numbers. A binary
+-- search answers by `IsEntryOfNumber` where a number stands, or by `IsGapFor` where it would stand.
 use Rattle.std.specs.Prelude.{◌≡◌, ◌≢◌, ℕ, ◌<◌, ◌≤◌, List, length, slice_index, slice_index_or}
 
 -- a sector's number and its place, in the order of the numbers

@@ -1,5 +1,5 @@
--- What the steps of a commit leave on the disk, and which sectors they may change. `log_batch` goes from `Settled` to
--- `Logged` and `apply_batch` back to `Settled`; what `install` writes on the way is `Under` the batch, which hides it.
+-- What a commit's steps leave on the disk, and which sectors they may change. At Ok `log_batch` goes from `Settled` to
+-- `Logged`, and `apply_batch` back; what `install` writes, also where it fails, the batch hides (`Under`).
 use Rattle.std.specs.Prelude.{◌≡◌, ◌⊎◌, ◌≤◌, ◌<◌, ℕ, List}
 use Rattle.vol_sector.specs.Disk.{Image, Disk, Only}
 use Rattle.vol_log.specs.Header.{IsHeader}

@@ -1,6 +1,6 @@
--- Laws of a record of writes and syncs: a crash may leave what reads give, and since the last operation there is only
--- now. `MemoryDevice` takes its `may_stay` from `stays_left`, and the other two laws of a `Device` from `left_now` and
--- `only_left`.
+-- Laws of a record of writes and syncs: a crash may leave what reads give, and since the newest moment it may have left
+-- only what it may leave now. `MemoryDevice` has its `may_stay` from `stays_left`, and its other two laws of a `Device`
+-- from `left_now` and `only_left` with those of `CountingLaws`.
 use Rattle.std.specs.Prelude.{◌≡◌, ◌≤◌, ◌==◌, ℕ, List, [], ◌∷◌, ◌++◌, length, take, refl, if◌then◌else◌, Bool, true, false}
 use Rattle.std.proofs.Common.{inl, inr, sym, subst, arith}
 use Rattle.std.proofs.lemmas.List.{take_all}

@@ -1,5 +1,5 @@
--- Going up a table of parents, slot by slot, to the root. Where the check of opening passes, `AllLeadUp` holds, and it
--- passes wherever `AllLeadUpSoon` holds.
+-- Going up a table of parents, entry by entry, to the root. Where `lead_to_root`, a check of opening, says yes,
+-- `AllLeadUp` holds, and it says yes wherever `AllLeadUpSoon` holds, unless memory fails.
 use Rattle.std.specs.Prelude.{◌≡◌, ◌≢◌, ◌+◌, ◌-◌, ◌≤◌, ◌<◌, ℕ, zero, suc, List, Bool, true, false, length, slice_index, slice_index_or}
 
 -- The serial of the directory that an entry is in, this many steps up. The table has 0 for the root.

@@ -1,5 +1,5 @@
--- What moving an entry asks and leaves. A rename climbs from the new directory towards the root, to see that it isn't
--- the entry or below it (`ClimbsTo`), and then gives the entry its new place (`MovesTo`).
+-- What moving an entry asks and leaves. A rename climbs from the new directory towards the root, to see that this
+-- directory isn't the entry or below it (`ClimbsTo`), and then gives the entry its new place (`MovesTo`).
 use Rattle.std.specs.Prelude.{◌≡◌, ◌≢◌, ◌≤◌, ◌-◌, ℕ, false, Some, IsSome}
 use Rattle.vol_sector.specs.declared.device.Device.{Ghosts}
 use Rattle.vol_log.specs.Log.{device_of}

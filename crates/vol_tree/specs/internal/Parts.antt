@@ -1,5 +1,6 @@
--- What an open volume keeps of its parts: log, names, free sectors and numbers. `IsOpen` is the invariant of `Volume`;
--- what it says of contents holds on an honest device, and of free sectors only until an operation fails (`IsWorking`).
+-- What an open volume keeps of its parts: log, names, free sectors, numbers, and the space that its files need.
+-- `IsOpen` is the invariant of `Volume`; what it says of contents holds on an honest device, and what it says of the
+-- disk and of taken sectors only until an operation fails (`IsWorking`).
 use Rattle.std.specs.Prelude.{◌≡◌, ◌+◌, ◌≤◌, ℕ, true, false, Some, None, get_or}
 use Rattle.vol_sector.specs.Disk.{Image, Disk}
 use Rattle.vol_sector.specs.declared.device.Device.{Ghosts}

@@ -1,5 +1,6 @@
 -- What reading the slots of a volume finds, and the rules that it checks at each. `Entries` grows slot by slot
--- (`AddsSlot`) to `HaveRead`; with `HaveTree`, and no sector named twice, that makes the `HasParts` of an open volume.
+-- (`AddsSlot`) to `HaveRead`; with `AreWithin` and `HaveTree`, and no sector named twice, that makes the `HasParts` of
+-- an open volume.
 use Rattle.std.specs.Prelude.{◌≡◌, ◌≢◌, ◌+◌, ◌≤◌, ◌<◌, ℕ, Bool, true, false, List, [], ◌∷◌, ◌++◌, take, map, get_or, Option, Some, None}
 use Rattle.std.specs.List.{sum_by, flat_map}
 use Rattle.vol_sector.specs.Disk.{Image}

@@ -1,5 +1,6 @@
--- Which entries may take the place of others, by their kinds. It is `moved_onto` of `Calls` without the tree:
--- `may_replace` answers by it once a rename has read both entries.
+-- Which entries may take the place of others, by the kinds of both and by whether something is in the other one.
+-- `replacing` is the tests of `moved_onto` (in `Calls`) without the tree: `may_replace` answers by it once a rename has
+-- read both entries.
 use Rattle.std.specs.Prelude.{Bool, true, false, Result, Ok, Err}
 use Rattle.vol_inode.specs.declared.entry.Kind.{Kind}
 use Rattle.vol_inode.specs.declared.entry.Kind.TheVariants as kinds

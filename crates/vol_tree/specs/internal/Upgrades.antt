@@ -1,5 +1,6 @@
--- What an upgrade leaves of a volume's parts: version 2, or the numbers that it had where an operation failed. In the
--- second case a crash may leave this tree in either version, or one that a crash could leave before.
+-- What an upgrade from version 1 leaves of a volume's parts: version 2, or where an operation failed, now or before,
+-- the numbers that it had. Until it is done, and in the second case after it, a crash may leave this tree in either
+-- version, or a tree that a crash could leave before.
 use Rattle.std.specs.Prelude.{◌≡◌, ◌↔◌, Bool, true, false}
 use Rattle.vol_sector.specs.Disk.{Leaves, counted}
 use Rattle.vol_sector.specs.declared.device.Device.{Ghosts}

@@ -1,5 +1,6 @@
--- The line of an entry, by what is told of it. The code prints from a `Stat`, and the proofs show that `stat_line` and
--- `stat_facts` are the texts that `Tasks` defines on the tree.
+-- The lines that `ls` and `stat` print of an entry, made from a `Stat` of `vol_tree`, as the code makes them. The
+-- proofs show that `stat_line` and `stat_facts` are the texts `line_of` and `facts_of`, which `Tasks` defines on the
+-- entries of a tree.
 use Rattle.std.specs.Prelude.{ℕ, List, [], ◌∷◌, take, codes, decimal}
 use Rattle.std.specs.List.{concat}
 use Rattle.vol_inode.specs.declared.entry.Kind.{Kind}

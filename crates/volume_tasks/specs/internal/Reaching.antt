@@ -1,5 +1,6 @@
--- What the calls on paths of the command line answer: their definition's answer, or errno 29. `Answered` is in the
--- contracts of `serial_named`, `entry_named`, `directory_named` and `file_named`, for an honest device.
+-- What the functions that find the entry of a path answer: what their definition in `Tasks` says, or errno 29.
+-- `Answered` is in the contracts of `serial_named`, `entry_named`, `directory_named` and `file_named`, for an honest
+-- device.
 use Rattle.std.specs.Prelude.{◌≡◌, ◌⊎◌, Result, Ok, Err}
 use Rattle.vol_tree.specs.declared.errno.Errno.{Errno}
 use Rattle.vol_tree.specs.declared.errno.Errno.TheVariants as errno

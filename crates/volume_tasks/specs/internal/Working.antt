@@ -1,5 +1,5 @@
 -- A volume in the midst of a task. Most private functions on an open volume require `IsWorking`: no operation has
--- failed on it, and its numbers are in their ranges.
+-- failed on it, and the sectors and slots that its superblock says are in their ranges.
 use Rattle.std.specs.Prelude.{◌≡◌, false}
 use Rattle.vol_tree.specs.Superblock.{HasRanges}
 use Rattle.vol_tree.specs.Opened.{Opened}

@@ -1,5 +1,5 @@
--- How a host is made, and what it is made of (`docs/DECISIONS.md`, "WASI calls"). A new host has its streams at 0 to 2,
--- and `preopen` then opens the directories of the settings from 3 on, or none.
+-- How a host is made, and what it is made of (`docs/DECISIONS.md`, "WASI calls"). A new host has its streams as
+-- descriptors 0 to 2, and `preopen` then opens the directories of the settings from 3 on, or none.
 use Rattle.std.specs.Prelude.{◌≡◌, ◌-◌, ◌==◌, nat_lt, ℕ, true, false, List, [], ◌∷◌, Bool, Option, Some, None, Result, Ok, Err, slice_get, if◌then◌else◌}
 use Rattle.std.specs.Option.{option_map, option_map_or}
 use Rattle.vol_tree.specs.declared.errno.Errno.{Errno}

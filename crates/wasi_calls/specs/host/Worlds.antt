@@ -1,5 +1,5 @@
--- A host over a volume and streams: what callers see of it, the worlds that it shows, and what its calls say. What a
--- stream still holds isn't known, so `HostCalls` names the bytes that moved and holds with any others.
+-- A host over a volume and streams: what callers see of it, its world for given bytes of the streams, and what its
+-- calls say. A stream needn't tell its bytes, so `row` of `HostCalls` names those that moved, whatever the others are.
 use Rattle.std.specs.Prelude.{◌≡◌, ◌⊎◌, ◌||◌, ℕ, Bool, IsTrue, true, List, [], ◌++◌, Option, Some, None}
 use Rattle.std.specs.Io.KnownBytes.{Consumes, Appends}
 use Rattle.vol_sector.specs.Disk.{Disk, Leaves}
@@ -102,9 +102,9 @@ module _ {D R W1 W2 : Type 0} (remaining : R → Option (List ℕ)) (out_content
     pub end : new.input.ended ≡ true → (old.input.ended ≡ true) ⊎ LeavesNone (remaining old.input.reader) (remaining new.input.reader)
 
 module _ {D : Type 0} (honest : D → Type 0) (disk : D → Disk) (sectors_on failures : D → ℕ) where
-  -- What a call leaves of the volume, on any device: it fails by one operation that failed, and after that nothing is
-  -- done. Each image that a crash may leave since stands for a tree that one could leave before, or for the tree then,
-  -- under the volume's numbers.
+  -- What a call leaves of the volume. On any device it fails by one operation that failed, and after that none is done.
+  -- Where the device keeps its model, each image that a crash may leave since could be left before, or stands for the
+  -- tree of an image that could be, or for the tree before the call, under the volume's numbers.
   pub record VolumeStep (old new : Opened D) : Type 0 where
     pub kept : Keeps honest sectors_on failures old new new.failed
     pub crash : honest old.device → Leaves (disk old.device) (disk new.device) (ReflectsOr (disk old.device) old.numbers old.tree)

@@ -1,4 +1,4 @@
--- Private definitions on the making of a host. `Linking` serves the look-up of an import by its name, and `Preopening`
+-- Private definitions on the host of a guest. `Linking` serves the look-up of an import by its name, and `Preopening`
 -- the directories that a guest finds open.
 pub mod Linking
 pub mod Preopening

@@ -1,4 +1,4 @@
--- Private definitions on standard streams. `Inputs` says which bytes a reader has given and `Outputs` which a writer
--- has taken, also where it fails in the middle.
+-- Private definitions on standard streams. `Inputs` says which bytes a reader has given, also where it fails in
+-- the middle, and `Outputs` which a writer took before it failed.
 pub mod Inputs
 pub mod Outputs

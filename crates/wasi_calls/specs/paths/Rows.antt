@@ -1,5 +1,5 @@
--- Calls on paths (`path_*` of WASI preview 1; `docs/DECISIONS.md`, "WASI calls"). Each row checks the descriptor and
--- the ranges of memory, walks its path, checks what that reached, and works on the tree last.
+-- Calls on paths (`path_*` of WASI preview 1; `docs/DECISIONS.md`, "WASI calls"). Each row checks descriptors and
+-- ranges of memory, walks each path, checks what was reached, and then makes its call of the tree, if it has one.
 use Rattle.std.specs.Prelude.{ℕ, ◌+◌, Bool, not, ◌==◌, ◌&&◌, ◌||◌, nat_le, List, [], length, Some, None, Ok, Err, if◌then◌else◌, bit_and}
 use Rattle.std.specs.Option.{ok_or}
 use Rattle.byteorder.specs.Endian.{little_bytes}

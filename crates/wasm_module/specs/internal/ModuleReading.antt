@@ -1,5 +1,6 @@
 -- How the parts of a module are read, up to `module_from`, which is what the decoder does with all bytes. The code
--- takes the sections in groups, each a few lists and the group after them; `decoded_of` makes a module of these pairs.
+-- takes the sections in groups, each of which but the last ends with the next group; `decoded_of` makes of these nested
+-- pairs a module and the number of data segments that it declares.
 use Rattle.std.specs.Prelude.{ℕ, ◌+◌, List, [], length, Bool, true, ◌&&◌, Option, Some, None, unwrap_or, slice_get, nat_le, ◌==◌, if◌then◌else◌}
 use Rattle.std.specs.List.{list_all, zip}
 use Rattle.wasm_module.specs.declared.module.FuncType.{FuncType}

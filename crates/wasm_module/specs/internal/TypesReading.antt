@@ -1,5 +1,5 @@
--- How types are read, one reader for each spelling of `Types`. Where `src/parts.rt` implements `Decode` for a type, it
--- names the reader that this follows (`at`).
+-- How types are read, by readers that follow the spellings of `Types`. Where `src/parts.rt` implements `Decode` for a
+-- type, its ghost member `at` names the reader that the code follows.
 use Rattle.std.specs.Prelude.{ℕ, Bool, false, true, Option, Some, None, nat_le, ◌==◌, if◌then◌else◌}
 use Rattle.wasm_module.specs.declared.instruction.ValueType.{ValueType}
 use Rattle.wasm_module.specs.declared.instruction.ValueType.TheVariants.{I32, I64}

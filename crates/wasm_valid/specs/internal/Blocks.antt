@@ -1,5 +1,6 @@
 -- The blocks that are open at an instruction, the innermost first, and what the instruction makes of them. `stepped` is
--- one step of the walk over a body: the blocks after the instruction, or nothing where it isn't typed.
+-- one step of the walk over a body: the blocks after the instruction, or nothing where it isn't typed. The `end` of the
+-- outermost block is no such step: `is_finished` says whether it may come.
 use Rattle.std.specs.Prelude.{List, [], ◌∷◌, Option, Some, None, Bool, true, false, ◌&&◌, map}
 use Rattle.std.specs.Option.{option_map, option_and_then}
 use Rattle.wasm_module.specs.declared.instruction.ValueType.{ValueType}

@@ -1,6 +1,6 @@
--- What each instruction does to the types on the stack (section 3.3), as one walk over the code finds it. Most take and
--- give fixed types (an `Effect`); `after` covers all plain instructions, branches, calls, `drop` and `select` among
--- them.
+-- What each plain instruction does to the types on the stack (section 3.3), as one walk over the code finds it. Most
+-- take and give types that the instruction and the context fix (an `Effect`); `after` covers all of them, branches,
+-- calls, `drop` and `select` too.
 use Rattle.std.specs.Prelude.{ℕ, List, [], ◌∷◌, Option, Some, None, Bool, true, false, ◌&&◌, nat_le, slice_get, reverse}
 use Rattle.wasm_valid.specs.internal.Stack.{pop}
 use Rattle.std.specs.List.{list_all}

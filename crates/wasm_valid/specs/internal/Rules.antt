@@ -1,5 +1,5 @@
--- The rules of a module (section 3.4), as they are tested. They are the clauses of `IsValid` but for the bodies, in
--- groups as the functions of `src/validating.rt` test them.
+-- The rules of a module (section 3.4), as they are tested. They say what the clauses of `IsValid` say but for the
+-- bodies, in groups as the functions of `src/validating.rt` test them.
 use Rattle.std.specs.Prelude.{◌≡◌, ◌<◌, ◌≤◌, ◌^◌, List, [], length, map, All, Some, false, slice_get, IfSome}
 use Rattle.std.specs.List.{filter_map}
 use Rattle.wasm_module.specs.declared.instruction.ValueType.{ValueType}

@@ -1,4 +1,5 @@
--- The types on the stack of a body, as far as one walk over its code knows them. The type on top comes first.
+-- The types that the instructions of a block have on the stack, as far as one walk over the code knows them. The type
+-- on top comes first.
 use Rattle.std.specs.Prelude.{List, [], ◌∷◌, Option, Some, None, Bool, true, false}
 use Rattle.std.specs.Option.{option_map, option_and_then}
 use Rattle.wasm_module.specs.declared.instruction.ValueType.{ValueType}

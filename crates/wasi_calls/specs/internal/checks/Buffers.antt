@@ -19,7 +19,7 @@ fit memory all = do
   guard (list_all (is_inside memory) all) FAULT
   Ok all
 
--- what that says
+-- what the checks say of the buffers, and of the place of the result
 pub record AreUsable (memory : List ℕ) (all : List Buffer) (result : ℕ) : Type 0 where
   pub small : total all < 2 ^ 32
   pub inside : list_all (is_inside memory) all ≡ true

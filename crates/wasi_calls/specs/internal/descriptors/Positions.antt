@@ -1,5 +1,5 @@
--- Where a position is moved from, and to. `fd_seek` comes in three parts here: its checks (`seekable`), the place to
--- start from (`TellsFrom`, `FailsFrom`) and the move (`sought`).
+-- Where a position is moved from, and to. `seekable` has the checks of `fd_seek` before it is asked where to move from,
+-- and `sought` the rest; `TellsFrom` and `FailsFrom` are the two ways that asking for this place may end.
 use Rattle.std.specs.Prelude.{◌≡◌, ◌≢◌, ℕ, ◌^◌, ◌==◌, ◌&&◌, ◌||◌, nat_le, true, false, List, Some, Ok, Err}
 use Rattle.std.specs.Option.{ok_or}
 use Rattle.byteorder.specs.Endian.{little_bytes}

@@ -1,5 +1,5 @@
--- The parts of `path_open`, in the order of the call. `open_part` changes nothing; after it a `Target` says whether an
--- entry is opened as it is, cut to no bytes, or made.
+-- The parts of `path_open`. `open_part` comes first and changes nothing; after it a `Target` says whether an entry is
+-- opened as it is, cut to no bytes, or made.
 use Rattle.std.specs.Prelude.{◌≡◌, ◌≤◌, ℕ, ◌+◌, not, ◌==◌, ◌&&◌, ◌||◌, nat_le, List, [], Bool, true, false, Some, Result, Ok, Err, if◌then◌else◌, bit_and}
 use Rattle.vol_inode.specs.Name.{IsName}
 use Rattle.wasm_store.specs.Bytes.{bytes_at}

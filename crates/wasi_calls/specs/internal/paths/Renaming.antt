@@ -1,5 +1,5 @@
--- The parts of `path_rename`, in the order of the call. For a target that is there the code asks the volume for all
--- `Facts` before it checks any, so `replace_checked` takes no tree.
+-- The parts of `path_rename`; `rename_part` comes first. For a target that is there and isn't the source, the code asks
+-- the volume for all `Facts` before it checks any, so `replace_checked` takes no tree.
 use Rattle.std.specs.Prelude.{◌≡◌, ℕ, ◌^◌, not, ◌==◌, ◌&&◌, ◌||◌, List, Bool, length, Result, Ok, Err}
 use Rattle.vol_tree.specs.Tree.{Tree, is_empty}
 use Rattle.vol_tree.specs.Calls.{directory_at, is_within}

@@ -1,5 +1,5 @@
--- What a walk from an open directory says of the row that makes it. A walk that reaches something lets the row go on in
--- the same world, and any other stops the row with its errno.
+-- What a walk from an open directory says of the row that makes it. A walk that reaches an entry, or a name that may be
+-- made, lets the row go on in the same world; any other stops the row with its errno.
 use Rattle.std.specs.Prelude.{◌≡◌, ℕ, false, List, Result, Ok, Err}
 use Rattle.vol_sector.specs.Disk.{Disk, Leaves}
 use Rattle.vol_tree.specs.declared.errno.Errno.{Errno}
