@@ -21,7 +21,7 @@ use clap::{Arg, ArgAction, ArgMatches, Command, Error};
 use std::alloc::{AllocError, Global};
 
 /// What `--version` prints after the program's name.
-const VERSION: &str = "0.9.2";
+const VERSION: &str = "0.9.3";
 
 /// What help ends with.
 const STATUSES: &str = "\

@@ -16,6 +16,7 @@ mod running;
 mod state;
 mod stores;
 mod tables;
+mod unary;
 
 pub use activation::Activation;
 pub use laws::machines_show_their_stores;
