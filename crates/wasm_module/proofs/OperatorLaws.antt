@@ -1,5 +1,5 @@
 -- The laws of operators, which have nothing after their opcode.
-use Rattle.std.proofs.Common.{◌≡◌, ℕ, ◌+◌, ◌-◌, ◌≤◌, Bool, true, false, cond, eqb, leb, List, [], ◌∷◌, Option, Some, refl, ap, subst, arith}
+use Rattle.std.proofs.Common.{◌≡◌, ℕ, ◌+◌, ◌-◌, ◌≤◌, Bool, true, false, cond, eqb, leb, List, [], ◌∷◌, Option, None, Some, refl, ap, subst, arith}
 use Rattle.std.proofs.lemmas.Bool.{eqb-true, leb-true}
 use Rattle.wasm_module.specs.declared.instruction.ValueType.{ValueType}
 use Rattle.wasm_module.specs.declared.instruction.ValueType.TheVariants.{I32, I64}
@@ -29,6 +29,10 @@ picked {X} P b code y x more here rest e = by_test (eqb b code) refl e where
   by_test true is e = subst P (some_is y x e) (here (eqb-true _ _ is))
   by_test false is e = rest e
 
+-- past its last entry a table gives nothing
+ended : {X B : Type 0} {x : X} → None ≡ Some x → B
+ended e = absurd cc
+
 -- a range of a table
 ranged : {X : Type 0} (P : X → Type 0) (low high b : ℕ) (x : X) (here more : Option X) → (low ≤ b → here ≡ Some x → P x) → (more ≡ Some x → P x) → cond (is_between low high b) here more ≡ Some x → P x
 ranged {X} P low high b x here more inside rest e = by_test (is_between low high b) refl e where
@@ -42,69 +46,69 @@ ranged {X} P low high b x here more inside rest e = by_test (is_between low high
 comparison_takes : (n : ℕ) (o : Comparison) → comparison_of n ≡ Some o → n ≡ comparison_number o
 unfolding comparison_of
 comparison_takes n o =
-    picked (λ (o : Comparison). n ≡ comparison_number o) n 0 comparison.Eq o _ (λ is. is) (
-    picked (λ (o : Comparison). n ≡ comparison_number o) n 1 comparison.Ne o _ (λ is. is) (
-    picked (λ (o : Comparison). n ≡ comparison_number o) n 2 comparison.LtS o _ (λ is. is) (
-    picked (λ (o : Comparison). n ≡ comparison_number o) n 3 comparison.LtU o _ (λ is. is) (
-    picked (λ (o : Comparison). n ≡ comparison_number o) n 4 comparison.GtS o _ (λ is. is) (
-    picked (λ (o : Comparison). n ≡ comparison_number o) n 5 comparison.GtU o _ (λ is. is) (
-    picked (λ (o : Comparison). n ≡ comparison_number o) n 6 comparison.LeS o _ (λ is. is) (
-    picked (λ (o : Comparison). n ≡ comparison_number o) n 7 comparison.LeU o _ (λ is. is) (
-    picked (λ (o : Comparison). n ≡ comparison_number o) n 8 comparison.GeS o _ (λ is. is) (
-    picked (λ (o : Comparison). n ≡ comparison_number o) n 9 comparison.GeU o _ (λ is. is) (
-    λ e. absurd cc))))))))))
+    picked (λ (o : Comparison). n ≡ comparison_number o) n 0 _ o _ (λ is. is) (
+    picked (λ (o : Comparison). n ≡ comparison_number o) n 1 _ o _ (λ is. is) (
+    picked (λ (o : Comparison). n ≡ comparison_number o) n 2 _ o _ (λ is. is) (
+    picked (λ (o : Comparison). n ≡ comparison_number o) n 3 _ o _ (λ is. is) (
+    picked (λ (o : Comparison). n ≡ comparison_number o) n 4 _ o _ (λ is. is) (
+    picked (λ (o : Comparison). n ≡ comparison_number o) n 5 _ o _ (λ is. is) (
+    picked (λ (o : Comparison). n ≡ comparison_number o) n 6 _ o _ (λ is. is) (
+    picked (λ (o : Comparison). n ≡ comparison_number o) n 7 _ o _ (λ is. is) (
+    picked (λ (o : Comparison). n ≡ comparison_number o) n 8 _ o _ (λ is. is) (
+    picked (λ (o : Comparison). n ≡ comparison_number o) n 9 _ o _ (λ is. is) (
+    ended))))))))))
 
 -- an operator on two integers has its number
 binary_takes : (n : ℕ) (o : BinaryOperator) → binary_operator_of n ≡ Some o → n ≡ binary_operator_number o
 unfolding binary_operator_of
 binary_takes n o =
-    picked (λ (o : BinaryOperator). n ≡ binary_operator_number o) n 0 binary.Add o _ (λ is. is) (
-    picked (λ (o : BinaryOperator). n ≡ binary_operator_number o) n 1 binary.Sub o _ (λ is. is) (
-    picked (λ (o : BinaryOperator). n ≡ binary_operator_number o) n 2 binary.Mul o _ (λ is. is) (
-    picked (λ (o : BinaryOperator). n ≡ binary_operator_number o) n 3 binary.DivS o _ (λ is. is) (
-    picked (λ (o : BinaryOperator). n ≡ binary_operator_number o) n 4 binary.DivU o _ (λ is. is) (
-    picked (λ (o : BinaryOperator). n ≡ binary_operator_number o) n 5 binary.RemS o _ (λ is. is) (
-    picked (λ (o : BinaryOperator). n ≡ binary_operator_number o) n 6 binary.RemU o _ (λ is. is) (
-    picked (λ (o : BinaryOperator). n ≡ binary_operator_number o) n 7 binary.And o _ (λ is. is) (
-    picked (λ (o : BinaryOperator). n ≡ binary_operator_number o) n 8 binary.Or o _ (λ is. is) (
-    picked (λ (o : BinaryOperator). n ≡ binary_operator_number o) n 9 binary.Xor o _ (λ is. is) (
-    picked (λ (o : BinaryOperator). n ≡ binary_operator_number o) n 10 binary.Shl o _ (λ is. is) (
-    picked (λ (o : BinaryOperator). n ≡ binary_operator_number o) n 11 binary.ShrS o _ (λ is. is) (
-    picked (λ (o : BinaryOperator). n ≡ binary_operator_number o) n 12 binary.ShrU o _ (λ is. is) (
-    picked (λ (o : BinaryOperator). n ≡ binary_operator_number o) n 13 binary.Rotl o _ (λ is. is) (
-    picked (λ (o : BinaryOperator). n ≡ binary_operator_number o) n 14 binary.Rotr o _ (λ is. is) (
-    λ e. absurd cc)))))))))))))))
+    picked (λ (o : BinaryOperator). n ≡ binary_operator_number o) n 0 _ o _ (λ is. is) (
+    picked (λ (o : BinaryOperator). n ≡ binary_operator_number o) n 1 _ o _ (λ is. is) (
+    picked (λ (o : BinaryOperator). n ≡ binary_operator_number o) n 2 _ o _ (λ is. is) (
+    picked (λ (o : BinaryOperator). n ≡ binary_operator_number o) n 3 _ o _ (λ is. is) (
+    picked (λ (o : BinaryOperator). n ≡ binary_operator_number o) n 4 _ o _ (λ is. is) (
+    picked (λ (o : BinaryOperator). n ≡ binary_operator_number o) n 5 _ o _ (λ is. is) (
+    picked (λ (o : BinaryOperator). n ≡ binary_operator_number o) n 6 _ o _ (λ is. is) (
+    picked (λ (o : BinaryOperator). n ≡ binary_operator_number o) n 7 _ o _ (λ is. is) (
+    picked (λ (o : BinaryOperator). n ≡ binary_operator_number o) n 8 _ o _ (λ is. is) (
+    picked (λ (o : BinaryOperator). n ≡ binary_operator_number o) n 9 _ o _ (λ is. is) (
+    picked (λ (o : BinaryOperator). n ≡ binary_operator_number o) n 10 _ o _ (λ is. is) (
+    picked (λ (o : BinaryOperator). n ≡ binary_operator_number o) n 11 _ o _ (λ is. is) (
+    picked (λ (o : BinaryOperator). n ≡ binary_operator_number o) n 12 _ o _ (λ is. is) (
+    picked (λ (o : BinaryOperator). n ≡ binary_operator_number o) n 13 _ o _ (λ is. is) (
+    picked (λ (o : BinaryOperator). n ≡ binary_operator_number o) n 14 _ o _ (λ is. is) (
+    ended)))))))))))))))
 
 -- a load that an opcode is of has that opcode
 pub load_has_opcode : (b : ℕ) (o : LoadOperator) → load_of b ≡ Some o → b ≡ load_opcode o
 unfolding load_of
 load_has_opcode b o =
-    picked (λ (o : LoadOperator). b ≡ load_opcode o) b 0x28 load.I32Load o _ (λ is. is) (
-    picked (λ (o : LoadOperator). b ≡ load_opcode o) b 0x29 load.I64Load o _ (λ is. is) (
-    picked (λ (o : LoadOperator). b ≡ load_opcode o) b 0x2C load.I32Load8S o _ (λ is. is) (
-    picked (λ (o : LoadOperator). b ≡ load_opcode o) b 0x2D load.I32Load8U o _ (λ is. is) (
-    picked (λ (o : LoadOperator). b ≡ load_opcode o) b 0x2E load.I32Load16S o _ (λ is. is) (
-    picked (λ (o : LoadOperator). b ≡ load_opcode o) b 0x2F load.I32Load16U o _ (λ is. is) (
-    picked (λ (o : LoadOperator). b ≡ load_opcode o) b 0x30 load.I64Load8S o _ (λ is. is) (
-    picked (λ (o : LoadOperator). b ≡ load_opcode o) b 0x31 load.I64Load8U o _ (λ is. is) (
-    picked (λ (o : LoadOperator). b ≡ load_opcode o) b 0x32 load.I64Load16S o _ (λ is. is) (
-    picked (λ (o : LoadOperator). b ≡ load_opcode o) b 0x33 load.I64Load16U o _ (λ is. is) (
-    picked (λ (o : LoadOperator). b ≡ load_opcode o) b 0x34 load.I64Load32S o _ (λ is. is) (
-    picked (λ (o : LoadOperator). b ≡ load_opcode o) b 0x35 load.I64Load32U o _ (λ is. is) (
-    λ e. absurd cc))))))))))))
+    picked (λ (o : LoadOperator). b ≡ load_opcode o) b 0x28 _ o _ (λ is. is) (
+    picked (λ (o : LoadOperator). b ≡ load_opcode o) b 0x29 _ o _ (λ is. is) (
+    picked (λ (o : LoadOperator). b ≡ load_opcode o) b 0x2C _ o _ (λ is. is) (
+    picked (λ (o : LoadOperator). b ≡ load_opcode o) b 0x2D _ o _ (λ is. is) (
+    picked (λ (o : LoadOperator). b ≡ load_opcode o) b 0x2E _ o _ (λ is. is) (
+    picked (λ (o : LoadOperator). b ≡ load_opcode o) b 0x2F _ o _ (λ is. is) (
+    picked (λ (o : LoadOperator). b ≡ load_opcode o) b 0x30 _ o _ (λ is. is) (
+    picked (λ (o : LoadOperator). b ≡ load_opcode o) b 0x31 _ o _ (λ is. is) (
+    picked (λ (o : LoadOperator). b ≡ load_opcode o) b 0x32 _ o _ (λ is. is) (
+    picked (λ (o : LoadOperator). b ≡ load_opcode o) b 0x33 _ o _ (λ is. is) (
+    picked (λ (o : LoadOperator). b ≡ load_opcode o) b 0x34 _ o _ (λ is. is) (
+    picked (λ (o : LoadOperator). b ≡ load_opcode o) b 0x35 _ o _ (λ is. is) (
+    ended))))))))))))
 
 -- a store that an opcode is of has that opcode
 pub store_has_opcode : (b : ℕ) (o : StoreOperator) → store_of b ≡ Some o → b ≡ store_opcode o
 unfolding store_of
 store_has_opcode b o =
-    picked (λ (o : StoreOperator). b ≡ store_opcode o) b 0x36 store.I32Store o _ (λ is. is) (
-    picked (λ (o : StoreOperator). b ≡ store_opcode o) b 0x37 store.I64Store o _ (λ is. is) (
-    picked (λ (o : StoreOperator). b ≡ store_opcode o) b 0x3A store.I32Store8 o _ (λ is. is) (
-    picked (λ (o : StoreOperator). b ≡ store_opcode o) b 0x3B store.I32Store16 o _ (λ is. is) (
-    picked (λ (o : StoreOperator). b ≡ store_opcode o) b 0x3C store.I64Store8 o _ (λ is. is) (
-    picked (λ (o : StoreOperator). b ≡ store_opcode o) b 0x3D store.I64Store16 o _ (λ is. is) (
-    picked (λ (o : StoreOperator). b ≡ store_opcode o) b 0x3E store.I64Store32 o _ (λ is. is) (
-    λ e. absurd cc)))))))
+    picked (λ (o : StoreOperator). b ≡ store_opcode o) b 0x36 _ o _ (λ is. is) (
+    picked (λ (o : StoreOperator). b ≡ store_opcode o) b 0x37 _ o _ (λ is. is) (
+    picked (λ (o : StoreOperator). b ≡ store_opcode o) b 0x3A _ o _ (λ is. is) (
+    picked (λ (o : StoreOperator). b ≡ store_opcode o) b 0x3B _ o _ (λ is. is) (
+    picked (λ (o : StoreOperator). b ≡ store_opcode o) b 0x3C _ o _ (λ is. is) (
+    picked (λ (o : StoreOperator). b ≡ store_opcode o) b 0x3D _ o _ (λ is. is) (
+    picked (λ (o : StoreOperator). b ≡ store_opcode o) b 0x3E _ o _ (λ is. is) (
+    ended)))))))
 
 -- the operator on one integer that this byte spells
 abbrev IsUnary : ℕ → ValueType × UnaryOperator → Type 0
@@ -217,7 +221,7 @@ unary64 o immediates h = (h, λ rest. refl)
 -- the loads
 pub load_again : (o : LoadOperator) (rest : List ℕ) → instruction_at (load_opcode o ∷ rest) ≡ map_at (op.Load o) mem_arg_at rest
 unfolding instruction_at instruction_after load_after load_of
-load_again load.I32Load rest = refl
+load_again load.I32Load16S rest = refl
 load_again o rest = refl
 
 -- the stores
