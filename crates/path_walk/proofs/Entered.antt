@@ -9,7 +9,7 @@ use Rattle.vol_tree.specs.Opened.{Opened, Tells, IsSerial}
 use Rattle.vol_tree.proofs.Lookups.{looked_up}
 use Rattle.path_walk.specs.Paths.{dots}
 use Rattle.path_walk.specs.internal.Turns.{turned}
-use Rattle.path_walk.specs.internal.Steps.{IsNext}
+use Rattle.path_walk.specs.Walk.{IsNext}
 
 -- what a look-up finds is an entry
 pub found_next : {D : Type 0} (honest : D → Type 0) (old new : Opened D) (directory : ℕ) (name : Name) (result : Result (Option ℕ) Errno) → new.numbers ≡ old.numbers

@@ -1,6 +1,6 @@
 -- What a walk over an open volume answers and leaves (`docs/PATHS.md`, "Walking"). Contracts of other crates cite
 -- `Asked` of a volume that is only read: where its device keeps its model, the tree stays, and a crash leaves no more.
-use Rattle.std.specs.Prelude.{◌≡◌, ◌⊎◌, ℕ, Bool, Result, Ok, Err, IsSome}
+use Rattle.std.specs.Prelude.{◌≡◌, ◌⊎◌, ℕ, Bool, Option, Some, None, Result, Ok, Err, IsSome}
 use Rattle.vol_sector.specs.Disk.{Disk, Leaves}
 use Rattle.vol_inode.specs.Name.{IsName}
 use Rattle.vol_tree.specs.declared.errno.Errno.{Errno}
@@ -15,6 +15,11 @@ use Rattle.path_walk.specs.Paths.{Reached, Found, Missing}
 pub record IsEntryOf {D : Type 0} (honest : D → Type 0) (v : Opened D) (serial : ℕ) : Type 0 where
   pub number : IsSerial v.numbers serial
   pub used : honest v.device → IsSome (entry v.tree serial)
+
+-- what a look-up gives, where it gives anything, is an entry
+abbrev pub IsNext : {D : Type 0} → (D → Type 0) → Opened D → Option ℕ → Type 0
+IsNext honest v None = Unit {0}
+IsNext honest v (Some serial) = IsEntryOf honest v serial
 
 abbrev pub reached_as : ReachedValue → Reached
 reached_as (values.Found serial) = Found serial

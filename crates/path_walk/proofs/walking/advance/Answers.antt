@@ -1,5 +1,5 @@
 use Rattle.std.proofs.Common.{ℕ, false, inl, Option, Some, None, Ok, sym, ap, ◌∙◌, subst}
-use Rattle.path_walk.specs.internal.Steps.{IsNext}
+use Rattle.path_walk.specs.Walk.{IsNext}
 use Rattle.path_walk.proofs.Advancing.{asked_nothing, asked_passed, entry_after, passed_match, passed_ok, skips_on, after_missing, goes_on, goes_wrong}
 use Rattle.path_walk.proofs.walking.advance.Goals as goal
 
