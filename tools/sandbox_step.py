@@ -431,7 +431,7 @@ def in_child(words, program, streams, limits, leash, mine):
     for what, most in limits:
         hard = resource.getrlimit(what)[1]
         most = most if hard == resource.RLIM_INFINITY else min(most, hard)
-        resource.setrlimit(what, (most, most))
+        resource.setrlimit(what, (most, hard if what == resource.RLIMIT_CPU else most))
     for one in (signal.SIGPIPE, signal.SIGXFSZ, signal.SIGTERM, signal.SIGINT, signal.SIGHUP, signal.SIGALRM):
         signal.signal(one, signal.SIG_DFL)
     os.execve(program, words, {})

@@ -14,8 +14,6 @@ The action's key has the program, the step's scripts, the module, each input by 
 result. So it may be kept anywhere (--disk_cache, --remote_cache), and may be done anywhere (--remote_executor).
 """
 
-_TOOLCHAIN = "@rules_sandbox//:toolchain_type"
-
 _NUMBERS = ["fuel", "pages", "values", "moment", "seed", "room", "entries", "wall", "output", "memory"]
 
 def _give(ctx, args, inputs, seen, path, file):
@@ -29,7 +27,7 @@ def _sandbox_step(ctx):
     args = ctx.actions.args()
     args.use_param_file("@%s", use_always = True)
     args.set_param_file_format("shell")
-    program = ctx.toolchains[_TOOLCHAIN].sandbox
+    program = ctx.file.sandbox
     args.add("--sandbox", program)
     args.add("--links")                          # Bazel's folders are made of links to declared inputs
     inputs = [program, ctx.file.module] + ctx.files._step_modules
@@ -90,7 +88,6 @@ def _sandbox_step(ctx):
 sandbox_step = rule(
     implementation = _sandbox_step,
     doc = "Runs a guest of `sandbox` on files and folders, and keeps what it leaves in /out.",
-    toolchains = [_TOOLCHAIN],
     attrs = dict({
         "module": attr.label(allow_single_file = [".wasm"], mandatory = True),
         "srcs": attr.label_keyed_string_dict(allow_files = True),
@@ -101,6 +98,7 @@ sandbox_step = rule(
         "out_dirs": attr.string_list(),
         "words": attr.string_list(),
         "env": attr.string_list(),
+        "sandbox": attr.label(default = "@sandbox//:sandbox", allow_single_file = True, cfg = "exec", doc = "the program: `sandbox_release` makes it"),
         "_step_modules": attr.label_list(default = ["@rules_sandbox//:sandbox_step.py", "@rules_sandbox//:step_volume.py"], allow_files = True),
         "_step": attr.label(default = "@rules_sandbox//:sandbox-step", allow_single_file = True, executable = True, cfg = "exec"),
     }, **{
@@ -113,12 +111,3 @@ sandbox_step = rule(
 def step(**attributes):
     """sandbox_step with numbers as numbers."""
     sandbox_step(**{name: str(value) if name in _NUMBERS else value for name, value in attributes.items()})
-
-def _sandbox_toolchain(ctx):
-    return [platform_common.ToolchainInfo(sandbox = ctx.file.sandbox)]
-
-sandbox_toolchain = rule(
-    implementation = _sandbox_toolchain,
-    attrs = {"sandbox": attr.label(allow_single_file = True, mandatory = True, cfg = "exec", doc = "the program")},
-    doc = "The program that does steps, for a `toolchain` of the type @rules_sandbox//:toolchain_type.",
-)

@@ -1,21 +1,4 @@
-"""The program of a release by its SHA-256, and nothing else; with a toolchain, to be registered as @NAME//:toolchain."""
-
-_BUILD = """load("@rules_sandbox//:defs.bzl", "sandbox_toolchain")
-
-exports_files(["sandbox"])
-
-sandbox_toolchain(
-    name = "program",
-    sandbox = ":sandbox",
-)
-
-toolchain(
-    name = "toolchain",
-    exec_compatible_with = ["@platforms//os:linux", "@platforms//cpu:x86_64"],
-    toolchain = ":program",
-    toolchain_type = "@rules_sandbox//:toolchain_type",
-)
-"""
+"""The program of a release by its SHA-256, and nothing else."""
 
 def _sandbox_release(ctx):
     if bool(ctx.attr.checkout) == bool(ctx.attr.urls):
@@ -31,7 +14,7 @@ def _sandbox_release(ctx):
     digest = made.stdout[:64]
     if digest != ctx.attr.sha256:
         fail("%s holds %s, and `sha256` says %s" % (packed, digest, ctx.attr.sha256))
-    ctx.file("BUILD", _BUILD)
+    ctx.file("BUILD", 'exports_files(["sandbox"])\n')
 
 sandbox_release = repository_rule(
     implementation = _sandbox_release,
@@ -40,5 +23,5 @@ sandbox_release = repository_rule(
         "urls": attr.string_list(doc = "or where its release/sandbox.gz is"),
         "sha256": attr.string(mandatory = True, doc = "of the program: release/sandbox.sha256 has it"),
     },
-    doc = "Makes the program of a release a repository with a toolchain.",
+    doc = "Makes the program of a release the file //:sandbox of a repository.",
 )
