@@ -9,6 +9,7 @@
 #   @comment FILE                 the comment at the head of a header in C; CAPITALS are headings
 #   @types FILE, @functions FILE  types, and functions with their comments, of a header
 #   @tool FILE                    a script's first comment: its first line is the name
+#   @script FILE                  the same as text, without a name
 #   @see PAGES                    other pages
 BEGIN {
   for (i = 32; i < 127; i++) char[i] = sprintf("%c", i)
@@ -413,10 +414,10 @@ function functions_of(file,    n, i, s, told, proto, is_comment) {
 }
 
 # A script's first comment, or the text at the head of one in Python.
-function tool_of(file,    n, i, s, is_python, is_first) {
+function tool_of(file, is_page,    n, i, s, is_python, is_first) {
   n = read_file(file)
   is_python = lines[file, 2] ~ /^"""/
-  is_first = 1
+  is_first = is_page
   for (i = 2; i <= n; i++) {
     s = lines[file, i]
     if (is_python ? i > 2 && s ~ /"""/ : s !~ /^#/)
@@ -453,7 +454,8 @@ function name_of(s) {
 /^@comment / { comment_of($2); next }
 /^@types / { types_of($2); next }
 /^@functions / { functions_of($2); next }
-/^@tool / { tool_of($2); next }
+/^@tool / { tool_of($2, 1); next }
+/^@script / { tool_of($2, 0); next }
 /^@see / {
   put_helps()
   heading(2, "SEE ALSO")
