@@ -413,21 +413,33 @@ function functions_of(file,    n, i, s, told, proto, is_comment) {
   begin_anew = 1
 }
 
-# A script's first comment, or the text at the head of one in Python.
+# A script's first comment, or the text at the head of one in Python: two blanks before a word make it a tag, four make it literal.
 function tool_of(file, is_page,    n, i, s, is_python, is_first) {
   n = read_file(file)
-  is_python = lines[file, 2] ~ /^"""/
+  i = lines[file, 1] ~ /^#!/ ? 2 : 1
+  is_python = lines[file, i] ~ /^"""/
   is_first = is_page
-  for (i = 2; i <= n; i++) {
+  for (; i <= n; i++) {
     s = lines[file, i]
-    if (is_python ? i > 2 && s ~ /"""/ : s !~ /^#/)
+    if (is_python ? s ~ /^"""$/ : s !~ /^#/)
       break
     sub(is_python ? "^\"\"\"" : "^# ?", "", s)
     if (is_first) {
+      sub(/^sandbox[^:]*: /, "", s)
       name_of(s)
       heading(2, "DESCRIPTION")
       is_first = 0
+    } else if (is_python && s ~ /^[A-Z].*:$/) {
+      heading(3, substr(s, 1, length(s) - 1))
+    } else if (is_python && s ~ /^  [^ ]/ && match(s, /[^ ]  +[^ ]/)) {
+      flush()
+      print ".TP"
+      put_tag("\\fB" escaped(substr(s, 3, RSTART - 2), code) "\\fP")
+      wrapped(escaped(substr(s, RSTART + RLENGTH - 1), plain))
+      fresh = 0
     } else {
+      if (is_python)
+        sub(/^Usage: |^       /, "    ", s)
       sub(/^  ([^ ])/, "    &", s)
       sub(/^      /, "    ", s)
       line_of(s)
