@@ -9,6 +9,7 @@
 #   @comment FILE                 the comment at the head of a header in C; CAPITALS are headings
 #   @types FILE, @functions FILE  types, and functions with their comments, of a header
 #   @tool FILE                    a script's first comment: its first line is the name
+#   @script FILE                  the same as text, without a name
 #   @see PAGES                    other pages
 BEGIN {
   for (i = 32; i < 127; i++) char[i] = sprintf("%c", i)
@@ -412,21 +413,33 @@ function functions_of(file,    n, i, s, told, proto, is_comment) {
   begin_anew = 1
 }
 
-# A script's first comment, or the text at the head of one in Python.
-function tool_of(file,    n, i, s, is_python, is_first) {
+# A script's first comment, or the text at the head of one in Python: two blanks before a word make it a tag, four make it literal.
+function tool_of(file, is_page,    n, i, s, is_python, is_first) {
   n = read_file(file)
-  is_python = lines[file, 2] ~ /^"""/
-  is_first = 1
-  for (i = 2; i <= n; i++) {
+  i = lines[file, 1] ~ /^#!/ ? 2 : 1
+  is_python = lines[file, i] ~ /^"""/
+  is_first = is_page
+  for (; i <= n; i++) {
     s = lines[file, i]
-    if (is_python ? i > 2 && s ~ /"""/ : s !~ /^#/)
+    if (is_python ? s ~ /^"""$/ : s !~ /^#/)
       break
     sub(is_python ? "^\"\"\"" : "^# ?", "", s)
     if (is_first) {
+      sub(/^sandbox[^:]*: /, "", s)
       name_of(s)
       heading(2, "DESCRIPTION")
       is_first = 0
+    } else if (is_python && s ~ /^[A-Z].*:$/) {
+      heading(3, substr(s, 1, length(s) - 1))
+    } else if (is_python && s ~ /^  [^ ]/ && match(s, /[^ ]  +[^ ]/)) {
+      flush()
+      print ".TP"
+      put_tag("\\fB" escaped(substr(s, 3, RSTART - 2), code) "\\fP")
+      wrapped(escaped(substr(s, RSTART + RLENGTH - 1), plain))
+      fresh = 0
     } else {
+      if (is_python)
+        sub(/^Usage: |^       /, "    ", s)
       sub(/^  ([^ ])/, "    &", s)
       sub(/^      /, "    ", s)
       line_of(s)
@@ -453,7 +466,8 @@ function name_of(s) {
 /^@comment / { comment_of($2); next }
 /^@types / { types_of($2); next }
 /^@functions / { functions_of($2); next }
-/^@tool / { tool_of($2); next }
+/^@tool / { tool_of($2, 1); next }
+/^@script / { tool_of($2, 0); next }
 /^@see / {
   put_helps()
   heading(2, "SEE ALSO")
