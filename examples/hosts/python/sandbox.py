@@ -2,8 +2,8 @@
 
     module = Module(bytes)
     with module.session(args=["wc"], input=b"a b\n") as session:
-        ended, used = session.run(fuel=10**6)
-        print(session.output())
+        told = session.run(fuel=10**6)
+        print(told.kind, told.code, told.used, session.output())
 
 A module is decoded and validated once and serves one session at a time. Bytes that a session reads are kept for it.
 """
@@ -58,14 +58,24 @@ class _Why(c.Structure):
     _fields_ = [("fault", c.c_uint32), ("offset", c.c_uint32)]
 
 
-def _library():
-    """The archive as a shared library beside this file, made by the C compiler where it isn't there or is older."""
-    subprocess.run([f"{HERE}/../library"], check=True)
-    archive, made = f"{HERE}/../../../out/libsandbox.a", f"{HERE}/libsandbox.so"
+def _file():
+    """The shared library: the one that a package put beside this file; in a checkout the one that the C compiler makes of the
+    archive, where it isn't there or is older; else the one of the system."""
+    packed, made, library = f"{HERE}/libsandbox.so.0", f"{HERE}/libsandbox.so", f"{HERE}/../library"
+    if os.path.exists(packed):
+        return packed
+    if not os.path.exists(library):
+        return "libsandbox.so.0"
+    subprocess.run([library], check=True)
+    archive = f"{HERE}/../../../out/libsandbox.a"
     if not os.path.exists(made) or os.path.getmtime(made) < os.path.getmtime(archive):
         subprocess.run(["cc", "-shared", "-o", f"{made}.new", "-Wl,--whole-archive", archive, "-Wl,--no-whole-archive"], check=True)
         os.rename(f"{made}.new", made)
-    library = c.CDLL(made)
+    return made
+
+
+def _library():
+    library = c.CDLL(_file())
     for name in ("text", "output", "volume_out"):
         getattr(library, f"sandbox_{name}").restype = c.c_size_t
     return library
@@ -95,6 +105,7 @@ def empty_volume(sectors=1000, slots=16):
 
 class Module:
     """A valid module."""
+    _raw = None  # where it wasn't made
 
     def __init__(self, given):
         self._bytes, self._raw, why = bytes(given), c.c_void_p(), _Why()
@@ -104,16 +115,21 @@ class Module:
         return Session(self, **supplies)
 
     def __del__(self):
-        _lib.sandbox_unload(c.byref(self._raw))
+        if self._raw:
+            _lib.sandbox_unload(c.byref(self._raw))
 
 
 class Session:
     """A guest with what it is given; `with` closes it, and its module can be used again then."""
+    _raw = None  # where it wasn't made
 
     def __init__(self, module, args=(), env=(), preopens=(("/", "/"),), moment=0, random=b"", pages=1024, input=b"", volume=None, recorded=False):
         def texts(given):
+            if isinstance(given, (str, bytes, bytearray)):
+                raise TypeError("a list of texts is wanted, and not one text")
             return [it.encode() if isinstance(it, str) else bytes(it) for it in given]
 
+        random, input, volume = bytes(random), bytes(input), None if volume is None else bytes(volume)
         args, env, names, paths = texts(args), texts(env), texts(it[0] for it in preopens), texts(it[1] for it in preopens)
         array = (_Bytes * max(1, len(args)))(*map(_Bytes.of, args)), (_Bytes * max(1, len(env)))(*map(_Bytes.of, env))
         opened = (_Preopen * max(1, len(names)))(*[_Preopen(_Bytes.of(name), _Bytes.of(path)) for name, path in zip(names, paths)])

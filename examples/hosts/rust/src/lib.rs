@@ -90,7 +90,7 @@ impl<'a> Module<'a> {
 
     /// A session of the module, over these sectors, or over an empty volume that is discarded at the end. A refusal gives the
     /// module back.
-    pub fn open(self, supplies: &Supplies<'a>, volume: Option<&[[u8; 512]]>) -> Result<Session<'a>, (Refused, Module<'a>)> {
+    pub fn open<'s>(self, supplies: &Supplies<'s>, volume: Option<&[[u8; 512]]>) -> Result<Session<'a, 's>, (Refused, Module<'a>)> {
         match volume {
             None => self.open_over(supplies, sys::Volume { kind: 0, sectors: [].as_ptr(), sectors_count: 0 }),
             Some(sectors) => self.open_over(supplies, sys::Volume { kind: 1, sectors: sectors.as_ptr(), sectors_count: sectors.len() }),
@@ -98,16 +98,16 @@ impl<'a> Module<'a> {
     }
 
     /// A session over these sectors, which are those of a file: [`Session::settle`] does there what the session did.
-    pub fn open_recorded(self, supplies: &Supplies<'a>, sectors: &[[u8; 512]]) -> Result<Session<'a>, (Refused, Module<'a>)> {
+    pub fn open_recorded<'s>(self, supplies: &Supplies<'s>, sectors: &[[u8; 512]]) -> Result<Session<'a, 's>, (Refused, Module<'a>)> {
         self.open_over(supplies, sys::Volume { kind: 2, sectors: sectors.as_ptr(), sectors_count: sectors.len() })
     }
 
-    fn open_over(mut self, supplies: &Supplies<'a>, volume: sys::Volume) -> Result<Session<'a>, (Refused, Module<'a>)> {
+    fn open_over<'s>(mut self, supplies: &Supplies<'s>, volume: sys::Volume) -> Result<Session<'a, 's>, (Refused, Module<'a>)> {
         let kept = Kept::of(supplies);
         let mut raw = null_mut();
         // SAFETY: what the supplies lead to is in `kept`, beside the session, or borrowed as long as it.
         match unsafe { sys::sandbox_open_loaded(&mut raw, &mut self.raw, &kept.supplies(supplies), &volume) } {
-            0 => Ok(Session { raw, settled: 0, _kept: kept, bytes: PhantomData }),
+            0 => Ok(Session { raw, settled: 0, _kept: kept, module: PhantomData, supplies: PhantomData }),
             number => Err((Refused { number, offset: 0 }, self)),
         }
     }
@@ -161,16 +161,17 @@ impl Kept {
     }
 }
 
-/// A guest on its way.
-pub struct Session<'a> {
+/// A guest on its way. Until it is closed or dropped it borrows the module's bytes for `'a`, and what the guest is given for `'s`.
+pub struct Session<'a, 's> {
     raw: *mut sys::OpaqueSession,
     /// How many of its operations were done on a file.
     settled: usize,
     _kept: Kept,
-    bytes: PhantomData<&'a [u8]>,
+    module: PhantomData<&'a [u8]>,
+    supplies: PhantomData<&'s [u8]>,
 }
 
-impl<'a> Session<'a> {
+impl<'a> Session<'a, '_> {
     /// Goes on for at most this many units, and tells how many were used since the session began.
     pub fn resume(&mut self, units: u64) -> Result<(Pause, u64), Refused> {
         let mut told = sys::Told::default();
@@ -258,9 +259,9 @@ impl<'a> Session<'a> {
 }
 
 // SAFETY: as for `Module`; the arrays in `_kept` move with it, and what they lead to is borrowed.
-unsafe impl Send for Session<'_> {}
+unsafe impl Send for Session<'_, '_> {}
 
-impl Drop for Session<'_> {
+impl Drop for Session<'_, '_> {
     fn drop(&mut self) {
         // SAFETY: NULL, once it is closed, is answered as misuse.
         unsafe { sys::sandbox_close(&mut self.raw) };
