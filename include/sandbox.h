@@ -1,7 +1,7 @@
 /*
  * sandbox.h: WebAssembly guests with exact fuel over crash-safe volumes, for hosts in C and what calls C.
  *
- * Link with libsandbox_c.a, the kit's liblibc_c.a (three functions over malloc, realloc and free), and the C library. The
+ * Link with libsandbox.a or libsandbox.so (`pkg-config --cflags --libs sandbox`) and the C library. The
  * library has no state of its own, starts no thread, takes no lock, installs no handler, and never calls abort or exit.
  *
  * OWNERSHIP
