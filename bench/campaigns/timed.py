@@ -46,7 +46,7 @@ def xml(count):
 
 
 def yaml(count):
-    return "".join(f"- name: {WORDS[k % 9]} {k}\n  values: [{k}, {k * k}, \"{WORDS[k % 7]}\"]\n  more:\n    text: >\n      {prose(1, k).strip()[:60].replace('#', '').replace('`', '')}\n    ok: {'true' if k % 2 else 'false'}\n" for k in range(count))
+    return "".join(f"- name: {WORDS[k % 9]} {k}\n  values: [{k}, {k * k}, \"{WORDS[k % 7]}\"]\n  more:\n    text: >\n      {' '.join(prose(1, k).replace('#', '').split())[:60]}\n    ok: {'true' if k % 2 else 'false'}\n" for k in range(count))
 
 
 def formula(variables, clauses):
@@ -80,7 +80,7 @@ BC = "scale=220\n4*sqrt(2)\nfor (i = 1; i < 400; ++i) s += 1/i^3\ns\n7^2500 % 10
 DC = "300k 2v p 3 4000^ Z p [la1+dsalb*sblx700>xd]sy 1sb 0sa [la1+sa lala*lb+sb la2500>x]sx lxx lb p 7 1100 ^ 13 300 ^ ~ p q\n"
 JAVASCRIPT = """
 function fib(n) { return n < 2 ? n : fib(n - 1) + fib(n - 2); }
-var words = {}, text = ""; for (var i = 0; i < 6000; ++i) text += "w" + (i * 7919 % 503) + " ";
+var words = {}, text = ""; for (var i = 0; i < 1500; ++i) text += "w" + (i * 7919 % 503) + " ";
 text.split(" ").forEach(function (it) { words[it] = (words[it] || 0) + 1; });
 print(fib(19), Object.keys(words).length, text.replace(/w1(.)/g, "<$1>").length, JSON.stringify(words).length);
 """
@@ -98,31 +98,31 @@ class Timed:
 
 
 TIMED = [
-    Timed("minigzip", "minigzip", ["-9"], lambda: prose(9_000)),
+    Timed("minigzip", "minigzip", ["-9"], lambda: prose(4_000)),
     Timed("bzip2", "bzip2", ["-z", "-c"], lambda: prose(6_000)),
     Timed("clzip", "clzip", ["-c", "-3"], lambda: prose(2_000)),
     Timed("brotli", "brotli", ["-c", "-q", "6"], lambda: prose(9_000)),
-    Timed("lz4", "lz4", ["-c", "-9"], lambda: prose(14_000)),
+    Timed("lz4", "lz4", ["-c", "-9"], lambda: prose(5_000)),
     Timed("compress", "compress", ["-c"], lambda: prose(24_000)),
     Timed("cmark", "cmark", ["-t", "html"], lambda: prose(12_000)),
     Timed("par", "par", ["60", "j1"], lambda: prose(1_500)),
     Timed("awk", "awk", ["{ gsub(/[aeiou]/, \"<&>\"); n[$2]++; t += length($0) } END { for (w in n) s += n[w]; print NR, s, t }"], lambda: prose(1_500)),
-    Timed("unifdef", "unifdef", ["-DA1", "-UA2"], lambda: defines(14_000)),
+    Timed("unifdef", "unifdef", ["-DA1", "-UA2"], lambda: defines(4_000)),
     Timed("json_reformat", "json_reformat", ["-m"], lambda: json.dumps(objects(4_000))),
-    Timed("xmlwf", "xmlwf", ["-n"], lambda: xml(14_000)),
+    Timed("xmlwf", "xmlwf", ["-n"], lambda: xml(4_000)),
     Timed("lua", "lua", ["-"], lambda: LUA),
     Timed("mujs", "mujs", [], lambda: JAVASCRIPT),
     Timed("sqlite3", "sqlite3", ["-batch", "-vfs", "unix-none", ":memory:"], lambda: SQL),
     Timed("bc", "bc", ["-q"], lambda: BC),
     Timed("dc", "dc", ["-"], lambda: DC),
-    Timed("picosat", "picosat", [], lambda: formula(120, 510)),
+    Timed("picosat", "picosat", [], lambda: formula(140, 600)),
     Timed("basez", "basez", ["--base64"], lambda: bytes(k * k >> 3 & 255 for k in range(3_000_000))),
     Timed("markdown", None, [], lambda: prose(12_000)),
     Timed("json", None, [], lambda: json.dumps(objects(5_000))),
-    Timed("xml", None, [], lambda: xml(12_000)),
+    Timed("xml", None, [], lambda: xml(4_000)),
     Timed("yaml", None, [], lambda: yaml(1_200)),
-    Timed("expressions", None, [], lambda: prose(5_000)),
-    Timed("numbers", None, [], lambda: "1500\n"),
+    Timed("expressions", None, [], lambda: prose(1_200)),
+    Timed("numbers", None, [], lambda: "4500\n"),
     Timed("deflate", None, [], lambda: prose(2_500)),
     Timed("digests", None, [], lambda: prose(25_000)),
     Timed("differences", None, [], lambda: halves(3_000)),
@@ -167,7 +167,10 @@ def built_rust(folder):
 
 
 def files(real, folder, it):
-    """The module and the native program of a timed one."""
+    """The module and the native program of a timed one; what the folder has is taken as it is."""
+    module, native = f"{folder}/{it.of}.wasm", f"{folder}/{it.of}.native"
+    if it.of and os.path.exists(module) and os.path.exists(native):
+        return module, native
     if it.of == "awk":  # its grammar goes through this one
         real.built(folder, "byacc", PROGRAMS["byacc"])
     if it.of:
