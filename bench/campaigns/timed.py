@@ -115,7 +115,7 @@ TIMED = [
     Timed("sqlite3", "sqlite3", ["-batch", "-vfs", "unix-none", ":memory:"], lambda: SQL),
     Timed("bc", "bc", ["-q"], lambda: BC),
     Timed("dc", "dc", ["-"], lambda: DC),
-    Timed("picosat", "picosat", [], lambda: formula(140, 600)),
+    Timed("picosat", "picosat", [], lambda: formula(150, 640)),
     Timed("basez", "basez", ["--base64"], lambda: bytes(k * k >> 3 & 255 for k in range(3_000_000))),
     Timed("markdown", None, [], lambda: prose(12_000)),
     Timed("json", None, [], lambda: json.dumps(objects(5_000))),
