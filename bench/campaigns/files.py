@@ -7,6 +7,7 @@ import fcntl
 import itertools
 import os
 import random
+import re
 import shutil
 import subprocess
 import tempfile
@@ -80,9 +81,9 @@ class Scene:
             for each in ("in2", "o2", "e2", "r2"):
                 self.made("INPUT", each)
             line = " ".join(names.get(it) or self.made(it) for it in COLUMNS)
-            if "--tests" not in names:
-                names["--tests"] = "list"
-                with open(f"{self.folder}/list", "w") as it:
+            if "--tests" not in names or any(it in COLUMNS for it in names):
+                names.setdefault("--tests", "list")
+                with open(f"{self.folder}/{names['--tests']}", "w") as it:
                     it.write(f"{line}\nin2 o2 e2 r2\n")
         options = [word for role, name in names.items() if role.startswith("--") for word in (role, name)]
         return ["run", *options, names.get("module") or self.made("module")]
@@ -140,7 +141,8 @@ def pair(setting, item):
         after, what = it.files(), told((first, second), kind, got)
         if (is_written(first) or is_written(second)) and {first, second} != {"--image", "--volume-out"}:
             return refused(before, after, got, what, name, is_list=first in OF_LISTS or second in OF_LISTS, folder=it.folder)
-        wanted(by_the_table(got[0], got[2]), what)
+        in_place = "sandbox: .*: written in place, .*\n" if second == "--volume-out" and kind == "hard link" else ""
+        wanted(by_the_table(got[0], re.sub(in_place, "", got[2]) if in_place else got[2]), what)
         return taken(setting, item, got, after, before, what)
 
 
@@ -178,7 +180,7 @@ def taken(setting, item, got, after, before, what):
 def pairs():
     for roles in (READS + WRITES, WITH_LISTS):
         for first, second in itertools.combinations(roles, 2):
-            if {first, second} != {"--volume", "--image"} and not (roles is WITH_LISTS and not {first, second} & {*OF_LISTS}):
+            if not {"--volume"} < {first, second} <= {*VOLUMES} and not (roles is WITH_LISTS and not {first, second} & {*OF_LISTS}):
                 yield from ((first, second, kind) for kind in NAMES)
 
 
