@@ -324,6 +324,38 @@ def devices(setting, _):
     return "devices"
 
 
+FORGED = ["no\nsandbox: fault 0", "no\r\x1b[2Ksandbox: fault 0", "no\x9b2Jsandbox: fault 0\n", "-no\n\nsandbox: exit 0"]
+
+
+def names():
+    for name in FORGED:
+        yield from ((role, name) for role in [*READS, *WRITES, "--tests", "FILE", "PATH", "hard link"])
+
+
+def no_forged_line(setting, item):
+    """A name that holds lines or escapes, of a file that isn't there, in a folder that isn't, or in words about one that is."""
+    role, name = item
+    with Scene(setting) as it:
+        it.made("--volume", "d")
+        wrong = name if role in READS + ["--tests"] else f"{name}/file"
+        words = [["ls", "--", f"{it.folder}/{wrong}", "/"], ["ls", "d", f"/{wrong}"]][role == "PATH"]
+        if role == "hard link":
+            it.made("--volume", name)
+            os.link(f"{it.folder}/{name}", f"{it.folder}/other")
+            words = it.words({"--volume-out": f"{it.folder}/{name}"})
+        elif role not in ("FILE", "PATH"):
+            words = it.words({role: f"{it.folder}/{wrong}"})
+            if role == "--tests":
+                words = ["run", "--tests", f"{it.folder}/{wrong}", it.made("module")]
+        got = it.call(words)
+        lines = got[2].removeprefix("ERR\n").split("\n")
+        what = f"the name {name!r} as {role}: status {got[0]}, {got[2]!r}"
+        wanted(got[0] == (0 if role == "hard link" else 124), what)
+        wanted(lines.pop() == "" and all(re.fullmatch("sandbox: [^\0-\x1f\x7f]+", line) for line in lines), what)
+        wanted(not {"sandbox: fault 0", "sandbox: exit 0"} & {*lines}, what)
+    return "names"
+
+
 def drawn(setting, items, quick):
     items = [*items]
     return random.Random(setting.seed).sample(items, min(quick, len(items))) if setting.is_quick else items
@@ -338,6 +370,7 @@ def roles(setting):
         (stream_pair, drawn(setting, stream_pairs(), 30)),
         (command_pair, drawn(setting, command_pairs(), 30)),
         (list_row, range(len(list_rows()))),
+        (no_forged_line, drawn(setting, names(), 12)),
         (devices, [0]),
     ):
         for it in setting.each(lambda item, function=function: function(setting, item), items):
