@@ -210,7 +210,8 @@ def locked(setting, item):
             return "locks"
         wanted(got[0] == 124 and got[2].startswith("sandbox: fault 41\n"), f"{what}: it isn't refused")
         after = it.files()
-        changed = [each for each in before if after.get(each) != before[each] and each != "r" or name == "r" == each and after[each] != before[each]]
+        # (the report may tell of it, unless it is what is locked)
+        changed = [each for each in before if after.get(each) != before[each] and (each != "r" or name == "r")]
         wanted(not changed and after.keys() == before.keys(), f"{what}: {changed} changed, or a file is new")
     return "locks"
 
@@ -231,7 +232,8 @@ def without_room(setting, item):
         before = it.files()
         got = it.call(words, before=limited(most))
         after, what = it.files(), f"{' '.join(words)} with files of {most} bytes at most: status {got[0]}, {got[2][:200]!r}"
-        wanted(got[0] in (123, 124) and got[2].splitlines()[0:] and all(line.startswith("sandbox: ") or line == "ERR" for line in got[2].splitlines()), what)
+        lines = got[2].splitlines()
+        wanted(got[0] in (123, 124) and lines and all(line.startswith("sandbox: ") or line == "ERR" for line in lines), what)
         wanted(after.keys() == before.keys(), f"{what}: {sorted(after.keys() ^ before.keys())}")
         for name in before:
             wanted(after[name] == before[name] or name in words and name in "oe", f"{what}: {name} has changed")
