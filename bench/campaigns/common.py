@@ -47,6 +47,7 @@ class Setting:
     def __init__(self, program, room, is_quick, seed, jobs, sqlite=None):
         self.program, self.room, self.is_quick, self.seed, self.jobs, self.sqlite = program, room, is_quick, seed, jobs, sqlite
         self.kept, self.limits = f"{TOP}/out/hostile", []
+        self.done = 0  # of the row so far, where its answers come from `each`
 
     def keep(self, name, content):
         """Keeps a file that shows a wrong answer, and gives its path."""
@@ -64,13 +65,21 @@ class Setting:
         """
         global forked
         forked, items = function, iter(items)
-        with multiprocessing.get_context("fork").Pool(self.jobs) as pool:
-            # `map` takes all of what it is given at once
+        with multiprocessing.get_context("fork").Pool(self.jobs, alone) as pool:
+            # `imap` takes all of what it is given at once
             while some := list(itertools.islice(items, 64 * self.jobs)):
-                yield from pool.map(call_forked, some, 4)
+                for answer in pool.imap(call_forked, some, 4):
+                    self.done += 1
+                    yield answer
 
 
 forked = None
+
+
+def alone():
+    """A process of `each` draws no line, and leaves Ctrl-C to the first one: ended in the middle of a task, it would keep a lock."""
+    signal.signal(signal.SIGINT, signal.SIG_IGN)
+    signal.signal(signal.SIGALRM, signal.SIG_DFL)
 
 
 def call_forked(item):

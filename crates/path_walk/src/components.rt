@@ -72,8 +72,8 @@ pub(crate) fn stays_inside(text: &[u8]) -> bool
     true
 }
 
-/// Whether a slash or `.` stands at the end.
-pub(crate) fn ends_open(text: &[u8]) -> bool
+/// Whether a slash or `.` stands at the end of a path, which wants a directory then.
+pub fn ends_open(text: &[u8]) -> bool
     ensures { result ≡ wants_directory text.now }
 {
     let mut wants = false;

@@ -5,6 +5,7 @@ pub mod Spelled
 pub mod Room
 pub mod Listings
 pub mod Lookups
+pub mod Seating
 pub mod Shown
 pub mod Marks
 pub mod Faults

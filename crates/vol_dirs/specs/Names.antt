@@ -1,6 +1,6 @@
 -- What callers see of the names that `Dirs` holds in memory (`docs/VOLUME.md`, "Entry"). The contracts of `Dirs` speak
 -- by `Names`, a relation of parent, name and serial, and `Shows` says that it has exactly the entries in the slots of
--- an image.
+-- an image, and that each of them has its seat.
 use Rattle.std.specs.Prelude.{◌≡◌, ◌↔◌, ◌≤◌, ◌<◌, ℕ, List}
 use Rattle.vol_sector.specs.Disk.{Image}
 use Rattle.vol_inode.specs.declared.entry.Entry.{Entry}
@@ -9,6 +9,7 @@ use Rattle.vol_inode.specs.Entry.{IsEntry, name_of}
 use Rattle.vol_inode.specs.Spelling.{spelling}
 use Rattle.vol_dirs.specs.Slots.{slot_sector}
 use Rattle.vol_dirs.specs.Listing.{HoldsEntry}
+use Rattle.vol_dirs.specs.Seats.{seat_of, seat_at}
 use Rattle.vol_dirs.specs.declared.dirs.Dirs.{Dirs}
 
 -- how many slots the volume has
@@ -61,9 +62,10 @@ pub record IsInSlot (version : Version) (image : Image) (slots parent : ℕ) (na
   pub last : serial ≤ slots
   pub spelled : IsSpelled version (image (slot_sector serial)) parent name
 
--- exactly the entries in the slots are held
-abbrev pub Shows : Version → Image → ℕ → Dirs → Type 0
-Shows version image slots dirs = (parent : ℕ) (name : List ℕ) (serial : ℕ) → Names dirs parent name serial ↔ IsInSlot version image slots parent name serial
+-- Exactly the entries in the slots are held, and each has its seat.
+pub record Shows (version : Version) (image : Image) (slots : ℕ) (dirs : Dirs) : Type 0 where
+  pub names : (parent : ℕ) (name : List ℕ) (serial : ℕ) → Names dirs parent name serial ↔ IsInSlot version image slots parent name serial
+  pub seats : (serial : ℕ) (e : Entry) → 1 ≤ serial → serial ≤ slots → IsEntry version e → image (slot_sector serial) ≡ spelling e → seat_at dirs serial ≡ seat_of e
 
 -- each serial of a slot is held
 abbrev pub NoneIsFree : Dirs → Type 0

@@ -1,6 +1,6 @@
 //! The names of a volume, answered from memory.
 
-ghost use Rattle.std.specs.Prelude.{◌≡◌, ◌≤◌, ◌+◌, ◌⊎◌, ◌↔◌, ◌≢◌, ℕ, List, vec_capacity};
+ghost use Rattle.std.specs.Prelude.{◌≡◌, ◌≤◌, ◌+◌, ◌⊎◌, ◌↔◌, ◌≢◌, ℕ, List, vec_capacity, vec_len};
 ghost use Rattle.std.specs.Prelude.{true, false, IsTrue, IfOk, IfErr, IfSome, is_err, MatchOption};
 ghost use Rattle.vol_sector.specs.Fault.{device_failed};
 ghost use Rattle.vol_log.specs.Log.{view, device_of, log_sectors, has_failed};
@@ -12,6 +12,7 @@ ghost use Rattle.vol_dirs.specs.Slots.{CanStageSlot, StagesSlot};
 ghost use Rattle.vol_dirs.specs.internal.Listing.{IsListing, AreMarked};
 
 use crate::keys::key_of;
+use crate::seat::{Seat, seat_of};
 use crate::slots::slot_sector;
 use crate::sorted::{insert, least_over, remove};
 use std::alloc::{AllocError, Global};
@@ -27,23 +28,26 @@ const MOST_SLOTS: u32 = u32::MAX - FIRST_AFTER_LOG;
 /// The slot of an entry is the sector that `slot_sector` gives for its serial: it holds the entry, or
 /// zeros where it isn't used. What the slots hold is kept in memory too, in two sorted vectors
 /// with room for all slots: the keys of the names with their serials, and the parents with their
-/// serials. A flag for each slot says whether it is used.
+/// serials. A flag for each slot says whether it is used, and its seat what else a walk needs.
 #[derive(Drop)]
 pub struct Dirs {
     slots: u32,
     keys: Vec<([u8; 259], u32)>,
     children: Vec<(u32, u32)>,
     used: Vec<bool>,
+    seats: Vec<Seat>,
     ghost few: { slots ≤ 4294967173 },
     ghost listing: { IsListing slots keys.items children.items },
     ghost keys_room: { slots ≤ vec_capacity keys },
     ghost children_room: { slots ≤ vec_capacity children },
     ghost marked: { AreMarked slots keys.items used.items },
+    ghost seated: { vec_len seats ≡ slots },
 }
 
 impl Dirs {
     ghost use Rattle.vol_dirs.specs.Names.{slots_of, Names, IsFree, IsNameOf, IsNextChild, NoChildOver};
     ghost use Rattle.vol_dirs.specs.Names.{IsSpelled, IsLeastOf, Shows, NoneIsFree, IsLeastFree};
+    ghost use Rattle.vol_dirs.specs.Seats.{seat_of, seat_at, no_seat, TakesSeat, KeepSeats};
     ghost use Rattle.vol_log.specs.Reading.{OnlyReads};
 
     /// Reads the slots, one after another. A slot that `read_entry` refuses counts as unused.
@@ -129,6 +133,15 @@ impl Dirs {
         self.used[(serial.number() - 1) as usize]
     }
 
+    /// The directory of the entry with this serial, and whether it is one, from memory.
+    pub fn seat(&self, serial: Serial) -> Seat
+        requires first { 1 ≤ serial }
+        requires last { serial ≤ slots_of self.now }
+        ensures { result ≡ seat_at self.now serial }
+    {
+        self.seats[(serial.number() - 1) as usize]
+    }
+
     /// The least serial that isn't in use, if there is one.
     pub fn least_free(&self) -> Option<Serial>
         ensures { MatchOption result (NoneIsFree self.now) (λ s. IsLeastFree self.now s) }
@@ -208,8 +221,9 @@ impl Dirs {
         ensures least { IfSome result (λ s. IsLeastOf self.now parent name.now s) }
     {
         let key = key_of(parent.number(), name);
-        let (found, serial) = least_over(&self.keys, &(key, 0))?;
-        (found == key).then_some(Serial::new(serial))
+        let bound = (key, 0);
+        let (found, serial) = least_over(&self.keys, &bound)?;
+        (*found == bound.0).then_some(Serial::new(*serial))
     }
 
     /// The least serial over the number `after` that is held with a directory.
@@ -218,7 +232,7 @@ impl Dirs {
             (λ s. IsNextChild self.now parent after s) }
     {
         let (found, serial) = least_over(&self.children, &(parent.number(), after))?;
-        (found == parent.number()).then_some(Serial::new(serial))
+        (*found == parent.number()).then_some(Serial::new(*serial))
     }
 
     /// No names, with the memory for those of all slots. It is refused where there is none.
@@ -234,6 +248,10 @@ impl Dirs {
             keys: Vec::with_capacity(alloc, slots as usize)?,
             children: Vec::with_capacity(alloc, slots as usize)?,
             used: vec![in alloc; false; slots as usize]?,
+            seats: vec![in alloc; Seat {
+                parent: 0,
+                directory: false
+            }; slots as usize]?,
         })
     }
 
@@ -244,6 +262,10 @@ impl Dirs {
         requires free { IsFree self.old serial }
         ensures names { (p : ℕ) (n : List ℕ) (s : ℕ) → Names self.new p n s
             ↔ (Names self.old p n s ⊎ (s ≡ serial) × IsSpelled version image.now p n) }
+        ensures seat { (e : Entry) → IsEntry version e → image.now ≡ spelling e
+            → seat_at self.new serial ≡ seat_of e }
+        ensures others { (s : ℕ) → 1 ≤ s → s ≢ serial
+            → seat_at self.new s ≡ seat_at self.old s }
         ensures slots { slots_of self.new ≡ slots_of self.old }
     {
         let Ok(Some(entry)) = read_entry(version, image) else {
@@ -252,7 +274,7 @@ impl Dirs {
         self.hold(serial, &entry);
     }
 
-    /// Takes up the name of the entry that a slot holds. Nothing is staged.
+    /// Takes up the name and the seat of the entry that a slot holds. Nothing is staged.
     pub fn hold(&mut self, serial: Serial, entry: &Entry)
         requires first { 1 ≤ serial }
         requires last { serial ≤ slots_of self.old }
@@ -260,6 +282,7 @@ impl Dirs {
         requires named { HasName entry.now }
         ensures names { (p : ℕ) (n : List ℕ) (s : ℕ) → Names self.new p n s
             ↔ (Names self.old p n s ⊎ IsNameOf entry.now serial p n s) }
+        ensures seats { TakesSeat self.old self.new serial entry.now }
         ensures slots { slots_of self.new ≡ slots_of self.old }
     {
         let key = key_of(entry.parent, &entry.name[..entry.name_length as usize]);
@@ -267,13 +290,15 @@ impl Dirs {
         insert(&mut self.keys, (key, number));
         insert(&mut self.children, (entry.parent, number));
         self.used[(number - 1) as usize] = true;
+        self.seats[(number - 1) as usize] = seat_of(entry);
     }
 
-    /// Gives up the name of an entry that is held.
+    /// Gives up the name of an entry that is held. Its seat stays, which then says nothing.
     fn forget(&mut self, serial: Serial, entry: &Entry)
         requires held { Names self.old entry.now.parent (name_of entry.now) serial }
         ensures names { (p : ℕ) (n : List ℕ) (s : ℕ) → Names self.new p n s
             ↔ (Names self.old p n s × (s ≢ serial)) }
+        ensures seats { KeepSeats self.old self.new }
         ensures slots { slots_of self.new ≡ slots_of self.old }
     {
         let key = key_of(entry.parent, &entry.name[..entry.name_length as usize]);

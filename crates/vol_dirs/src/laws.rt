@@ -34,12 +34,12 @@ pub fn other_sectors_are_not_shown(dirs: &Dirs)
         → Shows version other slots dirs.now }
 {}
 
-/// A law: an entry that is rewritten with the same parent and name is shown as before.
+/// A law: an entry that is rewritten with the same kind, parent and name is shown as before.
 pub fn rewritten_slots_are_shown(dirs: &Dirs)
     ensures { (version : Version) (one other : Image) (slots serial : ℕ) (d e : Entry)
         → Shows version one slots dirs.now → IsEntry version d → IsEntry version e
         → one (slot_sector serial) ≡ spelling d → other (slot_sector serial) ≡ spelling e
-        → d.parent ≡ e.parent → name_of d ≡ name_of e
+        → d.kind ≡ e.kind → d.parent ≡ e.parent → name_of d ≡ name_of e
         → ((s : ℕ) → 1 ≤ s → s ≤ slots → s ≢ serial → other (slot_sector s) ≡ one (slot_sector s))
         → Shows version other slots dirs.now }
 {}

@@ -5,6 +5,7 @@ mod dirs;
 mod keys;
 mod laws;
 mod rooted;
+mod seat;
 mod slots;
 mod sorted;
 
@@ -13,4 +14,5 @@ pub use laws::{
     each_serial_has_one_name, other_sectors_are_not_shown, rewritten_slots_are_shown,
     unused_slots_are_free,
 };
+pub use seat::Seat;
 pub use slots::slot_sector;

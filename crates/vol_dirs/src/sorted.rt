@@ -4,15 +4,15 @@ ghost use Rattle.std.specs.Prelude.{◌<◌, ◌≤◌, ◌+◌, IfSome, IfNone,
 ghost use Rattle.vol_dirs.specs.internal.Rising.{Rises};
 ghost use Rattle.vol_dirs.specs.internal.Rising.{TiesAreEqual, IsFirstOver, IsLeastOver, NoneIsOver, AddsItem, Drops};
 
-/// The least item over the bound, if there is one.
-pub fn least_over<T: Ord + Copy>(items: &[T], bound: &T) -> Option<T>
+/// The least item over the bound, if there is one, where it stands: an item may be long.
+pub fn least_over<'a, T: Ord>(items: &'a [T], bound: &T) -> Option<&'a T>
     requires { Rises T.cmp items.now }
-    ensures found { IfSome result (IsLeastOver T.cmp items.now bound.now) }
+    ensures found { IfSome result (λ item. IsLeastOver T.cmp items.now bound.now item.now) }
     ensures none { IfNone result (NoneIsOver T.cmp items.now bound.now) }
 {
     let at = first_over(items, bound);
     if at < items.len() {
-        Some(items[at])
+        Some(&items[at])
     } else {
         None
     }

@@ -56,14 +56,14 @@ module _ (content : Image) (v : Superblock) (s : ℕ) (lt : s < v.slots) where
       new_placed is = record {
         top = λ none. is.top (omega (arith, none));
         below = λ some. is.below (λ one. some (omega (arith, one)));
-        first = λ some t there. is.first some t ((shows e.parent (name_of e) t).1 there);
+        first = λ some t there. is.first some t ((shows.names e.parent (name_of e) t).1 there);
       }
 
       placed_new : IsPlaced content v s e → IsNew dirs (s + 1) e
       placed_new is = record {
         top = λ one. is.top (omega (arith, one));
         below = λ other. is.below (λ none. other (omega (arith, none)));
-        first = λ some t names. is.first some t ((shows e.parent (name_of e) t).0 names);
+        first = λ some t names. is.first some t ((shows.names e.parent (name_of e) t).0 names);
       }
 
       pub some_contradicts : (found : Entries) → (IsNew dirs (s + 1) e → IsTrimmed content e → FitIn content v (Some e) found → ⊥)

@@ -145,9 +145,9 @@ module _ {D : Type 0} {g : Ghosts D} (old one : Parts D g) (file : ℕ) (d : Ent
           record {
             slot = slot;
             kind = kind;
-            same_kind = ap (λ (x : Entry). x.kind) becomes.entry;
             rewrites = record {
               entry = body.right mid.numbers.version (content.volume.holds.entries (file - 1) d slot) (λ directory. absurd (not_both d kind directory)) limit;
+              kind = ap (λ (x : Entry). x.kind) becomes.entry;
               parent = ap (λ (x : Entry). x.parent) becomes.entry;
               name = ap name_of becomes.entry;
               body = body.rules;

@@ -102,7 +102,6 @@ module _ {D : Type 0} {g : Ghosts D} where
 pub record Fills (a b : Image) (v : Superblock) (file : ℕ) (d e : Entry) (old new : Alloc) (before after : ℕ) (bytes : List ℕ) : Type 0 where
   pub slot : slot_of a v file ≡ Some d
   pub kind : d.kind ≡ kinds.File
-  pub same_kind : e.kind ≡ d.kind
   pub rewrites : Rewrites a b v (file - 1) d e old new
   pub content : bytes_of b e ≡ bytes
   pub reserved : before + need_of e.size ≡ after + need_of d.size
@@ -131,7 +130,7 @@ module _ {D : Type 0} {g : Ghosts D} (a b : Image) (v : Superblock) (file : ℕ)
 
   filled_entry : entry_of b e ≡ record was { node = File bytes }
   filled_entry =
-      let kind : e.kind ≡ kinds.File = r.same_kind ∙ r.kind in
+      let kind : e.kind ≡ kinds.File = r.rewrites.kind ∙ r.kind in
       λ i. record { parent = r.rewrites.parent i; name = r.rewrites.name i; node = node_by (kind i) (r.content i) }
 
   whole : changed T (suc (file - 1)) (Some (entry_of b e)) ≡ U

@@ -76,34 +76,39 @@ module _ (content : Image) (v : Superblock) (one : v.version ≡ One) (is : IsCo
       is.volume.holds.entries s e (sym own ∙ read)
 
   pub shows_raised : (dirs : Dirs) → Shows v.version content v.slots dirs → Shows Two content v.slots dirs
-  shows_raised dirs shows p n s = (
-    λ names.
-        let at = (shows p n s).0 names in
-        record {
-          first = at.first;
-          last = at.last;
-          spelled = record {
-            entry = at.spelled.entry;
-            right = entry_raised at.spelled.entry (subst (λ (x : Version). IsEntry x at.spelled.entry) one at.spelled.right);
-            spelled = at.spelled.spelled;
-            parent_is = at.spelled.parent_is;
-            name_is = at.spelled.name_is;
-          };
-        },
-    λ at.
-        let here : slot_sector (s - 1 + 1) ≡ slot_sector s = omega (arith, at.first) in
-        (shows p n s).1 (record {
-          first = at.first;
-          last = at.last;
-          spelled = record {
-            entry = at.spelled.entry;
-            right = entry_lowered (s - 1) at.spelled.entry (omega (arith, at.first, at.last)) at.spelled.right (ap content here ∙ at.spelled.spelled);
-            spelled = at.spelled.spelled;
-            parent_is = at.spelled.parent_is;
-            name_is = at.spelled.name_is;
-          };
-        }),
-  )
+  shows_raised dirs shows = record {
+    names = λ p n s. (
+      λ names.
+          let at = (shows.names p n s).0 names in
+          record {
+            first = at.first;
+            last = at.last;
+            spelled = record {
+              entry = at.spelled.entry;
+              right = entry_raised at.spelled.entry (subst (λ (x : Version). IsEntry x at.spelled.entry) one at.spelled.right);
+              spelled = at.spelled.spelled;
+              parent_is = at.spelled.parent_is;
+              name_is = at.spelled.name_is;
+            };
+          },
+      λ at.
+          let here : slot_sector (s - 1 + 1) ≡ slot_sector s = omega (arith, at.first) in
+          (shows.names p n s).1 (record {
+            first = at.first;
+            last = at.last;
+            spelled = record {
+              entry = at.spelled.entry;
+              right = entry_lowered (s - 1) at.spelled.entry (omega (arith, at.first, at.last)) at.spelled.right (ap content here ∙ at.spelled.spelled);
+              spelled = at.spelled.spelled;
+              parent_is = at.spelled.parent_is;
+              name_is = at.spelled.name_is;
+            };
+          }),
+    );
+    seats = λ s e first last right spelled.
+        let here : slot_sector (s - 1 + 1) ≡ slot_sector s = omega (arith, first) in
+        shows.seats s e first last (entry_lowered (s - 1) e (omega (arith, first, last)) right (ap content here ∙ spelled)) spelled;
+  }
 
 ranges_raised : (v : Superblock) → HasRanges v → HasRanges (raised v)
 ranges_raised v r = record { least = r.least; most = r.most; some_slots = r.some_slots; few_slots = r.few_slots; room = r.room }

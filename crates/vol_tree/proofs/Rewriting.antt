@@ -98,6 +98,7 @@ module _ (T : Tree) (t : IsTree T) (s : ℕ) (e : tree.Entry) (h : tree.entry T 
 -- what a write leaves of a content, a file's entry and the taken sectors
 pub record Rewrites (a b : Image) (v : Superblock) (s : ℕ) (d e : Entry) (old new : Alloc) : Type 0 where
   pub entry : IsEntry v.version e
+  pub kind : e.kind ≡ d.kind
   pub parent : e.parent ≡ d.parent
   pub name : name_of e ≡ name_of d
   pub body : IsBody b e
@@ -196,5 +197,5 @@ module _ (a b : Image) (v : Superblock) (s : ℕ) (d e : Entry) (old new : Alloc
   rewritten_shows dirs shows =
       let here : slot_sector (suc s) ≡ slot_sector (s + 1) = omega (arith, lt) in
       rewritten_shown v.version a b v.slots (suc s) d e dirs shows (is.volume.holds.entries s d at) r.entry
-      (ap a here ∙ is.volume.holds.bytes s (omega (arith, is.volume.count, lt)) ∙ ap slot at) (ap b here ∙ r.staged) (sym r.parent) (sym r.name)
+      (ap a here ∙ is.volume.holds.bytes s (omega (arith, is.volume.count, lt)) ∙ ap slot at) (ap b here ∙ r.staged) (sym r.kind) (sym r.parent) (sym r.name)
       (λ t from last differ. r.others.outside (slot_sector t) (λ same. differ (omega (arith, lt))) (inl (omega (arith, lt))))

@@ -27,7 +27,7 @@ pub use laws::{
     renamed_moves_paths, resized_changes_one_file, the_volumes_sectors_decide,
     unlinked_takes_one_path, within_is_below, written_changes_one_file,
 };
-pub use stat::Stat;
+pub use stat::{Place, Stat};
 pub use stats::Stats;
 pub use vol_body::{Source, Span};
 pub use vol_inode::Serial;

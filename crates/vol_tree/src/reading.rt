@@ -9,6 +9,7 @@ ghost use Rattle.vol_inode.specs.Entry.{IsEntry, HasName};
 ghost use Rattle.vol_inode.specs.Space.{need_of};
 ghost use Rattle.vol_body.specs.Survey.{IsTrimmed};
 ghost use Rattle.vol_dirs.specs.Names.{slots_of, Names, IsFree, IsNameOf, Shows};
+ghost use Rattle.vol_dirs.specs.Seats.{TakesSeat};
 ghost use Rattle.vol_tree.specs.internal.Parts.{IsContent};
 ghost use Rattle.vol_tree.specs.internal.Replacing.{kind_is_directory};
 ghost use Rattle.vol_tree.specs.internal.Reads.{CanRead, held_at, IsNew, IsRight, AreBelow, AddsSlot, AreWithin, FitIn, HaveRead};
@@ -154,6 +155,7 @@ fn take_up<D: Device>(
     ensures placed { OnOk result (IsNew dirs.old serial entry.now) }
     ensures names { OnOk result ((p : ℕ) (n : List ℕ) (s : ℕ) → Names dirs.new p n s
         ↔ (Names dirs.old p n s ⊎ IsNameOf entry.now serial p n s)) }
+    ensures seats { OnOk result (TakesSeat dirs.old dirs.new serial entry.now) }
     ensures slots { slots_of dirs.new ≡ slots_of dirs.old }
     ensures trimmed { D.honest (device_of log.old)
         → OnOk result (IsTrimmed (view log.old) entry.now) }

@@ -5,7 +5,7 @@ ghost use Rattle.std.specs.Option.{MatchOption};
 ghost use Rattle.vol_sector.specs.Disk.{Image, Leaves, counted};
 ghost use Rattle.vol_body.specs.declared.writing.TheConstants.{PIECE};
 ghost use Rattle.vol_tree.specs.Tree.{File, Directory, IsTree, IsDirectory, entry, lookup};
-ghost use Rattle.vol_tree.specs.Stat.{TellsStat};
+ghost use Rattle.vol_tree.specs.Stat.{TellsStat, TellsPlace};
 ghost use Rattle.vol_tree.specs.Stats.{IsStats};
 ghost use Rattle.vol_tree.specs.Calls.{created, written, resized, read_bytes, is_file_at, with_unit};
 ghost use Rattle.vol_tree.specs.Calls.{unlinked, directory_removed, renamed, next_child};
@@ -25,7 +25,7 @@ use crate::checking::read_parts;
 use crate::opening::read_front;
 use crate::parts::Parts;
 use crate::stat::{is_serial, parent_of};
-use crate::{Errno, Stat, Stats};
+use crate::{Errno, Place, Stat, Stats};
 use std::alloc::Global;
 use std::marker::Model;
 use vol_body::{Source, read_at};
@@ -246,16 +246,42 @@ impl<D: Device> Volume<D> {
         ensures parent { IfOk result (λ s. IsSerial self.old.numbers s.parent) }
     {
         let entry = self.parts.entry(serial)?;
-        let parent = parent_of(serial, &entry);
+        let parent = parent_of(serial, entry.parent);
         if !is_serial(&self.parts.numbers, parent) {
             return Err(Errno::Invalid); // no honest device shows such an entry
         }
+        let name = entry.name;
         Ok(Stat {
             kind: entry.kind,
             size: entry.size,
             parent,
             name_length: entry.name_length,
-            name: entry.name,
+            name,
+        })
+    }
+
+    /// Whether an entry is a directory, and which one it is in, from memory: no sector is read. It
+    /// refuses with `Io` where the volume has failed, and with `Invalid` as `stat` does.
+    pub fn place(&self, serial: Serial) -> Result<Place, Errno>
+        requires first { 1 ≤ serial }
+        requires last { serial ≤ self.now.numbers.slots }
+        requires used { D.honest self.now.device → IsSome (entry self.now.tree serial) }
+        ensures answer { D.honest self.now.device → TellsPlace serial self.now.tree result }
+        ensures failed { is_io result ≡ self.now.failed }
+        ensures parent { IfOk result (λ p. IsSerial self.now.numbers p.parent) }
+    {
+        let parts = &self.parts;
+        if parts.log.failed() {
+            return Err(Errno::Io);
+        }
+        let seat = parts.dirs.seat(serial);
+        let parent = parent_of(serial, seat.parent);
+        if !is_serial(&parts.numbers, parent) {
+            return Err(Errno::Invalid); // no honest device shows such an entry
+        }
+        Ok(Place {
+            directory: seat.directory,
+            parent,
         })
     }
 

@@ -7,3 +7,4 @@ pub mod Checks
 pub mod Alike
 pub mod FastSteps
 pub mod Reading
+pub mod Framing

@@ -1,9 +1,18 @@
 -- Imports and the host's calls.
-use Rattle.std.proofs.Common.{◌≡◌, List, [], ◌∷◌, length, suc, refl, ap}
+use Rattle.std.proofs.Common.{◌≡◌, ◌∙◌, ℕ, List, [], ◌∷◌, Some, length, suc, refl, sym, ap, subst}
+use Rattle.std.specs.Prelude.{slice_get}
 use Rattle.wasm_module.specs.declared.module.FuncType.{FuncType}
 use Rattle.wasm_module.specs.declared.module.Import.{Import}
 use Rattle.wasm_store.specs.declared.call.HostCall.{HostCall}
-use Rattle.wasm_steps.specs.Configuration.{Callee}
+use Rattle.wasm_store.specs.declared.instantiation.Instantiated.{Instantiated}
+use Rattle.wasm_store.specs.Instantiation.{LinksOf, IsLinked, AreLinked}
+use Rattle.wasm_store.specs.Instantiating.{IsCallee, IsInstantiated}
+use Rattle.wasm_steps.specs.Configuration.{Callee, imported}
+use Rattle.wasm_interp.specs.declared.begin.Begun.{Begun}
+use Rattle.wasm_interp.specs.declared.tables.Prepared.{Prepared}
+use Rattle.wasm_interp.specs.internal.Begun.{HasBegun, IsReady}
+use Rattle.wasm_interp.specs.Shared.{AreCallsOf}
+use Rattle.wasm_module.specs.declared.module.Module.{Module}
 use Rattle.wasm_interp.specs.Stands.{AreCallees}
 
 -- there are as many calls and function instances as imports
@@ -14,3 +23,51 @@ calls_length types [] (h ∷ hs) cs a = absurd a
 calls_length types (i ∷ is) [] cs a = absurd a
 calls_length types (i ∷ is) (h ∷ hs) [] a = absurd a
 calls_length types (i ∷ is) (h ∷ hs) (c ∷ cs) a = let r = calls_length types is hs cs a.1 in (ap suc r.0, ap suc r.1)
+
+-- the links give an import one call
+same_call : (links : LinksOf) (types : List FuncType) (i : Import) (c d : Callee) (h g : HostCall) → IsLinked links types i c → IsLinked links types i d → IsCallee types i h c → IsCallee types i g d → h ≡ g
+same_call links types i c d h g lc ld hc gd =
+    let k = lc.kind in
+    let l = ld.kind in
+    let index : lc.index ≡ ld.index = cc in
+    let t : Some lc.func_type ≡ Some ld.func_type = sym lc.type_is ∙ ap (slice_get types) index ∙ ld.type_is in
+    let same : lc.func_type ≡ ld.func_type = cc in
+    let call : Some lc.call ≡ Some ld.call = sym lc.links_to ∙ ap (links i.module_name i.name) same ∙ ld.links_to in
+    let calls : lc.call ≡ ld.call = cc in
+    let ch : imported lc.func_type lc.call ≡ imported hc.func_type h = sym lc.callee ∙ hc.callee in
+    let dg : imported ld.func_type ld.call ≡ imported gd.func_type g = sym ld.callee ∙ gd.callee in
+    let a : lc.call ≡ h = cc in
+    let b : ld.call ≡ g = cc in
+    sym a ∙ calls ∙ b
+
+-- and so all of them
+same_calls : (links : LinksOf) (types : List FuncType) (is : List Import) (cs ds : List Callee) (hs gs : List HostCall) → AreLinked links types is cs → AreLinked links types is ds → AreCallees types is hs cs → AreCallees types is gs ds → hs ≡ gs
+same_calls links types [] (c ∷ cs) ds hs gs lc ld hc gd = absurd lc
+same_calls links types [] [] (d ∷ ds) hs gs lc ld hc gd = absurd ld
+same_calls links types [] [] [] (h ∷ hs) gs lc ld hc gd = absurd hc
+same_calls links types [] [] [] [] (g ∷ gs) lc ld hc gd = absurd gd
+same_calls links types [] [] [] [] [] lc ld hc gd = refl
+same_calls links types (i ∷ is) [] ds hs gs lc ld hc gd = absurd lc
+same_calls links types (i ∷ is) (c ∷ cs) [] hs gs lc ld hc gd = absurd ld
+same_calls links types (i ∷ is) (c ∷ cs) (d ∷ ds) [] gs lc ld hc gd = absurd hc
+same_calls links types (i ∷ is) (c ∷ cs) (d ∷ ds) (h ∷ hs) [] lc ld hc gd = absurd gd
+same_calls links types (i ∷ is) (c ∷ cs) (d ∷ ds) (h ∷ hs) (g ∷ gs) lc ld hc gd =
+    ap (λ y. y ∷ hs) (same_call links types i c d h g lc.0 ld.0 hc.0 gd.0) ∙ ap (λ ys. g ∷ ys) (same_calls links types is cs ds hs gs lc.1 ld.1 hc.1 gd.1)
+
+-- the calls that a machine begins with are those of its links
+pub calls_of_begun : (links : LinksOf) (pages : ℕ) (m : Module) (b : Begun) → HasBegun links pages m b → AreCallsOf links m b.tables.calls.items
+calls_of_begun links pages m b k = record {
+  linked = k.instantiated.instantiates.linked;
+  are_linked = k.instantiated.instantiates.are_linked;
+  are_callees = subst (λ ys. AreCallees m.types m.imports ys k.instantiated.instantiates.linked) (sym k.calls) k.instantiated.calls;
+}
+
+-- a module that is instantiated again, by the same calls and for as many pages, goes by the same tables
+pub calls_again : (links : LinksOf) (pages : ℕ) (r : Prepared) (made : Instantiated) → AreCallsOf links r.valid r.tables.calls.items → IsInstantiated links pages r.valid made → r.tables.calls.items ≡ made.calls.items
+calls_again links pages r made q i =
+    same_calls links r.valid.types r.valid.imports q.linked i.instantiates.linked r.tables.calls.items made.calls.items q.are_linked i.instantiates.are_linked q.are_callees i.calls
+
+pub limit_again : (links : LinksOf) (pages : ℕ) (r : Prepared) (made : Instantiated) → IsReady r pages → IsInstantiated links pages r.valid made → r.tables.page_limit ≡ made.page_limit
+limit_again links pages r made ready i =
+    let k = ready.begun in
+    k.limit ∙ sym k.instantiated.limit ∙ k.instantiated.instantiates.limit ∙ sym i.instantiates.limit ∙ i.limit

@@ -3,4 +3,6 @@
 pub mod Stands
 pub mod internal
 pub mod Machine
+pub mod Frames
 pub mod Promise
+pub mod Shared

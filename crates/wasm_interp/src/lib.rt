@@ -4,6 +4,7 @@
 mod activation;
 mod begin;
 mod fast;
+mod frames;
 mod growth;
 mod laws;
 mod least;
@@ -13,15 +14,18 @@ mod pending;
 mod phase;
 mod plain;
 mod running;
+mod shared;
 mod state;
 mod stores;
 mod tables;
 mod unary;
 
 pub use activation::Activation;
+pub use frames::{Frame, frames_are_the_configurations};
 pub use laws::machines_show_their_stores;
 pub use machine::{Machine, RefusedInstance};
 pub use phase::Phase;
+pub use shared::{PreparedModule, SharedMachine, shared_machines_cross};
 pub use state::MOST_VALUES;
 pub use wasm_num::Trap;
 pub use wasm_steps::{Outcome, Pause};

@@ -1,10 +1,12 @@
 //! The machine.
 
-ghost use Rattle.std.specs.Prelude.{◌≡◌, ◌+◌, ◌^◌, ◌<◌, ◌/◌, IfOk, IfErr, length, ◌*◌};
+ghost use Rattle.std.specs.Prelude.{◌≡◌, ◌+◌, ◌^◌, ◌<◌, ◌/◌, IfOk, IfErr, length, slice_get, ◌*◌};
 ghost use Rattle.wasm_store.specs.Instantiation.{RefusedFor};
 ghost use Rattle.wasm_interp.specs.Promise.{Starts, Resumed};
+ghost use Rattle.wasm_interp.specs.Frames.{frames_of};
 
 use crate::begin::begin;
+use crate::frames::Frame;
 use crate::state::State;
 use crate::tables::Prepared;
 use std::alloc::Global;
@@ -95,6 +97,14 @@ impl<'a> Machine<'a> {
         ensures { self.new ≡ self.old }
     {
         self.state.most_values = most;
+    }
+
+    /// The function at work with so many inside it: 0 is the innermost. Where the run has ended there are none, but of a trap
+    /// those that were at work then.
+    pub fn frame(&self, index: usize) -> Option<Frame>
+        ensures { result ≡ slice_get (frames_of self.now) index }
+    {
+        self.state.frame(index)
     }
 
     /// The module that `new` took.

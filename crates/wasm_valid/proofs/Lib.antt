@@ -15,3 +15,4 @@ pub mod Groups
 pub mod Nested
 pub mod Going
 pub mod StandardLaws
+pub mod Skipped

@@ -19,6 +19,7 @@ mod validating;
 
 pub use laws::typed_by_rules;
 pub use module_rules::imported_functions;
+pub use places::{instruction_offset, instruction_place};
 pub use valid::Valid;
 pub use validating::validate;
 pub use wasm_module::LoadFault;

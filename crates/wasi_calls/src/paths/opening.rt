@@ -25,7 +25,7 @@ use crate::errno::{EXIST, ISDIR, MFILE, NOENT, NOTDIR, NOTSUP, refused};
 use crate::numbers::le32;
 use crate::paths::reach;
 use bitflags::Flags;
-use path_walk::{Path, Reached, is_directory};
+use path_walk::{Reached, ends_open, is_directory};
 use vol_sector::Device;
 use vol_tree::{Serial, Volume};
 use wasi_fd::{Descriptor, Descriptors, EntryKind, Fd, Opened, Rights};
@@ -168,16 +168,6 @@ fn check_missing(oflags: u32, slash: bool) -> Result<(), Errno>
 {
     check_that(is_set(oflags, CREAT), NOENT)?;
     check_that(!slash, ISDIR)
-}
-
-/// Whether a path that can be read wants a directory.
-pub(crate) fn ends_open(text: &[u8]) -> bool
-    ensures { (names : List Name) → path_read text.now ≡ Ok names → result ≡ wants_directory text.now }
-{
-    match Path::read(text) {
-        Ok(path) => path.wants_dir(),
-        Err(_) => false,
-    }
 }
 
 /// How a directory, or a file, is opened.

@@ -24,10 +24,9 @@ ghost use Rattle.wasi_calls.specs.internal.paths.Climbing.{IsAbove};
 use crate::arguments::{descriptor, word};
 use crate::checks::{Takes, check_range, check_rights, check_that, described, opened_of};
 use crate::errno::{BUSY, ISDIR, NOENT, NOTDIR, NOTEMPTY, refused};
-use crate::paths::opening::ends_open;
 use crate::paths::reach;
 use crate::paths::removing::is_held;
-use path_walk::{Reached, is_directory};
+use path_walk::{Reached, ends_open, is_directory};
 use vol_inode::is_name;
 use vol_sector::Device;
 use vol_tree::{Serial, Volume};
@@ -100,7 +99,7 @@ fn above<D: Device>(volume: &mut Volume<D>, serial: Serial) -> Result<Serial, vo
     ensures told { D.honest volume.old.device → serial ≢ 1 → MatchResult result
         (λ p. IsAbove volume.old.tree serial p) (λ e. e ≡ tree.Io) }
 {
-    Ok(volume.stat(serial)?.parent)
+    Ok(volume.place(serial)?.parent)
 }
 
 /// Whether an entry is another one, or stands below it.

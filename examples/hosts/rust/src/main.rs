@@ -9,7 +9,6 @@ fn supplies<'a>(args: &[&'a str], input: &'a [u8]) -> Supplies<'a> {
     Supplies {
         args: args.iter().map(|it| it.as_bytes()).collect(),
         preopens: vec![(b"/", b"/")],
-        pages: 1024,
         input,
         ..Supplies::default()
     }
@@ -17,11 +16,11 @@ fn supplies<'a>(args: &[&'a str], input: &'a [u8]) -> Supplies<'a> {
 
 /// A thousand sessions of one loaded module.
 fn many(bytes: &[u8]) -> Result<(), Box<dyn Error>> {
-    let input = [b'x'; RUNS];
     let (mut out_of_fuel, mut units) = (0, 0);
     let mut module = Module::load(bytes)?;
     for n in 0..RUNS {
-        let mut session = module.open(&supplies(&["wc"], &input[..n]), None).map_err(|it| it.0)?;
+        let input = vec![b'x'; n]; // it has to outlive the session alone, and not the module
+        let mut session = module.open(&supplies(&["wc"], &input), None).map_err(|it| it.0)?;
         let (ended, used) = session.run(10_000 + 40 * n as u64)?;
         match ended {
             Pause::Spent => out_of_fuel += 1,

@@ -76,6 +76,7 @@ returns-in-Ok-Some g c =
     let r = c.take_up.result in
     let taken = c.take_up.ensures in
     let names = rw c.new-serial.ensures at taken.names in
+    let seats = rw c.new-serial.ensures at taken.seats in
     let placed = rw c.new-serial.ensures at taken.placed in
     let both = subst (λ (o : Option Entry). IfSome o (λ d. IsEntry v.version d × (c.in_ok-image.image ≡ spelling d))) c.in-Ok-Some.field-0-is c.in-Ok-Some.ensures.right in
     let spelled = λ (h : g.D.Device.honest (device_of c.args.log.now)). let is : content (slot_sector (c.args.slot + 1)) ≡ spelling e = ap content (sym slot_is) ∙ sym (read.value h) ∙ both.1 in is in
@@ -91,7 +92,7 @@ returns-in-Ok-Some g c =
         | inl old ↦ omega (arith, c.requires.before p n s old)
         | inr that ↦ omega (arith, that.serial_is)
       ]);
-      shows = λ h. on_ok r _ (λ done. shown_more v.version content c.args.slot e dirs c.take_up.new.dirs (c.requires.shown h) both.0 (spelled h) (at_ok r _ names done));
+      shows = λ h. on_ok r _ (λ done. shown_more v.version content c.args.slot e dirs c.take_up.new.dirs (c.requires.shown h) both.0 (spelled h) (at_ok r _ names done) (at_ok r _ seats done));
       right = λ h.
           let trimmed = subst (λ (m : Image). OnOk r (IsTrimmed m e)) (read.view h) (taken.trimmed (read.honest.0 h)) in
           on_ok r _ (λ done. right_some content v c.args.slot c.requires.slot e both.0 (spelled h)

@@ -14,7 +14,7 @@ pub returns-clause-shows : goal.returns-clause-shows
 returns-clause-shows g c v right shown =
     let same : slots_of c.hold.new.self ≡ slots_of c.args.self.now = c.hold.ensures.slots in
     subst (λ (k : ℕ). Shows v (view c.stage.new.self) k c.hold.new.self) (sym same)
-    (shown_added v (slots_of c.args.self.now) c.args.serial (view c.args.log.now) (view c.stage.new.self) c.args.self.now c.hold.new.self shown c.args.entry.now right c.requires.first c.requires.last c.requires.free (returns-clause-stages g c).view c.hold.ensures.names)
+    (shown_added v (slots_of c.args.self.now) c.args.serial (view c.args.log.now) (view c.stage.new.self) c.args.self.now c.hold.new.self shown c.args.entry.now right c.requires.first c.requires.last c.requires.free (returns-clause-stages g c).view c.hold.ensures.names c.hold.ensures.seats)
 
 pub stage-requires : goal.stage-requires
 stage-requires g c = record {

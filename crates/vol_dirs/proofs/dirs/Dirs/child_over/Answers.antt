@@ -8,8 +8,8 @@ returns-in_err-found c = none_at_all _ _ _ c.from_residual.ensures
 pub returns : goal.returns
 returns c =
     let least = rw (c.deref.ensures.value, c.number.ensures) at c.in_ok-found.ensures.found in
-    let found = c.in_ok-found.found in
-    let serial = c.in_ok-found.serial in
+    let found = c.in_ok-found.field-0.now.0 in
+    let serial = c.in_ok-found.field-0.now.1 in
     one_or_none _ _ _ _ _ (rw (c.new.ensures, c.number-2.ensures) at c.then_some.ensures)
     (λ test. next_child_is c.args.self.now c.args.parent c.args.after found serial least (equal found c.args.parent test))
     (λ test. no_child_is c.args.self.now c.args.parent c.args.after found serial least (different found c.args.parent test))

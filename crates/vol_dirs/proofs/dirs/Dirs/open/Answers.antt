@@ -60,7 +60,9 @@ loop-slot-preserved g c =
           let content = view c.args.log.now in
           let bytes : c.in_ok-image.image ≡ content (slot_sector (c.loop-slot.slot + 1)) = read.value (so_far.reads.honest.0 honest) ∙ ap (λ (m : Image). m c.slot_sector.result) (so_far.reads.view honest) ∙ ap content (rw c.new-serial.ensures at c.slot_sector.ensures) in
           let names = subst (λ (b : List ℕ). (p : ℕ) (n : List ℕ) (t : ℕ) → Names c.hold_image.new.self p n t ↔ (Names c.loop-slot.dirs p n t ⊎ (t ≡ c.loop-slot.slot + 1) × IsSpelled c.args.version b p n)) bytes (rw c.new-serial.ensures at c.hold_image.ensures.names) in
-          shown_next c.args.version content c.loop-slot.slot c.loop-slot.dirs c.hold_image.new.self (so_far.shown honest) names;
+          let seat = rw (bytes, c.new-serial.ensures) at c.hold_image.ensures.seat in
+          let others = rw c.new-serial.ensures at c.hold_image.ensures.others in
+          shown_next c.args.version content c.loop-slot.slot c.loop-slot.dirs c.hold_image.new.self (so_far.shown honest) names seat others;
     }
 
 pub returns-then-failed : goal.returns-then-failed

@@ -1,10 +1,12 @@
-use Rattle.std.proofs.Common.{◌≡◌, ◌≢◌, ◌∙◌, ℕ, List, ◌⊎◌, ◌↔◌, inl, inr, refl, sym, ap, subst, arith}
+use Rattle.std.proofs.Common.{◌≡◌, ◌≢◌, ◌∙◌, ℕ, List, ◌⊎◌, ◌↔◌, inl, inr, refl, sym, ap, subst, ◌==◌, if◌then◌else◌, arith}
 use Rattle.vol_sector.specs.Disk.{put}
 use Rattle.vol_log.specs.Log.{view}
 use Rattle.vol_inode.specs.Entry.{name_of}
 use Rattle.vol_dirs.specs.Key.{key_of}
 use Rattle.vol_inode.specs.Spelling.{spelling}
 use Rattle.vol_dirs.specs.Names.{slots_of, Names, IsNameOf, Shows}
+use Rattle.vol_dirs.specs.Seats.{seat_of, TakesSeat}
+use Rattle.vol_dirs.specs.declared.seat.Seat.{Seat}
 use Rattle.vol_dirs.proofs.StagedSlots.{stages_slot}
 use Rattle.vol_dirs.proofs.Shown.{shown_put}
 use Rattle.vol_dirs.proofs.dirs.Dirs.relocate.Goals as goal
@@ -57,6 +59,8 @@ returns g c =
             λ h. elim ((c.hold.ensures.names p n s).0 h) [ inl kept ↦ inl ((c.forget.ensures.names p n s).0 kept) | inr that ↦ inr that ],
             λ either. (c.hold.ensures.names p n s).1 (elim either [ inl kept ↦ inl ((c.forget.ensures.names p n s).1 kept) | inr that ↦ inr that ]),
           ) in
+          let seats : TakesSeat old c.hold.new.self c.args.serial c.args.to.now = λ s from. c.hold.ensures.seats s from
+          ∙ ap (λ (x : Seat). if s == c.args.serial then seat_of c.args.to.now else x) (c.forget.ensures.seats s from) in
           subst (λ (k : ℕ). Shows v (view c.stage.new.self) k c.hold.new.self) (sym same)
-          (shown_put v (slots_of old) c.args.serial (view c.args.log.now) (view c.stage.new.self) old c.hold.new.self shown c.args.to.now right bounds.0 bounds.1 stages.view names);
+          (shown_put v (slots_of old) c.args.serial (view c.args.log.now) (view c.stage.new.self) old c.hold.new.self shown c.args.to.now right bounds.0 bounds.1 stages.view names seats);
     }

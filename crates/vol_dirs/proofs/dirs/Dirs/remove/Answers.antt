@@ -30,4 +30,4 @@ pub returns-clause-shows : goal.returns-clause-shows
 returns-clause-shows g c v shown =
     let same : slots_of c.forget.new.self ≡ slots_of c.args.self.now = c.forget.ensures.slots in
     subst (λ (k : ℕ). Shows v (view c.stage.new.self) k c.forget.new.self) (sym same)
-    (shown_removed v (slots_of c.args.self.now) c.args.serial (view c.args.log.now) (view c.stage.new.self) c.args.self.now c.forget.new.self shown (returns-clause-stages g c).view c.forget.ensures.names)
+    (shown_removed v (slots_of c.args.self.now) c.args.serial (view c.args.log.now) (view c.stage.new.self) c.args.self.now c.forget.new.self shown (returns-clause-stages g c).view c.forget.ensures.names c.forget.ensures.seats)

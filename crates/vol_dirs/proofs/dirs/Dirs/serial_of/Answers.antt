@@ -25,12 +25,12 @@ returns-clause-least c =
     let dirs = c.args.self.now in
     let key_is : c.key_of-key.result ≡ key_of c.args.parent c.args.name.now = c.key_of-key.ensures ∙ ap (λ (k : ℕ). key_of k c.args.name.now) c.number.ensures in
     let key = key_of c.args.parent c.args.name.now in
-    let serial = c.in_ok-found.serial in
+    let serial = c.in_ok-found.field-0.now.1 in
     let least = rw (c.deref.ensures.value, key_is) at c.in_ok-found.ensures.found in
-    let tells = bytes_eq-Decides c.in_ok-found.found c.key_of-key.result in
+    let tells = bytes_eq-Decides c.in_ok-found.field-0.now.0 c.key_of-key.result in
     one_or_none _ _ _ _ _ (rw c.new.ensures at c.then_some.ensures)
     (λ test t held.
-    let same : c.in_ok-found.found ≡ key = tells.0 (sym c.eq.ensures ∙ test) ∙ key_is in
+    let same : c.in_ok-found.field-0.now.0 ≡ key = tells.0 (sym c.eq.ensures ∙ test) ∙ key_is in
     let bounds = dirs.listing.numbered key t held.held in
     least_key dirs.keys.items key serial t (subst (λ (k : List ℕ). IsLeastOver key_order dirs.keys.items (key, 0) (k, serial)) same least) bounds.0 held.held)
     (λ test. tt)
@@ -41,13 +41,13 @@ returns-clause-found c =
     let key_is : c.key_of-key.result ≡ key_of c.args.parent c.args.name.now = c.key_of-key.ensures ∙ ap (λ (k : ℕ). key_of k c.args.name.now) c.number.ensures in
     let key = key_of c.args.parent c.args.name.now in
     let least = rw (c.deref.ensures.value, key_is) at c.in_ok-found.ensures.found in
-    let tells = bytes_eq-Decides c.in_ok-found.found c.key_of-key.result in
+    let tells = bytes_eq-Decides c.in_ok-found.field-0.now.0 c.key_of-key.result in
     let narrow : c.args.parent < 2 ^ 32 = omega arith in
     one_or_none _ _ _ _ _ (rw c.new.ensures at c.then_some.ensures)
     (λ test.
-    let same : c.in_ok-found.found ≡ key = tells.0 (sym c.eq.ensures ∙ test) ∙ key_is in
-    record { narrow = narrow; plain = plain_name c.args.name.now c.requires; held = subst (λ (k : List ℕ). Contains dirs.keys.items (k, c.in_ok-found.serial)) same least.there })
+    let same : c.in_ok-found.field-0.now.0 ≡ key = tells.0 (sym c.eq.ensures ∙ test) ∙ key_is in
+    record { narrow = narrow; plain = plain_name c.args.name.now c.requires; held = subst (λ (k : List ℕ). Contains dirs.keys.items (k, c.in_ok-found.field-0.now.1)) same least.there })
     (λ test s held.
-    let differ : c.in_ok-found.found ≢ key = λ same. false≢true (sym test ∙ c.eq.ensures ∙ tells.1 (same ∙ sym key_is)) in
+    let differ : c.in_ok-found.field-0.now.0 ≢ key = λ same. false≢true (sym test ∙ c.eq.ensures ∙ tells.1 (same ∙ sym key_is)) in
     let bounds = dirs.listing.numbered key s held.held in
-    no_key_before dirs.keys.items key c.in_ok-found.found c.in_ok-found.serial s least differ bounds.0 held.held)
+    no_key_before dirs.keys.items key c.in_ok-found.field-0.now.0 c.in_ok-found.field-0.now.1 s least differ bounds.0 held.held)

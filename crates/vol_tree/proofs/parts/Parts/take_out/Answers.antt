@@ -67,6 +67,7 @@ returns g c =
     let file = done.file h names body in
     let r : Rewrites a b v s d e old.sectors sectors = record {
       entry = file.right v.version c.requires.right (λ directory. empty) (omega (arith, empty));
+      kind = ap (λ (x : Entry). x.kind) entry_is;
       parent = ap (λ (x : Entry). x.parent) entry_is;
       name = ap name_of entry_is;
       body = file.rules;

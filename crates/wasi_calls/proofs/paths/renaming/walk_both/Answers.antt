@@ -113,11 +113,10 @@ returns g c = record {
   walks = λ h w table shown.
       let one = c.in-Ok-reach.ensures.reaches h w c.in-Ok.ends.from _ (sym c.new-from.ensures) c.in-Ok.ensures.from shown in
       let now = c.in-Ok-reach.ensures.works.kept.honest.0 h in
-      let two = c.in-Ok-reach-2.ensures.reaches now w c.in-Ok.ends.to _ (sym c.new-to.ensures) c.in-Ok.ensures.to (sym one.same) in
-      let read = walked_to w c.in-Ok.ends.to _ (reached_as c.in-Ok-reach-2.target) two.is in (
+      let two = c.in-Ok-reach-2.ensures.reaches now w c.in-Ok.ends.to _ (sym c.new-to.ensures) c.in-Ok.ensures.to (sym one.same) in (
         both_walked c.reach.new.volume c.reach-2.new.volume w c.args.memory.now c.args.asked.now (c.in-Ok.ends.from, c.in-Ok.ends.to) (λ v same. c.in-Ok.ensures.row v (same ∙ table)) (reached_as c.in-Ok-reach.moved) one
             (reached_as c.in-Ok-reach-2.target) two c.in-Ok-source_of.source (rw c.new-from.ensures at c.in-Ok-source_of.ensures.row),
-        c.ends_open-slash.ensures read.0 (ap path_read c.in-Ok.ensures.to ∙ read.1) ∙ ap wants_directory c.in-Ok.ensures.to,
+        c.ends_open-slash.ensures ∙ ap wants_directory c.in-Ok.ensures.to,
       );
   io = no_29_at_0;
 }

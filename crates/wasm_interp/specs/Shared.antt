@@ -1,0 +1,19 @@
+-- A module that is prepared once, for any number of machines.
+use Rattle.std.specs.Prelude.{ℕ, List}
+use Rattle.wasm_module.specs.declared.module.Module.{Module}
+use Rattle.wasm_store.specs.declared.call.HostCall.{HostCall}
+use Rattle.wasm_steps.specs.Configuration.{Callee}
+use Rattle.wasm_store.specs.Instantiation.{LinksOf, AreLinked}
+use Rattle.wasm_interp.specs.Stands.{AreCallees}
+
+-- what callers see of it: the module, found valid, how many pages a memory may have, and the host's call of each import
+pub record Ready : Type 0 where
+  pub valid : Module
+  pub pages : ℕ
+  pub calls : List HostCall
+
+-- these are the calls that these links give the module's imports
+pub record AreCallsOf (links : LinksOf) (m : Module) (calls : List HostCall) : Type 0 where
+  pub linked : List Callee
+  pub are_linked : AreLinked links m.types m.imports linked
+  pub are_callees : AreCallees m.types m.imports calls linked

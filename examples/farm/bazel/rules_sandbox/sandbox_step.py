@@ -1,0 +1,1 @@
+../../../../tools/sandbox_step.py

@@ -1,0 +1,1 @@
+../../../../tools/step_volume.py

@@ -1,0 +1,22 @@
+# For CMake: -DCMAKE_TOOLCHAIN_FILE=PREFIX/share/sandbox/guest/wasm32-sandbox.cmake
+# It compiles by sandbox-cc and sandbox-c++, and runs tests by sandbox-run.
+set(CMAKE_SYSTEM_NAME Generic)
+set(CMAKE_SYSTEM_PROCESSOR wasm32)
+get_filename_component(_sandbox_bin "${CMAKE_CURRENT_LIST_DIR}/../../../bin" ABSOLUTE)
+if(NOT EXISTS "${_sandbox_bin}/sandbox-cc") # a checkout
+  get_filename_component(_sandbox_bin "${CMAKE_CURRENT_LIST_DIR}/.." ABSOLUTE)
+endif()
+set(CMAKE_C_COMPILER "${_sandbox_bin}/sandbox-cc")
+set(CMAKE_CXX_COMPILER "${_sandbox_bin}/sandbox-c++")
+set(CMAKE_C_COMPILER_TARGET wasm32-wasi)
+set(CMAKE_CXX_COMPILER_TARGET wasm32-wasi)
+find_program(CMAKE_AR NAMES llvm-ar llvm-ar-14 llvm-ar-19)
+find_program(CMAKE_RANLIB NAMES llvm-ranlib llvm-ranlib-14 llvm-ranlib-19)
+set(CMAKE_EXECUTABLE_SUFFIX ".wasm")
+set(CMAKE_EXECUTABLE_SUFFIX_C ".wasm")
+set(CMAKE_EXECUTABLE_SUFFIX_CXX ".wasm")
+set(CMAKE_CROSSCOMPILING_EMULATOR "${_sandbox_bin}/sandbox-run")
+set(CMAKE_FIND_ROOT_PATH_MODE_PROGRAM NEVER)
+set(CMAKE_FIND_ROOT_PATH_MODE_LIBRARY ONLY)
+set(CMAKE_FIND_ROOT_PATH_MODE_INCLUDE ONLY)
+set(UNIX TRUE)

@@ -1,0 +1,99 @@
+"""Volumes by their format alone (docs/VOLUME.md): a new one that holds a tree, and what a run left in one.
+
+So one process of `sandbox` does a whole step, and none formats, fills or empties its volume.
+"""
+import os
+import struct
+
+SECTOR, LOG, MOST_SECTORS, MOST_SLOTS, MOST_FILE = 512, 122, 65_536, 8_192, 8_483_840
+
+
+def needs(size):
+    blocks = -(-size // SECTOR)
+    return blocks + (blocks > 58) + (1 + -(-(blocks - 186) // 128) if blocks > 186 else 0)
+
+
+def pointers(blocks, first):
+    """The 60 pointers of a file whose blocks stand from `first` on, and the pointer sectors, which stand behind them."""
+    numbers, behind = range(first, first + blocks), []
+    def sector(some):
+        behind.append(struct.pack(f"<{len(some)}I", *some).ljust(SECTOR, b"\0"))
+        return first + blocks + len(behind) - 1
+    indirect = sector(numbers[58:186]) if blocks > 58 else 0
+    double = sector([sector(numbers[at:at + 128]) for at in range(186, blocks, 128)]) if blocks > 186 else 0
+    return struct.pack("<60I", *numbers[:58], *[0] * (58 - min(blocks, 58)), indirect, double), behind
+
+
+def make_volume(path, tree, sectors, slots):
+    """A volume of version 2 that holds a tree, bytes or None by path: the same tree gives the same bytes."""
+    serials, table, data, free = {b"": 1}, [struct.pack("<B507x4x", 3)], [], LOG + slots
+    for whole, inside in sorted(tree.items()):
+        above, _, name = whole.rpartition(b"/")
+        serials[whole] = len(table) + 1
+        blocks = -(-len(inside or b"") // SECTOR)
+        inner_pointers, behind = pointers(blocks, free) if blocks else (b"", [])
+        table.append(struct.pack("<BB2xII256s240s4x", 3 if inside is None else 4, len(name), serials[above], len(inside or b""), name, inner_pointers))
+        if blocks:
+            data += [inside, bytes(-len(inside) % SECTOR), *behind]
+            free += blocks + len(behind)
+    with open(path, "xb", buffering=0) as file:
+        file.truncate(sectors * SECTOR)
+        for at, bytes_there in [(0, struct.pack("<8sIII", b"WASMVOLU", 2, sectors, slots)), (LOG, b"".join(table)), (LOG + slots, b"".join(data))]:
+            put(file.fileno(), bytes_there, at * SECTOR)
+
+
+def put(fd, inside, at):
+    view = memoryview(inside)
+    while view:
+        done = os.pwrite(fd, view, at)
+        view, at = view[done:], at + done
+
+
+class Left:
+    """What a guest left in /out of a volume: slots by path; `read` gives a file's bytes, `is_folder` says what it is."""
+
+    def __init__(self, path, sectors, slots):
+        self.fd = os.open(path, os.O_RDONLY | os.O_CLOEXEC)
+        head, table = os.pread(self.fd, 2 * SECTOR, 0), os.pread(self.fd, slots * SECTOR, LOG * SECTOR)
+        if len(table) != slots * SECTOR or head[:20] != struct.pack("<8sIII", b"WASMVOLU", 2, sectors, slots) or any(head[SECTOR:]):
+            raise ValueError("it isn't as a run leaves it")
+        below = {}
+        for serial in range(1, slots + 1):
+            slot = table[(serial - 1) * SECTOR:serial * SECTOR]
+            if slot[0]:
+                below.setdefault(struct.unpack_from("<I", slot, 4)[0], []).append((slot[12:12 + slot[1]], serial, slot))
+        out = next(serial for name, serial, _ in below[1] if name == b"out")
+        self.slots, waiting = {}, [(b"", out)]
+        while waiting:
+            above, folder = waiting.pop()
+            for name, serial, slot in below.get(folder, ()):
+                self.slots[above + name] = slot
+                waiting.append((above + name + b"/", serial))
+
+    def close(self):
+        os.close(self.fd)
+
+    def is_folder(self, path):
+        return self.slots[path][0] == 3
+
+    def numbers_in(self, sector):
+        return struct.unpack("<128I", os.pread(self.fd, SECTOR, sector * SECTOR)) if sector else (0,) * 128
+
+    def read(self, path):
+        slot = self.slots[path]
+        size, = struct.unpack_from("<I", slot, 8)
+        blocks, direct = -(-size // SECTOR), struct.unpack_from("<60I", slot, 268)
+        numbers = [*direct[:58], *(self.numbers_in(direct[58]) if blocks > 58 else ())]
+        for inner_block in self.numbers_in(direct[59]) if blocks > 186 else ():
+            numbers += self.numbers_in(inner_block)
+        parts, at = [], 0
+        while at < blocks:
+            first, count = numbers[at], 1
+            while at + count < blocks and numbers[at + count] == (first + count if first else 0):
+                count += 1
+            parts.append(os.pread(self.fd, count * SECTOR, first * SECTOR) if first else bytes(count * SECTOR))
+            at += count
+        whole = b"".join(parts)[:size]
+        if len(whole) != size:
+            raise ValueError("it is shorter than it says")
+        return whole
