@@ -1,11 +1,12 @@
 //! New volumes.
 
-ghost use Rattle.std.specs.Prelude.{◌≡◌, ◌≤◌, ◌<◌, ◌+◌, ◌↔◌, OnOk, IfOk, IfErr, Err, is_err};
+ghost use Rattle.std.specs.Prelude.{◌≡◌, ◌≤◌, ◌<◌, ◌+◌, ◌↔◌, ℕ, OnOk, IfOk, IfErr, Err, is_err};
 ghost use Rattle.vol_sector.specs.Disk.{After, Wrote, Leaves, Only, put, counted};
 ghost use Rattle.vol_sector.specs.Fault.{is_device};
 ghost use Rattle.vol_tree.specs.Superblock.{HasRanges};
 ghost use Rattle.vol_tree.specs.Stands.{StandsAs, empty_tree};
 ghost use Rattle.vol_tree.specs.Fresh.{fresh};
+ghost use Rattle.vol_tree.specs.Past.{LeavesPast};
 ghost use Rattle.vol_tree.specs.internal.Formatting.{root_entry, fresh_slot, HasFreshSlots, IsFresh};
 ghost use Rattle.vol_tree.specs.Fresh.{IsNoneOrEmpty};
 ghost use Rattle.vol_tree.specs.internal.Formatting.{OnlyAfterLogChanges, OnlyAfterFrontChanges};
@@ -45,6 +46,11 @@ impl<D: Device> Volume<D> {
         ensures crash_err { D.honest device
             → IfErr result (λ r. Leaves (D.disk device) (D.disk r.device)
             (IsNoneOrEmpty (fresh sectors slots))) }
+        // What the device has past the volume's sectors stays, and none of it is written.
+        ensures past_ok { D.honest device
+            → IfOk result (λ d. LeavesPast sectors (D.disk device) (D.disk d)) }
+        ensures past_err { D.honest device
+            → IfErr result (λ r. LeavesPast sectors (D.disk device) (D.disk r.device)) }
         ensures kept_ok { IfOk result (λ d. (D.honest device ↔ D.honest d)
             × (D.size d ≡ D.size device) × (D.failures d ≡ D.failures device)) }
         // It is refused as `Device` only where an operation failed.
@@ -89,6 +95,8 @@ fn lay_out<D: Device>(device: &mut D, numbers: &Superblock) -> Result<(), Device
         numbers.now (empty_tree numbers.now.slots)) }
     ensures crash { D.honest device.old
         → Leaves (D.disk device.old) (D.disk device.new) (IsNoneOrEmpty numbers.now) }
+    ensures past { D.honest device.old
+        → LeavesPast numbers.now.sectors (D.disk device.old) (D.disk device.new) }
     ensures honest { D.honest device.old ↔ D.honest device.new }
     ensures size { D.size device.new ≡ D.size device.old }
     ensures failures { D.failures device.new ≡ counted (is_err result) (D.failures device.old) }
@@ -107,6 +115,8 @@ fn write_first<D: Device>(device: &mut D, image: &[u8; 512]) -> Result<(), Devic
         → OnOk result ((D.disk device.new).seen ≡ put 0 image.now (D.disk device.old).seen) }
     ensures crash { D.honest device.old → Leaves (D.disk device.old) (D.disk device.new)
         (After (Wrote 0 image.now) (D.disk device.old).may_leave) }
+    ensures past { D.honest device.old → (end : ℕ) → 0 < end
+        → LeavesPast end (D.disk device.old) (D.disk device.new) }
     ensures honest { D.honest device.old ↔ D.honest device.new }
     ensures size { D.size device.new ≡ D.size device.old }
     ensures failures { D.failures device.new ≡ counted (is_err result) (D.failures device.old) }
@@ -126,6 +136,8 @@ fn write_after_front<D: Device>(device: &mut D, slots: u32) -> Result<(), Device
         → OnlyAfterFrontChanges (D.disk device.old).seen (D.disk device.new).seen }
     ensures crash { D.honest device.old → Leaves (D.disk device.old) (D.disk device.new)
         (After OnlyAfterFrontChanges (D.disk device.old).may_leave) }
+    ensures past { D.honest device.old → (end : ℕ) → FIRST_AFTER_LOG + slots ≤ end
+        → LeavesPast end (D.disk device.old) (D.disk device.new) }
     ensures honest { D.honest device.old ↔ D.honest device.new }
     ensures size { D.size device.new ≡ D.size device.old }
     ensures failures { D.failures device.new ≡ counted (is_err result) (D.failures device.old) }
@@ -145,6 +157,8 @@ fn write_slots<D: Device>(device: &mut D, slots: u32) -> Result<(), DeviceFault>
         → OnlyAfterLogChanges (D.disk device.old).seen (D.disk device.new).seen }
     ensures crash { D.honest device.old → Leaves (D.disk device.old) (D.disk device.new)
         (After OnlyAfterLogChanges (D.disk device.old).may_leave) }
+    ensures past { D.honest device.old → (end : ℕ) → FIRST_AFTER_LOG + slots ≤ end
+        → LeavesPast end (D.disk device.old) (D.disk device.new) }
     ensures honest { D.honest device.old ↔ D.honest device.new }
     ensures size { D.size device.new ≡ D.size device.old }
     ensures failures { D.failures device.new ≡ counted (is_err result) (D.failures device.old) }

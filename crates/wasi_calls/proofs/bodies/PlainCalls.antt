@@ -125,14 +125,14 @@ module _ {D R W1 W2 : Type 0} (honest : D → Type 0) (disk : D → Disk) (secto
   serves_plain c used args r old d s m m' e plain h fits kept entries same answers =
       serves_supplied c used args r old d s old.generator m m' e plain h fits kept entries same answers
 
-  -- A call that changes only the volume.
-  pub serves_volume : (c : HostCall) (used : ℕ) (args : List ℕ) (r : World → Checked Done) (old : Inner D R W1 W2) (v : Opened D) (m m' : List ℕ) (e : ℕ)
-      → IsTrue (reaches_volume c (table_of old.descriptors) args) → (e ≡ 29 → HasFailed c (state_of (record old { volume = v })))
+  -- A call that changes only the volume, if it reaches it.
+  pub serves_reaching : (c : HostCall) (used : ℕ) (args : List ℕ) (r : World → Checked Done) (old : Inner D R W1 W2) (v : Opened D) (m m' : List ℕ) (e : ℕ)
+      → (e ≡ 29 → HasFailed c (state_of (record old { volume = v })))
       → IsSetUp remaining old → VolumeStep honest disk sectors_on failures old.volume v
       → ((w : World) → row c w m used args ≡ r w)
-      → (honest old.volume.device → (b : StreamBytes) → Answered r (world_of (state_of old) b) m (with_volume v (world_of (state_of old) b)) m' e)
+      → ((IsTrue (reaches_volume c (table_of old.descriptors) args) → honest old.volume.device) → (b : StreamBytes) → Answered r (world_of (state_of old) b) m (with_volume v (world_of (state_of old) b)) m' e)
       → Serves honest disk sectors_on failures remaining out_contents err_contents c used args old m (record old { volume = v }) m' e
-  serves_volume c used args r old v m m' e reaches io h step same answers =
+  serves_reaching c used args r old v m m' e io h step same answers =
       let new : Inner D R W1 W2 = record old { volume = v } in
       let same_run : (λ (w : World). row c w m used args) ≡ r = λ i w. same w i in
       let set_up : IsSetUp remaining new = record {
@@ -148,12 +148,21 @@ module _ {D R W1 W2 : Type 0} (honest : D → Type 0) (disk : D → Disk) (secto
           nothing,
           streams_rest old v old.descriptors old.settings old.generator,
           λ others end. subst (λ (b' : StreamBytes). Answered (λ w. row c w m used args) (world_of (state_of old) others) m (world_of (state_of new) b') m' e) (sym (same_after others))
-              (subst (λ (x : World → Checked Done). Answered x (world_of (state_of old) others) m (world_of (state_of new) others) m' e) (sym same_run) (answers (known reaches) others)),
+              (subst (λ (x : World → Checked Done). Answered x (world_of (state_of old) others) m (world_of (state_of new) others) m' e) (sym same_run) (answers known others)),
         );
         volume = step;
         settings = refl;
         io = io;
       }
+
+  -- a call that reaches it always
+  pub serves_volume : (c : HostCall) (used : ℕ) (args : List ℕ) (r : World → Checked Done) (old : Inner D R W1 W2) (v : Opened D) (m m' : List ℕ) (e : ℕ)
+      → IsTrue (reaches_volume c (table_of old.descriptors) args) → (e ≡ 29 → HasFailed c (state_of (record old { volume = v })))
+      → IsSetUp remaining old → VolumeStep honest disk sectors_on failures old.volume v
+      → ((w : World) → row c w m used args ≡ r w)
+      → (honest old.volume.device → (b : StreamBytes) → Answered r (world_of (state_of old) b) m (with_volume v (world_of (state_of old) b)) m' e)
+      → Serves honest disk sectors_on failures remaining out_contents err_contents c used args old m (record old { volume = v }) m' e
+  serves_volume c used args r old v m m' e reaches io h step same answers = serves_reaching c used args r old v m m' e io h step same (λ known. answers (known reaches))
 
 -- ---- the input gives bytes
 

@@ -1,6 +1,7 @@
 -- Calls that reach neither the volume nor a stream don't answer 29.
-use Rattle.std.proofs.Common.{◌≡◌, ◌≢◌, ℕ, ◌*◌, ◌^◌, ◌||◌, false, nat_le, List, length, Some, None, Ok, refl, Err, sym, ◌∙◌, ap, arith}
-use Rattle.std.proofs.lemmas.Bool.{false≢true}
+use Rattle.std.proofs.Common.{◌≡◌, ◌≢◌, ℕ, ◌*◌, ◌^◌, ◌||◌, ◌≤◌, false, nat_le, nat_lt, inl, inr, List, length, Some, None, Ok, refl, Err, sym, ◌∙◌, ap, arith}
+use Rattle.std.proofs.lemmas.Bool.{false≢true, cases_eq, cond-true, cond-false, eq-eqb, ne_eqb}
+use Rattle.std.proofs.lemmas.Bool.Decides.{nat_tests}
 use Rattle.std.specs.Option.{ok_or}
 use Rattle.wasi_fd.specs.declared.descriptor.EntryKind.TheVariants as kinds
 use Rattle.wasm_store.specs.declared.call.HostCall.{HostCall}
@@ -12,10 +13,13 @@ use Rattle.wasi_calls.specs.World.{World}
 use Rattle.wasi_calls.specs.Checks.{Checked, Done, guard, get, of_kind, has, only_files, opened_entry, range}
 use Rattle.wasi_calls.specs.supplies.Random.{has_left}
 use Rattle.wasi_calls.specs.supplies.Rows.{sizes_get, texts_get, clock_res_get, clock_time_get, random_get, ended_bytes}
-use Rattle.wasi_calls.specs.descriptors.Rows.{fd_close, fd_fdstat_get, fd_prestat_get, fd_prestat_dir_name, fd_tell, guest_name}
-use Rattle.wasi_calls.specs.Calls.{row, word, reaches_volume, Answers}
+use Rattle.wasi_calls.specs.descriptors.Rows.{fd_close, fd_fdstat_get, fd_prestat_get, fd_prestat_dir_name, fd_tell, guest_name, seek_from, fd_seek}
+use Rattle.wasi_calls.specs.internal.descriptors.Positions.{seekable}
+use Rattle.wasi_calls.specs.Calls.{row, word, long, reaches_volume, Answers}
 use Rattle.wasi_calls.proofs.bodies.VolumeCalls.{never_after}
-use Rattle.wasi_calls.proofs.checks.NoneAnswers29.{guards, ok_never, ends_never, get_never, kind_never, opened_never, range_never}
+use Rattle.wasi_calls.proofs.checks.NoneAnswers29.{guards, ok_never, ends_never, get_never, kind_never, opened_never, range_never, seekable_never}
+use Rattle.wasi_calls.proofs.checks.NoneAnswers0.{ok_no_err}
+use Rattle.wasi_calls.proofs.descriptors.Shifts.{row_of_seek, sought_never}
 
 some_entry : Opened
 some_entry = record { serial = 0; kind = kinds.File; position = 0; append = false; base = record { 0 = 0 }; inheriting = record { 0 = 0 }; guest_name = None }
@@ -64,6 +68,23 @@ tell_never w m fd result =
     (λ _ _. never_after (range m result 8) _ (range_never m result 8)
     (λ _ _. never_after (opened_entry d) _ (opened_never d) (λ _ _. ends_never _)))))
 
+small : (n : ℕ) → nat_lt 1 n ≡ false → n ≤ 1
+small n low = grind (arith, nat_tests)
+
+-- nothing is asked of the volume where a position is counted from the start or from itself
+near_never : (w : World) (o : Opened) (whence : ℕ) → nat_lt 1 whence ≡ false → seek_from w o whence ≢ Err 29
+near_never w o whence near = elim (cases_eq whence 0) [
+  | inl start ↦ ok_no_err (seek_from w o whence) 0 29 (cond-true _ _ _ (eq-eqb whence 0 start))
+  | inr other ↦
+      let low = small whence near in
+      ok_no_err (seek_from w o whence) o.position 29 (cond-false _ _ _ (ne_eqb whence 0 other) ∙ cond-true _ _ _ (eq-eqb whence 1 (omega arith)))
+]
+
+seek_never : (w : World) (m : List ℕ) (fd delta whence result : ℕ) → nat_lt 1 whence ≡ false → fd_seek w m fd delta whence result ≢ Err 29
+seek_never w m fd delta whence result near is =
+    never_after (seekable w m fd delta whence result) _ (seekable_never m fd delta whence result w)
+    (λ o _. sought_never w fd delta whence result o (near_never w o whence near)) (sym (row_of_seek w m fd delta whence result) ∙ is)
+
 nosys_never : ◌≢◌ {A = Checked Done} (Err 52) (Err 29)
 nosys_never is = let same : ◌≡◌ {A = ℕ} 52 29 = cc in absurd (omega (arith, same))
 
@@ -81,6 +102,7 @@ plain_never call.FdFdstatGet w m used a plain = stat_never w m (word a 0) (word 
 plain_never call.FdPrestatGet w m used a plain = prestat_never w m (word a 0) (word a 1)
 plain_never call.FdPrestatDirName w m used a plain = dir_name_never w m (word a 0) (word a 1) (word a 2)
 plain_never call.FdTell w m used a plain = tell_never w m (word a 0) (word a 1)
+plain_never call.FdSeek w m used a plain = seek_never w m (word a 0) (long a 1) (word a 2) (word a 3) (plain some_entry)
 plain_never call.Nosys w m used a plain = nosys_never
 plain_never other w m used a plain = absurd (false≢true (sym (plain some_entry)))
 

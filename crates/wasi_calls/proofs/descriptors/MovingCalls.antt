@@ -33,15 +33,15 @@ module _ {D R W1 W2 : Type 0} (honest : D → Type 0) (disk : D → Disk) (secto
         subst (λ (n : Superblock). IsSerial n o.serial) (sym step.kept.numbers) same;
   }
 
-  -- A call that changes the volume and a position.
+  -- A call that changes the volume, if it reaches it, and a position.
   pub serves_moved : (c : HostCall) (used : ℕ) (args : List ℕ) (r : World → Checked Done) (old : Inner D R W1 W2) (v : Opened D) (d : Descriptors) (m m' : List ℕ) (e : ℕ)
-      → IsTrue (reaches_volume c (table_of old.descriptors) args) → (e ≡ 29 → HasFailed c (state_of (record old { volume = v; descriptors = d })))
+      → (e ≡ 29 → HasFailed c (state_of (record old { volume = v; descriptors = d })))
       → IsSetUp remaining old → VolumeStep honest disk sectors_on failures old.volume v → NoMoreEntries (table_of old.descriptors) (table_of d)
       → ((w : World) → row c w m used args ≡ r w)
-      → (honest old.volume.device → (b : StreamBytes)
+      → ((IsTrue (reaches_volume c (table_of old.descriptors) args) → honest old.volume.device) → (b : StreamBytes)
       → Answered r (world_of (state_of old) b) m (with_table (table_of d) (with_volume v (world_of (state_of old) b))) m' e)
       → Serves honest disk sectors_on failures remaining out_contents err_contents c used args old m (record old { volume = v; descriptors = d }) m' e
-  serves_moved c used args r old v d m m' e reaches io h step entries same answers =
+  serves_moved c used args r old v d m m' e io h step entries same answers =
       let new : Inner D R W1 W2 = record old { volume = v; descriptors = d } in
       let same_run : (λ (w : World). row c w m used args) ≡ r = λ i w. same w i in
       record {
@@ -50,7 +50,7 @@ module _ {D R W1 W2 : Type 0} (honest : D → Type 0) (disk : D → Disk) (secto
           nothing,
           streams_rest honest disk sectors_on failures remaining out_contents err_contents old v d old.settings old.generator,
           λ others end. subst (λ (b' : StreamBytes). Answered (λ w. row c w m used args) (world_of (state_of old) others) m (world_of (state_of new) b') m' e) (sym (same_after others))
-              (subst (λ (x : World → Checked Done). Answered x (world_of (state_of old) others) m (world_of (state_of new) others) m' e) (sym same_run) (answers (known reaches) others)),
+              (subst (λ (x : World → Checked Done). Answered x (world_of (state_of old) others) m (world_of (state_of new) others) m' e) (sym same_run) (answers known others)),
         );
         volume = step;
         settings = refl;

@@ -1,6 +1,6 @@
 //! Positions of files.
 
-ghost use Rattle.std.specs.Prelude.{true, ◌≡◌, ◌<◌, ◌≤◌, length, ℕ, ◌^◌, ◌==◌, ◌&&◌, ◌||◌, Ok, Err, MatchResult, IfOk, IfErr, OnOk, ◌+◌};
+ghost use Rattle.std.specs.Prelude.{true, ◌≡◌, ◌<◌, ◌≤◌, length, ℕ, ◌^◌, ◌==◌, ◌&&◌, ◌||◌, Ok, Err, MatchResult, IfOk, IfErr, OnOk, ◌+◌, IsTrue, nat_lt};
 ghost use Rattle.vol_sector.specs.Disk.{Leaves};
 ghost use Rattle.vol_tree.specs.Calls.{bytes_at};
 ghost use Rattle.vol_tree.specs.Opened.{Tells, Keeps, is_io};
@@ -8,7 +8,7 @@ ghost use Rattle.wasi_fd.specs.Table.{table_of, with_at};
 ghost use Rattle.wasi_calls.specs.World.{World, moved_to};
 ghost use Rattle.wasi_calls.specs.Checks.{guard, has};
 ghost use Rattle.wasi_calls.specs.descriptors.Rows.{last_position, fd_seek as seek_row, fd_tell as tell};
-ghost use Rattle.wasi_calls.specs.Calls.{Answered, Answers};
+ghost use Rattle.wasi_calls.specs.Calls.{Answered, Answers, is_entry};
 ghost use Rattle.wasi_calls.specs.host.Worlds.{VolumeStep};
 ghost use Rattle.wasi_calls.specs.internal.Bodies.{KnowsEntries, NoMoreEntries, IsFileOf, errno_of, with_volume, with_table};
 ghost use Rattle.wasi_calls.specs.internal.descriptors.Positions.{seekable, position_at, TellsFrom, FailsFrom, IsOpenAs};
@@ -93,9 +93,11 @@ fn seek_from<D: Device>(
     requires known { whence ≤ 2 }
     ensures step { VolumeStep D.honest D.disk D.size D.failures volume.old volume.new }
     ensures io { is_io result ≡ true → volume.new.failed ≡ true }
-    ensures told { D.honest volume.old.device → (w : World) → w ≡ with_volume volume.old w
+    ensures told { (IsTrue (nat_lt 1 whence) → D.honest volume.old.device) → (w : World)
+        → w ≡ with_volume volume.old w
         → IfOk result (λ from. TellsFrom volume.new w opened.now whence from) }
-    ensures failed { D.honest volume.old.device → (w : World) → w ≡ with_volume volume.old w
+    ensures failed { (IsTrue (nat_lt 1 whence) → D.honest volume.old.device) → (w : World)
+        → w ≡ with_volume volume.old w
         → IfErr result (λ e. FailsFrom volume.old volume.new w opened.now whence e) }
 {
     match whence {
@@ -171,7 +173,8 @@ pub(crate) fn fd_seek<D: Device>(
     ensures step { VolumeStep D.honest D.disk D.size D.failures volume.old volume.new }
     ensures io { errno_of result ≡ 29 → volume.new.failed ≡ true }
     ensures entries { NoMoreEntries (table_of descriptors.old) (table_of descriptors.new) }
-    ensures answered { D.honest volume.old.device → (w : World) → w.table ≡ table_of descriptors.old
+    ensures answered { (IsTrue (is_entry (table_of descriptors.old fd) && nat_lt 1 whence)
+        → D.honest volume.old.device) → (w : World) → w.table ≡ table_of descriptors.old
         → w ≡ with_volume volume.old w
         → Answered (λ v. seek_row v memory.old fd delta whence result_at) w memory.old (with_table (table_of descriptors.new) (with_volume volume.new w)) memory.new (errno_of result) }
 {

@@ -1,13 +1,13 @@
 //! What is told of files, directories and streams (`filestat`).
 
-ghost use Rattle.std.specs.Prelude.{true, ◌≡◌, ◌≤◌, IsSome};
+ghost use Rattle.std.specs.Prelude.{true, ◌≡◌, ◌≤◌, IsSome, IsTrue};
 ghost use Rattle.vol_sector.specs.Disk.{Leaves};
 ghost use Rattle.vol_tree.specs.Tree.{entry};
 ghost use Rattle.vol_tree.specs.Opened.{Tells, Keeps, is_io};
 ghost use Rattle.wasi_calls.specs.descriptors.Rows.{filestat, entry_stat, fd_filestat_get as stat_row};
 ghost use Rattle.wasi_fd.specs.Table.{table_of};
 ghost use Rattle.wasi_calls.specs.World.{World};
-ghost use Rattle.wasi_calls.specs.Calls.{Answered};
+ghost use Rattle.wasi_calls.specs.Calls.{Answered, is_entry};
 ghost use Rattle.wasi_calls.specs.host.Worlds.{VolumeStep};
 ghost use Rattle.wasi_calls.specs.internal.Bodies.{KnowsEntries, errno_of, with_volume, type_of_entry};
 
@@ -73,7 +73,8 @@ pub(crate) fn filestat_get<D: Device>(
     requires { KnowsEntries D.honest volume.old (table_of descriptors.now) }
     ensures step { VolumeStep D.honest D.disk D.size D.failures volume.old volume.new }
     ensures io { errno_of result ≡ 29 → volume.new.failed ≡ true }
-    ensures answered { D.honest volume.old.device → (w : World) → w.table ≡ table_of descriptors.now
+    ensures answered { (IsTrue (is_entry (table_of descriptors.now fd)) → D.honest volume.old.device)
+        → (w : World) → w.table ≡ table_of descriptors.now
         → w ≡ with_volume volume.old w
         → Answered (λ v. stat_row v memory.old fd result_at) w memory.old (with_volume volume.new w) memory.new (errno_of result) }
 {

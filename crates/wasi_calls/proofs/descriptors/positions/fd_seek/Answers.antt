@@ -1,15 +1,17 @@
-use Rattle.std.proofs.Common.{◌≡◌, ℕ, refl, sym, ap, ◌∙◌, subst, length, arith}
+use Rattle.std.proofs.Common.{◌≡◌, ℕ, true, ◌&&◌, nat_lt, Some, refl, sym, ap, ◌∙◌, subst, length, arith}
 use Rattle.byteorder.specs.Endian.{little_bytes}
 use Rattle.wasm_store.specs.Bytes.{written}
 use Rattle.vol_tree.specs.Numbers.{number_of}
-use Rattle.wasi_fd.specs.Table.{table_of}
+use Rattle.wasi_fd.specs.declared.descriptor.Descriptor.TheVariants.{Entry}
+use Rattle.wasi_fd.specs.declared.descriptor.Opened.{Opened as OpenedEntry}
+use Rattle.wasi_fd.specs.Table.{Table, table_of}
 use Rattle.wasi_calls.specs.internal.descriptors.Positions.{seekable, position_at}
 use Rattle.wasi_calls.proofs.checks.CausesOf29.{asked_29, check_not_29, no_29_at_0, not_29}
 use Rattle.wasi_calls.proofs.checks.NoneAnswers29.{seekable_never}
 use Rattle.wasi_calls.specs.World.{World, with_volume_failed, with_descriptor, moved_to}
 use Rattle.wasi_calls.specs.Checks.{only_files, with_result}
 use Rattle.wasi_calls.specs.descriptors.Rows.{fd_seek}
-use Rattle.wasi_calls.specs.Calls.{Answered, by_row}
+use Rattle.wasi_calls.specs.Calls.{Answered, by_row, is_entry}
 use Rattle.wasi_calls.specs.internal.Bodies.{with_volume, with_table}
 use Rattle.wasi_calls.proofs.checks.Chains.{goes_on, stops}
 use Rattle.wasi_calls.proofs.OpenEntries.{seek_open, file_at}
@@ -18,6 +20,10 @@ use Rattle.wasi_calls.proofs.bodies.VolumeCalls.{refused_first, failed_by}
 use Rattle.wasi_calls.proofs.descriptors.Shifts.{row_of_seek, sought_never, in_table, table_moved, never_position}
 use Rattle.wasi_calls.proofs.bodies.PlainCalls.{volume_rests, no_more}
 use Rattle.wasi_calls.proofs.descriptors.positions.fd_seek.Goals as goal
+
+-- an entry is asked how long it is
+asked : (table : Table) (fd whence : ℕ) (o : OpenedEntry) → table fd ≡ Some (Entry o) → nat_lt 1 whence ≡ true → (is_entry (table fd) && nat_lt 1 whence) ≡ true
+asked table fd whence o at far = λ i. is_entry (at i) && far i
 
 pub returns-in-Err : goal.returns-in-Err
 returns-in-Err g c = record {
@@ -55,7 +61,8 @@ returns-in-Err-seek_from g c = record {
       let run = λ (v : World). fd_seek v m c.args.fd c.args.delta c.args.whence c.args.result_at in
       let row = λ (v : World). row_of_seek v m c.args.fd c.args.delta c.args.whence c.args.result_at in
       let new = c.seek_from.new.volume in
-      let f = c.in-Err-seek_from.ensures.failed h w shown in
+      let at = seek_open (table_of c.args.descriptors.now) m c.args.fd c.args.delta c.args.whence c.args.result_at o c.in-Ok.ensures.checked in
+      let f = c.in-Err-seek_from.ensures.failed (λ far. h (asked (table_of c.args.descriptors.now) c.args.fd c.args.whence o at.0 far)) w shown in
       subst (λ (n : ℕ). Answered run w m (with_table (table_of c.args.descriptors.now) (with_volume new w)) m n) (sym (c.refused.ensures ∙ ap number_of f.io))
       (in_table run w m (with_volume new w) m 29 _ table
       (failed_by w m run c.args.volume.now new shown f.numbers f.tree f.failed
@@ -73,7 +80,8 @@ returns-in-Ok-position_at g c = record {
       let m = c.args.memory.now in
       let o = c.in-Ok.opened in
       let at = c.in-Ok-position_at.at in
-      let t = c.in-Ok-seek_from.ensures.told h w shown in
+      let there = seek_open (table_of c.args.descriptors.now) m c.args.fd c.args.delta c.args.whence c.args.result_at o c.in-Ok.ensures.checked in
+      let t = c.in-Ok-seek_from.ensures.told (λ far. h (asked (table_of c.args.descriptors.now) c.args.fd c.args.whence o there.0 far)) w shown in
       let tables : table_of c.move_to.new.descriptors ≡ (with_descriptor c.args.fd (moved_to o at) w).table =
       table_moved c.args.fd (moved_to o at) (table_of c.args.descriptors.now) (table_of c.move_to.new.descriptors) w.table c.move_to.ensures.moved table in
       by_row (answers_done _ w m _ _ (with_result (with_descriptor c.args.fd (moved_to o at) w) c.args.result_at (little_bytes 8 at))
@@ -92,7 +100,8 @@ returns-in-Err-position_at g c = record {
       let m = c.args.memory.now in
       let o = c.in-Ok.opened in
       let run = λ (v : World). fd_seek v m c.args.fd c.args.delta c.args.whence c.args.result_at in
-      let t = c.in-Ok-seek_from.ensures.told h w shown in
+      let there = seek_open (table_of c.args.descriptors.now) m c.args.fd c.args.delta c.args.whence c.args.result_at o c.in-Ok.ensures.checked in
+      let t = c.in-Ok-seek_from.ensures.told (λ far. h (asked (table_of c.args.descriptors.now) c.args.fd c.args.whence o there.0 far)) w shown in
       in_table run w m (with_volume c.seek_from.new.volume w) m _ _ table
       (by_row (answers_refused (run w) w m (with_volume c.seek_from.new.volume w) m _
       (row_of_seek w m c.args.fd c.args.delta c.args.whence c.args.result_at ∙ (goes_on _ _ o (c.in-Ok.ensures.checked w table)

@@ -2,7 +2,7 @@ use Rattle.std.proofs.Common.{◌≡◌, ℕ, false, Ok, Err, refl, sym, ap, ◌
 use Rattle.vol_tree.specs.declared.errno.Errno.{Errno}
 use Rattle.vol_tree.specs.Opened.{is_io}
 use Rattle.vol_tree.specs.Calls.{bytes_at}
-use Rattle.std.proofs.lemmas.Bool.{false≢true}
+use Rattle.std.proofs.lemmas.Bool.{false≢true, lt-ltb}
 use Rattle.wasi_calls.specs.World.{World, with_volume_failed}
 use Rattle.wasi_calls.proofs.bodies.VolumeCalls.{was_working, same_volume, tree_called_alive, tree_called_gone}
 use Rattle.wasi_calls.proofs.descriptors.Shifts.{from_end}
@@ -20,7 +20,7 @@ returns-in-Ok g c = record {
       let new = c.size_of.new.volume in
       let o = c.args.opened.now in
       let k = c.in-Ok.ensures.kept in
-      let (told, tree) = rw c.new.ensures at c.in-Ok.ensures.answer h in
+      let (told, tree) = rw c.new.ensures at c.in-Ok.ensures.answer (h (lt-ltb 1 c.args.whence (omega arith))) in
       let working : old.failed ≡ false = was_working g.D.Device.honest g.D.Device.size g.D.Device.failures old new false k refl in
       let alive : w.volume_failed ≡ false = ap (λ (w : World). w.volume_failed) shown ∙ working in
       let size : length (bytes_at w.tree o.serial) ≡ c.from.result = ap (λ (w : World). length (bytes_at w.tree o.serial)) shown ∙ (sym told ∙ sym c.from.ensures) in
@@ -40,7 +40,7 @@ returns-in-Err g c = record {
   failed = λ h w shown.
       let o = c.args.opened.now in
       let k = c.in-Err.ensures.kept in
-      let (io, tree) = c.in-Err.ensures.answer h in
+      let (io, tree) = c.in-Err.ensures.answer (h (lt-ltb 1 c.args.whence (omega arith))) in
       let size = length (bytes_at w.tree o.serial) in
       record {
         io = io;

@@ -7,7 +7,8 @@ use Rattle.wasi_calls.proofs.checks.NoneAnswers29.{descriptor_never, range_never
 use Rattle.wasi_calls.specs.World.{World, with_volume_failed}
 use Rattle.wasi_calls.specs.Checks.{any_kind, with_result, descriptor, range}
 use Rattle.wasi_calls.specs.descriptors.Rows.{fd_filestat_get, filestat, entry_stat, stat_of}
-use Rattle.wasi_calls.specs.Calls.{Answered}
+use Rattle.wasi_fd.specs.declared.descriptor.Descriptor.TheVariants.{Entry}
+use Rattle.wasi_calls.specs.Calls.{Answered, is_entry}
 use Rattle.wasi_calls.specs.internal.Bodies.{with_volume, refusals_of}
 use Rattle.wasi_calls.proofs.checks.Chains.{goes_on, stops}
 use Rattle.wasi_calls.proofs.OpenEntries.{at_descriptor, is_used}
@@ -65,7 +66,8 @@ returns-in-Ok-stat_entry g c = record {
       let new = c.stat_entry.new.volume in
       let o = c.in-Entry.opened in
       let k = c.in-Ok-stat_entry.ensures.kept in
-      let (told, tree) = rw c.new.ensures at c.in-Ok-stat_entry.ensures.answer h in
+      let at : table_of c.args.descriptors.now c.args.fd ≡ Some (Entry o) = at_descriptor (table_of c.args.descriptors.now) c.args.fd any_kind (2 ^ 21) c.in-Ok.descriptor c.in-Ok.ensures ∙ ap Some c.in-Entry.is in
+      let (told, tree) = rw c.new.ensures at c.in-Ok-stat_entry.ensures.answer (h (ap is_entry at)) in
       let working : old.failed ≡ false = was_working g.D.Device.honest g.D.Device.size g.D.Device.failures old new false k refl in
       let alive : w.volume_failed ≡ false = ap (λ (w : World). w.volume_failed) shown ∙ working in
       let bytes = entry_stat w.tree o.serial in
@@ -88,7 +90,8 @@ returns-in-Err-stat_entry g c = record {
       let o = c.in-Entry.opened in
       let e = c.in-Err-stat_entry.errno in
       let at = c.args.result_at in
-      let (io, tree) = c.in-Err-stat_entry.ensures.answer h in
+      let open_at : table_of c.args.descriptors.now c.args.fd ≡ Some (Entry o) = at_descriptor (table_of c.args.descriptors.now) c.args.fd any_kind (2 ^ 21) c.in-Ok.descriptor c.in-Ok.ensures ∙ ap Some c.in-Entry.is in
+      let (io, tree) = c.in-Err-stat_entry.ensures.answer (h (ap is_entry open_at)) in
       let bytes = entry_stat w.tree o.serial in
       subst (λ (n : ℕ). Answered (λ v. fd_filestat_get v m c.args.fd at) w m (with_volume new w) m n) (sym c.refused.ensures)
       (tree_refuses w m g.D.Device.honest g.D.Device.size g.D.Device.failures (List ℕ) (λ v. fd_filestat_get v m c.args.fd at) old new e c.in-Err-stat_entry.ensures.kept shown tree

@@ -1,0 +1,7 @@
+#include <stdio.h>
+int main(void) {
+  int n;
+  scanf("%d", &n);
+  printf("1\n%d\n", n - 1);
+  return 0;
+}
