@@ -2,7 +2,8 @@
  * sandbox.h: WebAssembly guests with exact fuel over crash-safe volumes, for hosts in C and what calls C.
  *
  * Link with libsandbox.a or libsandbox.so (`pkg-config --cflags --libs sandbox`) and the C library. The
- * library has no state of its own, starts no thread, takes no lock, installs no handler, and never calls abort or exit.
+ * library has no state of its own, opens no file, starts no thread, takes no lock, installs no handler, and never calls abort or
+ * exit. Of the C library it calls malloc, realloc, free, memcpy, memmove and memset alone.
  *
  * OWNERSHIP
  *   Each function on a session takes the ADDRESS of the caller's own `sandbox_session *`, and each on a loaded module that of
@@ -25,6 +26,17 @@
  *   SANDBOX_MISUSE. After another answer than 0 a session or a module is as it was, but for sandbox_finish and
  *   SANDBOX_DEVICE_FAILED; and what a call writes is as it was, but for `why` where a module is refused.
  *
+ * MEMORY
+ *   A session asks malloc for at most, in bytes,
+ *         65,536 * pages + 8 * values + 2 * output    what its limits allow (sandbox_limits)
+ *       + 128 * the bytes of its module               the module's tables
+ *       + 520 * the volume's sectors                  202 of a fresh one
+ *       + 1,040 * the writes and syncs so far         of a recorded volume alone (SANDBOX_VOLUME_RECORDED)
+ *       + 8 MiB                                       open calls, the names of the volume, and all else
+ *   whatever its guest does; sandbox_most_held is this sum. What the guest doesn't come to isn't taken, and what it took is given
+ *   back by sandbox_finish (its memory and its stack) and sandbox_close (all). While a buffer grows, realloc may hold what it had
+ *   a second time. A loaded module in no session holds its part of the sum. What is marked `kept` is the caller's own.
+ *
  * THREADS
  *   Sessions and modules share nothing, so each thread can have its own at the same time. One may move to another thread
  *   between two calls, which the host puts in order (by a lock, or a thread's start or end): never two calls at once on
@@ -33,8 +45,13 @@
  *
  * VERSIONS
  *   SANDBOX_VERSION_NUMBER is 1,000,000 * major + 1,000 * minor + patch, and sandbox_version() what the archive has. From
- *   1.0.0 on a struct never changes: a later one has another name, and so has the function that takes it. Numbers of errors
- *   and pauses are never used again for another meaning.
+ *   1.0.0 on a host that was compiled with an earlier header goes on with a later archive:
+ *   - A struct keeps its size and its fields. A limit to come takes the place of one of `later`, and 0 there means what it meant
+ *     before. What is added else is a struct and a function of its own.
+ *   - A number keeps its meaning. Answers to come are faults from 41 to 99, or mistakes of the caller from 101 to 199: so any
+ *     answer but 0 is a refusal. Of kinds of sandbox_told to come, those with the bit SANDBOX_GOES_ON are pauses and the others
+ *     ends, and none is told to a host that hasn't asked for it by a limit or a function to come. Calls to come have numbers
+ *     from 30 on.
  */
 #ifndef SANDBOX_H
 #define SANDBOX_H
@@ -60,13 +77,22 @@ typedef struct { /* a directory that the guest finds open */
     sandbox_bytes path; /* in the volume, as "/" */
 } sandbox_preopen;
 
+typedef struct { /* the most that a guest may have; 0 is the default of each */
+    uint32_t pages;    /* of memory, 65,536 bytes each. Default 1,024 (64 MiB), at most 65,536; more is 15 */
+    uint32_t values;   /* on its stack, 8 bytes each: operands and locals of all functions at work. Default 1,048,576 (8 MiB);
+                        * fewer than 4,097 count as 4,097. Where a step would leave more, the run ends with SANDBOX_NO_MEMORY */
+    uint64_t output;   /* bytes that it writes to descriptor 1, and as many to 2. Default 16,777,216 (16 MiB). A write past them
+                        * takes what there is room for, and it and all later ones there are answered 29; sandbox_full tells */
+    uint64_t later[6]; /* limits to come; 0 each, else 15 */
+} sandbox_limits;
+
 typedef struct { /* what a guest is given */
     const sandbox_bytes *args;        size_t args_count;     /* the program's name first */
     const sandbox_bytes *env;         size_t env_count;      /* each NAME=VALUE */
     const sandbox_preopen *preopens;  size_t preopens_count; /* descriptors 3 and on */
     uint64_t moment;                                         /* nanoseconds since 1970-01-01 00:00:00 UTC */
     sandbox_bytes random;                                    /* what random_get gives */
-    uint32_t pages;                                          /* most pages of 65,536 bytes; at most 65,536 */
+    sandbox_limits limits;                                   /* the most that it may have */
     sandbox_bytes input;                                     /* descriptor 0 */
 } sandbox_supplies;
 
@@ -96,8 +122,10 @@ typedef struct { /* why a call came back; a caller may pass any numbers in it */
     uint64_t used; /* units of fuel used since the session began */
 } sandbox_told;
 enum { /* sandbox_told.kind */
-    SANDBOX_EXITED = 0, SANDBOX_TRAPPED = 1, SANDBOX_OUT_OF_FUEL = 2, SANDBOX_NO_MEMORY = 3, /* the run has ended */
-    SANDBOX_CALLED = 4, SANDBOX_SPENT = 5                                       /* it goes on by another resume */
+    SANDBOX_EXITED = 0, SANDBOX_TRAPPED = 1, SANDBOX_OUT_OF_FUEL = 2, SANDBOX_NO_MEMORY = 3, /* the run has ended; _OUT_OF_FUEL
+                                                                                              * of sandbox_run alone */
+    SANDBOX_CALLED = 4, SANDBOX_SPENT = 5,                                      /* it goes on by another resume */
+    SANDBOX_GOES_ON = 4                                                         /* kind & SANDBOX_GOES_ON: whether it goes on */
 };
 enum { /* sandbox_told.code of SANDBOX_TRAPPED */
     SANDBOX_TRAP_UNREACHABLE = 0, SANDBOX_TRAP_DIVIDE_BY_ZERO = 1, SANDBOX_TRAP_INTEGER_OVERFLOW = 2,
@@ -123,8 +151,9 @@ typedef struct { /* why a module is refused */
 enum {
     SANDBOX_OK = 0,
     /* 1 to 12: the module (sandbox_why has the offset). 13 an import that isn't there, 14 no _start, 15 a bad setting, 16 a
-     * preopened path that is no directory, 20 a data segment, 21 an element segment, 22 too many pages. 30 no volume, 31 its
-     * version, 32 a damaged one, 33 its device, 34 too few sectors, 36 numbers out of their range. */
+     * preopened path that is no directory, 20 a data segment, 21 an element segment, 22 the module begins with more pages than
+     * its limit. 30 no volume, 31 its version, 32 a damaged one, 33 its device, 36 numbers out of their range. (34 and 35 are
+     * answers of the program's commands alone.) */
     SANDBOX_DEVICE_FAILED = 33,
     SANDBOX_OUT_OF_MEMORY = 40,
     SANDBOX_MISUSE = 100 /* no session or module, or one already; finished or not where the call wants the other; no such kind */
@@ -142,20 +171,20 @@ enum { /* sandbox_text's kind */
     SANDBOX_TEXT_ERRNO = 2
 };
 
-/* Decodes and validates, and keeps nothing. OK exactly where the bytes spell a valid module within the limits; else the
- * module's fault, also in *why, or OUT_OF_MEMORY. */
+/* Decodes and validates, and keeps nothing. OK exactly where the bytes spell a valid module of no more than a module may have
+ * (fault 11); else the module's fault, also in *why, or OUT_OF_MEMORY. */
 uint32_t sandbox_check(const uint8_t *module, size_t module_length, sandbox_why *why);
 
 /* Runs a module over a fresh volume to its end, or until the fuel is used: sandbox_open, sandbox_resume until it ends,
  * sandbox_close, in one call that keeps nothing. All bytes are borrowed. *out_length is how much the guest wrote to
- * descriptor 1; the first of it are in `out`, as many as there is room for. *ended is set where the answer is OK: EXITED,
+ * descriptor 1, at most supplies->limits.output; the first of it are in `out`, as many as there is room for. *ended is set where the answer is OK: EXITED,
  * TRAPPED, OUT_OF_FUEL or NO_MEMORY. */
 uint32_t sandbox_run(const uint8_t *module, size_t module_length, const sandbox_supplies *supplies, uint64_t fuel,
                      uint8_t *out, size_t out_room, size_t *out_length, sandbox_told *ended, sandbox_why *why);
 
 /* Makes a session, which has used nothing. `module`, and all bytes and arrays that `supplies` leads to, are kept; the structs
- * themselves are borrowed. Refused: MISUSE where there is a session already, or the volume has no known kind; the module's,
- * the volume's, the settings' fault; OUT_OF_MEMORY. After a refusal *session is NULL as it was, and nothing is kept. */
+ * themselves are borrowed. Refused, in this order: MISUSE where there is a session already, or the volume has no known kind; the
+ * module's fault; 15 where `later` isn't 0; the volume's fault; the settings' fault; OUT_OF_MEMORY at any of them. After a refusal *session is NULL as it was, and nothing is kept. */
 uint32_t sandbox_open(sandbox_session **session, const uint8_t *module, size_t module_length,
                       const sandbox_supplies *supplies, const sandbox_volume *volume, sandbox_why *why);
 
@@ -176,6 +205,11 @@ uint32_t sandbox_resume(sandbox_session **session, uint64_t units, sandbox_told 
  * many bytes it has written in all, 0 where there is no session or another descriptor. Any time between open and close, also
  * while it runs. */
 size_t sandbox_output(sandbox_session **session, uint32_t descriptor, size_t from, uint8_t *room, size_t length);
+
+/* 1 where a write of the guest to descriptor 1 or 2 was refused since it has written as many bytes there as its limits allow, and
+ * from then on; else 0, as where there is no session or another descriptor. A write that is refused for another reason (memory for
+ * it was refused) is answered 29, too, and not told here. Any time between open and close, also while it runs. */
+uint32_t sandbox_full(sandbox_session **session, uint32_t descriptor);
 
 /* Commits the guest's calls to its volume, and ends the session's run. Its output and volume can be read until it is closed.
  * DEVICE_FAILED where the volume couldn't be committed: the session is finished then, too. A second call is MISUSE. */
@@ -208,6 +242,23 @@ uint32_t sandbox_unload(sandbox_module **module);
  * 36, and nothing is written. */
 uint32_t sandbox_format(uint8_t (*sectors)[512], size_t sectors_count, uint32_t slots);
 
+/* How many bytes a session asks malloc for at most (MEMORY, at the head): one with these limits, of a module of so many bytes, over
+ * a volume of so many sectors (202 of a fresh one). `operations`: of a recorded volume how many writes and syncs there are so far,
+ * else 0. A sum past 2^64 - 1 is 2^64 - 1. */
+static inline uint64_t sandbox_most_held(const sandbox_limits *limits, size_t module_length, size_t sectors_count, size_t operations) {
+    const uint64_t counts[6] = {limits->pages ? limits->pages : 1024,
+                                limits->values ? (limits->values < 4097 ? 4097 : limits->values) : 1048576,
+                                limits->output ? limits->output : 16777216, module_length, sectors_count, operations};
+    static const uint64_t bytes[6] = {65536, 8, 2, 128, 520, 1040};
+    uint64_t sum = 8388608;
+    for (int n = 0; n < 6; n++) {
+        if (counts[n] > (UINT64_MAX - sum) / bytes[n])
+            return UINT64_MAX;
+        sum += counts[n] * bytes[n];
+    }
+    return sum;
+}
+
 /* For callers that may have a NULL variable. */
 static inline uint32_t sandbox_resume_checked(sandbox_session **s, uint64_t units, sandbox_told *told) {
     return s && told ? sandbox_resume(s, units, told) : (uint32_t)SANDBOX_MISUSE;
@@ -218,11 +269,17 @@ static inline uint32_t sandbox_close_checked(sandbox_session **s) { return s ? s
 #ifdef SANDBOX_DESCRIPTORS
 /*
  * DESCRIPTORS, for hosts on POSIX (_POSIX_C_SOURCE 200809L, as gcc has it by itself but with -std=c99 and the like) that define
- * SANDBOX_DESCRIPTORS before they include this header. The library itself has no
- * system call. What stands here is C, which is tried and not proved.
+ * SANDBOX_DESCRIPTORS before they include this header. The library itself has no system call. What stands here is C, which is
+ * tried and not proved.
  *
- * A volume on a descriptor: the host opens it to read and write, locks it (flock, fcntl), and then
+ * Where a host was started with descriptor 0, 1 or 2 closed, the system gives that number to the next file that is opened. What the
+ * host or its libraries print would then go into that file. So pass what `open` answers through sandbox_apart; a volume under such
+ * a number is MISUSE here.
  *
+ * A volume on a descriptor: the host opens it to read and write, locks it by flock(fd, LOCK_EX | LOCK_NB), which is the lock of the
+ * program, too (those of fcntl are others, and keep neither out), and then
+ *
+ *     int fd = sandbox_apart(open(path, O_RDWR | O_CLOEXEC));
  *     sandbox_volume_from(fd, &volume);                 reads its sectors
  *     sandbox_open(&session, .., &volume, &why);        copies them
  *     sandbox_volume_free(&volume);
@@ -244,15 +301,32 @@ static inline uint32_t sandbox_close_checked(sandbox_session **s) { return s ? s
  * at none before the last sync that was settled: with a first part of the guest's calls, and never a damaged one. Where
  * sandbox_settle fails, close the session and don't call it again; the descriptor has such a moment then, too.
  *
- * Each answers 0, SANDBOX_DEVICE_FAILED with errno set, SANDBOX_OUT_OF_MEMORY, or SANDBOX_MISUSE.
+ * Each but sandbox_apart answers 0, SANDBOX_DEVICE_FAILED with errno set, SANDBOX_OUT_OF_MEMORY, or SANDBOX_MISUSE.
  */
 #include <errno.h>
+#include <fcntl.h>
 #include <stdlib.h>
 #include <sys/types.h>
 #include <unistd.h>
 
-/* Reads all sectors of a file or a block device, 65,536 at most, for a session that is recorded. */
+/* The same open file under a number above 2, closed on exec; the number that it had is closed then, also where that fails. -1 with
+ * errno set where it fails, and for -1. Before the file is locked by fcntl, whose locks go with any close. */
+static inline int sandbox_apart(int fd) {
+    int apart = fd < 0 || fd > 2 ? fd : fcntl(fd, F_DUPFD_CLOEXEC, 3), why = errno;
+    if (apart != fd) {
+        close(fd);
+        errno = why;
+    }
+    return apart;
+}
+
+/* Whether it is the number of a standard stream. */
+static inline int sandbox_is_standard(int fd) { return fd >= 0 && fd <= 2; }
+
+/* Reads all sectors of a file or a block device, 65,536 at most, for a session that is recorded. MISUSE for descriptors 0, 1, 2. */
 static inline uint32_t sandbox_volume_from(int fd, sandbox_volume *volume) {
+    if (sandbox_is_standard(fd))
+        return SANDBOX_MISUSE;
     off_t size = lseek(fd, 0, SEEK_END);
     size_t count = size < 0 ? 0 : size / 512 > 65536 ? 65536 : (size_t)(size / 512), so_far = 0;
     uint8_t *sectors = size < 0 ? NULL : (uint8_t *)malloc(count * 512 + 1);
@@ -263,7 +337,9 @@ static inline uint32_t sandbox_volume_from(int fd, sandbox_volume *volume) {
         if (more > 0)
             so_far += (size_t)more;
         else if (more == 0 || errno != EINTR) {
+            int why = more == 0 ? EIO : errno;
             free(sectors);
+            errno = why;
             return SANDBOX_DEVICE_FAILED;
         }
     }
@@ -280,10 +356,13 @@ static inline void sandbox_volume_free(sandbox_volume *volume) {
 }
 
 /* Does the operations that a session has done so far, from number *done on, and raises it by each that is done. After each
- * resume, and after sandbox_finish; where there are none new, without a call of the system. */
+ * resume, and after sandbox_finish; where there are none new, without a call of the system. MISUSE for descriptors 0, 1, 2, and
+ * where the session has no record: nothing is done then. */
 static inline uint32_t sandbox_settle(sandbox_session **session, int fd, size_t *done) {
     sandbox_operation operation;
     uint32_t last = SANDBOX_SYNC;
+    if (sandbox_is_standard(fd))
+        return SANDBOX_MISUSE;
     for (;; ++*done) {
         uint32_t answer = sandbox_operation_at(session, *done, &operation);
         if (answer != SANDBOX_OK)
@@ -294,8 +373,10 @@ static inline uint32_t sandbox_settle(sandbox_session **session, int fd, size_t 
                 ssize_t more = pwrite(fd, operation.bytes + written, 512 - written, (off_t)operation.sector * 512 + (off_t)written);
                 if (more > 0)
                     written += (size_t)more;
-                else if (more == 0 || errno != EINTR)
+                else if (more == 0 || errno != EINTR) {
+                    errno = more == 0 ? EIO : errno;
                     return SANDBOX_DEVICE_FAILED;
+                }
             }
         } else if ((operation.kind == SANDBOX_SYNC || last == SANDBOX_WRITE) && fdatasync(fd))
             return SANDBOX_DEVICE_FAILED;
@@ -305,18 +386,24 @@ static inline uint32_t sandbox_settle(sandbox_session **session, int fd, size_t 
     }
 }
 
-/* All bytes of a descriptor up to its end, for sandbox_supplies.input; free((void *)input->at) once the session is closed. */
+/* All bytes of a descriptor up to its end, for sandbox_supplies.input; free((void *)input->at) once the session is closed.
+ * DEVICE_FAILED with EFBIG where there are more than SANDBOX_INPUT_MOST, which a host may define before it includes this header. */
+#ifndef SANDBOX_INPUT_MOST
+#define SANDBOX_INPUT_MOST 67108864 /* 64 MiB */
+#endif
 static inline uint32_t sandbox_input_from(int fd, sandbox_bytes *input) {
     size_t room = 65536, length = 0;
     uint8_t *bytes = (uint8_t *)malloc(room);
     ssize_t more = 1;
     while (bytes && more) {
         more = read(fd, bytes + length, room - length);
-        if (more < 0 && errno != EINTR) {
+        length += more > 0 ? (size_t)more : 0;
+        if ((more < 0 && errno != EINTR) || length > SANDBOX_INPUT_MOST) {
+            int why = more < 0 ? errno : EFBIG;
             free(bytes);
+            errno = why;
             return SANDBOX_DEVICE_FAILED;
         }
-        length += more > 0 ? (size_t)more : 0;
         if (length == room) {
             uint8_t *larger = room <= (size_t)-1 / 2 ? (uint8_t *)realloc(bytes, room *= 2) : NULL;
             if (!larger)
@@ -342,8 +429,10 @@ static inline uint32_t sandbox_output_to(sandbox_session **session, uint32_t des
             return SANDBOX_OK;
         while (written < count) {
             ssize_t more = write(fd, room + written, count - written);
-            if (more < 0 && errno != EINTR)
+            if (more == 0 || (more < 0 && errno != EINTR)) {
+                errno = more == 0 ? EIO : errno;
                 return SANDBOX_DEVICE_FAILED;
+            }
             written += more > 0 ? (size_t)more : 0;
             *from += more > 0 ? (size_t)more : 0;
         }

@@ -1,5 +1,6 @@
-/* The C interface tried: each misuse that it answers, stops while a volume's record is settled, syncs that are on a descriptor
- * before their guest goes on, and what sessions cost. bench/embed builds and calls it. */
+/* The C interface tried: each misuse that it answers, limits, descriptors of all kinds, the numbers of calls, stops while a volume's
+ * record is settled, syncs that are on a descriptor before their guest goes on, and what sessions cost. bench/embed builds and
+ * calls it. */
 #define _GNU_SOURCE
 #define SANDBOX_DESCRIPTORS
 #include <malloc.h>
@@ -24,7 +25,7 @@ static void want(const char *what, int is) {
 static sandbox_supplies supplies(void) {
   static const sandbox_bytes name = {(const uint8_t *)"hi.wasm", 7}, none = {(const uint8_t *)"", 0};
   static const sandbox_preopen root = {{(const uint8_t *)"/", 1}, {(const uint8_t *)"/", 1}};
-  return (sandbox_supplies){&name, 1, &none, 0, &root, 1, 0, none, 1024, none};
+  return (sandbox_supplies){&name, 1, &none, 0, &root, 1, 0, none, {0}, none};
 }
 
 static double now(void) {
@@ -52,6 +53,7 @@ static void misuse(void) {
   want("close_loaded of none", sandbox_close_loaded(&session, &loaded) == SANDBOX_MISUSE && !session && !loaded);
   want("unload of none", sandbox_unload(&loaded) == SANDBOX_MISUSE && !loaded);
   want("open_loaded of none", sandbox_open_loaded(&session, &loaded, &given, &fresh) == SANDBOX_MISUSE && !session);
+  want("full of none", sandbox_full(&session, 1) == 0 && sandbox_full(&session, 2) == 0 && !session);
   want("output of none", sandbox_output(&session, 1, 0, room, sizeof room) == 0 && same(room, room_before, sizeof room));
   want("volume_out of none", sandbox_volume_out(&session, sector, 1) == 0);
   /* a volume of no kind */
@@ -65,6 +67,7 @@ static void misuse(void) {
   want("close_loaded before finish", sandbox_close_loaded(&session, &loaded) == SANDBOX_MISUSE && session && !loaded);
   want("volume_out before finish", sandbox_volume_out(&session, sector, 1) == 0);
   want("output of another descriptor", sandbox_output(&session, 3, 0, room, sizeof room) == 0 && same(room, room_before, sizeof room));
+  want("full of any descriptor", !sandbox_full(&session, 0) && !sandbox_full(&session, 1) && !sandbox_full(&session, 2) && !sandbox_full(&session, 3) && !sandbox_full(&session, UINT32_MAX));
   want("a session as a module", sandbox_unload((sandbox_module **)(void *)&session) == SANDBOX_MISUSE && session);
   want("resume", sandbox_resume(&session, 1000, &told) == SANDBOX_OK && told.kind == SANDBOX_CALLED && told.call == SANDBOX_CALL_FD_WRITE && told.code == 0 && told.used == 5);
   want("output while it runs", sandbox_output(&session, 1, 1, room, 1) == 3 && room[0] == 'i');
@@ -77,17 +80,14 @@ static void misuse(void) {
   want("sectors after finish", sandbox_volume_out(&session, sector, 1) == 202 && same(sector, "WASMVOLU", 8));
   want("close_loaded", sandbox_close_loaded(&session, &loaded) == SANDBOX_OK && !session && loaded);
   want("load over a loaded one", sandbox_load(&loaded, module.at, module.length, &why) == SANDBOX_MISUSE && loaded);
+  want("full of a module", sandbox_full((sandbox_session **)(void *)&loaded, 1) == 0 && loaded);
   want("a module as a session", sandbox_resume((sandbox_session **)(void *)&loaded, 1, &told) == SANDBOX_MISUSE && loaded);
   want("open_loaded", sandbox_open_loaded(&session, &loaded, &given, &fresh) == SANDBOX_OK && session && !loaded);
   want("close", sandbox_close(&session) == SANDBOX_OK && !session);
   want("close twice", sandbox_close(&session) == SANDBOX_MISUSE && !session);
   /* what is refused */
   want("a cut module", sandbox_check(module.at, module.length - 1, &why) == 1 && why.fault == 1 && why.offset == module.length - 1);
-  given.pages = 65537;
-  want("too many pages", sandbox_open(&session, module.at, module.length, &given, &fresh, &why) == 15 && !session);
-  given.pages = 0;
-  want("too few pages", sandbox_open(&session, module.at, module.length, &given, &fresh, &why) == 22 && !session);
-  want("a volume of zeros", (given.pages = 1, odd = (sandbox_volume){.kind = SANDBOX_VOLUME_MEMORY, .sectors = (const uint8_t(*)[512])sector, .sectors_count = 1},
+  want("a volume of zeros", (odd = (sandbox_volume){.kind = SANDBOX_VOLUME_MEMORY, .sectors = (const uint8_t(*)[512])sector, .sectors_count = 1},
        sandbox_open(&session, module.at, module.length, &given, &odd, &why) == 30 && !session));
   want("format of too little", sandbox_format(sector, 1, 1) == 36);
   /* the record of a volume */
@@ -95,7 +95,6 @@ static void misuse(void) {
   sandbox_operation operation, operation_before;
   memset(&operation, 7, sizeof operation);
   operation_before = operation;
-  given.pages = 1024;
   want("format", sandbox_format(sectors, 137, 4) == SANDBOX_OK);
   sandbox_volume volume = {.kind = SANDBOX_VOLUME_MEMORY, .sectors = (const uint8_t(*)[512])sectors, .sectors_count = 137};
   want("operation_at of none", sandbox_operation_at(&session, 0, &operation) == SANDBOX_MISUSE && same(&operation, &operation_before, sizeof operation));
@@ -118,6 +117,175 @@ static void misuse(void) {
     want("unload", sandbox_unload(&loaded) == SANDBOX_OK);
   }
   printf("misuse: %u wrong\n", wrong);
+}
+
+/* A session of the module with these limits, run to its end: how its opening is answered, its kind and the errno of its first call. */
+static uint32_t limited(const sandbox_limits *limits, sandbox_session **session, sandbox_told *told, uint32_t *errno_told) {
+  sandbox_supplies given = supplies();
+  sandbox_why why = {0};
+  given.limits = *limits;
+  uint32_t answer = sandbox_open(session, module.at, module.length, &given, &fresh, &why);
+  if (answer)
+    return answer;
+  want("resume", sandbox_resume(session, 1000, told) == SANDBOX_OK);
+  *errno_told = told->code;
+  while (told->kind & SANDBOX_GOES_ON)
+    want("resume", sandbox_resume(session, 1000, told) == SANDBOX_OK);
+  return 0;
+}
+
+/* What a guest that writes three bytes leaves, by each bound; and limits that can't be. */
+static void limits(void) {
+  static const uint64_t bounds[] = {0, 1, 2, 3, 4, 16777216, UINT64_MAX};
+  sandbox_session *session = NULL;
+  sandbox_told told = {0};
+  uint32_t code = 0;
+  for (size_t n = 0; n < sizeof bounds / sizeof *bounds; n++) {
+    const sandbox_limits some = {.output = bounds[n]};
+    uint8_t room[8] = {0};
+    size_t kept = bounds[n] && bounds[n] < 3 ? bounds[n] : 3;
+    want("open within a bound", limited(&some, &session, &told, &code) == 0 && told.kind == SANDBOX_EXITED);
+    want("a write past the bound is answered 29", code == (kept < 3 ? 29u : 0u));
+    for (int finished = 0; finished < 2; finished++) {
+      want("what there is room for is kept", sandbox_output(&session, 1, 0, room, sizeof room) == kept && same(room, "hi\n", kept));
+      want("full", sandbox_full(&session, 1) == (kept < 3) && sandbox_full(&session, 2) == 0 && sandbox_full(&session, 0) == 0);
+      sandbox_finish(&session);
+    }
+    want("close", sandbox_close(&session) == SANDBOX_OK && sandbox_full(&session, 1) == 0);
+  }
+  const sandbox_limits odd[] = {{.pages = 65537}, {.pages = UINT32_MAX}, {.later = {1}}, {.later = {0, 0, 0, 0, 0, UINT64_MAX}}};
+  for (size_t n = 0; n < sizeof odd / sizeof *odd; n++)
+    want("a limit that can't be is 15", limited(&odd[n], &session, &told, &code) == 15 && !session);
+  /* the sum, by hand: 64 MiB + 8 MiB + 2 * 16 MiB + 8 MiB and what is passed; 65,536 + 8 * 4,097 + 2 + 8 MiB */
+  const sandbox_limits none = {0}, least = {.pages = 1, .values = 1, .output = 1}, most = {.output = UINT64_MAX};
+  want("the sum of the defaults", sandbox_most_held(&none, 0, 0, 0) == 117440512 && sandbox_most_held(&none, 10, 100, 1000) == 117440512 + 1280 + 52000 + 1040000);
+  want("the sum of the least", sandbox_most_held(&least, 0, 0, 0) == 65536 + 32776 + 2 + 8388608);
+  want("a sum past 2^64", sandbox_most_held(&most, 0, 0, 0) == UINT64_MAX && sandbox_most_held(&none, SIZE_MAX, 0, 0) == UINT64_MAX && sandbox_most_held(&none, 0, 0, SIZE_MAX) == UINT64_MAX);
+  printf("limits: %u wrong\n", wrong);
+}
+
+/* The calls by name, with the numbers of 0.9.3. A number never moves: a call to come goes behind the last. */
+static const struct {
+  const char *name;
+  uint32_t number, first;
+} calls[] = {
+    {"args_sizes_get", SANDBOX_CALL_ARGS_SIZES_GET, 0}, {"args_get", SANDBOX_CALL_ARGS_GET, 1}, {"environ_sizes_get", SANDBOX_CALL_ENVIRON_SIZES_GET, 2},
+    {"environ_get", SANDBOX_CALL_ENVIRON_GET, 3}, {"clock_res_get", SANDBOX_CALL_CLOCK_RES_GET, 4}, {"clock_time_get", SANDBOX_CALL_CLOCK_TIME_GET, 5},
+    {"random_get", SANDBOX_CALL_RANDOM_GET, 6}, {"fd_close", SANDBOX_CALL_FD_CLOSE, 8}, {"fd_fdstat_get", SANDBOX_CALL_FD_FDSTAT_GET, 9},
+    {"fd_filestat_get", SANDBOX_CALL_FD_FILESTAT_GET, 10}, {"fd_filestat_set_size", SANDBOX_CALL_FD_FILESTAT_SET_SIZE, 11},
+    {"fd_prestat_get", SANDBOX_CALL_FD_PRESTAT_GET, 12}, {"fd_prestat_dir_name", SANDBOX_CALL_FD_PRESTAT_DIR_NAME, 13}, {"fd_read", SANDBOX_CALL_FD_READ, 14},
+    {"fd_pread", SANDBOX_CALL_FD_PREAD, 15}, {"fd_write", SANDBOX_CALL_FD_WRITE, 16}, {"fd_pwrite", SANDBOX_CALL_FD_PWRITE, 17}, {"fd_seek", SANDBOX_CALL_FD_SEEK, 18},
+    {"fd_tell", SANDBOX_CALL_FD_TELL, 19}, {"fd_sync", SANDBOX_CALL_FD_SYNC, 20}, {"fd_datasync", SANDBOX_CALL_FD_DATASYNC, 21}, {"fd_readdir", SANDBOX_CALL_FD_READDIR, 22},
+    {"path_create_directory", SANDBOX_CALL_PATH_CREATE_DIRECTORY, 23}, {"path_filestat_get", SANDBOX_CALL_PATH_FILESTAT_GET, 24}, {"path_open", SANDBOX_CALL_PATH_OPEN, 25},
+    {"path_remove_directory", SANDBOX_CALL_PATH_REMOVE_DIRECTORY, 26}, {"path_rename", SANDBOX_CALL_PATH_RENAME, 27}, {"path_unlink_file", SANDBOX_CALL_PATH_UNLINK_FILE, 28},
+    {"sched_yield, which has no row", SANDBOX_CALL_NOSYS, 29}};
+
+/* A guest makes each call once, in this order, and proc_exit at last: each is told by its number in the header. */
+static void numbers(void) {
+  sandbox_supplies given = supplies();
+  sandbox_session *session = NULL;
+  sandbox_why why = {0};
+  sandbox_told told = {0};
+  want("open", sandbox_open(&session, module.at, module.length, &given, &fresh, &why) == SANDBOX_OK);
+  for (size_t n = 0; n < sizeof calls / sizeof *calls; n++) {
+    want("resume", sandbox_resume(&session, 1000, &told) == SANDBOX_OK && told.kind == SANDBOX_CALLED);
+    if (told.call != calls[n].number || told.call != calls[n].first) {
+      wrong++;
+      printf("wrong: %s is told as %u, and is %u in the header and %u in that of 0.9.3\n", calls[n].name, told.call, calls[n].number, calls[n].first);
+    }
+  }
+  want("the end", SANDBOX_CALL_PROC_EXIT == 7 && sandbox_resume(&session, 1000, &told) == SANDBOX_OK && told.kind == SANDBOX_EXITED && told.call == 0);
+  want("close", sandbox_close(&session) == SANDBOX_OK);
+  printf("%zu calls by their numbers: %u wrong\n", sizeof calls / sizeof *calls, wrong);
+}
+
+/* Files of all kinds by their descriptors; `closed` is one that was. */
+typedef struct {
+  FILE *file;
+  int disk, folder, zeros, full, writes, closed, ends[2];
+} files;
+
+/* Descriptors that are no volume, and that nothing can be settled on. */
+static void wrong_volumes(const files *has) {
+  sandbox_supplies given = supplies();
+  sandbox_session *session = NULL;
+  sandbox_volume volume = {.kind = 7}, before = volume;
+  sandbox_why why = {0};
+  size_t done = 0;
+  const struct {
+    int fd, why;
+  } odd[] = {{-1, EBADF}, {INT32_MIN, EBADF}, {INT32_MAX, EBADF}, {has->closed, EBADF}, {has->ends[0], ESPIPE}, {has->writes, EBADF}, {has->folder, EISDIR}};
+  for (size_t n = 0; n < sizeof odd / sizeof *odd; n++) {
+    errno = 0;
+    want("no volume from such a descriptor", sandbox_volume_from(odd[n].fd, &volume) == SANDBOX_DEVICE_FAILED && errno == odd[n].why && same(&volume, &before, sizeof volume));
+  }
+  for (int n = 0; n <= 2; n++)
+    want("a volume from a standard stream is misuse", sandbox_volume_from(n, &volume) == SANDBOX_MISUSE && same(&volume, &before, sizeof volume));
+  want("a device without sectors is no volume", sandbox_volume_from(has->zeros, &volume) == SANDBOX_OK && volume.sectors_count == 0 &&
+       sandbox_open(&session, module.at, module.length, &given, &volume, &why) == 30 && !session);
+  sandbox_volume_free(&volume);
+  want("volume_from", sandbox_volume_from(has->disk, &volume) == SANDBOX_OK && volume.sectors_count == 1000);
+  want("open", sandbox_open(&session, module.at, module.length, &given, &volume, &why) == SANDBOX_OK);
+  sandbox_volume_free(&volume);
+  for (int n = -1; n <= 2; n++) {
+    errno = 0;
+    want("nothing is settled on such a descriptor", sandbox_settle(&session, n, &done) == (n < 0 ? SANDBOX_DEVICE_FAILED : SANDBOX_MISUSE) && done == 0 && errno == (n < 0 ? EBADF : 0));
+  }
+  want("settle", sandbox_settle(&session, has->disk, &done) == SANDBOX_OK && done > 0);
+  want("close", sandbox_close(&session) == SANDBOX_OK);
+}
+
+/* Output to, and input from, descriptors that can't take or give it. */
+static void wrong_streams(const files *has) {
+  sandbox_supplies given = supplies();
+  sandbox_session *session = NULL;
+  sandbox_bytes input = {0};
+  sandbox_why why = {0};
+  sandbox_told told = {0};
+  size_t from = 0;
+  want("open", sandbox_open(&session, module.at, module.length, &given, &fresh, &why) == SANDBOX_OK && sandbox_resume(&session, 1000, &told) == SANDBOX_OK);
+  want("output to a full device", sandbox_output_to(&session, 1, has->full, &from) == SANDBOX_DEVICE_FAILED && errno == ENOSPC && from == 0);
+  want("output to a closed descriptor", sandbox_output_to(&session, 1, has->closed, &from) == SANDBOX_DEVICE_FAILED && errno == EBADF && from == 0);
+  want("output to a pipe", sandbox_output_to(&session, 1, has->ends[1], &from) == SANDBOX_OK && from == 3);
+  want("output past the end", (from = 9, sandbox_output_to(&session, 1, has->ends[1], &from) == SANDBOX_OK && from == 9));
+  want("close", sandbox_close(&session) == SANDBOX_OK);
+  lseek(has->folder, 0, SEEK_SET);
+  want("no input from a folder", sandbox_input_from(has->folder, &input) == SANDBOX_DEVICE_FAILED && errno == EISDIR && !input.at);
+  want("no input from a closed descriptor", sandbox_input_from(has->closed, &input) == SANDBOX_DEVICE_FAILED && errno == EBADF && !input.at);
+  want("no input without end", sandbox_input_from(has->zeros, &input) == SANDBOX_DEVICE_FAILED && errno == EFBIG && !input.at);
+  close(has->ends[1]);
+  want("input from a pipe", sandbox_input_from(has->ends[0], &input) == SANDBOX_OK && input.length == 3 && same(input.at, "hi\n", 3));
+  free((void *)input.at);
+}
+
+/* A standard stream is closed, and its number goes to the next file. (Not 1, where this is told.) */
+static void apart(const files *has) {
+  want("apart of none", sandbox_apart(-1) == -1 && sandbox_apart(has->disk) == has->disk);
+  for (int n = 0; n <= 2; n += 2) {
+    int stream = dup(n);
+    close(n);
+    int first = open("/", O_RDONLY), other = sandbox_apart(first);
+    want("apart", first == n && other > 2 && fcntl(other, F_GETFD) == FD_CLOEXEC && fcntl(n, F_GETFD) == -1);
+    close(other);
+    dup2(stream, n);
+    close(stream);
+  }
+}
+
+/* Descriptors that a host hands in by mistake, and those that it has where its own standard streams are closed. */
+static void descriptors(const char *path) {
+  static uint8_t disk[1000][512];
+  files has = {.file = tmpfile(), .folder = open("/", O_RDONLY), .zeros = open("/dev/zero", O_RDONLY), .full = open("/dev/full", O_WRONLY), .writes = open(path, O_WRONLY)};
+  has.disk = has.file ? fileno(has.file) : -1;
+  has.closed = dup(has.disk);
+  want("files to try", has.disk > 2 && has.folder > 2 && has.zeros > 2 && has.full > 2 && has.writes > 2 && has.closed > 2 && !pipe(has.ends) && !close(has.closed));
+  want("format", sandbox_format(disk, 1000, 16) == SANDBOX_OK && pwrite(has.disk, disk, sizeof disk, 0) == sizeof disk);
+  wrong_volumes(&has);
+  wrong_streams(&has);
+  apart(&has);
+  fclose(has.file);
+  close(has.ends[0]), close(has.folder), close(has.zeros), close(has.full), close(has.writes);
+  printf("descriptors: %u wrong\n", wrong);
 }
 
 enum { STOP_SECTORS = 1000, STOPS = 20000 };
@@ -342,6 +510,12 @@ int main(int argc, char **argv) {
   fclose(file);
   if (!strcmp(argv[2], "misuse"))
     misuse();
+  else if (!strcmp(argv[2], "limits"))
+    limits();
+  else if (!strcmp(argv[2], "numbers"))
+    numbers();
+  else if (!strcmp(argv[2], "descriptors"))
+    descriptors(argv[3]);
   else if (!strcmp(argv[2], "stops"))
     stops();
   else if (!strcmp(argv[2], "synced"))

@@ -3,7 +3,7 @@ use Rattle.std.proofs.Common.{◌≡◌, ℕ, suc, ◌+◌, ◌-◌, ◌<◌, �
 use Rattle.std.proofs.lemmas.Bool.{lt-ltb, le-ltb, lt-leb}
 use Rattle.wasm_module.specs.Reading.{◌>>=◌, u32_at, sized_at, raw_of}
 use Rattle.module_survey.specs.declared.sections.Wanted.{Wanted}
-use Rattle.module_survey.specs.Places.{Section, section_of, is_wanted, find_section, holding_entry, name_among}
+use Rattle.module_survey.specs.Places.{Section, section_of, is_wanted, find_section, holding_entry, name_among, Exported, exported_of, exports_function, exported_among}
 
 -- of `most` turns the one after the first i
 one_less : (most i : ℕ) → i < most → most - i ≡ suc (most - (i + 1))
@@ -91,3 +91,23 @@ module _ (count i index : ℕ) (rest : List ℕ) where
 
   pub name_done : count ≤ i → name_among (count - i) index rest ≡ None
   name_done h = ap (λ (n : ℕ). name_among n index rest) (none_left count i h)
+
+-- ---- an export
+
+module _ (count i index : ℕ) (rest : List ℕ) where
+  pub export_turn : i < count → (o : Option Exported) → exported_of rest ≡ o
+      → exported_among (count - i) index rest ≡ (o >>= λ e. cond (exports_function index e) (Some e.name) (exported_among (count - (i + 1)) index e.rest))
+  export_turn h o is = ap (λ (n : ℕ). exported_among n index rest) (one_less count i h)
+      ∙ ap (λ (o : Option Exported). o >>= λ e. cond (exports_function index e) (Some e.name) (exported_among (count - (i + 1)) index e.rest)) is
+
+  pub export_on : (e : Exported) → i < count → exported_of rest ≡ Some e → exports_function index e ≡ false → exported_among (count - i) index rest ≡ exported_among (count - (i + 1)) index e.rest
+  export_on e h is other = export_turn h (Some e) is ∙ ap (λ (b : Bool). cond b (Some e.name) (exported_among (count - (i + 1)) index e.rest)) other
+
+  pub export_none : i < count → exported_of rest ≡ None → exported_among (count - i) index rest ≡ None
+  export_none h none = export_turn h None none
+
+  pub export_here : (e : Exported) → i < count → exported_of rest ≡ Some e → exports_function index e ≡ true → exported_among (count - i) index rest ≡ Some e.name
+  export_here e h is here = export_turn h (Some e) is ∙ ap (λ (b : Bool). cond b (Some e.name) (exported_among (count - (i + 1)) index e.rest)) here
+
+  pub export_done : count ≤ i → exported_among (count - i) index rest ≡ None
+  export_done h = ap (λ (n : ℕ). exported_among n index rest) (none_left count i h)

@@ -9,7 +9,7 @@ use Rattle.wasm_module.specs.Module.{Spells}
 use Rattle.wasm_module.specs.Reading.{◌>>=◌, next_at, u32_at, sized_at, raw_of}
 use Rattle.wasm_valid.specs.Validity.{kinds_of, imported_function}
 use Rattle.module_survey.specs.declared.sections.Wanted.{Wanted}
-use Rattle.module_survey.specs.declared.sections.Wanted.TheVariants.{Code, AfterImports, Names, FunctionNames}
+use Rattle.module_survey.specs.declared.sections.Wanted.TheVariants.{Code, AfterImports, Names, FunctionNames, Exports}
 
 -- ---- sections (section 5.5.2), whatever they hold
 
@@ -34,6 +34,7 @@ is_wanted Code s = s.id == 10
 is_wanted AfterImports s = nat_lt 2 s.id
 is_wanted Names s = s.id == 0 && is_named (codes "name") s.content
 is_wanted FunctionNames s = s.id == 1
+is_wanted Exports s = s.id == 7
 
 -- the first of so many that is wanted
 abbrev pub find_section : Wanted → ℕ → List ℕ → Option Section
@@ -82,3 +83,34 @@ name_among (suc n) index bytes = u32_at bytes >>= λ i. sized_at raw_of i.1 >>= 
 abbrev pub function_name : List ℕ → ℕ → Option (List ℕ)
 function_name bytes index = module_section Names bytes >>= λ s. sized_at raw_of s.content >>= λ n.
     find_section FunctionNames (length n.1) n.1 >>= λ f. u32_at f.content >>= λ count. name_among count.0 index count.1
+
+-- ---- names of exports
+
+-- an export among some bytes (section 5.5.10): its name, its kind and its index, and the bytes after it
+pub record Exported : Type 0 where
+  pub name : List ℕ
+  pub kind : ℕ
+  pub index : ℕ
+  pub rest : List ℕ
+
+-- the one that the bytes begin with
+abbrev pub exported_of : List ℕ → Option Exported
+exported_of bytes = sized_at raw_of bytes >>= λ name. next_at name.1 >>= λ kind. u32_at kind.1 >>= λ x.
+    Some (record { name = name.0; kind = kind.0; index = x.0; rest = x.1 })
+
+-- it is that of the function of this index
+abbrev pub exports_function : ℕ → Exported → Bool
+exports_function index e = e.kind == 0 && e.index == index
+
+-- the name of the first export of this function among so many
+abbrev pub exported_among : ℕ → ℕ → List ℕ → Option (List ℕ)
+exported_among zero index bytes = None
+exported_among (suc n) index bytes = exported_of bytes >>= λ e. if exports_function index e then Some e.name else exported_among n index e.rest
+
+-- the name that a function is exported by first
+abbrev pub exported_name : List ℕ → ℕ → Option (List ℕ)
+exported_name bytes index = module_section Exports bytes >>= λ s. u32_at s.content >>= λ count. exported_among count.0 index count.1
+
+-- what a function is called: its name in the section `name`, or else that of its first export
+abbrev pub called : List ℕ → ℕ → Option (List ℕ)
+called bytes index = option_map_or (λ name. Some name) (function_name bytes index) (exported_name bytes index)

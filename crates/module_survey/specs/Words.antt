@@ -1,6 +1,6 @@
 -- How names and numbers are printed, as bytes of ASCII. In a name a backslash, and each byte that is no visible
 -- character of ASCII, becomes a backslash and two hexadecimal digits, so that no blank and no line break stands in it.
-use Rattle.std.specs.Prelude.{ℕ, ◌+◌, ◌/◌, ◌%◌, ◌==◌, ◌&&◌, nat_lt, not, Bool, List, [], ◌∷◌, Option, Some, None, if◌then◌else◌, codes, decimal}
+use Rattle.std.specs.Prelude.{ℕ, ◌+◌, ◌/◌, ◌%◌, ◌==◌, ◌&&◌, nat_lt, not, Bool, List, [], ◌∷◌, ◌++◌, Option, Some, None, if◌then◌else◌, codes, decimal}
 use Rattle.std.specs.List.{flat_map}
 
 abbrev pub SurveyText : Type 0
@@ -31,3 +31,8 @@ number_text (Some n) = decimal n
 abbrev pub number_or_none : Option ℕ → SurveyText
 number_or_none None = codes "none"
 number_or_none (Some n) = decimal n
+
+-- what a function is called, by its name or by its index where it has none
+abbrev pub called_text : ℕ → Option (List ℕ) → SurveyText
+called_text index (Some name) = name_text name
+called_text index None = codes "function[" ++ (decimal index ++ codes "]")

@@ -4,6 +4,7 @@
 mod functions;
 mod links;
 mod listing;
+mod naming;
 mod places;
 mod printing;
 mod refusal;
@@ -12,4 +13,6 @@ mod surveying;
 mod words;
 
 pub use links::Links;
+pub use naming::{add_called, called};
+pub use places::function_name;
 pub use surveying::survey;

@@ -93,7 +93,7 @@ fn name_among(count: u32, index: u64, pairs: &[u8]) -> Option<&[u8]>
 }
 
 /// A function's name in the custom section `name`.
-pub(crate) fn function_name(bytes: &[u8], index: u64) -> Option<&[u8]>
+pub fn function_name(bytes: &[u8], index: u64) -> Option<&[u8]>
     ensures { option_map (λ name. name.now) result ≡ function_name bytes.now index }
 {
     let section = module_section(Wanted::Names, bytes)?;

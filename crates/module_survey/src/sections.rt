@@ -17,6 +17,7 @@ pub(crate) enum Wanted {
     Names,
     /// In the content of that one, the subsection of functions' names.
     FunctionNames,
+    Exports,
 }
 
 /// A section: the bytes from its id on, what it holds, and the bytes after it.
@@ -117,6 +118,7 @@ fn is_wanted(wanted: Wanted, section: &Section<'_>) -> bool
         Wanted::AfterImports => section.id > 2,
         Wanted::Names => section.id == 0 && is_named(b"name", section.content),
         Wanted::FunctionNames => section.id == 1,
+        Wanted::Exports => section.id == 7,
     }
 }
 

@@ -1,12 +1,12 @@
 //! What C calls (`include/sandbox.h`). Each export is one call of `sandbox_host`, under its contract.
 #![tactic(auto)]
 
-ghost use Rattle.std.specs.Prelude.{◌≡◌, ◌≢◌, ◌⊎◌, None, Some, IfSome, IsSomeAnd, is_none, true, false, length, drop};
+ghost use Rattle.std.specs.Prelude.{◌≡◌, ◌≢◌, ◌⊎◌, None, Some, IfSome, IsSomeAnd, is_none, true, false, length, drop, if◌then◌else◌};
 ghost use Rattle.vol_sector.specs.Record.{image_of};
 ghost use Rattle.vol_tree.specs.Fresh.{fresh};
 ghost use Rattle.vol_tree.specs.Stands.{StandsAs, empty_tree};
 ghost use Rattle.wasm_module.specs.declared.module.Module.{Module as ModuleValue};
-ghost use Rattle.sandbox_host.specs.Sessions.{running, finished, loaded, has_session, has_module, output, sectors};
+ghost use Rattle.sandbox_host.specs.Sessions.{running, finished, loaded, has_session, has_module, output, most_of, was_filled, sectors};
 ghost use Rattle.sandbox_host.specs.Sessions.{IsLoaded, IsShown, Begins, BeginsFrom, Paused, Finishes};
 ghost use Rattle.sandbox_host.specs.Recording.{recorded, operation_of, told_operation};
 ghost use Rattle.sandbox_host.specs.Volumes.{origin_of};
@@ -152,6 +152,17 @@ pub extern "C" fn sandbox_output(
     ensures kept { session.new.held ≡ session.old.held }
 {
     sandbox_host::output(alloc, session, descriptor, from, room)
+}
+
+/// Whether a write was refused since the guest has written as much as it may.
+#[unsafe(no_mangle)]
+pub extern "C" fn sandbox_full(alloc: Global, session: &mut Handle, descriptor: u32) -> u32
+    ensures told { result ≡ (if was_filled session.old.held descriptor then 1 else 0) }
+    ensures filled { result ≡ 1
+        → length (output session.old.held descriptor) ≡ most_of session.old.held descriptor }
+    ensures kept { session.new.held ≡ session.old.held }
+{
+    sandbox_host::full(alloc, session, descriptor)
 }
 
 /// Commits, and ends the run.

@@ -3,3 +3,4 @@ pub mod Headline
 pub mod Safety
 pub mod Following
 pub mod Places
+pub mod Refusing

@@ -6,15 +6,22 @@ pub mod laws;
 mod loading;
 mod report;
 mod session;
+mod shared;
+mod shared_report;
 mod tally;
 
 pub use fault::SessionFault;
 pub use loading::load;
 pub use report::{Report, run, run_counted, run_counted_with_module};
 pub use session::{Finished, RefusedSession, Session};
+pub use shared::{RefusedParts, SharedModule, SharedSession};
+pub use shared_report::run_counted_shared;
 pub use tally::Tally;
 pub use vol_sector::Refused;
 pub use vol_tree::Volume;
 pub use wasi_calls::{HostParts, Preopen, Settings};
-pub use wasm_interp::{Errno, Host, HostCall, InstanceFault, Outcome, Pause, Trap};
+pub use wasm_interp::{
+    Errno, Frame, Host, HostCall, InstanceFault, Outcome, Pause, Trap,
+    frames_are_the_configurations,
+};
 pub use wasm_valid::{LoadFault, Valid};

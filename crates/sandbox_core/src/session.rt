@@ -1,8 +1,10 @@
 //! Sessions of a guest.
 
-ghost use Rattle.std.specs.Prelude.{◌≡◌, ◌+◌, ◌^◌, ◌<◌, ◌/◌, IfOk, IfErr, length};
+ghost use Rattle.std.specs.Prelude.{◌≡◌, ◌+◌, ◌^◌, ◌<◌, ◌/◌, IfOk, IfErr, length, slice_get};
+ghost use Rattle.wasm_interp.specs.Frames.{frames_of};
+ghost use Rattle.wasm_interp.specs.Machine.{Snapshot};
 ghost use Rattle.sandbox_core.specs.Devices.{devices};
-ghost use Rattle.sandbox_core.specs.Session.{given, Commits};
+ghost use Rattle.sandbox_core.specs.Session.{given, Commits, Finishes};
 
 use crate::fault::{SessionFault, of_host, of_instance};
 use std::alloc::Global;
@@ -11,7 +13,7 @@ use std::marker::Model;
 use vol_sector::{Device, Refused, VolumeFault};
 use vol_tree::Volume;
 use wasi_calls::{HostParts, RefusedHost, Settings, WasiHost};
-use wasm_interp::{Machine, Pause, RefusedInstance};
+use wasm_interp::{Frame, Machine, Pause, RefusedInstance};
 use wasm_valid::Valid;
 
 /// A guest with its volume and its streams, which runs as far as it is let.
@@ -65,6 +67,32 @@ fn committed<D: Device>(mut volume: Volume<D>) -> Result<Volume<D>, Refused<D>>
     Ok(volume)
 }
 
+/// Commits all calls so far, and gives back what a host has: the volume and the streams.
+pub(crate) fn give_back<D, R, W1, W2>(
+    host: WasiHost<'_, '_, D, R, W1, W2>,
+) -> Finished<D, R, W1, W2>
+where
+    D: Device + Drop,
+    R: Read + Drop,
+    W1: Write + Drop,
+    W2: Write + Drop,
+    ensures { (machine : Snapshot) → Finishes D.Device (record { machine = machine; host = host.entry }) result }
+{
+    let HostParts {
+        settings: _,
+        volume,
+        input,
+        out,
+        err,
+    } = host.into_parts();
+    Finished {
+        volume: committed(volume),
+        input,
+        out,
+        err,
+    }
+}
+
 impl<'a, 's, 't, D, R, W1, W2> Session<'a, 's, 't, D, R, W1, W2>
 where
     D: Device + Drop,
@@ -73,7 +101,7 @@ where
     W2: Write + Drop,
 {
     ghost use Rattle.wasi_calls.specs.host.Worlds.{stream_failed};
-    ghost use Rattle.sandbox_core.specs.Session.{used_by, seeded_by, Opens, Shares, HandsBack, IsRefused, Resumes, Finishes};
+    ghost use Rattle.sandbox_core.specs.Session.{used_by, seeded_by, Opens, Shares, HandsBack, IsRefused, Resumes};
 
     /// A session of the module, which has used nothing yet. The streams are the descriptors 0 to 2, and the preopened
     /// directories of the settings those from 3 on.
@@ -175,6 +203,14 @@ where
         self.machine.pages()
     }
 
+    /// The function at work with so many inside it: 0 is the innermost. Where the run goes on, and out of fuel, they are those of
+    /// the configuration; of a trap, and out of memory, those that were at work then (`frames_are_the_configurations`).
+    pub fn frame(&self, index: usize) -> Option<Frame>
+        ensures { result ≡ slice_get (frames_of self.now.machine) index }
+    {
+        self.machine.frame(index)
+    }
+
     /// The writer of descriptor 1, with what the guest has written there so far.
     pub fn out(&self) -> &W1
         ensures { result.now ≡ self.now.host.out.writer }
@@ -220,19 +256,7 @@ where
         ensures finishes { Finishes D.Device self.entry result.1 }
     {
         let Session { machine, host } = self;
-        let HostParts {
-            settings: _,
-            volume,
-            input,
-            out,
-            err,
-        } = host.into_parts();
-        let finished = Finished {
-            volume: committed(volume),
-            input,
-            out,
-            err,
-        };
+        let finished = give_back(host);
         (machine.into_valid(), finished)
     }
 }

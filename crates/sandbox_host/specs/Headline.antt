@@ -10,6 +10,7 @@ use Rattle.sandbox_host.specs.declared.numbers.Told.{Told}
 use Rattle.sandbox_host.specs.declared.supplies.Supplies.{Supplies}
 use Rattle.sandbox_host.specs.declared.volumes.Origin.{Origin}
 use Rattle.sandbox_host.specs.Numbers.{told_pause}
+use Rattle.sandbox_host.specs.Supplies.{most_pages}
 use Rattle.sandbox_host.specs.Host.{State, known}
 use Rattle.sandbox_host.specs.Sessions.{Begins, Paused}
 
@@ -36,4 +37,4 @@ abbrev pub HostHeadline : Type 0
 HostHeadline = (m : Module) (supplies : Supplies) (origin : Origin) (s s' : State) (rs : List (Told × State))
     → (begins : Begins m supplies origin s) → Resumed s rs s'
     → (all : HostUpholds m supplies s rs s')
-    × headline.Upholds known m supplies.pages (begins.volume.tree ∷ []) 0 s all.history s'
+    × headline.Upholds known m (most_pages supplies.limits) (begins.volume.tree ∷ []) 0 s all.history s'

@@ -1,9 +1,8 @@
 -- Sessions as a host in C has them: over a device in memory, with input from bytes, and with output that is kept as
 -- bytes. Most names here are definitions of other crates (such as `sandbox_core`) at these types, so that the other
 -- files can leave the types out.
-use Rattle.std.specs.Prelude.{ℕ, List, Option, Some, Result, Vec}
+use Rattle.std.specs.Prelude.{ℕ, List, Option, Some, Result}
 use Rattle.std.specs.Borrow.{Bor}
-use Rattle.std.specs.declared.alloc.Global.{Global}
 use Rattle.vol_sector.specs.Disk.{Disk}
 use Rattle.vol_sector.specs.declared.fault.Refused.{Refused}
 use Rattle.vol_tree.specs.Opened.{Opened}
@@ -12,6 +11,7 @@ use Rattle.wasm_steps.specs.declared.pause.Pause.{Pause}
 use Rattle.wasi_calls.specs.declared.host.wasi_host.HostParts.{HostParts}
 use Rattle.sandbox_device.specs.declared.recorded_device.RecordedDevice.{RecordedDevice}
 use Rattle.sandbox_device.specs.contracts.recorded_device.RecordedDeviceDevice.TheImpl.{ghosts}
+use Rattle.sandbox_host.specs.declared.kept.Kept.{Kept}
 use Rattle.sandbox_core.specs.Devices.{Devices}
 use Rattle.sandbox_core.specs.Session as core
 use Rattle.sandbox_core.specs.declared.report.Report.{Report}
@@ -31,13 +31,13 @@ abbrev pub failures_of : RecordedDevice → ℕ
 failures_of = ghosts.failures
 
 abbrev pub Bytes : Type 0
-Bytes = Vec ℕ Global
+Bytes = Kept
 
 abbrev pub remaining : Bor (List ℕ) → Option (List ℕ)
 remaining input = Some input.now
 
 abbrev pub items_written : Bytes → Option (List ℕ)
-items_written bytes = Some bytes.items
+items_written kept = Some kept.bytes.items
 
 -- what is known of all of them
 abbrev pub known : Devices RecordedDevice (Bor (List ℕ)) Bytes Bytes

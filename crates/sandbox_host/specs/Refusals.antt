@@ -1,6 +1,6 @@
 -- Why a module isn't loaded and a session doesn't begin, and with which number it is told. `NotLoaded` is for a module
 -- alone, `NotBegun` for a session of a loaded one, and `NotOpened` for both in one call.
-use Rattle.std.specs.Prelude.{◌≡◌, ◌≢◌, ◌⊎◌, ℕ, List}
+use Rattle.std.specs.Prelude.{◌≡◌, ◌≢◌, ◌⊎◌, ℕ, List, false}
 use Rattle.vol_sector.specs.declared.fault.VolumeFault.{VolumeFault}
 use Rattle.wasm_module.specs.declared.module.Module.{Module}
 use Rattle.wasm_module.specs.declared.fault.LoadFault.{LoadFault}
@@ -15,7 +15,7 @@ use Rattle.sandbox_host.specs.declared.numbers.Why.{Why}
 use Rattle.sandbox_host.specs.declared.supplies.Supplies.{Supplies}
 use Rattle.sandbox_host.specs.declared.volumes.Origin.{Origin}
 use Rattle.sandbox_host.specs.Numbers.{why_of, session_number, volume_number}
-use Rattle.sandbox_host.specs.Supplies.{settings_of}
+use Rattle.sandbox_host.specs.Supplies.{is_known, settings_of}
 use Rattle.sandbox_host.specs.Host.{Bytes, HostVolume, IsHonest}
 use Rattle.sandbox_host.specs.Volumes.{IsVolume, RefusesVolume}
 use Rattle.sandbox_host.specs.Sessions.{IsLoaded}
@@ -48,9 +48,14 @@ pub record NoSession (m : Module) (supplies : Supplies) (origin : Origin) (numbe
   pub no_device : fault ≢ Device
   pub tells : number ≡ session_number fault
 
--- A session of the module doesn't begin: the volume is refused, then the session.
+-- a limit is named that isn't known yet
+pub record NoLimit (supplies : Supplies) (number : ℕ) : Type 0 where
+  pub unknown : is_known supplies.limits ≡ false
+  pub tells : number ≡ 15
+
+-- A session of the module doesn't begin: a limit is refused, then the volume, then the session.
 abbrev pub NotBegun : Module → Supplies → Origin → ℕ → Type 0
-NotBegun m supplies origin number = NoVolume origin number ⊎ NoSession m supplies origin number
+NotBegun m supplies origin number = NoLimit supplies number ⊎ (NoVolume origin number ⊎ NoSession m supplies origin number)
 
 -- the module was loaded, and no session of it begins, or memory for it was refused
 pub record NotBegunFrom (bytes : List ℕ) (supplies : Supplies) (origin : Origin) (number : ℕ) : Type 0 where

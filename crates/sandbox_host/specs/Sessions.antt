@@ -16,7 +16,7 @@ use Rattle.sandbox_host.specs.declared.held.Held.{Held}
 use Rattle.sandbox_host.specs.declared.held.Held.TheVariants.{Loaded, Running, Finished, Nothing}
 use Rattle.sandbox_host.specs.declared.held.Ended.{Ended}
 use Rattle.sandbox_host.specs.Numbers.{told_pause}
-use Rattle.sandbox_host.specs.Supplies.{settings_of}
+use Rattle.sandbox_host.specs.Supplies.{most_output, is_known, settings_of}
 use Rattle.sandbox_host.specs.Host.{HostVolume, Bytes, State, Opens, Shares, Resumes, Commits}
 use Rattle.sandbox_host.specs.Volumes.{IsVolume}
 
@@ -75,7 +75,7 @@ loaded (Some held) = loaded_in held
 
 -- what the guest has written so far to a descriptor
 abbrev pub stream : Bytes → Bytes → ℕ → List ℕ
-stream out err descriptor = if descriptor == 1 then out.items else (if descriptor == 2 then err.items else [])
+stream out err descriptor = if descriptor == 1 then out.bytes.items else (if descriptor == 2 then err.bytes.items else [])
 
 abbrev pub output_of : Held → ℕ → List ℕ
 output_of (Loaded m) descriptor = []
@@ -86,6 +86,33 @@ output_of Nothing descriptor = []
 abbrev pub output : Option Held → ℕ → List ℕ
 output None descriptor = []
 output (Some held) descriptor = output_of held descriptor
+
+-- how much it may write there, and whether a write was refused since it had
+abbrev pub bound : Bytes → Bytes → ℕ → ℕ
+bound out err descriptor = if descriptor == 1 then out.most else (if descriptor == 2 then err.most else 0)
+
+abbrev pub is_filled : Bytes → Bytes → ℕ → Bool
+is_filled out err descriptor = if descriptor == 1 then out.full else (if descriptor == 2 then err.full else false)
+
+abbrev pub bound_of : Held → ℕ → ℕ
+bound_of (Loaded m) descriptor = 0
+bound_of (Running s) descriptor = bound s.host.out.writer s.host.err.writer descriptor
+bound_of (Finished e) descriptor = bound e.out e.err descriptor
+bound_of Nothing descriptor = 0
+
+abbrev pub is_filled_of : Held → ℕ → Bool
+is_filled_of (Loaded m) descriptor = false
+is_filled_of (Running s) descriptor = is_filled s.host.out.writer s.host.err.writer descriptor
+is_filled_of (Finished e) descriptor = is_filled e.out e.err descriptor
+is_filled_of Nothing descriptor = false
+
+abbrev pub most_of : Option Held → ℕ → ℕ
+most_of None descriptor = 0
+most_of (Some held) descriptor = bound_of held descriptor
+
+abbrev pub was_filled : Option Held → ℕ → Bool
+was_filled None descriptor = false
+was_filled (Some held) descriptor = is_filled_of held descriptor
 
 -- the sectors of a finished session's volume
 abbrev pub sectors_of : Held → List (List ℕ)
@@ -106,12 +133,17 @@ IsShown items before after = let count = min (length before) (length items) in a
 
 -- A session of the module over the volume that was named, with what the guest was given, which has used and written nothing.
 pub record Begins (m : Module) (supplies : Supplies) (origin : Origin) (s : State) : Type 0 where
+  pub known : is_known supplies.limits ≡ true
   pub volume : HostVolume
   pub is_volume : IsVolume origin volume
   pub out : Bytes
   pub err : Bytes
-  pub no_output : out.items ≡ []
-  pub no_errors : err.items ≡ []
+  pub no_output : out.bytes.items ≡ []
+  pub no_errors : err.bytes.items ≡ []
+  pub output_bound : out.most ≡ most_output supplies.limits
+  pub errors_bound : err.most ≡ most_output supplies.limits
+  pub output_open : out.full ≡ false
+  pub errors_open : err.full ≡ false
   pub opens : Opens m (given (settings_of supplies) volume supplies.input out err) s
   pub shares : Shares (given (settings_of supplies) volume supplies.input out err) s
 

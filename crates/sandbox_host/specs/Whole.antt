@@ -17,8 +17,8 @@ pub record Ran (bytes : List ℕ) (supplies : Supplies) (fuel : ℕ) (told : Tol
   pub report : HostReport
   pub reports : Reports session fuel report
   pub tells : told ≡ told_end report.outcome report.used
-  pub counted : length_told ≡ length report.out.items
-  pub shown : IsShown report.out.items before after
+  pub counted : length_told ≡ length report.out.bytes.items
+  pub shown : IsShown report.out.bytes.items before after
 
 -- Why sectors aren't made a volume with these numbers: a number is out of its range, or memory was refused.
 abbrev pub IsUnformatted : Superblock → ℕ → Type 0

@@ -1,33 +1,45 @@
 //! What a handle has.
 
 ghost use Rattle.std.specs.Prelude.{◌≡◌, length};
-ghost use Rattle.sandbox_host.specs.Sessions.{stream};
+ghost use Rattle.sandbox_host.specs.Sessions.{stream, is_filled};
 
+use crate::kept::Kept;
 use crate::showing::show_sectors;
 use sandbox_core::{Session, Valid};
 use sandbox_device::RecordedDevice;
 use vol_sector::Device;
 
 /// A session of a host, over its device, whose output is kept in memory.
-pub type HostSession<'a> = Session<'a, 'a, 'a, RecordedDevice, &'a [u8], Vec<u8>, Vec<u8>>;
+pub type HostSession<'a> = Session<'a, 'a, 'a, RecordedDevice, &'a [u8], Kept, Kept>;
 
 /// What a finished session leaves.
 #[derive(Drop)]
 pub struct Ended {
     pub valid: Valid<'static>,
     pub device: RecordedDevice,
-    pub out: Vec<u8>,
-    pub err: Vec<u8>,
+    pub out: Kept,
+    pub err: Kept,
 }
 
 /// Of what was written to descriptor 1 and to 2, that of this descriptor.
-fn stream<'a>(out: &'a Vec<u8>, err: &'a Vec<u8>, descriptor: u32) -> &'a [u8]
+fn stream<'a>(out: &'a Kept, err: &'a Kept, descriptor: u32) -> &'a [u8]
     ensures { result.now ≡ stream out.now err.now descriptor }
 {
     match descriptor {
-        1 => out.as_slice(),
-        2 => err.as_slice(),
+        1 => out.bytes.as_slice(),
+        2 => err.bytes.as_slice(),
         _ => &[],
+    }
+}
+
+/// Whether a write to that descriptor was refused since it has as many bytes as are allowed.
+fn is_filled(out: &Kept, err: &Kept, descriptor: u32) -> bool
+    ensures { result ≡ is_filled out.now err.now descriptor }
+{
+    match descriptor {
+        1 => out.full,
+        2 => err.full,
+        _ => false,
     }
 }
 
@@ -45,7 +57,7 @@ pub enum Held {
 }
 
 impl Held {
-    ghost use Rattle.sandbox_host.specs.Sessions.{is_session, is_loaded, output_of, sectors_of, IsShown};
+    ghost use Rattle.sandbox_host.specs.Sessions.{is_session, is_loaded, output_of, is_filled_of, sectors_of, IsShown};
 
     /// Whether it is a session, finished or not.
     pub(crate) fn is_session(&self) -> bool
@@ -69,6 +81,17 @@ impl Held {
             Held::Running(session) => stream(session.out(), session.err(), descriptor),
             Held::Finished(ended) => stream(&ended.out, &ended.err, descriptor),
             _ => &[],
+        }
+    }
+
+    /// Whether the guest was refused a write to descriptor 1 or 2 since it has written as much as it may.
+    pub(crate) fn is_filled(&self, descriptor: u32) -> bool
+        ensures { result ≡ is_filled_of self.now descriptor }
+    {
+        match self {
+            Held::Running(session) => is_filled(session.out(), session.err(), descriptor),
+            Held::Finished(ended) => is_filled(&ended.out, &ended.err, descriptor),
+            _ => false,
         }
     }
 

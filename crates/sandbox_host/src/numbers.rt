@@ -10,6 +10,9 @@ use vol_sector::VolumeFault;
 /// The call did what it was asked.
 pub const OK: u32 = 0;
 
+/// A setting can't be.
+pub(crate) const SETTING: u32 = 15;
+
 /// The volume's device fails or has failed.
 pub const DEVICE_FAILED: u32 = 33;
 
@@ -92,7 +95,7 @@ pub(crate) fn session_number(fault: SessionFault) -> u32
     ensures some { result ≢ 0 }
 {
     match fault {
-        SessionFault::Setting => 15,
+        SessionFault::Setting => SETTING,
         SessionFault::Instance(fault) => instance_number(fault),
         SessionFault::Device => DEVICE_FAILED,
         SessionFault::Preopen => 16,
@@ -117,18 +120,58 @@ pub(crate) fn volume_number(fault: VolumeFault) -> u32
     }
 }
 
-/// The number of a trap.
+/// The number of a trap. Hosts have it compiled in, so a number never moves: a trap to come has one behind the last.
 fn trap_number(trap: Trap) -> u32
     ensures { result ≡ trap_number trap }
 {
-    trap as u32
+    match trap {
+        Trap::Unreachable => 0,
+        Trap::DivideByZero => 1,
+        Trap::IntegerOverflow => 2,
+        Trap::OutOfBoundsMemory => 3,
+        Trap::UndefinedElement => 4,
+        Trap::UninitializedElement => 5,
+        Trap::IndirectCallMismatch => 6,
+        Trap::CallStackExhausted => 7,
+    }
 }
 
-/// The number of a host's call.
+/// The number of a host's call. Hosts have it compiled in, so a number never moves: a call to come has one behind the last.
 fn call_number(call: HostCall) -> u32
     ensures { result ≡ call_number call }
 {
-    call as u32
+    match call {
+        HostCall::ArgsSizesGet => 0,
+        HostCall::ArgsGet => 1,
+        HostCall::EnvironSizesGet => 2,
+        HostCall::EnvironGet => 3,
+        HostCall::ClockResGet => 4,
+        HostCall::ClockTimeGet => 5,
+        HostCall::RandomGet => 6,
+        HostCall::ProcExit => 7,
+        HostCall::FdClose => 8,
+        HostCall::FdFdstatGet => 9,
+        HostCall::FdFilestatGet => 10,
+        HostCall::FdFilestatSetSize => 11,
+        HostCall::FdPrestatGet => 12,
+        HostCall::FdPrestatDirName => 13,
+        HostCall::FdRead => 14,
+        HostCall::FdPread => 15,
+        HostCall::FdWrite => 16,
+        HostCall::FdPwrite => 17,
+        HostCall::FdSeek => 18,
+        HostCall::FdTell => 19,
+        HostCall::FdSync => 20,
+        HostCall::FdDatasync => 21,
+        HostCall::FdReaddir => 22,
+        HostCall::PathCreateDirectory => 23,
+        HostCall::PathFilestatGet => 24,
+        HostCall::PathOpen => 25,
+        HostCall::PathRemoveDirectory => 26,
+        HostCall::PathRename => 27,
+        HostCall::PathUnlinkFile => 28,
+        HostCall::Nosys => 29,
+    }
 }
 
 /// What is told of an end.

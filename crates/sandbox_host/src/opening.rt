@@ -7,7 +7,10 @@ ghost use Rattle.sandbox_host.specs.Refusals.{NotLoaded, NotBegun, NotOpened};
 
 use crate::handle::Handle;
 use crate::held::{Held, HostSession};
-use crate::numbers::{MISUSE, OK, OUT_OF_MEMORY, Why, session_number, volume_number, why_of};
+use crate::kept::Kept;
+use crate::numbers::{
+    MISUSE, OK, OUT_OF_MEMORY, SETTING, Why, session_number, volume_number, why_of,
+};
 use crate::supplies::Supplies;
 use crate::volumes::{Origin, VolumeSource, open_volume};
 use sandbox_core::{RefusedSession, Session, Valid};
@@ -44,6 +47,12 @@ pub(crate) fn begin<'a>(
     ensures module { IfErr result (λ r. r.valid ≡ valid.entry) }
     ensures some { IfErr result (λ r. r.number ≢ 0) }
 {
+    if !supplies.limits.is_known() {
+        return Err(HandedBack {
+            valid,
+            number: SETTING,
+        });
+    }
     let volume = match open_volume(alloc, origin) {
         Ok(volume) => volume,
         Err(fault) => {
@@ -54,9 +63,13 @@ pub(crate) fn begin<'a>(
         }
     };
     let settings = supplies.settings();
-    let (out, err) = (Vec::new(alloc), Vec::new(alloc));
+    let most = supplies.limits.most_output();
+    let (out, err) = (Kept::new(alloc, most), Kept::new(alloc, most));
     match Session::new(alloc, valid, settings, volume, supplies.input, out, err) {
-        Ok(session) => Ok(session),
+        Ok(mut session) => {
+            session.limit_values(supplies.limits.most_values() as usize);
+            Ok(session)
+        }
         Err(
             RefusedSession {
                 valid,

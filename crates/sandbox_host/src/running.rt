@@ -1,8 +1,8 @@
 //! Sessions that run, what they have written, and their ends.
 
-ghost use Rattle.std.specs.Prelude.{◌≡◌, ◌≢◌, ◌⊎◌, None, Some, IfSome, IsSomeAnd, is_none, true, false, length, drop, min, take, ◌++◌};
+ghost use Rattle.std.specs.Prelude.{◌≡◌, ◌≢◌, ◌⊎◌, None, Some, IfSome, IsSomeAnd, is_none, true, false, length, drop, min, take, ◌++◌, if◌then◌else◌};
 ghost use Rattle.sandbox_host.specs.Sessions.{running, running_in, finished, finished_in, loaded, has_session, has_module};
-ghost use Rattle.sandbox_host.specs.Sessions.{output, sectors, IsShown, Paused, Finishes, returned_device, commit_number};
+ghost use Rattle.sandbox_host.specs.Sessions.{output, most_of, was_filled, sectors, IsShown, Paused, Finishes, returned_device, commit_number};
 
 use crate::handle::Handle;
 use crate::held::{Ended, Held, HostSession};
@@ -65,6 +65,21 @@ pub fn output(
     show(&written[from.min(length)..], room);
     session.put(held);
     length
+}
+
+/// Whether a write to descriptor 1 or 2 was refused since the guest has written as much as it may: 1, or 0.
+pub fn full(alloc: Global, session: &mut Handle, descriptor: u32) -> u32
+    ensures told { result ≡ (if was_filled session.old.held descriptor then 1 else 0) }
+    ensures filled { result ≡ 1
+        → length (output session.old.held descriptor) ≡ most_of session.old.held descriptor }
+    ensures kept { session.new.held ≡ session.old.held }
+{
+    let Some(held) = session.take(alloc) else {
+        return 0;
+    };
+    let answer = u32::from(held.is_filled(descriptor));
+    session.put(held);
+    answer
 }
 
 /// Copies the sectors of a finished session's volume, as many as there is room for, and says how many it has.

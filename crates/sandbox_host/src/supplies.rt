@@ -4,6 +4,69 @@ ghost use Rattle.std.specs.Prelude.{◌≡◌};
 
 use sandbox_core::{Preopen, Settings};
 
+/// The pages of memory that a guest may have where its host names no number.
+const PAGES: u32 = 1_024;
+
+/// And the values on its stack.
+const VALUES: u32 = 1_048_576;
+
+/// And the bytes on each of its streams.
+const OUTPUT: u64 = 16_777_216;
+
+/// The most that a guest may have. 0 stands for the default of each.
+#[repr(C)]
+#[derive(Clone, Copy)]
+pub struct Limits {
+    /// Pages of memory, of 65,536 bytes.
+    pub pages: u32,
+    /// Values on its stack, of 8 bytes.
+    pub values: u32,
+    /// Bytes that it writes to descriptor 1, and as many to 2.
+    pub output: u64,
+    /// Limits to come, each 0.
+    pub later: [u64; 6],
+}
+
+impl Limits {
+    ghost use Rattle.sandbox_host.specs.Supplies.{most_pages, most_values, most_output, is_known};
+
+    /// Whether no limit is named that isn't known yet.
+    pub(crate) fn is_known(&self) -> bool
+        ensures { result ≡ is_known self.now }
+    {
+        self.later.iter().all(|limit| *limit == 0)
+    }
+
+    /// The pages of memory that it may have.
+    fn most_pages(&self) -> u32
+        ensures { result ≡ most_pages self.now }
+    {
+        if self.pages == 0 { PAGES } else { self.pages }
+    }
+
+    /// The values that it may have on its stack.
+    pub(crate) fn most_values(&self) -> u32
+        ensures { result ≡ most_values self.now }
+    {
+        if self.values == 0 {
+            VALUES
+        } else {
+            self.values
+        }
+    }
+
+    /// The bytes that it may write to descriptor 1, and as many to 2.
+    pub(crate) fn most_output(&self) -> u64
+        ensures { result ≡ most_output self.now }
+    {
+        if self.output == 0 {
+            OUTPUT
+        } else {
+            self.output
+        }
+    }
+}
+
 /// What a guest is given: its settings, and the bytes of its descriptor 0.
 #[repr(C)]
 #[derive(Clone, Copy)]
@@ -18,9 +81,9 @@ pub struct Supplies<'a> {
     pub moment: u64,
     /// What the guest gets where it asks for random bytes.
     pub random: &'a [u8],
-    /// How many pages of 65,536 bytes memory may have at most.
-    pub pages: u32,
-    /// What the guest reads.
+    /// The most that it may have.
+    pub limits: Limits,
+    /// What it reads.
     pub input: &'a [u8],
 }
 
@@ -37,7 +100,7 @@ impl<'a> Supplies<'a> {
             preopens: self.preopens,
             moment: self.moment,
             random: self.random,
-            pages: self.pages,
+            pages: self.limits.most_pages(),
         }
     }
 }

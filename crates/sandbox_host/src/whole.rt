@@ -58,7 +58,7 @@ pub fn run(
         Err(number) => return number,
     };
     let report = sandbox_core::run(session, fuel);
-    let written = report.out.as_slice();
+    let written = report.out.bytes.as_slice();
     show(written, out);
     *out_length = written.len();
     *ended = told_end(report.outcome, report.used);

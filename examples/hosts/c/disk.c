@@ -11,7 +11,6 @@
 #define SANDBOX_DESCRIPTORS
 #define HOST "disk"
 #include "common.h"
-#include <fcntl.h>
 #include <sys/file.h>
 
 enum { SECTORS = 1000, SLOTS = 16, WORDS = 5 };
@@ -28,7 +27,7 @@ static void format(int fd) {
 static uint32_t run(sandbox_module **module, int fd, const sandbox_bytes *words, size_t count) {
   static const sandbox_preopen root = {{(const uint8_t *)"/", 1}, {(const uint8_t *)"/", 1}};
   static const sandbox_bytes none = {(const uint8_t *)"", 0};
-  const sandbox_supplies supplies = {words, count, &none, 0, &root, 1, 0, none, 1024, none};
+  const sandbox_supplies supplies = {words, count, &none, 0, &root, 1, 0, none, {0}, none};
   sandbox_session *session = NULL;
   sandbox_volume volume;
   sandbox_told told = {0};
@@ -49,7 +48,8 @@ static uint32_t run(sandbox_module **module, int fd, const sandbox_bytes *words,
 
 int main(int argc, char **argv) {
   const char *guest = argc > 2 ? argv[2] : "../../c/keys.wasm";
-  int fd = argc > 1 ? open(argv[1], O_RDWR | O_CREAT, 0666) : -1, guest_fd = open(guest, O_RDONLY);
+  int fd = argc > 1 ? sandbox_apart(open(argv[1], O_RDWR | O_CREAT | O_CLOEXEC, 0666)) : -1;
+  int guest_fd = sandbox_apart(open(guest, O_RDONLY | O_CLOEXEC));
   if (fd < 0 || guest_fd < 0 || flock(fd, LOCK_EX | LOCK_NB))
     fail("usage: disk FILE [keys.wasm], of a file that nobody else has locked", 0);
   if (lseek(fd, 0, SEEK_END) == 0)

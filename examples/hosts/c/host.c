@@ -26,7 +26,7 @@ static sandbox_bytes file(const char *path) {
 static sandbox_supplies supplies_of(const sandbox_bytes *args, size_t count, sandbox_bytes input) {
   static const sandbox_preopen root = {{(const uint8_t *)"/", 1}, {(const uint8_t *)"/", 1}};
   static const sandbox_bytes none = {(const uint8_t *)"", 0};
-  return (sandbox_supplies){args, count, &none, 0, &root, 1, 0, none, 1024, input};
+  return (sandbox_supplies){args, count, &none, 0, &root, 1, 0, none, {0}, input}; /* with the limits of the library */
 }
 
 /* Lets the guest go on for this many units in all, and tells how it stopped. */

@@ -27,14 +27,14 @@ def run(module, disk, words):
 
 
 def main():
-    disk = os.open(sys.argv[1], os.O_RDWR | os.O_CREAT, 0o666)
+    disk = sandbox.apart(os.open(sys.argv[1], os.O_RDWR | os.O_CREAT, 0o666))
     fcntl.flock(disk, fcntl.LOCK_EX | fcntl.LOCK_NB)
     if os.fstat(disk).st_size == 0:
         os.pwrite(disk, sandbox.empty_volume(1000, 16), 0)
         os.fsync(disk)
     with open(GUEST, "rb") as it:
         module = sandbox.Module(it.read())
-    for line in sys.stdin:
+    for line in sys.stdin or ():
         status = run(module, disk, line.split())
         sys.stdout.buffer.write(f"{status}\n".encode())
         sys.stdout.buffer.flush()

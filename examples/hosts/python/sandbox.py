@@ -6,13 +6,19 @@
         print(told.kind, told.code, told.used, session.output())
 
 A module is decoded and validated once and serves one session at a time. Bytes that a session reads are kept for it.
+
+A number that doesn't fit is an error that names its argument: an OverflowError where it is too small or too large, a ValueError
+where it is no whole number, as 1.0 or True.
 """
 import ctypes as c
+import fcntl
+import operator
 import os
 import subprocess
 
 HERE = os.path.dirname(os.path.abspath(__file__))
 EXITED, TRAPPED, OUT_OF_FUEL, NO_MEMORY, CALLED, SPENT = range(6)
+MOST_32, MOST_64, MOST_SIZE = 2**32 - 1, 2**64 - 1, 2 ** (8 * c.sizeof(c.c_size_t)) - 1
 
 
 class Refused(Exception):
@@ -35,10 +41,14 @@ class _Preopen(c.Structure):
     _fields_ = [("guest_name", _Bytes), ("path", _Bytes)]
 
 
+class _Limits(c.Structure):
+    _fields_ = [("pages", c.c_uint32), ("values", c.c_uint32), ("output", c.c_uint64), ("later", c.c_uint64 * 6)]
+
+
 class _Supplies(c.Structure):
     _fields_ = [("args", c.POINTER(_Bytes)), ("args_count", c.c_size_t), ("env", c.POINTER(_Bytes)), ("env_count", c.c_size_t),
                 ("preopens", c.POINTER(_Preopen)), ("preopens_count", c.c_size_t), ("moment", c.c_uint64), ("random", _Bytes),
-                ("pages", c.c_uint32), ("input", _Bytes)]
+                ("limits", _Limits), ("input", _Bytes)]
 
 
 class _Volume(c.Structure):
@@ -58,6 +68,16 @@ class _Why(c.Structure):
     _fields_ = [("fault", c.c_uint32), ("offset", c.c_uint32)]
 
 
+def _call(*words):
+    """Runs a program, whose standard streams are open, also where ours are closed: else a file that it opens would have their place."""
+    errors = None
+    try:
+        os.fstat(2)
+    except OSError:
+        errors = subprocess.DEVNULL
+    subprocess.run(words, check=True, stdin=subprocess.DEVNULL, stdout=subprocess.DEVNULL, stderr=errors)
+
+
 def _file():
     """The shared library: the one that a package put beside this file; in a checkout the one that the C compiler makes of the
     archive, where it isn't there or is older; else the one of the system."""
@@ -66,10 +86,10 @@ def _file():
         return packed
     if not os.path.exists(library):
         return "libsandbox.so.0"
-    subprocess.run([library], check=True)
+    _call(library)
     archive = f"{HERE}/../../../out/libsandbox.a"
     if not os.path.exists(made) or os.path.getmtime(made) < os.path.getmtime(archive):
-        subprocess.run(["cc", "-shared", "-o", f"{made}.new", "-Wl,--whole-archive", archive, "-Wl,--no-whole-archive"], check=True)
+        _call("cc", "-shared", "-o", f"{made}.new", "-Wl,--whole-archive", archive, "-Wl,--no-whole-archive")
         os.rename(f"{made}.new", made)
     return made
 
@@ -89,18 +109,46 @@ def _check(number, offset=0):
         raise Refused(number, offset)
 
 
+def _number(name, value, most):
+    """A whole number from 0 to `most`. ctypes would cut off what doesn't fit."""
+    if isinstance(value, bool) or not hasattr(value, "__index__"):
+        raise ValueError(f"{name} is a whole number, and not {value!r}")
+    if not 0 <= operator.index(value) <= most:
+        raise OverflowError(f"{name} is at least 0 and at most {most}, and not {value}")
+    return operator.index(value)
+
+
+def _bytes(given):
+    """A copy of bytes, or of a text's in UTF-8; a number is neither."""
+    return given.encode() if isinstance(given, str) else bytes(memoryview(given))
+
+
 def text(number, kind=0):
     """The text of a fault (kind 0), a trap (1) or an errno (2)."""
     room = c.create_string_buffer(80)
-    length = _lib.sandbox_text(kind, number, room, c.c_size_t(80))
+    numbers = c.c_uint32(_number("kind", kind, MOST_32)), c.c_uint32(_number("number", number, MOST_32))
+    length = _lib.sandbox_text(*numbers, room, c.c_size_t(80))
     return room.raw[:min(length, 80)].decode()
 
 
 def empty_volume(sectors=1000, slots=16):
-    """The bytes of an empty volume."""
-    room = c.create_string_buffer(512 * sectors)
-    _check(_lib.sandbox_format(room, c.c_size_t(sectors), c.c_uint32(slots)))
+    """The bytes of an empty volume, of 137 to 65,536 sectors and 1 to 8,192 slots for files and directories."""
+    sectors, slots = _number("sectors", sectors, MOST_SIZE), _number("slots", slots, MOST_32)
+    room = c.create_string_buffer(512 * min(max(sectors, 1), 65536))
+    _check(_lib.sandbox_format(room, c.c_size_t(sectors), c.c_uint32(slots)) if sectors <= 65536 else 36)
     return room.raw
+
+
+def apart(descriptor):
+    """The same open file under a number above 2; its first number is closed then. Where descriptor 0, 1 or 2 is closed, the system
+    gives that number to the next file that is opened, and what the program prints would go into it: so pass what `os.open`
+    answers through this."""
+    if not 0 <= _number("descriptor", descriptor, 2**31 - 1) <= 2:
+        return descriptor
+    try:
+        return fcntl.fcntl(descriptor, fcntl.F_DUPFD_CLOEXEC, 3)
+    finally:
+        os.close(descriptor)
 
 
 class Module:
@@ -108,7 +156,7 @@ class Module:
     _raw = None  # where it wasn't made
 
     def __init__(self, given):
-        self._bytes, self._raw, why = bytes(given), c.c_void_p(), _Why()
+        self._bytes, self._raw, why = bytes(memoryview(given)), c.c_void_p(), _Why()
         _check(_lib.sandbox_load(c.byref(self._raw), self._bytes, c.c_size_t(len(self._bytes)), c.byref(why)), why.offset)
 
     def session(self, **supplies):
@@ -120,44 +168,58 @@ class Module:
 
 
 class Session:
-    """A guest with what it is given; `with` closes it, and its module can be used again then."""
+    """A guest with what it is given; `with` closes it, and its module can be used again then.
+
+    The most that it may have: `pages` of memory, of 65,536 bytes; `values` on its stack, of 8 bytes; `output` bytes that it writes
+    to descriptor 1, and as many to 2. 0 is the library's default: 1,024 pages, 1,048,576 values, 16,777,216 bytes."""
     _raw = None  # where it wasn't made
 
-    def __init__(self, module, args=(), env=(), preopens=(("/", "/"),), moment=0, random=b"", pages=1024, input=b"", volume=None, recorded=False):
+    def __init__(self, module, args=(), env=(), preopens=(("/", "/"),), moment=0, random=b"", pages=0, input=b"", volume=None, recorded=False,
+                 values=0, output=0):
         def texts(given):
             if isinstance(given, (str, bytes, bytearray)):
                 raise TypeError("a list of texts is wanted, and not one text")
-            return [it.encode() if isinstance(it, str) else bytes(it) for it in given]
+            return [_bytes(it) for it in given]
 
-        random, input, volume = bytes(random), bytes(input), None if volume is None else bytes(volume)
+        limits = _Limits(_number("pages", pages, MOST_32), _number("values", values, MOST_32), _number("output", output, MOST_64))
+        moment = _number("moment", moment, MOST_64)
+        random, input, volume = _bytes(random), _bytes(input), None if volume is None else bytes(memoryview(volume))
         args, env, names, paths = texts(args), texts(env), texts(it[0] for it in preopens), texts(it[1] for it in preopens)
         array = (_Bytes * max(1, len(args)))(*map(_Bytes.of, args)), (_Bytes * max(1, len(env)))(*map(_Bytes.of, env))
         opened = (_Preopen * max(1, len(names)))(*[_Preopen(_Bytes.of(name), _Bytes.of(path)) for name, path in zip(names, paths)])
-        given = _Supplies(array[0], len(args), array[1], len(env), opened, len(names), moment, _Bytes.of(random), pages, _Bytes.of(input))
-        over = _Volume(1 + recorded, volume, len(volume) // 512) if volume is not None else _Volume(0, b"", 0)
+        given = _Supplies(array[0], len(args), array[1], len(env), opened, len(names), moment, _Bytes.of(random), limits, _Bytes.of(input))
+        over = _Volume(1 + bool(recorded), volume, len(volume) // 512) if volume is not None else _Volume(0, b"", 0)
         self._kept, self._module, self._raw = (args, env, names, paths, array, opened, random, input, module), module, c.c_void_p()
         self._settled = 0  # operations that are on the descriptor
+        self._used = 0  # units so far
         _check(_lib.sandbox_open_loaded(c.byref(self._raw), c.byref(module._raw), c.byref(given), c.byref(over)))
 
     def resume(self, units):
         """Goes on for at most this many units, until one call is answered, the units are used, or the guest ends."""
         told = Told()
-        _check(_lib.sandbox_resume(c.byref(self._raw), c.c_uint64(units), c.byref(told)))
+        _check(_lib.sandbox_resume(c.byref(self._raw), c.c_uint64(_number("units", units, MOST_64)), c.byref(told)))
+        self._used = told.used
         return told
 
     def run(self, fuel):
         """Goes on until the guest ends, or this many units are used since the session began."""
-        told = self.resume(fuel)
-        while told.kind == CALLED:
-            told = self.resume(fuel - told.used)
-        return told
+        fuel = _number("fuel", fuel, MOST_64)
+        while True:
+            told = self.resume(max(0, fuel - self._used))
+            if told.kind != CALLED:
+                return told
 
     def output(self, descriptor=1, start=0):
-        """What the guest has written so far, from this byte on."""
+        """What the guest has written so far to descriptor 1 or 2, from this byte on."""
+        descriptor, start = _number("descriptor", descriptor, MOST_32), _number("start", start, MOST_SIZE)
         length = max(0, _lib.sandbox_output(c.byref(self._raw), c.c_uint32(descriptor), c.c_size_t(0), b"", c.c_size_t(0)) - start)
         room = c.create_string_buffer(max(1, length))
         _lib.sandbox_output(c.byref(self._raw), c.c_uint32(descriptor), c.c_size_t(start), room, c.c_size_t(length))
         return room.raw[:length]
+
+    def full(self, descriptor=1):
+        """Whether a write of the guest to descriptor 1 or 2 was refused since it has written as much there as it may."""
+        return _lib.sandbox_full(c.byref(self._raw), c.c_uint32(_number("descriptor", descriptor, MOST_32))) == 1
 
     def finish(self):
         """Commits the guest's calls, and gives the bytes of its volume."""
@@ -171,7 +233,9 @@ class Session:
         """Does on a descriptor what the session did to its volume since the last time, with `fdatasync` at each of its syncs.
         The session was opened with the descriptor's bytes as `volume`, and `recorded`. After a `resume` what the guest synced
         lasts from then on, before it goes on; after `finish` all that it did. A stop at any moment leaves the volume as it was
-        at a moment of the session. Where this fails, it isn't called again."""
+        at a moment of the session. Where this fails, it isn't called again. Descriptors 0, 1 and 2 are refused (see `apart`)."""
+        if _number("descriptor", descriptor, 2**31 - 1) <= 2:
+            raise ValueError(f"descriptor is above 2, and not {descriptor}, which is a standard stream's")
         operation, last = _Operation(), 2
         while True:
             _check(_lib.sandbox_operation_at(c.byref(self._raw), c.c_size_t(self._settled), c.byref(operation)))

@@ -1,18 +1,26 @@
-//! What a host in C calls: why a module is refused, a session behind its handle, its record, misuse, and texts.
+//! What a host in C calls: why a module is refused, a session behind its handle, its limits, its record, misuse, and texts.
 
-use super::guests::FILES;
+use super::guests::{DEEP, FILES, WIDE};
 use super::sessions::assert_none;
 use machine_tests::HELLO;
 use sandbox_core::Preopen;
 use sandbox_host::{
-    Handle, MISUSE, OK, Supplies, Told, VolumeOperation, VolumeSource, Why, check, close, finish,
-    format, open, operation_at, output, resume, text, volume_out,
+    Handle, Limits, MISUSE, OK, Supplies, Told, VolumeOperation, VolumeSource, Why, check, close,
+    finish, format, full, open, operation_at, output, resume, text, volume_out,
 };
 use std::alloc::Global;
 use std::process::Abort;
 
 /// `HELLO`, which a session keeps.
 static HI: [u8; 168] = HELLO;
+
+/// The limits that are taken where none is named.
+static DEFAULTS: Limits = Limits {
+    pages: 0,
+    values: 0,
+    output: 0,
+    later: [0; 6],
+};
 
 /// What a guest is given: the root as `/`, and nothing else.
 static SUPPLIES: Supplies<'static> = Supplies {
@@ -24,7 +32,12 @@ static SUPPLIES: Supplies<'static> = Supplies {
     }],
     moment: 0,
     random: b"",
-    pages: 1,
+    limits: Limits {
+        pages: 0,
+        values: 0,
+        output: 0,
+        later: [0; 6],
+    },
     input: b"",
 };
 
@@ -85,12 +98,31 @@ fn tells_why_a_module_is_refused(rt: HostRuntime) {
 
 /// A session of a module over a volume, and what the call answered.
 fn opened(alloc: Global, module: &'static [u8], volume: &VolumeSource<'_>) -> (Handle, u32) {
+    opened_within(alloc, module, DEFAULTS, volume)
+}
+
+/// The same with limits.
+fn opened_within(
+    alloc: Global,
+    module: &'static [u8],
+    limits: Limits,
+    volume: &VolumeSource<'_>,
+) -> (Handle, u32) {
     let mut session = Handle::empty(alloc);
     let mut why = Why {
         fault: 0,
         offset: 0,
     };
-    let answer = open(alloc, &mut session, module, &SUPPLIES, volume, &mut why);
+    let supplies = Supplies {
+        args: SUPPLIES.args,
+        env: SUPPLIES.env,
+        preopens: SUPPLIES.preopens,
+        moment: SUPPLIES.moment,
+        random: SUPPLIES.random,
+        limits,
+        input: SUPPLIES.input,
+    };
+    let answer = open(alloc, &mut session, module, &supplies, volume, &mut why);
     (session, answer)
 }
 
@@ -177,6 +209,114 @@ fn goes_through_a_session(rt: HostRuntime) {
     assert!(rt; is_opened(alloc, &volume));
 }
 
+/// A guest, the pages, values and bytes that it may have, the kind of its end, what it has written to descriptor 1 then, and
+/// whether a write of it was refused since it had written as much as it may.
+static LIMITED: [(&[u8], u32, u32, u64, u32, &[u8], u32); 14] = [
+    // three bytes, of which those are kept that there is room for
+    (&HELLO, 0, 0, 0, 0, b"hi\n", 0),
+    (&HELLO, 0, 0, 1, 0, b"h", 1),
+    (&HELLO, 0, 0, 2, 0, b"hi", 1),
+    (&HELLO, 0, 0, 3, 0, b"hi\n", 0),
+    (&HELLO, 0, 0, 4, 0, b"hi\n", 0),
+    (&HELLO, 1, 1, u64::MAX, 0, b"hi\n", 0),
+    // a page, and two more that are had or not
+    (WIDE, 0, 0, 0, 0, b"\x01", 0),
+    (WIDE, 1, 0, 0, 0, b"\xFF", 0),
+    (WIDE, 2, 0, 0, 0, b"\xFF", 0),
+    (WIDE, 3, 0, 0, 0, b"\x01", 0),
+    // 20,000 calls, each with a value; memory is refused (3)
+    (DEEP, 0, 0, 0, 0, b"deep\n", 0),
+    (DEEP, 0, 1, 0, 3, b"", 0),
+    (DEEP, 0, 19_999, 0, 3, b"", 0),
+    (DEEP, 0, 0, 4, 0, b"deep", 1),
+];
+
+/// Whether a guest ends so within limits, and leaves this.
+fn ends_so(
+    alloc: Global,
+    guest: &'static [u8],
+    limits: Limits,
+    kind: u32,
+    written: &[u8],
+    filled: u32,
+) -> bool {
+    let (mut session, answer) = opened_within(alloc, guest, limits, &FRESH);
+    let mut found = told(4, 0, 0);
+    for _ in 0..4 {
+        if found.kind == 4 {
+            resume(alloc, &mut session, 1_000_000, &mut found);
+        }
+    }
+    let before = full(alloc, &mut session, 1);
+    let ended = finish(alloc, &mut session);
+    let mut room = [b'.'; 8];
+    let length = output(alloc, &mut session, 1, 0, &mut room);
+    let is_so = answer == OK
+        && found.kind == kind
+        && ended == OK
+        && before == filled
+        && full(alloc, &mut session, 1) == filled
+        && full(alloc, &mut session, 2) == 0
+        && full(alloc, &mut session, 0) == 0
+        && length == written.len()
+        && room.starts_with(written);
+    drop(session);
+    is_so
+}
+
+/// The first row that a guest doesn't end by.
+fn wrong_limit(alloc: Global) -> Option<usize> {
+    for (i, (guest, pages, values, output, kind, written, filled)) in LIMITED.iter().enumerate() {
+        let limits = Limits {
+            pages: *pages,
+            values: *values,
+            output: *output,
+            later: [0; 6],
+        };
+        if !ends_so(alloc, guest, limits, *kind, written, *filled) {
+            return Some(i);
+        }
+    }
+    None
+}
+
+#[test]
+fn bounds_what_a_guest_has(rt: HostRuntime) {
+    assert_none(&rt, wrong_limit(rt.alloc()));
+}
+
+/// Pages, the last of the limits to come, and what an opening is answered.
+static OPENED: [(u32, u64, u32); 5] = [
+    (65_536, 0, 0),
+    (65_537, 0, 15),
+    (u32::MAX, 0, 15),
+    (1, 1, 15),
+    (1, u64::MAX, 15),
+];
+
+/// The first row that isn't answered so.
+fn wrong_opening(alloc: Global) -> Option<usize> {
+    for (i, (pages, last, want)) in OPENED.iter().enumerate() {
+        let limits = Limits {
+            pages: *pages,
+            values: 0,
+            output: 0,
+            later: [0, 0, 0, 0, 0, *last],
+        };
+        let (session, answer) = opened_within(alloc, &HI, limits, &FRESH);
+        drop(session);
+        if answer != *want {
+            return Some(i);
+        }
+    }
+    None
+}
+
+#[test]
+fn refuses_limits(rt: HostRuntime) {
+    assert_none(&rt, wrong_opening(rt.alloc()));
+}
+
 /// How often a session of `FILES` is resumed then, a number, and the kind of the operation that is told by it: 1 a write, 2 a
 /// sync, 0 none yet. It makes three files, syncs, and writes to one of them twice.
 static RECORD: [(usize, usize, u32); 7] = [
@@ -248,6 +388,7 @@ fn assert_empty(rt: &impl Abort, alloc: Global, none: &mut Handle) {
     let mut found = told(9, 9, 9);
     assert!(rt; resume(alloc, none, 1, &mut found) == MISUSE && found == told(9, 9, 9));
     assert!(rt; finish(alloc, none) == MISUSE && close(alloc, none) == MISUSE);
+    assert!(rt; full(alloc, none, 1) == 0 && full(alloc, none, 9) == 0);
 }
 
 #[test]

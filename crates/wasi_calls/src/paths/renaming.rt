@@ -99,7 +99,7 @@ fn above<D: Device>(volume: &mut Volume<D>, serial: Serial) -> Result<Serial, vo
     ensures told { D.honest volume.old.device → serial ≢ 1 → MatchResult result
         (λ p. IsAbove volume.old.tree serial p) (λ e. e ≡ tree.Io) }
 {
-    Ok(volume.stat(serial)?.parent)
+    Ok(volume.place(serial)?.parent)
 }
 
 /// Whether an entry is another one, or stands below it.

@@ -10,6 +10,7 @@ use std::fmt;
 use std::fs::File;
 use std::marker::PhantomData;
 use std::os::unix::fs::FileExt;
+use std::os::unix::io::AsRawFd;
 use std::ptr::null_mut;
 
 /// The bytes of a volume's sectors.
@@ -34,6 +35,9 @@ impl fmt::Display for Refused {
 
 impl Error for Refused {}
 
+/// What is called isn't there, or in another state.
+const MISUSE: u32 = 100;
+
 fn answered(number: u32) -> Result<(), Refused> {
     match number {
         0 => Ok(()),
@@ -55,6 +59,17 @@ pub enum Pause {
     Spent,
 }
 
+/// The most that a guest may have. 0 is the library's default.
+#[derive(Debug, Clone, Copy, Default, PartialEq, Eq)]
+pub struct Limits {
+    /// Pages of memory, of 65,536 bytes: 1,024 by default.
+    pub pages: u32,
+    /// Values on its stack, of 8 bytes: 1,048,576 by default.
+    pub values: u32,
+    /// Bytes that it writes to descriptor 1, and as many to 2: 16,777,216 by default.
+    pub output: u64,
+}
+
 /// What a guest is given. Texts are bytes.
 #[derive(Clone, Default)]
 pub struct Supplies<'a> {
@@ -66,8 +81,7 @@ pub struct Supplies<'a> {
     /// Nanoseconds since 1970-01-01 00:00:00 UTC.
     pub moment: u64,
     pub random: &'a [u8],
-    /// Most pages of 65,536 bytes.
-    pub pages: u32,
+    pub limits: Limits,
     pub input: &'a [u8],
 }
 
@@ -107,7 +121,7 @@ impl<'a> Module<'a> {
         let mut raw = null_mut();
         // SAFETY: what the supplies lead to is in `kept`, beside the session, or borrowed as long as it.
         match unsafe { sys::sandbox_open_loaded(&mut raw, &mut self.raw, &kept.supplies(supplies), &volume) } {
-            0 => Ok(Session { raw, settled: 0, _kept: kept, module: PhantomData, supplies: PhantomData }),
+            0 => Ok(Session { raw, settled: 0, used: 0, _kept: kept, module: PhantomData, supplies: PhantomData }),
             number => Err((Refused { number, offset: 0 }, self)),
         }
     }
@@ -155,7 +169,7 @@ impl Kept {
             preopens_count: self.preopens.len(),
             moment: given.moment,
             random: bytes_of(given.random),
-            pages: given.pages,
+            limits: sys::Limits { pages: given.limits.pages, values: given.limits.values, output: given.limits.output, later: [0; 6] },
             input: bytes_of(given.input),
         }
     }
@@ -166,6 +180,8 @@ pub struct Session<'a, 's> {
     raw: *mut sys::OpaqueSession,
     /// How many of its operations were done on a file.
     settled: usize,
+    /// The units so far.
+    used: u64,
     _kept: Kept,
     module: PhantomData<&'a [u8]>,
     supplies: PhantomData<&'s [u8]>,
@@ -184,15 +200,14 @@ impl<'a> Session<'a, '_> {
             4 => Pause::Called { call: told.call, errno: told.code },
             _ => Pause::Spent,
         };
+        self.used = told.used;
         Ok((pause, told.used))
     }
 
     /// Goes on until the guest ends or this many units are used since the session began.
     pub fn run(&mut self, fuel: u64) -> Result<(Pause, u64), Refused> {
-        let mut used = 0;
         loop {
-            let (pause, now) = self.resume(fuel.saturating_sub(used))?;
-            used = now;
+            let (pause, used) = self.resume(fuel.saturating_sub(self.used))?;
             if !matches!(pause, Pause::Called { .. }) {
                 return Ok((pause, used));
             }
@@ -210,6 +225,12 @@ impl<'a> Session<'a, '_> {
         }
     }
 
+    /// Whether a write of the guest to descriptor 1 or 2 was refused since it has written as much there as it may.
+    pub fn full(&mut self, descriptor: u32) -> bool {
+        // SAFETY: `raw` is a session.
+        unsafe { sys::sandbox_full(&mut self.raw, descriptor) == 1 }
+    }
+
     /// Commits the guest's calls, and gives the sectors of its volume.
     pub fn finish(&mut self) -> Result<Sectors, Refused> {
         // SAFETY: `raw` is a session, and the room has its length.
@@ -225,8 +246,11 @@ impl<'a> Session<'a, '_> {
     /// Does what the session did to its volume since the last time on the file that has the sectors it was opened over, with a
     /// sync at each of its syncs. After a resume what the guest synced lasts from then on, before it goes on; after
     /// [`Session::finish`] all that it did. A stop at any moment leaves the volume as it was at a moment of the session. Where
-    /// this fails, it isn't called again.
+    /// this fails, it isn't called again. A file that has the number of a standard stream, 0, 1 or 2, is refused as misuse.
     pub fn settle(&mut self, file: &File) -> Result<(), Box<dyn Error>> {
+        if file.as_raw_fd() <= 2 {
+            return Err(Box::new(Refused { number: MISUSE, offset: 0 }));
+        }
         let mut operation = sys::Operation { kind: 0, sector: 0, bytes: [0; 512] };
         let mut is_written = false;
         loop {

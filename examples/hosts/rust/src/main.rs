@@ -9,7 +9,6 @@ fn supplies<'a>(args: &[&'a str], input: &'a [u8]) -> Supplies<'a> {
     Supplies {
         args: args.iter().map(|it| it.as_bytes()).collect(),
         preopens: vec![(b"/", b"/")],
-        pages: 1024,
         input,
         ..Supplies::default()
     }

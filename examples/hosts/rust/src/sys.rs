@@ -20,6 +20,15 @@ pub struct Preopen {
 }
 
 #[repr(C)]
+#[derive(Default)]
+pub struct Limits {
+    pub pages: u32,
+    pub values: u32,
+    pub output: u64,
+    pub later: [u64; 6],
+}
+
+#[repr(C)]
 pub struct Supplies {
     pub args: *const Bytes,
     pub args_count: usize,
@@ -29,7 +38,7 @@ pub struct Supplies {
     pub preopens_count: usize,
     pub moment: u64,
     pub random: Bytes,
-    pub pages: u32,
+    pub limits: Limits,
     pub input: Bytes,
 }
 
@@ -76,6 +85,7 @@ extern "C" {
     ) -> u32;
     pub fn sandbox_resume(session: *mut *mut OpaqueSession, units: u64, told: *mut Told) -> u32;
     pub fn sandbox_output(session: *mut *mut OpaqueSession, descriptor: u32, from: usize, room: *mut u8, length: usize) -> usize;
+    pub fn sandbox_full(session: *mut *mut OpaqueSession, descriptor: u32) -> u32;
     pub fn sandbox_finish(session: *mut *mut OpaqueSession) -> u32;
     pub fn sandbox_volume_out(session: *mut *mut OpaqueSession, room: *mut [u8; 512], count: usize) -> usize;
     pub fn sandbox_operation_at(session: *mut *mut OpaqueSession, number: usize, operation: *mut Operation) -> u32;

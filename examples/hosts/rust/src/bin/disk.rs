@@ -15,7 +15,7 @@ fn run(guest: &[u8], disk: &File, line: &str) -> Result<u32, Box<dyn Error>> {
     disk.read_exact_at(&mut bytes, 0)?;
     let sectors: Vec<[u8; 512]> = bytes.chunks_exact(512).map(|it| it.try_into().expect("512 bytes")).collect();
     let args = ["keys", "store"].into_iter().chain(line.split_whitespace()).map(str::as_bytes).collect();
-    let supplies = Supplies { args, preopens: vec![(b"/", b"/")], pages: 1024, ..Supplies::default() };
+    let supplies = Supplies { args, preopens: vec![(b"/", b"/")], ..Supplies::default() };
     let mut session = Module::load(guest)?.open_recorded(&supplies, &sectors).map_err(|it| it.0)?;
     let (mut used, mut shown) = (0, 0);
     let ended = loop {

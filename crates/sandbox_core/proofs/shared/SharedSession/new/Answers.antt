@@ -1,0 +1,33 @@
+use Rattle.std.proofs.Common.{ℕ, sym, ◌∙◌, subst}
+use Rattle.wasm_interp.specs.Promise.{Starts}
+use Rattle.wasm_interp.specs.Shared.{Ready}
+use Rattle.wasm_store.specs.Instantiation.{RefusedFor}
+use Rattle.wasi_calls.specs.host.Links.{link}
+use Rattle.sandbox_core.specs.Session.{IsRefused, given}
+use Rattle.sandbox_core.specs.declared.fault.SessionFault.{SessionFault}
+use Rattle.sandbox_core.proofs.Refusing.{by_instance}
+use Rattle.sandbox_core.proofs.shared.SharedSession.new.Goals as goal
+
+pub returns-in-Ok-preopen-clause-opens : goal.returns-in-Ok-preopen-clause-opens
+returns-in-Ok-preopen-clause-opens g c =
+    let made = c.in-Ok.ensures.made in
+    let kept = c.preopen.ensures.streams in
+    record {
+      fits = made.fits;
+      starts = subst (λ (pages : ℕ). Starts link pages c.args.shared.now.valid c.in-Ok-new.machine) (sym c.requires)
+          (subst (λ (r : Ready). Starts link r.pages r.valid c.in-Ok-new.machine) c.shared.view_is c.in-Ok-new.ensures.starts);
+      input = kept.input ∙ made.input;
+      out = kept.out ∙ made.out;
+      err = kept.err ∙ made.err;
+      settings = kept.settings ∙ made.settings;
+      supply = kept.generator ∙ made.generator;
+    }
+
+pub returns-in-Err-new-clause-refused : goal.returns-in-Err-new-clause-refused
+returns-in-Err-new-clause-refused g c =
+    let parts = given c.args.settings c.args.volume c.args.input c.args.out c.args.err in
+    let fault = c.in-Err-new.fault in
+    let refused = subst (λ (pages : ℕ). RefusedFor link pages c.args.shared.now.valid fault) (sym c.requires)
+    (subst (λ (r : Ready). RefusedFor link r.pages r.valid fault) c.shared.view_is c.in-Err-new.ensures.refused) in
+    subst (λ (f : SessionFault). IsRefused g.D.Device.honest f c.args.shared.now.valid parts) (sym c.of_instance.ensures)
+    (by_instance g.D.Device.honest c.args.shared.now.valid parts c.in-Ok.ensures.made.fits fault refused)
