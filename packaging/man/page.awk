@@ -366,7 +366,11 @@ function comment_of(file,    n, i, s) {
     sub(/^ \* ?/, "", s)
     if (s ~ /^[A-Z][A-Z ]*$/ && s !~ /^ /)
       heading(2, s)
-    else {
+    else if (s ~ /^      +[^ ]/) { # a table
+      if (text != "")
+        flush()
+      line_of(s)
+    } else {
       sub(/^ +/, "", s)
       line_of(s)
     }
