@@ -33,7 +33,8 @@ Keeping results:
   --again                with --keep: do the step, and compare with what is kept
 
 The program:
-  --sandbox PROGRAM      the program `sandbox`; else SANDBOX of the environment, else the one beside this script, else /usr/local/bin/sandbox
+  --sandbox PROGRAM      the program `sandbox`; else SANDBOX of the environment, else the one beside this script, else out/sandbox of its
+                         checkout, else /usr/local/bin/sandbox
   --help                 this text
 
 The guest has /in, /out and /tmp, and sees nothing else. PATHs stay below /in and /out, and so do names of what the guest leaves.
@@ -42,7 +43,7 @@ Nothing is at any HOST unless the status is 0. Only a step that ended well is ke
 Exit status: 0 done; 1 the guest ended otherwise than by exit 0 (or one of --exit), or left no such output; 2 the words or the inputs
 are refused; 3 a bound was passed: the wall clock, the output, or memory, or the program was killed again though a known run goes well
 here; 4 the same step came out differently (--again); 75 the machine is to blame, after one more try; 128 and a signal's number where
-that ended the step. A line on standard error says it. README and docs/FARMS.md tell more.
+that ended the step. A line on standard error says it. docs/FARMS.md tells more.
 """
 import errno
 import fcntl
@@ -201,9 +202,9 @@ def words_of(argv):
         raise Refused("/out is no file: --out-dir")
     check_places(it)
     if not it["sandbox"]:
-        beside = os.path.join(os.path.dirname(os.path.realpath(os.fsencode(sys.argv[0]))), b"sandbox")
-        named = os.environb.get(b"SANDBOX")
-        it["sandbox"] = named or (beside if os.path.isfile(beside) else b"/usr/local/bin/sandbox")
+        own = os.path.dirname(os.path.realpath(os.fsencode(sys.argv[0])))
+        places = [os.path.join(folder, b"sandbox") for folder in (own, os.path.dirname(os.path.abspath(os.fsencode(sys.argv[0]))), os.path.join(own, b"../out"))]
+        it["sandbox"] = os.environb.get(b"SANDBOX") or next((path for path in places if os.path.isfile(path)), b"/usr/local/bin/sandbox")
     return it
 
 
