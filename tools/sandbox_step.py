@@ -398,22 +398,19 @@ def parent_for(size, tried):
     return next((path for path in found if path not in tried), found[0])
 
 
-def program_in(memory_or_room, inside):
-    """A path of the program's copy: what is run is what was hashed. It is in memory, since folders of memory are often `noexec`."""
+def program_in(room, inside):
+    """A path of the program's copy, and what holds it: what is run is what was hashed. It is in memory, since folders of memory are often `noexec`."""
     try:
-        fd = os.memfd_create("sandbox", os.MFD_CLOEXEC)
-        path = b"/proc/self/fd/%d" % fd
+        fd = os.memfd_create("sandbox", os.MFD_CLOEXEC) if os.path.exists(b"/proc/self/fd") else None
     except OSError:
-        fd, path = -1, memory_or_room(b"sandbox")
-        fd = os.open(path, os.O_RDWR | os.O_CREAT | os.O_EXCL | os.O_CLOEXEC, 0o700)
+        fd = None
+    path = room(b"sandbox") if fd is None else b"/proc/self/fd/%d" % fd
+    fd = os.open(path, os.O_RDWR | os.O_CREAT | os.O_EXCL | os.O_CLOEXEC, 0o700) if fd is None else fd
     put(fd, inside, 0)
-    if path.startswith(b"/proc/") and os.path.exists(path):
-        reader = os.open(path, os.O_RDONLY)    # nothing that is open to write is run
-        os.set_inheritable(reader, True)       # a program that is a script is opened once more by its interpreter
-        os.close(fd)
-        return b"/proc/self/fd/%d" % reader, reader
+    reader = os.open(path, os.O_RDONLY)        # nothing that is open to write is run
     os.close(fd)
-    return path, None
+    os.set_inheritable(reader, True)           # a program that is a script is opened once more by its interpreter
+    return b"/proc/self/fd/%d" % reader if path.startswith(b"/proc/") else path, reader
 
 
 def in_child(words, program, streams, limits, leash, mine):
@@ -457,15 +454,15 @@ def ended(words, program, streams, limits, wall):
         for fd in (tell, leash):
             os.close(fd)
         wrong = os.read(said, 8)
-        child_was, (_, status) = child, os.waitpid(child, 0)
+        _, status = os.waitpid(child, 0)
         child = None
     finally:
         signal.setitimer(signal.ITIMER_REAL, 0)
         if child:
             os.kill(child, signal.SIGKILL)
             os.waitpid(child, 0)
-        os.close(said)
-        os.close(mine)
+        for fd in (said, mine):
+            os.close(fd)
     if wrong:
         raise Machine(f"{shown(words[0])}: {os.strerror(int(wrong))}")
     status = os.waitstatus_to_exitcode(status)
@@ -552,8 +549,7 @@ def performed(it, inside, module, stdin, tree, sectors, slots, room):
                 cause.again = None
             raise
     finally:
-        if reader is not None:
-            os.close(reader)
+        os.close(reader)
     if complained:
         tell(complained)
     left = None
