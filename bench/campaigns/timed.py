@@ -1,0 +1,325 @@
+"""Real programs in C and Rust, timed beside wasmi and beside another build of `sandbox`: `bench/real FOLDER --times N`.
+
+Each gets an input that is made here, on standard input, and has no files. Programs in C are those of `others.py`; those in Rust are
+`bench/rust_guests`, over crates of Debian's packages, built by Debian's `rustc` and `cargo`. An engine's time is that of the processor,
+best of N, in turn with the others. `load` is a process that ends before the guest's first step, `net` is the time without it.
+"""
+import json
+import math
+import os
+import random
+import re
+import resource
+import shutil
+import subprocess
+import tempfile
+
+from others import PROGRAMS, SQL
+
+TOP = os.path.dirname(os.path.dirname(os.path.dirname(os.path.abspath(__file__))))
+LEAST = 0.1  # seconds of a program, net of its load
+FUEL, PAGES = str(2**63), "8192"
+PACKAGES = "aho-corasick csv miniz-oxide num-bigint pulldown-cmark regex roxmltree serde-json sha2 similar yaml-rust".split()
+KINDS = ("net", "whole", "load")
+TITLES = {"net": "net of load", "whole": "with load", "load": "load alone"}
+WORDS = "the quick brown foxes jump over 17 lazy dogs while reading 2024-11 reports and writing `code` about *many* things again".split()
+
+
+def prose(count, seed=1):
+    """So many lines of words, in paragraphs with a heading now and then."""
+    chance, lines = random.Random(seed), []
+    for k in range(count):
+        if k % 12 == 0:
+            lines += ["", f"## {k} " + " ".join(chance.choice(WORDS) for _ in range(4)), ""]
+        lines.append(("- " if k % 12 > 8 else "") + " ".join(chance.choice(WORDS) for _ in range(3 + chance.randrange(12))))
+    return "\n".join(lines) + "\n"
+
+
+def objects(count):
+    chance = random.Random(2)
+    return [{"id": k, "name": prose(1, k).strip()[:40], "tags": [chance.choice(WORDS) for _ in range(5)], "at": {"x": chance.randrange(10**9), "ok": k % 3 == 0}} for k in range(count)]
+
+
+def xml(count):
+    rows = "".join(f'<row id="{k}" kind="{WORDS[k % 9]}"><name>{prose(1, k).strip()[:30].replace("&", "")}</name><n:v xmlns:n="urn:n">{k * 37 % 101}</n:v></row>\n' for k in range(count))
+    return f'<?xml version="1.0"?>\n<all>{rows}</all>\n'
+
+
+def yaml(count):
+    return "".join(f"- name: {WORDS[k % 9]} {k}\n  values: [{k}, {k * k}, \"{WORDS[k % 7]}\"]\n  more:\n    text: >\n      {prose(1, k).strip()[:60].replace('#', '').replace('`', '')}\n    ok: {'true' if k % 2 else 'false'}\n" for k in range(count))
+
+
+def formula(variables, clauses):
+    chance = random.Random(5)
+    rows = [" ".join(str(chance.choice((1, -1)) * it) for it in chance.sample(range(1, variables + 1), 3)) + " 0" for _ in range(clauses)]
+    return f"p cnf {variables} {clauses}\n" + "\n".join(rows) + "\n"
+
+
+def defines(count):
+    return "".join(f"#ifdef A{k % 3}\nint a{k};\n#elif defined(B) && {k} > 7\nint b{k};\n#else\nint c{k};\n#endif\n" for k in range(count))
+
+
+def halves(count):
+    old = prose(count, 3)
+    chance = random.Random(4)
+    new = "\n".join(it if chance.random() < 0.85 else it[::-1] for it in old.splitlines())
+    return f"{old}\n====\n{new}\n"
+
+
+def rows(count):
+    chance = random.Random(6)
+    return "name,count,key\n" + "".join(f"{chance.choice(WORDS[:9])},{chance.randrange(1000)},{chance.randrange(10**9):09}\n" for _ in range(count))
+
+
+LUA = """
+local function sieve(n) local s, c = {}, 0; for i = 2, n do if not s[i] then c = c + 1; for j = i * i, n, i do s[j] = true end end end; return c end
+local t, x = {}, 1; for i = 1, 12000 do x = (x * 48271) % 2147483647; t[i] = string.format('%08x', x) end; table.sort(t)
+print(sieve(60000), t[1], t[12000], #table.concat(t), (table.concat(t):gsub('[0-4]', '')):sub(1, 40))
+"""
+BC = "scale=220\n4*sqrt(2)\nfor (i = 1; i < 400; ++i) s += 1/i^3\ns\n7^2500 % 10^50\ndefine f(n) { if (n < 2) return (n); return (f(n-1) + f(n-2)); }\nf(16)\n2^3000 / 3^900\nquit\n"
+DC = "300k 2v p 3 4000^ Z p [la1+dsalb*sblx700>xd]sy 1sb 0sa [la1+sa lala*lb+sb la2500>x]sx lxx lb p 7 1100 ^ 13 300 ^ ~ p q\n"
+JAVASCRIPT = """
+function fib(n) { return n < 2 ? n : fib(n - 1) + fib(n - 2); }
+var words = {}, text = ""; for (var i = 0; i < 6000; ++i) text += "w" + (i * 7919 % 503) + " ";
+text.split(" ").forEach(function (it) { words[it] = (words[it] || 0) + 1; });
+print(fib(19), Object.keys(words).length, text.replace(/w1(.)/g, "<$1>").length, JSON.stringify(words).length);
+"""
+
+
+class Timed:
+    """A program that is timed: its name, which program of `others.py` (none for one in Rust), words, and what makes its input."""
+
+    def __init__(self, name, of, words, given, flags=()):
+        self.name, self.of, self.words, self.given, self.flags = name, of, words, given, flags
+
+    def input(self):
+        made = self.given()
+        return made if isinstance(made, bytes) else made.encode()
+
+
+TIMED = [
+    Timed("minigzip", "minigzip", ["-9"], lambda: prose(9_000)),
+    Timed("bzip2", "bzip2", ["-z", "-c"], lambda: prose(6_000)),
+    Timed("clzip", "clzip", ["-c", "-3"], lambda: prose(2_000)),
+    Timed("brotli", "brotli", ["-c", "-q", "6"], lambda: prose(9_000)),
+    Timed("lz4", "lz4", ["-c", "-9"], lambda: prose(14_000)),
+    Timed("compress", "compress", ["-c"], lambda: prose(24_000)),
+    Timed("cmark", "cmark", ["-t", "html"], lambda: prose(12_000)),
+    Timed("par", "par", ["60", "j1"], lambda: prose(1_500)),
+    Timed("awk", "awk", ["{ gsub(/[aeiou]/, \"<&>\"); n[$2]++; t += length($0) } END { for (w in n) s += n[w]; print NR, s, t }"], lambda: prose(1_500)),
+    Timed("unifdef", "unifdef", ["-DA1", "-UA2"], lambda: defines(14_000)),
+    Timed("json_reformat", "json_reformat", ["-m"], lambda: json.dumps(objects(4_000))),
+    Timed("xmlwf", "xmlwf", ["-n"], lambda: xml(14_000)),
+    Timed("lua", "lua", ["-"], lambda: LUA),
+    Timed("mujs", "mujs", [], lambda: JAVASCRIPT),
+    Timed("sqlite3", "sqlite3", ["-batch", "-vfs", "unix-none", ":memory:"], lambda: SQL),
+    Timed("bc", "bc", ["-q"], lambda: BC),
+    Timed("dc", "dc", ["-"], lambda: DC),
+    Timed("picosat", "picosat", [], lambda: formula(120, 510)),
+    Timed("basez", "basez", ["--base64"], lambda: bytes(k * k >> 3 & 255 for k in range(3_000_000))),
+    Timed("markdown", None, [], lambda: prose(12_000)),
+    Timed("json", None, [], lambda: json.dumps(objects(5_000))),
+    Timed("xml", None, [], lambda: xml(12_000)),
+    Timed("yaml", None, [], lambda: yaml(1_200)),
+    Timed("expressions", None, [], lambda: prose(5_000)),
+    Timed("numbers", None, [], lambda: "1500\n"),
+    Timed("deflate", None, [], lambda: prose(2_500)),
+    Timed("digests", None, [], lambda: prose(25_000)),
+    Timed("differences", None, [], lambda: halves(3_000)),
+    Timed("table", None, [], lambda: rows(20_000)),
+]
+
+
+def crates(folder):
+    """The crates of Debian's packages with what they stand on, as cargo reads a folder of them."""
+    room = f"{folder}/crates"
+    registry = f"{room}/unpacked/usr/share/cargo/registry"
+    if os.path.isdir(registry):
+        return registry
+    os.makedirs(f"{room}/lists/partial", exist_ok=True)
+    os.makedirs(f"{room}/cache/archives/partial", exist_ok=True)
+    for name, text in (("sources", "deb [signed-by=/usr/share/keyrings/debian-archive-keyring.gpg] http://deb.debian.org/debian bookworm main\n"), ("status", "")):
+        with open(f"{room}/{name}", "w") as it:
+            it.write(text)
+    places = (("Etc::sourcelist", f"{room}/sources"), ("Etc::sourceparts", "/dev/null"), ("State::lists", f"{room}/lists"), ("State::status", f"{room}/status"), ("Cache", f"{room}/cache"))
+    apt = ["apt-get", "-q", "-y", "-o", "APT::Architecture=amd64", *[word for name, path in places for word in ("-o", f"Dir::{name}={path}")]]
+    subprocess.run([*apt, "update"], capture_output=True, check=True)
+    subprocess.run([*apt, "install", "--download-only", "--no-install-recommends", *[f"librust-{it}-dev" for it in PACKAGES]], capture_output=True, check=True)
+    for name in sorted(os.listdir(f"{room}/cache/archives")):
+        if name.startswith("librust-"):
+            subprocess.run(["dpkg-deb", "-x", f"{room}/cache/archives/{name}", f"{room}/unpacked"], check=True)
+    return registry
+
+
+def built_rust(folder):
+    """Builds the guests in Rust, for wasm and for this machine; gives the two folders."""
+    room = f"{folder}/rust"
+    shutil.copytree(f"{TOP}/bench/rust_guests", room, dirs_exist_ok=True)
+    os.makedirs(f"{room}/.cargo", exist_ok=True)
+    with open(f"{room}/.cargo/config.toml", "w") as it:
+        it.write(f'[source.crates-io]\nreplace-with = "debian"\n[source.debian]\ndirectory = "{crates(folder)}"\n[target.wasm32-wasi]\nrustflags = ["-C", "target-cpu=mvp"]\n')
+    environment = {**os.environ, "RUSTC": "/usr/bin/rustc", "CARGO_HOME": f"{room}/home"}
+    for target in (["--target", "wasm32-wasi"], []):
+        done = subprocess.run(["/usr/bin/cargo", "build", "--quiet", "--release", "--offline", "--bins", *target], cwd=room, env=environment, capture_output=True, text=True)
+        if done.returncode:
+            raise RuntimeError("cargo: " + " ".join([it for it in done.stderr.splitlines() if it.startswith("error")][:3] or [done.stderr[-300:]]))
+    return f"{room}/target/wasm32-wasi/release", f"{room}/target/release"
+
+
+def files(real, folder, it):
+    """The module and the native program of a timed one."""
+    if it.of == "awk":  # its grammar goes through this one
+        real.built(folder, "byacc", PROGRAMS["byacc"])
+    if it.of:
+        module, native, _ = real.built(folder, it.of, PROGRAMS[it.of])
+        return module, native
+    wasm, native = built_rust(folder)
+    module = f"{folder}/rust-{it.name}.wasm"
+    subprocess.run([f"{TOP}/tools/soften", f"{wasm}/{it.name}.wasm", module], check=True)
+    return module, f"{native}/{it.name}"
+
+
+def processor_time():
+    usage = resource.getrusage(resource.RUSAGE_CHILDREN)
+    return usage.ru_utime + usage.ru_stime
+
+
+class Run:
+    """The commands of each engine for one program."""
+
+    def __init__(self, engines, it, module, room):
+        self.given = f"{room}/input"
+        with open(self.given, "wb") as file:
+            file.write(it.input())
+        with open(f"{room}/random", "wb") as file:
+            file.write(bytes(4096))
+        self.report, self.whole, self.load = f"{room}/report", {}, {}
+        for name, program in engines.items():
+            if name == "wasmi":
+                self.whole[name], self.load[name] = [program, module, *it.words], [program, "--load", module]
+            else:
+                begin = [program, "run", "--pages", PAGES, "--random", f"{room}/random"]
+                self.whole[name] = [*begin, "--fuel", FUEL, "--", module, *it.words]
+                self.load[name] = [*begin, "--fuel", "0", "--", module, *it.words]
+
+    def timed(self, words):
+        """Status, output and seconds of the processor."""
+        with open(self.given, "rb") as given:
+            before = processor_time()
+            done = subprocess.run(words, stdin=given, stdout=subprocess.PIPE, stderr=subprocess.DEVNULL)
+            return done.returncode, done.stdout, processor_time() - before
+
+    def units(self, program):
+        words = self.whole["sandbox"]
+        self.timed([program, "run", "--report", self.report, *words[2:]])
+        with open(self.report) as file:
+            return int(re.search(r"^units:(\d+)$", file.read(), re.M)[1])
+
+
+def least(run, native, times):
+    """The least seconds of each engine, whole and of the load; all have to answer as the native program."""
+    whole = {name: math.inf for name in run.whole}
+    load = dict(whole)
+    wanted = run.timed(native)[:2]
+    for _ in range(times):
+        for name in whole:
+            status, out, seconds = run.timed(run.whole[name])
+            if (status, out) != wanted:
+                raise RuntimeError(f"{name} ended with {status} and {len(out)} bytes in place of {wanted[0]} and {len(wanted[1])}")
+            whole[name] = min(whole[name], seconds)
+        for name in whole:
+            load[name] = min(load[name], *(run.timed(run.load[name])[2] for _ in range(3)))
+    return whole, load
+
+
+def instructions(words, given):
+    """The x86 instructions of a command, by callgrind."""
+    with tempfile.TemporaryDirectory() as room, open(given, "rb") as source:
+        tool = ["valgrind", "--tool=callgrind", f"--callgrind-out-file={room}/out"]
+        done = subprocess.run([*tool, *words], stdin=source, stdout=subprocess.DEVNULL, stderr=subprocess.PIPE, text=True)
+    return int(re.search(r"Collected : (\d+)", done.stderr)[1])
+
+
+def mean(values):
+    return math.exp(sum(map(math.log, values)) / len(values))
+
+
+def told(name, ratios, seconds, units, costs):
+    line = f"{name:14}{units / 1e6:9.1f} M units {seconds:7.3f} s net"
+    for other, of in ratios.items():
+        line += f"   {other}: " + ", ".join(f"{TITLES[kind]} {of[kind]:.2f}" for kind in KINDS)
+    return line + "".join(f"   x86 a unit, {engine}: {it:.2f}" for engine, it in costs.items()) + ("" if seconds >= LEAST else f"   shorter than {LEAST} s")
+
+
+def measured(given, engines, it, module, native):
+    """A program's ratios, the others' time by ours, and its x86 instructions a unit; prints its line."""
+    with tempfile.TemporaryDirectory(dir="/dev/shm" if os.access("/dev/shm", os.W_OK) else None) as room:
+        run = Run(engines, it, module, room)
+        whole, load = least(run, [native, *it.words], given.times)
+        units = run.units(engines["sandbox"])
+        net = {name: max(whole[name] - load[name], 1e-6) for name in whole}
+        times = {"net": net, "whole": whole, "load": load}
+        ratios = {other: {kind: times[kind][other] / times[kind]["sandbox"] for kind in KINDS} for other in engines if other != "sandbox"}
+        ours = [name for name in engines if name != "wasmi"] if given.instructions else []
+        costs = {name: (instructions(run.whole[name], run.given) - instructions(run.load[name], run.given)) / units for name in ours}
+    print(told(it.name, ratios, net["sandbox"], units, costs), flush=True)
+    return ratios, costs
+
+
+def table(found, others, heading):
+    """The table for `docs/USING.md`: a row a program, the means, the least and the greatest."""
+    heads = [f"{other} ({heading[other]}, {TITLES[kind]})" for other in others for kind in KINDS]
+    lines = [["Program", *heads], ["---"] * (1 + len(heads))]
+    cells = {name: [ratios[other][kind] for other in others for kind in KINDS] for name, (ratios, _) in found.items()}
+    lines += [[name, *[f"{it:.2f}" for it in row]] for name, row in cells.items()]
+    lines.append(["**geometric mean**", *[f"{mean(column):.2f}" for column in zip(*cells.values())]])
+    return "".join(f"| {' | '.join(it)} |\n" for it in lines)
+
+
+def engines_of(given):
+    """What is timed, `sandbox` first: wasmi out of `bench/peers`, and the program of --beside."""
+    engines = {"sandbox": given.program}
+    done = subprocess.run([f"{TOP}/bench/peers", "--program", "wasmi", given.peers], stdout=subprocess.PIPE, text=True)
+    if done.returncode:
+        print("wasmi isn't there: bench/peers says why")
+    else:
+        program, version = done.stdout.splitlines()
+        engines["wasmi"] = f"{os.path.dirname(program)}/guest"
+        print(f"wasmi {version}")
+    if given.beside:
+        engines["beside"] = os.path.abspath(given.beside)
+    return engines
+
+
+def load_of_machine():
+    return f"load {os.getloadavg()[0]:.1f} on {os.cpu_count()} processors"
+
+
+def rows_of(given, real):
+    """Times the programs that are asked for; gives how many answer otherwise or aren't built."""
+    engines, found, failed = engines_of(given), {}, 0
+    version = subprocess.run([given.program, "--version"], capture_output=True, text=True).stderr.split()[-1]
+    print(f"sandbox {version}; the others' time by ours, processor time, best of {given.times} in turn; {load_of_machine()}", flush=True)
+    for it in TIMED:
+        if given.names and it.name not in given.names:
+            continue
+        try:
+            module, native = files(real, given.folder, it)
+            found[it.name] = measured(given, engines, it, module, native)
+        except (RuntimeError, subprocess.CalledProcessError, OSError) as problem:
+            print(f"{it.name:14} FAILED: {problem}"[:400], flush=True)
+            failed += 1
+    others = [it for it in engines if it != "sandbox"]
+    for other in others if found else []:
+        for kind in KINDS:
+            values = [ratios[other][kind] for ratios, _ in found.values()]
+            print(f"{other}, {TITLES[kind]}: mean {mean(values):.2f}, from {min(values):.2f} to {max(values):.2f} over {len(values)} programs")
+    for engine in engines if given.instructions and found else []:
+        values = [costs[engine] for _, costs in found.values() if engine in costs]
+        if values:
+            print(f"x86 instructions a unit, {engine}: mean {mean(values):.2f}, from {min(values):.2f} to {max(values):.2f}")
+    print(load_of_machine())
+    if given.table and found:
+        with open(given.table, "w", encoding="utf-8") as file:
+            file.write(table(found, others, {"wasmi": version, "beside": version}))
+    return failed
