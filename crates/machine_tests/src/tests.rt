@@ -4,6 +4,7 @@
 mod branches;
 mod edges_32;
 mod edges_64;
+mod frames;
 mod guests;
 mod instances;
 mod memories;
