@@ -1,0 +1,369 @@
+"""The process at its edges: closed streams, locks of others, disks without room, small stacks, and a kill at each call of the system.
+
+A closed stream stays closed: a guest is answered 29 there, and a command that needs it ends with 124. No file gets a byte that isn't
+its role's. What is refused has cut and written nothing.
+"""
+import collections
+import fcntl
+import io
+import os
+import re
+import resource
+import signal
+import stat
+import subprocess
+import tarfile
+
+from common import Wrong, succeeded
+from files import COMMANDS, SECTORS, SLOTS, Scene, content, drawn, wanted
+
+KEYS = "end code text offset status units fuel pages read written complained calls syncs volume blame".split()
+
+
+def prepare(setting):
+    """Makes the files that scenes are copies of, before processes are forked."""
+    Scene(setting).__exit__()
+    with Scene(setting) as it:
+        it.made("--volume", "d")
+        succeeded(setting, "run", "--volume", f"{it.folder}/d", f"{it.folder}/{it.made('module')}")
+        Scene.templates["after"] = content(f"{it.folder}/d")
+    return setting
+
+
+def tar_of(name, size):
+    out = io.BytesIO()
+    with tarfile.open(fileobj=out, mode="w", format=tarfile.USTAR_FORMAT) as it:
+        member = tarfile.TarInfo(name)
+        member.size = size
+        it.addfile(member, io.BytesIO(b"x" * size))
+    return out.getvalue()
+
+
+def described(given):
+    """A descriptor from which these bytes are read."""
+    number = os.memfd_create("given")
+    os.write(number, given)
+    os.lseek(number, 0, os.SEEK_SET)
+    return number
+
+
+GIVEN = {"put": b"new" * 300, "import": tar_of("member", 900)}
+
+# Words of runs, with what each writes.
+RUNS = [
+    ["m"],
+    ["--report", "r", "m"],
+    ["--volume", "d", "m"],
+    ["--volume", "d", "--report", "r", "m"],
+    ["--image", "i", "--volume-out", "v", "m"],
+    ["--image", "i", "--volume-out", "i", "--report", "r", "m"],
+    ["--stdin", "in", "--stdout", "o", "--stderr", "e", "--report", "r", "m"],
+    ["--stdout", "o", "--volume", "d", "m"],
+    ["--stdin", "in", "--random", "x", "m"],
+]
+
+
+def run_scene(setting):
+    it = Scene(setting)
+    for role, name in (("module", "m"), ("--volume", "d"), ("--image", "i"), ("--stdin", "in"), ("--random", "x"), ("--stdout", "o"), ("--stderr", "e")):
+        it.made(role, name)
+    return it
+
+
+def closing(numbers):
+    def close():
+        for each in numbers:
+            os.close(each)
+
+    return close
+
+
+def right_report(text, code, status):
+    """Whether a report has its lines, and no others, and tells this end."""
+    lines = [it.partition(":")[::2] for it in text.decode().splitlines()]
+    found = dict(lines)
+    return [it[0] for it in lines][: len(KEYS)] == KEYS and (found["end"], found["code"], found["status"]) == ("exit", str(code), str(status))
+
+
+def closed_run(setting, item):
+    """A run some of whose standard streams are closed: the guest exits with a bit for each that answered 29."""
+    words, closed = RUNS[item[0]], [it for it in (0, 1, 2) if item[1] >> it & 1]
+    with run_scene(setting) as it:
+        before = it.files()
+        got = it.call(["run", *words], before=closing(closed))
+        after, what = it.files(), f"run {' '.join(words)} with {closed} closed: status {got[0]}, {got[2][:200]!r}"
+        own = [name for name in ("--stdin", "--stdout", "--stderr") if name in words]
+        code = sum(1 << each for each in closed if ("--stdin", "--stdout", "--stderr")[each] not in own)
+        wanted(got[0] == code, f"{what}, and not {code}")
+        wanted(1 in closed or "--stdout" in words or got[1] == b"OUT\n", f"{what}: {got[1]!r}")
+        wanted(got[2] == ("" if 2 in closed or "--stderr" in words else "ERR\n"), what)
+        expected = dict(before)
+        if "--volume" in words:
+            expected["d"] = Scene.templates["after"]
+        if "--volume-out" in words:
+            expected[words[words.index("--volume-out") + 1]] = Scene.templates["after"]
+        if "--stdout" in words:
+            expected["o"] = b"OUT\n"
+        if "--stderr" in words:
+            expected["e"] = b"ERR\n"
+        if "--report" in words:
+            wanted(right_report(after.get("r", b""), code, code), f"{what}: the report {after.get('r', b'')[:90]!r}")
+            expected["r"] = after["r"]
+        wrong = [name for name in {*after, *expected} if after.get(name) != expected.get(name)]
+        wanted(not wrong, f"{what}: {', '.join(sorted(wrong))} has other bytes")
+    return "runs"
+
+
+def closed_list(setting, number):
+    """A list of runs, which needs no standard stream."""
+    closed = [it for it in (0, 1, 2) if number >> it & 1]
+    with run_scene(setting) as it:
+        with open(f"{it.folder}/list", "w") as file:
+            file.write("in o e r\nin o2 e2 r2\n")
+        got = it.call(["run", "--tests", "list", "m"], before=closing(closed))
+        what = f"a list with {closed} closed: status {got[0]}, {got[2][:200]!r}"
+        wanted(got == (0, b"", ""), what)
+        for out, err, report in (("o", "e", "r"), ("o2", "e2", "r2")):
+            found = [content(f"{it.folder}/{name}") for name in (out, err, report)]
+            wanted(found[:2] == [b"OUT\n", b"ERR\n"] and right_report(found[2], 0, 0), f"{what}: {found}")
+    return "lists"
+
+
+def closed_command(setting, item):
+    """A command on a volume with closed streams: what it needs is refused, and else it does what it does with open ones."""
+    (words, does), closed = COMMANDS[item[0]], [it for it in (0, 1, 2) if item[1] >> it & 1]
+    given = GIVEN.get(words[0], b"")
+    with Scene(setting) as it:
+        it.made("--volume", "d")
+        before, number = content(f"{it.folder}/d"), described(given)
+        whole = it.call(words, streams=(number, None, None))
+        os.close(number)
+        changed = content(f"{it.folder}/d")
+        it.made("--volume", "d")
+        number = described(given)
+        got = it.call(words, streams=(number, None, None), before=closing(closed))
+        os.close(number)
+        after, what = content(f"{it.folder}/d"), f"{' '.join(words)} with {closed} closed: status {got[0]}, {got[2][:200]!r}"
+        lacks = 0 in closed and does == "reads" or 1 in closed and does == "prints"
+        wanted(got[0] == (124 if lacks else whole[0]), f"{what}, and not {124 if lacks else whole[0]}")
+        wanted(lacks or 1 in closed or got[1] == whole[1], f"{what}: {got[1]!r}")
+        wanted(2 in closed or got[2].startswith("sandbox: ") == (got[0] != 0), what)
+        wanted(after == (changed if not lacks else before) or lacks and does == "reads", f"{what}: the volume has other bytes")
+        wanted(it.call(["check", "d"])[0] == 0, f"{what}: the volume is damaged")
+        wanted(os.listdir(it.folder) == ["d"], f"{what}: another file")
+    return "commands"
+
+
+def closed(setting):
+    """The row: each run and each command with each choice of closed streams."""
+    prepare(setting)
+    found = collections.Counter()
+    choices = [(at, number) for at in range(len(RUNS)) for number in range(1, 8)]
+    commands = [(at, number) for at in range(len(COMMANDS)) for number in range(1, 8)]
+    for function, items in ((closed_run, drawn(setting, choices, 30)), (closed_list, range(1, 8)), (closed_command, drawn(setting, commands, 40))):
+        found.update(setting.each(lambda item, function=function: function(setting, item), items))
+    return sum(found.values()), ", ".join(f"{name} {count}" for name, count in sorted(found.items()))
+
+
+# What another process locks, and whether a run is refused then, by an exclusive and by a shared lock.
+LOCKED = {"m": (0, 0), "in": (0, 0), "x": (0, 0), "i": (1, 0), "o": (1, 1), "e": (1, 1), "r": (1, 1), "v": (1, 1), "d": (1, 1)}
+
+
+def locked(setting, item):
+    """Another process holds a file locked."""
+    name, is_shared = item
+    words = ["--stdin", "in", "--stdout", "o", "--stderr", "e", "--report", "r", "--random", "x"]
+    words += ["--volume", "d"] if name == "d" else ["--image", "i", "--volume-out", "v"]
+    with run_scene(setting) as it:
+        for role, each in (("--report", "r"), ("--volume", "v")):
+            it.made(role, each)
+        before = it.files()
+        with open(f"{it.folder}/{name}", "rb") as held:
+            fcntl.flock(held, fcntl.LOCK_SH if is_shared else fcntl.LOCK_EX)
+            got = it.call(["run", *words, "m"])
+        what = f"{name} is locked, {'shared' if is_shared else 'alone'}: status {got[0]}, {got[2][:200]!r}"
+        if not LOCKED[name][is_shared]:
+            wanted(got == (0, b"", ""), f"{what}: it isn't taken")
+            return "locks"
+        wanted(got[0] == 124 and got[2].startswith("sandbox: fault 41\n"), f"{what}: it isn't refused")
+        after = it.files()
+        changed = [each for each in before if after.get(each) != before[each] and each != "r" or name == "r" == each and after[each] != before[each]]
+        wanted(not changed and after.keys() == before.keys(), f"{what}: {changed} changed, or a file is new")
+    return "locks"
+
+
+def limited(most):
+    def limit():
+        signal.signal(signal.SIGXFSZ, signal.SIG_IGN)
+        resource.setrlimit(resource.RLIMIT_FSIZE, (most, most))
+
+    return limit
+
+
+def without_room(setting, item):
+    """No file may be longer than `most` bytes: an old volume stays whole, and nothing is left beside it."""
+    words, most = item
+    with run_scene(setting) as it:
+        it.made("--volume", "v")
+        before = it.files()
+        got = it.call(words, before=limited(most))
+        after, what = it.files(), f"{' '.join(words)} with files of {most} bytes at most: status {got[0]}, {got[2][:200]!r}"
+        wanted(got[0] in (123, 124) and got[2].splitlines()[0:] and all(line.startswith("sandbox: ") or line == "ERR" for line in got[2].splitlines()), what)
+        wanted(after.keys() == before.keys(), f"{what}: {sorted(after.keys() ^ before.keys())}")
+        for name in before:
+            wanted(after[name] == before[name] or name in words and name in "oe", f"{what}: {name} has changed")
+    return "limits"
+
+
+def room_items():
+    for most in (0, 512, 16_384, 50_000):
+        yield ["run", "--image", "i", "--volume-out", "v", "m"], most
+        yield ["run", "--image", "i", "--volume-out", "i", "m"], most
+        yield ["run", "--image", "i", "--volume-out", "new", "m"], most
+
+
+def in_place(setting, kind):
+    """Where `--volume-out` can't replace FILE it writes it in place and says so; else mode, owner and link stay."""
+    with run_scene(setting) as it:
+        it.made("--volume", "v")
+        path, more, name = f"{it.folder}/v", 0, "v"
+        os.chmod(path, 0o640)
+        if kind == "hard link":
+            os.link(path, f"{it.folder}/other")
+            more = 1
+        elif kind == "symbolic link":
+            os.mkdir(f"{it.folder}/below")
+            os.rename(path, f"{it.folder}/below/v")
+            os.symlink("below/v", path)
+        elif kind == "folder":
+            os.mkdir(f"{it.folder}/below")
+            os.rename(path, f"{it.folder}/below/v")
+            os.chmod(f"{it.folder}/below/v", 0o666)
+            os.chmod(f"{it.folder}/below", 0o555)
+            name, path, more = "below/v", f"{it.folder}/below/v", 1
+            os.chmod(it.folder, 0o755)
+        nobody = (lambda: os.setuid(65534)) if kind == "folder" and os.geteuid() == 0 else None
+        got = it.call(["run", "--image", "i", "--volume-out", name, "m"], before=nobody)
+        what = f"--volume-out and a {kind}: status {got[0]}, {got[2][:200]!r}"
+        wanted(got[:2] == (0, b"OUT\n") and content(path) == Scene.templates["after"], what)
+        lines = [line for line in got[2].splitlines() if line != "ERR"]
+        wanted(len(lines) == more and all(line.startswith("sandbox: ") for line in lines), f"{what}: the lines")
+        wanted(kind != "symbolic link" or os.path.islink(path) and os.listdir(f"{it.folder}/below") == ["v"], f"{what}: the link")
+        wanted(stat.S_IMODE(os.stat(path).st_mode) == (0o666 if kind == "folder" else 0o640), f"{what}: the mode")
+        wanted(kind != "hard link" or content(f"{it.folder}/other") == Scene.templates["after"], f"{what}: the other name")
+    return "in place"
+
+
+def hosts(setting):
+    """The row: locks of others, files without room, and what can't be replaced."""
+    prepare(setting)
+    os.chmod(setting.room, 0o755)
+    found = collections.Counter()
+    locks = [(name, is_shared) for name in LOCKED for is_shared in (False, True)]
+    for function, items in ((locked, locks), (without_room, drawn(setting, room_items(), 4)), (in_place, ["file", "hard link", "symbolic link", "folder"])):
+        found.update(setting.each(lambda item, function=function: function(setting, item), items))
+    return sum(found.values()), ", ".join(f"{name} {count}" for name, count in sorted(found.items()))
+
+
+STACK = 256 * 1024  # bytes
+
+
+def small_stack():
+    resource.setrlimit(resource.RLIMIT_STACK, (STACK, STACK))
+
+
+def stack(setting, item):
+    """A call with a small stack ends as one with a large one, and leaves the same."""
+    words, given = item
+    told = []
+    for before in (None, small_stack):
+        with run_scene(setting) as it:
+            number = described(given)
+            got = it.call(words, streams=(number, None, None), before=before)
+            os.close(number)
+            told.append((got, it.files()))
+    if told[0] != told[1]:
+        raise Wrong(f"{' '.join(words)} with a stack of 256 KiB: status {told[1][0][0]}, {told[1][0][2][:200]!r}, and not {told[0][0][0]}")
+    return 1
+
+
+def stacks(setting):
+    """The row: each command with a stack of 256 KiB."""
+    prepare(setting)
+    items = [(words, GIVEN.get(words[0], b"")) for words, _ in COMMANDS] + [(["run", *words], b"") for words in RUNS]
+    items += [(["inspect", "m"], b""), (["help"], b""), (["help", "run"], b""), (["help", "faults"], b""), (["--version"], b""), (["nonsense"], b"")]
+    with Scene(setting) as it:
+        with open(f"{it.folder}/list", "w") as file:
+            file.write("/dev/null /dev/null /dev/null /dev/null\n")
+        items.append((["run", "--tests", f"{it.folder}/list", "m"], b""))
+        return sum(setting.each(lambda item: stack(setting, item), items)), "each as with a large stack"
+
+
+# Calls of the system before the program's own first step: its loader's.
+CALL = re.compile(r"\d+ +(\w+)\(")
+KILLED = [
+    (["run", "--image", "i", "--volume-out", "i", "m"], ["i"], b""),
+    (["run", "--image", "i", "--volume-out", "v", "m"], ["v"], b""),
+    (["run", "--image", "i", "--volume-out", "new", "m"], ["new"], b""),
+    (["run", "--volume", "d", "--stdin", "in", "--stdout", "o", "--report", "r", "m"], ["d"], b""),
+    *((words, ["d"], GIVEN.get(words[0], b"")) for words, _ in COMMANDS if words[:2] != ["rm", "d"] or words[2] == "/kept"),
+]
+
+
+def killed_scene(setting):
+    it = run_scene(setting)
+    it.made("--volume", "v")
+    return it
+
+
+def calls_of(setting, words, given):
+    """Names of the calls of the system that a command makes, and which call of its name each is."""
+    with killed_scene(setting) as it:
+        number = described(given)
+        with open(f"{it.folder}/.trace", "w"):
+            pass
+        subprocess.run(["strace", "-f", "-o", f"{it.folder}/.trace", setting.program, *words], cwd=it.folder, stdin=number, capture_output=True)
+        os.close(number)
+        with open(f"{it.folder}/.trace") as lines:
+            names = [found[1] for found in map(CALL.match, lines) if found]
+    counts = collections.Counter()
+    for name in names:
+        counts[name] += 1
+        yield name, counts[name]
+
+
+def killed(setting, item):
+    """A kill at one call of the system: each file is the old one or the new one, or a volume in order; a later call removes litter."""
+    at, name, number = item
+    words, targets, given = KILLED[at]
+    with killed_scene(setting) as it:
+        before, source = it.files(), described(given)
+        inject = ["strace", "-f", "-o", os.devnull, "-e", f"trace={name}", "-e", f"inject={name}:signal=KILL:when={number}"]
+        subprocess.run([*inject, setting.program, *words], cwd=it.folder, stdin=source, capture_output=True)
+        os.close(source)
+        after, what = it.files(), f"{' '.join(words)}, killed at {name} number {number}"
+        for each in before:
+            if each in targets or each in words and each in ("o", "e", "r"):
+                continue
+            wanted(after.get(each) == before[each], f"{what}: {each} has changed")
+        for each in targets:
+            if "--volume-out" in words:
+                wanted(after.get(each) in (before.get(each), Scene.templates["after"]), f"{what}: {each} has {len(after.get(each, b''))} bytes")
+            else:
+                check = it.call(["check", each])
+                is_fine = check[0] == 0 or words[0] == "format" and check[2].startswith("sandbox: fault 30")
+                wanted(is_fine, f"{what}: {check}")
+        source = described(given)
+        again = it.call(words, streams=(source, None, None))
+        os.close(source)
+        wanted(again[0] == 0 or "errno" in again[2], f"{what}, and called again: {again}")
+        litter = it.files().keys() - before.keys() - {*targets, *words}
+        wanted(not litter, f"{what}, and called again: {sorted(litter)} is left")
+    return 1
+
+
+def kills(setting):
+    """The row: each command, killed at each of its calls of the system."""
+    prepare(setting)
+    items = [(at, *call) for at, (words, _, given) in enumerate(KILLED) for call in calls_of(setting, words, given) if call[0] not in ("execve", "exit_group")]
+    return sum(setting.each(lambda item: killed(setting, item), drawn(setting, items, 60))), f"of {len(items)} calls of {len(KILLED)} commands"
