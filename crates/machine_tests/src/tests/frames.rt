@@ -55,6 +55,9 @@ pub(super) const CALLERS: &[u8] = b"\0asm\x01\0\0\0\
 /// Where `_start` says what it calls function 2 with.
 const ARGUMENT: usize = 0x81;
 
+/// Where function 2 says how much it takes off what it was called with.
+const TAKEN_OFF: usize = 0x76;
+
 /// Where function 2 says which place of the table it calls.
 const PLACE: usize = 0x79;
 
@@ -213,8 +216,8 @@ fn no_frames_of_an_end(rt: HostRuntime) {
         &rt,
         rt.alloc(),
         &[
-            // 100,000 by 2
-            (ARGUMENT, 3, 1_000, &[]),
+            // 100,000 by -1
+            (TAKEN_OFF, 2, 1_000, &[]),
         ],
     );
 }
