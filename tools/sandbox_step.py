@@ -33,7 +33,8 @@ Keeping results:
   --again                with --keep: do the step, and compare with what is kept
 
 The program:
-  --sandbox PROGRAM      the program `sandbox`; else SANDBOX of the environment, else the one beside this script, else /usr/local/bin/sandbox
+  --sandbox PROGRAM      the program `sandbox`; else SANDBOX of the environment, else the one beside this script, else out/sandbox of its
+                         checkout, else /usr/local/bin/sandbox
   --help                 this text
 
 The guest has /in, /out and /tmp, and sees nothing else. PATHs stay below /in and /out, and so do names of what the guest leaves.
@@ -42,7 +43,7 @@ Nothing is at any HOST unless the status is 0. Only a step that ended well is ke
 Exit status: 0 done; 1 the guest ended otherwise than by exit 0 (or one of --exit), or left no such output; 2 the words or the inputs
 are refused; 3 a bound was passed: the wall clock, the output, or memory, or the program was killed again though a known run goes well
 here; 4 the same step came out differently (--again); 75 the machine is to blame, after one more try; 128 and a signal's number where
-that ended the step. A line on standard error says it. README and docs/FARMS.md tell more.
+that ended the step. A line on standard error says it. docs/FARMS.md tells more.
 """
 import errno
 import fcntl
@@ -201,9 +202,9 @@ def words_of(argv):
         raise Refused("/out is no file: --out-dir")
     check_places(it)
     if not it["sandbox"]:
-        beside = os.path.join(os.path.dirname(os.path.realpath(os.fsencode(sys.argv[0]))), b"sandbox")
-        named = os.environb.get(b"SANDBOX")
-        it["sandbox"] = named or (beside if os.path.isfile(beside) else b"/usr/local/bin/sandbox")
+        own = os.path.dirname(os.path.realpath(os.fsencode(sys.argv[0])))
+        places = [os.path.join(folder, b"sandbox") for folder in (own, os.path.dirname(os.path.abspath(os.fsencode(sys.argv[0]))), os.path.join(own, b"../out"))]
+        it["sandbox"] = os.environb.get(b"SANDBOX") or next((path for path in places if os.path.isfile(path)), b"/usr/local/bin/sandbox")
     return it
 
 
@@ -397,22 +398,19 @@ def parent_for(size, tried):
     return next((path for path in found if path not in tried), found[0])
 
 
-def program_in(memory_or_room, inside):
-    """A path of the program's copy: what is run is what was hashed. It is in memory, since folders of memory are often `noexec`."""
+def program_in(room, inside):
+    """A path of the program's copy, and what holds it: what is run is what was hashed. It is in memory, since folders of memory are often `noexec`."""
     try:
-        fd = os.memfd_create("sandbox", os.MFD_CLOEXEC)
-        path = b"/proc/self/fd/%d" % fd
+        fd = os.memfd_create("sandbox", os.MFD_CLOEXEC) if os.path.exists(b"/proc/self/fd") else None
     except OSError:
-        fd, path = -1, memory_or_room(b"sandbox")
-        fd = os.open(path, os.O_RDWR | os.O_CREAT | os.O_EXCL | os.O_CLOEXEC, 0o700)
+        fd = None
+    path = room(b"sandbox") if fd is None else b"/proc/self/fd/%d" % fd
+    fd = os.open(path, os.O_RDWR | os.O_CREAT | os.O_EXCL | os.O_CLOEXEC, 0o700) if fd is None else fd
     put(fd, inside, 0)
-    if path.startswith(b"/proc/") and os.path.exists(path):
-        reader = os.open(path, os.O_RDONLY)    # nothing that is open to write is run
-        os.set_inheritable(reader, True)       # a program that is a script is opened once more by its interpreter
-        os.close(fd)
-        return b"/proc/self/fd/%d" % reader, reader
+    reader = os.open(path, os.O_RDONLY)        # nothing that is open to write is run
     os.close(fd)
-    return path, None
+    os.set_inheritable(reader, True)           # a program that is a script is opened once more by its interpreter
+    return b"/proc/self/fd/%d" % reader if path.startswith(b"/proc/") else path, reader
 
 
 def in_child(words, program, streams, limits, leash, mine):
@@ -456,15 +454,15 @@ def ended(words, program, streams, limits, wall):
         for fd in (tell, leash):
             os.close(fd)
         wrong = os.read(said, 8)
-        child_was, (_, status) = child, os.waitpid(child, 0)
+        _, status = os.waitpid(child, 0)
         child = None
     finally:
         signal.setitimer(signal.ITIMER_REAL, 0)
         if child:
             os.kill(child, signal.SIGKILL)
             os.waitpid(child, 0)
-        os.close(said)
-        os.close(mine)
+        for fd in (said, mine):
+            os.close(fd)
     if wrong:
         raise Machine(f"{shown(words[0])}: {os.strerror(int(wrong))}")
     status = os.waitstatus_to_exitcode(status)
@@ -551,8 +549,7 @@ def performed(it, inside, module, stdin, tree, sectors, slots, room):
                 cause.again = None
             raise
     finally:
-        if reader is not None:
-            os.close(reader)
+        os.close(reader)
     if complained:
         tell(complained)
     left = None

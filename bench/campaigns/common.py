@@ -30,6 +30,8 @@ LINES = {
     123: "sandbox: fault 33",
     124: rf"sandbox: (fault 32\nsandbox: (sector \d+: )?[^\n:]+|fault (\d|1[0-6]|2[0-2]|3[0-6]|41)( at \d+)?|errno \d+|(.*: )?({STREAMS}|errno \d+|fault 41))",
 }
+# What a line of a fault means, in words, may stand behind it.
+IN_WORDS = "(\nsandbox: [^\n]+)*"
 
 
 class Wrong(Exception):
@@ -117,7 +119,7 @@ def by_the_table(status, said):
     """Whether a status and error output stand in the table of statuses."""
     line = LINES.get(status)
     # the guest may have written before it
-    return bool(re.search(line + "\n\\Z", said)) if line else 0 <= status < 119 and "sandbox:" not in said
+    return bool(re.search(line + (IN_WORDS if status >= 122 else "") + "\n\\Z", said)) if line else 0 <= status < 119 and "sandbox:" not in said
 
 
 def answer(setting, words, given=b"", seconds=2):

@@ -7,6 +7,7 @@ import fcntl
 import itertools
 import os
 import random
+import re
 import shutil
 import subprocess
 import tempfile
@@ -20,6 +21,8 @@ OF_LISTS = ["--tests", "INPUT", "OUTPUT", "ERRORS", "REPORT"]
 LIST_READS, LIST_WRITES = ["--tests", "INPUT"], ["OUTPUT", "ERRORS", "REPORT"]
 WITH_LISTS = ["module", "--image", "--random", *OF_LISTS]
 VOLUMES = ["--volume", "--image", "--volume-out"]
+# Of a line of a list: where they are one file, it may hold the report of the refusal then, which is the REPORT's own part.
+TOLD_IN = [("OUTPUT", "REPORT"), ("ERRORS", "REPORT")]
 NAMES = ["the same", "relative", "absolute", "symbolic link", "hard link", "/dev/fd", "/proc/self/fd"]
 COLUMNS = ["INPUT", "OUTPUT", "ERRORS", "REPORT"]
 SECTORS, SLOTS = "160", "8"
@@ -80,9 +83,9 @@ class Scene:
             for each in ("in2", "o2", "e2", "r2"):
                 self.made("INPUT", each)
             line = " ".join(names.get(it) or self.made(it) for it in COLUMNS)
-            if "--tests" not in names:
-                names["--tests"] = "list"
-                with open(f"{self.folder}/list", "w") as it:
+            if "--tests" not in names or any(it in COLUMNS for it in names):
+                names.setdefault("--tests", "list")
+                with open(f"{self.folder}/{names['--tests']}", "w") as it:
                     it.write(f"{line}\nin2 o2 e2 r2\n")
         options = [word for role, name in names.items() if role.startswith("--") for word in (role, name)]
         return ["run", *options, names.get("module") or self.made("module")]
@@ -139,8 +142,12 @@ def pair(setting, item):
             os.close(each)
         after, what = it.files(), told((first, second), kind, got)
         if (is_written(first) or is_written(second)) and {first, second} != {"--image", "--volume-out"}:
+            if (first, second) in TOLD_IN and after[name] != before[name]:
+                wanted(got[0] == 124 and after[name].startswith(b"end:fault\ncode:41\n"), what)
+                return "refused, as the file says"
             return refused(before, after, got, what, name, is_list=first in OF_LISTS or second in OF_LISTS, folder=it.folder)
-        wanted(by_the_table(got[0], got[2]), what)
+        in_place = "sandbox: .*: written in place, .*\n" if second == "--volume-out" and kind == "hard link" else ""
+        wanted(by_the_table(got[0], re.sub(in_place, "", got[2]) if in_place else got[2]), what)
         return taken(setting, item, got, after, before, what)
 
 
@@ -178,7 +185,7 @@ def taken(setting, item, got, after, before, what):
 def pairs():
     for roles in (READS + WRITES, WITH_LISTS):
         for first, second in itertools.combinations(roles, 2):
-            if {first, second} != {"--volume", "--image"} and not (roles is WITH_LISTS and not {first, second} & {*OF_LISTS}):
+            if not {"--volume"} < {first, second} <= {*VOLUMES} and not (roles is WITH_LISTS and not {first, second} & {*OF_LISTS}):
                 yield from ((first, second, kind) for kind in NAMES)
 
 
@@ -322,6 +329,38 @@ def devices(setting, _):
     return "devices"
 
 
+FORGED = ["no\nsandbox: fault 0", "no\r\x1b[2Ksandbox: fault 0", "no\x9b2Jsandbox: fault 0\n", "-no\n\nsandbox: exit 0"]
+
+
+def names():
+    for name in FORGED:
+        yield from ((role, name) for role in [*READS, *WRITES, "--tests", "FILE", "PATH", "hard link"])
+
+
+def no_forged_line(setting, item):
+    """A name that holds lines or escapes, of a file that isn't there, in a folder that isn't, or in words about one that is."""
+    role, name = item
+    with Scene(setting) as it:
+        it.made("--volume", "d")
+        wrong = name if role in READS + ["--tests"] else f"{name}/file"
+        words = [["ls", "--", f"{it.folder}/{wrong}", "/"], ["ls", "d", f"/{wrong}"]][role == "PATH"]
+        if role == "hard link":
+            it.made("--volume", name)
+            os.link(f"{it.folder}/{name}", f"{it.folder}/other")
+            words = it.words({"--volume-out": f"{it.folder}/{name}"})
+        elif role not in ("FILE", "PATH"):
+            words = it.words({role: f"{it.folder}/{wrong}"})
+            if role == "--tests":
+                words = ["run", "--tests", f"{it.folder}/{wrong}", it.made("module")]
+        got = it.call(words)
+        lines = got[2].removeprefix("ERR\n").split("\n")
+        what = f"the name {name!r} as {role}: status {got[0]}, {got[2]!r}"
+        wanted(got[0] == (0 if role == "hard link" else 124), what)
+        wanted(lines.pop() == "" and all(re.fullmatch("sandbox: [^\0-\x1f\x7f]+", line) for line in lines), what)
+        wanted(not {"sandbox: fault 0", "sandbox: exit 0"} & {*lines}, what)
+    return "names"
+
+
 def drawn(setting, items, quick):
     items = [*items]
     return random.Random(setting.seed).sample(items, min(quick, len(items))) if setting.is_quick else items
@@ -336,6 +375,7 @@ def roles(setting):
         (stream_pair, drawn(setting, stream_pairs(), 30)),
         (command_pair, drawn(setting, command_pairs(), 30)),
         (list_row, range(len(list_rows()))),
+        (no_forged_line, drawn(setting, names(), 12)),
         (devices, [0]),
     ):
         for it in setting.each(lambda item, function=function: function(setting, item), items):

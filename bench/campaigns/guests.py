@@ -23,16 +23,19 @@ def put(local):
     return (0x21, (local,))
 
 
-def guest(calls, code, local=(), pages=1, datas=(), most=None):
-    """A module whose `_start` has this code; a text in it is a call of that name. `calls` has each name with the letters of what it takes."""
+def guest(calls, code, local=(), pages=1, datas=(), most=None, others=()):
+    """A module whose `_start` has this code; a text in it is a call of that name. `calls` has each name with the letters of what it takes.
+
+    Functions that take and give nothing come after it.
+    """
     it = Module(wasm_binary.MAGIC)
     names = [*calls]
     it.types = [([], []), *(([KINDS[each] for each in calls[name]], [] if name == "proc_exit" else [I32]) for name in names)]
     it.imports = [(WASI, name.encode(), 0, 1 + at) for at, name in enumerate(names)]
-    it.functions, it.memories = [0], [(pages, most)]
+    it.functions, it.memories = [0] * (1 + len(others)), [(pages, most)]
     it.exports = [(b"_start", 0, len(names)), (b"memory", 2, 0)]
     it.datas = [([const(at), END], content) for at, content in datas]
-    it.bodies = [Body([(1, KINDS[each]) for each in local], [(0x10, (names.index(each),)) if isinstance(each, str) else each for each in code] + [END])]
+    it.bodies = [Body([(1, KINDS[each]) for each in local], [(0x10, (names.index(each),)) if isinstance(each, str) else each for each in code] + [END]), *others]
     return it.bytes()
 
 

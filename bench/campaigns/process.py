@@ -4,11 +4,13 @@ A closed stream stays closed: a guest is answered 29 there, and a command that n
 its role's. What is refused has cut and written nothing.
 """
 import collections
+import contextlib
 import fcntl
 import io
 import os
 import re
 import resource
+import shutil
 import signal
 import stat
 import subprocess
@@ -154,13 +156,34 @@ def closed_command(setting, item):
     return "commands"
 
 
+OTHERS = [["inspect", "m"], ["inspect", "d"], ["inspect", "nothing"], ["help"], ["help", "run"], ["help", "faults"], ["--version"], ["nonsense"]]
+OTHERS += [["run", "--volume", "nothing", "m"], ["run", "--image", "i", "--volume", "d", "m"], ["run", "d"], ["ls", "d", "/nothing"], ["get", "nothing", "/"]]
+
+
+def closed_other(setting, item):
+    """What touches no volume, and what is refused: the status is that with open streams, and no file has other bytes."""
+    words, closed = OTHERS[item[0]], [it for it in (0, 1, 2) if item[1] >> it & 1]
+    with run_scene(setting) as it:
+        before = it.files()
+        whole = it.call(words)
+        got = it.call(words, before=closing(closed))
+        status = 124 if 1 in closed and whole[1] else whole[0]
+        what = f"{' '.join(words)} with {closed} closed: status {got[0]}, {got[2][:200]!r}, and not {status}"
+        wanted(got[0] == status and it.files() == before, what)
+        wanted(1 in closed or got[1] == whole[1], what)
+        wanted(2 in closed or 1 in closed and whole[1] or got[2] == whole[2], what)
+    return "others"
+
+
 def closed(setting):
     """The row: each run and each command with each choice of closed streams."""
     prepare(setting)
     found = collections.Counter()
     choices = [(at, number) for at in range(len(RUNS)) for number in range(1, 8)]
     commands = [(at, number) for at in range(len(COMMANDS)) for number in range(1, 8)]
-    for function, items in ((closed_run, drawn(setting, choices, 30)), (closed_list, range(1, 8)), (closed_command, drawn(setting, commands, 40))):
+    others = [(at, number) for at in range(len(OTHERS)) for number in range(1, 8)]
+    rows = [(closed_run, drawn(setting, choices, 30)), (closed_list, range(1, 8)), (closed_command, drawn(setting, commands, 40))]
+    for function, items in [*rows, (closed_other, drawn(setting, others, 20))]:
         found.update(setting.each(lambda item, function=function: function(setting, item), items))
     return sum(found.values()), ", ".join(f"{name} {count}" for name, count in sorted(found.items()))
 
@@ -187,7 +210,8 @@ def locked(setting, item):
             return "locks"
         wanted(got[0] == 124 and got[2].startswith("sandbox: fault 41\n"), f"{what}: it isn't refused")
         after = it.files()
-        changed = [each for each in before if after.get(each) != before[each] and each != "r" or name == "r" == each and after[each] != before[each]]
+        # (the report may tell of it, unless it is what is locked)
+        changed = [each for each in before if after.get(each) != before[each] and (each != "r" or name == "r")]
         wanted(not changed and after.keys() == before.keys(), f"{what}: {changed} changed, or a file is new")
     return "locks"
 
@@ -208,7 +232,8 @@ def without_room(setting, item):
         before = it.files()
         got = it.call(words, before=limited(most))
         after, what = it.files(), f"{' '.join(words)} with files of {most} bytes at most: status {got[0]}, {got[2][:200]!r}"
-        wanted(got[0] in (123, 124) and got[2].splitlines()[0:] and all(line.startswith("sandbox: ") or line == "ERR" for line in got[2].splitlines()), what)
+        lines = got[2].splitlines()
+        wanted(got[0] in (123, 124) and lines and all(line.startswith("sandbox: ") or line == "ERR" for line in lines), what)
         wanted(after.keys() == before.keys(), f"{what}: {sorted(after.keys() ^ before.keys())}")
         for name in before:
             wanted(after[name] == before[name] or name in words and name in "oe", f"{what}: {name} has changed")
@@ -220,6 +245,43 @@ def room_items():
         yield ["run", "--image", "i", "--volume-out", "v", "m"], most
         yield ["run", "--image", "i", "--volume-out", "i", "m"], most
         yield ["run", "--image", "i", "--volume-out", "new", "m"], most
+
+
+ON_FULL = ["--volume-out v", "--volume-out i", "--volume-out new", "--stdout new", "--report new", "--stdout o --report r"]
+
+
+def full_disk(setting, options):
+    """A disk without room: no volume is lost, and no part of one is left; a guest whose output has no room is answered 29."""
+    with run_scene(setting) as it:
+        it.made("--volume", "v")
+        disk = f"{it.folder}/disk"
+        os.mkdir(disk)
+        if subprocess.run(["mount", "-t", "tmpfs", "-o", "size=300k", "none", disk], capture_output=True).returncode:
+            return "full disks left out"
+        try:
+            return on_full_disk(it, disk, options.split())
+        finally:
+            subprocess.run(["umount", disk], check=True)
+
+
+def on_full_disk(it, disk, options):
+    for name in ("m", "i", "v", "o"):
+        shutil.copyfile(f"{it.folder}/{name}", f"{disk}/{name}")
+    with contextlib.suppress(OSError), open(f"{disk}/fill", "wb", buffering=0) as fill:
+        while True:
+            fill.write(b"x" * 4096)
+    before = {name: content(f"{disk}/{name}") for name in os.listdir(disk)}
+    words = ["run", *(["--image", "i"] if "--volume-out" in options else []), *options, "m"]
+    done = subprocess.run([it.program, *words], cwd=disk, stdin=subprocess.DEVNULL, capture_output=True)
+    after = {name: content(f"{disk}/{name}") for name in os.listdir(disk)}
+    what = f"{' '.join(words)} on a full disk: status {done.returncode}, {done.stderr.decode()[:200]!r}"
+    if "--volume-out" in options:
+        is_done = done.returncode == 0 and after == {**before, options[1]: Scene.templates["after"]}
+        wanted(is_done or done.returncode in (123, 124) and after == before, f"{what}: {[name for name in {*after, *before} if after.get(name) != before.get(name)]}")
+    else:
+        wanted(done.returncode in (2, 124), what)
+        wanted(all(after.get(name) == before[name] for name in ("m", "i", "v", "fill")), f"{what}: another file has changed")
+    return "full disks"
 
 
 def in_place(setting, kind):
@@ -251,6 +313,8 @@ def in_place(setting, kind):
         wanted(kind != "symbolic link" or os.path.islink(path) and os.listdir(f"{it.folder}/below") == ["v"], f"{what}: the link")
         wanted(stat.S_IMODE(os.stat(path).st_mode) == (0o666 if kind == "folder" else 0o640), f"{what}: the mode")
         wanted(kind != "hard link" or content(f"{it.folder}/other") == Scene.templates["after"], f"{what}: the other name")
+        if kind == "folder":
+            os.chmod(f"{it.folder}/below", 0o755)
     return "in place"
 
 
@@ -260,7 +324,7 @@ def hosts(setting):
     os.chmod(setting.room, 0o755)
     found = collections.Counter()
     locks = [(name, is_shared) for name in LOCKED for is_shared in (False, True)]
-    for function, items in ((locked, locks), (without_room, drawn(setting, room_items(), 4)), (in_place, ["file", "hard link", "symbolic link", "folder"])):
+    for function, items in ((locked, locks), (without_room, drawn(setting, room_items(), 4)), (in_place, ["file", "hard link", "symbolic link", "folder"]), (full_disk, ON_FULL)):
         found.update(setting.each(lambda item, function=function: function(setting, item), items))
     return sum(found.values()), ", ".join(f"{name} {count}" for name, count in sorted(found.items()))
 

@@ -152,7 +152,7 @@ function cells_of(line, cells,    n, i) {
   return n
 }
 
-# A row: its first cell is the tag, the others are told behind it, each but the first by its heading.
+# A row: its first cell is the tag, the others are told behind it by their headings, of three cells the second without one.
 function row(line,    cells, n, i, told) {
   n = cells_of(line, cells)
   told = ""
@@ -160,7 +160,7 @@ function row(line,    cells, n, i, told) {
     if (cells[i] != "") {
       if (told != "")
         told = told (told ~ /[.:;]$/ ? " " : ". ")
-      told = told (i > 2 && headings[i] != "" ? headings[i] ": " : "") cells[i]
+      told = told ((i > 2 || n > 3) && headings[i] != "" ? headings[i] ": " : "") cells[i]
     }
   print ".TP"
   if (cells[1] == "") {
@@ -172,8 +172,16 @@ function row(line,    cells, n, i, told) {
   fresh = 0
 }
 
-# One line of Markdown.
+# One line of Markdown. Comments and marks of blocks aren't shown.
 function line_of(s) {
+  if (s ~ /^<!--/ || s ~ /^<\/?(picture|source|img)/ || s ~ /^ *<(source|img) /)
+    return
+  if (s ~ /^```/) {
+    in_fence = !in_fence
+    return
+  }
+  if (in_fence)
+    s = "    " s
   if (s ~ /^    / && text == "" && !in_list || in_code && s ~ /^    /) {
     if (!in_code) {
       end_table()
@@ -358,7 +366,11 @@ function comment_of(file,    n, i, s) {
     sub(/^ \* ?/, "", s)
     if (s ~ /^[A-Z][A-Z ]*$/ && s !~ /^ /)
       heading(2, s)
-    else {
+    else if (s ~ /^      +[^ ]/) { # a table
+      if (text != "")
+        flush()
+      line_of(s)
+    } else {
       sub(/^ +/, "", s)
       line_of(s)
     }

@@ -5,6 +5,7 @@ mod branches;
 mod edges_32;
 mod edges_64;
 mod floats;
+mod frames;
 mod guests;
 mod instances;
 mod memories;

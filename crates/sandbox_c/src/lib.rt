@@ -21,7 +21,7 @@ use std::alloc::Global;
 /// The version of the archive.
 #[unsafe(no_mangle)]
 pub extern "C" fn sandbox_version() -> u32
-    ensures { result ≡ 9003 }
+    ensures { result ≡ 9004 }
 {
     sandbox_host::VERSION
 }

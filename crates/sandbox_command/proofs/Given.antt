@@ -1,5 +1,6 @@
 -- What the system gave for a name, took, or refused: nothing is known of it (`specs/Places.antt`).
-use Rattle.std.proofs.Common.{Result, Ok, Err, IfErr, IfOk, OnOk}
+use Rattle.std.proofs.Common.{Result, Ok, Err, None, IfErr, IfOk, OnOk}
+use Rattle.std.specs.Io.KnownBytes.{Appends}
 use Rattle.std.specs.IoError.{error_kind}
 use Rattle.std.specs.declared.io.Error.{Error}
 use Rattle.sandbox_words.specs.Request.{Text}
@@ -12,6 +13,11 @@ given name f (Err e) = tt
 pub taken : {X : Type 0} (name text : Text) (r : Result X Error) → OnOk r (Took name text)
 taken name text (Ok x) = took name text
 taken name text (Err e) = tt
+
+-- of a file that doesn't tell its bytes nothing is known
+pub nothing_told : {X : Type 0} (text : Text) (r : Result X Error) → OnOk r (Appends None None text)
+nothing_told text (Ok x) = tt
+nothing_told text (Err e) = tt
 
 pub refused : {X : Type 0} (access : Access) (r : Result X Error) → IfErr r (λ e. WasRefused access (error_kind e))
 refused access (Ok x) = tt

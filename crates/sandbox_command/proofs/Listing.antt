@@ -13,7 +13,7 @@ use Rattle.sandbox_words.specs.Request.{Text}
 use Rattle.sandbox_words.specs.declared.request.Invocation.TheVariants as asked
 use Rattle.sandbox_command.specs.Places.{Access, Gave, Took, WasRefused}
 use Rattle.sandbox_command.specs.Status.{file_status, load_status, session_status}
-use Rattle.sandbox_command.specs.Testing.{HasRunList, HasTested, RunsList, RunsListed, unknown}
+use Rattle.sandbox_command.specs.Testing.{HasRunList, HasTested, RunsList, RunsListed, unknown, untold}
 
 refused_so : {X : Type 0} {status : ℕ} → (status ≡ 122) ⊎ (status ≡ 124) → (status ≡ 122) ⊎ ((status ≡ 124) ⊎ X)
 refused_so (inl memory) = inl memory
@@ -68,7 +68,7 @@ module _ {P R W : Type 0} (remaining : R → Option (List ℕ)) (contents : W �
 
 pub has_ended_on_system : (run : Run) (list : Bor Text) (status : ℕ) → run.tests ≡ Some list → RunsListed run list.now status → (status ≡ 122) ⊎ ((status ≡ 124) ⊎ ((status ≡ 0) × HasTested (asked.Run run)))
 has_ended_on_system run list status is (p, q, runs) =
-    elim (has_ended unknown unknown (λ access before after. Unit {0}) (λ access kind before after. WasRefused access kind) (λ name file. Gave name file) (λ name file. Gave name file) (λ name device. Gave name device)
+    elim (has_ended unknown untold (λ access before after. Unit {0}) (λ access kind before after. WasRefused access kind) (λ name file. Gave name file) (λ name file. Gave name file) (λ name device. Gave name device)
     (λ name text before after. Took name text) (λ name text. Gave name text) (λ name most bytes. Gave name bytes) run list.now p q status runs) [
       | inl memory ↦ inl memory
       | inr (inl fault) ↦ inr (inl fault)

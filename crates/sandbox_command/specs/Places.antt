@@ -9,7 +9,8 @@ use Rattle.sandbox_device.specs.declared.ram_device.RamDevice.{RamDevice}
 use Rattle.sandbox_words.specs.declared.request.Run.{Run}
 use Rattle.sandbox_words.specs.Request.{Text}
 
--- A file of this name is opened to read; or made, or cut to nothing; or read whole and not written; or a report is printed into
+-- A file of this name is opened to read; or opened or made, to be written from its beginning; or read whole and not
+-- written; or a report is printed into
 -- the one that was made.
 pub data Access : Type 0 where
   Opens : Text → Access

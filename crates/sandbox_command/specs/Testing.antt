@@ -9,6 +9,7 @@ use Rattle.std.specs.declared.io.ErrorKind.{ErrorKind}
 use Rattle.std.specs.declared.io.ErrorKind.TheVariants.{OutOfMemory}
 use Rattle.std.specs.Io.KnownBytes.{Appends, Keeps}
 use Rattle.std.specs.declared.fs.File.{File}
+use Rattle.sandbox_device.specs.declared.opening.Output.{Output}
 use Rattle.wasm_module.specs.declared.module.Module.{Module}
 use Rattle.wasm_module.specs.Module.{Spells}
 use Rattle.wasm_valid.specs.Validity.{IsValid}
@@ -193,10 +194,14 @@ module _ {P R W : Type 0} (remaining : R → Option (List ℕ)) (contents : W �
 abbrev pub unknown : File → Option (List ℕ)
 unknown file = None
 
+-- nor of those of a file that is written
+abbrev pub untold : Output → Option (List ℕ)
+untold file = None
+
 -- A run of a list ends with this status on the files that the system gives for the names, and with its reason.
 abbrev pub RunsListed : Run → (list : Text) → (status : ℕ) → Type 0
 RunsListed run list status = (p : HostPlaces) × (q : HostPlaces)
-    × RunsList unknown unknown (λ access before after. Unit {0}) (λ access kind before after. WasRefused access kind)
+    × RunsList unknown untold (λ access before after. Unit {0}) (λ access kind before after. WasRefused access kind)
     (λ name file. Gave name file) (λ name file. Gave name file) (λ name device. Gave name device) (λ name text before after. Took name text)
     (λ name text. Gave name text) (λ name most bytes. Gave name bytes) run list p q status
 
@@ -204,7 +209,7 @@ RunsListed run list status = (p : HostPlaces) × (q : HostPlaces)
 -- for their names.
 abbrev pub HasTested : Invocation → Type 0
 HasTested (asked.Run run) = (list : Bor Text) × (run.tests ≡ Some list) × (p : HostPlaces) × (q : HostPlaces)
-    × HasRunList unknown unknown (λ access before after. Unit {0}) (λ access kind before after. WasRefused access kind)
+    × HasRunList unknown untold (λ access before after. Unit {0}) (λ access kind before after. WasRefused access kind)
     (λ name file. Gave name file) (λ name file. Gave name file) (λ name device. Gave name device) (λ name text before after. Took name text)
     (λ name text. Gave name text) (λ name most bytes. Gave name bytes) run list.now p q
 HasTested _ = ⊥

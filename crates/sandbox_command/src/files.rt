@@ -14,10 +14,12 @@ ghost use Rattle.sandbox_command.specs.Status.{file_status};
 ghost use Rattle.sandbox_command.specs.Files.{Clashes, EndsAsListed, IsAnswered, IsForOneRun, IsPerformed};
 ghost use Rattle.sandbox_command.specs.internal.Inspecting.{IsInspecting};
 
+use crate::devices::{device_to_format, volume_device};
+use crate::possession::{is_silent, refuse_errors};
 use crate::program;
 use crate::runs::{perform_run, read_module};
 use crate::streams::{Sink, Source};
-use sandbox_device::{FileDevice, RamDevice};
+use sandbox_device::RamDevice;
 use sandbox_words::{Invocation, Run, invocation};
 use std::alloc::Global;
 use std::io::{ErrorKind, Read, Write};
@@ -100,18 +102,13 @@ pub fn perform<R: Read + Drop, W1: Write + Drop, W2: Write + Drop>(
     }
     let opened = match invocation {
         Invocation::Run(run) => return perform_run(rt, invocation, run, input, out, err),
-        Invocation::Format { file, sectors, .. } => FileDevice::make(
-            rt.alloc(),
-            rt,
-            file,
-            *sectors,
-        ),
+        Invocation::Format { file, sectors, .. } => device_to_format(rt, file, *sectors),
         Invocation::Inspect { module } => {
             return inspect_file(rt, invocation, module, input, out, err);
         }
-        Invocation::Volume { file, .. } => FileDevice::open(rt.alloc(), rt, file),
-        Invocation::Import { file, .. } => FileDevice::open(rt.alloc(), rt, file),
-        Invocation::Export { file, .. } => FileDevice::open(rt.alloc(), rt, file),
+        Invocation::Volume { file, .. } => volume_device(rt, file),
+        Invocation::Import { file, .. } => volume_device(rt, file),
+        Invocation::Export { file, .. } => volume_device(rt, file),
     };
     match opened {
         Ok(device) => status_on(rt.alloc(), invocation, b"", device, input, out, err),
@@ -149,6 +146,7 @@ fn clashes(invocation: &Invocation<'_>) -> bool
 
 /// The bytes of a module's file, and a device, which inspecting them has no use of.
 fn module_of(rt: &HostRuntime, path: &str) -> io::Result<(Vec<u8>, RamDevice)> {
+    refuse_errors(rt, path)?;
     Ok((read_module(rt, path)?, RamDevice::new(rt.alloc(), 0)?))
 }
 
@@ -175,7 +173,7 @@ fn inspect_file<R: Read + Drop, W1: Write + Drop, W2: Write + Drop>(
     }
 }
 
-/// Refuses a file that can't be read or written.
+/// Refuses a file that can't be read or written, by a line that goes into none of the command's files.
 pub(crate) fn refuse<W: Write + Drop>(error: &io::Error, mut err: W) -> u8
     ensures either { (result ≡ 122) ⊎ (result ≡ 124) }
     ensures of_kind { result ≡ file_status (error_kind error.now) }
@@ -183,10 +181,15 @@ pub(crate) fn refuse<W: Write + Drop>(error: &io::Error, mut err: W) -> u8
     if error.kind() == ErrorKind::OutOfMemory {
         return program::out_of_memory(&mut err);
     }
+    if is_silent(error) {
+        return program::FAULT;
+    }
     program::refuse_file(&mut err)
 }
 
 /// Executes what is no run on a device, with the streams that were given, and gives its status alone.
+// A function of its own, since its pieces of files would else be on the stack below a run, too.
+#[inline(never)]
 fn status_on<D: Device + Drop, R: Read + Drop, W1: Write + Drop, W2: Write + Drop>(
     alloc: Global,
     invocation: &Invocation<'_>,

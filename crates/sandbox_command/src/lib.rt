@@ -3,13 +3,16 @@
 #![tactic(auto)]
 
 mod checking;
+mod devices;
 mod ending;
 mod files;
 mod inspecting;
 mod output;
 mod places;
+mod possession;
 mod program;
 mod reporting;
+mod run_files;
 mod runs;
 mod streams;
 mod supplies;
@@ -19,7 +22,7 @@ pub use files::{exit_code, perform};
 pub use places::Places;
 pub use program::{Executed, execute, refuse_command_line, refuse_words};
 pub use run_report::{Summary, print as print_report};
-pub use sandbox_device::{FileDevice, RamDevice};
+pub use sandbox_device::{FileDevice, Output, RamDevice};
 pub use sandbox_words::{Change, Invocation, Limits, Run, Task, invocation};
 pub use streams::{Sink, Source};
 pub use testing::run_list;

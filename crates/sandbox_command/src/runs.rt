@@ -1,6 +1,6 @@
 //! Runs on the files that they name.
 
-ghost use Rattle.std.specs.Prelude.{◌≡◌, ◌⊎◌, ◌↔◌, ◌≤◌, ℕ, Option, IfErr, IfOk, MatchResult, Some, None, option_map};
+ghost use Rattle.std.specs.Prelude.{◌≡◌, ◌⊎◌, ◌↔◌, ◌≤◌, ℕ, Option, Ok, IfErr, IfOk, MatchResult, Some, None, option_map};
 ghost use Rattle.std.specs.Borrow.{Bor};
 ghost use Rattle.std.specs.Io.KnownBytes.{Keeps};
 ghost use Rattle.std.specs.IoError.{error_kind};
@@ -20,17 +20,20 @@ ghost use Rattle.sandbox_command.specs.Reporting.{IsTold, not_run};
 ghost use Rattle.sandbox_command.specs.Sources.{IsSink, IsSource, sink_contents, source_remaining};
 ghost use Rattle.sandbox_command.specs.Files.{HasEnded, HasEndedOn, IsHandedOut, IsImage, IsPerformed, IsUnread, lost};
 ghost use Rattle.sandbox_command.specs.Testing.{RunsListed};
-ghost use Rattle.sandbox_command.specs.internal.Redirected.{AreRedirected};
+ghost use Rattle.sandbox_command.specs.internal.Redirected.{IsMedium, IsOpenedFor};
 
 use crate::files::refuse;
+use crate::output::tell_of_file;
 use crate::places::{HostPlaces, Places};
+use crate::possession::is_silent;
 use crate::program;
 use crate::program::Executed;
 use crate::reporting::not_run;
+use crate::run_files::{Medium, Opened, Redirected, made_report, open_all};
 use crate::streams::{Sink, Source};
 use crate::testing::perform_tests;
 use run_report::{End, Fault, Kept, Summary};
-use sandbox_device::{FileDevice, RamDevice};
+use sandbox_device::{FileDevice, Hindrance, Output, RamDevice, Replacement};
 use sandbox_words::{Invocation, Run};
 use std::alloc::Global;
 use std::fs::File;
@@ -51,14 +54,6 @@ struct Ended<W> {
     status: u8,
     summary: Option<Summary>,
     err: W,
-}
-
-/// The files of a run's streams.
-#[derive(Drop)]
-struct Redirected {
-    stdin: Option<File>,
-    stdout: Option<File>,
-    stderr: Option<File>,
 }
 
 /// The streams of a run, and where the program's own lines go if not to its errors.
@@ -88,49 +83,36 @@ pub(crate) fn perform_run<R: Read + Drop, W1: Write + Drop, W2: Write + Drop>(
     if let Some(list) = run.tests {
         return perform_tests(rt, run, list, err);
     }
-    match made_file(rt, run.report) {
-        Ok(file) => run_and_report(rt, file, invocation, run, input, out, err).0,
-        Err(error) => refuse(&error, err),
-    }
-}
-
-/// A file, made or cut to nothing; none where none is named.
-fn made_file(rt: &HostRuntime, path: Option<&str>) -> io::Result<Option<File>>
-    ensures { IfOk result (λ file. (path.entry ≡ None) ↔ (file ≡ None)) }
-{
-    match path {
-        Some(path) => Ok(Some(File::create(rt, path)?)),
-        None => Ok(None),
-    }
-}
-
-/// A file to be read; none where none is named.
-fn opened_file(rt: &HostRuntime, path: Option<&str>) -> io::Result<Option<File>>
-    ensures { IfOk result (λ file. (path.entry ≡ None) ↔ (file ≡ None)) }
-{
-    match path {
-        Some(path) => Ok(Some(File::open(rt, path)?)),
-        None => Ok(None),
+    let mut places = HostPlaces::for_run(rt, run);
+    let opened = open_all(&mut places, run);
+    match made_report(&mut places, run.report, &opened) {
+        Ok(file) => run_and_report(&mut places, file, invocation, run, opened, input, out, err).0,
+        Err(error) => refuse(opened.as_ref().err().unwrap_or(&error), err),
     }
 }
 
 /// Executes a run on the files that it names, and prints its report into this one. Gives the status, and the file.
 fn run_and_report<F: Write + Drop, R: Read + Drop, W1: Write + Drop, W2: Write + Drop>(
-    rt: &HostRuntime,
+    places: &mut HostPlaces<'_>,
     file: Option<F>,
     invocation: &Invocation<'_>,
     run: &Run<'_>,
+    opened: io::Result<Opened>,
     input: R,
     out: W1,
     err: W2,
 ) -> (u8, Option<F>)
-    requires { invocation.now ≡ asked.Run run.now }
+    requires run { invocation.now ≡ asked.Run run.now }
+    requires opened { IfOk opened (IsOpenedFor run.now) }
     ensures tells { (ended : ℕ) × (summary : Option SummaryValue)
         × HasEnded R.remaining W1.contents W2.contents invocation.now run.now input out err ended summary
         × IsTold F.contents file ended summary result.0 result.1 }
     ensures within { result.0 ≤ 124 }
 {
-    told(file, run_on_files(rt, invocation, run, input, out, err))
+    told(
+        file,
+        run_on_files(places, invocation, run, opened, input, out, err),
+    )
 }
 
 /// Prints the report of a run into its file, and gives the status, which is that of the run, or 124 where the report can't
@@ -157,44 +139,37 @@ fn told<F: Write + Drop, W: Write + Drop>(file: Option<F>, ended: Ended<W>) -> (
 
 /// Executes a run on the bytes of its files, on the files of its streams and on its volume.
 fn run_on_files<R: Read + Drop, W1: Write + Drop, W2: Write + Drop>(
-    rt: &HostRuntime,
+    places: &mut HostPlaces<'_>,
     invocation: &Invocation<'_>,
     run: &Run<'_>,
+    opened: io::Result<Opened>,
     input: R,
     out: W1,
     err: W2,
 ) -> Ended<Sink<W2>>
-    requires { invocation.now ≡ asked.Run run.now }
+    requires run { invocation.now ≡ asked.Run run.now }
+    requires opened { IfOk opened (IsOpenedFor run.now) }
     ensures tells { HasEnded R.remaining W1.contents W2.contents invocation.now run.now
         input out err result.status result.summary }
     ensures within { result.status ≤ 124 }
 {
-    let (module, random) = match read_files(rt.alloc(), &mut HostPlaces::new(rt), run) {
-        Ok(bytes) => bytes,
+    let opened = match opened {
+        Ok(opened) => opened,
         Err(error) => return refused(run, &error, Sink::Given(err)),
     };
-    match stream_files(rt, run) {
-        Ok(files) => run_with(
-            rt,
+    match read_files(places.rt.alloc(), places, run) {
+        Ok((module, random)) => run_with(
+            places.rt,
             invocation,
             run,
+            opened.medium,
+            opened.handed,
             module.as_slice(),
             random.as_slice(),
-            streams_of(files, input, out, err),
+            streams_of(opened.files, input, out, err),
         ),
         Err(error) => refused(run, &error, Sink::Given(err)),
     }
-}
-
-/// The files of a run's streams: that of its input is opened, the others are made or cut to nothing.
-fn stream_files(rt: &HostRuntime, run: &Run<'_>) -> io::Result<Redirected>
-    ensures { IfOk result (AreRedirected run.now) }
-{
-    Ok(Redirected {
-        stdin: opened_file(rt, run.stdin)?,
-        stdout: made_file(rt, run.stdout)?,
-        stderr: made_file(rt, run.stderr)?,
-    })
 }
 
 /// The streams of a run, each a file where there is one.
@@ -236,7 +211,7 @@ fn source_of<R: Drop>(file: Option<File>, input: R) -> Source<R>
 }
 
 /// A file to be written, or the stream that was given.
-fn sink_of<W: Drop>(file: Option<File>, out: W) -> Sink<W>
+fn sink_of<W: Drop>(file: Option<Output>, out: W) -> Sink<W>
     ensures { IsSink file out result }
 {
     match file {
@@ -250,18 +225,23 @@ fn run_with<R: Read + Drop, W1: Write + Drop, W2: Write + Drop>(
     rt: &HostRuntime,
     invocation: &Invocation<'_>,
     run: &Run<'_>,
+    medium: Medium,
+    handed: Option<Replacement>,
     module: &[u8],
     random: &[u8],
     streams: Streams<R, W1, W2>,
 ) -> Ended<Sink<W2>>
-    requires { invocation.now ≡ asked.Run run.now }
+    requires run { invocation.now ≡ asked.Run run.now }
+    requires medium { IsMedium run.now medium }
     ensures tells { HasEndedOn R.remaining W1.contents W2.contents invocation.now run.now
         streams.input streams.out streams.err result.status result.summary }
     ensures within { result.status ≤ 124 }
 {
-    match run.volume {
-        Some(file) => run_in_file(rt, invocation, run, file, module, random, streams),
-        None => run_in_memory(rt, invocation, run, module, random, streams),
+    match medium {
+        Medium::File(file) => run_in_file(rt, invocation, run, file, module, random, streams),
+        Medium::Memory(device) => run_in_memory(
+            rt, invocation, run, device, handed, module, random, streams,
+        ),
     }
 }
 
@@ -270,17 +250,17 @@ fn run_in_file<R: Read + Drop, W1: Write + Drop, W2: Write + Drop>(
     rt: &HostRuntime,
     invocation: &Invocation<'_>,
     run: &Run<'_>,
-    file: &str,
+    file: File,
     module: &[u8],
     random: &[u8],
     streams: Streams<R, W1, W2>,
 ) -> Ended<Sink<W2>>
-    requires { (invocation.now ≡ asked.Run run.now) × (run.now.volume ≡ Some file) }
+    requires { (invocation.now ≡ asked.Run run.now) × ((run.now.volume ≡ None) → ⊥) }
     ensures tells { HasEndedOn R.remaining W1.contents W2.contents invocation.now run.now
         streams.input streams.out streams.err result.status result.summary }
     ensures within { result.status ≤ 124 }
 {
-    match FileDevice::open(rt.alloc(), rt, file) {
+    match FileDevice::of(rt.alloc(), file) {
         Ok(device) => run_on(rt.alloc(), run, module, random, device, streams).0,
         Err(error) => refused(run, &error, lines_of(streams)),
     }
@@ -291,22 +271,20 @@ fn run_in_memory<R: Read + Drop, W1: Write + Drop, W2: Write + Drop>(
     rt: &HostRuntime,
     invocation: &Invocation<'_>,
     run: &Run<'_>,
+    device: RamDevice,
+    handed: Option<Replacement>,
     module: &[u8],
     random: &[u8],
     streams: Streams<R, W1, W2>,
 ) -> Ended<Sink<W2>>
-    requires { (invocation.now ≡ asked.Run run.now) × (run.now.volume ≡ None) }
+    requires run { (invocation.now ≡ asked.Run run.now) × (run.now.volume ≡ None) }
+    requires device { IsImage run.now.image device.sectors }
     ensures tells { HasEndedOn R.remaining W1.contents W2.contents invocation.now run.now
         streams.input streams.out streams.err result.status result.summary }
     ensures within { result.status ≤ 124 }
 {
-    match memory_of(rt.alloc(), &mut HostPlaces::new(rt), run) {
-        Ok(device) => {
-            let (ended, device) = run_on(rt.alloc(), run, module, random, device, streams);
-            handed_out(rt, run, &device, ended)
-        }
-        Err(error) => refused(run, &error, lines_of(streams)),
-    }
+    let (ended, device) = run_on(rt.alloc(), run, module, random, device, streams);
+    handed_out(rt, run, handed, &device, ended)
 }
 
 /// The sectors in memory that a run begins with: those of its image, or new ones.
@@ -354,7 +332,9 @@ fn refused<W: Write + Drop>(run: &Run<'_>, error: &io::Error, mut err: W) -> End
     ensures unread { IsUnread run.now result.status result.summary }
 {
     let summary = unread(run, error);
-    program::tell_end(&mut err, &summary);
+    if !is_silent(error) {
+        program::tell_end(&mut err, &summary);
+    }
     Ended {
         status: summary.status,
         summary: Some(summary),
@@ -363,6 +343,8 @@ fn refused<W: Write + Drop>(run: &Run<'_>, error: &io::Error, mut err: W) -> End
 }
 
 /// Executes a run on a device, prints its lines, and gives how it ended and the device.
+// A function of its own, so that what a run needs for the one device isn't on the stack below the other.
+#[inline(never)]
 fn run_on<D: Device + Drop, R: Read + Drop, W1: Write + Drop, W2: Write + Drop>(
     alloc: Global,
     run: &Run<'_>,
@@ -419,28 +401,40 @@ fn spoken<W: Write + Drop>(mut ended: Ended<W>) -> Ended<W>
 fn handed_out<W: Write + Drop>(
     rt: &HostRuntime,
     run: &Run<'_>,
+    handed: Option<Replacement>,
     device: &RamDevice,
-    ended: Ended<W>,
+    mut ended: Ended<W>,
 ) -> Ended<W>
     ensures { IsHandedOut run.now ended.status ended.summary result.status result.summary }
 {
-    let Some(path) = run.volume_out else {
+    let (Some(path), Some(handed)) = (run.volume_out, handed) else {
         return ended;
     };
     if !has_begun(&ended) {
         return ended;
     }
-    match write_out(rt, path, device) {
-        Ok(()) => ended,
+    match handed.fill(rt, device) {
+        Ok(hindrance) => {
+            tell_hindrance(&mut ended.err, path, hindrance);
+            ended
+        }
         Err(_) => not_kept(ended),
     }
 }
 
-/// Writes the sectors of a device into a file, which is made or cut to nothing, and makes that last.
-fn write_out(rt: &HostRuntime, path: &str, device: &RamDevice) -> io::Result<()> {
-    let mut file = File::create(rt, path)?;
-    device.write_to(&mut file)?;
-    file.sync_all()
+/// Says that a file was written in place, and why, where it was.
+fn tell_hindrance<W: Write>(err: &mut W, path: &str, hindrance: Option<Hindrance>) {
+    match hindrance {
+        Some(Hindrance::Names) => {
+            tell_of_file(err, path, "written in place, since it has several names");
+        }
+        Some(Hindrance::Folder) => tell_of_file(
+            err,
+            path,
+            "written in place, since no file like it can be made beside it",
+        ),
+        None => {}
+    }
 }
 
 /// Whether a guest ran.

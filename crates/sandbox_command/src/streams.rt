@@ -1,5 +1,6 @@
 //! Where a guest's streams come from and go to.
 
+use sandbox_device::Output;
 use std::fs::File;
 use std::io;
 use std::io::{Read, Write};
@@ -31,8 +32,8 @@ impl<R: Read> Read for Source<R> {
 pub enum Sink<W> {
     /// What the program was given.
     Given(W),
-    /// A file that was made in its place.
-    Made(File),
+    /// A file that was opened or made in its place.
+    Made(Output),
 }
 
 impl<W: Write> Write for Sink<W> {

@@ -325,5 +325,9 @@ pub(crate) fn perform_tests<W: Write + Drop>(
 ) -> u8
     ensures { RunsListed run.now list.now result }
 {
-    run_list(rt.alloc(), &mut HostPlaces::new(rt), run, list, err)
+    let mut places = HostPlaces::new(rt);
+    match places.hold_list(run, list) {
+        Ok(()) => run_list(rt.alloc(), &mut places, run, list, err),
+        Err(error) => refuse(&error, err),
+    }
 }

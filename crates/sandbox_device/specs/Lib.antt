@@ -4,4 +4,5 @@ pub mod Ram
 pub mod File
 pub mod Recorded
 pub mod Followed
+pub mod Opening
 pub mod internal

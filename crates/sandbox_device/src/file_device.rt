@@ -3,13 +3,17 @@
 ghost use Rattle.std.specs.Prelude.{◌≡◌, ◌≤◌, IfOk, IfErr, length, min, true};
 ghost use Rattle.vol_sector.specs.Disk.{counted};
 ghost use Rattle.sandbox_device.specs.File.{kept, KeepsItsModel};
+ghost use Rattle.sandbox_device.specs.Opening.{StandsApart};
 ghost use Rattle.sandbox_device.specs.internal.FileLaws.{mixed_since, mixed_now, now_may_stay};
 
+use crate::identity::Identity;
 use crate::moments::Moments;
+use crate::opening::open_apart;
 use crate::sectors::Sectors;
 use std::alloc::Global;
 use std::fs::{File, OpenOptions};
 use std::io;
+use std::io::ErrorKind;
 use std::os::unix::fs::FileExt;
 use std::rt::Files;
 use vol_sector::{Device, DeviceFault};
@@ -63,57 +67,68 @@ pub(crate) fn whole_sectors(alloc: Global, file: &File) -> io::Result<Sectors>
     read_sectors(alloc, file, count as u32)
 }
 
+/// Locks a file that was opened under this name. It fails where it is locked, and where another file has come in its place
+/// before it was.
+fn locked<R: Files>(files: &R, file: File, path: &str) -> io::Result<File>
+    ensures { IfOk result (λ it. it ≡ file) }
+{
+    file.try_lock()?;
+    match Identity::of(&file) {
+        Some(identity) if Identity::of_path(files, path) != Some(identity) => {
+            Err(io::Error::from(ErrorKind::WouldBlock))
+        }
+        _ => Ok(file),
+    }
+}
+
 impl FileDevice {
     ghost use Rattle.std.specs.Prelude.{◌∷◌, []};
 
-    /// Opens a file to read and write, locks it, and reads its sectors. It fails where there is no
-    /// such file, where it may not be written or can't be read, where it is a directory, where
-    /// another process has locked it, and where memory is refused.
-    pub fn open<R: Files<File = File>>(
-        alloc: Global,
-        files: &R,
-        path: &str,
-    ) -> io::Result<FileDevice>
-        ensures few { IfOk result (λ d. length d.sectors ≤ 65536) }
-        ensures unused { IfOk result (λ d. d.failures ≡ 0) }
+    /// Opens a file to read and write, and locks it. It fails where there is no such file, where it may not be written,
+    /// where it is a directory, where it is locked, by this process too, and where another file has come in its place.
+    pub fn lock<R: Files<File = File>>(files: &R, path: &str) -> io::Result<File>
+        ensures { IfOk result StandsApart }
     {
-        let file = OpenOptions::new().read(true).write(true).open(files, path)?;
-        file.try_lock()?;
-        FileDevice::read_from(alloc, file)
+        let mut how = OpenOptions::new();
+        how.read(true).write(true);
+        let file = open_apart(files, &how, path)?;
+        locked(files, file, path)
     }
 
-    /// Opens a file as `open` does, but makes it where it isn't there, and lengthens it to this many
-    /// sectors, or to 65,536 where that is less. What the file has stays.
-    pub fn make<R: Files<File = File>>(
-        alloc: Global,
-        files: &R,
-        path: &str,
-        sectors: u32,
-    ) -> io::Result<FileDevice>
+    /// Opens and locks a file as `lock` does, but makes it where it isn't there.
+    pub fn lock_or_make<R: Files<File = File>>(files: &R, path: &str) -> io::Result<File>
+        ensures { IfOk result StandsApart }
+    {
+        let mut how = OpenOptions::new();
+        how.read(true).write(true).create(true);
+        let made = open_apart(files, &how, path)?;
+        locked(files, made, path)
+    }
+
+    /// A device of a file as `of` makes one, but the file is lengthened to this many sectors first, or to 65,536 where that is
+    /// less. What the file has stays.
+    pub fn lengthened(alloc: Global, file: File, sectors: u32) -> io::Result<FileDevice>
         ensures few { IfOk result (λ d. length d.sectors ≤ 65536) }
         ensures enough { IfOk result (λ d. min sectors 65536 ≤ length d.sectors) }
         ensures unused { IfOk result (λ d. d.failures ≡ 0) }
+        ensures same { IfOk result (λ d. d.file ≡ file) }
     {
-        let file = OpenOptions::new()
-            .read(true)
-            .write(true)
-            .create(true)
-            .open(files, path)?;
-        file.try_lock()?;
         let wanted = sectors.min(MOST_SECTORS);
         if file.metadata()?.len() / SECTOR < u64::from(wanted) {
             file.set_len(u64::from(wanted) * SECTOR)?;
         }
-        let device = FileDevice::read_from(alloc, file)?;
+        let device = FileDevice::of(alloc, file)?;
         if device.sectors.len() < wanted as usize {
-            return Err(io::Error::from(io::ErrorKind::UnexpectedEof)); // it was cut meanwhile
+            return Err(io::Error::from(ErrorKind::UnexpectedEof)); // it was cut meanwhile
         }
         Ok(device)
     }
 
-    /// The whole sectors of a file.
-    fn read_from(alloc: Global, file: File) -> io::Result<FileDevice>
+    /// A device of the whole sectors of a file that is open to read and write, 65,536 at most.
+    pub fn of(alloc: Global, file: File) -> io::Result<FileDevice>
+        ensures few { IfOk result (λ d. length d.sectors ≤ 65536) }
         ensures unused { IfOk result (λ d. d.failures ≡ 0) }
+        ensures same { IfOk result (λ d. d.file ≡ file) }
     {
         let sectors = whole_sectors(alloc, &file)?;
         Ok(FileDevice {

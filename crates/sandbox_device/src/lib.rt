@@ -3,13 +3,19 @@
 
 mod file_device;
 mod history;
+mod identity;
 pub mod laws;
 mod moments;
+mod opening;
 mod past;
 mod ram_device;
 mod recorded_device;
+mod replacing;
 mod sectors;
 
 pub use file_device::FileDevice;
+pub use identity::Identity;
+pub use opening::{Output, open_image, open_to_read};
 pub use ram_device::RamDevice;
 pub use recorded_device::RecordedDevice;
+pub use replacing::{Hindrance, Replacement};

@@ -13,7 +13,6 @@ use std::alloc::{AllocError, Global};
 use std::fs::File;
 use std::io;
 use std::io::Write;
-use std::rt::Files;
 use vol_sector::{Device, DeviceFault};
 
 /// Sectors in memory. No operation fails, and each write lasts at once. It keeps no record. The room for all is
@@ -49,20 +48,13 @@ impl RamDevice {
         })
     }
 
-    /// A device of a file's whole sectors, 65,536 at most. The file is opened to read only, and read once; nothing is
-    /// written to it. It fails where there is no such file, where it can't be read, where it is a directory, where
-    /// another process has locked it to write, and where memory is refused.
-    pub fn read<R: Files<File = File>>(
-        alloc: Global,
-        files: &R,
-        path: &str,
-    ) -> io::Result<RamDevice>
+    /// A device of a file's whole sectors, 65,536 at most, as they are now; nothing is written to the file. It fails where it
+    /// can't be read, where it is a directory, and where memory is refused.
+    pub fn of_file(alloc: Global, file: &File) -> io::Result<RamDevice>
         ensures { IfOk result (λ d. length d.sectors ≤ 65536) }
     {
-        let file = File::open(files, path)?;
-        file.try_lock_shared()?;
         Ok(RamDevice {
-            sectors: whole_sectors(alloc, &file)?,
+            sectors: whole_sectors(alloc, file)?,
             past: Past::new(),
         })
     }

@@ -26,7 +26,7 @@ pub const OUT_OF_MEMORY: u32 = 40;
 pub const MISUSE: u32 = 100;
 
 /// The version: 1,000,000 times the major number, 1,000 times the minor one, and the patch.
-pub const VERSION: u32 = 9_003;
+pub const VERSION: u32 = 9_004;
 
 /// Why a module is refused: 1 to 12 with the byte's offset, or 40.
 #[repr(C)]

@@ -21,7 +21,7 @@ use clap::{Arg, ArgAction, ArgMatches, Command, Error};
 use std::alloc::{AllocError, Global};
 
 /// What `--version` prints after the program's name.
-const VERSION: &str = "0.9.3";
+const VERSION: &str = "0.9.4";
 
 /// What help ends with.
 const STATUSES: &str = "\
@@ -348,6 +348,8 @@ fn entered<'a>(alloc: Global, matches: &ArgMatches<'a>) -> Result<Invocation<'a>
 
 /// Reads the words of a command line, of which the first is the program's name. A refusal, and
 /// the answer to a question for help or the version, is what clap prints.
+// A function of its own, so that the parser isn't on the stack below what is asked for.
+#[inline(never)]
 pub fn invocation<'a>(alloc: Global, words: &'a [String]) -> Result<Invocation<'a>, Error>
     ensures asks { IfOk result (λ i. IsSomeAnd (subcommand_of program (map string_bytes words.entry.now))
         (λ entered. AsksFor entered.0 entered.1 i)) }

@@ -4,9 +4,10 @@ ghost use Rattle.std.specs.Prelude.{if◌then◌else◌, codes, bytes_eq, Some, 
 ghost use Rattle.wasm_store.specs.declared.call.HostCall.TheVariants as call;
 
 use super::assert_row;
+use super::frames::CALLERS;
 use super::sections::PREAMBLE;
 use crate::program::HELLO;
-use module_survey::{Links, survey};
+use module_survey::{Links, add_called, called, survey};
 use std::alloc::Global;
 use std::process::Abort;
 use wasm_module::FuncType;
@@ -155,4 +156,34 @@ fn functions_are_named(rt: HostRuntime) {
             ),
         ],
     );
+}
+
+/// Whether this is printed of a function of these bytes.
+fn is_called(alloc: Global, bytes: &[u8], index: u64, text: &[u8]) -> bool {
+    let mut told = Vec::new(alloc);
+    add_called(&mut told, bytes, index).is_ok() && told.as_slice() == text
+}
+
+#[test]
+fn names_of_functions(rt: HostRuntime) {
+    let rows: [(u64, &[u8], bool); 6] = [
+        // from the section `name`, which names the imported function, too
+        (0, b"ask", true),
+        (1, b"divide", true),
+        // neither named nor exported
+        (2, b"function[2]", false),
+        // exported alone
+        (3, b"_start", true),
+        (4, b"function[4]", false),
+        (
+            18_446_744_073_709_551_615,
+            b"function[18446744073709551615]",
+            false,
+        ),
+    ];
+    for (i, (index, text, has_name)) in rows.iter().enumerate() {
+        let is = is_called(rt.alloc(), CALLERS, *index, text)
+            && called(CALLERS, *index).is_some() == *has_name;
+        assert_row(&rt, i, is);
+    }
 }

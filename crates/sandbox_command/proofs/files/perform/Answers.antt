@@ -44,15 +44,15 @@ returns-in-Ok-clause-tells g c =
             device = device;
             new = elim c.match-invocation.branch [
               | in-Format w ↦ subst (λ (i : Invocation). IsNewInFile i device) (sym w.in-Format.is) (
-                of_ok w.make-opened.result device (λ d. d.failures ≡ 0) (sym w.opened-is ∙ c.in-Ok.is) w.make-opened.ensures.unused,
-                of_ok w.make-opened.result device (λ d. min w.in-Format.sectors 65536 ≤ length d.sectors) (sym w.opened-is ∙ c.in-Ok.is) w.make-opened.ensures.enough,
+                of_ok w.device_to_format-opened.result device (λ d. d.failures ≡ 0) (sym w.opened-is ∙ c.in-Ok.is) w.device_to_format-opened.ensures.unused,
+                of_ok w.device_to_format-opened.result device (λ d. min w.in-Format.sectors 65536 ≤ length d.sectors) (sym w.opened-is ∙ c.in-Ok.is) w.device_to_format-opened.ensures.enough,
               )
               | in-Volume w ↦ subst (λ (i : Invocation). IsNewInFile i device) (sym w.in-Volume.is)
-                  (of_ok w.open-opened.result device (λ d. d.failures ≡ 0) (sym w.opened-is ∙ c.in-Ok.is) w.open-opened.ensures.unused)
+                  (of_ok w.volume_device-opened.result device (λ d. d.failures ≡ 0) (sym w.opened-is ∙ c.in-Ok.is) w.volume_device-opened.ensures)
               | in-Import w ↦ subst (λ (i : Invocation). IsNewInFile i device) (sym w.in-Import.is)
-                  (of_ok w.open-opened-in-Import.result device (λ d. d.failures ≡ 0) (sym w.opened-is ∙ c.in-Ok.is) w.open-opened-in-Import.ensures.unused)
+                  (of_ok w.volume_device-opened-in-Import.result device (λ d. d.failures ≡ 0) (sym w.opened-is ∙ c.in-Ok.is) w.volume_device-opened-in-Import.ensures)
               | in-Export w ↦ subst (λ (i : Invocation). IsNewInFile i device) (sym w.in-Export.is)
-                  (of_ok w.open-opened-in-Export.result device (λ d. d.failures ≡ 0) (sym w.opened-is ∙ c.in-Ok.is) w.open-opened-in-Export.ensures.unused)
+                  (of_ok w.volume_device-opened-in-Export.result device (λ d. d.failures ≡ 0) (sym w.opened-is ∙ c.in-Ok.is) w.volume_device-opened-in-Export.ensures)
             ];
             left = tells.0;
             executes = so_too (λ d. KeepsItsModel d.file) file_disk (λ d. length d.sectors) (λ d. d.failures) (source_remaining g.R.Read.remaining) (sink_contents g.W1.Write.contents) (sink_contents g.W2.Write.contents)

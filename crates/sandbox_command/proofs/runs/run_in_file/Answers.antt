@@ -1,5 +1,4 @@
-use Rattle.std.proofs.Common.{inl, inr, refl, sym, ◌∙◌, subst, length}
-use Rattle.std.proofs.lemmas.Option.{none-some}
+use Rattle.std.proofs.Common.{inl, inr, refl, sym, subst, length}
 use Rattle.sandbox_device.specs.File.{KeepsItsModel}
 use Rattle.sandbox_words.specs.declared.request.Invocation.{Invocation}
 use Rattle.sandbox_command.specs.Files.{IsNewInFile, NamesNoVolume, file_disk}
@@ -15,7 +14,7 @@ returns-in-Ok-clause-tells g c =
       _,
       _,
       inr (
-        (λ none. none-some c.args.file (sym (subst NamesNoVolume c.requires.0 none) ∙ c.requires.1)),
+        (λ none. c.requires.1 (subst NamesNoVolume c.requires.0 none)),
         executed (λ d. KeepsItsModel d.file) file_disk (λ d. length d.sectors) (λ d. d.failures) (source_remaining g.R.Read.remaining) (sink_contents g.W1.Write.contents) (sink_contents g.W2.Write.contents)
             (IsNewInFile c.args.invocation.now) c.args.invocation.now c.args.run.now c.requires.0 c.args.module.now c.args.random.now c.in-Ok.device
             (subst (λ (i : Invocation). IsNewInFile i c.in-Ok.device) (sym c.requires.0) c.in-Ok.ensures.unused)

@@ -6,6 +6,8 @@ use Rattle.vol_dirs.proofs.Orders.{key_ties}
 use Rattle.vol_dirs.proofs.Listings.{listing_more, names_more, key_free}
 use Rattle.vol_dirs.proofs.Room.{room_for_key, room_for_child}
 use Rattle.vol_dirs.proofs.Spelled.{plain_name_of}
+use Rattle.vol_dirs.specs.Seats.{seat_of, no_seat}
+use Rattle.vol_dirs.proofs.Seating.{seat_set}
 use Rattle.vol_dirs.proofs.dirs.Dirs.hold.Goals as goal
 
 pub insert-requires-clause-ties : goal.insert-requires-clause-ties
@@ -51,3 +53,8 @@ invariant_of-self-clause-marked c =
     let more = rw (c.key_of-key.ensures, c.number-number.ensures) at c.insert.ensures.adds in
     rw c.number-number.ensures (marks_more old.slots old.keys.items old.used.items old.marked c.args.serial c.requires.first c.requires.last (key_of e.parent (name_of e)) c.insert.new.items.items
     (λ key t has. (old.listing.numbered key t has).0) more)
+
+pub returns-clause-seats : goal.returns-clause-seats
+returns-clause-seats c s from =
+    let old = c.args.self.now in
+    rw (c.seat_of.ensures, c.number-number.ensures) (seat_set old.seats.items c.args.serial s (seat_of c.args.entry.now) no_seat c.requires.first (omega (arith, old.seated, c.requires.last)) from)

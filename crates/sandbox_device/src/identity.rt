@@ -1,0 +1,56 @@
+//! Which file of the system is open, whatever it is called.
+
+use std::fs::{File, Metadata};
+use std::os::unix::fs::MetadataExt;
+use std::rt::Files;
+
+/// A regular file: the device that it lies on, and its number there.
+#[derive(Clone, Copy, PartialEq, Eq, PartialOrd, Ord)]
+pub struct Identity {
+    device: u64,
+    number: u64,
+}
+
+/// The regular file that has these metadata.
+fn regular(found: &Metadata) -> Option<Identity> {
+    if !found.is_file() {
+        return None;
+    }
+    Some(Identity {
+        device: found.dev(),
+        number: found.ino(),
+    })
+}
+
+/// The regular file that a path leads to.
+fn at<R: Files>(files: &R, path: &str) -> Option<Identity> {
+    match files.metadata(path) {
+        Ok(found) => regular(&found),
+        Err(_) => None,
+    }
+}
+
+impl Identity {
+    /// Which regular file this is; none where it is none.
+    pub fn of(file: &File) -> Option<Identity> {
+        match file.metadata() {
+            Ok(found) => regular(&found),
+            Err(_) => None,
+        }
+    }
+
+    /// The regular file of this name, behind all links; none where it is none, or none is there.
+    pub fn of_path<R: Files>(files: &R, path: &str) -> Option<Identity> {
+        at(files, path)
+    }
+
+    /// The regular files that are open as the standard streams. It asks `/proc`, which alone tells it without opening one: where
+    /// there is none, none is known.
+    pub fn of_streams<R: Files>(files: &R) -> [Option<Identity>; 3] {
+        [
+            at(files, "/proc/self/fd/0"),
+            at(files, "/proc/self/fd/1"),
+            at(files, "/proc/self/fd/2"),
+        ]
+    }
+}

@@ -1,0 +1,330 @@
+//! A file that gets other bytes, all at once: they are written beside it, and then it is replaced.
+//!
+//! Whoever is ended meanwhile leaves the file as it was, and maybe what was written beside it, which the next one takes away.
+
+ghost use Rattle.std.specs.Prelude.{IfOk, IfSome};
+ghost use Rattle.sandbox_device.specs.Opening.{StandsApart};
+
+use crate::identity::Identity;
+use crate::opening::{lock_to_write, open_apart};
+use crate::ram_device::RamDevice;
+use std::fs::{File, Metadata, OpenOptions, TryLockError};
+use std::io::{BufWriter, ErrorKind, Write};
+use std::os::unix::fs::{MetadataExt, fchown};
+use std::path::Path;
+use std::rt::Files;
+use std::{fs, io};
+
+/// How many links are followed from a name to its file: as many as Linux follows.
+const MOST_LINKS: u32 = 40;
+
+/// How many names beside a file are tried.
+const NAMES: u32 = 8;
+
+/// Bytes that are written at once.
+const PIECE: usize = 65_536;
+
+/// The bytes of the longest name that the name beside it is made of.
+const LONGEST: usize = 200;
+
+/// Why a file is written in place, so that whoever is ended meanwhile leaves a part of its bytes.
+#[derive(Clone, Copy)]
+pub enum Hindrance {
+    /// It has other names, which would stay with the old bytes.
+    Names,
+    /// No file of its owner and its mode can be made beside it.
+    Folder,
+}
+
+/// How a file is replaced.
+#[derive(Clone, Copy)]
+enum Way {
+    Beside,
+    InPlace(Hindrance),
+    /// It is a pipe, a terminal or a device, which takes bytes one after another.
+    Stream,
+}
+
+/// A file that is to be replaced. What is there is open and locked.
+#[derive(Drop)]
+pub struct Replacement {
+    /// Its name, behind all links.
+    path: String,
+    /// What is there.
+    old: Option<File>,
+    way: Way,
+}
+
+/// The name that a name leads to, behind all links; the file needn't be there.
+fn behind_links<R: Files + AllocGlobal>(rt: &R, path: &str) -> io::Result<String> {
+    let mut path = String::from_str(rt.alloc(), path)?;
+    for _ in 0..MOST_LINKS {
+        match rt.symlink_metadata(path.as_str()) {
+            Ok(found) if found.is_symlink() => {}
+            _ => return Ok(path),
+        }
+        let link = fs::read_link(rt, path.as_str())?;
+        let folder = folder_of(path.as_str());
+        path = Path::new(folder).join(rt.alloc(), link)?.into_string();
+    }
+    Err(io::Error::from(ErrorKind::FilesystemLoop))
+}
+
+/// The folder that a name stands in.
+fn folder_of(path: &str) -> &str {
+    match Path::new(path).parent() {
+        Some(folder) if !folder.as_str().is_empty() => folder.as_str(),
+        _ => ".",
+    }
+}
+
+/// One of the names beside a file.
+fn name_beside<R: AllocGlobal>(rt: &R, path: &str, number: u32) -> io::Result<String> {
+    let stem = match Path::new(path).file_name() {
+        Some(name) if name.len() <= LONGEST => name,
+        _ => "long",
+    };
+    let name = format!(in rt.alloc(); ".{stem}.sandbox-{number}")?;
+    let beside = Path::new(path).with_file_name(rt.alloc(), name.as_str())?;
+    Ok(beside.into_string())
+}
+
+/// Locks a file if no one else has; on a file system without locks it is locked by none.
+fn is_locked_by_us(file: &File) -> bool {
+    file.try_lock().is_ok()
+}
+
+/// Whether a name leads to this very file.
+fn leads_to<R: Files>(rt: &R, path: &str, file: &File) -> bool {
+    match Identity::of(file) {
+        Some(identity) => Identity::of_path(rt, path) == Some(identity),
+        None => false,
+    }
+}
+
+/// Takes away what someone who was ended has left under this name. What is locked is in use.
+fn clear<R: Files<File = File>>(rt: &R, path: &str) {
+    match rt.symlink_metadata(path) {
+        Ok(found) if found.is_file() => {}
+        _ => return,
+    }
+    let mut how = OpenOptions::new();
+    how.read(true);
+    if let Ok(file) = open_apart(rt, &how, path) {
+        if is_locked_by_us(&file) && leads_to(rt, path, &file) {
+            let _ = rt.remove_file(path);
+        }
+    }
+}
+
+/// A file beside the one that is to be replaced, locked, so that no one clears it.
+#[derive(Drop)]
+struct Spare {
+    file: File,
+    path: String,
+}
+
+/// Makes a file of this name, which isn't taken.
+fn make_spare<R: Files<File = File>>(rt: &R, path: String) -> io::Result<Spare> {
+    let mut how = OpenOptions::new();
+    how.write(true).create_new(true);
+    let file = open_apart(rt, &how, path.as_str())?;
+    if let Err(TryLockError::WouldBlock) = file.try_lock() {
+        return Err(io::Error::from(ErrorKind::AlreadyExists));
+    }
+    if !leads_to(rt, path.as_str(), &file) {
+        return Err(io::Error::from(ErrorKind::AlreadyExists));
+    }
+    Ok(Spare { file, path })
+}
+
+/// Clears the names beside a file, and makes a file of the first one that isn't taken.
+fn spare_beside<R: Files<File = File> + AllocGlobal>(rt: &R, path: &str) -> io::Result<Spare> {
+    let mut spare = Err(io::Error::from(ErrorKind::AlreadyExists));
+    for number in 0..NAMES {
+        let name = name_beside(rt, path, number)?;
+        clear(rt, name.as_str());
+        if spare.is_err() {
+            spare = make_spare(rt, name);
+        }
+    }
+    spare
+}
+
+/// Gives a file the owner and the mode of another one.
+fn take_after(file: &File, old: &File) -> io::Result<()> {
+    let (wanted, found) = (old.metadata()?, file.metadata()?);
+    if wanted.uid() != found.uid() || wanted.gid() != found.gid() {
+        fchown(file, Some(wanted.uid()), Some(wanted.gid()))?;
+    }
+    file.set_permissions(wanted.permissions())
+}
+
+/// Writes the sectors of a device into a file, from its beginning, in large pieces.
+fn write_sectors<R: AllocGlobal>(rt: &R, file: &File, device: &RamDevice) -> io::Result<()> {
+    let mut out = BufWriter::with_capacity(rt.alloc(), PIECE, file)?;
+    device.write_to(&mut out)?;
+    out.flush()
+}
+
+/// Makes a folder's names last, where its file system does that when it is asked.
+fn sync_folder(folder: &File) -> io::Result<()> {
+    match folder.sync_all() {
+        Err(error) if error.kind() == ErrorKind::InvalidInput => Ok(()),
+        done => done,
+    }
+}
+
+/// Writes the sectors into a spare file, makes them last, and gives it the name of the file that it replaces.
+fn put_beside<R: Files<File = File> + AllocGlobal>(
+    rt: &R,
+    spare: &Spare,
+    path: &str,
+    folder: &File,
+    device: &RamDevice,
+) -> io::Result<()> {
+    write_sectors(rt, &spare.file, device)?;
+    spare.file.sync_all()?;
+    rt.rename(spare.path.as_str(), path)?;
+    sync_folder(folder)
+}
+
+/// How what is there is replaced, of which these are the metadata.
+fn way_of<R: Files>(rt: &R, path: &str, file: &File, found: &Metadata) -> Way {
+    if !found.is_file() {
+        return Way::Stream;
+    }
+    if found.nlink() > 1 {
+        return Way::InPlace(Hindrance::Names);
+    }
+    if leads_to(rt, path, file) {
+        return Way::Beside;
+    }
+    Way::InPlace(Hindrance::Folder)
+}
+
+/// Opens a file's folder.
+fn open_folder<R: Files<File = File>>(rt: &R, path: &str) -> io::Result<File> {
+    let mut how = OpenOptions::new();
+    how.read(true);
+    open_apart(rt, &how, folder_of(path))
+}
+
+impl Replacement {
+    /// Opens what is there, to write, and locks it where it can be. Where nothing is there, a file has to be possible beside it.
+    pub fn open<R: Files<File = File> + AllocGlobal>(rt: &R, path: &str) -> io::Result<Replacement>
+        ensures { IfOk result (λ it. IfSome it.old StandsApart) }
+    {
+        let target = behind_links(rt, path)?;
+        let mut how = OpenOptions::new();
+        how.write(true);
+        match open_apart(rt, &how, path) {
+            Ok(file) => {
+                lock_to_write(&file)?;
+                let way = way_of(rt, target.as_str(), &file, &file.metadata()?);
+                Ok(Replacement {
+                    path: target,
+                    old: Some(file),
+                    way,
+                })
+            }
+            Err(error) if error.kind() == ErrorKind::NotFound => {
+                let spare = spare_beside(rt, target.as_str())?;
+                rt.remove_file(spare.path.as_str())?;
+                Ok(Replacement {
+                    path: target,
+                    old: None,
+                    way: Way::Beside,
+                })
+            }
+            Err(error) => Err(error),
+        }
+    }
+
+    /// Which file is there.
+    pub fn identity(&self) -> Option<Identity> {
+        match &self.old {
+            Some(file) => Identity::of(file),
+            None => None,
+        }
+    }
+
+    /// Which file is there by now.
+    pub fn identity_now<R: Files>(&self, rt: &R) -> Option<Identity> {
+        Identity::of_path(rt, self.path.as_str())
+    }
+
+    /// Gives the file the sectors of a device, and makes that last. Where it fails, and nothing hinders, it is as it was.
+    pub fn fill<R: Files<File = File> + AllocGlobal>(
+        self,
+        rt: &R,
+        device: &RamDevice,
+    ) -> io::Result<Option<Hindrance>> {
+        match self.way {
+            Way::Beside => self.fill_beside(rt, device),
+            Way::InPlace(why) => {
+                self.fill_in_place(rt, device)?;
+                Ok(Some(why))
+            }
+            Way::Stream => {
+                self.fill_in_place(rt, device)?;
+                Ok(None)
+            }
+        }
+    }
+
+    /// A file beside it, of its owner and its mode, and its folder.
+    fn spare<R: Files<File = File> + AllocGlobal>(&self, rt: &R) -> io::Result<(Spare, File)> {
+        let folder = open_folder(rt, self.path.as_str())?;
+        let spare = spare_beside(rt, self.path.as_str())?;
+        if let Some(old) = &self.old {
+            if let Err(error) = take_after(&spare.file, old) {
+                let _ = rt.remove_file(spare.path.as_str());
+                return Err(error);
+            }
+        }
+        Ok((spare, folder))
+    }
+
+    fn fill_beside<R: Files<File = File> + AllocGlobal>(
+        self,
+        rt: &R,
+        device: &RamDevice,
+    ) -> io::Result<Option<Hindrance>> {
+        let Ok((spare, folder)) = self.spare(rt) else {
+            self.fill_in_place(rt, device)?;
+            return Ok(Some(Hindrance::Folder));
+        };
+        match put_beside(rt, &spare, self.path.as_str(), &folder, device) {
+            Ok(()) => Ok(None),
+            Err(error) => {
+                let _ = rt.remove_file(spare.path.as_str());
+                Err(error)
+            }
+        }
+    }
+
+    /// Writes over what is there, or makes it.
+    fn fill_in_place<R: Files<File = File> + AllocGlobal>(
+        self,
+        rt: &R,
+        device: &RamDevice,
+    ) -> io::Result<()> {
+        let file = match self.old {
+            Some(file) => file,
+            None => {
+                let mut how = OpenOptions::new();
+                how.write(true).create_new(true);
+                open_apart(rt, &how, self.path.as_str())?
+            }
+        };
+        if !file.metadata()?.is_file() {
+            write_sectors(rt, &file, device)?;
+            let _ = file.sync_all();
+            return Ok(());
+        }
+        file.set_len(0)?;
+        write_sectors(rt, &file, device)?;
+        file.sync_all()
+    }
+}
