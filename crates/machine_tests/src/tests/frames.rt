@@ -115,30 +115,32 @@ fn stops_so(
     }
 }
 
-fn is_row(alloc: Global, bytes: &[u8], units: u32, wanted: &[Told]) -> bool {
+fn are_frames(alloc: Global, bytes: &[u8], units: u32, wanted: &[Told]) -> bool {
     match (loaded(alloc, bytes), loaded(alloc, bytes)) {
         (Ok(valid), Ok(read)) => stops_so(alloc, valid, &read, units, wanted),
         _ => false,
     }
 }
 
-/// `CALLERS` with this byte at this place.
-fn changed(alloc: Global, place: usize, byte: u8) -> Option<Vec<u8>> {
-    let front = CALLERS.get(..place)?;
-    let back = CALLERS.get(place..)?.get(1..)?;
-    match [front, &[byte], back].concat(alloc) {
-        Ok(bytes) => Some(bytes),
-        Err(_) => None,
+/// Whether these are the frames of a module of these parts, one after another.
+fn are_frames_of(alloc: Global, parts: &[&[u8]], units: u32, wanted: &[Told]) -> bool {
+    match parts.concat(alloc) {
+        Ok(bytes) => are_frames(alloc, &bytes, units, wanted),
+        Err(_) => false,
     }
 }
 
+/// Whether these are the frames of `CALLERS` with this byte at this place.
+fn is_row(alloc: Global, place: usize, byte: u8, units: u32, wanted: &[Told]) -> bool {
+    let front = CALLERS.get(..place).unwrap_or(&[]);
+    let from = CALLERS.get(place..).unwrap_or(&[]);
+    let back = from.get(1..).unwrap_or(&[]);
+    are_frames_of(alloc, &[front, &[byte], back], units, wanted)
+}
+
 fn assert_rows(rt: &impl Abort, alloc: Global, rows: &[Row<'_>]) {
-    for (i, row) in rows.iter().enumerate() {
-        let is = match changed(alloc, row.0, row.1) {
-            Some(bytes) => is_row(alloc, &bytes, row.2, row.3),
-            None => false,
-        };
-        assert_row(rt, i, is);
+    for (i, (place, byte, units, wanted)) in rows.iter().enumerate() {
+        assert_row(rt, i, is_row(alloc, *place, *byte, *units, wanted));
     }
 }
 
