@@ -23,8 +23,8 @@ class Trace:
     """What `strace` saw of a call: status, output, error output; the events of its volume; the calls that opened its files.
 
     An event is ("write", sector, bytes), ("sync",), ("said", bytes), or one of the first two that failed, with "failed " before its
-    name. Each has in `numbers` which call of its name it was, and so has each of `files`, which has names alone: the calls on the
-    volume before its first event, and those on the module.
+    name. Each has in `numbers` which call of its name it was. `files` has the calls on the volume before its first event, and those on
+    the module: which of the two, the name, and which call of its name it was.
     """
 
     def __init__(self, done):
@@ -60,7 +60,7 @@ class Trace:
             if kind == "input" and name == "read":
                 self.inputs.append(number)
             if kind in ("volume", "module") and not self.events:
-                self.files.append((name, number))
+                self.files.append((kind, name, number))
             return
         self.events.append(it)
         self.numbers.append(number)

@@ -199,21 +199,29 @@ def operations(setting):
 
 
 def files(setting):
-    """Each call of the system on a file that is opened: the module, and the volume up to its first operation."""
-    tried = 0
+    """Each call of the system on a file that is opened: the module, and the volume up to its first operation. The module is opened and
+    locked twice, ahead so that nothing is written into it, and to read it: where only that first part fails, the run goes on. So it
+    does where the system can't say which file it has open (`statx`): then that isn't compared with the other files."""
+    tried = passed = 0
     for make, _ in SCENES:
         scene = make(setting)
         path = f"{setting.room}/recorded"
         written(path, scene.base)
-        for name, number in crashes.recorded(setting, path, scene.words(path), scene.given).files:
+        whole = crashes.recorded(setting, path, scene.words(path), scene.given)
+        left = crashes.read(path)
+        for kind, name, number in whole.files:
             error = FILE_ERRORS.get(name, "error=EIO")
             written(path, scene.base)
             trace = crashes.traced(setting, path, scene.words(path), scene.given, inject(name, number, error))
+            goes_on = (trace.status, trace.out, trace.said) == (whole.status, whole.out, whole.said) and crashes.read(path) == left
+            tried += 1
+            if goes_on and (kind == "module" or name == "statx"):
+                passed += 1
+                continue
             ends = (trace.status, trace.said) == (124, "sandbox: fault 41\n")
             wanted(ends, f"{scene.name}, {name} number {number} with {error}: status {trace.status}, {trace.said!r}")
             wanted(crashes.read(path) == scene.base and not trace.events, f"{scene.name}, {name} number {number}: the volume was written")
-            tried += 1
-    return tried, "each is fault 41, and the volume is as it was"
+    return tried, f"each is fault 41, and the volume is as it was, but for {passed} after which all is read all the same"
 
 
 def standard_streams(setting):
