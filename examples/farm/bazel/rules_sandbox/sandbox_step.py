@@ -1,1 +1,0 @@
-../../../../tools/sandbox_step.py

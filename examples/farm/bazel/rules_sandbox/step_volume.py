@@ -1,1 +1,0 @@
-../../../../tools/step_volume.py
