@@ -21,8 +21,6 @@ OF_LISTS = ["--tests", "INPUT", "OUTPUT", "ERRORS", "REPORT"]
 LIST_READS, LIST_WRITES = ["--tests", "INPUT"], ["OUTPUT", "ERRORS", "REPORT"]
 WITH_LISTS = ["module", "--image", "--random", *OF_LISTS]
 VOLUMES = ["--volume", "--image", "--volume-out"]
-# Of a line of a list: where they are one file, it may hold the report of the refusal then, which is the REPORT's own part.
-TOLD_IN = [("OUTPUT", "REPORT"), ("ERRORS", "REPORT")]
 NAMES = ["the same", "relative", "absolute", "symbolic link", "hard link", "/dev/fd", "/proc/self/fd"]
 COLUMNS = ["INPUT", "OUTPUT", "ERRORS", "REPORT"]
 SECTORS, SLOTS = "160", "8"
@@ -142,9 +140,6 @@ def pair(setting, item):
             os.close(each)
         after, what = it.files(), told((first, second), kind, got)
         if (is_written(first) or is_written(second)) and {first, second} != {"--image", "--volume-out"}:
-            if (first, second) in TOLD_IN and after[name] != before[name]:
-                wanted(got[0] == 124 and after[name].startswith(b"end:fault\ncode:41\n"), what)
-                return "refused, as the file says"
             return refused(before, after, got, what, name, is_list=first in OF_LISTS or second in OF_LISTS, folder=it.folder)
         in_place = "sandbox: .*: written in place, .*\n" if second == "--volume-out" and kind == "hard link" else ""
         wanted(by_the_table(got[0], re.sub(in_place, "", got[2]) if in_place else got[2]), what)

@@ -183,6 +183,7 @@ impl<'a> HostPlaces<'a> {
     }
 
     pub(crate) fn made(&mut self, name: &str) -> io::Result<Output> {
+        self.held.contest(Identity::of_path(self.rt, name))?;
         let file = Output::open(self.rt, name)?;
         self.held.take_output(&file)?;
         Ok(file)

@@ -152,6 +152,16 @@ impl Held {
         Ok(())
     }
 
+    /// Notes a file that is to be written where it has another part in this line: its own lock refuses it before it is taken.
+    pub(crate) fn contest(&mut self, it: Option<Identity>) -> io::Result<()> {
+        if let Some(it) = it {
+            if self.is_used(it) {
+                self.contested.push(it)?;
+            }
+        }
+        Ok(())
+    }
+
     /// Takes a file that this line writes, and that no line before it has written, unless it is new.
     pub(crate) fn take_output(&mut self, file: &Output) -> io::Result<()> {
         let Some(it) = file.identity() else {
