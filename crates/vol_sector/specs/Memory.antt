@@ -1,7 +1,8 @@
 -- What callers see of a `MemoryDevice` (`docs/VOLUME.md`, "The device"). What a crash now may leave follows from the
 -- device's first image and record of writes and syncs alone; reads and failed operations only raise counts.
-use Rattle.std.specs.Prelude.{◌≡◌, ◌<◌, ℕ, List, [], Bool, vec_len}
+use Rattle.std.specs.Prelude.{◌≡◌, ◌<◌, ◌++◌, ℕ, List, [], Bool, vec_len}
 use Rattle.vol_sector.specs.Disk.{Image, Disk}
+use Rattle.vol_sector.specs.Past.{LeavesPast}
 use Rattle.vol_sector.specs.Counting.{counting}
 use Rattle.vol_sector.specs.Record.{recorded}
 use Rattle.vol_sector.specs.Record.{image_of}
@@ -50,3 +51,10 @@ pub record IsUnchanged (old new : MemoryDevice) : Type 0 where
   pub room_is : room_of new ≡ room_of old
   pub sectors_is : sector_count new ≡ sector_count old
   pub failures_is : failures_of new ≡ failures_of old
+
+-- It began with the same sectors, its record begins with that of the first, and the sectors past the end are as they were.
+pub record GoesOn (end : ℕ) (first later : MemoryDevice) : Type 0 where
+  pub began : initial_image later ≡ initial_image first
+  pub more : List Operation
+  pub recorded : record_of later ≡ record_of first ++ more
+  pub past : LeavesPast end (disk_of first) (disk_of later)

@@ -3,6 +3,7 @@
 ghost use Rattle.std.specs.Prelude.{◌≡◌, ◌⊎◌, ◌≤◌, ◌<◌, ◌↔◌, List, ℕ, IfOk, OnOk, OnErr, is_err};
 ghost use Rattle.vol_sector.specs.Disk.{Image, Disk, put, After, Wrote, Only, Leaves, Keeps};
 ghost use Rattle.vol_sector.specs.Disk.{counted, OneMore};
+ghost use Rattle.vol_sector.specs.Past.{LeavesPast, StillGoesOn};
 
 use thiserror::Error;
 
@@ -31,6 +32,10 @@ pub trait Device {
     /// How many operations have failed, as far as the count goes.
     ghost failures: { Self → ℕ };
 
+    /// The device is an earlier one after some operations, none of which was a write from this number of a
+    /// sector on. A device that keeps a record of its operations has those of the earlier one at its beginning.
+    ghost goes_on: { ℕ → Self → Self → Type 0 };
+
     /// The number of sectors, which never changes.
     fn sectors(&self) -> u32
         ensures { result ≡ size self.now };
@@ -49,7 +54,8 @@ pub trait Device {
         ensures operation_count { honest self.old → OneMore (disk self.old) (disk self.new) }
         ensures honest { honest self.old ↔ honest self.new }
         ensures size { size self.new ≡ size self.old }
-        ensures failures { failures self.new ≡ counted (is_err result) (failures self.old) };
+        ensures failures { failures self.new ≡ counted (is_err result) (failures self.old) }
+        ensures goes_on { (end : ℕ) → StillGoesOn (goes_on end) self.old self.new };
 
     /// Writes the sector. After a failure reads give the former bytes or these, always the same
     /// until the next write there.
@@ -65,7 +71,8 @@ pub trait Device {
         ensures operation_count { honest self.old → OneMore (disk self.old) (disk self.new) }
         ensures honest { honest self.old ↔ honest self.new }
         ensures size { size self.new ≡ size self.old }
-        ensures failures { failures self.new ≡ counted (is_err result) (failures self.old) };
+        ensures failures { failures self.new ≡ counted (is_err result) (failures self.old) }
+        ensures goes_on { (end : ℕ) → n < end → StillGoesOn (goes_on end) self.old self.new };
 
     /// After its success a crash leaves what reads give.
     fn sync(&mut self) -> Result<(), DeviceFault>
@@ -77,7 +84,8 @@ pub trait Device {
         ensures operation_count { honest self.old → OneMore (disk self.old) (disk self.new) }
         ensures honest { honest self.old ↔ honest self.new }
         ensures size { size self.new ≡ size self.old }
-        ensures failures { failures self.new ≡ counted (is_err result) (failures self.old) };
+        ensures failures { failures self.new ≡ counted (is_err result) (failures self.old) }
+        ensures goes_on { (end : ℕ) → StillGoesOn (goes_on end) self.old self.new };
 
     /// What a crash may leave now is among what a crash since an earlier count may have left.
     ghost counts_now: { (d : Self) (t : ℕ) (c : Image) → honest d → t ≤ (disk d).operation_count
@@ -89,4 +97,14 @@ pub trait Device {
 
     /// A crash may leave what reads give.
     ghost may_stay: { (d : Self) → honest d → (disk d).may_leave (disk d).seen };
+
+    /// A device goes on from itself.
+    ghost begins: { (end : ℕ) (d : Self) → goes_on end d d };
+
+    /// What goes on from a device that went on from a third goes on from that.
+    ghost goes_further: { (end : ℕ) (a b c : Self) → goes_on end a b → goes_on end b c → goes_on end a c };
+
+    /// One that goes on leaves the sectors from that number on as they were.
+    ghost leaves_past: { (end : ℕ) (first later : Self) → honest first → goes_on end first later
+        → LeavesPast end (disk first) (disk later) };
 }

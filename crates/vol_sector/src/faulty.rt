@@ -4,6 +4,7 @@ ghost use Rattle.std.specs.Prelude.{◌≡◌, ◌+◌, ◌-◌, ◌^◌, ◌<�
 ghost use Rattle.vol_sector.specs.Disk.{counted};
 ghost use Rattle.vol_sector.specs.Counting.{counting};
 ghost use Rattle.vol_sector.specs.internal.CountingLaws.{counting_now, only_counting};
+ghost use Rattle.vol_sector.specs.internal.PastLaws.{past_same, past_then};
 
 use crate::operations::Operations;
 use crate::{Device, DeviceFault};
@@ -83,7 +84,8 @@ impl<D: Device, const FAILS_AT: u64> Device for FaultyDevice<D, FAILS_AT> {
     ghost use Rattle.std.specs.Prelude.{◌≤◌, ◌==◌, List, IfOk, OnOk, IsErr, is_err};
     ghost use Rattle.vol_sector.specs.Disk.{Image, put, After, Wrote, Only, Leaves, Keeps};
     ghost use Rattle.vol_sector.specs.Disk.{OneMore, OneOperation, both_counts};
-    ghost use Rattle.vol_sector.specs.Faulty.{device_of, left_of, injected_failures, faulty_disk};
+    ghost use Rattle.vol_sector.specs.Past.{StillGoesOn};
+    ghost use Rattle.vol_sector.specs.Faulty.{device_of, left_of, injected_failures, faulty_disk, GoesOn};
 
     ghost disk = { λ f. counting f.count.operations.outcomes (D.disk f.device) };
 
@@ -92,6 +94,8 @@ impl<D: Device, const FAILS_AT: u64> Device for FaultyDevice<D, FAILS_AT> {
     ghost size = { λ f. D.size f.device };
 
     ghost failures = { λ f. both_counts (D.failures f.device) f.count.failures };
+
+    ghost goes_on = { λ end first later. GoesOn D.honest D.disk D.goes_on end first later };
 
     ghost counts_now = { λ f t c h le may. counting_now f.count.operations.outcomes
         (D.disk f.device) (λ s x past left. D.counts_now f.device s x h past left)
@@ -102,6 +106,20 @@ impl<D: Device, const FAILS_AT: u64> Device for FaultyDevice<D, FAILS_AT> {
 
     ghost may_stay = { λ f h. D.may_stay f.device h };
 
+    ghost begins = { λ end f. record {
+        device = D.begins end f.device;
+        honest = λ h. h;
+        past = λ h. past_same end (counting f.count.operations.outcomes (D.disk f.device));
+    } };
+
+    ghost goes_further = { λ end a b c one two. record {
+        device = D.goes_further end a.device b.device c.device one.device two.device;
+        honest = λ h. two.honest (one.honest h);
+        past = λ h. past_then end _ _ _ (one.past h) (two.past (one.honest h));
+    } };
+
+    ghost leaves_past = { λ end first later h from. from.past h };
+
     fn sectors(&self) -> u32 {
         self.device.sectors()
     }
@@ -110,7 +128,7 @@ impl<D: Device, const FAILS_AT: u64> Device for FaultyDevice<D, FAILS_AT> {
         self.device.failures().saturating_add(self.count.failures)
     }
 
-    // So many clauses, since a method's stand in place of its trait's: the first eight, to `failures`, are
+    // So many clauses, since a method's stand in place of its trait's: the first nine, to `goes_on`, are
     // those of any device, and the others say which operation fails and what the device inside does.
     fn read(&mut self, n: u32) -> Result<[u8; 512], DeviceFault>
         requires { n < D.size (device_of self.old) }
@@ -130,6 +148,8 @@ impl<D: Device, const FAILS_AT: u64> Device for FaultyDevice<D, FAILS_AT> {
             (injected_failures self.new)
             ≡ counted (is_err result)
             (both_counts (D.failures (device_of self.old)) (injected_failures self.old)) }
+        ensures goes_on { (end : ℕ)
+            → StillGoesOn (GoesOn D.honest D.disk D.goes_on end) self.old self.new }
         ensures count { left_of self.new ≡ left_of self.old - 1 }
         ensures fails { left_of self.old ≡ FAILS_AT
             → IsErr result × (device_of self.new ≡ device_of self.old) }
@@ -167,6 +187,8 @@ impl<D: Device, const FAILS_AT: u64> Device for FaultyDevice<D, FAILS_AT> {
             (injected_failures self.new)
             ≡ counted (is_err result)
             (both_counts (D.failures (device_of self.old)) (injected_failures self.old)) }
+        ensures goes_on { (end : ℕ) → n < end
+            → StillGoesOn (GoesOn D.honest D.disk D.goes_on end) self.old self.new }
         ensures count { left_of self.new ≡ left_of self.old - 1 }
         ensures fails { left_of self.old ≡ FAILS_AT
             → IsErr result × (device_of self.new ≡ device_of self.old) }
@@ -201,6 +223,8 @@ impl<D: Device, const FAILS_AT: u64> Device for FaultyDevice<D, FAILS_AT> {
             (injected_failures self.new)
             ≡ counted (is_err result)
             (both_counts (D.failures (device_of self.old)) (injected_failures self.old)) }
+        ensures goes_on { (end : ℕ)
+            → StillGoesOn (GoesOn D.honest D.disk D.goes_on end) self.old self.new }
         ensures count { left_of self.new ≡ left_of self.old - 1 }
         ensures fails { left_of self.old ≡ FAILS_AT
             → IsErr result × (device_of self.new ≡ device_of self.old) }

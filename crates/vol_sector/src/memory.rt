@@ -8,6 +8,8 @@ ghost use Rattle.vol_sector.specs.internal.CountingLaws.{counting_now, only_coun
 ghost use Rattle.vol_sector.specs.Record.{newest, recorded, choices, LeftBy};
 ghost use Rattle.vol_sector.specs.Record.{image_of};
 ghost use Rattle.vol_sector.specs.internal.RecordLaws.{stays_left, left_now, only_left};
+ghost use Rattle.vol_sector.specs.internal.RecordLaws.{begins_itself, begins_further};
+ghost use Rattle.vol_sector.specs.internal.PastLaws.{past_same, past_then};
 ghost use Rattle.vol_sector.specs.Record.{is_write};
 ghost use Rattle.vol_sector.specs.Crash.{written_since, written_below, picked, crashed_image};
 
@@ -203,11 +205,13 @@ fn choice(first: &[u8; 512], operations: &[Operation], n: u32, pick: u32) -> [u8
 }
 
 impl Device for MemoryDevice {
-    ghost use Rattle.std.specs.Prelude.{◌⊎◌, ◌↔◌, ◌++◌, OnOk, OnErr, IsOk, IsErr, is_err};
+    ghost use Rattle.std.specs.Prelude.{◌⊎◌, ◌↔◌, ◌++◌, OnOk, OnErr, IsOk, IsErr, is_err, refl};
+    ghost use Rattle.std.proofs.Common.{◌∙◌};
     ghost use Rattle.vol_sector.specs.Disk.{put, After, Wrote, Only, Leaves, Keeps};
     ghost use Rattle.vol_sector.specs.Disk.{counted, OneMore};
     ghost use Rattle.vol_sector.specs.Memory.{initial_image, record_of, room_of, sector_count};
-    ghost use Rattle.vol_sector.specs.Memory.{failures_of, disk_of, IsUnchanged};
+    ghost use Rattle.vol_sector.specs.Past.{StillGoesOn};
+    ghost use Rattle.vol_sector.specs.Memory.{failures_of, disk_of, IsUnchanged, GoesOn};
     ghost use Rattle.vol_sector.specs.declared.record.Operation.TheVariants.{Write, Sync};
 
     ghost disk = { λ m.
@@ -219,6 +223,8 @@ impl Device for MemoryDevice {
 
     ghost failures = { λ m. m.failures };
 
+    ghost goes_on = { λ end first later. GoesOn end first later };
+
     ghost counts_now = { λ m t c h le may. counting_now m.operations.outcomes
         (recorded (image_of m.first.items) m.history.items)
         (left_now (image_of m.first.items) m.history.items) t c le may };
@@ -228,6 +234,23 @@ impl Device for MemoryDevice {
         (only_left (image_of m.first.items) m.history.items) c left };
 
     ghost may_stay = { λ m h. stays_left (image_of m.first.items) m.history.items };
+
+    ghost begins = { λ end m. record {
+        began = refl;
+        more = [];
+        recorded = begins_itself m.history.items;
+        past = past_same end (counting m.operations.outcomes (recorded (image_of m.first.items) m.history.items));
+    } };
+
+    ghost goes_further = { λ end a b c one two. record {
+        began = two.began ∙ one.began;
+        more = one.more ++ two.more;
+        recorded = begins_further a.history.items b.history.items c.history.items one.more two.more
+            one.recorded two.recorded;
+        past = past_then end _ _ _ one.past two.past;
+    } };
+
+    ghost leaves_past = { λ end first later h from. from.past };
 
     fn sectors(&self) -> u32 {
         self.current.len() as u32
@@ -247,6 +270,7 @@ impl Device for MemoryDevice {
         ensures honest { Unit {0} ↔ Unit {0} }
         ensures size { sector_count self.new ≡ sector_count self.old }
         ensures failures { failures_of self.new ≡ counted (is_err result) (failures_of self.old) }
+        ensures goes_on { (end : ℕ) → StillGoesOn (GoesOn end) self.old self.new }
         ensures never_fails { IsOk result }
         ensures same { IsUnchanged self.old self.new }
     {
@@ -254,7 +278,7 @@ impl Device for MemoryDevice {
         Ok(self.current[n as usize])
     }
 
-    // So many clauses, since a method's stand in place of its trait's: the first eight, to `failures`, are
+    // So many clauses, since a method's stand in place of its trait's: the first nine, to `goes_on`, are
     // those of any device, and the others say when the record is full and what is recorded.
     fn write(&mut self, n: u32, image: &[u8; 512]) -> Result<(), DeviceFault>
         requires { n < sector_count self.old }
@@ -269,6 +293,7 @@ impl Device for MemoryDevice {
         ensures honest { Unit {0} ↔ Unit {0} }
         ensures size { sector_count self.new ≡ sector_count self.old }
         ensures failures { failures_of self.new ≡ counted (is_err result) (failures_of self.old) }
+        ensures goes_on { (end : ℕ) → n < end → StillGoesOn (GoesOn end) self.old self.new }
         ensures full { room_of self.old ≤ length (record_of self.old)
             → IsErr result × (record_of self.new ≡ record_of self.old) }
         ensures fits { length (record_of self.old) < room_of self.old
@@ -300,6 +325,7 @@ impl Device for MemoryDevice {
         ensures honest { Unit {0} ↔ Unit {0} }
         ensures size { sector_count self.new ≡ sector_count self.old }
         ensures failures { failures_of self.new ≡ counted (is_err result) (failures_of self.old) }
+        ensures goes_on { (end : ℕ) → StillGoesOn (GoesOn end) self.old self.new }
         ensures full { room_of self.old ≤ length (record_of self.old)
             → IsErr result × (record_of self.new ≡ record_of self.old) }
         ensures fits { length (record_of self.old) < room_of self.old

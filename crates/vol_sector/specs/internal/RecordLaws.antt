@@ -2,8 +2,8 @@
 -- only what it may leave now. `MemoryDevice` has its `may_stay` from `stays_left`, and its other two laws of a `Device`
 -- from `left_now` and `only_left` with those of `CountingLaws`.
 use Rattle.std.specs.Prelude.{◌≡◌, ◌≤◌, ◌==◌, ℕ, List, [], ◌∷◌, ◌++◌, length, take, refl, if◌then◌else◌, Bool, true, false}
-use Rattle.std.proofs.Common.{inl, inr, sym, subst, arith}
-use Rattle.std.proofs.lemmas.List.{take_all}
+use Rattle.std.proofs.Common.{inl, inr, sym, ◌∙◌, ap, subst, arith}
+use Rattle.std.proofs.lemmas.List.{take_all, append-nil, append_assoc}
 use Rattle.vol_sector.specs.Disk.{Image}
 use Rattle.vol_sector.specs.Record.{newest, choices, Among, LeftBy, LeftSince}
 use Rattle.vol_sector.specs.declared.record.Operation.{Operation}
@@ -36,3 +36,10 @@ pub only_left : (first : Image) (ops : List Operation) (c : Image) → LeftSince
 only_left first ops c since =
     let all : take since.0 ops ≡ ops = take_all since.0 ops since.1 in
     subst (λ (r : List Operation). LeftBy first r c) all since.3
+
+-- a record that begins with another
+pub begins_itself : (ops : List Operation) → ops ≡ ops ++ []
+begins_itself ops = sym (append-nil ops)
+
+pub begins_further : (a b c more last : List Operation) → b ≡ a ++ more → c ≡ b ++ last → c ≡ a ++ (more ++ last)
+begins_further a b c more last one two = two ∙ ap (λ (ops : List Operation). ops ++ last) one ∙ append_assoc a more last

@@ -3,6 +3,10 @@ use Rattle.std.proofs.lemmas.Grind.{common_steps}
 use Rattle.vol_sector.specs.Memory.{initial_image, record_of, operations_of}
 use Rattle.vol_sector.specs.Record.{recorded}
 use Rattle.vol_sector.proofs.Counting.{leaves_kept, keeps_kept}
+use Rattle.std.proofs.Common.{refl, []}
+use Rattle.vol_sector.specs.internal.PastLaws.{past_quiet}
+use Rattle.vol_sector.specs.internal.RecordLaws.{begins_itself}
+use Rattle.vol_sector.proofs.GoingOn.{goes_on}
 use Rattle.vol_sector.proofs.memory.MemoryDeviceDevice.read.Goals as goal
 
 pub returns-clause-crash : goal.returns-clause-crash
@@ -13,3 +17,6 @@ returns-clause-keeps c h = let m = c.args.self.now in keeps_kept (operations_of 
 
 pub returns-clause-bytes : goal.returns-clause-bytes
 returns-clause-bytes c = grind (arith, common_steps)
+
+pub returns-clause-goes_on : goal.returns-clause-goes_on
+returns-clause-goes_on c end = goes_on end c.args.self.now _ [] refl (begins_itself (record_of c.args.self.now)) (past_quiet end _ _ refl (returns-clause-crash c tt))

@@ -10,6 +10,10 @@ use Rattle.vol_sector.specs.declared.record.Operation.{Operation}
 use Rattle.vol_sector.specs.declared.record.Operation.TheVariants.{Sync}
 use Rattle.vol_sector.proofs.Counting.{leaves_passed, keeps_passed}
 use Rattle.vol_sector.proofs.Records.{keeps_push, leaves_sync, only_sync, newest_sync}
+use Rattle.std.proofs.Common.{refl, [], ◌∷◌}
+use Rattle.vol_sector.specs.internal.RecordLaws.{begins_itself}
+use Rattle.vol_sector.specs.internal.PastLaws.{past_quiet}
+use Rattle.vol_sector.proofs.GoingOn.{goes_on, seen_same, seen_synced}
 use Rattle.vol_sector.proofs.memory.MemoryDeviceDevice.sync.Goals as goal
 
 pub invariant_of-self-clause-agrees : goal.invariant_of-self-clause-agrees
@@ -47,3 +51,14 @@ returns-in-Err-clause-keeps c = grind (arith, common_steps)
 
 pub returns-in-Ok-clause-operation_count : goal.returns-in-Ok-clause-operation_count
 returns-in-Ok-clause-operation_count c = grind (arith, common_steps)
+
+pub returns-then-len-self-clause-goes_on : goal.returns-then-len-self-clause-goes_on
+returns-then-len-self-clause-goes_on c end =
+    let m = c.args.self.now in
+    let e = c.fail.ensures in
+    goes_on end m c.fail.new.self [] e.first (e.record ∙ begins_itself (record_of m)) (past_quiet end _ _ (seen_same (initial_image m) (initial_image c.fail.new.self) (record_of m) (record_of c.fail.new.self) e.first e.record) e.crash)
+
+pub returns-in-Ok-clause-goes_on : goal.returns-in-Ok-clause-goes_on
+returns-in-Ok-clause-goes_on c end =
+    let m = c.args.self.now in
+    goes_on end m _ (Sync ∷ []) refl c.in-Ok.ensures.items (past_quiet end _ _ (seen_synced (initial_image m) (record_of m) _ c.in-Ok.ensures.items) (returns-in-Ok-clause-crash c tt))

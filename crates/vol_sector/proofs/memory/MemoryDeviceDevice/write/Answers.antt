@@ -10,6 +10,10 @@ use Rattle.vol_sector.specs.declared.record.Operation.{Operation}
 use Rattle.vol_sector.specs.declared.record.Operation.TheVariants.{Write}
 use Rattle.vol_sector.proofs.Counting.{leaves_passed, keeps_passed, leaves_any}
 use Rattle.vol_sector.proofs.Records.{keeps_push, leaves_write, agrees_write}
+use Rattle.std.proofs.Common.{refl, [], ◌∷◌, inr}
+use Rattle.vol_sector.specs.internal.RecordLaws.{begins_itself}
+use Rattle.vol_sector.specs.internal.PastLaws.{past_quiet, past_wrote}
+use Rattle.vol_sector.proofs.GoingOn.{goes_on, seen_same, seen_written}
 use Rattle.vol_sector.proofs.memory.MemoryDeviceDevice.write.Goals as goal
 
 pub invariant_of-self-clause-agrees : goal.invariant_of-self-clause-agrees
@@ -48,3 +52,16 @@ returns-in-Err-clause-keeps c = grind (arith, common_steps)
 
 pub returns-in-Ok-clause-operation_count : goal.returns-in-Ok-clause-operation_count
 returns-in-Ok-clause-operation_count c = grind (arith, common_steps)
+
+pub returns-then-len-self-clause-goes_on : goal.returns-then-len-self-clause-goes_on
+returns-then-len-self-clause-goes_on c end lt =
+    let m = c.args.self.now in
+    let e = c.fail.ensures in
+    goes_on end m c.fail.new.self [] e.first (e.record ∙ begins_itself (record_of m)) (past_quiet end _ _ (seen_same (initial_image m) (initial_image c.fail.new.self) (record_of m) (record_of c.fail.new.self) e.first e.record) e.crash)
+
+pub returns-in-Ok-clause-goes_on : goal.returns-in-Ok-clause-goes_on
+returns-in-Ok-clause-goes_on c end lt =
+    let m = c.args.self.now in
+    let n = c.args.n in
+    let bytes = c.args.image.now in
+    goes_on end m _ (Write n bytes ∷ []) refl c.in-Ok.ensures.items (past_wrote end n bytes _ _ lt (inr (seen_written (initial_image m) (record_of m) _ n bytes c.in-Ok.ensures.items)) (returns-in-Ok-clause-crash c tt))

@@ -1,5 +1,6 @@
--- What becomes of the sectors that a device has past a volume's own (`docs/VOLUME.md`, "Sectors"). Formatting promises
--- `LeavesPast` of the sectors at and past the volume's number of sectors.
+-- What becomes of the sectors that a device has past a bound (`docs/VOLUME.md`, "Sectors"). A device that goes on from an
+-- earlier one, by `goes_on` of the trait `Device`, leaves those past its bound (`LeavesPast`), and so do all calls of a
+-- volume those past its own.
 use Rattle.std.specs.Prelude.{◌≡◌, ◌≤◌, ℕ}
 use Rattle.vol_sector.specs.Disk.{Image, Disk, After, Leaves}
 
@@ -12,3 +13,7 @@ PastStays end before after = (k : ℕ) → end ≤ k → after k ≡ before k
 pub record LeavesPast (end : ℕ) (old new : Disk) : Type 0 where
   pub seen : PastStays end old.seen new.seen
   pub crash : Leaves old new (After (PastStays end) old.may_leave)
+
+-- What goes on from the first device goes on from it one operation later, too: on any device, and whatever the first was.
+abbrev pub StillGoesOn : {D : Type 0} → (D → D → Type 0) → D → D → Type 0
+StillGoesOn {D} goes_on old new = (first : D) → goes_on first old → goes_on first new
