@@ -1,6 +1,7 @@
 -- How what stays of a log goes on from read to read.
-use Rattle.std.proofs.Common.{◌≡◌, ◌↔◌, inl, inr, ⊎_elim, Bool, false, sym, ◌∙◌, ap, arith}
+use Rattle.std.proofs.Common.{◌≡◌, ℕ, ◌↔◌, inl, inr, ⊎_elim, Bool, false, sym, ◌∙◌, ap, arith}
 use Rattle.vol_sector.specs.Disk.{Disk, Leaves, counted}
+use Rattle.vol_sector.specs.Past.{StillGoesOn}
 use Rattle.vol_sector.specs.declared.device.Device.{Ghosts}
 use Rattle.vol_log.specs.Log.{view, staged_of, device_of, log_sectors, has_failed}
 use Rattle.vol_log.specs.declared.log.Log.{Log}
@@ -27,6 +28,7 @@ module _ {D : Type 0} {g : Ghosts D} where
     sectors = λ i. log_sectors log;
     honest = (λ h. h, λ h. h);
     size = λ i. g.size (device_of log);
+    goes_on = λ end first from. from;
     failures = λ working. ap (λ (b : Bool). counted b (g.failures (device_of log))) (sym working);
   }
 
@@ -40,6 +42,7 @@ module _ {D : Type 0} {g : Ghosts D} where
     sectors = second.sectors ∙ first.sectors;
     honest = (λ h. second.honest.0 (first.honest.0 h), λ h. first.honest.1 (second.honest.1 h));
     size = second.size ∙ first.size;
+    goes_on = λ end start from. second.goes_on end start (first.goes_on end start from);
     failures = λ working. second.failures still ∙ ap (counted (has_failed c)) (first.failures working ∙ ap (λ (b : Bool). counted b (g.failures (device_of a))) still);
   }
 
@@ -53,10 +56,11 @@ module _ {D : Type 0} {g : Ghosts D} where
       log_sectors b ≡ log_sectors a →
       (g.honest (device_of a) ↔ g.honest (device_of b)) →
       g.size (device_of b) ≡ g.size (device_of a) →
+      ((end : ℕ) → StillGoesOn (g.goes_on end) (device_of a) (device_of b)) →
       (has_failed a ≡ false → g.failures (device_of b) ≡ counted failed (g.failures (device_of a))) →
       has_failed b ≡ failed →
       OnlyReads a b
-  reads_of a b failed same staged seen crash sectors honest size failures now = record {
+  reads_of a b failed same staged seen crash sectors honest size goes_on failures now = record {
     view = same;
     staged = staged;
     seen = seen;
@@ -64,5 +68,6 @@ module _ {D : Type 0} {g : Ghosts D} where
     sectors = sectors;
     honest = honest;
     size = size;
+    goes_on = goes_on;
     failures = λ working. failures working ∙ sym (ap (λ (x : Bool). counted x (g.failures (device_of a))) now);
   }

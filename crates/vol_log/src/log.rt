@@ -6,6 +6,7 @@ ghost use Rattle.std.specs.Prelude.{OnOk, OnErr, IfOk, IfErr, IsOk, IsErr, is_er
 ghost use Rattle.std.specs.Prelude.{if◌then◌else◌};
 ghost use Rattle.std.specs.Prelude.{vec_capacity};
 ghost use Rattle.vol_sector.specs.Disk.{Image, Leaves, put, counted, OneMore};
+ghost use Rattle.vol_sector.specs.Past.{StillGoesOn};
 ghost use Rattle.vol_sector.specs.Fault.{is_device, IsDamage};
 ghost use Rattle.vol_log.specs.Header.{Places};
 ghost use Rattle.vol_log.specs.internal.Index.{IsIndex};
@@ -95,6 +96,11 @@ impl<D: Device> Log<D> {
         ensures kept_err { IfErr result (λ r. (D.honest device ↔ D.honest r.device)
             × (D.size r.device ≡ D.size device)
             × (D.failures r.device ≡ counted (is_device r.fault) (D.failures device))) }
+        // What the device has past these sectors stays, and none of it is written.
+        ensures goes_on_ok { IfOk result
+            (λ log. StillGoesOn (D.goes_on sectors) device (device_of log)) }
+        ensures goes_on_err { IfErr result
+            (λ r. StillGoesOn (D.goes_on sectors) device r.device) }
     {
         let mut batch = match Batch::reserve(alloc) {
             Ok(batch) => batch,
@@ -155,6 +161,8 @@ impl<D: Device> Log<D> {
         ensures sectors { log_sectors self.new ≡ log_sectors self.old }
         ensures honest { D.honest (device_of self.old) ↔ D.honest (device_of self.new) }
         ensures size { D.size (device_of self.new) ≡ D.size (device_of self.old) }
+        ensures goes_on { (end : ℕ)
+            → StillGoesOn (D.goes_on end) (device_of self.old) (device_of self.new) }
         ensures failures { has_failed self.old ≡ false → D.failures (device_of self.new)
             ≡ counted (is_err result) (D.failures (device_of self.old)) }
     {
@@ -221,6 +229,8 @@ impl<D: Device> Log<D> {
         ensures sectors { log_sectors self.new ≡ log_sectors self.old }
         ensures honest { D.honest (device_of self.old) ↔ D.honest (device_of self.new) }
         ensures size { D.size (device_of self.new) ≡ D.size (device_of self.old) }
+        ensures goes_on { StillGoesOn (D.goes_on (log_sectors self.old))
+            (device_of self.old) (device_of self.new) }
         ensures failures { has_failed self.old ≡ false → D.failures (device_of self.new)
             ≡ counted (is_err result) (D.failures (device_of self.old)) }
     {
@@ -265,6 +275,8 @@ impl<D: Device> Log<D> {
         ensures sectors { log_sectors self.new ≡ log_sectors self.old }
         ensures honest { D.honest (device_of self.old) ↔ D.honest (device_of self.new) }
         ensures size { D.size (device_of self.new) ≡ D.size (device_of self.old) }
+        ensures goes_on { StillGoesOn (D.goes_on (log_sectors self.old))
+            (device_of self.old) (device_of self.new) }
         ensures failures { has_failed self.old ≡ false → D.failures (device_of self.new)
             ≡ counted (is_err result) (D.failures (device_of self.old)) }
     {

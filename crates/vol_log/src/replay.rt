@@ -3,6 +3,7 @@
 ghost use Rattle.std.specs.Prelude.{◌≡◌, ◌⊎◌, ◌≤◌, ◌<◌, ◌↔◌, List, ℕ, []};
 ghost use Rattle.std.specs.Prelude.{IsTrue, OnOk, OnErr, IfOk, IfErr, IsErrAnd, is_err, vec_capacity};
 ghost use Rattle.vol_sector.specs.Disk.{Image, Leaves, counted};
+ghost use Rattle.vol_sector.specs.Past.{StillGoesOn};
 ghost use Rattle.vol_sector.specs.Fault.{device_failed, IsDamage};
 ghost use Rattle.vol_log.specs.Header.{Places, IsHeader};
 ghost use Rattle.vol_log.specs.Batch.{SameContent, HasContent, Settled};
@@ -52,6 +53,7 @@ pub fn replay<D: Device>(
 
     ensures honest { D.honest device.old ↔ D.honest device.new }
     ensures size { D.size device.new ≡ D.size device.old }
+    ensures goes_on { StillGoesOn (D.goes_on sectors) device.old device.new }
     ensures named { IfErr result (λ fault. IsDamage fault
         ⊎ (fault ≡ VolumeFault.Device)) }
     ensures failures { D.failures device.new ≡ counted (device_failed result) (D.failures device.old) }
@@ -96,6 +98,7 @@ fn read_log<D: Device>(
     ensures crash { D.honest device.old → Leaves (D.disk device.old) (D.disk device.new) (λ c. ⊥) }
     ensures honest { D.honest device.old ↔ D.honest device.new }
     ensures size { D.size device.new ≡ D.size device.old }
+    ensures goes_on { (end : ℕ) → StillGoesOn (D.goes_on end) device.old device.new }
     ensures failures { D.failures device.new ≡ counted (is_err result) (D.failures device.old) }
     ensures room_kept { 120 ≤ vec_capacity batch.new }
 {

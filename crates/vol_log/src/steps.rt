@@ -3,6 +3,7 @@
 ghost use Rattle.std.specs.Prelude.{◌≡◌, ◌≤◌, ◌<◌, ◌↔◌, [], ℕ};
 ghost use Rattle.std.specs.Prelude.{length, OnOk, is_err};
 ghost use Rattle.vol_sector.specs.Disk.{After, Wrote, Leaves, Only, put, counted};
+ghost use Rattle.vol_sector.specs.Past.{StillGoesOn};
 ghost use Rattle.vol_log.specs.Header.{Places};
 ghost use Rattle.vol_log.specs.Batch.{over, logged, SameContent, HasContent, HasEither};
 ghost use Rattle.vol_log.specs.internal.Batch.{numbers};
@@ -27,6 +28,8 @@ pub fn write_images<D: Device>(device: &mut D, batch: &[Staged]) -> Result<(), D
         (After OnlyImagesChange (D.disk device.old).may_leave) }
     ensures honest { D.honest device.old ↔ D.honest device.new }
     ensures size { D.size device.new ≡ D.size device.old }
+    ensures goes_on { (end : ℕ) → FIRST_AFTER_LOG ≤ end
+        → StillGoesOn (D.goes_on end) device.old device.new }
     ensures failures { D.failures device.new ≡ counted (is_err result) (D.failures device.old) }
 {
     for (i, staged) in batch.iter().enumerate() {
@@ -46,6 +49,8 @@ pub fn install<D: Device>(device: &mut D, batch: &[Staged]) -> Result<(), Device
         (After (Under batch.now) (D.disk device.old).may_leave) }
     ensures honest { D.honest device.old ↔ D.honest device.new }
     ensures size { D.size device.new ≡ D.size device.old }
+    ensures goes_on { (end : ℕ) → Places end (numbers batch.now)
+        → StillGoesOn (D.goes_on end) device.old device.new }
     ensures failures { D.failures device.new ≡ counted (is_err result) (D.failures device.old) }
 {
     for staged in batch {
@@ -69,6 +74,8 @@ pub fn log_batch<D: Device>(device: &mut D, batch: &[Staged]) -> Result<(), Devi
         → OutsideLog (D.disk device.old).seen (D.disk device.new).seen }
     ensures honest { D.honest device.old ↔ D.honest device.new }
     ensures size { D.size device.new ≡ D.size device.old }
+    ensures goes_on { (end : ℕ) → FIRST_AFTER_LOG ≤ end
+        → StillGoesOn (D.goes_on end) device.old device.new }
     ensures failures { D.failures device.new ≡ counted (is_err result) (D.failures device.old) }
 {
     write_images(device, batch)?;
@@ -92,6 +99,8 @@ pub fn apply_batch<D: Device>(device: &mut D, batch: &[Staged]) -> Result<(), De
         (over batch.now (D.disk device.old).seen) }
     ensures honest { D.honest device.old ↔ D.honest device.new }
     ensures size { D.size device.new ≡ D.size device.old }
+    ensures goes_on { (end : ℕ) → FIRST_AFTER_LOG ≤ end → Places end (numbers batch.now)
+        → StillGoesOn (D.goes_on end) device.old device.new }
     ensures failures { D.failures device.new ≡ counted (is_err result) (D.failures device.old) }
 {
     install(device, batch)?;
@@ -117,6 +126,8 @@ pub fn commit_batch<D: Device>(device: &mut D, batch: &[Staged]) -> Result<(), D
         (over batch.now (D.disk device.old).seen) }
     ensures honest { D.honest device.old ↔ D.honest device.new }
     ensures size { D.size device.new ≡ D.size device.old }
+    ensures goes_on { (end : ℕ) → FIRST_AFTER_LOG ≤ end → Places end (numbers batch.now)
+        → StillGoesOn (D.goes_on end) device.old device.new }
     ensures failures { D.failures device.new ≡ counted (is_err result) (D.failures device.old) }
 {
     log_batch(device, batch)?;
@@ -133,6 +144,7 @@ pub fn read_images<D: Device>(device: &mut D, batch: &mut [Staged]) -> Result<()
     ensures crash { D.honest device.old → Leaves (D.disk device.old) (D.disk device.new) (λ c. ⊥) }
     ensures honest { D.honest device.old ↔ D.honest device.new }
     ensures size { D.size device.new ≡ D.size device.old }
+    ensures goes_on { (end : ℕ) → StillGoesOn (D.goes_on end) device.old device.new }
     ensures failures { D.failures device.new ≡ counted (is_err result) (D.failures device.old) }
     ensures sectors { numbers batch.new ≡ numbers batch.old }
 {
@@ -155,6 +167,7 @@ pub fn write_front<D: Device>(device: &mut D, image: &[u8; 512]) -> Result<(), D
         (After (Wrote 0 image.now) (D.disk device.old).may_leave) }
     ensures honest { D.honest device.old ↔ D.honest device.new }
     ensures size { D.size device.new ≡ D.size device.old }
+    ensures goes_on { (end : ℕ) → 0 < end → StillGoesOn (D.goes_on end) device.old device.new }
     ensures failures { D.failures device.new ≡ counted (is_err result) (D.failures device.old) }
 {
     device.write(FRONT, image)?;

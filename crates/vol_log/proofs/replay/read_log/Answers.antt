@@ -21,6 +21,7 @@ returns-in_err-sync g c =
       crash = c.sync.ensures.crash;
       honest = c.sync.ensures.honest;
       size = c.sync.ensures.size;
+      goes_on = c.sync.ensures.goes_on;
       failures = counts_one r (g.D.Device.failures c.args.device.now) (g.D.Device.failures c.args.device.now) (g.D.Device.failures c.sync.new.self) failed refl c.in_err-sync.ensures.failures;
       room_kept = c.requires.room;
     }
@@ -42,6 +43,7 @@ returns-in_err-header g c =
       crash = λ h. leaves_quiet a b d (λ m. ⊥) (first.crash h) (second.crash (first.honest.0 h));
       honest = both_then first.honest second.honest;
       size = second.size ∙ first.size;
+      goes_on = λ end start from. second.goes_on end start (first.goes_on end start from);
       failures = counts_one r (g.D.Device.failures c.args.device.now) (g.D.Device.failures c.sync.new.self) (g.D.Device.failures c.read.new.self) failed c.in_ok-sync.ensures.failures c.in_err-header.ensures.failures;
       room_kept = c.requires.room;
     }
@@ -61,6 +63,7 @@ returns-then-not-read_header g c =
       crash = λ h. leaves_quiet a b d (λ m. ⊥) (first.crash h) (second.crash (first.honest.0 h));
       honest = both_then first.honest second.honest;
       size = second.size ∙ first.size;
+      goes_on = λ end start from. second.goes_on end start (first.goes_on end start from);
       failures = c.in_ok-header.ensures.failures ∙ c.in_ok-sync.ensures.failures;
       room_kept = omega (arith, c.requires.room, c.read_header.ensures.capacity);
     }
@@ -84,6 +87,7 @@ returns-in_err-read_images g c =
       crash = λ h. let h1 = first.honest.0 h in leaves_quiet a d e (λ m. ⊥) (leaves_quiet a b d (λ m. ⊥) (first.crash h) (second.crash h1)) (third.crash (second.honest.0 h1));
       honest = both_then first.honest (both_then second.honest third.honest);
       size = third.size ∙ second.size ∙ first.size;
+      goes_on = λ end start from. third.goes_on end start (second.goes_on end start (first.goes_on end start from));
       failures = counts_one r (g.D.Device.failures c.args.device.now) (g.D.Device.failures c.read.new.self) (g.D.Device.failures c.read_images.new.device) failed (c.in_ok-header.ensures.failures ∙ c.in_ok-sync.ensures.failures) c.in_err-read_images.ensures.failures;
       room_kept = omega (arith, c.requires.room, c.read_header.ensures.capacity);
     }
@@ -124,6 +128,7 @@ returns g c =
       crash = λ h. let h1 = first.honest.0 h in leaves_quiet a d e (λ m. ⊥) (leaves_quiet a b d (λ m. ⊥) (first.crash h) (second.crash h1)) (third.crash (second.honest.0 h1));
       honest = both_then first.honest (both_then second.honest third.honest);
       size = third.size ∙ second.size ∙ first.size;
+      goes_on = λ end start from. third.goes_on end start (second.goes_on end start (first.goes_on end start from));
       failures = c.in_ok-read_images.ensures.failures ∙ c.in_ok-header.ensures.failures ∙ c.in_ok-sync.ensures.failures;
       room_kept = omega (arith, c.requires.room, c.read_header.ensures.capacity);
     }

@@ -1,6 +1,7 @@
 use Rattle.std.proofs.Common.{◌≡◌, ◌∙◌, inl, ⊎_elim, List, [], refl, rules, sym, ap, subst, arith, true≢false}
 use Rattle.std.proofs.lemmas.Grind.{common_steps}
 use Rattle.vol_sector.specs.Disk.{Image, Leaves}
+use Rattle.vol_log.specs.Header.{Places}
 use Rattle.vol_log.specs.Batch.{HasContent, over}
 use Rattle.vol_log.specs.internal.Batch.{numbers}
 use Rattle.vol_log.specs.internal.Steps.{Logged}
@@ -29,6 +30,7 @@ returns-in_err-is_right g c =
       kept_content = λ m h has. at_err r _ (subst (λ (x : Image). HasContent s x m) (sym (e.seen h)) has);
       honest = e.honest;
       size = e.size;
+      goes_on = e.goes_on c.args.sectors;
       named = device_named r device;
       failures = counts_device r (g.D.Device.failures c.args.device.now) (g.D.Device.failures c.args.device.now) (g.D.Device.failures c.read_log.new.device) device refl c.in_err-is_right.ensures.failures;
       emptied = at_ok r _ failed;
@@ -51,6 +53,7 @@ returns-then-not-is_right g c =
       kept_content = λ m h has. subst (λ (x : Image). HasContent s x m) (sym (e.seen h)) has;
       honest = e.honest;
       size = e.size;
+      goes_on = e.goes_on c.args.sectors;
       named = inl tt;
       failures = c.in_ok-is_right.ensures.failures;
       emptied = tt;
@@ -77,6 +80,7 @@ returns-then-is_empty g c =
       kept_content = λ m h has. tt;
       honest = e.honest;
       size = e.size;
+      goes_on = e.goes_on c.args.sectors;
       named = tt;
       failures = e.failures;
       emptied = none;
@@ -114,6 +118,7 @@ returns-in_err-apply_batch g c =
           (steps.now d.seen (g.met.D.Device.may_stay c.apply_batch.new.device (f.honest.0 h1))));
       honest = both_then e.honest f.honest;
       size = f.size ∙ e.size;
+      goes_on = λ first from. f.goes_on c.args.sectors (omega (arith, c.requires.geometry)) (subst (λ (l : List Staged). Places c.args.sectors (numbers l)) (sym c.deref.ensures.value) (e.places c.if-not-is_right.false)) first (e.goes_on c.args.sectors first from);
       named = device_named r device;
       failures = counts_device r (g.D.Device.failures c.args.device.now) (g.D.Device.failures c.read_log.new.device) (g.D.Device.failures c.apply_batch.new.device) device e.failures c.in_err-apply_batch.ensures.failures;
       emptied = at_ok r _ failed;
@@ -143,6 +148,7 @@ returns g c =
       kept_content = λ m h has. tt;
       honest = both_then e.honest f.honest;
       size = f.size ∙ e.size;
+      goes_on = λ first from. f.goes_on c.args.sectors (omega (arith, c.requires.geometry)) (subst (λ (l : List Staged). Places c.args.sectors (numbers l)) (sym c.deref.ensures.value) (e.places c.if-not-is_right.false)) first (e.goes_on c.args.sectors first from);
       named = tt;
       failures = c.in_ok-apply_batch.ensures.failures ∙ e.failures;
       emptied = search rules;

@@ -20,6 +20,7 @@ loop-i-preserved g c =
       seen = λ h. e.seen (so_far.honest.0 h) ∙ so_far.seen h;
       crash = λ h. leaves_quiet a b d _ (so_far.crash h) (e.crash (so_far.honest.0 h));
       honest = both_then so_far.honest e.honest;
+      goes_on = λ end first from. e.goes_on end first (so_far.goes_on end first from);
       size = e.size ∙ so_far.size;
       failures = c.in_ok-staged.ensures.failures ∙ so_far.failures;
     }
@@ -50,3 +51,9 @@ returns-in_err-staged-clause-crash g c h =
 
 pub returns-in_err-staged-clause-sectors : goal.returns-in_err-staged-clause-sectors
 returns-in_err-staged-clause-sectors c = grind (arith, common_steps)
+
+pub returns-in_err-staged-clause-goes_on : goal.returns-in_err-staged-clause-goes_on
+returns-in_err-staged-clause-goes_on g c end first from = c.read.ensures.goes_on end first (c.loop-i.invariant.goes_on end first from)
+
+pub returns-clause-goes_on : goal.returns-clause-goes_on
+returns-clause-goes_on g c = c.loop-i.invariant.goes_on

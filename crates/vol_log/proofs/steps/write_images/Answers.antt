@@ -23,6 +23,7 @@ loop-i-preserved g c =
       beside = λ h. outside_joins _ _ _ (so_far.beside h) (wrote_image _ _ low high _ _ (e.seen (so_far.honest.0 h)));
       crash = λ h. leaves_step _ _ _ OnlyImagesChange _ (wrote_image _ _ low high) outside_joins (so_far.crash h) (e.crash (so_far.honest.0 h));
       honest = both_then so_far.honest e.honest;
+      goes_on = λ end le first from. e.goes_on end (omega (arith, high, le)) first (so_far.goes_on end le first from);
       size = e.size ∙ so_far.size;
       failures = c.in_ok-write.ensures.failures ∙ so_far.failures;
     }
@@ -55,3 +56,11 @@ returns-in_err-write-clause-crash g c h =
 
 pub loop-i-init : goal.loop-i-init
 loop-i-init c = grind (arith, common_steps)
+
+pub returns-in_err-write-clause-goes_on : goal.returns-in_err-write-clause-goes_on
+returns-in_err-write-clause-goes_on g c end le first from =
+    let high : 2 + c.loop-i.i < end = omega (arith, c.requires.few, c.loop-i-test.true, le) in
+    c.write.ensures.goes_on end high first (c.loop-i.invariant.goes_on end le first from)
+
+pub returns-clause-goes_on : goal.returns-clause-goes_on
+returns-clause-goes_on g c = c.loop-i.invariant.goes_on

@@ -70,6 +70,7 @@ returns-then-self g c =
       sectors = refl;
       honest = (λ h. h, λ h. h);
       size = refl;
+      goes_on = λ first from. from;
       failures = λ working. absurd (true≢false (sym failed ∙ working));
     }
 
@@ -90,6 +91,7 @@ returns-then-is_empty g c =
       sectors = refl;
       honest = (λ h. h, λ h. h);
       size = refl;
+      goes_on = λ first from. from;
       failures = λ working. refl;
     }
 
