@@ -18,6 +18,7 @@ stages_then {D = D} {g = g} a b c reads still device sectors working = record {
   sectors = sectors ∙ reads.sectors;
   honest = subst (λ (d : D). g.honest (device_of a) ↔ g.honest d) (sym device) reads.honest;
   size = ap g.size device ∙ reads.size;
+  goes_on = λ end first from. subst (g.goes_on end first) (sym device) (reads.goes_on end first from);
   failures = λ was_working. ap g.failures device ∙ reads.failures was_working ∙ ap (λ (b : Bool). counted b (g.failures (device_of a))) (still ∙ sym working);
 }
 
@@ -29,7 +30,7 @@ room_read a b reads = ap (λ l. 120 - length l) reads.staged
 pub stages_none : {D : Type 0} {g : Ghosts D} (most : ℕ) (a b : Log D g) (s t : Alloc) (refused : Bool) → OnlyReads a b → has_failed b ≡ refused → first_of t ≡ first_of s → end_of t ≡ end_of s → StagesAtMost most a b s t refused
 stages_none most a b s t refused reads failed first end = record {
   room = let same : room_of b ≡ room_of a = room_read a b reads in omega (arith, same);
-  log = record { seen = reads.seen; crash = reads.crash; sectors = reads.sectors; honest = reads.honest; size = reads.size; failures = reads.failures };
+  log = record { seen = reads.seen; crash = reads.crash; sectors = reads.sectors; honest = reads.honest; size = reads.size; goes_on = reads.goes_on; failures = reads.failures };
   failed = failed;
   range = (first, end);
 }
@@ -49,6 +50,7 @@ stages_one {D = D} {g = g} {T = T} {E = E} most a b s r staged some device secto
     sectors = sectors;
     honest = subst (λ (d : D). g.honest (device_of a) ↔ g.honest d) (sym device) (λ h. h, λ h. h);
     size = ap g.size device;
+    goes_on = λ end first from. subst (g.goes_on end first) (sym device) from;
     failures = λ working. ap g.failures device ∙ sym (ap (λ (x : Bool). counted x (g.failures (device_of a))) (failed ∙ working));
   };
   failed = failed ∙ sym fails;

@@ -2,6 +2,7 @@
 -- write or a new size takes at most `most` places of the log, and the log has failed exactly where the call is refused.
 use Rattle.std.specs.Prelude.{◌≡◌, ◌↔◌, ◌≤◌, ◌+◌, ℕ, Bool, false}
 use Rattle.vol_sector.specs.Disk.{Leaves, counted}
+use Rattle.vol_sector.specs.Past.{StillGoesOn}
 use Rattle.vol_sector.specs.declared.device.Device.{Ghosts}
 use Rattle.vol_log.specs.Log.{device_of, log_sectors, room_of, has_failed}
 use Rattle.vol_log.specs.declared.log.Log.{Log}
@@ -15,6 +16,7 @@ pub record OnlyStages {D : Type 0} {g : Ghosts D} (old new : Log D g) : Type 0 w
   pub sectors : log_sectors new ≡ log_sectors old
   pub honest : g.honest (device_of old) ↔ g.honest (device_of new)
   pub size : g.size (device_of new) ≡ g.size (device_of old)
+  pub goes_on : (end : ℕ) → StillGoesOn (g.goes_on end) (device_of old) (device_of new)
   pub failures : has_failed old ≡ false → g.failures (device_of new) ≡ counted (has_failed new) (g.failures (device_of old))
 
 -- A change of a file stages this many sectors at most. The log has failed where the change is refused, and only there.

@@ -127,3 +127,12 @@ over_placed_at (s ∷ batch) m k placed = elim (cases_eq k s.sector) [
 
 pub over_placed : (batch : List Staged) (m : Image) → Placed batch (length batch) m → over batch m ≡ m
 over_placed batch m placed = λ j k. over_placed_at batch m k placed j
+
+-- places in a volume are places in a greater one
+pub places_within : (sectors end : ℕ) (ns : List ℕ) → sectors ≤ end → Places sectors ns → Places end ns
+places_within sectors end ns le placed = record {
+  few = placed.few;
+  after_log = placed.after_log;
+  there = λ k lt. omega (arith, le, placed.there k lt);
+  distinct = placed.distinct;
+}

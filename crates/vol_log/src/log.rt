@@ -97,10 +97,10 @@ impl<D: Device> Log<D> {
             × (D.size r.device ≡ D.size device)
             × (D.failures r.device ≡ counted (is_device r.fault) (D.failures device))) }
         // What the device has past these sectors stays, and none of it is written.
-        ensures goes_on_ok { IfOk result
-            (λ log. StillGoesOn (D.goes_on sectors) device (device_of log)) }
-        ensures goes_on_err { IfErr result
-            (λ r. StillGoesOn (D.goes_on sectors) device r.device) }
+        ensures goes_on_ok { IfOk result (λ log. (end : ℕ) → sectors ≤ end
+            → StillGoesOn (D.goes_on end) device (device_of log)) }
+        ensures goes_on_err { IfErr result (λ r. (end : ℕ) → sectors ≤ end
+            → StillGoesOn (D.goes_on end) device r.device) }
     {
         let mut batch = match Batch::reserve(alloc) {
             Ok(batch) => batch,
@@ -229,8 +229,8 @@ impl<D: Device> Log<D> {
         ensures sectors { log_sectors self.new ≡ log_sectors self.old }
         ensures honest { D.honest (device_of self.old) ↔ D.honest (device_of self.new) }
         ensures size { D.size (device_of self.new) ≡ D.size (device_of self.old) }
-        ensures goes_on { StillGoesOn (D.goes_on (log_sectors self.old))
-            (device_of self.old) (device_of self.new) }
+        ensures goes_on { (end : ℕ) → log_sectors self.old ≤ end
+            → StillGoesOn (D.goes_on end) (device_of self.old) (device_of self.new) }
         ensures failures { has_failed self.old ≡ false → D.failures (device_of self.new)
             ≡ counted (is_err result) (D.failures (device_of self.old)) }
     {
@@ -275,8 +275,8 @@ impl<D: Device> Log<D> {
         ensures sectors { log_sectors self.new ≡ log_sectors self.old }
         ensures honest { D.honest (device_of self.old) ↔ D.honest (device_of self.new) }
         ensures size { D.size (device_of self.new) ≡ D.size (device_of self.old) }
-        ensures goes_on { StillGoesOn (D.goes_on (log_sectors self.old))
-            (device_of self.old) (device_of self.new) }
+        ensures goes_on { (end : ℕ) → log_sectors self.old ≤ end
+            → StillGoesOn (D.goes_on end) (device_of self.old) (device_of self.new) }
         ensures failures { has_failed self.old ≡ false → D.failures (device_of self.new)
             ≡ counted (is_err result) (D.failures (device_of self.old)) }
     {

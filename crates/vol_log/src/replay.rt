@@ -53,7 +53,8 @@ pub fn replay<D: Device>(
 
     ensures honest { D.honest device.old ↔ D.honest device.new }
     ensures size { D.size device.new ≡ D.size device.old }
-    ensures goes_on { StillGoesOn (D.goes_on sectors) device.old device.new }
+    ensures goes_on { (end : ℕ) → sectors ≤ end
+        → StillGoesOn (D.goes_on end) device.old device.new }
     ensures named { IfErr result (λ fault. IsDamage fault
         ⊎ (fault ≡ VolumeFault.Device)) }
     ensures failures { D.failures device.new ≡ counted (device_failed result) (D.failures device.old) }

@@ -26,7 +26,7 @@ returns g c =
     let content = view c.args.log.now in
     record {
       bytes = λ h. IfOk-weaker c.read.result (λ image. image ≡ content c.args.n) (λ image. image ≡ block_bytes content c.args.n) (λ image is. is ∙ sym (bytes_there content c.args.n c.if-n-eq0.false)) (e.value h);
-      reads = reads_of c.args.log.now c.read.new.self (is_err c.read.result) e.view e.staged e.seen e.crash e.sectors e.honest e.size e.failures e.failed;
+      reads = reads_of c.args.log.now c.read.new.self (is_err c.read.result) e.view e.staged e.seen e.crash e.sectors e.honest e.size e.goes_on e.failures e.failed;
       failed = e.failed;
     }
 

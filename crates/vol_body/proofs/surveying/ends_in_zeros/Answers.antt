@@ -65,7 +65,7 @@ returns-in_err-image g c =
     record {
       yes = λ h below. IfOk-from_err r _ is_err_now;
       no = λ h below. IfOk-from_err r _ is_err_now;
-      reads = reads_then c.args.log.now c.block_sector.new.log c.read.new.self c.in_ok-n.ensures.failed c.in_ok-n.ensures.reads (reads_of c.block_sector.new.log c.read.new.self (is_err c.read.result) e.view e.staged e.seen e.crash e.sectors e.honest e.size e.failures e.failed);
+      reads = reads_then c.args.log.now c.block_sector.new.log c.read.new.self c.in_ok-n.ensures.failed c.in_ok-n.ensures.reads (reads_of c.block_sector.new.log c.read.new.self (is_err c.read.result) e.view e.staged e.seen e.crash e.sectors e.honest e.size e.goes_on e.failures e.failed);
       failed = c.in_err-image.ensures.failed ∙ sym is_err_now;
     }
 
@@ -81,6 +81,6 @@ returns g c =
     record {
       yes = λ h below yes k some le lt. ap (λ (l : List ℕ). get_or l k 0) (sym (bytes h below)) ∙ c.zeros_from.ensures.yes yes k le lt;
       no = λ h below zeros. c.zeros_from.ensures.no (λ k le lt. ap (λ (l : List ℕ). get_or l k 0) (bytes h below) ∙ zeros k c.if-from-eq0.false le lt);
-      reads = reads_then c.args.log.now c.block_sector.new.log c.read.new.self first.failed first.reads (reads_of c.block_sector.new.log c.read.new.self (is_err c.read.result) e.view e.staged e.seen e.crash e.sectors e.honest e.size e.failures e.failed);
+      reads = reads_then c.args.log.now c.block_sector.new.log c.read.new.self first.failed first.reads (reads_of c.block_sector.new.log c.read.new.self (is_err c.read.result) e.view e.staged e.seen e.crash e.sectors e.honest e.size e.goes_on e.failures e.failed);
       failed = c.in_ok-image.ensures.failed;
     }

@@ -25,7 +25,7 @@ returns-in_err-image g c =
     let e = c.read.ensures in
     record {
       number = λ h there. IfOk-from_err r _ is_err_now;
-      reads = reads_of c.args.log.now c.read.new.self (is_err c.read.result) e.view e.staged e.seen e.crash e.sectors e.honest e.size e.failures e.failed;
+      reads = reads_of c.args.log.now c.read.new.self (is_err c.read.result) e.view e.staged e.seen e.crash e.sectors e.honest e.size e.goes_on e.failures e.failed;
       failed = c.in_err-image.ensures.failed ∙ sym is_err_now;
     }
 
@@ -34,6 +34,6 @@ returns g c =
     let e = c.read.ensures in
     record {
       number = λ h there. c.number_at.ensures ∙ ap (λ (l : List ℕ). little_number 4 (drop (4 * c.args.i) l)) (c.in_ok-image.ensures.value h) ∙ sym (number_there (view c.args.log.now) c.args.indirect_block c.args.i c.if-indirect_block-eq0.false);
-      reads = reads_of c.args.log.now c.read.new.self (is_err c.read.result) e.view e.staged e.seen e.crash e.sectors e.honest e.size e.failures e.failed;
+      reads = reads_of c.args.log.now c.read.new.self (is_err c.read.result) e.view e.staged e.seen e.crash e.sectors e.honest e.size e.goes_on e.failures e.failed;
       failed = c.in_ok-image.ensures.failed;
     }

@@ -29,7 +29,7 @@ returns-in_err-image g c =
       past = λ h. IfOk-from_err r _ is_err_now;
       damaged = λ h. handed_on r _ faults.Device is (λ damaged. device_not_damaged damaged);
       refused = handed_on r _ faults.Device is (inr refl);
-      reads = reads_of c.args.log.now c.read.new.self (is_err c.read.result) e.view e.staged e.seen e.crash e.sectors e.honest e.size e.failures e.failed;
+      reads = reads_of c.args.log.now c.read.new.self (is_err c.read.result) e.view e.staged e.seen e.crash e.sectors e.honest e.size e.goes_on e.failures e.failed;
       failed = failed_on r faults.Device _ is c.in_err-image.ensures.failed;
     }
 
@@ -45,7 +45,7 @@ returns-then-not-none_from g c =
           let yes : c.none_from.result ≡ true = c.none_from.ensures.no (λ i le lt. ap (λ (l : List ℕ). get_or l i 0) all ∙ number_listed content c.args.indirect_block i lt ∙ none i le lt) in
           true≢false (sym yes ∙ c.if-not-none_from.true);
       refused = inl tt;
-      reads = reads_of c.args.log.now c.read.new.self (is_err c.read.result) e.view e.staged e.seen e.crash e.sectors e.honest e.size e.failures e.failed;
+      reads = reads_of c.args.log.now c.read.new.self (is_err c.read.result) e.view e.staged e.seen e.crash e.sectors e.honest e.size e.goes_on e.failures e.failed;
       failed = c.in_ok-image.ensures.failed;
     }
 
@@ -59,6 +59,6 @@ returns g c =
       past = λ h i le lt. sym (number_listed content c.args.indirect_block i lt) ∙ sym (ap (λ (l : List ℕ). get_or l i 0) (numbers h)) ∙ c.none_from.ensures.yes c.if-not-none_from.false i le lt;
       damaged = λ h. tt;
       refused = tt;
-      reads = reads_of c.args.log.now c.read.new.self (is_err c.read.result) e.view e.staged e.seen e.crash e.sectors e.honest e.size e.failures e.failed;
+      reads = reads_of c.args.log.now c.read.new.self (is_err c.read.result) e.view e.staged e.seen e.crash e.sectors e.honest e.size e.goes_on e.failures e.failed;
       failed = c.in_ok-image.ensures.failed;
     }

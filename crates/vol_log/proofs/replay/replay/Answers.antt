@@ -8,6 +8,7 @@ use Rattle.vol_log.specs.internal.Steps.{Logged}
 use Rattle.vol_log.specs.declared.staged.Staged.{Staged}
 use Rattle.vol_log.proofs.Moments.{leaves_any, leaves_then, both_then, at_ok, at_err}
 use Rattle.vol_log.proofs.Commit.{has_same}
+use Rattle.vol_log.proofs.Images.{places_within}
 use Rattle.vol_log.proofs.Opening.{has_of, content_of, settled_of, is_device_err, not_damaged, device_named, counts_device}
 use Rattle.vol_log.proofs.replay.replay.Goals as goal
 
@@ -30,7 +31,7 @@ returns-in_err-is_right g c =
       kept_content = λ m h has. at_err r _ (subst (λ (x : Image). HasContent s x m) (sym (e.seen h)) has);
       honest = e.honest;
       size = e.size;
-      goes_on = e.goes_on c.args.sectors;
+      goes_on = λ end le. e.goes_on end;
       named = device_named r device;
       failures = counts_device r (g.D.Device.failures c.args.device.now) (g.D.Device.failures c.args.device.now) (g.D.Device.failures c.read_log.new.device) device refl c.in_err-is_right.ensures.failures;
       emptied = at_ok r _ failed;
@@ -53,7 +54,7 @@ returns-then-not-is_right g c =
       kept_content = λ m h has. subst (λ (x : Image). HasContent s x m) (sym (e.seen h)) has;
       honest = e.honest;
       size = e.size;
-      goes_on = e.goes_on c.args.sectors;
+      goes_on = λ end le. e.goes_on end;
       named = inl tt;
       failures = c.in_ok-is_right.ensures.failures;
       emptied = tt;
@@ -80,7 +81,7 @@ returns-then-is_empty g c =
       kept_content = λ m h has. tt;
       honest = e.honest;
       size = e.size;
-      goes_on = e.goes_on c.args.sectors;
+      goes_on = λ end le. e.goes_on end;
       named = tt;
       failures = e.failures;
       emptied = none;
@@ -118,7 +119,7 @@ returns-in_err-apply_batch g c =
           (steps.now d.seen (g.met.D.Device.may_stay c.apply_batch.new.device (f.honest.0 h1))));
       honest = both_then e.honest f.honest;
       size = f.size ∙ e.size;
-      goes_on = λ first from. f.goes_on c.args.sectors (omega (arith, c.requires.geometry)) (subst (λ (l : List Staged). Places c.args.sectors (numbers l)) (sym c.deref.ensures.value) (e.places c.if-not-is_right.false)) first (e.goes_on c.args.sectors first from);
+      goes_on = λ end le first from. f.goes_on end (omega (arith, le, c.requires.geometry)) (subst (λ (l : List Staged). Places end (numbers l)) (sym c.deref.ensures.value) (places_within s end _ le (e.places c.if-not-is_right.false))) first (e.goes_on end first from);
       named = device_named r device;
       failures = counts_device r (g.D.Device.failures c.args.device.now) (g.D.Device.failures c.read_log.new.device) (g.D.Device.failures c.apply_batch.new.device) device e.failures c.in_err-apply_batch.ensures.failures;
       emptied = at_ok r _ failed;
@@ -148,7 +149,7 @@ returns g c =
       kept_content = λ m h has. tt;
       honest = both_then e.honest f.honest;
       size = f.size ∙ e.size;
-      goes_on = λ first from. f.goes_on c.args.sectors (omega (arith, c.requires.geometry)) (subst (λ (l : List Staged). Places c.args.sectors (numbers l)) (sym c.deref.ensures.value) (e.places c.if-not-is_right.false)) first (e.goes_on c.args.sectors first from);
+      goes_on = λ end le first from. f.goes_on end (omega (arith, le, c.requires.geometry)) (subst (λ (l : List Staged). Places end (numbers l)) (sym c.deref.ensures.value) (places_within s end _ le (e.places c.if-not-is_right.false))) first (e.goes_on end first from);
       named = tt;
       failures = c.in_ok-apply_batch.ensures.failures ∙ e.failures;
       emptied = search rules;

@@ -60,7 +60,7 @@ returns-in_err-image g c =
       right = λ h. IfOk-from_err r _ is_err_now;
       damaged = λ h. handed_on r _ Device is (λ damaged. device_not_damaged damaged);
       refused = handed_on r _ Device is (inr (inl refl));
-      reads = reads_of c.args.log.now c.read.new.self true read.view read.staged read.seen read.crash read.sectors read.honest read.size read.failures read.failed;
+      reads = reads_of c.args.log.now c.read.new.self true read.view read.staged read.seen read.crash read.sectors read.honest read.size read.goes_on read.failures read.failed;
       failed = failed_on r Device _ is read.failed;
     }
 
@@ -102,7 +102,7 @@ returns-in-Ok-Some g c =
           → IsNew dirs (c.args.slot + 1) e → IsTrimmed m e → FitIn m v (Some e) found → ⊥)) (read.view h) (rw c.new-serial.ensures at taken.damaged (read.honest.0 h)) in
           IfErr-weaker r _ _ (λ fault none is. some_contradicts content v c.args.slot c.requires.slot e both.0 (spelled h) dirs (c.requires.shown h) found (none is)) damaged;
       refused = taken.refused;
-      reads = reads_then c.args.log.now c.read.new.self c.take_up.new.log read.failed (reads_of c.args.log.now c.read.new.self false read.view read.staged read.seen read.crash read.sectors read.honest read.size read.failures read.failed) taken.reads;
+      reads = reads_then c.args.log.now c.read.new.self c.take_up.new.log read.failed (reads_of c.args.log.now c.read.new.self false read.view read.staged read.seen read.crash read.sectors read.honest read.size read.goes_on read.failures read.failed) taken.reads;
       failed = taken.failed;
     }
 
@@ -132,7 +132,7 @@ returns-in-Ok-None g c =
       right = λ h. on_ok r _ (λ done. right_none content v c.args.slot c.requires.slot (none h));
       damaged = λ h. IfErr-weaker r _ _ (λ fault is damaged. other_than fault Memory is (λ no. no) damaged) passed.refused;
       refused = IfErr-weaker r _ _ (λ fault is. inr (inr is)) passed.refused;
-      reads = reads_of c.args.log.now c.read.new.self false read.view read.staged read.seen read.crash read.sectors read.honest read.size read.failures read.failed;
+      reads = reads_of c.args.log.now c.read.new.self false read.view read.staged read.seen read.crash read.sectors read.honest read.size read.goes_on read.failures read.failed;
       failed = read.failed ∙ sym (no_device_failed r (IfErr-weaker r _ _ (λ fault is. inr is) passed.refused));
     }
 
@@ -154,6 +154,6 @@ returns-in-Err g c =
           refused_contradicts (view c.args.log.now) c.args.numbers.now c.args.slot (λ d is_entry spelled. err_not_ok why (Some d) (e.every d is_entry (read.value h ∙ ap (view c.args.log.now) slot_is ∙ spelled)))
           (λ none. err_not_ok why None (e.unused.1 (read.value h ∙ ap (view c.args.log.now) slot_is ∙ none))) right;
       refused = inl e.damaged;
-      reads = reads_of c.args.log.now c.read.new.self false read.view read.staged read.seen read.crash read.sectors read.honest read.size read.failures read.failed;
+      reads = reads_of c.args.log.now c.read.new.self false read.view read.staged read.seen read.crash read.sectors read.honest read.size read.goes_on read.failures read.failed;
       failed = read.failed ∙ sym (damage_not_device why e.damaged);
     }

@@ -46,6 +46,7 @@ loop-slot-preserved g c =
       sectors = read.sectors;
       honest = read.honest;
       size = read.size;
+      goes_on = read.goes_on;
       failures = λ working. read.failures working ∙ ap (λ (b : Bool). counted b (g.D.Device.failures (device_of c.loop-slot.log))) (sym read.failed);
     } in
     record {
@@ -96,7 +97,7 @@ returns-in_err-image g c =
     let is = c.from_residual-in_err-image.ensures.1 in
     let so_far = c.loop-slot.invariant in
     let read = c.in_err-image.ensures in
-    let one = reads_of c.loop-slot.log c.read.new.self true read.view read.staged read.seen read.crash read.sectors read.honest read.size read.failures read.failed in
+    let one = reads_of c.loop-slot.log c.read.new.self true read.view read.staged read.seen read.crash read.sectors read.honest read.size read.goes_on read.failures read.failed in
     record {
       shows = λ honest. IfOk-from_err r _ is_err_now;
       slots = IfOk-from_err r _ is_err_now;

@@ -70,7 +70,7 @@ returns-then-self g c =
       sectors = refl;
       honest = (λ h. h, λ h. h);
       size = refl;
-      goes_on = λ first from. from;
+      goes_on = λ end le first from. from;
       failures = λ working. absurd (true≢false (sym failed ∙ working));
     }
 
@@ -91,7 +91,7 @@ returns-then-is_empty g c =
       sectors = refl;
       honest = (λ h. h, λ h. h);
       size = refl;
-      goes_on = λ first from. from;
+      goes_on = λ end le first from. from;
       failures = λ working. refl;
     }
 
