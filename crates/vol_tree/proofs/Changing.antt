@@ -49,6 +49,7 @@ refused meant old new e reads why = record {
   crash = reads.commits.crash;
   refused = λ h other. reads.quiet h;
   kept = reads.commits.kept;
+  goes_on = reads.commits.goes_on;
 }
 
 -- what is kept in memory fits the new content
@@ -100,6 +101,7 @@ done_open {D} {g} meant old mid new x c is_open s is = record {
     honest = (λ h. s.honest.0 (c.kept.honest.0 h), λ h. c.kept.honest.1 (s.honest.1 h));
     size = s.size ∙ c.kept.size;
   };
+  goes_on = λ end le first from. s.goes_on end first (c.goes_on end le first from);
 }
 
 pub done : {D : Type 0} {g : Ghosts D} {X : Type 0} (meant : Result (Tree × X) Errno) (old mid new : Parts D g) (x : X) → Commits old mid false → Stages mid new
@@ -119,6 +121,7 @@ stages_then {D} {g} a b c one other = record {
   slots = other.slots ∙ one.slots;
   honest = (λ h. other.honest.0 (one.honest.0 h), λ h. one.honest.1 (other.honest.1 h));
   size = other.size ∙ one.size;
+  goes_on = λ end first from. other.goes_on end first (one.goes_on end first from);
   failures = other.failures ∙ one.failures;
 }
 
@@ -136,6 +139,7 @@ stages {D} {g} old new device failed sectors numbers allocated slots = record {
   slots = slots;
   honest = (λ h. subst g.honest (sym device) h, λ h. subst g.honest device h);
   size = ap g.size device;
+  goes_on = λ end first from. subst (g.goes_on end first) (sym device) from;
   failures = ap g.failures device;
 }
 
@@ -153,4 +157,5 @@ refused_io {D} {g} {X} meant old new (Err e) p c = record {
   crash = c.crash;
   refused = λ h other. absurd (other p);
   kept = subst (λ (io : Bool). Keeps g.honest g.size g.failures (opened old) (opened new) io) (sym (fault_is_io {X = X} (Err e) p)) c.kept;
+  goes_on = c.goes_on;
 }

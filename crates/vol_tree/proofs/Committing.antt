@@ -22,6 +22,8 @@ use Rattle.vol_tree.specs.Opened.{ReflectsOr, tree_in, slots_in}
 use Rattle.vol_tree.specs.Parts.{opened}
 use Rattle.vol_tree.specs.internal.Parts.{IsOpen, IsContent, AreTaken}
 use Rattle.vol_tree.specs.internal.Commits.{Commits}
+use Rattle.vol_tree.proofs.GoingOn.{goes_then}
+use Rattle.vol_sector.specs.Past.{StillGoesOn}
 use Rattle.vol_tree.proofs.SameContents.{same_slots_in, same_is_content, same_tree_in, same_taken, same_shows, stands_with, reflects_or}
 use Rattle.vol_log.specs.declared.layout.TheConstants.{FIRST_AFTER_LOG}
 
@@ -42,6 +44,7 @@ pub record LogCommits {D : Type 0} {g : Ghosts D} (old new : Log D g) (io : Bool
   pub idle : has_failed old ≡ true → (device_of new ≡ device_of old) × (io ≡ true)
   pub sectors : log_sectors new ≡ log_sectors old
   pub honest : g.honest (device_of old) ↔ g.honest (device_of new)
+  pub goes_on : (end : ℕ) → log_sectors old ≤ end → StillGoesOn (g.goes_on end) (device_of old) (device_of new)
   pub size : g.size (device_of new) ≡ g.size (device_of old)
   pub failures : has_failed old ≡ false → g.failures (device_of new) ≡ counted io (g.failures (device_of old))
 
@@ -102,6 +105,7 @@ module _ {D : Type 0} {g : Ghosts D} (may_stay : (d : D) → g.honest d → (g.d
     slots = λ h. same_slots_in (view old.log) (view log) old.numbers (after_log h) (is.content h);
     crash = committed_crash;
     kept = record { numbers = refl; failed = c.failed; failures = c.failures; idle = c.idle; honest = c.honest; size = c.size };
+    goes_on = λ end le. c.goes_on end (subst (λ (n : ℕ). n ≤ end) (sym is.sectors) le);
     dirs = refl;
     sectors = refl;
     reserved = refl;
@@ -136,6 +140,7 @@ no_commit {D} {g} p io is failed = record {
     honest = (λ h. h, λ h. h);
     size = refl;
   };
+  goes_on = λ end le first from. from;
   dirs = refl;
   sectors = refl;
   reserved = refl;
@@ -150,6 +155,7 @@ pub record LogReads {D : Type 0} {g : Ghosts D} (old new : Log D g) (io : Bool) 
   pub idle : has_failed old ≡ true → (device_of new ≡ device_of old) × (io ≡ true)
   pub sectors : log_sectors new ≡ log_sectors old
   pub honest : g.honest (device_of old) ↔ g.honest (device_of new)
+  pub goes_on : (end : ℕ) → StillGoesOn (g.goes_on end) (device_of old) (device_of new)
   pub size : g.size (device_of new) ≡ g.size (device_of old)
   pub failures : has_failed old ≡ false → g.failures (device_of new) ≡ counted io (g.failures (device_of old))
 
@@ -189,6 +195,7 @@ reads_commit {D} {g} old log io is r = record {
   slots = λ h. ap (λ m. slots_in m old.numbers.slots) (r.view h);
   crash = λ h. leaves_quiet (g.disk (device_of old.log)) (g.disk (device_of old.log)) (g.disk (device_of log)) _ (leaves_same (g.disk (device_of old.log)) _) (r.crash h);
   kept = record { numbers = refl; failed = r.failed; failures = r.failures; idle = r.idle; honest = r.honest; size = r.size };
+  goes_on = λ end le. r.goes_on end;
   dirs = refl;
   sectors = refl;
   reserved = refl;
@@ -230,6 +237,7 @@ commits_then {D} {g} a b c io first second = record {
     honest = (λ h. second.kept.honest.0 (first.kept.honest.0 h), λ h. first.kept.honest.1 (second.kept.honest.1 h));
     size = second.kept.size ∙ first.kept.size;
   };
+  goes_on = goes_then g.goes_on (opened a) (opened b) (opened c) first.kept.numbers first.goes_on second.goes_on;
   dirs = second.dirs ∙ first.dirs;
   sectors = second.sectors ∙ first.sectors;
   reserved = second.reserved ∙ first.reserved;

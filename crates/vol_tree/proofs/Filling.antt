@@ -68,6 +68,7 @@ module _ {D : Type 0} {g : Ghosts D} where
           honest = (λ h. r.honest.0 (c.kept.honest.0 h), λ h. c.kept.honest.1 (r.honest.1 h));
           size = r.size ∙ c.kept.size;
         };
+        goes_on = λ end le first from. r.goes_on end first (c.goes_on end le first from);
       }
 
   pub fails_io : {X : Type 0} (meant : Result (Tree × X) Errno) (old new : Parts D g) (r : Result X Errno) → IsErrAnd r (λ e. e ≡ errno.Io) → Fails old new → Changes meant old new r
@@ -78,6 +79,7 @@ module _ {D : Type 0} {g : Ghosts D} where
     crash = f.crash;
     refused = λ h other. absurd (other p);
     kept = subst (λ (io : Bool). Keeps g.honest g.size g.failures (opened old) (opened new) io) (sym (fault_is_io {X = X} (Err e) p)) f.kept;
+    goes_on = f.goes_on;
   }
 
   -- ---- a file is written
@@ -95,6 +97,7 @@ module _ {D : Type 0} {g : Ghosts D} where
     slots = refl;
     honest = s.honest;
     size = s.size;
+    goes_on = s.goes_on;
     failures = s.failures ok ∙ ap (λ (b : Bool). counted b (g.failures (device_of old.log))) fine;
   }
 

@@ -13,7 +13,7 @@ use Rattle.vol_tree.specs.declared.superblock.Superblock.{Superblock}
 use Rattle.vol_tree.specs.Superblock.{superblock, version_number, IsNoVersion}
 use Rattle.vol_tree.specs.Tree.{Tree}
 use Rattle.vol_tree.proofs.Refusals.{same_error}
-use Rattle.vol_tree.specs.Opening.{StandsOn, NoVolumeOn, HasNoVersion, BeginsRight, IsDamaged}
+use Rattle.vol_tree.specs.Opening.{StandsOn, NoVolumeOn, HasNoVersion, BeginsRight, IsDamaged, IsPast}
 
 -- how many sectors the device has
 pub not_few : {X : Type 0} (n size : ℕ) → n ≡ size → 137 ≤ n → size < 137 → X
@@ -79,3 +79,8 @@ pub not_the_numbers : {X : Type 0} (x : VolumeFault) → IsDamage x ⊎ ((x ≡ 
 not_the_numbers x named numbers =
     absurd (⊎_elim (λ damaged. ⊎_elim (λ geometry. other_than x faults.Geometry geometry (λ no. no) damaged) (λ small. other_than x faults.TooSmall small (λ no. no) damaged) numbers)
     (λ other. ⊎_elim (λ device. ⊎_elim (λ geometry. cc) (λ small. cc) numbers) (λ memory. ⊎_elim (λ geometry. cc) (λ small. cc) numbers) other) named)
+
+-- past the volume that was found there are none of its sectors
+pub past_front : (size : ℕ) (honest : Type 0) (image : Image) (v : Superblock) (end : ℕ) → v.sectors ≤ size → (honest → image 0 ≡ superblock v) → IsPast size honest image end → v.sectors ≤ end
+past_front size honest image v end room front (inl past) = omega (arith, room, past)
+past_front size honest image v end room front (inr past) = past.1 v (front past.0)

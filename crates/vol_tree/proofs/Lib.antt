@@ -6,7 +6,7 @@ pub mod Determines
 pub mod Grows
 pub mod Within
 pub mod OneTree
-pub mod PastSectors
+pub mod GoingOn
 pub mod Steps
 pub mod Empty
 pub mod SlotsRead

@@ -24,11 +24,13 @@ use Rattle.vol_tree.specs.Superblock.{superblock, HasRanges}
 use Rattle.vol_tree.specs.Tree.{Tree}
 use Rattle.vol_tree.specs.Space.{space}
 use Rattle.vol_tree.specs.Stands.{StandsAs}
-use Rattle.vol_tree.specs.Opened.{slot_in, slots_in, tree_in, raised, ReflectsOr, MayUpgrade}
+use Rattle.vol_tree.specs.Opened.{slot_in, slots_in, tree_in, raised, ReflectsOr, MayUpgrade, GoesOn}
 use Rattle.vol_tree.specs.Parts.{opened}
 use Rattle.vol_tree.specs.internal.Parts.{IsContent, AreTaken, IsOpen}
 use Rattle.vol_tree.specs.internal.Upgrades.{Upgrades}
 use Rattle.vol_tree.specs.internal.Commits.{Commits}
+use Rattle.vol_sector.specs.Past.{StillGoesOn}
+use Rattle.vol_tree.proofs.GoingOn.{goes_then, goes_same}
 use Rattle.vol_tree.proofs.Committing.{reflects_then, on_ok}
 use Rattle.vol_sector.specs.declared.fault.VolumeFault.{VolumeFault}
 use Rattle.vol_sector.specs.declared.fault.VolumeFault.TheVariants as faults
@@ -125,6 +127,7 @@ pub record LogFronts {D : Type 0} {g : Ghosts D} (old new : Log D g) (image : Li
   pub failed : has_failed new ≡ io
   pub sectors : log_sectors new ≡ log_sectors old
   pub honest : g.honest (device_of old) ↔ g.honest (device_of new)
+  pub goes_on : (end : ℕ) → log_sectors old ≤ end → StillGoesOn (g.goes_on end) (device_of old) (device_of new)
   pub size : g.size (device_of new) ≡ g.size (device_of old)
   pub failures : g.failures (device_of new) ≡ counted io (g.failures (device_of old))
 
@@ -192,6 +195,7 @@ module _ {D : Type 0} {g : Ghosts D} (may_stay : (d : D) → g.honest d → (g.d
       idle = λ failed. absurd (let both : true ≡ false = sym failed ∙ ok in cc);
       honest = f.honest;
       size = f.size;
+      goes_on = λ end le. f.goes_on end (subst (λ (n : ℕ). n ≤ end) (sym is.sectors) le);
     }
 
     pub is_upgraded : io ≡ false → Upgrades old (record old { log = log; numbers = raised v }) io
@@ -231,6 +235,7 @@ module _ {D : Type 0} {g : Ghosts D} (may_stay : (d : D) → g.honest d → (g.d
       idle = λ failed. absurd (let both : true ≡ false = sym failed ∙ ok in cc);
       honest = f.honest;
       size = f.size;
+      goes_on = λ end le. f.goes_on end (subst (λ (n : ℕ). n ≤ end) (sym is.sectors) le);
     }
 
 -- a commit that failed
@@ -250,6 +255,7 @@ upgrade_fails {D} {g} a b c = record {
   idle = c.kept.idle;
   honest = c.kept.honest;
   size = c.kept.size;
+  goes_on = c.goes_on;
 }
 
 -- what a crash leaves of an upgrade after a commit
@@ -272,6 +278,7 @@ upgrades_after {D} {g} a b c io first second = record {
   idle = λ failed. absurd (let i = (first.kept.idle failed).1 in cc);
   honest = (λ h. second.honest.0 (first.kept.honest.0 h), λ h. first.kept.honest.1 (second.honest.1 h));
   size = second.size ∙ first.kept.size;
+  goes_on = goes_then g.goes_on (opened a) (opened b) (opened c) first.kept.numbers first.goes_on second.goes_on;
 }
 
 version_is : (x : Version) → (x ≡ One) ⊎ (x ≡ Two)
@@ -292,4 +299,10 @@ module _ {D : Type 0} {g : Ghosts D} (old new : Parts D g) (r : Result (Unit {0}
   upgrade_lasts h = elim (version_is old.numbers.version) [
     | inl one ↦ on_ok r _ (λ good. (upgrades one).durable good h)
     | inr two ↦ subst (λ (x : Result (Unit {0}) VolumeFault). OnOk x ((c : Image) → (g.disk (device_of new.log)).may_leave c → StandsAs c new.numbers (opened new).tree)) (sym (newest two).1) tt
+  ]
+
+  pub upgrade_goes_on : GoesOn g.goes_on (opened old) (opened new)
+  upgrade_goes_on = elim (version_is old.numbers.version) [
+    | inl one ↦ (upgrades one).goes_on
+    | inr two ↦ goes_same g.goes_on (opened old) (opened new) (ap (λ (p : Parts D g). device_of p.log) (newest two).0)
   ]

@@ -30,6 +30,7 @@ log_reads {D} {g} old new io r ok failed = record {
   sectors = r.sectors;
   honest = r.honest;
   size = r.size;
+  goes_on = r.goes_on;
   failures = λ fine. r.failures fine ∙ ap (λ (b : Bool). counted b (g.failures (device_of old))) failed;
 }
 

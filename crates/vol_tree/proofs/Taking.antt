@@ -14,6 +14,7 @@ use Rattle.vol_tree.specs.internal.Changes.{Changes}
 use Rattle.vol_tree.specs.Parts.{opened}
 use Rattle.vol_tree.specs.internal.Commits.{Commits, ReadsOnly}
 use Rattle.vol_tree.specs.internal.Removals.{Fails}
+use Rattle.vol_tree.proofs.GoingOn.{goes_then}
 use Rattle.vol_tree.proofs.Committing.{crash_on}
 use Rattle.vol_tree.proofs.Changing.{IsQuiet, quiet_then, refused}
 
@@ -35,6 +36,7 @@ commits_fail {D} {g} a b c first second = record {
     honest = (λ h. second.kept.honest.0 (first.kept.honest.0 h), λ h. first.kept.honest.1 (second.kept.honest.1 h));
     size = second.kept.size ∙ first.kept.size;
   };
+  goes_on = goes_then g.goes_on (opened a) (opened b) (opened c) first.kept.numbers first.goes_on second.goes_on;
 }
 
 -- a sector that is staged takes one place at most
@@ -96,6 +98,7 @@ changes_after {D} {g} {X} meant other a b c r reads second same = record {
     honest = (λ h. second.kept.honest.0 (reads.commits.kept.honest.0 h), λ h. reads.commits.kept.honest.1 (second.kept.honest.1 h));
     size = second.kept.size ∙ reads.commits.kept.size;
   };
+  goes_on = goes_then g.goes_on (opened a) (opened b) (opened c) reads.commits.kept.numbers reads.commits.goes_on second.goes_on;
 }
 
 -- a call that leaves the tree as it is
@@ -106,4 +109,5 @@ done_nothing meant a b x c why = record {
   crash = c.crash;
   refused = λ h. tt;
   kept = c.kept;
+  goes_on = c.goes_on;
 }

@@ -10,7 +10,6 @@ pub mod Stat
 pub mod Numbers
 pub mod Superblock
 pub mod Stands
-pub mod Past
 pub mod Fresh
 pub mod Opened
 pub mod Stats

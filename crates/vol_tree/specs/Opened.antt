@@ -5,6 +5,7 @@ use Rattle.std.specs.Prelude.{◌≡◌, ◌≢◌, ◌⊎◌, ◌+◌, ◌-◌,
 use Rattle.std.specs.List.{range_with_len}
 use Rattle.byteorder.specs.Endian.{little_number}
 use Rattle.vol_sector.specs.Disk.{Image, Disk, Leaves, counted}
+use Rattle.vol_sector.specs.Past.{StillGoesOn}
 use Rattle.vol_inode.specs.declared.entry.Entry.{Entry}
 use Rattle.vol_inode.specs.declared.entry.Kind.TheVariants as kinds
 use Rattle.vol_inode.specs.declared.version.Version.TheVariants.{Two}
@@ -125,3 +126,8 @@ pub record Keeps {D : Type 0} (is_honest : D → Type 0) (sectors_on failures_on
   pub idle : old.failed ≡ true → (new.device ≡ old.device) × (io ≡ true)
   pub honest : is_honest old.device ↔ is_honest new.device
   pub size : sectors_on new.device ≡ sectors_on old.device
+
+-- What each call's device does, on any device: it goes on, and no sector past the volume's own is written. So what it goes on from
+-- before the call, by `goes_on` of the trait `Device`, it goes on from after it.
+abbrev pub GoesOn : {D : Type 0} → (ℕ → D → D → Type 0) → Opened D → Opened D → Type 0
+GoesOn goes_on old new = (end : ℕ) → old.numbers.sectors ≤ end → StillGoesOn (goes_on end) old.device new.device

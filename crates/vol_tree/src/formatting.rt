@@ -6,7 +6,7 @@ ghost use Rattle.vol_sector.specs.Fault.{is_device};
 ghost use Rattle.vol_tree.specs.Superblock.{HasRanges};
 ghost use Rattle.vol_tree.specs.Stands.{StandsAs, empty_tree};
 ghost use Rattle.vol_tree.specs.Fresh.{fresh};
-ghost use Rattle.vol_tree.specs.Past.{LeavesPast};
+ghost use Rattle.vol_sector.specs.Past.{LeavesPast, StillGoesOn};
 ghost use Rattle.vol_tree.specs.internal.Formatting.{root_entry, fresh_slot, HasFreshSlots, IsFresh};
 ghost use Rattle.vol_tree.specs.Fresh.{IsNoneOrEmpty};
 ghost use Rattle.vol_tree.specs.internal.Formatting.{OnlyAfterLogChanges, OnlyAfterFrontChanges};
@@ -57,6 +57,10 @@ impl<D: Device> Volume<D> {
         ensures kept_err { IfErr result (λ r. (D.honest device ↔ D.honest r.device)
             × (D.size r.device ≡ D.size device)
             × (D.failures r.device ≡ counted (is_device r.fault) (D.failures device))) }
+        ensures goes_on_ok { IfOk result (λ d. (end : ℕ) → sectors ≤ end
+            → StillGoesOn (D.goes_on end) device d) }
+        ensures goes_on_err { IfErr result (λ r. (end : ℕ) → sectors ≤ end
+            → StillGoesOn (D.goes_on end) device r.device) }
     {
         let numbers = Superblock {
             version: Version::One,
@@ -95,8 +99,8 @@ fn lay_out<D: Device>(device: &mut D, numbers: &Superblock) -> Result<(), Device
         numbers.now (empty_tree numbers.now.slots)) }
     ensures crash { D.honest device.old
         → Leaves (D.disk device.old) (D.disk device.new) (IsNoneOrEmpty numbers.now) }
-    ensures past { D.honest device.old
-        → LeavesPast numbers.now.sectors (D.disk device.old) (D.disk device.new) }
+    ensures goes_on { (end : ℕ) → numbers.now.sectors ≤ end
+        → StillGoesOn (D.goes_on end) device.old device.new }
     ensures honest { D.honest device.old ↔ D.honest device.new }
     ensures size { D.size device.new ≡ D.size device.old }
     ensures failures { D.failures device.new ≡ counted (is_err result) (D.failures device.old) }
@@ -115,8 +119,7 @@ fn write_first<D: Device>(device: &mut D, image: &[u8; 512]) -> Result<(), Devic
         → OnOk result ((D.disk device.new).seen ≡ put 0 image.now (D.disk device.old).seen) }
     ensures crash { D.honest device.old → Leaves (D.disk device.old) (D.disk device.new)
         (After (Wrote 0 image.now) (D.disk device.old).may_leave) }
-    ensures past { D.honest device.old → (end : ℕ) → 0 < end
-        → LeavesPast end (D.disk device.old) (D.disk device.new) }
+    ensures goes_on { (end : ℕ) → 0 < end → StillGoesOn (D.goes_on end) device.old device.new }
     ensures honest { D.honest device.old ↔ D.honest device.new }
     ensures size { D.size device.new ≡ D.size device.old }
     ensures failures { D.failures device.new ≡ counted (is_err result) (D.failures device.old) }
@@ -136,8 +139,8 @@ fn write_after_front<D: Device>(device: &mut D, slots: u32) -> Result<(), Device
         → OnlyAfterFrontChanges (D.disk device.old).seen (D.disk device.new).seen }
     ensures crash { D.honest device.old → Leaves (D.disk device.old) (D.disk device.new)
         (After OnlyAfterFrontChanges (D.disk device.old).may_leave) }
-    ensures past { D.honest device.old → (end : ℕ) → FIRST_AFTER_LOG + slots ≤ end
-        → LeavesPast end (D.disk device.old) (D.disk device.new) }
+    ensures goes_on { (end : ℕ) → FIRST_AFTER_LOG + slots ≤ end
+        → StillGoesOn (D.goes_on end) device.old device.new }
     ensures honest { D.honest device.old ↔ D.honest device.new }
     ensures size { D.size device.new ≡ D.size device.old }
     ensures failures { D.failures device.new ≡ counted (is_err result) (D.failures device.old) }
@@ -157,8 +160,8 @@ fn write_slots<D: Device>(device: &mut D, slots: u32) -> Result<(), DeviceFault>
         → OnlyAfterLogChanges (D.disk device.old).seen (D.disk device.new).seen }
     ensures crash { D.honest device.old → Leaves (D.disk device.old) (D.disk device.new)
         (After OnlyAfterLogChanges (D.disk device.old).may_leave) }
-    ensures past { D.honest device.old → (end : ℕ) → FIRST_AFTER_LOG + slots ≤ end
-        → LeavesPast end (D.disk device.old) (D.disk device.new) }
+    ensures goes_on { (end : ℕ) → FIRST_AFTER_LOG + slots ≤ end
+        → StillGoesOn (D.goes_on end) device.old device.new }
     ensures honest { D.honest device.old ↔ D.honest device.new }
     ensures size { D.size device.new ≡ D.size device.old }
     ensures failures { D.failures device.new ≡ counted (is_err result) (D.failures device.old) }

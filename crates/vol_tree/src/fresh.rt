@@ -1,7 +1,8 @@
 //! New volumes that are open at once.
 
-ghost use Rattle.std.specs.Prelude.{◌≡◌, ◌⊎◌, ◌≤◌, ◌<◌, ◌+◌, ◌↔◌, IfOk, IfErr, Err, false};
+ghost use Rattle.std.specs.Prelude.{ℕ, ◌≡◌, ◌⊎◌, ◌≤◌, ◌<◌, ◌+◌, ◌↔◌, IfOk, IfErr, Err, false};
 ghost use Rattle.vol_sector.specs.Disk.{Image, Leaves, counted};
+ghost use Rattle.vol_sector.specs.Past.{StillGoesOn};
 ghost use Rattle.vol_sector.specs.Fault.{is_device, IsDamage};
 ghost use Rattle.vol_alloc.specs.Alloc.{first_of, end_of};
 ghost use Rattle.vol_dirs.specs.Names.{slots_of};
@@ -63,6 +64,10 @@ impl<D: Device> Volume<D> {
         ensures kept_err { IfErr result (λ r. (D.honest device ↔ D.honest r.device)
             × (D.size r.device ≡ D.size device)
             × (D.failures r.device ≡ counted (is_device r.fault) (D.failures device))) }
+        ensures goes_on_ok { IfOk result (λ v. (end : ℕ) → sectors ≤ end
+            → StillGoesOn (D.goes_on end) device v.device) }
+        ensures goes_on_err { IfErr result (λ r. (end : ℕ) → sectors ≤ end
+            → StillGoesOn (D.goes_on end) device r.device) }
     {
         let numbers = Superblock {
             version: Version::One,
@@ -79,7 +84,7 @@ impl<D: Device> Volume<D> {
 /// Opens the empty volume that a device holds. Its slots aren't read.
 // So many clauses, since success and refusal hand back different things: what the caller owes (`ranges` to `empty`),
 // when it is refused (`refused`, `undamaged`), the volume (`numbers` to `durable`), what a crash leaves (`crash_ok`,
-// `crash_err`), and what becomes of the device (`kept_ok`, `kept_err`).
+// `crash_err`), and what becomes of the device (`kept_ok` to `goes_on_err`).
 fn open_empty<D: Device>(
     alloc: Global,
     device: D,
@@ -106,6 +111,10 @@ fn open_empty<D: Device>(
     ensures kept_err { IfErr result (λ r. (D.honest device ↔ D.honest r.device)
         × (D.size r.device ≡ D.size device)
         × (D.failures r.device ≡ counted (is_device r.fault) (D.failures device))) }
+    ensures goes_on_ok { IfOk result (λ v. (end : ℕ) → numbers.sectors ≤ end
+        → StillGoesOn (D.goes_on end) device v.device) }
+    ensures goes_on_err { IfErr result (λ r. (end : ℕ) → numbers.sectors ≤ end
+        → StillGoesOn (D.goes_on end) device r.device) }
 {
     let log = match Log::open(alloc, device, numbers.sectors) {
         Ok(log) => log,

@@ -1,7 +1,8 @@
 //! Opening the volume that a device holds.
 
-ghost use Rattle.std.specs.Prelude.{◌≡◌, ◌⊎◌, ◌≤◌, ◌<◌, ◌↔◌, IfOk, IfErr, Err};
+ghost use Rattle.std.specs.Prelude.{ℕ, ◌≡◌, ◌⊎◌, ◌≤◌, ◌<◌, ◌↔◌, IfOk, IfErr, Err};
 ghost use Rattle.vol_sector.specs.Disk.{Leaves, counted};
+ghost use Rattle.vol_sector.specs.Past.{StillGoesOn};
 ghost use Rattle.vol_sector.specs.Fault.{device_failed, IsDamage};
 ghost use Rattle.vol_tree.specs.Superblock.{superblock, HasRanges};
 ghost use Rattle.vol_tree.specs.Opening.{NoVolumeOn, HasNoVersion, BeginsRight, IsDamaged};
@@ -39,6 +40,7 @@ pub(crate) fn read_front<D: Device>(device: &mut D) -> Result<Superblock, Volume
         → Leaves (D.disk device.old) (D.disk device.new) (λ c. ⊥) }
     ensures honest { D.honest device.old ↔ D.honest device.new }
     ensures size { D.size device.new ≡ D.size device.old }
+    ensures goes_on { (end : ℕ) → StillGoesOn (D.goes_on end) device.old device.new }
     ensures failures { D.failures device.new ≡ counted (device_failed result) (D.failures device.old) }
 {
     if device.sectors() < LEAST_SECTORS {

@@ -1,8 +1,9 @@
 //! An open volume.
 
-ghost use Rattle.std.specs.Prelude.{◌≡◌, ◌≤◌, ◌<◌, ◌⊎◌, ◌↔◌, ⊤, [], Ok, Err, OnOk, OnErr, IfOk, IfErr, MatchResult, IfSome, IsSome, IsTrue, is_err, false, true, length};
+ghost use Rattle.std.specs.Prelude.{ℕ, ◌≡◌, ◌≤◌, ◌<◌, ◌⊎◌, ◌↔◌, ⊤, [], Ok, Err, OnOk, OnErr, IfOk, IfErr, MatchResult, IfSome, IsSome, IsTrue, is_err, false, true, length};
 ghost use Rattle.std.specs.Option.{MatchOption};
 ghost use Rattle.vol_sector.specs.Disk.{Image, Leaves, counted};
+ghost use Rattle.vol_sector.specs.Past.{StillGoesOn};
 ghost use Rattle.vol_body.specs.declared.writing.TheConstants.{PIECE};
 ghost use Rattle.vol_tree.specs.Tree.{File, Directory, IsTree, IsDirectory, entry, lookup};
 ghost use Rattle.vol_tree.specs.Stat.{TellsStat, TellsPlace};
@@ -11,12 +12,12 @@ ghost use Rattle.vol_tree.specs.Calls.{created, written, resized, read_bytes, is
 ghost use Rattle.vol_tree.specs.Calls.{unlinked, directory_removed, renamed, next_child};
 ghost use Rattle.vol_tree.specs.Stands.{StandsAs};
 ghost use Rattle.vol_tree.specs.Superblock.{HasRanges};
-ghost use Rattle.vol_tree.specs.Opening.{StandsOn, HoldsOn, NoVolumeOn, HasNoVersion, IsDamaged};
+ghost use Rattle.vol_tree.specs.Opening.{StandsOn, HoldsOn, NoVolumeOn, HasNoVersion, IsDamaged, IsPast};
 ghost use Rattle.vol_tree.specs.declared.superblock.Superblock.{Superblock};
 ghost use Rattle.vol_sector.specs.Fault.{is_device, IsDamage};
 ghost use Rattle.vol_tree.specs.Tree.{Tree};
 ghost use Rattle.vol_tree.specs.Opened.{Answers, Tells, TellsBytes, Keeps, ReflectsOr, MayUpgrade};
-ghost use Rattle.vol_tree.specs.Opened.{LeavesAlone, IsSerial};
+ghost use Rattle.vol_tree.specs.Opened.{LeavesAlone, IsSerial, GoesOn};
 ghost use Rattle.vol_tree.specs.Opened.{geometry, is_io, raised};
 ghost use Rattle.vol_inode.specs.Name.{IsName};
 ghost use Rattle.vol_inode.specs.declared.version.Version.TheVariants.{One, Two};
@@ -70,7 +71,7 @@ impl<D: Device> Volume<D> {
     /// calls.
     // So many clauses, since success and refusal hand back different things: the volume (`stands` to `ranges`), when
     // each refusal comes (`not_a_volume` to `finds`), what a crash or a refusal leaves (`durable` to `installs`), and
-    // what becomes of the device (`kept_ok`, `kept_err`).
+    // what becomes of the device (`kept_ok` to `goes_on_err`).
     pub fn open(alloc: Global, mut device: D) -> Result<Volume<D>, Refused<D>>
         // What reads gave stands for the tree, with these numbers.
         ensures stands { D.honest device → IfOk result
@@ -129,6 +130,12 @@ impl<D: Device> Volume<D> {
         ensures kept_err { IfErr result (λ r. (D.honest device ↔ D.honest r.device)
             × (D.size r.device ≡ D.size device)
             × (D.failures r.device ≡ counted (is_device r.fault) (D.failures device))) }
+        // No sector past the volume's own is written.
+        ensures goes_on_ok { IfOk result (λ v. (end : ℕ) → v.numbers.sectors ≤ end
+            → StillGoesOn (D.goes_on end) device v.device) }
+        ensures goes_on_err { (end : ℕ)
+            → IsPast (D.size device) (D.honest device) (D.disk device).seen end
+            → IfErr result (λ r. StillGoesOn (D.goes_on end) device r.device) }
     {
         let numbers = match read_front(&mut device) {
             Ok(numbers) => numbers,
@@ -210,6 +217,7 @@ impl<D: Device> Volume<D> {
         ensures crash { D.honest self.old.device
             → Leaves (D.disk self.old.device) (D.disk self.new.device) (λ c. ⊥) }
         ensures kept { Keeps D.honest D.size D.failures self.old self.new (is_io result) }
+        ensures goes_on { GoesOn D.goes_on self.old self.new }
         ensures range { IfOk result (λ found. MatchOption found ⊤ (λ s. IsSerial self.old.numbers s)) }
     {
         let parts = &self.parts;
@@ -227,6 +235,7 @@ impl<D: Device> Volume<D> {
             → Leaves (D.disk self.old.device) (D.disk self.new.device) (λ c. ⊥) }
         ensures range { IfOk result (λ found. IfSome found (IsSerial self.old.numbers)) }
         ensures kept { Keeps D.honest D.size D.failures self.old self.new (is_io result) }
+        ensures goes_on { GoesOn D.goes_on self.old self.new }
     {
         let parts = &self.parts;
         Ok(parts.dirs.next_child(&parts.log, directory, after)?)
@@ -243,6 +252,7 @@ impl<D: Device> Volume<D> {
         ensures crash { D.honest self.old.device
             → Leaves (D.disk self.old.device) (D.disk self.new.device) (λ c. ⊥) }
         ensures kept { Keeps D.honest D.size D.failures self.old self.new (is_io result) }
+        ensures goes_on { GoesOn D.goes_on self.old self.new }
         ensures parent { IfOk result (λ s. IsSerial self.old.numbers s.parent) }
     {
         let entry = self.parts.entry(serial)?;
@@ -300,6 +310,7 @@ impl<D: Device> Volume<D> {
             → LeavesAlone (D.disk self.old.device) (D.disk self.new.device) result }
         ensures range { IfOk result (IsSerial self.old.numbers) }
         ensures kept { Keeps D.honest D.size D.failures self.old self.new (is_io result) }
+        ensures goes_on { GoesOn D.goes_on self.old self.new }
     {
         self.parts.create(parent, name, Kind::File)
     }
@@ -319,6 +330,7 @@ impl<D: Device> Volume<D> {
             → LeavesAlone (D.disk self.old.device) (D.disk self.new.device) result }
         ensures range { IfOk result (IsSerial self.old.numbers) }
         ensures kept { Keeps D.honest D.size D.failures self.old self.new (is_io result) }
+        ensures goes_on { GoesOn D.goes_on self.old self.new }
     {
         self.parts.create(parent, name, Kind::Directory)
     }
@@ -339,6 +351,7 @@ impl<D: Device> Volume<D> {
         ensures refused { D.honest self.old.device
             → LeavesAlone (D.disk self.old.device) (D.disk self.new.device) result }
         ensures kept { Keeps D.honest D.size D.failures self.old self.new (is_io result) }
+        ensures goes_on { GoesOn D.goes_on self.old self.new }
     {
         self.write_from(file, offset, &Source::of(bytes))
     }
@@ -359,6 +372,7 @@ impl<D: Device> Volume<D> {
         ensures refused { D.honest self.old.device
             → LeavesAlone (D.disk self.old.device) (D.disk self.new.device) result }
         ensures kept { Keeps D.honest D.size D.failures self.old self.new (is_io result) }
+        ensures goes_on { GoesOn D.goes_on self.old self.new }
     {
         if self.parts.log.failed() {
             return Err(Errno::Io);
@@ -383,6 +397,7 @@ impl<D: Device> Volume<D> {
         ensures refused { D.honest self.old.device
             → LeavesAlone (D.disk self.old.device) (D.disk self.new.device) result }
         ensures kept { Keeps D.honest D.size D.failures self.old self.new (is_io result) }
+        ensures goes_on { GoesOn D.goes_on self.old self.new }
     {
         self.parts.set_size(file, size)
     }
@@ -399,6 +414,7 @@ impl<D: Device> Volume<D> {
         ensures crash { D.honest self.old.device
             → Leaves (D.disk self.old.device) (D.disk self.new.device) (λ c. ⊥) }
         ensures kept { Keeps D.honest D.size D.failures self.old self.new (is_io result) }
+        ensures goes_on { GoesOn D.goes_on self.old self.new }
     {
         let entry = self.parts.entry(file)?;
         let parts = &mut self.parts;
@@ -417,6 +433,7 @@ impl<D: Device> Volume<D> {
             → Leaves (D.disk self.old.device) (D.disk self.new.device)
             (ReflectsOr (D.disk self.old.device) self.old.numbers self.old.tree) }
         ensures kept { Keeps D.honest D.size D.failures self.old self.new (is_io result) }
+        ensures goes_on { GoesOn D.goes_on self.old self.new }
     {
         self.parts.unlink(file)
     }
@@ -435,6 +452,7 @@ impl<D: Device> Volume<D> {
         ensures refused { D.honest self.old.device
             → LeavesAlone (D.disk self.old.device) (D.disk self.new.device) result }
         ensures kept { Keeps D.honest D.size D.failures self.old self.new (is_io result) }
+        ensures goes_on { GoesOn D.goes_on self.old self.new }
     {
         self.parts.rmdir(directory)
     }
@@ -459,6 +477,7 @@ impl<D: Device> Volume<D> {
         ensures refused { D.honest self.old.device
             → LeavesAlone (D.disk self.old.device) (D.disk self.new.device) result }
         ensures kept { Keeps D.honest D.size D.failures self.old self.new (is_io result) }
+        ensures goes_on { GoesOn D.goes_on self.old self.new }
     {
         self.parts.rename(serial, parent, name)
     }
@@ -474,6 +493,7 @@ impl<D: Device> Volume<D> {
             → (D.disk self.new.device).may_leave c
             → StandsAs c self.new.numbers self.new.tree) }
         ensures kept { Keeps D.honest D.size D.failures self.old self.new (is_io result) }
+        ensures goes_on { GoesOn D.goes_on self.old self.new }
     {
         Ok(self.parts.commit()?)
     }
@@ -504,6 +524,7 @@ impl<D: Device> Volume<D> {
             → (self.new.device ≡ self.old.device) × (is_err result ≡ true) }
         ensures honest { D.honest self.old.device ↔ D.honest self.new.device }
         ensures size { D.size self.new.device ≡ D.size self.old.device }
+        ensures goes_on { GoesOn D.goes_on self.old self.new }
     {
         self.parts.upgrade()
     }

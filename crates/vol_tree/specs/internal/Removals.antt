@@ -10,7 +10,7 @@ use Rattle.vol_tree.specs.declared.superblock.Superblock.{Superblock}
 use Rattle.vol_tree.specs.declared.parts.Parts.{Parts}
 use Rattle.vol_tree.specs.Tree as tree
 use Rattle.vol_tree.specs.Tree.{changed}
-use Rattle.vol_tree.specs.Opened.{slots_in, tree_in, ReflectsOr, Keeps}
+use Rattle.vol_tree.specs.Opened.{slots_in, tree_in, ReflectsOr, Keeps, GoesOn}
 use Rattle.vol_tree.specs.internal.Slots.{slot_of}
 use Rattle.vol_tree.specs.Parts.{opened}
 use Rattle.vol_tree.specs.internal.Parts.{IsOpen}
@@ -34,6 +34,7 @@ pub record Fails {D : Type 0} {g : Ghosts D} (old new : Parts D g) : Type 0 wher
   pub tree : g.honest (device_of old.log) → (opened new).tree ≡ (opened old).tree
   pub crash : g.honest (device_of old.log) → Leaves (g.disk (device_of old.log)) (g.disk (device_of new.log)) (ReflectsOr (g.disk (device_of old.log)) old.numbers (opened old).tree)
   pub kept : Keeps g.honest g.size g.failures (opened old) (opened new) true
+  pub goes_on : GoesOn g.goes_on (opened old) (opened new)
 
 -- The entry is gone, and all others are as they were.
 pub record IsWithout {D : Type 0} {g : Ghosts D} (serial : ℕ) (old new : Parts D g) : Type 0 where

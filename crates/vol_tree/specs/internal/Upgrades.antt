@@ -7,7 +7,7 @@ use Rattle.vol_sector.specs.declared.device.Device.{Ghosts}
 use Rattle.vol_log.specs.Log.{device_of, has_failed}
 use Rattle.vol_tree.specs.declared.parts.Parts.{Parts}
 use Rattle.vol_tree.specs.Stands.{StandsAs}
-use Rattle.vol_tree.specs.Opened.{raised, MayUpgrade}
+use Rattle.vol_tree.specs.Opened.{raised, MayUpgrade, GoesOn}
 use Rattle.vol_tree.specs.Parts.{opened}
 use Rattle.vol_tree.specs.internal.Parts.{IsOpen}
 
@@ -23,3 +23,4 @@ pub record Upgrades {D : Type 0} {g : Ghosts D} (old new : Parts D g) (io : Bool
   pub idle : has_failed old.log ≡ true → (device_of new.log ≡ device_of old.log) × (io ≡ true)
   pub honest : g.honest (device_of old.log) ↔ g.honest (device_of new.log)
   pub size : g.size (device_of new.log) ≡ g.size (device_of old.log)
+  pub goes_on : GoesOn g.goes_on (opened old) (opened new)

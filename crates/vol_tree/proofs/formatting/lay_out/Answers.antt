@@ -5,7 +5,6 @@ use Rattle.vol_tree.specs.Stands.{StandsAs, empty_tree}
 use Rattle.vol_tree.specs.Fresh.{IsNoneOrEmpty}
 use Rattle.vol_tree.specs.internal.Formatting.{OnlyAfterFrontChanges}
 use Rattle.vol_tree.proofs.Steps.{leaves_first, zeros_first, zeros_are_none, cleared, named_empty, named_or_none}
-use Rattle.vol_tree.proofs.PastSectors.{past_then}
 use Rattle.vol_tree.proofs.formatting.lay_out.Goals as goal
 
 pub returns-in_err-write_first-clause-crash : goal.returns-in_err-write_first-clause-crash
@@ -51,20 +50,3 @@ returns-clause-empty g c h =
     on_ok c.write_first-2.result _ (StandsAs e.seen v (empty_tree v.slots))
     (λ written. named_empty v c.write_superblock.result d.seen e.seen c.requires.ranges c.write_superblock.ensures (c.in_ok-write_after_front.ensures.written h1) written)
     (c.write_first-2.ensures.written h2)
-
-pub returns-in_err-write_first-clause-past : goal.returns-in_err-write_first-clause-past
-returns-in_err-write_first-clause-past g c h = c.write_first.ensures.past h c.args.numbers.now.sectors (omega (arith, c.requires.ranges.room))
-
-pub returns-in_err-write_after_front-clause-past : goal.returns-in_err-write_after_front-clause-past
-returns-in_err-write_after_front-clause-past g c h =
-    let end = c.args.numbers.now.sectors in
-    let h1 = c.write_first.ensures.honest.0 h in
-    past_then end _ _ _ (c.write_first.ensures.past h end (omega (arith, c.requires.ranges.room))) (c.write_after_front.ensures.past h1 end (omega (arith, c.requires.ranges.room)))
-
-pub returns-clause-past : goal.returns-clause-past
-returns-clause-past g c h =
-    let end = c.args.numbers.now.sectors in
-    let h1 = c.write_first.ensures.honest.0 h in
-    let h2 = c.write_after_front.ensures.honest.0 h1 in
-    let some : 0 < end = omega (arith, c.requires.ranges.room) in
-    past_then end _ _ _ (past_then end _ _ _ (c.write_first.ensures.past h end some) (c.write_after_front.ensures.past h1 end (omega (arith, c.requires.ranges.room)))) (c.write_first-2.ensures.past h2 end some)

@@ -3,7 +3,6 @@ use Rattle.vol_sector.specs.Disk.{After, Leaves}
 use Rattle.vol_log.proofs.Moments.{leaves_same, leaves_step, leaves_quiet}
 use Rattle.vol_tree.specs.internal.Formatting.{OnlyAfterLogChanges, OnlyAfterFrontChanges, IsFresh}
 use Rattle.vol_tree.proofs.Steps.{header_leaves_first, after_log_leaves_first, first_joins, is_fresh, at_ok}
-use Rattle.vol_tree.proofs.PastSectors.{past_then, past_wrote, past_quiet}
 use Rattle.vol_tree.proofs.formatting.write_after_front.Goals as goal
 
 pub returns-in_err-write-clause-crash : goal.returns-in_err-write-clause-crash
@@ -41,17 +40,3 @@ returns-clause-written g c h =
     let h2 = c.write_slots.ensures.honest.0 h1 in
     let written : IsFresh c.args.slots d.seen = is_fresh c.args.slots _ a.seen b.seen d.seen (c.in_ok-write.ensures.written h) refl (c.write_slots.ensures.beside h1) (c.in_ok-write_slots.ensures.written h1) in
     at_ok c.sync.result (IsFresh c.args.slots e.seen) (subst (IsFresh c.args.slots) (sym (c.sync.ensures.seen h2)) written)
-
-pub returns-in_err-write-clause-past : goal.returns-in_err-write-clause-past
-returns-in_err-write-clause-past g c h end le = past_wrote end 1 _ _ _ (omega (arith, le)) (c.write.ensures.seen h) (c.write.ensures.crash h)
-
-pub returns-in_err-write_slots-clause-past : goal.returns-in_err-write_slots-clause-past
-returns-in_err-write_slots-clause-past g c h end le =
-    past_then end _ _ _ (past_wrote end 1 _ _ _ (omega (arith, le)) (c.write.ensures.seen h) (c.write.ensures.crash h)) (c.write_slots.ensures.past (c.write.ensures.honest.0 h) end le)
-
-pub returns-clause-past : goal.returns-clause-past
-returns-clause-past g c h end le =
-    let h1 = c.write.ensures.honest.0 h in
-    let h2 = c.write_slots.ensures.honest.0 h1 in
-    let first = past_wrote end 1 _ _ _ (omega (arith, le)) (c.write.ensures.seen h) (c.write.ensures.crash h) in
-    past_then end _ _ _ (past_then end _ _ _ first (c.write_slots.ensures.past h1 end le)) (past_quiet end _ _ (c.sync.ensures.seen h2) (c.sync.ensures.crash h2))

@@ -4,7 +4,6 @@ use Rattle.vol_dirs.specs.Slots.{slot_sector}
 use Rattle.vol_tree.specs.internal.Formatting.{OnlyAfterLogChanges}
 use Rattle.vol_log.proofs.Moments.{leaves_same, leaves_step}
 use Rattle.vol_tree.proofs.Steps.{wrote_after_log, after_log_joins, slots_more}
-use Rattle.vol_tree.proofs.PastSectors.{past_same, past_then, past_wrote}
 use Rattle.vol_tree.proofs.formatting.write_slots.Goals as goal
 use Rattle.vol_log.specs.declared.layout.TheConstants.{FIRST_AFTER_LOG}
 
@@ -18,7 +17,7 @@ loop-s-preserved g c =
       written = λ h. slots_more c.loop-s.s _ _ _ (w (so_far.honest.0 h) ∙ ap (λ (k : ℕ). put k c.fresh_slot.result (g.D.Device.disk c.loop-s.device).seen) (c.slot_sector.ensures ∙ ap slot_sector c.new.ensures)) c.fresh_slot.ensures (so_far.written h);
       beside = λ h. after_log_joins _ _ _ (so_far.beside h) (wrote_after_log _ _ after_log _ _ (e.seen (so_far.honest.0 h)));
       crash = λ h. leaves_step _ _ _ OnlyAfterLogChanges _ (wrote_after_log _ _ after_log) after_log_joins (so_far.crash h) (e.crash (so_far.honest.0 h));
-      past = λ h end le. past_then end _ _ _ (so_far.past h end le) (past_wrote end c.slot_sector.result _ _ _ (omega (arith, c.slot_sector.ensures, c.new.ensures, le, c.loop-s-test.true)) (e.seen (so_far.honest.0 h)) (e.crash (so_far.honest.0 h)));
+      goes_on = λ end le first from. e.goes_on end (omega (arith, c.slot_sector.ensures, c.new.ensures, le, c.loop-s-test.true)) first (so_far.goes_on end le first from);
       honest = search rules;
       size = search rules;
       failures = search rules;
@@ -41,14 +40,15 @@ loop-s-init g c = record {
   written = search rules;
   beside = search rules;
   crash = λ h. leaves_same _ _;
-  past = λ h end le. past_same end _;
+  goes_on = λ end le first from. from;
   honest = search rules;
   size = refl;
   failures = refl;
 }
 
-pub returns-in_err-write-clause-past : goal.returns-in_err-write-clause-past
-returns-in_err-write-clause-past g c h end le =
-    let so_far = c.loop-s.invariant in
-    let e = c.write.ensures in
-    past_then end _ _ _ (so_far.past h end le) (past_wrote end c.slot_sector.result _ _ _ (omega (arith, c.slot_sector.ensures, c.new.ensures, le, c.loop-s-test.true)) (e.seen (so_far.honest.0 h)) (e.crash (so_far.honest.0 h)))
+pub returns-in_err-write-clause-goes_on : goal.returns-in_err-write-clause-goes_on
+returns-in_err-write-clause-goes_on g c end le first from =
+    c.write.ensures.goes_on end (omega (arith, c.slot_sector.ensures, c.new.ensures, le, c.loop-s-test.true)) first (c.loop-s.invariant.goes_on end le first from)
+
+pub returns-clause-goes_on : goal.returns-clause-goes_on
+returns-clause-goes_on g c = c.loop-s.invariant.goes_on

@@ -30,6 +30,8 @@ returns-in-Err g c =
           leaves_weaker d0 (g.D.Device.disk c.in-Err.refused.device) _ _ (e.crash_err st.content h st.log) (λ m has. stands_again d0.seen m v (empty_tree v.slots) st has);
       kept_ok = tt;
       kept_err = e.kept_err;
+      goes_on_ok = tt;
+      goes_on_err = e.goes_on_err;
     }
 
 -- ---- it was opened
@@ -91,6 +93,8 @@ returns-in-Ok-empty_parts g c =
           subst (λ d. (g.D.Device.honest c.args.device ↔ g.D.Device.honest d) × (g.D.Device.size d ≡ g.D.Device.size c.args.device) × (g.D.Device.failures d ≡ g.D.Device.failures c.args.device))
           (sym device_is) opened.kept_ok;
       kept_err = tt;
+      goes_on_ok = λ end le first from. subst (g.D.Device.goes_on end first) (sym device_is) (opened.goes_on_ok end le first from);
+      goes_on_err = tt;
     }
 
 -- ---- there was no memory
@@ -121,4 +125,6 @@ returns-in-Err-empty_parts g c =
       kept_err =
           subst (λ d. (g.D.Device.honest c.args.device ↔ g.D.Device.honest d) × (g.D.Device.size d ≡ g.D.Device.size c.args.device) × (g.D.Device.failures d ≡ counted (is_device x) before))
           (sym c.into_device.ensures) (opened.kept_ok.0, opened.kept_ok.1, opened.kept_ok.2 ∙ ap (λ (f : VolumeFault). counted (is_device f) before) (sym memory));
+      goes_on_ok = tt;
+      goes_on_err = λ end le first from. subst (g.D.Device.goes_on end first) (sym c.into_device.ensures) (opened.goes_on_ok end le first from);
     }

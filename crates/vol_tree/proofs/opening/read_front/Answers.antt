@@ -30,6 +30,7 @@ returns-then-sectors-lt-LEAST_SECTORS g c =
       crash = λ h. leaves_same d (λ m. ⊥);
       honest = (λ h. h, λ h. h);
       size = refl;
+      goes_on = λ end first from. from;
       failures = refl;
     }
 
@@ -53,6 +54,7 @@ returns-in_err-image g c =
       crash = read.crash;
       honest = read.honest;
       size = read.size;
+      goes_on = read.goes_on;
       failures = read.failures ∙ ap (λ (b : Bool). counted b (g.D.Device.failures c.args.device.now)) (failed_on r faults.Device true is refl);
     }
 
@@ -93,6 +95,7 @@ returns-in_err-numbers g c =
       crash = read.crash;
       honest = read.honest;
       size = read.size;
+      goes_on = read.goes_on;
       failures = read.failures ∙ ap (λ (b : Bool). counted b (g.D.Device.failures c.args.device.now)) (failed_on r x false is (sym (front_not_device x e.named)));
     }
 
@@ -123,6 +126,7 @@ returns-then-sectors-numbers g c =
       crash = read.crash;
       honest = read.honest;
       size = read.size;
+      goes_on = read.goes_on;
       failures = read.failures;
     }
 
@@ -144,5 +148,6 @@ returns g c =
       crash = read.crash;
       honest = read.honest;
       size = read.size;
+      goes_on = read.goes_on;
       failures = read.failures;
     }

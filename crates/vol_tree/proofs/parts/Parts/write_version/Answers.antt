@@ -23,6 +23,7 @@ returns-in_err-write_front g c =
       sectors = c.write_front.ensures.sectors;
       honest = c.write_front.ensures.honest;
       size = c.write_front.ensures.size;
+      goes_on = c.write_front.ensures.goes_on;
       failures = c.in_err-write_front.ensures.failures c.requires.working;
     } in
     let io = err_is c.from_residual.result c.from_residual.ensures.0 in
@@ -44,6 +45,7 @@ returns g c =
       sectors = c.write_front.ensures.sectors;
       honest = c.write_front.ensures.honest;
       size = c.write_front.ensures.size;
+      goes_on = c.write_front.ensures.goes_on;
       failures = c.in_ok-write_front.ensures.failures c.requires.working;
     } in
     is_upgraded g.met.D.Device.may_stay old c.write_front.new.self c.requires.is_open c.requires.working c.requires.empty c.requires.version false fronts refl

@@ -51,6 +51,8 @@ returns-in-Err g c =
       crash_err = e.crash_err;
       kept_ok = tt;
       kept_err = e.kept_err;
+      goes_on_ok = tt;
+      goes_on_err = e.goes_on_err;
     }
 
 -- ---- it was made, and is opened
@@ -82,4 +84,6 @@ returns-in-Ok g c =
       crash_err = λ h. IfErr-weaker r _ _ (λ v leaves. leaves_then d0 d1 (g.D.Device.disk v.device) P _ P (e.crash_ok h) leaves (λ m p. p) (λ m stands. inr stands)) (o.crash_err (e.kept_ok.0.0 h));
       kept_ok = IfOk-weaker r _ _ (λ v kept. (both_then e.kept_ok.0 kept.0, kept.1 ∙ e.kept_ok.1, kept.2 ∙ e.kept_ok.2)) o.kept_ok;
       kept_err = IfErr-weaker r _ _ (λ v kept. (both_then e.kept_ok.0 kept.0, kept.1 ∙ e.kept_ok.1, kept.2 ∙ ap (counted (is_device v.fault)) e.kept_ok.2)) o.kept_err;
+      goes_on_ok = IfOk-weaker r _ _ (λ v goes end le first from. goes end le first (e.goes_on_ok end le first from)) o.goes_on_ok;
+      goes_on_err = IfErr-weaker r _ _ (λ v goes end le first from. goes end le first (e.goes_on_ok end le first from)) o.goes_on_err;
     }

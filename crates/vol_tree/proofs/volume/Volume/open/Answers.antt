@@ -9,7 +9,7 @@ use Rattle.vol_tree.specs.Stands.{StandsAs}
 use Rattle.vol_tree.specs.Opening.{StandsOn, HoldsOn, IsDamaged}
 use Rattle.vol_tree.specs.internal.Reads.{HasParts}
 use Rattle.vol_tree.proofs.Openings.{leaves_nothing, crash_over, kept_over, none_over, volume_over, held_log, held_again, held_over, none_held, settled_has, log_finds, finds_stands, finds_lasting, finds_working}
-use Rattle.vol_tree.proofs.Fronts.{or_memory_last, not_the_front, stands_unrefused}
+use Rattle.vol_tree.proofs.Fronts.{or_memory_last, not_the_front, stands_unrefused, past_front}
 use Rattle.vol_tree.proofs.OneTree.{one_volume}
 use Rattle.vol_tree.specs.Opened.{tree_in}
 use Rattle.vol_tree.proofs.volume.Volume.open.Goals as goal
@@ -41,6 +41,8 @@ returns-in-Err g c =
       installs = λ w m h holds. (subst (λ (i : Image). HoldsOn (g.D.Device.size c.args.device) i w m) (sym (e.seen h)) holds, leaves_nothing d0 d1 (λ i. HoldsOn (g.D.Device.size c.args.device) i w m) (e.crash h));
       kept_ok = tt;
       kept_err = (e.honest, e.size, e.failures);
+      goes_on_ok = tt;
+      goes_on_err = λ end past. e.goes_on end;
     }
 
 pub open-requires : goal.open-requires
@@ -107,6 +109,8 @@ returns-in-Err-open g c =
           );
       kept_ok = tt;
       kept_err = (both_then read.honest e.kept_err.0, e.kept_err.1 ∙ read.size, e.kept_err.2 ∙ ap (counted (is_device x)) read.failures);
+      goes_on_ok = tt;
+      goes_on_err = λ end past first from. e.goes_on_err end (past_front _ _ d0.seen c.in-Ok.numbers end read.room read.front past) first (read.goes_on end first from);
     }
 
 -- ---- it was opened, and a rule is broken
@@ -188,6 +192,10 @@ returns-in-Err-read_parts g c =
             e.reads.size ∙ installed.kept_ok.1 ∙ read.size,
             e.reads.failures installed.fresh.0 ∙ ap (λ (b : Bool). counted b before) e.failed ∙ ap (counted (is_device x)) (installed.kept_ok.2 ∙ read.failures),
           );
+      goes_on_ok = tt;
+      goes_on_err = λ end past first from.
+          let le = past_front _ _ d0.seen c.in-Ok.numbers end read.room read.front past in
+          subst (g.D.Device.goes_on end first) (sym c.into_device.ensures) (e.reads.goes_on end first (installed.goes_on_ok end le first (read.goes_on end first from)));
     }
 
 -- ---- all rules are kept
@@ -232,6 +240,8 @@ returns-in-Ok-read_parts g c =
         done.reads.failures installed.fresh.0 ∙ ap (λ (b : Bool). counted b before) done.failed ∙ installed.kept_ok.2 ∙ read.failures,
       );
       kept_err = tt;
+      goes_on_ok = λ end le first from. done.reads.goes_on end first (installed.goes_on_ok end le first (read.goes_on end first from));
+      goes_on_err = λ end past. tt;
     }
 
 pub invariant_of-result : goal.invariant_of-result

@@ -42,6 +42,7 @@ returns-in_err-entry g c =
           tells_io _ c.args.buffer.now c.args.buffer.now _ _ r (subst (λ (y : Errno). IsErrAnd r (λ f. f ≡ y)) io is) (e.reads.commits.tree h) (0, omega arith, refl);
       crash = e.reads.quiet;
       kept = subst (λ (io : Bool). Keeps g.D.Device.honest g.D.Device.size g.D.Device.failures (opened old) (opened c.entry.new.self) io) (passed_io Entry r x is) e.reads.commits.kept;
+      goes_on = e.reads.commits.goes_on;
     })
 
 pub invariant_of-self-in_err-read_at : goal.invariant_of-self-in_err-read_at
@@ -77,6 +78,7 @@ returns-in_err-read_at g c =
           (read_some (view old.log) old.numbers content n c.requires.first c.in_ok-entry.entry found file c.args.offset c.args.buffer.now part.0 c.read_at.new.buffer part.1 bytes);
       crash = λ h. leaves_quiet (g.D.Device.disk (device_of old.log)) (g.D.Device.disk (device_of mid.log)) (g.D.Device.disk (device_of c.read_at.new.log)) _ (c.in_ok-entry.ensures.reads.quiet h) (reads.crash (commits.kept.honest.0 h));
       kept = subst (λ (io : Bool). Keeps g.D.Device.honest g.D.Device.size g.D.Device.failures (opened old) (opened new) io) (sym (fault_is_io c.from_residual-in_err-read_at.result c.from_residual-in_err-read_at.ensures.1)) all.kept;
+      goes_on = all.goes_on;
     })
 
 pub invariant_of-self-2 : goal.invariant_of-self-2
@@ -112,4 +114,5 @@ returns g c =
           (all.0, all.1, tree);
       crash = λ h. leaves_quiet (g.D.Device.disk (device_of old.log)) (g.D.Device.disk (device_of mid.log)) (g.D.Device.disk (device_of c.read_at.new.log)) _ (c.in_ok-entry.ensures.reads.quiet h) (reads.crash (commits.kept.honest.0 h));
       kept = all.kept;
+      goes_on = all.goes_on;
     })

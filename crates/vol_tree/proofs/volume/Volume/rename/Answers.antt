@@ -13,4 +13,4 @@ invariant_of-self g c = c.rename.ensures.is_open
 pub returns : goal.returns
 returns g c =
     let e = c.rename.ensures in
-    rw (← c.self.view_is) (record { answer = e.answer; crash = e.crash; refused = e.refused; kept = e.kept })
+    rw (← c.self.view_is) (record { answer = e.answer; crash = e.crash; refused = e.refused; kept = e.kept; goes_on = e.goes_on })

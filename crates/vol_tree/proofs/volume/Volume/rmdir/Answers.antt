@@ -12,4 +12,4 @@ invariant_of-self g c = c.rmdir.ensures.is_open
 pub returns : goal.returns
 returns g c =
     let e = c.rmdir.ensures in
-    rw (← c.self.view_is) (record { answer = e.answer; crash = e.crash; refused = e.refused; kept = e.kept })
+    rw (← c.self.view_is) (record { answer = e.answer; crash = e.crash; refused = e.refused; kept = e.kept; goes_on = e.goes_on })

@@ -12,4 +12,4 @@ invariant_of-self g c = c.unlink.ensures.is_open
 pub returns : goal.returns
 returns g c =
     let e = c.unlink.ensures in
-    rw (← c.self.view_is) (record { answer = e.answer; crash = e.crash; kept = e.kept })
+    rw (← c.self.view_is) (record { answer = e.answer; crash = e.crash; kept = e.kept; goes_on = e.goes_on })
