@@ -14,7 +14,10 @@ use Rattle.sandbox_device.specs.Ram.{Sectors}
 use Rattle.sandbox_device.specs.Recorded.{written_by}
 use Rattle.sandbox_device.specs.internal.RecordedLaws.{now_is_all}
 use Rattle.sandbox_device.specs.declared.recorded_device.RecordedDevice.{RecordedDevice}
-use Rattle.sandbox_device.specs.Followed.{IsFollowed, done_on, followed_disk}
+use Rattle.sandbox_device.specs.Followed.{IsFollowed, GoesOn, done_on, followed_disk}
+use Rattle.vol_sector.specs.Past.{LeavesPast, StillGoesOn}
+use Rattle.vol_sector.specs.internal.PastLaws.{past_then}
+use Rattle.vol_sector.specs.internal.RecordLaws.{begins_further}
 
 -- what reads give says nothing of what a crash leaves
 with_seen : (now new first : Sectors) (done more : List Operation) (outcomes tried : List Bool) (P : Image → Type 0)
@@ -85,3 +88,15 @@ unused_leaves d none quiet c left = λ j n. at n j
     at : (n : ℕ) → c n ≡ image_of d.sectors n
     at n = alone (image_of d.history.first) c n (subst (λ (l : List Operation). LeftBy (image_of d.history.first) l c) none now n)
         ∙ sym (d.agrees n ∙ ap (λ (l : List Operation). newest n (image_of d.history.first n) l) none)
+
+-- ---- it goes on, one operation more
+
+pub goes_on : (end : ℕ) (a b : RecordedDevice) (more : List Operation) → b.history.first ≡ a.history.first → b.is_recorded ≡ a.is_recorded → done_on b ≡ done_on a ++ more
+    → LeavesPast end (followed_disk a) (followed_disk b) → StillGoesOn (GoesOn end) a b
+goes_on end a b more began kept recorded past first from = record {
+  began = began ∙ from.began;
+  is_recorded = kept ∙ from.is_recorded;
+  more = from.more ++ more;
+  recorded = begins_further (done_on first) (done_on a) (done_on b) from.more more from.recorded recorded;
+  past = past_then end (followed_disk first) (followed_disk a) (followed_disk b) from.past past;
+}

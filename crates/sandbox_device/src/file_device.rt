@@ -1,7 +1,10 @@
 //! A device in a file of the system.
 
-ghost use Rattle.std.specs.Prelude.{◌≡◌, ◌≤◌, IfOk, IfErr, length, min, true};
+ghost use Rattle.std.specs.Prelude.{◌≡◌, ◌≤◌, IfOk, IfErr, length, min, true, refl};
+ghost use Rattle.std.proofs.Common.{◌∙◌};
 ghost use Rattle.vol_sector.specs.Disk.{counted};
+ghost use Rattle.vol_sector.specs.Past.{LeavesPast};
+ghost use Rattle.vol_sector.specs.internal.PastLaws.{past_same, past_then};
 ghost use Rattle.sandbox_device.specs.File.{kept, KeepsItsModel};
 ghost use Rattle.sandbox_device.specs.Opening.{StandsApart};
 ghost use Rattle.sandbox_device.specs.internal.FileLaws.{mixed_since, mixed_now, now_may_stay};
@@ -184,6 +187,10 @@ impl Device for FileDevice {
 
     ghost failures = { λ d. d.failures };
 
+    ghost goes_on = { λ end first later. (later.file ≡ first.file)
+        × LeavesPast end (kept first.sectors first.moments.unsynced first.moments.times)
+        (kept later.sectors later.moments.unsynced later.moments.times) };
+
     ghost counts_now = { λ d t c h le may.
         mixed_since d.sectors d.moments.unsynced d.moments.times t c may };
 
@@ -191,6 +198,13 @@ impl Device for FileDevice {
         mixed_now d.sectors d.moments.unsynced d.moments.times c left };
 
     ghost may_stay = { λ d h. now_may_stay d.sectors d.moments.unsynced };
+
+    ghost begins = { λ end d. (refl, past_same end (kept d.sectors d.moments.unsynced d.moments.times)) };
+
+    ghost goes_further = { λ end a b c one two.
+        (two.0 ∙ one.0, past_then end _ _ _ one.1 two.1) };
+
+    ghost leaves_past = { λ end first later h from. from.1 };
 
     fn sectors(&self) -> u32 {
         self.sectors.len() as u32

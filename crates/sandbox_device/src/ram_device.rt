@@ -2,7 +2,9 @@
 
 ghost use Rattle.std.specs.Prelude.{◌≡◌, ◌<◌, ◌≤◌, IfOk, OnOk, length, refl, replicate};
 ghost use Rattle.std.specs.Io.KnownBytes.{Appends};
+ghost use Rattle.vol_sector.specs.Past.{LeavesPast};
 ghost use Rattle.vol_sector.specs.Record.{image_of};
+ghost use Rattle.vol_sector.specs.internal.PastLaws.{past_same, past_then};
 ghost use Rattle.sandbox_device.specs.Ram.{joined_sectors, held};
 ghost use Rattle.sandbox_device.specs.internal.RamLaws.{now_is_since, now_is_all};
 
@@ -94,11 +96,20 @@ impl Device for RamDevice {
 
     ghost failures = { λ d. 0 };
 
+    ghost goes_on = { λ end first later.
+        LeavesPast end (held first.sectors first.past.images) (held later.sectors later.past.images) };
+
     ghost counts_now = { λ d t c h le may. now_is_since d.sectors d.past.images t c may };
 
     ghost only_now = { λ d c h left. now_is_all d.sectors d.past.images c left };
 
     ghost may_stay = { λ d h. refl };
+
+    ghost begins = { λ end d. past_same end (held d.sectors d.past.images) };
+
+    ghost goes_further = { λ end a b c one two. past_then end _ _ _ one two };
+
+    ghost leaves_past = { λ end first later h from. from };
 
     fn sectors(&self) -> u32 {
         self.sectors.len() as u32

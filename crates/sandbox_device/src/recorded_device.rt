@@ -107,6 +107,14 @@ impl RecordedDevice {
 }
 
 impl Device for RecordedDevice {
+    ghost use Rattle.sandbox_device.specs.Followed.{GoesOn};
+    ghost use Rattle.sandbox_device.specs.Recorded.{written_by};
+    ghost use Rattle.sandbox_device.specs.internal.RecordedLaws.{now_is_since, now_is_all, now_may_stay};
+    ghost use Rattle.std.specs.Prelude.{◌++◌, [], refl};
+    ghost use Rattle.std.proofs.Common.{◌∙◌};
+    ghost use Rattle.vol_sector.specs.internal.PastLaws.{past_same, past_then};
+    ghost use Rattle.vol_sector.specs.internal.RecordLaws.{begins_itself, begins_further};
+
     ghost disk = { λ d. written_by d.sectors d.history.first d.history.done d.history.outcomes };
 
     ghost honest = { λ d. Unit {0} };
@@ -114,6 +122,8 @@ impl Device for RecordedDevice {
     ghost size = { λ d. length d.sectors };
 
     ghost failures = { λ d. 0 };
+
+    ghost goes_on = { λ end first later. GoesOn end first later };
 
     ghost counts_now = { λ d t c h le may.
         now_is_since d.sectors d.history.first d.history.done d.history.outcomes t c le may };
@@ -123,6 +133,26 @@ impl Device for RecordedDevice {
 
     ghost may_stay = { λ d h.
         now_may_stay d.sectors d.history.first d.history.done d.history.outcomes d.agrees };
+
+    ghost begins = { λ end d. record {
+        began = refl;
+        is_recorded = refl;
+        more = [];
+        recorded = begins_itself d.history.done;
+        past = past_same end
+            (written_by d.sectors d.history.first d.history.done d.history.outcomes);
+    } };
+
+    ghost goes_further = { λ end a b c one two. record {
+        began = two.began ∙ one.began;
+        is_recorded = two.is_recorded ∙ one.is_recorded;
+        more = one.more ++ two.more;
+        recorded = begins_further a.history.done b.history.done c.history.done one.more two.more
+            one.recorded two.recorded;
+        past = past_then end _ _ _ one.past two.past;
+    } };
+
+    ghost leaves_past = { λ end first later h from. from.past };
 
     fn sectors(&self) -> u32 {
         self.sectors.len() as u32

@@ -3,6 +3,9 @@ use Rattle.vol_sector.specs.Disk.{Keeps}
 use Rattle.sandbox_device.specs.Ram.{Sectors}
 use Rattle.sandbox_device.specs.File.{kept}
 use Rattle.sandbox_device.proofs.File.{keeps_more}
+use Rattle.std.proofs.Common.{refl, ◌∙◌}
+use Rattle.vol_sector.specs.internal.PastLaws.{past_then, past_quiet}
+use Rattle.sandbox_device.proofs.File.{leaves_kept, leaves_synced}
 use Rattle.sandbox_device.proofs.file_device.FileDeviceDevice.sync.Goals as goal
 
 pub returns-in-Ok-clause-keeps : goal.returns-in-Ok-clause-keeps
@@ -16,3 +19,16 @@ pub returns-in-Err-clause-keeps : goal.returns-in-Err-clause-keeps
 returns-in-Err-clause-keeps c h =
     let d = c.args.self.now in
     rw (c.fail.ensures.sectors, c.fail.ensures.moments, c.after_reading-self.ensures.0, c.after_reading-self.ensures.1) (keeps_more d.sectors d.sectors d.moments.unsynced d.moments.unsynced d.moments.times)
+
+pub returns-in-Ok-clause-goes_on : goal.returns-in-Ok-clause-goes_on
+returns-in-Ok-clause-goes_on c end first from =
+    let d = c.args.self.now in
+    let is = c.after_syncing-self.ensures in
+    (from.0, past_then end _ _ _ from.1 (rw (is.0, is.1) (past_quiet end _ _ refl (leaves_synced d.sectors d.moments.unsynced d.moments.times))))
+
+pub returns-in-Err-clause-goes_on : goal.returns-in-Err-clause-goes_on
+returns-in-Err-clause-goes_on c end first from =
+    let d = c.args.self.now in
+    let is = c.after_reading-self.ensures in
+    let e = c.fail.ensures in
+    (e.file ∙ from.0, past_then end _ _ _ from.1 (rw (e.sectors, e.moments, is.0, is.1) (past_quiet end _ _ refl (leaves_kept d.sectors d.moments.unsynced d.moments.times))))

@@ -4,6 +4,9 @@ use Rattle.vol_sector.specs.declared.record.Operation.{Operation}
 use Rattle.vol_sector.specs.declared.record.Operation.TheVariants.{Sync}
 use Rattle.vol_sector.proofs.Records.{newest_sync}
 use Rattle.sandbox_device.proofs.Recorded.{counts_more, keeps_more, leaves_synced, only_synced}
+use Rattle.std.proofs.Common.{refl}
+use Rattle.vol_sector.specs.internal.PastLaws.{past_quiet}
+use Rattle.sandbox_device.proofs.Recorded.{goes_on}
 use Rattle.sandbox_device.proofs.recorded_device.RecordedDeviceDevice.sync.Goals as goal
 
 pub invariant_of-self : goal.invariant_of-self
@@ -33,3 +36,8 @@ returns-clause-keeps c h =
     let past = c.args.self.now.history in
     let is = c.and-self.ensures in
     rw (is.0, is.1, is.2) (keeps_more c.args.self.now.sectors past.first past.done past.outcomes c.args.self.now.sectors Sync)
+
+pub returns-clause-goes_on : goal.returns-clause-goes_on
+returns-clause-goes_on c end =
+    let is = c.and-self.ensures in
+    goes_on end c.args.self.now _ (Sync ∷ []) is.0 refl is.1 (past_quiet end _ _ refl (returns-clause-crash c tt))

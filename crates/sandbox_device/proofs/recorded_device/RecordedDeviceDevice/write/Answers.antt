@@ -3,6 +3,11 @@ use Rattle.vol_sector.specs.declared.record.Operation.{Operation}
 use Rattle.vol_sector.specs.declared.record.Operation.TheVariants.{Write}
 use Rattle.vol_sector.proofs.Records.{agrees_write}
 use Rattle.sandbox_device.proofs.Recorded.{counts_more, keeps_more, leaves_written}
+use Rattle.std.proofs.Common.{refl, inr}
+use Rattle.vol_sector.specs.Record.{image_of}
+use Rattle.vol_sector.specs.internal.PastLaws.{past_wrote}
+use Rattle.sandbox_device.proofs.Ram.{put_in}
+use Rattle.sandbox_device.proofs.Recorded.{goes_on}
 use Rattle.sandbox_device.proofs.recorded_device.RecordedDeviceDevice.write.Goals as goal
 
 pub invariant_of-self : goal.invariant_of-self
@@ -26,3 +31,11 @@ returns-clause-keeps c h =
     let past = c.args.self.now.history in
     let is = c.and-self.ensures in
     rw (is.0, is.1, is.2) (keeps_more c.args.self.now.sectors past.first past.done past.outcomes c.put.new.self (Write c.args.n c.args.image.now))
+
+pub returns-clause-goes_on : goal.returns-clause-goes_on
+returns-clause-goes_on c end lt =
+    let m = c.args.self.now in
+    let n = c.args.n in
+    let bytes = c.args.image.now in
+    let is = c.and-self.ensures in
+    goes_on end m _ (Write n bytes ∷ []) is.0 refl is.1 (past_wrote end n bytes _ _ lt (inr (ap image_of c.put.ensures ∙ put_in m.sectors n bytes (omega (arith, c.requires)))) (returns-clause-crash c tt))
