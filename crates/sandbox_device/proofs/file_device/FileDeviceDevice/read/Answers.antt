@@ -6,7 +6,7 @@ use Rattle.sandbox_device.proofs.File.{keeps_more}
 use Rattle.sandbox_device.proofs.file_device.FileDeviceDevice.read.Goals as goal
 
 pub returns-clause-keeps : goal.returns-clause-keeps
-returns-clause-keeps c h =
+returns-clause-keeps g c h =
     let d = c.args.self.now in
     let after = c.after_reading-self.result in
     subst (λ (times : List (List Sectors)). Keeps (kept d.sectors d.moments.unsynced d.moments.times) (kept d.sectors after.unsynced times))
