@@ -3,8 +3,10 @@
 -- the report says.
 use Rattle.std.specs.Prelude.{◌==◌, ◌||◌, ℕ, Bool, true, false, [], Option, Some, None, codes}
 use Rattle.std.specs.Option.{option_map_or}
+use Rattle.meanings.specs.Tables.{end_label, trap_text}
 use Rattle.wasm_num.specs.declared.trap.Trap.{Trap}
 use Rattle.wasm_num.specs.declared.trap.Trap.TheVariants as trap
+use Rattle.wasm_steps.specs.declared.pause.Outcome.{Outcome}
 use Rattle.wasm_steps.specs.declared.pause.Outcome.TheVariants.{Exited, Trapped, OutOfFuel, OutOfMemory}
 use Rattle.run_report.specs.declared.end.End.{End}
 use Rattle.run_report.specs.declared.end.End.TheVariants.{Ran, Refused}
@@ -20,26 +22,20 @@ trap_number trap.UninitializedElement = 5
 trap_number trap.IndirectCallMismatch = 6
 trap_number trap.CallStackExhausted = 7
 
-abbrev pub trap_text : Trap → Text
-trap_text trap.Unreachable = codes "unreachable"
-trap_text trap.DivideByZero = codes "integer divide by zero"
-trap_text trap.IntegerOverflow = codes "integer overflow"
-trap_text trap.OutOfBoundsMemory = codes "out of bounds memory access"
-trap_text trap.UndefinedElement = codes "undefined element"
-trap_text trap.UninitializedElement = codes "uninitialized element"
-trap_text trap.IndirectCallMismatch = codes "indirect call type mismatch"
-trap_text trap.CallStackExhausted = codes "call stack exhausted"
+-- as the header numbers the ends of a run that began, and the register has a label for each
+abbrev pub outcome_number : Outcome → ℕ
+outcome_number (Exited status) = 0
+outcome_number (Trapped trap) = 1
+outcome_number OutOfFuel = 2
+outcome_number OutOfMemory = 3
 
 -- what has no number is that it is out of memory
 abbrev pub refusal_label : Option ℕ → Text
 refusal_label (Some n) = codes "fault"
-refusal_label None = codes "out of memory"
+refusal_label None = end_label 3
 
 abbrev pub label_of : End → Text
-label_of (Ran (Exited status)) = codes "exit"
-label_of (Ran (Trapped trap)) = codes "trap"
-label_of (Ran OutOfFuel) = codes "out of fuel"
-label_of (Ran OutOfMemory) = codes "out of memory"
+label_of (Ran outcome) = end_label (outcome_number outcome)
 label_of (Refused fault) = refusal_label (fault_number fault)
 
 -- the guest's whole status, the number of a trap or of a fault
@@ -52,7 +48,7 @@ end_code (Refused fault) = fault_number fault
 
 abbrev pub end_text : End → Text
 end_text (Ran (Exited status)) = []
-end_text (Ran (Trapped trap)) = trap_text trap
+end_text (Ran (Trapped trap)) = trap_text (trap_number trap)
 end_text (Ran OutOfFuel) = []
 end_text (Ran OutOfMemory) = []
 end_text (Refused fault) = fault_text fault

@@ -1,7 +1,10 @@
--- The faults of the program, of runs and of tasks on volumes: their numbers, offsets and words (`docs/USING.md`,
--- "Faults"); and in `rule_text` what is wrong where a rule of the volume's format is broken. Out of memory has no
--- number and no words here, since a report says it as an end of its own.
-use Rattle.std.specs.Prelude.{ℕ, List, [], Option, Some, None, codes}
+-- The faults of the program, of runs, of tasks on volumes and of sessions: their numbers and offsets (`docs/USING.md`,
+-- "Faults"), and their words, which are those of the register (`meanings`); and in `rule_text` what is wrong where a rule of the
+-- volume's format is broken. Out of memory has no number and no words here, since a report says it as an end of its own; the
+-- library answers 40 for it.
+use Rattle.std.specs.Prelude.{ℕ, List, [], Option, Some, None, unwrap_or, codes}
+use Rattle.meanings.specs.Tables.{fault_text as meaning_of_fault}
+use Rattle.meanings.specs.Status.{status_of_fault}
 use Rattle.vol_sector.specs.declared.fault.VolumeFault.{VolumeFault}
 use Rattle.vol_sector.specs.declared.fault.VolumeFault.TheVariants as volume
 use Rattle.vol_sector.specs.declared.fault.Rule.{Rule}
@@ -15,6 +18,11 @@ use Rattle.run_report.specs.declared.fault.Fault.TheVariants.{Module, Volume, In
 
 abbrev pub Text : Type 0
 Text = List ℕ
+
+-- what the register says of the number of a fault, if it has one
+abbrev pub number_meaning : Option ℕ → Text
+number_meaning None = []
+number_meaning (Some n) = meaning_of_fault n
 
 -- a fault of a module
 abbrev pub load_number : LoadFault → Option ℕ
@@ -48,21 +56,6 @@ load_offset (load.Limit at) = Some at
 load_offset (load.Invalid f at) = Some at
 load_offset load.Memory = None
 
-abbrev pub load_text : LoadFault → Text
-load_text (load.Truncated at) = codes "the module ends too early"
-load_text (load.BadMagic at) = codes "its first four bytes are not 00 61 73 6D"
-load_text (load.BadVersion at) = codes "its next four bytes are not 01 00 00 00"
-load_text (load.BadInteger at) = codes "a number is too long, or its unused bits are wrong"
-load_text (load.SectionOrder at) = codes "a section stands after one of its own or a greater id"
-load_text (load.SectionSize at) = codes "what has a size of its own does not fill it"
-load_text (load.BadByte at) = codes "a byte that has no meaning where it stands"
-load_text (load.NotUtf8 at) = codes "a name is not UTF-8"
-load_text (load.CountMismatch at) = codes "two counts that have to agree differ"
-load_text (load.Float at) = codes "a type or an instruction of floating point"
-load_text (load.Limit at) = codes "more than the limits of the program allow"
-load_text (load.Invalid f at) = codes "the module is not valid"
-load_text load.Memory = []
-
 -- a fault of a volume
 abbrev pub volume_number : VolumeFault → Option ℕ
 volume_number volume.NotAVolume = Some 30
@@ -73,16 +66,6 @@ volume_number volume.TooSmall = Some 34
 volume_number volume.Upgraded = Some 35
 volume_number volume.Geometry = Some 36
 volume_number volume.Memory = None
-
-abbrev pub volume_text : VolumeFault → Text
-volume_text volume.NotAVolume = codes "the file is no volume"
-volume_text volume.Version = codes "the volume has a version that is not known"
-volume_text (volume.Damaged damage) = codes "the volume is damaged"
-volume_text volume.Device = codes "the volume's file could not be read, written or synced"
-volume_text volume.TooSmall = codes "the volume's file has too few sectors"
-volume_text volume.Upgraded = codes "the volume has version 2 already"
-volume_text volume.Geometry = codes "SECTORS or SLOTS is out of its range"
-volume_text volume.Memory = []
 
 -- what is wrong where a rule of a volume's format is broken
 abbrev pub rule_text : Rule → Text
@@ -113,14 +96,6 @@ instance_number instance.ElementOutOfBounds = Some 21
 instance_number instance.PageLimit = Some 22
 instance_number instance.Memory = None
 
-abbrev pub instance_text : InstanceFault → Text
-instance_text instance.Import = codes "an import is no function, or there is no such call of that type"
-instance_text instance.NoStart = codes "no function _start without parameters and results is exported"
-instance_text instance.DataOutOfBounds = codes "a data segment passes the end of memory"
-instance_text instance.ElementOutOfBounds = codes "an element segment passes the end of the table"
-instance_text instance.PageLimit = codes "the module's memory begins with more pages than --pages"
-instance_text instance.Memory = []
-
 abbrev pub fault_number : Fault → Option ℕ
 fault_number (Module f) = load_number f
 fault_number (Volume f) = volume_number f
@@ -139,11 +114,17 @@ fault_offset Preopen = None
 fault_offset File = None
 fault_offset Memory = None
 
+-- as the library answers it: 40 where it is out of memory
+abbrev pub fault_answer : Fault → ℕ
+fault_answer f = unwrap_or (fault_number f) 40
+
+-- what a command ends with that it refuses
+abbrev pub fault_status : Fault → ℕ
+fault_status f = status_of_fault (fault_answer f)
+
+-- in words, as the register has it for its number
 abbrev pub fault_text : Fault → Text
-fault_text (Module f) = load_text f
-fault_text (Volume f) = volume_text f
-fault_text (Instance f) = instance_text f
-fault_text Setting = codes "a --dir without =, or whose name is empty or over 255 bytes; over 64 of them; arguments, or texts of the environment, over 1024 or over 65536 bytes; or --pages over 65536"
-fault_text Preopen = codes "the PATH of a --dir is no directory of the volume"
-fault_text File = codes "a file could not be opened, made, lengthened, locked or read, or standard input or output failed"
-fault_text Memory = []
+fault_text f = number_meaning (fault_number f)
+
+abbrev pub load_text : LoadFault → Text
+load_text f = fault_text (Module f)

@@ -2,10 +2,20 @@
 
 ghost use Rattle.std.specs.Prelude.{◌≡◌};
 ghost use Rattle.run_report.specs.Ends.{end_code, end_offset, end_text, is_machines, label_of};
-ghost use Rattle.run_report.specs.Ends.{trap_number, trap_text};
+ghost use Rattle.run_report.specs.Ends.{outcome_number, trap_number};
 
 use crate::fault::Fault;
+use meanings::{end_label, trap_text};
 use wasm_steps::{Outcome, Trap};
+
+/// The numbers of the ends of a run that began, as the header has them.
+const EXITED: u32 = 0;
+
+const TRAPPED: u32 = 1;
+
+const OUT_OF_FUEL: u32 = 2;
+
+const OUT_OF_MEMORY: u32 = 3;
 
 /// How a run ended.
 #[derive(Clone, Copy)]
@@ -16,8 +26,8 @@ pub enum End {
     Refused(Fault),
 }
 
-/// The place of a trap in the order in which `Trap` has them.
-fn trap_number(trap: Trap) -> u32
+/// The number of a trap. Hosts have it compiled in, so a number never moves: a trap to come has one behind the last.
+pub fn trap_number(trap: Trap) -> u32
     ensures { result ≡ trap_number trap }
 {
     match trap {
@@ -32,19 +42,15 @@ fn trap_number(trap: Trap) -> u32
     }
 }
 
-/// A trap in words, as the program prints it.
-fn trap_text(trap: Trap) -> &'static str
-    ensures { result.now ≡ trap_text trap }
+/// The number of the end of a run that began, as the header has it.
+pub fn outcome_number(outcome: Outcome) -> u32
+    ensures { result ≡ outcome_number outcome }
 {
-    match trap {
-        Trap::Unreachable => "unreachable",
-        Trap::DivideByZero => "integer divide by zero",
-        Trap::IntegerOverflow => "integer overflow",
-        Trap::OutOfBoundsMemory => "out of bounds memory access",
-        Trap::UndefinedElement => "undefined element",
-        Trap::UninitializedElement => "uninitialized element",
-        Trap::IndirectCallMismatch => "indirect call type mismatch",
-        Trap::CallStackExhausted => "call stack exhausted",
+    match outcome {
+        Outcome::Exited(_) => EXITED,
+        Outcome::Trapped(_) => TRAPPED,
+        Outcome::OutOfFuel => OUT_OF_FUEL,
+        Outcome::OutOfMemory => OUT_OF_MEMORY,
     }
 }
 
@@ -54,13 +60,10 @@ impl End {
         ensures { result.now ≡ label_of self }
     {
         match self {
-            End::Ran(Outcome::Exited(_)) => "exit",
-            End::Ran(Outcome::Trapped(_)) => "trap",
-            End::Ran(Outcome::OutOfFuel) => "out of fuel",
-            End::Ran(Outcome::OutOfMemory) => "out of memory",
+            End::Ran(outcome) => end_label(outcome_number(outcome)),
             End::Refused(fault) => match fault.number() {
                 Some(_) => "fault",
-                None => "out of memory",
+                None => end_label(OUT_OF_MEMORY),
             },
         }
     }
@@ -82,7 +85,7 @@ impl End {
         ensures { result.now ≡ end_text self }
     {
         match self {
-            End::Ran(Outcome::Trapped(trap)) => trap_text(trap),
+            End::Ran(Outcome::Trapped(trap)) => trap_text(trap_number(trap)),
             End::Ran(_) => "",
             End::Refused(fault) => fault.text(),
         }

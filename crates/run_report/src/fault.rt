@@ -1,11 +1,10 @@
 //! Why a run could not begin.
 
 ghost use Rattle.std.specs.Prelude.{◌≡◌};
-ghost use Rattle.run_report.specs.Faults.{fault_number, fault_offset, fault_text};
-ghost use Rattle.run_report.specs.Faults.{instance_number, instance_text};
-ghost use Rattle.run_report.specs.Faults.{load_number, load_offset, load_text};
-ghost use Rattle.run_report.specs.Faults.{rule_text, volume_number, volume_text};
+ghost use Rattle.run_report.specs.Faults.{fault_answer, fault_number, fault_offset, fault_status, fault_text};
+ghost use Rattle.run_report.specs.Faults.{instance_number, load_number, load_offset, rule_text, volume_number};
 
+use meanings::status::{MEMORY_REFUSED, status_of_fault};
 use vol_sector::{Rule, VolumeFault};
 use wasm_module::LoadFault;
 use wasm_store::InstanceFault;
@@ -71,29 +70,6 @@ fn load_offset(fault: LoadFault) -> Option<u32>
     }
 }
 
-/// A module's fault in words, as help has it.
-fn load_text(fault: LoadFault) -> &'static str
-    ensures { result.now ≡ load_text fault }
-{
-    match fault {
-        LoadFault::Truncated { .. } => "the module ends too early",
-        LoadFault::BadMagic { .. } => "its first four bytes are not 00 61 73 6D",
-        LoadFault::BadVersion { .. } => "its next four bytes are not 01 00 00 00",
-        LoadFault::BadInteger { .. } => "a number is too long, or its unused bits are wrong",
-        LoadFault::SectionOrder { .. } => {
-            "a section stands after one of its own or a greater id"
-        }
-        LoadFault::SectionSize { .. } => "what has a size of its own does not fill it",
-        LoadFault::BadByte { .. } => "a byte that has no meaning where it stands",
-        LoadFault::NotUtf8 { .. } => "a name is not UTF-8",
-        LoadFault::CountMismatch { .. } => "two counts that have to agree differ",
-        LoadFault::Float { .. } => "a type or an instruction of floating point",
-        LoadFault::Limit { .. } => "more than the limits of the program allow",
-        LoadFault::Invalid { .. } => "the module is not valid",
-        LoadFault::Memory => "",
-    }
-}
-
 /// The number of a volume's fault; none where it is out of memory.
 fn volume_number(fault: VolumeFault) -> Option<u32>
     ensures { result ≡ volume_number fault }
@@ -107,22 +83,6 @@ fn volume_number(fault: VolumeFault) -> Option<u32>
         VolumeFault::Upgraded => Some(35),
         VolumeFault::Geometry => Some(36),
         VolumeFault::Memory => None,
-    }
-}
-
-/// A volume's fault in words, as help has it.
-fn volume_text(fault: VolumeFault) -> &'static str
-    ensures { result.now ≡ volume_text fault }
-{
-    match fault {
-        VolumeFault::NotAVolume => "the file is no volume",
-        VolumeFault::Version => "the volume has a version that is not known",
-        VolumeFault::Damaged(_) => "the volume is damaged",
-        VolumeFault::Device => "the volume's file could not be read, written or synced",
-        VolumeFault::TooSmall => "the volume's file has too few sectors",
-        VolumeFault::Upgraded => "the volume has version 2 already",
-        VolumeFault::Geometry => "SECTORS or SLOTS is out of its range",
-        VolumeFault::Memory => "",
     }
 }
 
@@ -167,22 +127,6 @@ fn instance_number(fault: InstanceFault) -> Option<u32>
     }
 }
 
-/// An instance's fault in words, as help has it.
-fn instance_text(fault: InstanceFault) -> &'static str
-    ensures { result.now ≡ instance_text fault }
-{
-    match fault {
-        InstanceFault::Import => "an import is no function, or there is no such call of that type",
-        InstanceFault::NoStart => {
-            "no function _start without parameters and results is exported"
-        }
-        InstanceFault::DataOutOfBounds => "a data segment passes the end of memory",
-        InstanceFault::ElementOutOfBounds => "an element segment passes the end of the table",
-        InstanceFault::PageLimit => "the module's memory begins with more pages than --pages",
-        InstanceFault::Memory => "",
-    }
-}
-
 impl Fault {
     /// Its number, as `sandbox help faults` has it; none where it is out of memory.
     pub fn number(self) -> Option<u32>
@@ -209,22 +153,27 @@ impl Fault {
         }
     }
 
-    /// It in words, as `sandbox help faults` has it; nothing where it is out of memory.
+    /// It in words, as the register has it; nothing where it is out of memory.
     pub fn text(self) -> &'static str
         ensures { result.now ≡ fault_text self }
     {
-        match self {
-            Fault::Module(fault) => load_text(fault),
-            Fault::Volume(fault) => volume_text(fault),
-            Fault::Instance(fault) => instance_text(fault),
-            Fault::Setting => {
-                "a --dir without =, or whose name is empty or over 255 bytes; over 64 of them; arguments, or texts of the environment, over 1024 or over 65536 bytes; or --pages over 65536"
-            }
-            Fault::Preopen => "the PATH of a --dir is no directory of the volume",
-            Fault::File => {
-                "a file could not be opened, made, lengthened, locked or read, or standard input or output failed"
-            }
-            Fault::Memory => "",
+        match self.number() {
+            Some(number) => meanings::fault_text(number),
+            None => "",
         }
+    }
+
+    /// Its number as the library answers it, which has one where it is out of memory, too.
+    pub fn answer(self) -> u32
+        ensures { result ≡ fault_answer self }
+    {
+        self.number().unwrap_or(MEMORY_REFUSED)
+    }
+
+    /// What a command ends with that it refuses.
+    pub fn status(self) -> u8
+        ensures { result ≡ fault_status self }
+    {
+        status_of_fault(self.answer())
     }
 }

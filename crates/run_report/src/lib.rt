@@ -8,7 +8,7 @@ mod printing;
 mod summary;
 
 pub use counted::Counted;
-pub use end::End;
+pub use end::{End, outcome_number, trap_number};
 pub use fault::{Fault, rule_text};
 pub use printing::print;
 pub use summary::{Kept, Summary};

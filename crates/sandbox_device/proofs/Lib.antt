@@ -2,3 +2,4 @@ mod Ram
 mod File
 pub mod Recorded
 pub mod Packing
+pub mod Told

@@ -5,4 +5,5 @@ pub mod File
 pub mod Recorded
 pub mod Followed
 pub mod Opening
+pub mod FileEvidence
 pub mod internal

@@ -1,28 +1,26 @@
 //! A device in a file of the system.
 
-ghost use Rattle.std.specs.Prelude.{◌≡◌, ◌≤◌, IfOk, IfErr, length, min, true, refl};
-ghost use Rattle.std.proofs.Common.{◌∙◌};
-ghost use Rattle.vol_sector.specs.Disk.{counted};
-ghost use Rattle.vol_sector.specs.Past.{LeavesPast};
+ghost use Rattle.std.specs.Prelude.{◌≡◌, ◌<◌, ◌≤◌, ◌↔◌, ℕ, IfOk, OnOk, MatchResult, is_err, length, min, true};
+ghost use Rattle.vol_sector.specs.Disk.{counted, put, After, Keeps, Leaves, OneMore, Only, Wrote};
+ghost use Rattle.vol_sector.specs.Past.{LeavesPast, StillGoesOn};
+ghost use Rattle.vol_sector.specs.Record.{image_of};
 ghost use Rattle.vol_sector.specs.internal.PastLaws.{past_same, past_then};
-ghost use Rattle.sandbox_device.specs.File.{kept, KeepsItsModel};
+ghost use Rattle.sandbox_device.specs.File.{kept};
+ghost use Rattle.sandbox_device.specs.FileEvidence.{IsSettled, IsUnsettled, WasLocked};
 ghost use Rattle.sandbox_device.specs.Opening.{StandsApart};
 ghost use Rattle.sandbox_device.specs.internal.FileLaws.{mixed_since, mixed_now, now_may_stay};
 
 use crate::identity::Identity;
 use crate::moments::Moments;
 use crate::opening::open_apart;
+use crate::sector_file::SectorFile;
 use crate::sectors::Sectors;
 use std::alloc::Global;
 use std::fs::{File, OpenOptions};
 use std::io;
 use std::io::ErrorKind;
-use std::os::unix::fs::FileExt;
 use std::rt::Files;
 use vol_sector::{Device, DeviceFault};
-
-/// Bytes of a sector.
-const SECTOR: u64 = 512;
 
 /// The sectors that a device has at most. What a file has after them is never read or written.
 const MOST_SECTORS: u32 = 65_536;
@@ -34,8 +32,8 @@ const MOST_SECTORS: u32 = 65_536;
 /// a crash leaves of the file is known by the premise that it keeps its model, of which nothing is
 /// shown. A sync makes the file's bytes and its size last, but not its time stamps.
 #[derive(Drop)]
-pub struct FileDevice {
-    file: File,
+pub struct FileDevice<F = File> {
+    file: F,
     sectors: Sectors,
     failures: u64,
     moments: Moments,
@@ -46,7 +44,7 @@ pub struct FileDevice {
 const PIECE: u32 = 64;
 
 /// The first sectors of a file. What is zeros there takes no memory.
-fn read_sectors(alloc: Global, file: &File, count: u32) -> io::Result<Sectors>
+fn read_sectors<F: SectorFile>(alloc: Global, file: &F, count: u32) -> io::Result<Sectors>
     ensures { IfOk result (λ s. length s ≡ count) }
 {
     let mut sectors = Sectors::zeros(alloc, count)?;
@@ -55,7 +53,7 @@ fn read_sectors(alloc: Global, file: &File, count: u32) -> io::Result<Sectors>
     while first < count {
         let more = (count - first).min(PIECE);
         let images = &mut piece[..more as usize];
-        file.read_exact_at(images.as_flattened_mut(), u64::from(first) * SECTOR)?;
+        file.read_into(first, images)?;
         sectors.put_all(first, images);
         first += more;
     }
@@ -63,20 +61,21 @@ fn read_sectors(alloc: Global, file: &File, count: u32) -> io::Result<Sectors>
 }
 
 /// The whole sectors of a file, 65,536 at most.
-pub(crate) fn whole_sectors(alloc: Global, file: &File) -> io::Result<Sectors>
+pub(crate) fn whole_sectors<F: SectorFile>(alloc: Global, file: &F) -> io::Result<Sectors>
     ensures { IfOk result (λ s. length s ≤ 65536) }
 {
-    let count = (file.metadata()?.len() / SECTOR).min(u64::from(MOST_SECTORS));
+    let count = file.sectors()?.min(u64::from(MOST_SECTORS));
     read_sectors(alloc, file, count as u32)
 }
 
 /// Locks a file that was opened under this name. It fails where it is locked, and where another file has come in its place
 /// before it was.
 fn locked<R: Files>(files: &R, file: File, path: &str) -> io::Result<File>
-    ensures { IfOk result (λ it. it ≡ file) }
+    ensures same { IfOk result (λ it. it ≡ file) }
+    ensures locked { IfOk result WasLocked }
 {
-    file.try_lock()?;
-    match Identity::of(&file) {
+    file.take_lock()?;
+    match Identity::of(&file)? {
         Some(identity) if Identity::of_path(files, path) != Some(identity) => {
             Err(io::Error::from(ErrorKind::WouldBlock))
         }
@@ -84,13 +83,25 @@ fn locked<R: Files>(files: &R, file: File, path: &str) -> io::Result<File>
     }
 }
 
-impl FileDevice {
-    ghost use Rattle.std.specs.Prelude.{◌∷◌, []};
+/// Makes last what was written to a file, and asks whether it still has all of its sectors.
+fn settle<F: SectorFile>(file: &mut F, sectors: usize) -> io::Result<()>
+    ensures told { MatchResult result (λ _. IsSettled F.synced F.measured sectors file.old file.new)
+        (λ _. IsUnsettled F.refused F.synced F.measured sectors file.old file.new) }
+    ensures honest { F.honest file.old ↔ F.honest file.new }
+{
+    file.sync()?;
+    if file.sectors()? < sectors as u64 {
+        return Err(io::Error::from(ErrorKind::UnexpectedEof));
+    }
+    Ok(())
+}
 
+impl FileDevice {
     /// Opens a file to read and write, and locks it. It fails where there is no such file, where it may not be written,
     /// where it is a directory, where it is locked, by this process too, and where another file has come in its place.
     pub fn lock<R: Files<File = File>>(files: &R, path: &str) -> io::Result<File>
-        ensures { IfOk result StandsApart }
+        ensures apart { IfOk result StandsApart }
+        ensures locked { IfOk result WasLocked }
     {
         let mut how = OpenOptions::new();
         how.read(true).write(true);
@@ -100,25 +111,28 @@ impl FileDevice {
 
     /// Opens and locks a file as `lock` does, but makes it where it isn't there.
     pub fn lock_or_make<R: Files<File = File>>(files: &R, path: &str) -> io::Result<File>
-        ensures { IfOk result StandsApart }
+        ensures apart { IfOk result StandsApart }
+        ensures locked { IfOk result WasLocked }
     {
         let mut how = OpenOptions::new();
         how.read(true).write(true).create(true);
         let made = open_apart(files, &how, path)?;
         locked(files, made, path)
     }
+}
 
+impl<F: SectorFile + Drop> FileDevice<F> {
     /// A device of a file as `of` makes one, but the file is lengthened to this many sectors first, or to 65,536 where that is
     /// less. What the file has stays.
-    pub fn lengthened(alloc: Global, file: File, sectors: u32) -> io::Result<FileDevice>
+    pub fn lengthened(alloc: Global, file: F, sectors: u32) -> io::Result<FileDevice<F>>
         ensures few { IfOk result (λ d. length d.sectors ≤ 65536) }
         ensures enough { IfOk result (λ d. min sectors 65536 ≤ length d.sectors) }
         ensures unused { IfOk result (λ d. d.failures ≡ 0) }
         ensures same { IfOk result (λ d. d.file ≡ file) }
     {
         let wanted = sectors.min(MOST_SECTORS);
-        if file.metadata()?.len() / SECTOR < u64::from(wanted) {
-            file.set_len(u64::from(wanted) * SECTOR)?;
+        if file.sectors()? < u64::from(wanted) {
+            file.lengthen(wanted)?;
         }
         let device = FileDevice::of(alloc, file)?;
         if device.sectors.len() < wanted as usize {
@@ -128,7 +142,7 @@ impl FileDevice {
     }
 
     /// A device of the whole sectors of a file that is open to read and write, 65,536 at most.
-    pub fn of(alloc: Global, file: File) -> io::Result<FileDevice>
+    pub fn of(alloc: Global, file: F) -> io::Result<FileDevice<F>>
         ensures few { IfOk result (λ d. length d.sectors ≤ 65536) }
         ensures unused { IfOk result (λ d. d.failures ≡ 0) }
         ensures same { IfOk result (λ d. d.file ≡ file) }
@@ -140,30 +154,6 @@ impl FileDevice {
             failures: 0,
             moments: Moments::new(),
         })
-    }
-
-    /// What its sectors were, after an operation that writes nothing.
-    fn after_reading(&self) -> Moments
-        ensures { (result.unsynced ≡ self.now.moments.unsynced) × (result.times
-            ≡ (self.now.sectors ∷ self.now.moments.unsynced) ∷ self.now.moments.times) }
-    {
-        Moments {}
-    }
-
-    /// What its sectors were, after a write.
-    fn after_writing(&self) -> Moments
-        ensures { (result.unsynced ≡ self.now.sectors ∷ self.now.moments.unsynced) × (result.times
-            ≡ (self.now.sectors ∷ self.now.moments.unsynced) ∷ self.now.moments.times) }
-    {
-        Moments {}
-    }
-
-    /// What its sectors were, after a sync.
-    fn after_syncing(&self) -> Moments
-        ensures { (result.unsynced ≡ []) × (result.times
-            ≡ (self.now.sectors ∷ self.now.moments.unsynced) ∷ self.now.moments.times) }
-    {
-        Moments {}
     }
 
     /// Counts an operation that failed, as far as the count goes.
@@ -178,17 +168,17 @@ impl FileDevice {
     }
 }
 
-impl Device for FileDevice {
+impl<F: SectorFile + Drop> Device for FileDevice<F> {
     ghost disk = { λ d. kept d.sectors d.moments.unsynced d.moments.times };
 
-    ghost honest = { λ d. KeepsItsModel d.file };
+    ghost honest = { λ d. F.honest d.file };
 
     ghost size = { λ d. length d.sectors };
 
     ghost failures = { λ d. d.failures };
 
-    ghost goes_on = { λ end first later. (later.file ≡ first.file)
-        × LeavesPast end (kept first.sectors first.moments.unsynced first.moments.times)
+    ghost goes_on = { λ end first later.
+        LeavesPast end (kept first.sectors first.moments.unsynced first.moments.times)
         (kept later.sectors later.moments.unsynced later.moments.times) };
 
     ghost counts_now = { λ d t c h le may.
@@ -199,12 +189,11 @@ impl Device for FileDevice {
 
     ghost may_stay = { λ d h. now_may_stay d.sectors d.moments.unsynced };
 
-    ghost begins = { λ end d. (refl, past_same end (kept d.sectors d.moments.unsynced d.moments.times)) };
+    ghost begins = { λ end d. past_same end (kept d.sectors d.moments.unsynced d.moments.times) };
 
-    ghost goes_further = { λ end a b c one two.
-        (two.0 ∙ one.0, past_then end _ _ _ one.1 two.1) };
+    ghost goes_further = { λ end a b c one two. past_then end _ _ _ one two };
 
-    ghost leaves_past = { λ end first later h from. from.1 };
+    ghost leaves_past = { λ end first later h from. from };
 
     fn sectors(&self) -> u32 {
         self.sectors.len() as u32
@@ -215,27 +204,63 @@ impl Device for FileDevice {
     }
 
     fn read(&mut self, n: u32) -> Result<[u8; 512], DeviceFault> {
-        self.moments = self.after_reading();
+        self.moments = self.moments.after_reading(&self.sectors);
         Ok(self.sectors.get(n))
     }
 
-    fn write(&mut self, n: u32, image: &[u8; 512]) -> Result<(), DeviceFault> {
-        self.moments = self.after_writing();
+    /// What the trait says; and it is the file that took it, or that failed.
+    fn write(&mut self, n: u32, image: &[u8; 512]) -> Result<(), DeviceFault>
+        requires { n < length self.old.sectors }
+        ensures told { MatchResult result (λ _. F.wrote self.old.file n image.now self.new.file)
+            (λ _. F.refused self.old.file self.new.file) }
+        ensures written { F.honest self.old.file
+            → OnOk result (image_of self.new.sectors ≡ put n image.now (image_of self.old.sectors)) }
+        ensures seen { F.honest self.old.file
+            → Wrote n image.now (image_of self.old.sectors) (image_of self.new.sectors) }
+        ensures crash { F.honest self.old.file → Leaves (kept self.old.sectors self.old.moments.unsynced self.old.moments.times) (kept self.new.sectors self.new.moments.unsynced self.new.moments.times)
+            (After (Wrote n image.now) (kept self.old.sectors self.old.moments.unsynced self.old.moments.times).may_leave) }
+        ensures keeps { F.honest self.old.file → Keeps (kept self.old.sectors self.old.moments.unsynced self.old.moments.times) (kept self.new.sectors self.new.moments.unsynced self.new.moments.times) }
+        ensures operation_count { F.honest self.old.file → OneMore (kept self.old.sectors self.old.moments.unsynced self.old.moments.times) (kept self.new.sectors self.new.moments.unsynced self.new.moments.times) }
+        ensures honest { F.honest self.old.file ↔ F.honest self.new.file }
+        ensures size { length self.new.sectors ≡ length self.old.sectors }
+        ensures failures { self.new.failures ≡ counted (is_err result) self.old.failures }
+        ensures goes_on { (end : ℕ) → n < end → StillGoesOn (λ first later.
+            LeavesPast end (kept first.sectors first.moments.unsynced first.moments.times)
+            (kept later.sectors later.moments.unsynced later.moments.times)) self.old self.new }
+    {
+        self.moments = self.moments.after_writing(&self.sectors);
         self.sectors.put(n, image);
-        match self.file.write_all_at(image, u64::from(n) * SECTOR) {
+        match self.file.write(n, image) {
             Ok(()) => Ok(()),
             Err(_) => Err(self.fail()),
         }
     }
 
-    fn sync(&mut self) -> Result<(), DeviceFault> {
-        match self.file.sync_data() {
+    /// What the trait says; and it is the file that made it last and has all its sectors, or that failed.
+    fn sync(&mut self) -> Result<(), DeviceFault>
+        ensures told { MatchResult result
+            (λ _. IsSettled F.synced F.measured (length self.old.sectors) self.old.file self.new.file)
+            (λ _. IsUnsettled F.refused F.synced F.measured (length self.old.sectors) self.old.file self.new.file) }
+        ensures durable { F.honest self.old.file
+            → OnOk result (Only (image_of self.old.sectors) (kept self.new.sectors self.new.moments.unsynced self.new.moments.times).may_leave) }
+        ensures seen { F.honest self.old.file → image_of self.new.sectors ≡ image_of self.old.sectors }
+        ensures crash { F.honest self.old.file → Leaves (kept self.old.sectors self.old.moments.unsynced self.old.moments.times) (kept self.new.sectors self.new.moments.unsynced self.new.moments.times) (λ c. ⊥) }
+        ensures keeps { F.honest self.old.file → Keeps (kept self.old.sectors self.old.moments.unsynced self.old.moments.times) (kept self.new.sectors self.new.moments.unsynced self.new.moments.times) }
+        ensures operation_count { F.honest self.old.file → OneMore (kept self.old.sectors self.old.moments.unsynced self.old.moments.times) (kept self.new.sectors self.new.moments.unsynced self.new.moments.times) }
+        ensures honest { F.honest self.old.file ↔ F.honest self.new.file }
+        ensures size { length self.new.sectors ≡ length self.old.sectors }
+        ensures failures { self.new.failures ≡ counted (is_err result) self.old.failures }
+        ensures goes_on { (end : ℕ) → StillGoesOn (λ first later.
+            LeavesPast end (kept first.sectors first.moments.unsynced first.moments.times)
+            (kept later.sectors later.moments.unsynced later.moments.times)) self.old self.new }
+    {
+        match settle(&mut self.file, self.sectors.len()) {
             Ok(()) => {
-                self.moments = self.after_syncing();
+                self.moments = self.moments.after_syncing(&self.sectors);
                 Ok(())
             }
             Err(_) => {
-                self.moments = self.after_reading();
+                self.moments = self.moments.after_reading(&self.sectors);
                 Err(self.fail())
             }
         }

@@ -1,6 +1,7 @@
 //! Which file of the system is open, whatever it is called.
 
 use std::fs::{File, Metadata};
+use std::io;
 use std::os::unix::fs::MetadataExt;
 use std::rt::Files;
 
@@ -31,12 +32,9 @@ fn at<R: Files>(files: &R, path: &str) -> Option<Identity> {
 }
 
 impl Identity {
-    /// Which regular file this is; none where it is none.
-    pub fn of(file: &File) -> Option<Identity> {
-        match file.metadata() {
-            Ok(found) => regular(&found),
-            Err(_) => None,
-        }
+    /// Which regular file this is; none where it is none. It fails where the system doesn't tell.
+    pub fn of(file: &File) -> io::Result<Option<Identity>> {
+        Ok(regular(&file.metadata()?))
     }
 
     /// The regular file of this name, behind all links; none where it is none, or none is there.

@@ -11,6 +11,7 @@ mod past;
 mod ram_device;
 mod recorded_device;
 mod replacing;
+mod sector_file;
 mod sectors;
 
 pub use file_device::FileDevice;
@@ -19,3 +20,4 @@ pub use opening::{Output, open_image, open_to_read};
 pub use ram_device::RamDevice;
 pub use recorded_device::RecordedDevice;
 pub use replacing::{Hindrance, Replacement};
+pub use sector_file::SectorFile;

@@ -109,8 +109,8 @@ impl Output {
         self.is_new
     }
 
-    /// Which file it is.
-    pub fn identity(&self) -> Option<Identity> {
+    /// Which file it is, if it is a regular one.
+    pub fn identity(&self) -> io::Result<Option<Identity>> {
         Identity::of(&self.file)
     }
 

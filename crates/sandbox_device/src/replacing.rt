@@ -95,11 +95,9 @@ fn is_locked_by_us(file: &File) -> bool {
 }
 
 /// Whether a name leads to this very file.
-fn leads_to<R: Files>(rt: &R, path: &str, file: &File) -> bool {
-    match Identity::of(file) {
-        Some(identity) => Identity::of_path(rt, path) == Some(identity),
-        None => false,
-    }
+fn leads_to<R: Files>(rt: &R, path: &str, file: &File) -> io::Result<bool> {
+    let identity = Identity::of(file)?;
+    Ok(identity.is_some() && Identity::of_path(rt, path) == identity)
 }
 
 /// Takes away what someone who was ended has left under this name. What is locked is in use.
@@ -111,7 +109,7 @@ fn clear<R: Files<File = File>>(rt: &R, path: &str) {
     let mut how = OpenOptions::new();
     how.read(true);
     if let Ok(file) = open_apart(rt, &how, path) {
-        if is_locked_by_us(&file) && leads_to(rt, path, &file) {
+        if is_locked_by_us(&file) && matches!(leads_to(rt, path, &file), Ok(true)) {
             let _ = rt.remove_file(path);
         }
     }
@@ -132,7 +130,7 @@ fn make_spare<R: Files<File = File>>(rt: &R, path: String) -> io::Result<Spare> 
     if let Err(TryLockError::WouldBlock) = file.try_lock() {
         return Err(io::Error::from(ErrorKind::AlreadyExists));
     }
-    if !leads_to(rt, path.as_str(), &file) {
+    if !leads_to(rt, path.as_str(), &file)? {
         return Err(io::Error::from(ErrorKind::AlreadyExists));
     }
     Ok(Spare { file, path })
@@ -190,17 +188,17 @@ fn put_beside<R: Files<File = File> + AllocGlobal>(
 }
 
 /// How what is there is replaced, of which these are the metadata.
-fn way_of<R: Files>(rt: &R, path: &str, file: &File, found: &Metadata) -> Way {
+fn way_of<R: Files>(rt: &R, path: &str, file: &File, found: &Metadata) -> io::Result<Way> {
     if !found.is_file() {
-        return Way::Stream;
+        return Ok(Way::Stream);
     }
     if found.nlink() > 1 {
-        return Way::InPlace(Hindrance::Names);
+        return Ok(Way::InPlace(Hindrance::Names));
     }
-    if leads_to(rt, path, file) {
-        return Way::Beside;
+    if leads_to(rt, path, file)? {
+        return Ok(Way::Beside);
     }
-    Way::InPlace(Hindrance::Folder)
+    Ok(Way::InPlace(Hindrance::Folder))
 }
 
 /// Opens a file's folder.
@@ -221,7 +219,7 @@ impl Replacement {
         match open_apart(rt, &how, path) {
             Ok(file) => {
                 lock_to_write(&file)?;
-                let way = way_of(rt, target.as_str(), &file, &file.metadata()?);
+                let way = way_of(rt, target.as_str(), &file, &file.metadata()?)?;
                 Ok(Replacement {
                     path: target,
                     old: Some(file),
@@ -241,11 +239,11 @@ impl Replacement {
         }
     }
 
-    /// Which file is there.
-    pub fn identity(&self) -> Option<Identity> {
+    /// Which file is there, if it is a regular one.
+    pub fn identity(&self) -> io::Result<Option<Identity>> {
         match &self.old {
             Some(file) => Identity::of(file),
-            None => None,
+            None => Ok(None),
         }
     }
 

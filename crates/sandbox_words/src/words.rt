@@ -18,10 +18,8 @@ use crate::faults::MEANINGS;
 use crate::request::{Change, Invocation, Limits, Run, Task};
 use crate::table::{Argument, Subcommand, Takes, commands, rows};
 use clap::{Arg, ArgAction, ArgMatches, Command, Error};
+use meanings::VERSION;
 use std::alloc::{AllocError, Global};
-
-/// What `--version` prints after the program's name.
-const VERSION: &str = "0.9.4";
 
 /// What help ends with.
 const STATUSES: &str = "\

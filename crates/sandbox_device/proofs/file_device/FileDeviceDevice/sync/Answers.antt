@@ -3,32 +3,32 @@ use Rattle.vol_sector.specs.Disk.{Keeps}
 use Rattle.sandbox_device.specs.Ram.{Sectors}
 use Rattle.sandbox_device.specs.File.{kept}
 use Rattle.sandbox_device.proofs.File.{keeps_more}
-use Rattle.std.proofs.Common.{refl, ◌∙◌}
+use Rattle.std.proofs.Common.{refl}
 use Rattle.vol_sector.specs.internal.PastLaws.{past_then, past_quiet}
 use Rattle.sandbox_device.proofs.File.{leaves_kept, leaves_synced}
 use Rattle.sandbox_device.proofs.file_device.FileDeviceDevice.sync.Goals as goal
 
 pub returns-in-Ok-clause-keeps : goal.returns-in-Ok-clause-keeps
-returns-in-Ok-clause-keeps c h =
+returns-in-Ok-clause-keeps g c h =
     let d = c.args.self.now in
     let after = c.after_syncing-self.result in
     subst (λ (times : List (List Sectors)). Keeps (kept d.sectors d.moments.unsynced d.moments.times) (kept d.sectors after.unsynced times))
     (sym c.after_syncing-self.ensures.1) (keeps_more d.sectors d.sectors after.unsynced d.moments.unsynced d.moments.times)
 
 pub returns-in-Err-clause-keeps : goal.returns-in-Err-clause-keeps
-returns-in-Err-clause-keeps c h =
+returns-in-Err-clause-keeps g c h =
     let d = c.args.self.now in
     rw (c.fail.ensures.sectors, c.fail.ensures.moments, c.after_reading-self.ensures.0, c.after_reading-self.ensures.1) (keeps_more d.sectors d.sectors d.moments.unsynced d.moments.unsynced d.moments.times)
 
 pub returns-in-Ok-clause-goes_on : goal.returns-in-Ok-clause-goes_on
-returns-in-Ok-clause-goes_on c end first from =
+returns-in-Ok-clause-goes_on g c end first from =
     let d = c.args.self.now in
     let is = c.after_syncing-self.ensures in
-    (from.0, past_then end _ _ _ from.1 (rw (is.0, is.1) (past_quiet end _ _ refl (leaves_synced d.sectors d.moments.unsynced d.moments.times))))
+    past_then end _ _ _ from (rw (is.0, is.1) (past_quiet end _ _ refl (leaves_synced d.sectors d.moments.unsynced d.moments.times)))
 
 pub returns-in-Err-clause-goes_on : goal.returns-in-Err-clause-goes_on
-returns-in-Err-clause-goes_on c end first from =
+returns-in-Err-clause-goes_on g c end first from =
     let d = c.args.self.now in
     let is = c.after_reading-self.ensures in
     let e = c.fail.ensures in
-    (e.file ∙ from.0, past_then end _ _ _ from.1 (rw (e.sectors, e.moments, is.0, is.1) (past_quiet end _ _ refl (leaves_kept d.sectors d.moments.unsynced d.moments.times))))
+    past_then end _ _ _ from (rw (e.sectors, e.moments, is.0, is.1) (past_quiet end _ _ refl (leaves_kept d.sectors d.moments.unsynced d.moments.times)))
