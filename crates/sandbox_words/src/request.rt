@@ -51,6 +51,15 @@ pub struct Run<'a> {
     pub words: Vec<&'a str>,
 }
 
+/// How a listing writes an entry.
+#[derive(Clone, Copy)]
+pub struct ListForm {
+    /// Each byte of a name that isn't plain is a sequence of a backslash and plain ones.
+    pub escape: bool,
+    /// A line ends with a NUL in place of a line end.
+    pub null: bool,
+}
+
 /// What is changed in the tree of a volume.
 #[derive(Clone, Copy)]
 pub enum Change<'a> {
@@ -69,6 +78,8 @@ pub enum Change<'a> {
 pub enum Task<'a> {
     /// Print the entries of the directory of this path.
     List { path: &'a str },
+    /// Print them in this form.
+    ListAs { path: &'a str, form: ListForm },
     /// Print the file of this path.
     Get { path: &'a str },
     /// Put the input into the file of this path.

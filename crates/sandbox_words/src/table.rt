@@ -48,6 +48,8 @@ pub(crate) enum Arguments {
     Volume,
     /// A volume and a path in it.
     Path,
+    /// Those of `ls`.
+    List,
     /// Those of `mv`.
     Move,
     /// Those of `rm`.
@@ -88,6 +90,22 @@ static ON_VOLUME: [Argument; 1] = [VOLUME];
 
 /// The arguments of a command on a path.
 static ON_PATH: [Argument; 2] = [VOLUME, PATH];
+
+/// The arguments of `ls`.
+static LIST: [Argument; 4] = [
+    VOLUME,
+    PATH,
+    Argument {
+        name: "escape",
+        takes: Takes::Flag,
+        help: "Write bytes of names that are not plain as \\n, \\033 and the like, as LC_ALL=C ls -b",
+    },
+    Argument {
+        name: "null",
+        takes: Takes::Flag,
+        help: "End each line with a NUL in place of its line end",
+    },
+];
 
 /// The arguments of `run`.
 static RUN: [Argument; 19] = [
@@ -245,6 +263,7 @@ pub(crate) fn rows(arguments: Arguments) -> &'static [Argument]
         Arguments::Format => &FORMAT,
         Arguments::Volume => &ON_VOLUME,
         Arguments::Path => &ON_PATH,
+        Arguments::List => &LIST,
         Arguments::Move => &MOVE,
         Arguments::Remove => &REMOVE,
     }
@@ -277,7 +296,7 @@ static COMMANDS: [Subcommand; 14] = [
     Subcommand {
         name: "ls",
         about: "Print the entries of a directory",
-        arguments: Arguments::Path,
+        arguments: Arguments::List,
     },
     Subcommand {
         name: "get",

@@ -2,7 +2,7 @@
 
 ghost use Rattle.std.specs.Option.{MatchOption};
 ghost use Rattle.std.specs.List.{Contains};
-ghost use Rattle.std.specs.Prelude.{◌≡◌, ◌↔◌, ◌∷◌, [], IfOk, IsTrue, IsOkAnd, IsSomeAnd, Some, None, false, true, map, string_bytes, option_and_then};
+ghost use Rattle.std.specs.Prelude.{◌≡◌, ◌↔◌, ◌∷◌, [], IfOk, IsTrue, IsOkAnd, IsSomeAnd, Some, None, false, true, codes, map, string_bytes, option_and_then};
 ghost use Rattle.clap.specs.Matches.{has_subcommand};
 ghost use Rattle.clap.specs.Words.{FailsBy, app_of, fault_of, first_of, found_of, one_of, rows_of, rule_of, subcommand_of, subcommand_rows_of};
 ghost use Rattle.clap.specs.declared.builder.command.Command.TheViews.{out-Command as fields_of};
@@ -15,7 +15,7 @@ ghost use Rattle.sandbox_words.specs.internal.Table.{AddsArguments, AddsSubcomma
 ghost use Rattle.sandbox_words.specs.internal.Given.{AsksRunOf};
 
 use crate::faults::MEANINGS;
-use crate::request::{Change, Invocation, Limits, Run, Task};
+use crate::request::{Change, Invocation, Limits, ListForm, Run, Task};
 use crate::table::{Argument, Subcommand, Takes, commands, rows};
 use clap::{Arg, ArgAction, ArgMatches, Command, Error};
 use meanings::VERSION;
@@ -274,6 +274,22 @@ fn change_given<'a>(name: &str, matches: &ArgMatches<'a>) -> Option<Change<'a>>
     }
 }
 
+/// What `ls` does with a volume.
+fn listing_given<'a>(matches: &ArgMatches<'a>) -> Task<'a>
+    ensures { AsksTask (codes "ls") (rows_of (found_of matches.now)) result }
+{
+    let path = text(matches, "PATH");
+    let form = ListForm {
+        escape: is_flagged(matches, "escape"),
+        null: is_flagged(matches, "null"),
+    };
+    if form.escape || form.null {
+        Task::ListAs { path, form }
+    } else {
+        Task::List { path }
+    }
+}
+
 /// What the command of this name does with a volume; none where it is no such command.
 fn task_given<'a>(name: &str, matches: &ArgMatches<'a>) -> Option<Task<'a>>
     ensures { MatchOption result (Contains task_names name.now → ⊥)
@@ -281,7 +297,7 @@ fn task_given<'a>(name: &str, matches: &ArgMatches<'a>) -> Option<Task<'a>>
 {
     let path = text(matches, "PATH");
     match name {
-        "ls" => Some(Task::List { path }),
+        "ls" => Some(listing_given(matches)),
         "get" => Some(Task::Get { path }),
         "put" => Some(Task::Put { path }),
         "check" => Some(Task::Check),

@@ -6,15 +6,17 @@ use Rattle.vol_sector.specs.Disk.{Disk}
 use Rattle.vol_tree.specs.declared.superblock.Superblock.{Superblock}
 use Rattle.vol_tree.specs.Tree.{Tree}
 use Rattle.sandbox_words.specs.declared.request.Task.{Task}
-use Rattle.sandbox_words.specs.declared.request.Task.TheVariants.{List as Ls, Get, Put, Check, Upgrade, Stat, Change as Changing}
+use Rattle.sandbox_words.specs.declared.request.Task.TheVariants.{List as Ls, ListAs as LsAs, Get, Put, Check, Upgrade, Stat, Change as Changing}
 use Rattle.volume_tasks.specs.declared.failure.Failure.{Failure}
+use Rattle.volume_tasks.specs.Listing.{plain}
 use Rattle.volume_tasks.specs.Tasks.{printed_facts, printed_file, printed_listing, summary}
 use Rattle.volume_tasks.specs.Doing.{Does, Performs, WasDone, WasRefused}
 use Rattle.volume_tasks.proofs.Printed.{prints_kept}
 
 does_kept : (task : Task) (v : Superblock) (T : Tree) (given unread a b c : Option (List ℕ)) (U : Tree) (done : Result (Unit {0}) Failure)
     → Does task v T given unread a b U done → Keeps b c → Does task v T given unread a c U done
-does_kept (Ls path) v T given unread a b c U done does kept = (prints_kept (printed_listing T path.now) a b c done does.0 kept, does.1)
+does_kept (Ls path) v T given unread a b c U done does kept = (prints_kept (printed_listing plain T path.now) a b c done does.0 kept, does.1)
+does_kept (LsAs path form) v T given unread a b c U done does kept = (prints_kept (printed_listing form T path.now) a b c done does.0 kept, does.1)
 does_kept (Get path) v T given unread a b c U done does kept = (prints_kept (printed_file T path.now) a b c done does.0 kept, does.1)
 does_kept (Put path) v T given unread a b c U done does kept = does
 does_kept Check v T given unread a b c U done does kept = (prints_kept (Ok (summary v T)) a b c done does.0 kept, does.1)

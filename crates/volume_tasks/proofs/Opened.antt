@@ -9,7 +9,7 @@ use Rattle.vol_sector.specs.Fault.{IsDamage}
 use Rattle.vol_sector.specs.declared.fault.Damage.{Damage}
 use Rattle.vol_tree.specs.Opening.{NoVolumeOn, HasNoVersion, IsDamaged}
 use Rattle.sandbox_words.specs.declared.request.Task.{Task}
-use Rattle.sandbox_words.specs.declared.request.Task.TheVariants.{List as Ls, Get, Put, Check, Upgrade, Stat, Change as Changing}
+use Rattle.sandbox_words.specs.declared.request.Task.TheVariants.{List as Ls, ListAs as LsAs, Get, Put, Check, Upgrade, Stat, Change as Changing}
 use Rattle.sandbox_words.specs.declared.request.Change.{Change}
 use Rattle.sandbox_words.specs.declared.request.Change.TheVariants.{MakeDirectory, Move, Remove, RemoveAll}
 use Rattle.volume_tasks.specs.Changes.{IsPartOfChange}
@@ -25,6 +25,7 @@ none_is_part (RemoveAll path) T = inl refl
 -- and so does a task
 pub whole_is_part : (task : Task) (v : Superblock) (T : Tree) (given : Option (List ℕ)) → IsPartOf task v T given T
 whole_is_part (Ls path) v T given = refl
+whole_is_part (LsAs path form) v T given = refl
 whole_is_part (Get path) v T given = refl
 whole_is_part (Put path) v T given = inl refl
 whole_is_part Check v T given = refl

@@ -1,5 +1,5 @@
 -- The texts that are printed, by what is told of a volume and its entries.
-use Rattle.std.proofs.Common.{◌≡◌, ◌++◌, ℕ, List, [], ◌∷◌, take, codes, refl, subst, append_assoc}
+use Rattle.std.proofs.Common.{◌≡◌, ◌++◌, ℕ, List, [], ◌∷◌, take, codes, refl, subst, append_assoc, append-nil}
 use Rattle.std.specs.Prelude.{Option, decimal}
 use Rattle.std.specs.List.{concat}
 use Rattle.std.specs.Io.KnownBytes.{Appends}
@@ -11,7 +11,9 @@ use Rattle.vol_tree.specs.Superblock.{version_number}
 use Rattle.vol_tree.specs.Tree.{Tree, Node, Directory, File, Entry}
 use Rattle.vol_tree.specs.Stat.{IsStat, kind_of}
 use Rattle.vol_tree.specs.Stats.{IsStats}
-use Rattle.volume_tasks.specs.Tasks.{line_of, mark_of, summary}
+use Rattle.sandbox_words.specs.declared.request.ListForm.{ListForm}
+use Rattle.volume_tasks.specs.Listing.{line_end, line_of, mark_of, name_as}
+use Rattle.volume_tasks.specs.Tasks.{summary}
 use Rattle.volume_tasks.specs.internal.Lines.{mark_of_kind, stat_line}
 
 -- what `check` writes is the summary
@@ -26,15 +28,19 @@ marked Directory = refl
 marked (File bytes) = refl
 
 -- an entry's line is that of what is told of it
-pub line_told : (serial : ℕ) (e : Entry) (s : Stat) → IsStat serial e s → stat_line s ≡ line_of e
+pub line_told : (form : ListForm) (serial : ℕ) (e : Entry) (s : Stat) → IsStat serial e s → stat_line form s ≡ line_of form e
 unfolding stat_line line_of
-line_told serial e s is = rw (is.kind, marked, is.size, is.name) refl
+line_told form serial e s is = rw (is.kind, marked, is.size, is.name) refl
+
+joined : (m d space n e : List ℕ) → (concat (m ∷ d ∷ space ∷ []) ++ n) ++ e ≡ concat (m ∷ d ∷ space ∷ n ∷ e ∷ [])
+joined m d space n e = simp (append_assoc, append-nil)
 
 -- the three parts of a line, one after the other
-pub line_written : (a b c d : Option (List ℕ)) (s : Stat) → Appends a b (concat (mark_of_kind s.kind ∷ decimal s.size ∷ codes " " ∷ []))
-    → Appends b c (take s.name_length s.name) → Appends c d (codes "\n") → Appends a d (stat_line s)
+pub line_written : (form : ListForm) (a b c d : Option (List ℕ)) (s : Stat) → Appends a b (concat (mark_of_kind s.kind ∷ decimal s.size ∷ codes " " ∷ []))
+    → Appends b c (name_as form (take s.name_length s.name)) → Appends c d (line_end form) → Appends a d (stat_line form s)
 unfolding stat_line
-line_written a b c d s front name end =
+line_written form a b c d s front name end =
     let whole = Appends-trans a c d _ _ (Appends-trans a b c _ _ front name) end in
-    let same : (concat (mark_of_kind s.kind ∷ decimal s.size ∷ codes " " ∷ []) ++ take s.name_length s.name) ++ codes "\n" ≡ stat_line s = simp append_assoc in
+    let same : (concat (mark_of_kind s.kind ∷ decimal s.size ∷ codes " " ∷ []) ++ name_as form (take s.name_length s.name)) ++ line_end form ≡ stat_line form s =
+    joined (mark_of_kind s.kind) (decimal s.size) (codes " ") (name_as form (take s.name_length s.name)) (line_end form) in
     subst (λ (text : List ℕ). Appends a d text) same whole

@@ -14,10 +14,11 @@ use Rattle.vol_tree.specs.Stands.{StandsAs}
 use Rattle.vol_tree.specs.Opened.{raised}
 use Rattle.vol_tree.specs.Opening.{StandsOn, HoldsOn, NoVolumeOn, HasNoVersion, IsDamaged}
 use Rattle.sandbox_words.specs.declared.request.Task.{Task}
-use Rattle.sandbox_words.specs.declared.request.Task.TheVariants.{List as Ls, Get, Put, Check, Upgrade, Stat, Change as Changing}
+use Rattle.sandbox_words.specs.declared.request.Task.TheVariants.{List as Ls, ListAs as LsAs, Get, Put, Check, Upgrade, Stat, Change as Changing}
 use Rattle.volume_tasks.specs.declared.failure.Failure.{Failure}
 use Rattle.volume_tasks.specs.declared.failure.Failure.TheVariants.{Volume}
 use Rattle.volume_tasks.specs.Blame.{blames_device}
+use Rattle.volume_tasks.specs.Listing.{plain}
 use Rattle.volume_tasks.specs.Tasks.{IsPartOfPut, Prints, Puts, ReflectsAny, printed_facts, printed_file, printed_listing, summary}
 use Rattle.volume_tasks.specs.Changes.{Changes, IsPartOfChange}
 
@@ -29,7 +30,8 @@ pub record Upgrades (v : Superblock) (done : Result (Unit {0}) Failure) : Type 0
 -- What a task prints of a volume's tree, and the tree that it leaves, by what is known of the input and the output
 -- before it and after.
 abbrev pub Does : Task → Superblock → Tree → Option (List ℕ) → Option (List ℕ) → Option (List ℕ) → Option (List ℕ) → Tree → Result (Unit {0}) Failure → Type 0
-Does (Ls path) v T given unread before after U done = Prints (printed_listing T path.now) before after done × (U ≡ T)
+Does (Ls path) v T given unread before after U done = Prints (printed_listing plain T path.now) before after done × (U ≡ T)
+Does (LsAs path form) v T given unread before after U done = Prints (printed_listing form T path.now) before after done × (U ≡ T)
 Does (Get path) v T given unread before after U done = Prints (printed_file T path.now) before after done × (U ≡ T)
 Does (Put path) v T given unread before after U done = Puts v T path.now given unread U done
 Does Check v T given unread before after U done = Prints (Ok (summary v T)) before after done × (U ≡ T)
@@ -40,6 +42,7 @@ Does (Changing change) v T given unread before after U done = Changes T change U
 -- the trees that a stop inside a task may leave
 abbrev pub IsPartOf : Task → Superblock → Tree → Option (List ℕ) → Tree → Type 0
 IsPartOf (Ls path) v T given U = U ≡ T
+IsPartOf (LsAs path form) v T given U = U ≡ T
 IsPartOf (Get path) v T given U = U ≡ T
 IsPartOf (Put path) v T given U = IsPartOfPut v T path.now given U
 IsPartOf Check v T given U = U ≡ T
@@ -50,6 +53,7 @@ IsPartOf (Changing change) v T given U = IsPartOfChange T change U
 -- a stop inside an upgrade may also leave the tree with version 2
 abbrev pub IsRaised : Task → Superblock → Tree → Image → Type 0
 IsRaised (Ls path) v T c = ⊥
+IsRaised (LsAs path form) v T c = ⊥
 IsRaised (Get path) v T c = ⊥
 IsRaised (Put path) v T c = ⊥
 IsRaised Check v T c = ⊥
@@ -60,6 +64,7 @@ IsRaised (Changing change) v T c = ⊥
 -- what each crash leaves where a task that changes a volume ended with success
 abbrev pub Lasts : Task → Superblock → Tree → (Image → Type 0) → Type 0
 Lasts (Ls path) v U may_leave = Unit {0}
+Lasts (LsAs path form) v U may_leave = Unit {0}
 Lasts (Get path) v U may_leave = Unit {0}
 Lasts (Put path) v U may_leave = (c : Image) → may_leave c → StandsAs c v U
 Lasts Check v U may_leave = Unit {0}
@@ -70,6 +75,7 @@ Lasts (Changing change) v U may_leave = (c : Image) → may_leave c → StandsAs
 -- the tasks that print nothing
 abbrev pub PrintsNothing : Task → Type 0
 PrintsNothing (Ls path) = ⊥
+PrintsNothing (LsAs path form) = ⊥
 PrintsNothing (Get path) = ⊥
 PrintsNothing (Put path) = Unit {0}
 PrintsNothing Check = ⊥
@@ -80,6 +86,7 @@ PrintsNothing (Changing change) = Unit {0}
 -- the tasks that read nothing of the input
 abbrev pub ReadsNothing : Task → Type 0
 ReadsNothing (Ls path) = Unit {0}
+ReadsNothing (LsAs path form) = Unit {0}
 ReadsNothing (Get path) = Unit {0}
 ReadsNothing (Put path) = ⊥
 ReadsNothing Check = Unit {0}

@@ -1,14 +1,16 @@
 -- What formatting a device leaves, and how it ends (`docs/VOLUME.md`, "Formatting"). `FormatsAs` is the contract of
--- `format_as`: version 1 is `Formats`, and version 2 comes from `large_volume`.
-use Rattle.std.specs.Prelude.{◌≡◌, ◌≤◌, ◌<◌, ◌↔◌, ℕ, Bool, true, false, Result, Ok, Err, OnOk, IfErr}
+-- `format_as`: version 1 is `Formats`, and version 2 comes from `large_volume`. `FormatsWhere` is that of
+-- `format_where`, which may be told to format only what doesn't begin as a volume (`FormatsNew`).
+use Rattle.std.specs.Prelude.{◌≡◌, ◌⊎◌, ◌≤◌, ◌<◌, ◌↔◌, ℕ, Bool, true, false, Result, Ok, Err, OnOk, IfErr, take}
 use Rattle.vol_sector.specs.Disk.{Image, Disk, Leaves, counted}
 use Rattle.vol_sector.specs.declared.fault.Refused.{Refused}
 use Rattle.vol_sector.specs.declared.fault.VolumeFault.TheVariants as fault
-use Rattle.vol_tree.specs.Superblock.{HasRanges}
+use Rattle.vol_tree.specs.declared.errno.Errno.TheVariants as errno
+use Rattle.vol_tree.specs.Superblock.{HasRanges, magic}
 use Rattle.vol_tree.specs.Stands.{StandsAs, empty_tree}
 use Rattle.vol_tree.specs.Fresh.{fresh, IsNoneOrEmpty}
 use Rattle.volume_tasks.specs.declared.failure.Failure.{Failure}
-use Rattle.volume_tasks.specs.declared.failure.Failure.TheVariants.{Volume}
+use Rattle.volume_tasks.specs.declared.failure.Failure.TheVariants.{Tree, Volume}
 use Rattle.volume_tasks.specs.Blame.{blames_device}
 use Rattle.large_volume.specs.Large.{MakesLarge, device_in}
 
@@ -41,3 +43,34 @@ pub record FormatsLarge {D : Type 0} (is_honest : D → Type 0) (disk : D → Di
 abbrev pub FormatsAs : Bool → {D : Type 0} → (D → Type 0) → (D → Disk) → (D → ℕ) → (D → ℕ) → D → ℕ → ℕ → D → Result (Unit {0}) Failure → Type 0
 FormatsAs true is_honest disk sectors_on failures device sectors slots after done = FormatsLarge is_honest disk sectors_on failures device sectors slots after done
 FormatsAs false is_honest disk sectors_on failures device sectors slots after done = Formats is_honest disk sectors_on failures device sectors slots after done
+
+-- ---- only where no volume stands
+
+-- the device has a first sector, which begins as that of a volume does, of whatever version
+pub record BeginsAsVolume (size : ℕ) (seen : Image) : Type 0 where
+  pub some : 0 < size
+  pub begins : take 8 (seen 0) ≡ magic
+
+module _ {D : Type 0} (is_honest : D → Type 0) (disk : D → Disk) (sectors_on failures : D → ℕ) where
+  -- A device was looked at: nothing was written, and one operation failed or none.
+  pub record LooksAt (before after : D) (failed : Bool) : Type 0 where
+    pub seen : is_honest before → (disk after).seen ≡ (disk before).seen
+    pub crash : is_honest before → Leaves (disk before) (disk after) (λ c. ⊥)
+    pub honest : is_honest before ↔ is_honest after
+    pub size : sectors_on after ≡ sectors_on before
+    pub failed_so : failures after ≡ counted failed (failures before)
+
+  -- A device was looked at, and failed (33); or begins as a volume, is refused with 20, and isn't written to; or doesn't, and
+  -- is formatted as it is then (`FormatsAs`).
+  pub record FormatsNew (large : Bool) (device : D) (sectors slots : ℕ) (after : D) (done : Result (Unit {0}) Failure) : Type 0 where
+    pub looked : D
+    pub failed : Bool
+    pub looks : LooksAt device looked failed
+    pub ends : ((failed ≡ true) × (done ≡ Err (Volume fault.Device)) × (after ≡ looked))
+        ⊎ (((failed ≡ false) × (done ≡ Err (Tree errno.Exist)) × (after ≡ looked) × (is_honest device → BeginsAsVolume (sectors_on device) (disk device).seen))
+        ⊎ ((failed ≡ false) × FormatsAs large is_honest disk sectors_on failures looked sectors slots after done × (is_honest device → BeginsAsVolume (sectors_on device) (disk device).seen → ⊥)))
+
+-- only where no volume stands, or wherever
+abbrev pub FormatsWhere : Bool → Bool → {D : Type 0} → (D → Type 0) → (D → Disk) → (D → ℕ) → (D → ℕ) → D → ℕ → ℕ → D → Result (Unit {0}) Failure → Type 0
+FormatsWhere true large is_honest disk sectors_on failures device sectors slots after done = FormatsNew is_honest disk sectors_on failures large device sectors slots after done
+FormatsWhere false large is_honest disk sectors_on failures device sectors slots after done = FormatsAs large is_honest disk sectors_on failures device sectors slots after done

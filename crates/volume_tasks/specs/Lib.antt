@@ -4,6 +4,7 @@
 pub mod Blame
 pub mod Formatting
 pub mod Streams
+pub mod Listing
 pub mod Tasks
 pub mod Changes
 pub mod Laws

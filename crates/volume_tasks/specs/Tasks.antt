@@ -1,7 +1,7 @@
 -- What the tasks that only ask print, and which tree `put` leaves (`docs/USING.md`, "Commands"). `Prints` is for `ls`,
 -- `get`, `stat` and `check`, and `Puts` for `put`; `reached` says where a path of the command line leads.
-use Rattle.std.specs.Prelude.{◌≡◌, ◌⊎◌, ◌==◌, ℕ, Bool, List, [], ◌∷◌, Option, None, Some, Result, Ok, Err, if◌then◌else◌, codes, decimal, false, true}
-use Rattle.std.specs.List.{concat, flat_map}
+use Rattle.std.specs.Prelude.{◌≡◌, ◌⊎◌, ◌==◌, ℕ, Bool, List, [], ◌∷◌, Option, Result, Ok, Err, if◌then◌else◌, codes, decimal, false, true}
+use Rattle.std.specs.List.{concat}
 use Rattle.std.specs.Option.{option_map_or}
 use Rattle.std.specs.Io.KnownBytes.{Appends, Consumes, IsAtEnd, Keeps}
 use Rattle.vol_tree.specs.declared.superblock.Superblock.{Superblock}
@@ -20,6 +20,8 @@ use Rattle.volume_tasks.specs.declared.failure.Failure.{Failure}
 use Rattle.volume_tasks.specs.declared.failure.Failure.TheVariants as failure
 pub use Rattle.volume_archive.specs.Import.{ReflectsAny}
 pub use Rattle.volume_archive.specs.Placing.{BeginWith, emptied}
+use Rattle.sandbox_words.specs.declared.request.ListForm.{ListForm}
+use Rattle.volume_tasks.specs.Listing.{listing}
 use Rattle.volume_tasks.specs.Streams.{AppendsPart}
 
 -- ---- paths
@@ -49,23 +51,6 @@ file_named T path = entry_named T path >>= λ e. if e.1 then Err errno.IsDirecto
 
 -- ---- what is printed
 
-abbrev pub mark_of : Node → Text
-mark_of Directory = codes "d "
-mark_of (File bytes) = codes "f "
-
--- an entry's line: what it is, its size, its name
-unfoldable pub line_of : Entry → Text
-line_of e = concat (mark_of e.node ∷ decimal (size_of e.node) ∷ codes " " ∷ e.name ∷ codes "\n" ∷ [])
-
--- the line of an entry of this directory
-abbrev pub line_in : ℕ → Option Entry → Text
-line_in directory None = []
-line_in directory (Some e) = if e.parent == directory then line_of e else []
-
--- the entries of a directory, by rising serials
-abbrev pub listing : Tree → ℕ → Text
-listing T directory = flat_map (line_in directory) T
-
 -- the version, the entries and the slots, the sectors that the files need and those that there are
 unfoldable pub summary : Superblock → Tree → Text
 summary v T = concat
@@ -87,8 +72,8 @@ facts_at T serial = option_map_or (facts_of serial) (entry T serial) []
 
 -- ---- what a task ends with
 
-abbrev pub printed_listing : Tree → Text → Result Text Errno
-printed_listing T path = directory_named T path >>= λ serial. Ok (listing T serial)
+abbrev pub printed_listing : ListForm → Tree → Text → Result Text Errno
+printed_listing form T path = directory_named T path >>= λ serial. Ok (listing form T serial)
 
 abbrev pub printed_file : Tree → Text → Result Text Errno
 printed_file T path = file_named T path >>= λ serial. Ok (bytes_at T serial)

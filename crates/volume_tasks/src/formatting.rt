@@ -1,11 +1,16 @@
 //! Making a device an empty volume, of version 1 or of version 2.
 
-ghost use Rattle.volume_tasks.specs.Formatting.{FormatsAs, FormatsLarge};
+ghost use Rattle.std.specs.Prelude.{◌↔◌, IfOk, IsTrue, is_err};
+ghost use Rattle.volume_tasks.specs.Formatting.{BeginsAsVolume, FormatsAs, FormatsLarge, FormatsNew, FormatsWhere, LooksAt};
 
 use crate::failure::Failure;
 use crate::tasks::format;
 use std::alloc::Global;
-use vol_sector::{Device, Refused};
+use vol_sector::{Device, DeviceFault, Refused, VolumeFault};
+use vol_tree::Errno;
+
+/// The bytes that a volume begins with.
+const MAGIC: [u8; 8] = *b"WASMVOLU";
 
 /// Makes the first sectors of a device an empty volume of version 2, and gives the device back.
 fn format_large<D: Device>(
@@ -37,5 +42,57 @@ pub fn format_as<D: Device>(
         format_large(alloc, device, sectors, slots)
     } else {
         format(device, sectors, slots)
+    }
+}
+
+/// Whether a device begins as a volume does, of whatever version; one without a sector doesn't.
+fn begins_as_volume<D: Device>(device: &mut D) -> Result<bool, DeviceFault>
+    ensures looks { LooksAt D.honest D.disk D.size D.failures device.old device.new (is_err result) }
+    ensures begins { D.honest device.old
+        → IfOk result (λ b. IsTrue b ↔ BeginsAsVolume (D.size device.old) (D.disk device.old).seen) }
+{
+    if device.sectors() == 0 {
+        return Ok(false);
+    }
+    let image = device.read(0)?;
+    Ok(&image[..8] == MAGIC.as_slice())
+}
+
+/// Makes a device an empty volume as `format_as` does, but refuses it with errno 20 where it begins
+/// as a volume does, and then leaves it as it was.
+fn format_new<D: Device>(
+    alloc: Global,
+    mut device: D,
+    sectors: u32,
+    slots: u32,
+    large: bool,
+) -> (Result<(), Failure>, D)
+    ensures { FormatsNew D.honest D.disk D.size D.failures large device sectors slots result.1
+        result.0 }
+{
+    match begins_as_volume(&mut device) {
+        Ok(false) => format_as(alloc, device, sectors, slots, large),
+        Ok(true) => (Err(Failure::Tree(Errno::Exist)), device),
+        Err(_) => (Err(Failure::Volume(VolumeFault::Device)), device),
+    }
+}
+
+/// Formats a device as `format_as` does; where it is to be new, as `format_new` does: one that begins
+/// as a volume is refused with errno 20.
+pub fn format_where<D: Device>(
+    alloc: Global,
+    device: D,
+    sectors: u32,
+    slots: u32,
+    large: bool,
+    only_new: bool,
+) -> (Result<(), Failure>, D)
+    ensures { FormatsWhere only_new large D.honest D.disk D.size D.failures device sectors slots
+        result.1 result.0 }
+{
+    if only_new {
+        format_new(alloc, device, sectors, slots, large)
+    } else {
+        format_as(alloc, device, sectors, slots, large)
     }
 }

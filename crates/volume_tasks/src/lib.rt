@@ -3,6 +3,7 @@
 #![tactic(auto)]
 
 mod changing;
+mod escaping;
 mod exporting;
 mod failure;
 mod formatting;
@@ -18,7 +19,7 @@ mod volume_path;
 
 pub use exporting::{ExportFailure, export_from};
 pub use failure::Failure;
-pub use formatting::format_as;
+pub use formatting::{format_as, format_where};
 pub use importing::{ImportFailure, import_into};
 pub use laws::removed_tree_takes_all_below;
 pub use opening::{FRESH_SECTORS, open_for_run};

@@ -14,11 +14,17 @@ use crate::changing::change_tree;
 use crate::failure::Failure;
 use crate::printing::{check, describe, get, list};
 use crate::putting::put;
-use sandbox_words::Task;
+use sandbox_words::{ListForm, Task};
 use std::alloc::Global;
 use std::io::{Read, Write};
 use vol_sector::{Device, Refused};
 use vol_tree::Volume;
+
+/// The form of a listing without options.
+const PLAIN: ListForm = ListForm {
+    escape: false,
+    null: false,
+};
 
 /// Makes the first sectors of a device an empty volume with these numbers of sectors and of slots
 /// for entries, and gives the device back.
@@ -59,7 +65,8 @@ fn done_with<D: Device, R: Read, W: Write>(
         → Keeps (W.contents out.old) (W.contents out.new) }
 {
     match task {
-        Task::List { path } => list(volume, path, out),
+        Task::List { path } => list(volume, path, PLAIN, out),
+        Task::ListAs { path, form } => list(volume, path, form, out),
         Task::Get { path } => get(volume, path, out),
         Task::Put { path } => put(volume, path, input),
         Task::Check => check(volume, out),

@@ -49,6 +49,7 @@ rules_for rows.Module = word_rule (codes "MODULE") ∷ []
 rules_for rows.Format = word_rule (codes "FILE") ∷ number_word_rule (codes "SECTORS") ∷ number_word_rule (codes "SLOTS") ∷ flag_rule (codes "large") ∷ []
 rules_for rows.Volume = word_rule (codes "FILE") ∷ []
 rules_for rows.Path = word_rule (codes "FILE") ∷ word_rule (codes "PATH") ∷ []
+rules_for rows.List = word_rule (codes "FILE") ∷ word_rule (codes "PATH") ∷ flag_rule (codes "escape") ∷ flag_rule (codes "null") ∷ []
 rules_for rows.Move = word_rule (codes "FILE") ∷ word_rule (codes "FROM") ∷ word_rule (codes "TO") ∷ []
 rules_for rows.Remove = word_rule (codes "FILE") ∷ word_rule (codes "PATH") ∷ short_flag_rule (codes "recursive") 114 ∷ []
 

@@ -1,18 +1,20 @@
 -- The lines that `ls` and `stat` print of an entry, made from a `Stat` of `vol_tree`, as the code makes them. The
--- proofs show that `stat_line` and `stat_facts` are the texts `line_of` and `facts_of`, which `Tasks` defines on the
--- entries of a tree.
+-- proofs show that `stat_line` and `stat_facts` are the texts `line_of` and `facts_of`, which `Listing` and `Tasks`
+-- define on the entries of a tree.
 use Rattle.std.specs.Prelude.{ℕ, List, [], ◌∷◌, take, codes, decimal}
 use Rattle.std.specs.List.{concat}
 use Rattle.vol_inode.specs.declared.entry.Kind.{Kind}
 use Rattle.vol_inode.specs.declared.entry.Kind.TheVariants as kinds
 use Rattle.vol_tree.specs.declared.stat.Stat.{Stat}
+use Rattle.sandbox_words.specs.declared.request.ListForm.{ListForm}
+use Rattle.volume_tasks.specs.Listing.{line_end, name_as}
 
 abbrev pub mark_of_kind : Kind → List ℕ
 mark_of_kind kinds.Directory = codes "d "
 mark_of_kind kinds.File = codes "f "
 
-unfoldable pub stat_line : Stat → List ℕ
-stat_line s = concat (mark_of_kind s.kind ∷ decimal s.size ∷ codes " " ∷ take s.name_length s.name ∷ codes "\n" ∷ [])
+unfoldable pub stat_line : ListForm → Stat → List ℕ
+stat_line form s = concat (mark_of_kind s.kind ∷ decimal s.size ∷ codes " " ∷ name_as form (take s.name_length s.name) ∷ line_end form ∷ [])
 
 abbrev pub word_of_kind : Kind → List ℕ
 word_of_kind kinds.Directory = codes "directory"

@@ -20,6 +20,9 @@ returns-in-Volume c = ap rules_for (sym c.in-Volume.is)
 pub returns-in-Path : goal.returns-in-Path
 returns-in-Path c = ap rules_for (sym c.in-Path.is)
 
+pub returns-in-List : goal.returns-in-List
+returns-in-List c = ap rules_for (sym c.in-List.is)
+
 pub returns-in-Move : goal.returns-in-Move
 returns-in-Move c = ap rules_for (sym c.in-Move.is)
 

@@ -10,7 +10,7 @@ use Rattle.vol_tree.specs.Calls.{next_child}
 use Rattle.path_walk.specs.Walk.{Asked}
 use Rattle.path_walk.proofs.Chaining.{asked_then}
 use Rattle.volume_tasks.specs.Streams.{AppendsPart}
-use Rattle.volume_tasks.specs.Tasks.{line_in, line_of, listing}
+use Rattle.volume_tasks.specs.Listing.{line_in, line_of, listing}
 use Rattle.volume_tasks.proofs.Asking.{works_on}
 use Rattle.volume_tasks.proofs.Listing.{next_child_is, no_child_left}
 use Rattle.volume_archive.proofs.Handed.{part_then}
@@ -34,18 +34,18 @@ loop-serial-preserved g c =
           let now : g.D.Device.honest c.loop-serial.volume.device = before.asked.kept.honest.0 h in
           let same : c.loop-serial.volume.tree ≡ T = before.asked.tree h in
           let found = rw c.in-Some.is at next.answer now in
-          let child = next_child_is T c.args.directory c.loop-serial.last c.in-Some.serial
+          let child = next_child_is c.args.form T c.args.directory c.loop-serial.last c.in-Some.serial
           (ap (λ (t : Tree). next_child t c.args.directory c.loop-serial.last) (sym same) ∙ sym found.0) in
           let is = (told.answer (next.asked.kept.honest.0 now)).0 in
           let entry_same = same_Some is.0 child.entry_is
           (sym is.1 ∙ (ap (λ (t : Tree). entry t c.in-Some.serial) (next.asked.tree now ∙ same) ∙ child.there)) in
-          let line = line_told c.in-Some.serial child.entry_is c.in_ok-stat.stat (subst (λ (e : Entry). IsStat c.in-Some.serial e c.in_ok-stat.stat) entry_same is.2) in
+          let line = line_told c.args.form c.in-Some.serial child.entry_is c.in_ok-stat.stat (subst (λ (e : Entry). IsStat c.in-Some.serial e c.in_ok-stat.stat) entry_same is.2) in
           let so_far = before.printed h in
           let out = g.W.Write.contents in (
-            so_far.0 ++ line_of child.entry_is,
+            so_far.0 ++ line_of c.args.form child.entry_is,
             Appends-trans (out c.args.out.now) (out c.loop-serial.out) (out c.print_entry.new.out) _ _ so_far.1
                 (subst (λ (text : List ℕ). Appends (out c.loop-serial.out) (out c.print_entry.new.out) text) line c.in_ok-print_entry.ensures.all),
-            rw c.number-last.ensures (so_far.2 ∙ (ap (λ (xs : List ℕ). so_far.0 ++ xs) child.lines_are ∙ sym (append_assoc so_far.0 (line_of child.entry_is) _))),
+            rw c.number-last.ensures (so_far.2 ∙ (ap (λ (xs : List ℕ). so_far.0 ++ xs) child.lines_are ∙ sym (append_assoc so_far.0 (line_of c.args.form child.entry_is) _))),
           );
     }
 
@@ -58,19 +58,19 @@ returns-in_err-print_entry-clause-prints g c h =
     let now : g.D.Device.honest c.loop-serial.volume.device = before.asked.kept.honest.0 h in
     let same : c.loop-serial.volume.tree ≡ T = before.asked.tree h in
     let found = rw c.in-Some.is at next.answer now in
-    let child = next_child_is T c.args.directory c.loop-serial.last c.in-Some.serial
+    let child = next_child_is c.args.form T c.args.directory c.loop-serial.last c.in-Some.serial
     (ap (λ (t : Tree). next_child t c.args.directory c.loop-serial.last) (sym same) ∙ sym found.0) in
     let is = (c.in_ok-stat.ensures.answer (next.asked.kept.honest.0 now)).0 in
     let entry_same = same_Some is.0 child.entry_is
     (sym is.1 ∙ (ap (λ (t : Tree). entry t c.in-Some.serial) (next.asked.tree now ∙ same) ∙ child.there)) in
-    let line = line_told c.in-Some.serial child.entry_is c.in_ok-stat.stat (subst (λ (e : Entry). IsStat c.in-Some.serial e c.in_ok-stat.stat) entry_same is.2) in
+    let line = line_told c.args.form c.in-Some.serial child.entry_is c.in_ok-stat.stat (subst (λ (e : Entry). IsStat c.in-Some.serial e c.in_ok-stat.stat) entry_same is.2) in
     let so_far = before.printed h in
     let out = g.W.Write.contents in
-    let rest = flat_map (line_in c.args.directory) (drop c.in-Some.serial T) in
-    let all : so_far.0 ++ (line_of child.entry_is ++ rest) ≡ listing T c.args.directory = sym (so_far.2 ∙ ap (λ (xs : List ℕ). so_far.0 ++ xs) child.lines_are) in
-    stream_refused (listing T c.args.directory) (out c.args.out.now) (out c.print_entry.new.out) c.from_residual-in_err-print_entry.result
+    let rest = flat_map (line_in c.args.form c.args.directory) (drop c.in-Some.serial T) in
+    let all : so_far.0 ++ (line_of c.args.form child.entry_is ++ rest) ≡ listing c.args.form T c.args.directory = sym (so_far.2 ∙ ap (λ (xs : List ℕ). so_far.0 ++ xs) child.lines_are) in
+    stream_refused (listing c.args.form T c.args.directory) (out c.args.out.now) (out c.print_entry.new.out) c.from_residual-in_err-print_entry.result
     (subst (λ (xs : List ℕ). AppendsPart (out c.args.out.now) (out c.print_entry.new.out) xs) all
-    (part_then (out c.args.out.now) (out c.loop-serial.out) (out c.print_entry.new.out) so_far.0 (line_of child.entry_is) rest so_far.1
+    (part_then (out c.args.out.now) (out c.loop-serial.out) (out c.print_entry.new.out) so_far.0 (line_of c.args.form child.entry_is) rest so_far.1
     (subst (λ (text : List ℕ). AppendsPart (out c.loop-serial.out) (out c.print_entry.new.out) text) line c.in_err-print_entry.ensures.part)))
     c.from_residual-in_err-print_entry.ensures.1
 
@@ -78,11 +78,11 @@ pub returns-clause-prints : goal.returns-clause-prints
 returns-clause-prints g c h =
     let before = c.loop-serial.invariant in
     let found = rw c.in_default.is at c.in_ok-serial.ensures.answer (before.asked.kept.honest.0 h) in
-    let none = no_child_left c.args.volume.now.tree c.args.directory c.loop-serial.last
+    let none = no_child_left c.args.form c.args.volume.now.tree c.args.directory c.loop-serial.last
     (ap (λ (t : Tree). next_child t c.args.directory c.loop-serial.last) (sym (before.asked.tree h)) ∙ sym found.0) in
     let so_far = before.printed h in
     let all = so_far.2 ∙ (ap (λ (xs : List ℕ). so_far.0 ++ xs) none ∙ append-nil so_far.0) in (
-      listing c.args.volume.now.tree c.args.directory,
+      listing c.args.form c.args.volume.now.tree c.args.directory,
       refl,
       subst (λ (text : List ℕ). Appends (g.W.Write.contents c.args.out.now) (g.W.Write.contents c.loop-serial.out) text) (sym all) so_far.1,
     )

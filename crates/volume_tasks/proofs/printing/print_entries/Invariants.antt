@@ -2,7 +2,7 @@ use Rattle.std.proofs.Common.{◌≡◌, ◌-◌, ◌++◌, ℕ, List, drop, fal
 use Rattle.std.specs.List.{flat_map}
 use Rattle.std.specs.Io.KnownBytes.{Appends}
 use Rattle.path_walk.specs.Walk.{Asked}
-use Rattle.volume_tasks.specs.Tasks.{line_in, listing}
+use Rattle.volume_tasks.specs.Listing.{line_in, listing}
 use Rattle.volume_tasks.proofs.printing.print_entries.Given as goal
 use Rattle.volume_tasks.specs.internal.Working.{IsWorking}
 
@@ -12,7 +12,7 @@ invariant-loop-serial g l = record {
   working : IsWorking l.volume;
   asked : Asked g.D.Device.honest g.D.Device.disk g.D.Device.size g.D.Device.failures l.initial.volume l.volume false;
   printed : g.D.Device.honest l.initial.volume.device → (text : List ℕ) × Appends (g.W.Write.contents l.initial.out) (g.W.Write.contents l.out) text
-      × (listing l.initial.volume.tree l.directory ≡ text ++ flat_map (line_in l.directory) (drop l.last l.initial.volume.tree));
+      × (listing l.form l.initial.volume.tree l.directory ≡ text ++ flat_map (line_in l.form l.directory) (drop l.last l.initial.volume.tree));
 }
 
 abbrev pub decreases-loop-serial : goal.decreases-loop-serial
