@@ -230,10 +230,10 @@ def check_places(it):
             raise Refused(f"{shown(host)}: there is something else than a {'folder' if is_folder else 'file'}")
 
 
-def content(path, most):
+def content(path, most, links=True):
     """The bytes of a regular file, which may not be longer."""
     try:
-        fd = os.open(path, os.O_RDONLY | os.O_NONBLOCK | os.O_CLOEXEC)
+        fd = os.open(path, os.O_RDONLY | os.O_NONBLOCK | os.O_CLOEXEC | (0 if links else os.O_NOFOLLOW))
         try:
             it = os.fstat(fd)
             if not stat.S_ISREG(it.st_mode):
@@ -279,7 +279,7 @@ def under(host, links):
                 waiting.append((path + b"/", it.path))
                 yield path, None
             else:
-                yield path, content(it.path, MOST_FILE)
+                yield path, content(it.path, MOST_FILE, links)
 
 
 def given(inputs, links):
@@ -608,10 +608,19 @@ def placed(it, result):
                 write(own, inside)
         for own, host in moves:
             former = beside(host, b"old")
-            if os.path.isdir(own) and os.path.isdir(host):
-                os.rename(host, former)
-            os.rename(own, host)
-            removed(former)
+            for is_last in (*[False] * 99, True):      # another step may put its folder to the same place meanwhile
+                try:
+                    if os.path.isdir(own) and os.path.isdir(host):
+                        os.rename(host, former)
+                    os.rename(own, host)
+                    break
+                except OSError as error:
+                    if is_last or error.errno not in (errno.ENOTEMPTY, errno.EEXIST, errno.ENOENT) or not os.path.isdir(own):
+                        if os.path.isdir(former) and not os.path.lexists(host):
+                            os.rename(former, host)
+                        raise
+                finally:
+                    removed(former)
     except OSError as error:
         text = f"{shown(os.fsencode(error.filename or b''))}: {error.strerror}"
         if error.errno == errno.ENAMETOOLONG:
