@@ -68,6 +68,7 @@ NUMBERS = {"fuel": (1_000_000_000, 0, U64), "pages": (1_024, 0, 65_536), "values
 # 5,000,000 rounds of: local.get 0, i32.const 1, i32.sub, local.tee 0, br_if 0; with the units that they take
 KNOWN = (b"\0asm\1\0\0\0\1\4\1\x60\0\0\3\2\1\0\7\x0a\1\6_start\0\0\x0a\x19\1\x17\1\1\x7f\x41\xc0\x96\xb1\2\x21\0\3\x40\x20\0\x41\1\x6b\x22\0\x0d\0\x0b\x0b")
 KNOWN_UNITS = b"30000002"
+NO_NAMES, CONTROLS = {b"", b".", b".."}, bytes([*range(32), 127])
 # what whoever calls can mend; any other error is the machine's
 CALLERS = {errno.EACCES, errno.EPERM, errno.EROFS, errno.ENOENT, errno.ENOTDIR, errno.EISDIR, errno.ENAMETOOLONG, errno.ELOOP, errno.EXDEV, errno.ENOTEMPTY}
 
@@ -118,9 +119,8 @@ def sha(*parts):
 def inner(path):
     """The parts of a path below /in or /out. `.` is the folder itself."""
     parts = [] if path == b"." else path.split(b"/")
-    for part in parts:
-        if part in (b"", b".", b"..") or len(part) > 255 or any(it < 32 or it == 127 for it in part):
-            raise Refused(f"{shown(path)}: not a path below the guest's folder")
+    if not NO_NAMES.isdisjoint(parts) or len(path) > 255 and max(map(len, parts)) > 255 or len(path.translate(None, CONTROLS)) < len(path):
+        raise Refused(f"{shown(path)}: not a path below the guest's folder")
     try:
         path.decode("utf-8")
     except ValueError:
@@ -230,18 +230,21 @@ def check_places(it):
             raise Refused(f"{shown(host)}: there is something else than a {'folder' if is_folder else 'file'}")
 
 
-def content(path, most):
+def content(path, most, links=True):
     """The bytes of a regular file, which may not be longer."""
     try:
-        fd = os.open(path, os.O_RDONLY | os.O_NONBLOCK | os.O_CLOEXEC)
+        fd = os.open(path, os.O_RDONLY | os.O_NONBLOCK | os.O_CLOEXEC | (0 if links else os.O_NOFOLLOW))
         try:
             it = os.fstat(fd)
             if not stat.S_ISREG(it.st_mode):
                 raise Refused(f"{shown(path)}: not a regular file")
-            parts, size = [], 0
-            while size <= most and (part := os.read(fd, min(max(it.st_size, 1 << 16), most + 1 - size))):
+            parts, size, asked = [], 0, min(it.st_size, most) + 1
+            while size <= most and (part := os.read(fd, asked)):
                 parts.append(part)
                 size += len(part)
+                if size == it.st_size < asked:     # a byte more was asked for, so this is the end
+                    break
+                asked = min(1 << 16, most + 1 - size)
         finally:
             os.close(fd)
     except OSError as error:
@@ -276,7 +279,7 @@ def under(host, links):
                 waiting.append((path + b"/", it.path))
                 yield path, None
             else:
-                yield path, content(it.path, MOST_FILE)
+                yield path, content(it.path, MOST_FILE, links)
 
 
 def given(inputs, links):
@@ -369,9 +372,12 @@ class Room:
         while True:
             self.path = os.path.join(self.parent, self.mark + os.urandom(8).hex().encode())
             os.mkdir(self.path, 0o700)
-            self.held = os.open(self.path, os.O_RDONLY | os.O_DIRECTORY | os.O_CLOEXEC)
+            try:
+                self.held = os.open(self.path, os.O_RDONLY | os.O_DIRECTORY | os.O_CLOEXEC)
+            except FileNotFoundError:          # another one may have swept it before it was held
+                continue
             fcntl.flock(self.held, fcntl.LOCK_EX)
-            if os.path.exists(self.path):      # another one may have swept it between the two
+            if os.path.exists(self.path):
                 return self
             os.close(self.held)
 
@@ -602,10 +608,19 @@ def placed(it, result):
                 write(own, inside)
         for own, host in moves:
             former = beside(host, b"old")
-            if os.path.isdir(own) and os.path.isdir(host):
-                os.rename(host, former)
-            os.rename(own, host)
-            removed(former)
+            for is_last in (*[False] * 99, True):      # another step may put its folder to the same place meanwhile
+                try:
+                    if os.path.isdir(own) and os.path.isdir(host):
+                        os.rename(host, former)
+                    os.rename(own, host)
+                    break
+                except OSError as error:
+                    if is_last or error.errno not in (errno.ENOTEMPTY, errno.EEXIST, errno.ENOENT) or not os.path.isdir(own):
+                        if os.path.isdir(former) and not os.path.lexists(host):
+                            os.rename(former, host)
+                        raise
+                finally:
+                    removed(former)
     except OSError as error:
         text = f"{shown(os.fsencode(error.filename or b''))}: {error.strerror}"
         if error.errno == errno.ENAMETOOLONG:
@@ -723,9 +738,13 @@ def key_of(it, program, module, stdin, tree, sectors, slots):
         parts.append(b"-" if it[name] is None else b"%d" % it[name])
     for some in (it["words"], it["env"], [b"%d" % one for one in sorted(set(it["exit"]))], *(sorted(path for path, _ in it[name]) for name in ("out", "out-dir"))):
         parts += [b"%d" % len(some), *some]
-    for path in sorted(tree):
-        parts += [path, b"folder" if tree[path] is None else b"file", tree[path] or b""]
-    return sha(*(one for part in parts for one in (b"%d:" % len(part), part)))
+    def files():
+        for path in sorted(tree):
+            inside = tree[path]
+            yield b"%d:%b6:folder0:" % (len(path), path) if inside is None else b"%d:%b4:file%d:" % (len(path), path, len(inside))
+            if inside:
+                yield inside
+    return sha(*(one for part in parts for one in (b"%d:" % len(part), part)), *files())
 
 
 def done_by(it, program, module, stdin, tree, sectors, slots):

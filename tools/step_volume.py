@@ -6,6 +6,7 @@ import os
 import struct
 
 SECTOR, LOG, MOST_SECTORS, MOST_SLOTS, MOST_FILE = 512, 122, 65_536, 8_192, 8_483_840
+ZEROS, MOST_PARTS = bytes(SECTOR), 1_000           # of a write: the kernel takes 1,024
 
 
 def needs(size):
@@ -34,12 +35,21 @@ def make_volume(path, tree, sectors, slots):
         inner_pointers, behind = pointers(blocks, free) if blocks else (b"", [])
         table.append(struct.pack("<BB2xII256s240s4x", 3 if inside is None else 4, len(name), serials[above], len(inside or b""), name, inner_pointers))
         if blocks:
-            data += [inside, bytes(-len(inside) % SECTOR), *behind]
+            data += [inside, ZEROS[:-len(inside) % SECTOR], *behind]
             free += blocks + len(behind)
     with open(path, "xb", buffering=0) as file:
         file.truncate(sectors * SECTOR)
-        for at, bytes_there in [(0, struct.pack("<8sIII", b"WASMVOLU", 2, sectors, slots)), (LOG, b"".join(table)), (LOG + slots, b"".join(data))]:
-            put(file.fileno(), bytes_there, at * SECTOR)
+        for at, parts in [(0, [struct.pack("<8sIII", b"WASMVOLU", 2, sectors, slots)]), (LOG, [b"".join(table)]), (LOG + slots, data)]:
+            put_all(file.fileno(), parts, at * SECTOR)
+
+
+def put_all(fd, parts, at):
+    for first in range(0, len(parts), MOST_PARTS):
+        some = parts[first:first + MOST_PARTS]
+        size, done = sum(map(len, some)), os.pwritev(fd, some, at)
+        if done < size:
+            put(fd, b"".join(some)[done:], at + done)
+        at += size
 
 
 def put(fd, inside, at):
@@ -57,17 +67,16 @@ class Left:
         head, table = os.pread(self.fd, 2 * SECTOR, 0), os.pread(self.fd, slots * SECTOR, LOG * SECTOR)
         if len(table) != slots * SECTOR or head[:20] != struct.pack("<8sIII", b"WASMVOLU", 2, sectors, slots) or any(head[SECTOR:]):
             raise ValueError("it isn't as a run leaves it")
-        below = {}
-        for serial in range(1, slots + 1):
-            slot = table[(serial - 1) * SECTOR:serial * SECTOR]
-            if slot[0]:
-                below.setdefault(struct.unpack_from("<I", slot, 4)[0], []).append((slot[12:12 + slot[1]], serial, slot))
+        below, folders = {}, memoryview(table).cast("I")[1::SECTOR // 4].tolist()      # of each slot the folder that it is in
+        for serial in [at + 1 for at, kind in enumerate(table[::SECTOR]) if kind]:
+            start = (serial - 1) * SECTOR
+            below.setdefault(folders[serial - 1], []).append((table[start + 12:start + 12 + table[start + 1]], serial, start))
         out = next(serial for name, serial, _ in below[1] if name == b"out")
         self.slots, waiting = {}, [(b"", out)]
         while waiting:
             above, folder = waiting.pop()
-            for name, serial, slot in below.get(folder, ()):
-                self.slots[above + name] = slot
+            for name, serial, start in below.get(folder, ()):
+                self.slots[above + name] = table[start:start + SECTOR]
                 waiting.append((above + name + b"/", serial))
 
     def close(self):

@@ -5,7 +5,8 @@ import json
 import os
 import sys
 
-from page_parts import name, number, page, share, shown
+sys.path.append(os.path.join(os.path.dirname(os.path.realpath(__file__)), "../../tools"))
+from page_parts import name, number, page, share, shown  # noqa: E402
 
 # verdict: its word in a cell, its letters where there are many tests, its color
 KINDS = {"accepted": ("ok", "ok", "green"), "wrong answer": ("wrong", "WA", "red"), "exit": ("exit", "EX", "purple"),
