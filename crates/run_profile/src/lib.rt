@@ -1,0 +1,6 @@
+//! Where the fuel of a run went: stacks of functions, each with the units that were taken there.
+#![tactic(auto)]
+
+mod stacks;
+
+pub use stacks::Profile;
