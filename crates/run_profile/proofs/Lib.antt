@@ -1,2 +1,3 @@
 -- What proofs cite.
 pub mod Trees
+pub mod Lines

@@ -54,15 +54,16 @@ grows_on a b c first next = record {
 pub keeps_stack : (a b : Stacks) → Grows a b → (node : ℕ) (stack : List ℕ) → IsStack a.calls node stack → IsStack b.calls node stack
 keeps_stack a b grows node stack is = subst (λ calls. IsStack calls node stack) (sym grows.calls) (still_stack grows.added is)
 
+-- what is left from here on begins with what stands here
+pub split : (xs : List ℕ) (i : ℕ) → i < length xs → drop i xs ≡ slice_index xs i ∷ drop (suc i) xs
+split [] i small = elim small [ ]
+split (x ∷ xs) zero small = refl
+split (x ∷ xs) (suc i) small = split xs i (omega (arith, small))
+
 -- the outermost of these functions that is left is on top of those that were there
 pub one_further : (s : Stacks) (functions : List ℕ) (n k caller : ℕ) (call : Call) → n < length functions → call.function ≡ slice_index functions n → slice_get s.calls k ≡ Some call
     → IsStack s.calls call.caller (drop (suc n) functions) → IsStack s.calls (suc k) (drop n functions)
 one_further s functions n k caller call small is at below = subst (IsStack s.calls (suc k)) (ap (λ f. f ∷ drop (suc n) functions) is ∙ sym (split functions n small)) (above k call (drop (suc n) functions) at below)
-  where
-    split : (xs : List ℕ) (i : ℕ) → i < length xs → drop i xs ≡ slice_index xs i ∷ drop (suc i) xs
-    split [] i small = elim small [ ]
-    split (x ∷ xs) zero small = refl
-    split (x ∷ xs) (suc i) small = split xs i (omega (arith, small))
 
 -- what is inserted and wasn't there goes last
 pub goes_last : {X : Type 0} (present : Bool) (old new : List X) (x : X) → new ≡ (if present then old else old ++ x ∷ []) → true ≡ not present → new ≡ old ++ x ∷ []
@@ -104,3 +105,15 @@ cut_grows old grown cut grows is = subst (Grows old) (sym is) (record { added = 
 pub cut_node : (grown cut : Stacks) (functions : List ℕ) (node left_out : ℕ) → cut ≡ record grown { is_cut = true } → IsStack grown.calls node (drop left_out functions) → IsNodeOf cut functions node
 cut_node grown cut functions node left_out is stack =
     subst (λ (s : Stacks). IsNodeOf s functions node) (sym is) (record { left_out = left_out; stack = stack; whole = λ whole. absurd (true≢false whole) })
+
+-- one function more is found, and the node below it is next
+pub found_below : (calls : List Call) (node at : ℕ) (call : Call) (found more : List ℕ) → 0 < at → slice_get calls (at - 1) ≡ Some call → more ≡ found ++ call.function ∷ []
+    → ((below : List ℕ) → IsStack calls at below → IsStack calls node (found ++ below)) → (below : List ℕ) → IsStack calls call.caller below → IsStack calls node (more ++ below)
+found_below calls node at call found more some there is so below rest =
+    let next : suc (at - 1) ≡ at = omega (arith, some) in
+    subst (IsStack calls node) (sym (ap (λ (xs : List ℕ). xs ++ below) is ∙ append_assoc found (call.function ∷ []) below))
+    (so (call.function ∷ below) (subst (λ (n : ℕ). IsStack calls n (call.function ∷ below)) next (above (at - 1) call below there rest)))
+
+-- all are found
+pub found_all : (calls : List Call) (node at : ℕ) (found : List ℕ) → at ≡ 0 → ((below : List ℕ) → IsStack calls at below → IsStack calls node (found ++ below)) → IsStack calls node found
+found_all calls node at found is so = subst (IsStack calls node) (append-nil found) (so [] (subst (λ (n : ℕ). IsStack calls n []) (sym is) bottom))

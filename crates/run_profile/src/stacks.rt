@@ -1,6 +1,6 @@
 //! Stacks of functions as a tree.
 
-ghost use Rattle.std.specs.Prelude.{ℕ, ◌≡◌, ◌+◌, ◌<◌, ◌^◌, ◌≤◌, [], ◌∷◌, ◌++◌, ◌⊎◌, Some, suc, true, false, IfOk, IfSome, length, slice_get, slice_index, sum, drop, length, replicate};
+ghost use Rattle.std.specs.Prelude.{ℕ, ◌≡◌, ◌+◌, ◌-◌, ◌<◌, ◌^◌, ◌≤◌, [], ◌∷◌, ◌++◌, ◌⊎◌, Some, suc, true, false, IfOk, IfSome, length, slice_get, slice_index, sum, drop, length, replicate};
 ghost use Rattle.run_profile.specs.Stacks.{AddsUnits, Grows, IsNodeOf, IsStack};
 
 use indexmap::IndexSet;
@@ -125,5 +125,44 @@ impl Profile {
             }
         }
         node
+    }
+
+    /// How many nodes there are, the bottom among them.
+    pub(crate) fn nodes(&self) -> usize
+        ensures { result ≡ length self.now.units }
+    {
+        self.units.len()
+    }
+
+    /// The units that were taken at a node.
+    pub(crate) fn units_at(&self, node: usize) -> u64
+        requires { node < length self.now.units }
+        ensures { result ≡ slice_index self.now.units node }
+    {
+        self.units[node]
+    }
+
+    /// The function of a node, and the node that called it.
+    fn call_at(&self, node: usize) -> Call
+        requires { (0 < node) × (node < length self.now.units) }
+        ensures there { slice_get self.now.calls (node - 1) ≡ Some result }
+        ensures below { result.caller < node }
+    {
+        self.calls[node - 1]
+    }
+
+    /// The functions that are at work at a node, the innermost first.
+    pub(crate) fn functions_at(&self, alloc: Global, node: usize) -> Result<Vec<usize>, AllocError>
+        requires { node < length self.now.units }
+        ensures { IfOk result (λ functions. IsStack self.now.calls node functions.items) }
+    {
+        let mut functions = Vec::new(alloc);
+        let mut at = node;
+        while at > 0 {
+            let call = self.call_at(at);
+            functions.push(call.function)?;
+            at = call.caller;
+        }
+        Ok(functions)
     }
 }
