@@ -1,0 +1,3 @@
+-- What proofs cite.
+pub mod Trees
+pub mod Lines
