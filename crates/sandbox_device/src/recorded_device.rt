@@ -135,21 +135,21 @@ impl Device for RecordedDevice {
         now_may_stay d.sectors d.history.first d.history.done d.history.outcomes d.agrees };
 
     ghost begins = { λ end d. record {
-        began = refl;
-        is_recorded = refl;
-        more = [];
-        recorded = begins_itself d.history.done;
-        past = past_same end
-            (written_by d.sectors d.history.first d.history.done d.history.outcomes);
+      began = refl;
+      is_recorded = refl;
+      more = [];
+      recorded = begins_itself d.history.done;
+      past = past_same end
+          (written_by d.sectors d.history.first d.history.done d.history.outcomes);
     } };
 
     ghost goes_further = { λ end a b c one two. record {
-        began = two.began ∙ one.began;
-        is_recorded = two.is_recorded ∙ one.is_recorded;
-        more = one.more ++ two.more;
-        recorded = begins_further a.history.done b.history.done c.history.done one.more two.more
-            one.recorded two.recorded;
-        past = past_then end _ _ _ one.past two.past;
+      began = two.began ∙ one.began;
+      is_recorded = two.is_recorded ∙ one.is_recorded;
+      more = one.more ++ two.more;
+      recorded = begins_further a.history.done b.history.done c.history.done one.more two.more
+          one.recorded two.recorded;
+      past = past_then end _ _ _ one.past two.past;
     } };
 
     ghost leaves_past = { λ end first later h from. from.past };
