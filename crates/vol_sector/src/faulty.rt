@@ -107,15 +107,15 @@ impl<D: Device, const FAILS_AT: u64> Device for FaultyDevice<D, FAILS_AT> {
     ghost may_stay = { λ f h. D.may_stay f.device h };
 
     ghost begins = { λ end f. record {
-        device = D.begins end f.device;
-        honest = λ h. h;
-        past = λ h. past_same end (counting f.count.operations.outcomes (D.disk f.device));
+      device = D.begins end f.device;
+      honest = λ h. h;
+      past = λ h. past_same end (counting f.count.operations.outcomes (D.disk f.device));
     } };
 
     ghost goes_further = { λ end a b c one two. record {
-        device = D.goes_further end a.device b.device c.device one.device two.device;
-        honest = λ h. two.honest (one.honest h);
-        past = λ h. past_then end _ _ _ (one.past h) (two.past (one.honest h));
+      device = D.goes_further end a.device b.device c.device one.device two.device;
+      honest = λ h. two.honest (one.honest h);
+      past = λ h. past_then end _ _ _ (one.past h) (two.past (one.honest h));
     } };
 
     ghost leaves_past = { λ end first later h from. from.past h };

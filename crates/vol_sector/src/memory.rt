@@ -236,18 +236,18 @@ impl Device for MemoryDevice {
     ghost may_stay = { λ m h. stays_left (image_of m.first.items) m.history.items };
 
     ghost begins = { λ end m. record {
-        began = refl;
-        more = [];
-        recorded = begins_itself m.history.items;
-        past = past_same end (counting m.operations.outcomes (recorded (image_of m.first.items) m.history.items));
+      began = refl;
+      more = [];
+      recorded = begins_itself m.history.items;
+      past = past_same end (counting m.operations.outcomes (recorded (image_of m.first.items) m.history.items));
     } };
 
     ghost goes_further = { λ end a b c one two. record {
-        began = two.began ∙ one.began;
-        more = one.more ++ two.more;
-        recorded = begins_further a.history.items b.history.items c.history.items one.more two.more
-            one.recorded two.recorded;
-        past = past_then end _ _ _ one.past two.past;
+      began = two.began ∙ one.began;
+      more = one.more ++ two.more;
+      recorded = begins_further a.history.items b.history.items c.history.items one.more two.more
+          one.recorded two.recorded;
+      past = past_then end _ _ _ one.past two.past;
     } };
 
     ghost leaves_past = { λ end first later h from. from.past };
