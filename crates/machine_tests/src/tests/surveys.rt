@@ -120,7 +120,7 @@ fn modules_that_are_refused(rt: HostRuntime) {
             ),
             (
                 &[PREAMBLE, TWO_FUNCTIONS, NAMES],
-                b"loads:no\nfault:7\ntext:a byte that has no meaning where it stands\noffset:27\nfunction:1\nname:\n",
+                b"loads:no\nfault:7\ntext:a byte in the module has no meaning where it stands\noffset:27\nfunction:1\nname:\n",
             ),
         ],
     );
