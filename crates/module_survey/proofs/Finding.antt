@@ -3,7 +3,7 @@ use Rattle.std.proofs.Common.{◌≡◌, ℕ, suc, ◌+◌, ◌-◌, ◌<◌, �
 use Rattle.std.proofs.lemmas.Bool.{lt-ltb, le-ltb, lt-leb}
 use Rattle.wasm_module.specs.Reading.{◌>>=◌, u32_at, sized_at, raw_of}
 use Rattle.module_survey.specs.declared.sections.Wanted.{Wanted}
-use Rattle.module_survey.specs.Places.{Section, section_of, is_wanted, find_section, holding_entry, name_among, Exported, exported_of, exports_function, exported_among}
+use Rattle.module_survey.specs.Places.{Section, section_of, is_wanted, find_section, holding_entry, nth_entry, name_among, Exported, exported_of, exports_function, exported_among}
 
 -- of `most` turns the one after the first i
 one_less : (most i : ℕ) → i < most → most - i ≡ suc (most - (i + 1))
@@ -61,6 +61,21 @@ module _ (count i left : ℕ) (rest : List ℕ) where
 
   pub entry_done : count ≤ i → holding_entry (count - i) i left rest ≡ None
   entry_done h = ap (λ (n : ℕ). holding_entry n i left rest) (none_left count i h)
+
+-- ---- the entry after so many others
+
+module _ (before i : ℕ) (rest : List ℕ) where
+  pub nth_turn : i < before → (o : Option (List ℕ × List ℕ)) → sized_at raw_of rest ≡ o → nth_entry (before - i) rest ≡ (o >>= λ e. nth_entry (before - (i + 1)) e.1)
+  nth_turn h o is = ap (λ (n : ℕ). nth_entry n rest) (one_less before i h) ∙ ap (λ (o : Option (List ℕ × List ℕ)). o >>= λ e. nth_entry (before - (i + 1)) e.1) is
+
+  pub nth_none : i < before → sized_at raw_of rest ≡ None → nth_entry (before - i) rest ≡ None
+  nth_none h none = nth_turn h None none
+
+  pub nth_on : (content after : List ℕ) → i < before → sized_at raw_of rest ≡ Some (content, after) → nth_entry (before - i) rest ≡ nth_entry (before - (i + 1)) after
+  nth_on content after h is = nth_turn h (Some (content, after)) is
+
+  pub nth_done : before ≤ i → nth_entry (before - i) rest ≡ sized_at raw_of rest
+  nth_done h = ap (λ (n : ℕ). nth_entry n rest) (none_left before i h)
 
 -- ---- a name
 

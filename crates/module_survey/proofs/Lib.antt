@@ -1,3 +1,5 @@
 pub mod Handed
 pub mod Lists
 pub mod Finding
+pub mod Entries
+pub mod Spelled

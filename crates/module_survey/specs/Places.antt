@@ -1,13 +1,15 @@
 -- Where in a module's bytes functions stand, and what they are called. Sections are found by their ids and sizes, the
 -- custom section `name` by its name too, so this speaks also of bytes that spell no module. Only the bytes up to the
 -- end of the imports have to be a module, so that imported functions can be counted.
-use Rattle.std.specs.Prelude.{◌≡◌, ℕ, zero, suc, ◌+◌, ◌-◌, ◌==◌, ◌&&◌, nat_le, nat_lt, Bool, false, List, length, take, drop, Option, Some, None, if◌then◌else◌, codes, bytes_eq}
+use Rattle.std.specs.Prelude.{◌≡◌, ℕ, zero, suc, ◌+◌, ◌-◌, ◌==◌, ◌&&◌, nat_le, nat_lt, Bool, false, List, ◌++◌, length, take, drop, Option, Some, None, if◌then◌else◌, codes, bytes_eq}
 use Rattle.std.specs.List.{filter_map}
 use Rattle.std.specs.Option.{option_map_or}
+use Rattle.wasm_module.specs.declared.module.Body.{Body}
 use Rattle.wasm_module.specs.declared.module.Module.{Module}
 use Rattle.wasm_module.specs.Module.{Spells}
 use Rattle.wasm_module.specs.Reading.{◌>>=◌, next_at, u32_at, sized_at, raw_of}
 use Rattle.wasm_valid.specs.Validity.{kinds_of, imported_function}
+use Rattle.wasm_valid.specs.Offsets.{StandsBehind}
 use Rattle.module_survey.specs.declared.sections.Wanted.{Wanted}
 use Rattle.module_survey.specs.declared.sections.Wanted.TheVariants.{Code, AfterImports, Names, FunctionNames, Exports}
 
@@ -58,6 +60,25 @@ holding_entry (suc n) index left entries = sized_at raw_of entries >>= λ e.
 abbrev pub own_function_at : List ℕ → ℕ → Option ℕ
 own_function_at bytes offset = module_section Code bytes >>= λ s. u32_at s.content >>= λ n.
     holding_entry n.0 0 (length bytes - length s.rest - offset) n.1
+
+-- the content of the entry of the code section after so many others, and the bytes behind it
+abbrev pub nth_entry : ℕ → List ℕ → Option (List ℕ × List ℕ)
+nth_entry zero entries = sized_at raw_of entries
+nth_entry (suc n) entries = sized_at raw_of entries >>= λ e. nth_entry n e.1
+
+-- the content of the entry of the module's own function, counted from 0, and all bytes of the module behind it
+abbrev pub own_entry : List ℕ → ℕ → Option (List ℕ × List ℕ)
+own_entry bytes own = module_section Code bytes >>= λ s. u32_at s.content >>= λ n.
+    if nat_lt own n.0 then (nth_entry own n.1 >>= λ e. Some (e.0, e.1 ++ s.rest)) else None
+
+-- In the entry of this function of the module's own stand the bytes of this body, and at this offset of the module its
+-- instruction of this index: behind the locals and the instructions before it.
+pub record IsInstructionAt (bytes : List ℕ) (own : ℕ) (b : Body) (index offset : ℕ) : Type 0 where
+  pub front : List ℕ
+  pub behind : List ℕ
+  pub entry : own_entry bytes own ≡ Some (b.bytes, behind)
+  pub parts : bytes ≡ front ++ (b.bytes ++ behind)
+  pub offset_is : (before : List ℕ) → StandsBehind b index before → offset ≡ length front + length before
 
 -- the bytes up to the end of the imports, which are a module by themselves where they are read
 abbrev pub up_to_imports : List ℕ → List ℕ

@@ -14,5 +14,5 @@ mod words;
 
 pub use links::Links;
 pub use naming::{add_called, called};
-pub use places::function_name;
+pub use places::{function_name, instruction_offset, instructions_stand_in_the_bytes};
 pub use surveying::survey;

@@ -1,16 +1,20 @@
 //! Where functions stand in a module's bytes, and what they are called.
 
-ghost use Rattle.std.specs.Prelude.{◌≡◌, IfOk};
+ghost use Rattle.std.specs.Prelude.{◌≡◌, List, ℕ, IfOk, IfSome, IfNone, Some, length, slice_get};
 ghost use Rattle.std.specs.Option.{option_map};
-ghost use Rattle.module_survey.specs.Places.{function_name, holding_entry, IsFunctionAt, name_among, own_function_at, up_to_imports};
+ghost use Rattle.wasm_module.specs.declared.module.Body.{Body as BodyValue};
+ghost use Rattle.wasm_module.specs.declared.module.Module.{Module as ModuleValue};
+ghost use Rattle.wasm_module.specs.Module.{Spells};
+ghost use Rattle.wasm_valid.specs.Offsets.{StandsBehind};
+ghost use Rattle.module_survey.specs.Places.{function_name, holding_entry, IsFunctionAt, IsInstructionAt, name_among, nth_entry, own_entry, own_function_at, up_to_imports};
 ghost use Rattle.module_survey.specs.internal.Counting.{IsCountedAfter};
 
 use crate::sections::{Wanted, find, module_section, number, sized};
 use std::alloc::Global;
 use std::io;
 use std::io::{Error, ErrorKind};
-use wasm_module::{LoadFault, decode};
-use wasm_valid::imported_functions;
+use wasm_module::{Body, LoadFault, decode};
+use wasm_valid::{imported_functions, instruction_place};
 
 /// The entry of the code section that holds a byte, with so many bytes from it to the entries' end.
 fn holding_entry(count: u32, left: usize, entries: &[u8]) -> Option<u32>
@@ -36,6 +40,52 @@ fn own_function_at(bytes: &[u8], offset: u32) -> Option<u32>
     let end = bytes.len().saturating_sub(section.rest.len());
     holding_entry(count, end.saturating_sub(offset as usize), entries)
 }
+
+/// The content of the entry of the code section after so many others, and the bytes behind it.
+fn nth_entry(before: usize, entries: &[u8]) -> Option<(&[u8], &[u8])>
+    ensures { option_map (λ e. (e.0.now, e.1.now)) result ≡ nth_entry before entries.now }
+{
+    let mut rest = entries;
+    for _ in 0..before {
+        let (_, after) = sized(rest)?;
+        rest = after;
+    }
+    sized(rest)
+}
+
+/// The content of the entry of the module's own function, and how many bytes of the module stand behind it.
+fn own_entry(bytes: &[u8], own: usize) -> Option<(&[u8], usize)>
+    ensures { option_map {U = List ℕ × ℕ} (λ e. (e.0.now, e.1)) result ≡ option_map {U = List ℕ × ℕ} (λ e. (e.0, length e.1)) (own_entry bytes.now own) }
+{
+    let section = module_section(Wanted::Code, bytes)?;
+    let (count, entries) = number(section.content)?;
+    if own >= count as usize {
+        return None;
+    }
+    let (content, after) = nth_entry(own, entries)?;
+    Some((content, after.len() + section.rest.len()))
+}
+
+/// Where the instruction of this index of a function's body begins, in bytes from the first of the module. The function is
+/// the module's own of this index, counted from 0; none where its entry in the code section isn't this body.
+pub fn instruction_offset(bytes: &[u8], own: usize, body: &Body<'_>, index: usize) -> Option<usize>
+    ensures found { IfSome result (λ offset. IsInstructionAt bytes.now own body.now index offset) }
+    ensures missing { IfNone result ((behind : List ℕ) → own_entry bytes.now own ≡ Some (body.now.bytes, behind) → ⊥) }
+{
+    let (content, behind) = own_entry(bytes, own)?;
+    if content != body.bytes.as_slice() {
+        return None;
+    }
+    let front = bytes.len() - behind - content.len();
+    Some(front.saturating_add(instruction_place(body, index)))
+}
+
+/// A law: in the bytes of a module the body of each of its own functions stands in the entry of that function, and each of
+/// its instructions behind the locals and the instructions before it.
+pub fn instructions_stand_in_the_bytes()
+    ensures { (bytes : List ℕ) (m : ModuleValue) (own : ℕ) (b : BodyValue) (index : ℕ) → Spells bytes m → slice_get m.bodies own ≡ Some b
+        → (behind : List ℕ) × (own_entry bytes own ≡ Some (b.bytes, behind)) × (before : List ℕ) × StandsBehind b index before }
+{}
 
 /// The bytes up to the end of the imports.
 fn up_to_imports(bytes: &[u8]) -> &[u8]

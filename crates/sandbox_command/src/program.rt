@@ -5,7 +5,7 @@ ghost use Rattle.std.specs.Io.KnownBytes.{Keeps};
 ghost use Rattle.std.specs.IoError.{error_kind};
 ghost use Rattle.clap.specs.Values.{kind_of};
 ghost use Rattle.sandbox_core.specs.Devices.{devices};
-ghost use Rattle.sandbox_core.specs.Session.{used_by};
+ghost use Rattle.sandbox_core.specs.Session.{limited_to, used_by};
 ghost use Rattle.sandbox_core.specs.Report.{ReportsCounted};
 ghost use Rattle.sandbox_command.specs.Status.{status_of, EndsWith, load_status, session_status};
 ghost use Rattle.sandbox_command.specs.Status.{volume_status, words_status, command_line_status};
@@ -355,7 +355,7 @@ fn run_within<'a, D: Device + Drop, R: Read + Drop, W1: Write + Drop, W2: Write 
     requires { (used_by session ≡ 0) × (session.host.generator ≡ None) }
     ensures module { result.0 ≡ session.entry.machine.valid }
     ensures counted { ReportsCounted (devices D.Device R.Read W1.Write W2.Write)
-        (with_seed run.now.seed session.entry) run.now.limits.fuel result.1 result.2 }
+        (with_seed run.now.seed (limited_to run.now.limits.values session.entry)) run.now.limits.fuel result.1 result.2 }
 {
     session.limit_values(run.limits.values as usize);
     seed(run, &mut session);

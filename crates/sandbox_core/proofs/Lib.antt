@@ -4,3 +4,4 @@ pub mod Safety
 pub mod Following
 pub mod Places
 pub mod Refusing
+pub mod Limiting

@@ -15,7 +15,7 @@ use Rattle.wasm_store.specs.declared.fault.InstanceFault.TheVariants.{Memory as 
 use Rattle.wasm_store.specs.Instantiation.{RefusedFor}
 use Rattle.wasm_steps.specs.declared.pause.Pause.{Pause}
 use Rattle.wasm_steps.specs.declared.pause.Pause.TheVariants.{Called}
-use Rattle.wasm_interp.specs.Machine.{Snapshot}
+use Rattle.wasm_interp.specs.Machine.{Snapshot, limited}
 use Rattle.wasm_interp.specs.Promise.{Starts, Resumed}
 use Rattle.wasi_fd.specs.Table.{table_of}
 use Rattle.wasi_calls.specs.declared.host.settings.Settings.{Settings}
@@ -50,6 +50,10 @@ module _ {D R W1 W2 : Type 0} where
   -- the same session, whose random bytes are those of a seed from now on
   abbrev pub seeded_by : ℕ → SessionState D R W1 W2 → SessionState D R W1 W2
   seeded_by seed s = record s { host = record s.host { generator = Some (seeded seed) } }
+
+  -- the same session, whose guest's stack has this many values at most from now on, or as many as find room already
+  abbrev pub limited_to : ℕ → SessionState D R W1 W2 → SessionState D R W1 W2
+  limited_to most s = record s { machine = limited most s.machine }
 
   -- what a session is made of beside its module
   abbrev pub given : Settings → Opened D → R → W1 → W2 → HostParts D R W1 W2

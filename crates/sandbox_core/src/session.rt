@@ -101,7 +101,7 @@ where
     W2: Write + Drop,
 {
     ghost use Rattle.wasi_calls.specs.host.Worlds.{stream_failed};
-    ghost use Rattle.sandbox_core.specs.Session.{used_by, seeded_by, Opens, Shares, HandsBack, IsRefused, Resumes};
+    ghost use Rattle.sandbox_core.specs.Session.{used_by, limited_to, seeded_by, Opens, Shares, HandsBack, IsRefused, Resumes};
 
     /// A session of the module, which has used nothing yet. The streams are the descriptors 0 to 2, and the preopened
     /// directories of the settings those from 3 on.
@@ -176,7 +176,7 @@ where
     /// Sets how many values the guest's stack has at most, of eight bytes each: a step that would leave more is refused memory as
     /// if the host had none. Fewer than 4,097 count as 4,097, and without this call they are 134,217,728. Set it before the run.
     pub fn limit_values(&mut self, most: usize)
-        ensures { self.new ≡ self.old }
+        ensures { self.new ≡ limited_to most self.old }
     {
         self.machine.limit_values(most)
     }

@@ -132,7 +132,7 @@ where
     W2: Write + Drop,
 {
     ghost use Rattle.wasi_calls.specs.host.Worlds.{stream_failed};
-    ghost use Rattle.sandbox_core.specs.Session.{used_by, seeded_by, Opens, Shares, HandsBack, IsRefused, Resumes, Finishes};
+    ghost use Rattle.sandbox_core.specs.Session.{used_by, limited_to, seeded_by, Opens, Shares, HandsBack, IsRefused, Resumes, Finishes};
 
     /// A session of a prepared module, as `Session::new` makes one. The settings have the pages that it was prepared for.
     pub fn new(
@@ -200,7 +200,7 @@ where
 
     /// Sets how many values the guest's stack has at most, as `Session::limit_values` does.
     pub fn limit_values(&mut self, most: usize)
-        ensures { self.new ≡ self.old }
+        ensures { self.new ≡ limited_to most self.old }
     {
         self.machine.limit_values(most)
     }

@@ -17,7 +17,7 @@ use Rattle.wasm_branch.specs.BranchTargets.{target, callees}
 use Rattle.wasm_steps.specs.Configuration.{Val, Instance, Code, code, label, frame, Configuration, code_of}
 use Rattle.wasm_lowering.proofs.Making.{drop_here}
 use Rattle.wasm_interp.specs.Stands.{IsInstanceOf}
-use Rattle.wasm_interp.specs.Frames.{Frame, flat, by_end, by_else, IsLeft, IsFrameOf, AreFrames, frame_of}
+use Rattle.wasm_interp.specs.Frames.{Frame, flat, by_end, by_else, IsLeft, IsFrameOf, AreFrames, AreCalls, AreFramesOf, frame_of}
 use Rattle.wasm_interp.specs.internal.BranchTables.{OwnFunction, HasTargets, Ends}
 use Rattle.wasm_interp.specs.internal.Standing.{Activation, Flat, Program, Ring, inside, Within, Caller, framed, under, IsActive, Back, Stands}
 use Rattle.wasm_interp.specs.internal.Programs.{program_of}
@@ -126,7 +126,7 @@ module _ (m : Module) (calls : List HostCall) (i : Instance) (v : IsValid m) (k 
         left = subst (λ z. IsLeft c [] (drop a.pc z)) flat_is l;
       }
 
-  told_framed : (pending : List ℕ) (ks : List Caller) (fs : List Activation) (t : OwnFunction) (a : Activation) (g : List Val) (n : ℕ) (c : Code) (inner : List Frame) → IsActive prog t a g n (under ks) → Back prog t ks fs → IsLeft c [] (drop a.pc t.code) → Told m i c inner
+  told_framed : (pending : List ℕ) (ks : List Caller) (fs : List Activation) (t : OwnFunction) (a : Activation) (g : List Val) (n : ℕ) (c : Code) (inner : List Frame) → IsActive prog t a g n (under ks) → Back prog t a.function ks fs → IsLeft c [] (drop a.pc t.code) → Told m i c inner
       → Told m i (framed pending ks n g c) (inner ++ (told_as a ∷ map told_as fs))
   told_framed pending [] [] t a g n c inner active b l h = λ outer all e. (told_as a, frame_is t a g n [] c active l, h (told_as a ∷ outer) all (e ∙ append_assoc inner (told_as a ∷ []) outer))
   told_framed pending [] (f ∷ fs) t a g n c inner active b l h = absurd b
@@ -138,12 +138,38 @@ module _ (m : Module) (calls : List HostCall) (i : Instance) (v : IsValid m) (k 
       subst (λ z. Told m i (framed pending ks q.arity q.locals (inside q.labels call)) z) (append_assoc inner (told_as a ∷ []) (told_as f ∷ map told_as fs))
       (told_framed pending ks fs b.0 f q.locals q.arity (inside q.labels call) (inner ++ (told_as a ∷ [])) b.1 b.3 left (told_inside m i q.labels call (inner ++ (told_as a ∷ [])) here))
 
-  -- those of a configuration that the machine stands for within a function
-  pub frames_told : (pending : List ℕ) (s : Flat) (c : Configuration) → Stands prog pending s c → AreFrames m i (code_of c) [] (told_as s.current ∷ map told_as s.suspended)
-  frames_told pending s c st =
+  -- each has called the one inside it
+  calls_told : (t : OwnFunction) (a : Activation) (ks : List Caller) (fs : List Activation) → Back prog t a.function ks fs → AreCalls m i (told_as a ∷ map told_as fs)
+  calls_told t a [] [] b = tt
+  calls_told t a [] (f ∷ fs) b = absurd b
+  calls_told t a (q ∷ ks) [] b = absurd b
+  calls_told t a (q ∷ ks) (f ∷ fs) b =
+      let e = text_at v.context m.types m.functions m.bodies k.owned k.are_own v.functions f.function b.0 b.1.text in
+      let text = is_text m calls i v k f.function b.0 b.1.text in
+      let flat_is : b.0.code ≡ flatten op.End b.0.nested = ap (λ (z : OwnFunction). z.code) e.is ∙ sym e.nests.1 ∙ ap (λ (z : OwnFunction). flatten op.End z.nested) (sym e.is) in (
+        record {
+          signature = b.0.signature;
+          body = record { locals = b.0.extra; code = b.0.nested };
+          callee = text.callee;
+          call = b.4.call;
+          behind = b.4.behind;
+          instruction = b.4.instruction;
+          stands = ap (λ z. slice_get z b.4.call) (sym flat_is) ∙ b.4.stands;
+          calls = b.4.calls;
+        },
+        calls_told b.0 f ks fs b.3,
+      )
+
+  -- the frames of a configuration
+  frames_at : (pending : List ℕ) (s : Flat) (c : Configuration) → Stands prog pending s c → AreFrames m i (code_of c) [] (told_as s.current ∷ map told_as s.suspended)
+  frames_at pending s c st =
       let all = told_as s.current ∷ map told_as s.suspended in
       let work : Code = inside st.labels (code st.vs st.body) in
       let left : IsLeft work [] (drop s.current.pc st.text.code) = left_inside st.text st.labels st.running.end st.running.leaves (code st.vs st.body) (drop s.current.pc st.text.code) st.running.goes_on (laid st.text _ _ s.current.pc st.running.end st.body st.running.branch_targets) in
       let told : Told m i work [] = told_inside m i st.labels (code st.vs st.body) [] (λ outer all e. e) in
       subst (λ (y : Configuration). AreFrames m i (code_of y) [] all) (sym st.is)
       (told_framed pending st.callers s.suspended st.text s.current st.locals st.arity work [] st.active st.back left told [] all (sym (append-nil all)))
+
+  -- those of a configuration that the machine stands for within a function
+  pub frames_told : (pending : List ℕ) (s : Flat) (c : Configuration) → Stands prog pending s c → AreFramesOf m i c (told_as s.current ∷ map told_as s.suspended)
+  frames_told pending s c st = record { frames = frames_at pending s c st; calls = calls_told st.text s.current st.callers s.suspended st.back }

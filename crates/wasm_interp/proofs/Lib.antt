@@ -8,3 +8,4 @@ pub mod Alike
 pub mod FastSteps
 pub mod Reading
 pub mod Framing
+pub mod Limiting

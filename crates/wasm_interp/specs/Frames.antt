@@ -1,7 +1,7 @@
 -- The frames of a configuration (section 4.2.12), as a backtrace tells them: which function each is of, and which of its
 -- instructions it goes on with. A configuration has the instructions that are left and no index, so a frame stands at a
 -- position where what is left is the rest of the function's flat list from there on.
-use Rattle.std.specs.Prelude.{◌≡◌, ◌≤◌, ◌⊎◌, ◌||◌, nat_lt, ℕ, suc, ◌+◌, List, [], ◌∷◌, ◌++◌, Option, None, Some, Bool, true, false, if◌then◌else◌, length, slice_get, drop, map}
+use Rattle.std.specs.Prelude.{◌≡◌, ◌≤◌, ◌⊎◌, ℕ, suc, ◌+◌, List, [], ◌∷◌, ◌++◌, Option, None, Some, Bool, true, false, if◌then◌else◌, length, slice_get, drop, map}
 use Rattle.wasm_module.specs.declared.instruction.Instruction.{Instruction}
 use Rattle.wasm_module.specs.declared.instruction.Instruction.TheVariants as op
 use Rattle.wasm_module.specs.declared.module.FuncType.{FuncType}
@@ -9,11 +9,11 @@ use Rattle.wasm_module.specs.declared.module.Module.{Module}
 use Rattle.wasm_module.specs.Instructions.{Instructions, done, plain, block, loop, if_then, if_else, invoke, flatten}
 use Rattle.wasm_steps.specs.declared.pause.Outcome.{Outcome}
 use Rattle.wasm_steps.specs.declared.pause.Outcome.TheVariants.{Exited, Trapped, OutOfFuel, OutOfMemory}
-use Rattle.wasm_steps.specs.Configuration.{Val, types, Function, own, Instance, Code, code, label, frame, stopped, Configuration, code_of, used_by}
+use Rattle.wasm_steps.specs.Configuration.{Val, types, Function, own, Instance, Code, code, label, frame, stopped, Configuration, code_of, used_by, NextIsPlain}
 use Rattle.wasm_steps.specs.Steps.{Reach}
 use Rattle.wasm_interp.specs.declared.activation.Activation.{Activation}
 use Rattle.wasm_interp.specs.declared.phase.Phase.{Phase}
-use Rattle.wasm_interp.specs.declared.phase.Phase.TheVariants.{Within, Between, Over}
+use Rattle.wasm_interp.specs.declared.phase.Phase.TheVariants.{Within, Between, Refused, Over}
 pub use Rattle.wasm_interp.specs.declared.frames.Frame.{Frame}
 use Rattle.wasm_interp.specs.internal.Driving.{NoCalls}
 use Rattle.wasm_interp.specs.Machine.{Snapshot}
@@ -62,6 +62,30 @@ AreFrames m i (label vs n k inner rest) outer all = AreFrames m i inner outer al
 AreFrames m i (frame vs n g inner rest) outer all = (f : Frame) × IsFrameOf m i f n g inner × AreFrames m i inner (f ∷ outer) all
 AreFrames m i (stopped w) outer all = all ≡ outer
 
+-- ---- calls
+
+-- Outside a function at work another one goes on behind a call of it: by its index, or by the table.
+pub record HasCalled (m : Module) (i : Instance) (caller f : Frame) : Type 0 where
+  pub signature : FuncType
+  pub body : Function
+  pub callee : slice_get i.callees (length m.imports + caller.own) ≡ Some (own signature body)
+  pub call : ℕ
+  pub behind : caller.next ≡ call + 1
+  pub instruction : Instruction
+  pub stands : slice_get (flatten op.End body.code) call ≡ Some instruction
+  pub calls : (instruction ≡ op.Call (length m.imports + f.own)) ⊎ ((y : ℕ) × (instruction ≡ op.CallIndirect y))
+
+-- each function but the innermost has called the one inside it
+abbrev pub AreCalls : Module → Instance → List Frame → Type 0
+AreCalls m i [] = Unit {0}
+AreCalls m i (f ∷ []) = Unit {0}
+AreCalls m i (f ∷ (caller ∷ fs)) = HasCalled m i caller f × AreCalls m i (caller ∷ fs)
+
+-- the frames of a configuration, the innermost first
+pub record AreFramesOf (m : Module) (i : Instance) (c : Configuration) (fs : List Frame) : Type 0 where
+  pub frames : AreFrames m i (code_of c) [] fs
+  pub calls : AreCalls m i fs
+
 -- ---- what a machine tells
 
 abbrev pub frame_of : Activation → Frame
@@ -70,18 +94,18 @@ frame_of a = record { own = a.function; next = a.pc }
 abbrev pub frames_within : Snapshot → List Frame
 frames_within s = frame_of s.state.current ∷ map frame_of s.state.suspended
 
--- Functions are at work; or they were when the run trapped, or when memory was refused, of which this is known where
--- another function or a value was there.
-abbrev pub is_inside_at : Phase → List Activation → List ℕ → Bool
-is_inside_at Within suspended values = true
-is_inside_at Between suspended values = false
-is_inside_at (Over (Trapped t)) suspended values = true
-is_inside_at (Over (Exited n)) suspended values = false
-is_inside_at (Over OutOfFuel) suspended values = false
-is_inside_at (Over OutOfMemory) suspended values = nat_lt 0 (length suspended) || nat_lt 0 (length values)
+-- Functions are at work; or they were when the run trapped, or when memory was refused.
+abbrev pub is_inside_at : Phase → Bool
+is_inside_at Within = true
+is_inside_at Between = false
+is_inside_at Refused = false
+is_inside_at (Over (Trapped t)) = true
+is_inside_at (Over (Exited n)) = false
+is_inside_at (Over OutOfFuel) = false
+is_inside_at (Over OutOfMemory) = true
 
 abbrev pub frames_at : Phase → Snapshot → List Frame
-frames_at f s = if is_inside_at f s.state.suspended s.state.values then frames_within s else []
+frames_at f s = if is_inside_at f then frames_within s else []
 
 -- The functions at work, the innermost first; of a run that trapped or was out of memory, those that were at work then.
 abbrev pub frames_of : Snapshot → List Frame
@@ -91,15 +115,16 @@ frames_of s = frames_at s.state.phase s
 -- many units.
 pub record WereFrames (m : Module) (i : Instance) (c : Configuration) (used : ℕ) (fs : List Frame) : Type 0 where
   pub before : Configuration
-  pub frames : AreFrames m i (code_of before) [] fs
+  pub frames : AreFramesOf m i before fs
   pub reach : Reach (Unit {0}) NoCalls i tt before [] tt c
   pub used_then : used_by before ≡ used
 
 -- What the frames that a machine tells are. While the run goes on, and out of fuel, those of the configuration. A trapped
--- configuration has none: those of one a unit before. Out of memory, those of one at most a unit before.
+-- configuration has none: those of the one whose next step takes the last unit. Out of memory, those of one at most a unit
+-- before; or there are none, where no function was at work.
 abbrev pub Tells : Option Outcome → Module → Instance → Configuration → List Frame → Type 0
-Tells None m i c fs = AreFrames m i (code_of c) [] fs
-Tells (Some (Trapped t)) m i c fs = (used : ℕ) × (used_by c ≡ suc used) × WereFrames m i c used fs
-Tells (Some OutOfMemory) m i c fs = (fs ≡ []) ⊎ ((used : ℕ) × (used_by c ≤ suc used) × WereFrames m i c used fs)
+Tells None m i c fs = AreFramesOf m i c fs
+Tells (Some (Trapped t)) m i c fs = (used : ℕ) × (used_by c ≡ suc used) × (w : WereFrames m i c used fs) × NextIsPlain (code_of w.before)
+Tells (Some OutOfMemory) m i c fs = ((fs ≡ []) × AreFramesOf m i c []) ⊎ ((used : ℕ) × (used_by c ≤ suc used) × WereFrames m i c used fs)
 Tells (Some OutOfFuel) m i c fs = fs ≡ []
 Tells (Some (Exited n)) m i c fs = fs ≡ []

@@ -23,7 +23,8 @@ pub struct Frame {
 }
 
 /// A law: the frames that a machine tells are those of each configuration that it stands for, while its run goes on. Of one
-/// that trapped they are those of a configuration one unit before, and out of memory of one at most a unit before.
+/// that trapped they are those of the configuration whose next step takes the last unit, and out of memory of one at most a
+/// unit before, or none where no function was at work. Each function but the innermost goes on behind a call of the one inside it.
 pub fn frames_are_the_configurations()
     ensures { (s : Snapshot) (i : Instance) (c : Configuration) → Represents s i c → Tells (outcome_of s) s.valid i c (frames_of s) }
 {}
@@ -31,13 +32,10 @@ pub fn frames_are_the_configurations()
 impl State {
     /// Whether functions are at work, or were when the run trapped or memory was refused.
     pub fn is_inside(&self) -> bool
-        ensures { result ≡ is_inside_at self.now.phase self.now.suspended.items self.now.values.items }
+        ensures { result ≡ is_inside_at self.now.phase }
     {
         match self.phase {
-            Phase::Within | Phase::Over(Outcome::Trapped(_)) => true,
-            Phase::Over(Outcome::OutOfMemory) => {
-                0 < self.suspended.len() || 0 < self.values.len()
-            }
+            Phase::Within | Phase::Over(Outcome::Trapped(_) | Outcome::OutOfMemory) => true,
             _ => false,
         }
     }

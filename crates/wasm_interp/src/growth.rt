@@ -1,6 +1,6 @@
 //! Growth of the room for values, up to a bound.
 
-ghost use Rattle.std.specs.Prelude.{◌≡◌, ◌+◌, ◌<◌, ◌≤◌, ◌⊎◌, vec_len, vec_capacity};
+ghost use Rattle.std.specs.Prelude.{◌≡◌, ◌+◌, ◌<◌, ◌≤◌, max, vec_len, vec_capacity};
 ghost use Rattle.std.specs.Bool.{OnTrue, OnFalse};
 
 /// Grows the room twofold, so that growth is rare, but never past the most values and one place more.
@@ -12,7 +12,7 @@ fn grow(values: &mut Vec<u64>, more: usize, most: usize) -> bool
     ensures items { values.new.items ≡ values.old.items }
     ensures len { vec_len values.new ≡ vec_len values.old }
     ensures room { vec_capacity values.old ≤ vec_capacity values.new }
-    ensures bound { (vec_capacity values.new ≡ vec_capacity values.old) ⊎ (vec_capacity values.new ≤ most + 1) }
+    ensures bound { vec_capacity values.new ≤ max (vec_capacity values.old) (most + 1) }
 {
     let len = values.len();
     // One place is always spare.
@@ -35,7 +35,7 @@ pub fn reserve_within(values: &mut Vec<u64>, more: usize, most: usize) -> bool
     ensures items { values.new.items ≡ values.old.items }
     ensures len { vec_len values.new ≡ vec_len values.old }
     ensures room { vec_capacity values.old ≤ vec_capacity values.new }
-    ensures bound { (vec_capacity values.new ≡ vec_capacity values.old) ⊎ (vec_capacity values.new ≤ most + 1) }
+    ensures bound { vec_capacity values.new ≤ max (vec_capacity values.old) (most + 1) }
 {
     more <= values.capacity() - values.len() || grow(values, more, most)
 }

@@ -22,7 +22,9 @@ mod unary;
 
 pub use activation::Activation;
 pub use frames::{Frame, frames_are_the_configurations};
-pub use laws::machines_show_their_stores;
+pub use laws::{
+    limits_change_no_configuration, machines_keep_to_their_values, machines_show_their_stores,
+};
 pub use machine::{Machine, RefusedInstance};
 pub use phase::Phase;
 pub use shared::{PreparedModule, SharedMachine, shared_machines_cross};

@@ -4,6 +4,7 @@ ghost use Rattle.std.specs.Prelude.{◌≡◌, ◌+◌, ◌^◌, ◌<◌, ◌/�
 ghost use Rattle.wasm_store.specs.Instantiation.{RefusedFor};
 ghost use Rattle.wasm_interp.specs.Promise.{Starts, Resumed};
 ghost use Rattle.wasm_interp.specs.Frames.{frames_of};
+ghost use Rattle.wasm_interp.specs.Machine.{limited};
 
 use crate::begin::begin;
 use crate::frames::Frame;
@@ -52,6 +53,7 @@ impl<'a> Machine<'a> {
         host: &H,
     ) -> Result<Machine<'a>, RefusedInstance<'a>>
         ensures starts { IfOk result (λ m. Starts (H.links host.now) pages valid.entry m) }
+        ensures most { IfOk result (λ m. m.most_values ≡ 134217728) }
         ensures refused { IfErr result (λ r. (r.valid ≡ valid.entry) × RefusedFor (H.links host.now) pages valid.entry r.fault) }
     {
         match begin(alloc, &valid, pages, host) {
@@ -92,11 +94,11 @@ impl<'a> Machine<'a> {
     /// Sets how many values the guest's stack has at most, 8 bytes each: those of all functions at work, their locals among
     /// them. Without this call they are `MOST_VALUES`. A step that would leave more is refused memory as if the host had none,
     /// so that the run ends out of memory; so may be a call where as many are there. Fewer than 4,097, which find room anyway,
-    /// count as 4,097. Room that the stack has had is never taken back: set this before the run.
+    /// count as 4,097. Room that the stack has had is never taken back, and counts too: set this before the run.
     pub fn limit_values(&mut self, most: usize)
-        ensures { self.new ≡ self.old }
+        ensures { self.new ≡ limited most self.old }
     {
-        self.state.most_values = most;
+        self.state.limit_values(most);
     }
 
     /// The function at work with so many inside it: 0 is the innermost. Where the run has ended there are none, but of a trap

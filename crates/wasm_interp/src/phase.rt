@@ -9,5 +9,7 @@ pub enum Phase {
     Within,
     /// Outside all functions.
     Between,
+    /// Outside all functions: the run is out of memory, which was refused to the function that comes next.
+    Refused,
     Over(Outcome),
 }

@@ -4,6 +4,7 @@ ghost use Rattle.std.specs.Prelude.{◌≡◌, ◌+◌, ◌^◌, ◌<◌, ◌/�
 ghost use Rattle.wasm_store.specs.Instantiation.{RefusedFor};
 ghost use Rattle.wasm_interp.specs.Promise.{Starts, Resumed};
 ghost use Rattle.wasm_interp.specs.Frames.{frames_of};
+ghost use Rattle.wasm_interp.specs.Machine.{limited};
 ghost use Rattle.wasm_interp.specs.Shared.{AreCallsOf};
 
 use crate::begin::{begin, begin_again};
@@ -114,6 +115,7 @@ impl<'a> SharedMachine<'a> {
     ) -> Result<SharedMachine<'a>, InstanceFault>
         requires { AreCallsOf (H.links host.now) ready.now.valid ready.now.calls }
         ensures starts { IfOk result (λ m. Starts (H.links host.now) ready.now.pages ready.now.valid m) }
+        ensures most { IfOk result (λ m. m.most_values ≡ 134217728) }
         ensures refused { IfErr result (λ e. RefusedFor (H.links host.now) ready.now.pages ready.now.valid e) }
     {
         let state = match begin_again(alloc, &*ready.prepared, ready.pages, host) {
@@ -148,9 +150,9 @@ impl<'a> SharedMachine<'a> {
 
     /// Sets how many values the guest's stack has at most, as `Machine::limit_values` does.
     pub fn limit_values(&mut self, most: usize)
-        ensures { self.new ≡ self.old }
+        ensures { self.new ≡ limited most self.old }
     {
-        self.state.most_values = most;
+        self.state.limit_values(most);
     }
 
     /// The function at work with so many inside it, as `Machine::frame` tells it.

@@ -1,6 +1,6 @@
 //! The values on top.
 
-ghost use Rattle.std.specs.Prelude.{◌≡◌, ℕ, ◌∷◌, ◌++◌, ◌-◌, take, replicate, ◌+◌, ◌<◌, ◌≤◌, ◌^◌, ◌%◌, drop, length, reverse, slice_index, vec_capacity, vec_len, nat_eq, OnOk, IfErr, Ok, Err};
+ghost use Rattle.std.specs.Prelude.{◌≡◌, ℕ, ◌∷◌, ◌++◌, ◌-◌, take, replicate, max, ◌+◌, ◌<◌, ◌≤◌, ◌^◌, ◌%◌, drop, length, reverse, slice_index, vec_capacity, vec_len, nat_eq, OnOk, IfErr, Ok, Err};
 ghost use Rattle.wasm_num.specs.Numbers.{signed, wrapped, bool_number};
 ghost use Rattle.wasm_valid.specs.Typing.{IsOperator};
 ghost use Rattle.wasm_steps.specs.Operators.{width, compare_test, unary_number, binary_number};
@@ -48,6 +48,7 @@ pub fn push(values: &mut Vec<u64>, value: u64, most: usize) -> Result<(), Halt>
     ensures full { IfErr result (λ h. (h ≡ Halt.Full) × (values.new.items ≡ values.old.items) × (vec_capacity values.new ≤ vec_len values.new + 1)) }
     ensures spare { vec_len values.new < vec_capacity values.new }
     ensures room { vec_capacity values.old ≤ vec_capacity values.new }
+    ensures bound { vec_capacity values.new ≤ max (vec_capacity values.old) (most + 1) }
 {
     if !reserve_within(values, 2, most) {
         return Err(Halt::Full);
@@ -97,12 +98,11 @@ pub fn push_zeros(values: &mut Vec<u64>, count: usize)
     requires { vec_len values.old + count ≤ vec_capacity values.old }
     ensures pushed { values.new.items ≡ values.old.items ++ replicate count 0 }
     ensures len { vec_len values.new ≡ vec_len values.old + count }
-    ensures room { vec_capacity values.old ≤ vec_capacity values.new }
+    ensures room { vec_capacity values.new ≡ vec_capacity values.old }
 {
-    let len = values.len();
-    let Ok(()) = values.resize(len + count, 0) else {
-        unreachable!()
-    };
+    for _ in 0..count {
+        values.push_reserved(0);
+    }
 }
 
 /// 1 where a test holds.

@@ -1,6 +1,6 @@
 //! The plain step: how one instruction that stays in its function changes a machine.
 
-ghost use Rattle.std.specs.Prelude.{◌≡◌, suc, ◌+◌, ◌^◌, ◌<◌, ◌≤◌, [], ◌∷◌, OnOk, IfErr, length, reverse, slice_index_or, vec_len, vec_capacity};
+ghost use Rattle.std.specs.Prelude.{◌≡◌, suc, ◌+◌, ◌^◌, ◌<◌, ◌≤◌, [], ◌∷◌, OnOk, IfErr, length, max, reverse, slice_index_or, vec_len, vec_capacity};
 ghost use Rattle.wasm_branch.specs.declared.target.Target.{Target as TargetValue};
 ghost use Rattle.wasm_interp.specs.internal.Standing.{branched};
 ghost use Rattle.wasm_interp.specs.internal.Plain.Performing.{IsReady};
@@ -227,6 +227,7 @@ impl State {
         ensures stays { Stays self.old self.new }
         ensures spare { vec_len self.new.values < vec_capacity self.new.values }
         ensures room { vec_capacity self.old.values ≤ vec_capacity self.new.values }
+        ensures bound { vec_capacity self.new.values ≤ max (vec_capacity self.old.values) (self.old.most_values + 1) }
     {
         match instruction {
             Instruction::Block(_) | Instruction::Loop(_) => self.go_on(),
@@ -256,6 +257,7 @@ impl State {
         ensures stays { Stays self.old self.new }
         ensures spare { vec_len self.new.values < vec_capacity self.new.values }
         ensures room { vec_capacity self.old.values ≤ vec_capacity self.new.values }
+        ensures bound { vec_capacity self.new.values ≤ max (vec_capacity self.old.values) (self.old.most_values + 1) }
     {
         if !reserve_within(&mut self.values, 2, self.most_values) {
             return Halt::Full;
@@ -276,6 +278,7 @@ impl State {
         ensures stays { Stays self.old self.new }
         ensures spare { vec_len self.new.values < vec_capacity self.new.values }
         ensures room { vec_capacity self.old.values ≤ vec_capacity self.new.values }
+        ensures bound { vec_capacity self.new.values ≤ max (vec_capacity self.old.values) (self.old.most_values + 1) }
     {
         work(
             &mut self.values,

@@ -5,9 +5,10 @@ use Rattle.vol_sector.specs.Disk.{Leaves}
 use Rattle.wasm_steps.specs.Configuration.{first_configuration}
 use Rattle.wasi_calls.specs.declared.host.wasi_host.HostParts.{HostParts}
 use Rattle.sandbox_core.specs.Devices.{Calls, disk_of, numbers_of, tree_of}
-use Rattle.sandbox_core.specs.Session.{IsRefused, Opens, Shares}
+use Rattle.sandbox_core.specs.Session.{IsRefused, Opens, Shares, limited_to}
 use Rattle.sandbox_core.specs.Runs.{StandsInRun}
 use Rattle.sandbox_core.proofs.Headline.{reach_moves}
+use Rattle.sandbox_core.proofs.Limiting.{opens_limited, shares_limited}
 use Rattle.run_report.specs.declared.counted.Counted.{Counted}
 use Rattle.sandbox_command.specs.Reporting.{counted_bytes, counting}
 use Rattle.sandbox_command.specs.internal.Seeds.{with_seed}
@@ -26,12 +27,13 @@ returns-in-Ok-clause-launches g c =
     let parts = c.args.parts in
     let began_with = c.in-Ok.session in
     let seed = c.args.run.now.seed in
-    let s = with_seed seed began_with in
+    let limited = limited_to c.args.run.now.limits.values began_with in
+    let s = with_seed seed limited in
     let same = counting_from parts c.new-taken.result c.new-given.result c.new-complaints.result c.new-taken.ensures c.new-given.ensures c.new-complaints.ensures in
-    let opens = opens_seeded c.args.valid (counting parts) began_with seed
-    (subst (λ (p : HostParts g.row.D.Denot (Counted g.row.R.Denot) (Counted g.row.W1.Denot) (Counted g.row.W2.Denot)). Opens c.args.valid p began_with) same c.in-Ok.ensures.opens) in
-    let shares = shares_seeded g.D.Device (counting parts) began_with seed
-    (subst (λ (p : HostParts g.row.D.Denot (Counted g.row.R.Denot) (Counted g.row.W1.Denot) (Counted g.row.W2.Denot)). Shares g.D.Device p began_with) same c.in-Ok.ensures.shares) in
+    let opens = opens_seeded c.args.valid (counting parts) limited seed
+    (opens_limited c.args.valid (counting parts) began_with c.args.run.now.limits.values (subst (λ (p : HostParts g.row.D.Denot (Counted g.row.R.Denot) (Counted g.row.W1.Denot) (Counted g.row.W2.Denot)). Opens c.args.valid p began_with) same c.in-Ok.ensures.opens)) in
+    let shares = shares_seeded g.D.Device (counting parts) limited seed
+    (shares_limited g.D.Device (counting parts) began_with c.args.run.now.limits.values (subst (λ (p : HostParts g.row.D.Denot (Counted g.row.R.Denot) (Counted g.row.W1.Denot) (Counted g.row.W2.Denot)). Shares g.D.Device p began_with) same c.in-Ok.ensures.shares)) in
     let i = opens.starts.instance in
     let first = first_configuration opens.starts.entered opens.starts.store in
     let counted = c.run_within-valid.ensures.counted in

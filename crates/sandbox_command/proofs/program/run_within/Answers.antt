@@ -11,7 +11,6 @@ run_counted_with_module-requires g c = ap (λ s. used_by s) (c.seed.ensures ∙ 
 pub seed-requires : goal.seed-requires
 seed-requires g c = ap (λ s. s.host.generator) c.limit_values.ensures ∙ c.requires.1
 
--- the limit on values changes nothing that callers see of the session
 pub returns-clause-counted : goal.returns-clause-counted
 returns-clause-counted g c = subst (λ s. ReportsCounted (devices g.D.Device g.R.Read g.W1.Write g.W2.Write) s c.args.run.now.limits.fuel c.run_counted_with_module.result.1 c.run_counted_with_module.result.2)
     (c.seed.ensures ∙ ap (λ s. with_seed c.args.run.now.seed s) c.limit_values.ensures) c.run_counted_with_module.ensures.counted

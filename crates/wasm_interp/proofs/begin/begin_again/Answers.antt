@@ -1,4 +1,5 @@
 use Rattle.std.proofs.Common.{length, sym, ap, subst, ◌∙◌, arith}
+use Rattle.std.specs.Prelude.{vec_capacity}
 use Rattle.wasm_interp.specs.declared.state.State.{State}
 use Rattle.wasm_interp.specs.internal.Running.{HasRoom}
 use Rattle.wasm_interp.proofs.Linking.{calls_again, limit_again}
@@ -33,9 +34,12 @@ returns-clause-begun g c =
       phase = ap (λ (s : State). s.phase) first;
       used = ap (λ (s : State). s.used) first;
       room = subst HasRoom (sym first) (record {
-        values = stacks.room;
+        values = omega (arith, stacks.room);
         spare = omega (arith, stacks.room, ap length stacks.values);
         frames = stacks.frames;
         few = omega (arith, ap length stacks.suspended);
+        bound = omega (arith, stacks.room);
       });
+      reserved = ap (λ (s : State). vec_capacity s.values) first ∙ stacks.room;
+      most = ap (λ (s : State). s.most_values) first;
     }

@@ -1,12 +1,9 @@
 use Rattle.std.proofs.Common.{◌≡◌, ℕ, suc, List, [], ◌∷◌, Some, refl, sym, subst, ap, ◌∙◌, arith, inl, inr}
-use Rattle.std.specs.Prelude.{Bool, true, length, nat_lt, ◌||◌, if◌then◌else◌}
-use Rattle.std.proofs.lemmas.Bool.{lt-ltb}
 use Rattle.wasm_steps.specs.declared.pause.Outcome.TheVariants as ends
 use Rattle.wasm_steps.specs.Configuration.{Configuration, at, Instance, code_of, store_of, used_by}
-use Rattle.wasm_interp.specs.declared.activation.Activation.{Activation}
 use Rattle.wasm_interp.specs.declared.phase.Phase.{Phase}
-use Rattle.wasm_interp.specs.declared.phase.Phase.TheVariants.{Within as within, Between as between, Over as over}
-use Rattle.wasm_interp.specs.Frames.{AreFrames, Tells, WereFrames, frames_at, frames_within, is_inside_at}
+use Rattle.wasm_interp.specs.declared.phase.Phase.TheVariants.{Within as within, Between as between, Refused as refused, Over as over}
+use Rattle.wasm_interp.specs.Frames.{AreFrames, Tells, WereFrames, frames_at, frames_within}
 use Rattle.wasm_interp.specs.Machine.{Represents, Snapshot}
 use Rattle.wasm_interp.specs.internal.Standing.{Flat, Program}
 use Rattle.wasm_interp.specs.internal.Driving.{outcome_at, StandsAt, Stood}
@@ -25,7 +22,7 @@ module _ (s : Snapshot) (i : Instance) (c : Configuration) (h : IsStateOf s.vali
   abbrev flat : Flat
   flat = (machine_over (store_of c) s.state).flat
 
-  were : (x : Stood p s.state.pending flat c) → WereFrames s.valid i c x.used (frames_within s)
+  abbrev were : (x : Stood p s.state.pending flat c) → WereFrames s.valid i c x.used (frames_within s)
   were x = record {
     before = x.before;
     frames = frames_told s.valid s.state.calls i h.valid h.instance s.state.pending (record flat { used = x.used }) x.before x.stands;
@@ -33,27 +30,14 @@ module _ (s : Snapshot) (i : Instance) (c : Configuration) (h : IsStateOf s.vali
     used_then = ap used_by x.stands.is ∙ x.stands.is_store.used;
   }
 
-  -- what is told, where it is told or not
-  abbrev told_if : Bool → Type 0
-  told_if b = Tells (Some ends.OutOfMemory) s.valid i c (if b then frames_within s else [])
-
-  stood_then : Stood p s.state.pending flat c → told_if true
-  stood_then q = inr (q.used, omega (arith, q.recent, used_is c), were q)
-
-  refused : (fs : List Activation) (ns : List ℕ) → s.state.suspended ≡ fs → s.state.values ≡ ns → StandsAt p flat s.state.pending (over ends.OutOfMemory) c → told_if (is_inside_at (over ends.OutOfMemory) fs ns)
-  refused [] [] x y st = inl refl
-  refused [] (n ∷ ns) x y (k, e, inl (none, no_values)) = let z : n ∷ ns ≡ [] = sym y ∙ no_values in absurd (cc)
-  refused [] (n ∷ ns) x y (k, e, inr q) = subst told_if (sym (lt-ltb 0 (suc (length ns)) (omega arith))) (stood_then q)
-  refused (a ∷ fs) ns x y (k, e, inl (none, no_values)) = let z : a ∷ fs ≡ [] = sym x ∙ none in absurd (cc)
-  refused (a ∷ fs) ns x y (k, e, inr q) = subst (λ z. told_if (z || nat_lt 0 (length ns))) (sym (lt-ltb 0 (suc (length fs)) (omega arith))) (stood_then q)
-
   by_phase : (f : Phase) → StandsAt p flat s.state.pending f c → Tells (outcome_at f) s.valid i c (frames_at f s)
   by_phase within st = frames_told s.valid s.state.calls i h.valid h.instance s.state.pending flat c st
-  by_phase between st = subst (λ (y : Configuration). AreFrames s.valid i (code_of y) [] []) (sym st.is) refl
+  by_phase between st = record { frames = subst (λ (y : Configuration). AreFrames s.valid i (code_of y) [] []) (sym st.is) refl; calls = tt }
+  by_phase refused st = inl (refl, record { frames = subst (λ (y : Configuration). AreFrames s.valid i (code_of y) [] []) (sym st.3.is) refl; calls = tt })
   by_phase (over (ends.Exited n)) st = refl
-  by_phase (over (ends.Trapped t)) st = (st.2.0.used, used_is c ∙ st.2.1, were st.2.0)
+  by_phase (over (ends.Trapped t)) st = (st.2.0.used, used_is c ∙ st.2.1, were st.2.0, st.2.2)
   by_phase (over ends.OutOfFuel) st = refl
-  by_phase (over ends.OutOfMemory) st = refused s.state.suspended s.state.values refl refl st
+  by_phase (over ends.OutOfMemory) st = inr (st.2.used, omega (arith, st.2.recent, used_is c), were st.2)
 
 pub returns : goal.returns
 unfolding Represents

@@ -13,5 +13,5 @@ invariant_of-self g c = record {
 }
 
 pub returns : goal.returns
-returns g c = rw (← c.self.view_is) (resumed_of _ g.H.Host.calls (arc_value c.self.inside.prepared) _ _ c.self.inside.state c.resume.new.self _ _ c.self.invariant
+returns g c = rw (← c.self.view_is) (resumed_of _ g.H.Host.calls (arc_value c.self.inside.prepared) _ _ c.self.inside.state c.resume.new.self _ _ c.self.invariant c.resume.ensures.live.room c.resume.ensures.most c.resume.ensures.rests
     (subst (λ (r : Prepared). Pauses _ g.H.Host.calls r c.args.host.now c.resume.new.host c.self.inside.state c.resume.new.self c.args.units c.resume.result) c.deref.ensures c.resume.ensures.pauses))

@@ -12,7 +12,7 @@ use Rattle.wasm_interp.proofs.state.State.call_own.Goals as goal
 
 -- one unit later there is as much room
 one_later : (s : State) → HasRoom s → HasRoom (record s { used = s.used + 1 })
-one_later s r = record { values = r.values; spare = r.spare; frames = r.frames; few = r.few }
+one_later s r = record { values = r.values; spare = r.spare; frames = r.frames; few = r.few; bound = r.bound }
 
 -- too little room, beside as many values and frames
 as_little : (values values' frames frames' locals room frame_room : ℕ) → values ≡ values' → frames ≡ frames' → (room ≤ values + locals) ⊎ (frame_room ≤ frames) → (room ≤ values' + locals) ⊎ (frame_room ≤ frames')
@@ -26,7 +26,8 @@ returns-then-len-eq-MOST_FRAMES c =
     let one : s.used + 1 ≡ suc s.used = omega arith in
     record {
       calls = stopped (omega (arith, c.if-len-eq-MOST_FRAMES.true, c.len.ensures)) (ap (λ (u : ℕ). record s { phase = over (ends.Trapped traps.CallStackExhausted); used = u }) one);
-      room = record { values = r.values; spare = r.spare; frames = r.frames; few = r.few };
+      room = record { values = r.values; spare = r.spare; frames = r.frames; few = r.few; bound = r.bound };
+      most = refl;
     }
 
 pub returns-then-not-make_room : goal.returns-then-not-make_room
@@ -43,6 +44,7 @@ returns-then-not-make_room c =
           (machine_is new (record (flat_of s) { used = suc s.used }) s.pending (over ends.OutOfMemory) (ap (λ (y : State). y.current) w.is) (ap reverse w.suspended) (ap reverse w.values) (ap (λ (y : State). y.memory) w.is) (ap (λ (y : State). y.table) w.is) (ap (λ (y : State). y.globals) w.is)
           (ap (λ (y : State). y.used) w.is ∙ one) (ap (λ (y : State). y.pending) w.is) refl);
       room = room_phase wide new refl (room_widened (record s { used = s.used + 1 }) wide w (one_later s c.requires.room));
+      most = ap (λ (y : State). y.most_values) w.is;
     }
 
 pub returns-clause-calls : goal.returns-clause-calls
@@ -65,3 +67,6 @@ remove-requires c = grind (arith, common_steps)
 
 pub returns-clause-room : goal.returns-clause-room
 returns-clause-room c = grind (arith, common_steps)
+
+pub returns-clause-most : goal.returns-clause-most
+returns-clause-most c = ap (λ (y : State). y.most_values) c.begin.ensures.is ∙ ap (λ (y : State). y.most_values) c.make_room.ensures.kept.is

@@ -19,5 +19,5 @@ returns c =
         read = ap (λ (xs : List ℕ). slice_get xs place) (reverse-reverse items) ∙ slice_get_read items (length items) place value refl (omega (arith, c.requires.inside, s.values.ok.0)) c.index-value.ensures;
         is = ap flat_of c.go_on.ensures ∙ ap (λ (vs : List ℕ). worked (flat_of s) vs s.memory s.globals) c.in_ok-push.ensures.pushed;
       };
-      pushes = subst (λ (t : State). Pushes s t (Ok tt)) (sym c.go_on.ensures) (record { stays = refl; used = refl; full = tt; spare = c.push.ensures.spare; room = c.push.ensures.room });
+      pushes = subst (λ (t : State). Pushes s t (Ok tt)) (sym c.go_on.ensures) (record { stays = refl; used = refl; full = tt; spare = c.push.ensures.spare; room = c.push.ensures.room; bound = c.push.ensures.bound });
     }

@@ -1,0 +1,5 @@
+use Rattle.module_survey.proofs.Spelled.{spelled_instruction}
+use Rattle.module_survey.proofs.places.instructions_stand_in_the_bytes.Goals as goal
+
+pub returns : goal.returns
+returns c = λ bytes m own b index spells is. spelled_instruction bytes m own b index spells is
