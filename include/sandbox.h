@@ -7,12 +7,13 @@
  *
  * OWNERSHIP
  *   Each function on a session takes the ADDRESS of the caller's own `sandbox_session *`, and each on a loaded module that of
- *   a `sandbox_module *`. NULL there means: none. Only sandbox_open, sandbox_open_loaded, sandbox_load and
- *   sandbox_close_loaded make one non-null; the function that discards it makes it NULL again. Never copy such a pointer to a
- *   second variable that is passed, too: the library can't see that.
+ *   a `sandbox_module *`. NULL there means: none. Only sandbox_open, sandbox_open_loaded, sandbox_load, sandbox_prepare,
+ *   sandbox_module_share and sandbox_close_loaded make one non-null; the function that discards it makes it NULL again. Never
+ *   copy such a pointer to a second variable that is passed, too: the library can't see that (sandbox_module_share makes a
+ *   second one).
  *   Bytes that are marked `borrowed` are the caller's, must not change during the call, and are not kept.
  *   Bytes that are marked `kept` are the caller's too, and must neither change nor be freed while the session or the module
- *   exists.
+ *   exists; those of a prepared module while it, any that shares it, or a session of them exists.
  *   `room` is the caller's memory that the call may write, and that nothing else reads or writes meanwhile. No two
  *   arguments of a call overlap.
  *   No function hands out memory that the caller has to free.
@@ -35,10 +36,13 @@
  *       + 8 MiB                                       open calls, the names of the volume, and all else
  *   whatever its guest does; sandbox_most_held is this sum. What the guest doesn't come to isn't taken, and what it took is given
  *   back by sandbox_finish (its memory and its stack) and sandbox_close (all). While a buffer grows, realloc may hold what it had
- *   a second time. A loaded module in no session holds its part of the sum. What is marked `kept` is the caller's own.
+ *   a second time. A loaded module in no session holds its part of the sum. Those that share one prepared module, and their
+ *   sessions, hold that part once in all, until the last of them is gone; sandbox_prepare also takes the memory that its guest
+ *   begins with, and gives it back. What is marked `kept` is the caller's own.
  *
  * THREADS
- *   Sessions and modules share nothing, so each thread can have its own at the same time. One may move to another thread
+ *   Sessions and modules share nothing that a caller could see (of one prepared module, what was made once: it is read alone,
+ *   and its owners are counted by one atomic number), so each thread can have its own at the same time. One may move to another thread
  *   between two calls, which the host puts in order (by a lock, or a thread's start or end): never two calls at once on
  *   one. Not from a signal handler, and not in the forked child of a process with threads. SANDBOX_STACK bytes of stack are
  *   enough.
@@ -191,8 +195,24 @@ uint32_t sandbox_open(sandbox_session **session, const uint8_t *module, size_t m
 /* Decodes and validates a module once, for many sessions one after another. The bytes are kept. */
 uint32_t sandbox_load(sandbox_module **module, const uint8_t *bytes, size_t length, sandbox_why *why);
 
+/* sandbox_load, and makes all once that sessions of the module look up, so that each opens in the time of its memory, however
+ * large the module is. Its sessions have the pages of these limits, which are borrowed; else sandbox_open_loaded is 15. It is
+ * instantiated once to that end. Refused, in this order: MISUSE; the module's fault, in *why; 15 where `later` isn't 0, or for more
+ * than 65,536 pages; 13, 14, 20, 21, 22; OUT_OF_MEMORY at any of them. */
+uint32_t sandbox_prepare(sandbox_module **module, const uint8_t *bytes, size_t length, const sandbox_limits *limits, sandbox_why *why);
+
+/* Makes *other the same prepared module: nothing is decoded or made again. Each of both goes into a session and is unloaded for
+ * itself, in any order, and may go to a thread of its own; so any number of sessions at once are of one module:
+ *
+ *     sandbox_prepare(&module, bytes, length, &supplies.limits, &why);
+ *     sandbox_module_share(&other, &module);                           for each session
+ *     sandbox_open_loaded(&session, &other, &supplies, &volume);
+ *
+ * MISUSE where *other isn't NULL, or *module is none that sandbox_prepare made or that shares one; OUT_OF_MEMORY. */
+uint32_t sandbox_module_share(sandbox_module **other, sandbox_module **module);
+
 /* sandbox_open with a loaded module, which goes into the session: *module is NULL then. So a module is in one session at a
- * time; to have several at once, load it as often. After a refusal *module is as it was. */
+ * time; to have several at once, prepare and share it, or load it as often. After a refusal *module is as it was. */
 uint32_t sandbox_open_loaded(sandbox_session **session, sandbox_module **module, const sandbox_supplies *supplies,
                              const sandbox_volume *volume);
 
@@ -231,11 +251,11 @@ uint32_t sandbox_operation_at(sandbox_session **session, size_t number, sandbox_
 /* Discards all, also what isn't committed, and makes *session NULL. MISUSE where there is none. */
 uint32_t sandbox_close(sandbox_session **session);
 
-/* Discards a finished session, and its module becomes a loaded one in *module: MISUSE where there is one already, or the
- * session isn't finished. Nothing else is refused. */
+/* Discards a finished session, and its module becomes a loaded one in *module, a prepared one where it was: MISUSE where there is
+ * one already, or the session isn't finished. Nothing else is refused. */
 uint32_t sandbox_close_loaded(sandbox_session **session, sandbox_module **module);
 
-/* Discards a loaded module, and makes *module NULL. MISUSE where there is none. */
+/* Discards a loaded module, and makes *module NULL: what was prepared stays for those that share it. MISUSE where there is none. */
 uint32_t sandbox_unload(sandbox_module **module);
 
 /* Makes sectors an empty volume, in place: 137 to 65,536 sectors, 1 to 8,192 slots, and fewer slots than sectors - 122, else
