@@ -147,6 +147,12 @@ enum { /* sandbox_told.call */
     SANDBOX_CALL_PATH_RENAME, SANDBOX_CALL_PATH_UNLINK_FILE, SANDBOX_CALL_NOSYS /* one that answers 52 */
 };
 
+typedef struct { /* a function at work; a caller may pass any numbers in it */
+    uint32_t function; /* its index in the module, the imported ones counted first */
+    uint32_t offset;   /* of its instruction in the module's bytes: the one that comes next, trapped or was refused memory; of a
+                        * function that has called another one its call */
+} sandbox_frame;
+
 typedef struct { /* why a module is refused */
     uint32_t fault;  /* 1 to 12, or SANDBOX_OUT_OF_MEMORY */
     uint32_t offset; /* of the byte; 0 for SANDBOX_OUT_OF_MEMORY */
@@ -160,7 +166,8 @@ enum {
      * answers of the program's commands alone.) */
     SANDBOX_DEVICE_FAILED = 33,
     SANDBOX_OUT_OF_MEMORY = 40,
-    SANDBOX_MISUSE = 100 /* no session or module, or one already; finished or not where the call wants the other; no such kind */
+    SANDBOX_MISUSE = 100, /* no session or module, or one already; finished or not where the call wants the other; no such kind */
+    SANDBOX_NO_FRAME = 101 /* sandbox_frame_at: not so many functions are at work */
 };
 
 /* The archive's SANDBOX_VERSION_NUMBER. */
@@ -230,6 +237,18 @@ size_t sandbox_output(sandbox_session **session, uint32_t descriptor, size_t fro
  * from then on; else 0, as where there is no session or another descriptor. A write that is refused for another reason (memory for
  * it was refused) is answered 29, too, and not told here. Any time between open and close, also while it runs. */
 uint32_t sandbox_full(sandbox_session **session, uint32_t descriptor);
+
+/* Tells the function at work that has so many inside it, 0 the innermost, and where it stands. Any time between open and finish:
+ * after SPENT and CALLED those of the run then; after TRAPPED and NO_MEMORY those that were at work; none before the first resume
+ * and after EXITED. SANDBOX_NO_FRAME past the last, MISUSE where there is no session or it is finished; *frame is as it was then.
+ * A host that resumes by so many units a time, and adds them to the stack that it found before, has a profile
+ * (examples/hosts/c/folded.c); by one unit a time an exact one. */
+uint32_t sandbox_frame_at(sandbox_session **session, size_t number, sandbox_frame *frame);
+
+/* Copies what a function of a module is called, as far as there is room; answers how long it is: its name in the section `name`,
+ * else that of its first export, else `function[3]` with its index. A name has any bytes, also none, line ends and no UTF-8. The
+ * bytes are borrowed, and needn't be a module's. */
+size_t sandbox_function_name(const uint8_t *module, size_t module_length, uint32_t function, uint8_t *room, size_t length);
 
 /* Commits the guest's calls to its volume, and ends the session's run. Its output and volume can be read until it is closed.
  * DEVICE_FAILED where the volume couldn't be committed: the session is finished then, too. A second call is MISUSE. */

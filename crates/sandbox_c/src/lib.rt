@@ -1,7 +1,8 @@
 //! What C calls (`include/sandbox.h`). Each export is one call of `sandbox_host`, under its contract.
 #![tactic(auto)]
 
-ghost use Rattle.std.specs.Prelude.{◌≡◌, ◌≢◌, ◌⊎◌, None, Some, IfSome, IsSomeAnd, is_none, true, false, length, drop, if◌then◌else◌};
+ghost use Rattle.std.specs.Prelude.{◌≡◌, ◌≢◌, ◌⊎◌, None, Some, IfSome, IsSomeAnd, is_none, true, false, length, drop, slice_get, if◌then◌else◌};
+ghost use Rattle.wasm_interp.specs.Frames.{frames_of};
 ghost use Rattle.vol_sector.specs.Record.{image_of};
 ghost use Rattle.vol_tree.specs.Fresh.{fresh};
 ghost use Rattle.vol_tree.specs.Stands.{StandsAs, empty_tree};
@@ -10,13 +11,16 @@ ghost use Rattle.sandbox_host.specs.Sessions.{running, finished, loaded, prepare
 ghost use Rattle.sandbox_host.specs.Sessions.{IsLoaded, IsShown, Begins, BeginsFrom, Paused, Finishes};
 ghost use Rattle.sandbox_host.specs.Recording.{recorded, operation_of, told_operation};
 ghost use Rattle.sandbox_host.specs.Supplies.{most_pages};
+ghost use Rattle.sandbox_host.specs.Frames.{TellsFrame, name_of};
 ghost use Rattle.sandbox_host.specs.Volumes.{origin_of};
 ghost use Rattle.sandbox_host.specs.Refusals.{NotLoaded, NotBegunOf, NotOpened, NotPrepared};
 ghost use Rattle.sandbox_host.specs.Whole.{Ran, IsUnformatted};
 ghost use Rattle.sandbox_host.specs.Texts.{text_of};
 ghost use Rattle.sandbox_host.specs.declared.volumes.Origin.TheVariants.{Fresh};
 
-use sandbox_host::{Handle, Limits, Supplies, Told, VolumeOperation, VolumeSource, Why};
+use sandbox_host::{
+    FunctionFrame, Handle, Limits, Supplies, Told, VolumeOperation, VolumeSource, Why,
+};
 use std::alloc::Global;
 
 /// The version of the archive.
@@ -205,6 +209,33 @@ pub extern "C" fn sandbox_full(alloc: Global, session: &mut Handle, descriptor: 
     ensures kept { session.new.held ≡ session.old.held }
 {
     sandbox_host::full(alloc, session, descriptor)
+}
+
+/// Tells a function at work.
+#[unsafe(no_mangle)]
+pub extern "C" fn sandbox_frame_at(
+    alloc: Global,
+    session: &mut Handle,
+    number: usize,
+    told: &mut FunctionFrame,
+) -> u32
+    ensures misuse { is_none (running session.old.held) ≡ true → (result ≡ 100) × (told.new ≡ told.old) }
+    ensures none { IfSome (running session.old.held) (λ s. slice_get (frames_of s.machine) number ≡ None
+        → (result ≡ 101) × (told.new ≡ told.old)) }
+    ensures told { IfSome (running session.old.held) (λ s. IfSome (slice_get (frames_of s.machine) number) (λ frame. (result ≡ 0)
+        × TellsFrame s.machine.valid frame told.new)) }
+    ensures kept { session.new.held ≡ session.old.held }
+{
+    sandbox_host::frame_at(alloc, session, number, told)
+}
+
+/// Copies what a function is called.
+#[unsafe(no_mangle)]
+pub extern "C" fn sandbox_function_name(module: &[u8], function: u32, room: &mut [u8]) -> usize
+    ensures length { result ≡ length (name_of «module».now function) }
+    ensures shown { IsShown (name_of «module».now function) room.old room.new }
+{
+    sandbox_host::function_name(module, function, room)
 }
 
 /// Commits, and ends the run.

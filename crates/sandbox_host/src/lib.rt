@@ -2,6 +2,7 @@
 #![tactic(auto)]
 
 mod closing;
+mod frames;
 mod handle;
 mod held;
 mod kept;
@@ -22,6 +23,7 @@ mod volumes;
 mod whole;
 
 pub use closing::{close, close_loaded, unload};
+pub use frames::{FunctionFrame, NO_FRAME, frame_at, function_name};
 pub use handle::Handle;
 pub use held::{Ended, Held};
 pub use kept::Kept;

@@ -1,8 +1,5 @@
 //! Loaded modules.
 
-ghost use Rattle.std.specs.Prelude.{◌≡◌};
-ghost use Rattle.sandbox_host.specs.Sessions.{module_of, ready_of};
-
 use sandbox_core::{SharedModule, Valid};
 
 /// A loaded module.

@@ -1,11 +1,11 @@
 //! A session of a host, of a module of its own or of one that it shares.
 
-ghost use Rattle.std.specs.Prelude.{◌≡◌, ◌+◌, ◌^◌, ◌<◌};
+ghost use Rattle.std.specs.Prelude.{◌≡◌, ◌+◌, ◌^◌, ◌<◌, slice_get};
 
 use crate::kept::Kept;
 use crate::modules::LoadedModule;
 use crate::sharing::Sharing;
-use sandbox_core::{Finished, Pause, Session};
+use sandbox_core::{Finished, Frame, Pause, Session, Valid};
 use sandbox_device::RecordedDevice;
 
 /// A session of a module that no other has, over its device, whose output is kept in memory.
@@ -24,6 +24,7 @@ pub enum HostSession {
 }
 
 impl HostSession {
+    ghost use Rattle.wasm_interp.specs.Frames.{frames_of};
     ghost use Rattle.sandbox_core.specs.Session.{used_by};
     ghost use Rattle.sandbox_host.specs.Host.{Resumes, FinishesAll};
     ghost use Rattle.sandbox_host.specs.Sessions.{state_of, ready_with, module_of, ready_of};
@@ -37,6 +38,26 @@ impl HostSession {
         match self {
             HostSession::Own(session) => session.resume(units),
             HostSession::Shared(sharing) => sharing.session.resume(units),
+        }
+    }
+
+    /// The module that it runs.
+    pub(crate) fn module(&self) -> &Valid<'static>
+        ensures { result.now ≡ (state_of self.now).machine.valid }
+    {
+        match self {
+            HostSession::Own(session) => session.module(),
+            HostSession::Shared(sharing) => sharing.session.module(),
+        }
+    }
+
+    /// The function at work with so many inside it.
+    pub(crate) fn frame(&self, index: usize) -> Option<Frame>
+        ensures { result ≡ slice_get (frames_of (state_of self.now).machine) index }
+    {
+        match self {
+            HostSession::Own(session) => session.frame(index),
+            HostSession::Shared(sharing) => sharing.session.frame(index),
         }
     }
 
