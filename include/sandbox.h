@@ -7,12 +7,13 @@
  *
  * OWNERSHIP
  *   Each function on a session takes the ADDRESS of the caller's own `sandbox_session *`, and each on a loaded module that of
- *   a `sandbox_module *`. NULL there means: none. Only sandbox_open, sandbox_open_loaded, sandbox_load and
- *   sandbox_close_loaded make one non-null; the function that discards it makes it NULL again. Never copy such a pointer to a
- *   second variable that is passed, too: the library can't see that.
+ *   a `sandbox_module *`. NULL there means: none. Only sandbox_open, sandbox_open_loaded, sandbox_load, sandbox_prepare,
+ *   sandbox_module_share and sandbox_close_loaded make one non-null; the function that discards it makes it NULL again. Never
+ *   copy such a pointer to a second variable that is passed, too: the library can't see that (sandbox_module_share makes a
+ *   second one).
  *   Bytes that are marked `borrowed` are the caller's, must not change during the call, and are not kept.
  *   Bytes that are marked `kept` are the caller's too, and must neither change nor be freed while the session or the module
- *   exists.
+ *   exists; those of a prepared module while it, any that shares it, or a session of them exists.
  *   `room` is the caller's memory that the call may write, and that nothing else reads or writes meanwhile. No two
  *   arguments of a call overlap.
  *   No function hands out memory that the caller has to free.
@@ -35,10 +36,13 @@
  *       + 8 MiB                                       open calls, the names of the volume, and all else
  *   whatever its guest does; sandbox_most_held is this sum. What the guest doesn't come to isn't taken, and what it took is given
  *   back by sandbox_finish (its memory and its stack) and sandbox_close (all). While a buffer grows, realloc may hold what it had
- *   a second time. A loaded module in no session holds its part of the sum. What is marked `kept` is the caller's own.
+ *   a second time. A loaded module in no session holds its part of the sum. Those that share one prepared module, and their
+ *   sessions, hold that part once in all, until the last of them is gone; sandbox_prepare also takes the memory that its guest
+ *   begins with, and gives it back. What is marked `kept` is the caller's own.
  *
  * THREADS
- *   Sessions and modules share nothing, so each thread can have its own at the same time. One may move to another thread
+ *   Sessions and modules share nothing that a caller could see (of one prepared module, what was made once: it is read alone,
+ *   and its owners are counted by one atomic number), so each thread can have its own at the same time. One may move to another thread
  *   between two calls, which the host puts in order (by a lock, or a thread's start or end): never two calls at once on
  *   one. Not from a signal handler, and not in the forked child of a process with threads. SANDBOX_STACK bytes of stack are
  *   enough.
@@ -143,6 +147,12 @@ enum { /* sandbox_told.call */
     SANDBOX_CALL_PATH_RENAME, SANDBOX_CALL_PATH_UNLINK_FILE, SANDBOX_CALL_NOSYS /* one that answers 52 */
 };
 
+typedef struct { /* a function at work; a caller may pass any numbers in it */
+    uint32_t function; /* its index in the module, the imported ones counted first */
+    uint32_t offset;   /* of its instruction in the module's bytes: the one that comes next, trapped or was refused memory; of a
+                        * function that has called another one its call */
+} sandbox_frame;
+
 typedef struct { /* why a module is refused */
     uint32_t fault;  /* 1 to 12, or SANDBOX_OUT_OF_MEMORY */
     uint32_t offset; /* of the byte; 0 for SANDBOX_OUT_OF_MEMORY */
@@ -156,7 +166,8 @@ enum {
      * answers of the program's commands alone.) */
     SANDBOX_DEVICE_FAILED = 33,
     SANDBOX_OUT_OF_MEMORY = 40,
-    SANDBOX_MISUSE = 100 /* no session or module, or one already; finished or not where the call wants the other; no such kind */
+    SANDBOX_MISUSE = 100, /* no session or module, or one already; finished or not where the call wants the other; no such kind */
+    SANDBOX_NO_FRAME = 101 /* sandbox_frame_at: not so many functions are at work */
 };
 
 /* The archive's SANDBOX_VERSION_NUMBER. */
@@ -191,8 +202,24 @@ uint32_t sandbox_open(sandbox_session **session, const uint8_t *module, size_t m
 /* Decodes and validates a module once, for many sessions one after another. The bytes are kept. */
 uint32_t sandbox_load(sandbox_module **module, const uint8_t *bytes, size_t length, sandbox_why *why);
 
+/* sandbox_load, and makes all once that sessions of the module look up, so that each opens in the time of its memory, however
+ * large the module is. Its sessions have the pages of these limits, which are borrowed; else sandbox_open_loaded is 15. It is
+ * instantiated once to that end. Refused, in this order: MISUSE; the module's fault, in *why; 15 where `later` isn't 0, or for more
+ * than 65,536 pages; 13, 14, 20, 21, 22; OUT_OF_MEMORY at any of them. */
+uint32_t sandbox_prepare(sandbox_module **module, const uint8_t *bytes, size_t length, const sandbox_limits *limits, sandbox_why *why);
+
+/* Makes *other the same prepared module: nothing is decoded or made again. Each of both goes into a session and is unloaded for
+ * itself, in any order, and may go to a thread of its own; so any number of sessions at once are of one module:
+ *
+ *     sandbox_prepare(&module, bytes, length, &supplies.limits, &why);
+ *     sandbox_module_share(&other, &module);                           for each session
+ *     sandbox_open_loaded(&session, &other, &supplies, &volume);
+ *
+ * MISUSE where *other isn't NULL, or *module is none that sandbox_prepare made or that shares one; OUT_OF_MEMORY. */
+uint32_t sandbox_module_share(sandbox_module **other, sandbox_module **module);
+
 /* sandbox_open with a loaded module, which goes into the session: *module is NULL then. So a module is in one session at a
- * time; to have several at once, load it as often. After a refusal *module is as it was. */
+ * time; to have several at once, prepare and share it, or load it as often. After a refusal *module is as it was. */
 uint32_t sandbox_open_loaded(sandbox_session **session, sandbox_module **module, const sandbox_supplies *supplies,
                              const sandbox_volume *volume);
 
@@ -210,6 +237,18 @@ size_t sandbox_output(sandbox_session **session, uint32_t descriptor, size_t fro
  * from then on; else 0, as where there is no session or another descriptor. A write that is refused for another reason (memory for
  * it was refused) is answered 29, too, and not told here. Any time between open and close, also while it runs. */
 uint32_t sandbox_full(sandbox_session **session, uint32_t descriptor);
+
+/* Tells the function at work that has so many inside it, 0 the innermost, and where it stands. Any time between open and finish:
+ * after SPENT and CALLED those of the run then; after TRAPPED and NO_MEMORY those that were at work; none before the first resume
+ * and after EXITED. SANDBOX_NO_FRAME past the last, MISUSE where there is no session or it is finished; *frame is as it was then.
+ * A host that resumes by so many units a time, and adds them to the stack that it found before, has a profile
+ * (examples/hosts/c/folded.c); by one unit a time an exact one. */
+uint32_t sandbox_frame_at(sandbox_session **session, size_t number, sandbox_frame *frame);
+
+/* Copies what a function of a module is called, as far as there is room; answers how long it is: its name in the section `name`,
+ * else that of its first export, else `function[3]` with its index. A name has any bytes, also none, line ends and no UTF-8. The
+ * bytes are borrowed, and needn't be a module's. */
+size_t sandbox_function_name(const uint8_t *module, size_t module_length, uint32_t function, uint8_t *room, size_t length);
 
 /* Commits the guest's calls to its volume, and ends the session's run. Its output and volume can be read until it is closed.
  * DEVICE_FAILED where the volume couldn't be committed: the session is finished then, too. A second call is MISUSE. */
@@ -231,11 +270,11 @@ uint32_t sandbox_operation_at(sandbox_session **session, size_t number, sandbox_
 /* Discards all, also what isn't committed, and makes *session NULL. MISUSE where there is none. */
 uint32_t sandbox_close(sandbox_session **session);
 
-/* Discards a finished session, and its module becomes a loaded one in *module: MISUSE where there is one already, or the
- * session isn't finished. Nothing else is refused. */
+/* Discards a finished session, and its module becomes a loaded one in *module, a prepared one where it was: MISUSE where there is
+ * one already, or the session isn't finished. Nothing else is refused. */
 uint32_t sandbox_close_loaded(sandbox_session **session, sandbox_module **module);
 
-/* Discards a loaded module, and makes *module NULL. MISUSE where there is none. */
+/* Discards a loaded module, and makes *module NULL: what was prepared stays for those that share it. MISUSE where there is none. */
 uint32_t sandbox_unload(sandbox_module **module);
 
 /* Makes sectors an empty volume, in place: 137 to 65,536 sectors, 1 to 8,192 slots, and fewer slots than sectors - 122, else

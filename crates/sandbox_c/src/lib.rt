@@ -1,21 +1,26 @@
 //! What C calls (`include/sandbox.h`). Each export is one call of `sandbox_host`, under its contract.
 #![tactic(auto)]
 
-ghost use Rattle.std.specs.Prelude.{◌≡◌, ◌≢◌, ◌⊎◌, None, Some, IfSome, IsSomeAnd, is_none, true, false, length, drop, if◌then◌else◌};
+ghost use Rattle.std.specs.Prelude.{◌≡◌, ◌≢◌, ◌⊎◌, None, Some, IfSome, IsSomeAnd, is_none, true, false, length, drop, slice_get, if◌then◌else◌};
+ghost use Rattle.wasm_interp.specs.Frames.{frames_of};
 ghost use Rattle.vol_sector.specs.Record.{image_of};
 ghost use Rattle.vol_tree.specs.Fresh.{fresh};
 ghost use Rattle.vol_tree.specs.Stands.{StandsAs, empty_tree};
 ghost use Rattle.wasm_module.specs.declared.module.Module.{Module as ModuleValue};
-ghost use Rattle.sandbox_host.specs.Sessions.{running, finished, loaded, has_session, has_module, output, most_of, was_filled, sectors};
+ghost use Rattle.sandbox_host.specs.Sessions.{running, finished, loaded, prepared, has_session, has_module, module_of, output, most_of, was_filled, sectors};
 ghost use Rattle.sandbox_host.specs.Sessions.{IsLoaded, IsShown, Begins, BeginsFrom, Paused, Finishes};
 ghost use Rattle.sandbox_host.specs.Recording.{recorded, operation_of, told_operation};
+ghost use Rattle.sandbox_host.specs.Supplies.{most_pages};
+ghost use Rattle.sandbox_host.specs.Frames.{TellsFrame, name_of};
 ghost use Rattle.sandbox_host.specs.Volumes.{origin_of};
-ghost use Rattle.sandbox_host.specs.Refusals.{NotLoaded, NotBegun, NotOpened};
+ghost use Rattle.sandbox_host.specs.Refusals.{NotLoaded, NotBegunOf, NotOpened, NotPrepared};
 ghost use Rattle.sandbox_host.specs.Whole.{Ran, IsUnformatted};
 ghost use Rattle.sandbox_host.specs.Texts.{text_of};
 ghost use Rattle.sandbox_host.specs.declared.volumes.Origin.TheVariants.{Fresh};
 
-use sandbox_host::{Handle, Supplies, Told, VolumeOperation, VolumeSource, Why};
+use sandbox_host::{
+    FunctionFrame, Handle, Limits, Supplies, Told, VolumeOperation, VolumeSource, Why,
+};
 use std::alloc::Global;
 
 /// The version of the archive.
@@ -94,11 +99,50 @@ pub extern "C" fn sandbox_load(
     ensures misuse { is_none «module».old.held ≡ false
         → (result ≡ 100) × («module».new ≡ «module».old) × (why.new ≡ why.old) }
     ensures loaded { is_none «module».old.held ≡ true → result ≡ 0
-        → IsSomeAnd (loaded «module».new.held) (IsLoaded bytes.now) × (why.new ≡ why.old) }
+        → IsSomeAnd (loaded «module».new.held) (IsLoaded bytes.now) × (prepared «module».new.held ≡ None) × (why.new ≡ why.old) }
     ensures refused { is_none «module».old.held ≡ true → result ≢ 0 → («module».new.held ≡ None)
         × (((result ≡ why.new.fault) × NotLoaded bytes.now why.new) ⊎ ((result ≡ 40) × (why.new ≡ why.old))) }
 {
     sandbox_host::load_module(alloc, module, bytes, why)
+}
+
+/// Loads a module and makes all once that its sessions look up.
+#[unsafe(no_mangle)]
+pub extern "C" fn sandbox_prepare(
+    alloc: Global,
+    module: &mut Handle,
+    bytes: &'static [u8],
+    limits: &Limits,
+    why: &mut Why,
+) -> u32
+    ensures misuse { is_none «module».old.held ≡ false
+        → (result ≡ 100) × («module».new ≡ «module».old) × (why.new ≡ why.old) }
+    ensures loaded { is_none «module».old.held ≡ true → result ≡ 0
+        → IsSomeAnd (loaded «module».new.held) (IsLoaded bytes.now) × (why.new ≡ why.old) }
+    ensures prepared { is_none «module».old.held ≡ true → result ≡ 0
+        → IsSomeAnd (prepared «module».new.held) (λ ready. ready.pages ≡ most_pages limits.now) }
+    ensures refused { is_none «module».old.held ≡ true → result ≢ 0 → («module».new.held ≡ None)
+        × NotPrepared bytes.now limits.now result why.old why.new }
+{
+    sandbox_host::prepare(alloc, module, bytes, limits, why)
+}
+
+/// Gives a second handle the same prepared module.
+#[unsafe(no_mangle)]
+pub extern "C" fn sandbox_module_share(
+    alloc: Global,
+    other: &mut Handle,
+    module: &mut Handle,
+) -> u32
+    ensures misuse { ((is_none other.old.held ≡ false) ⊎ (has_module «module».old.held ≡ false)) ⊎ (is_none (prepared «module».old.held) ≡ true)
+        → (result ≡ 100) × (other.new.held ≡ other.old.held) }
+    ensures shared { is_none other.old.held ≡ true → has_module «module».old.held ≡ true → IfSome (prepared «module».old.held) (λ ready. result ≡ 0
+        → (loaded other.new.held ≡ Some ready.valid) × (prepared other.new.held ≡ Some ready)) }
+    ensures refused { is_none other.old.held ≡ true → has_module «module».old.held ≡ true → IfSome (prepared «module».old.held) (λ ready. result ≢ 0
+        → (result ≡ 40) × (other.new.held ≡ None)) }
+    ensures kept { «module».new.held ≡ «module».old.held }
+{
+    sandbox_host::share(alloc, other, module)
 }
 
 /// Makes a session of a loaded module.
@@ -114,10 +158,11 @@ pub extern "C" fn sandbox_open_loaded(
         → (result ≡ 100) × (session.new.held ≡ session.old.held) × («module».new.held ≡ «module».old.held) }
     ensures opened { is_none session.old.held ≡ true → IfSome (origin_of volume.now) (λ origin.
         IfSome (loaded «module».old.held) (λ m. result ≡ 0
-        → IsSomeAnd (running session.new.held) (Begins m supplies.now origin) × («module».new.held ≡ None))) }
+        → IsSomeAnd (running session.new.held) (Begins m supplies.now origin) × («module».new.held ≡ None)
+        × (prepared session.new.held ≡ prepared «module».old.held))) }
     ensures refused { is_none session.old.held ≡ true → IfSome (origin_of volume.now) (λ origin.
         IfSome (loaded «module».old.held) (λ m. result ≢ 0 → (session.new.held ≡ session.old.held)
-        × («module».new.held ≡ «module».old.held) × NotBegun m supplies.now origin result)) }
+        × («module».new.held ≡ «module».old.held) × NotBegunOf (prepared «module».old.held) m supplies.now origin result)) }
 {
     sandbox_host::open_loaded(alloc, session, module, supplies, volume)
 }
@@ -134,6 +179,7 @@ pub extern "C" fn sandbox_resume(
         → (result ≡ 100) × (session.new.held ≡ session.old.held) × (told.new ≡ told.old) }
     ensures resumed { IfSome (running session.old.held) (λ old. (result ≡ 0)
         × IsSomeAnd (running session.new.held) (λ new. Paused units old new told.new)) }
+    ensures prepared { prepared session.new.held ≡ prepared session.old.held }
 {
     sandbox_host::resume(alloc, session, units, told)
 }
@@ -165,6 +211,33 @@ pub extern "C" fn sandbox_full(alloc: Global, session: &mut Handle, descriptor: 
     sandbox_host::full(alloc, session, descriptor)
 }
 
+/// Tells a function at work.
+#[unsafe(no_mangle)]
+pub extern "C" fn sandbox_frame_at(
+    alloc: Global,
+    session: &mut Handle,
+    number: usize,
+    told: &mut FunctionFrame,
+) -> u32
+    ensures misuse { is_none (running session.old.held) ≡ true → (result ≡ 100) × (told.new ≡ told.old) }
+    ensures none { IfSome (running session.old.held) (λ s. slice_get (frames_of s.machine) number ≡ None
+        → (result ≡ 101) × (told.new ≡ told.old)) }
+    ensures told { IfSome (running session.old.held) (λ s. IfSome (slice_get (frames_of s.machine) number) (λ frame. (result ≡ 0)
+        × TellsFrame s.machine.valid frame told.new)) }
+    ensures kept { session.new.held ≡ session.old.held }
+{
+    sandbox_host::frame_at(alloc, session, number, told)
+}
+
+/// Copies what a function is called.
+#[unsafe(no_mangle)]
+pub extern "C" fn sandbox_function_name(module: &[u8], function: u32, room: &mut [u8]) -> usize
+    ensures length { result ≡ length (name_of «module».now function) }
+    ensures shown { IsShown (name_of «module».now function) room.old room.new }
+{
+    sandbox_host::function_name(module, function, room)
+}
+
 /// Commits, and ends the run.
 #[unsafe(no_mangle)]
 pub extern "C" fn sandbox_finish(alloc: Global, session: &mut Handle) -> u32
@@ -172,6 +245,7 @@ pub extern "C" fn sandbox_finish(alloc: Global, session: &mut Handle) -> u32
         → (result ≡ 100) × (session.new.held ≡ session.old.held) }
     ensures finished { IfSome (running session.old.held) (λ s.
         IsSomeAnd (finished session.new.held) (λ e. Finishes s e result)) }
+    ensures prepared { prepared session.new.held ≡ prepared session.old.held }
 {
     sandbox_host::finish(alloc, session)
 }
@@ -227,7 +301,8 @@ pub extern "C" fn sandbox_close_loaded(
     ensures misuse { (is_none (finished session.old.held) ≡ true) ⊎ (is_none «module».old.held ≡ false)
         → (result ≡ 100) × (session.new.held ≡ session.old.held) × («module».new.held ≡ «module».old.held) }
     ensures closed { IfSome (finished session.old.held) (λ e. is_none «module».old.held ≡ true
-        → (result ≡ 0) × (session.new.held ≡ None) × (loaded «module».new.held ≡ Some e.valid)) }
+        → (result ≡ 0) × (session.new.held ≡ None) × (loaded «module».new.held ≡ Some (module_of e.loaded))
+        × (prepared «module».new.held ≡ prepared session.old.held)) }
 {
     sandbox_host::close_loaded(alloc, session, module)
 }

@@ -189,6 +189,13 @@ where
         self.host.seed(seed)
     }
 
+    /// The module that it runs.
+    pub fn module(&self) -> &Valid<'a>
+        ensures { result.now ≡ self.now.machine.valid }
+    {
+        self.machine.module()
+    }
+
     /// The units of fuel used so far.
     pub fn used(&self) -> u64
         ensures { result ≡ used_by self.now }

@@ -14,6 +14,7 @@ use Rattle.sandbox_device.specs.contracts.recorded_device.RecordedDeviceDevice.T
 use Rattle.sandbox_host.specs.declared.kept.Kept.{Kept}
 use Rattle.sandbox_core.specs.Devices.{Devices}
 use Rattle.sandbox_core.specs.Session as core
+use Rattle.sandbox_core.specs.declared.session.Finished.{Finished}
 use Rattle.sandbox_core.specs.declared.report.Report.{Report}
 use Rattle.sandbox_core.specs.Report as report
 
@@ -73,6 +74,9 @@ Resumes = core.Resumes known
 
 abbrev pub Commits : HostVolume → Result HostVolume (Refused RecordedDevice) → Type 0
 Commits = core.Commits known.device
+
+abbrev pub FinishesAll : State → Finished RecordedDevice (Bor (List ℕ)) Bytes Bytes → Type 0
+FinishesAll = core.Finishes known.device
 
 abbrev pub Reports : State → ℕ → HostReport → Type 0
 Reports = report.Reports known

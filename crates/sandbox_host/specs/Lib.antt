@@ -7,6 +7,7 @@ pub mod Host
 pub mod Volumes
 pub mod Sessions
 pub mod Recording
+pub mod Frames
 pub mod Refusals
 pub mod Whole
 pub mod Texts

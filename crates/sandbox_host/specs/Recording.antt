@@ -8,6 +8,7 @@ use Rattle.sandbox_device.specs.Followed.{done_on}
 use Rattle.sandbox_host.specs.declared.recording.VolumeOperation.{VolumeOperation}
 use Rattle.sandbox_host.specs.declared.held.Held.{Held}
 use Rattle.sandbox_host.specs.declared.held.Held.TheVariants.{Loaded, Running, Finished, Nothing}
+use Rattle.sandbox_host.specs.Sessions.{state_of}
 
 -- the write or sync with this number, in the order in which they were done
 abbrev pub operation_of : RecordedDevice → ℕ → Option Operation
@@ -26,7 +27,7 @@ recorded_on d = if d.is_recorded then Some d else None
 -- that of a session as it is: while it runs, what isn't committed isn't on it yet
 abbrev pub recorded_in : Held → Option RecordedDevice
 recorded_in (Loaded m) = None
-recorded_in (Running s) = recorded_on s.host.volume.device
+recorded_in (Running s) = recorded_on (state_of s).host.volume.device
 recorded_in (Finished e) = recorded_on e.device
 recorded_in Nothing = None
 

@@ -15,10 +15,35 @@ use Rattle.sandbox_host.specs.declared.volumes.Origin.{Origin}
 use Rattle.sandbox_host.specs.declared.held.Held.{Held}
 use Rattle.sandbox_host.specs.declared.held.Held.TheVariants.{Loaded, Running, Finished, Nothing}
 use Rattle.sandbox_host.specs.declared.held.Ended.{Ended}
+use Rattle.sandbox_host.specs.declared.modules.LoadedModule.{LoadedModule}
+use Rattle.sandbox_host.specs.declared.modules.LoadedModule.TheVariants.{Plain, Prepared}
+use Rattle.sandbox_host.specs.declared.session.HostSession.{HostSession}
+use Rattle.sandbox_host.specs.declared.session.HostSession.TheVariants.{Own, Shared}
+use Rattle.wasm_interp.specs.Shared.{Ready}
 use Rattle.sandbox_host.specs.Numbers.{told_pause}
 use Rattle.sandbox_host.specs.Supplies.{most_output, is_known, settings_of}
 use Rattle.sandbox_host.specs.Host.{HostVolume, Bytes, State, Opens, Shares, Resumes, Commits}
 use Rattle.sandbox_host.specs.Volumes.{IsVolume}
+
+-- ---- modules and sessions, of which some share what was made once
+
+-- the module that is loaded, and what it was prepared as, if it was
+abbrev pub module_of : LoadedModule → Module
+module_of (Plain m) = m
+module_of (Prepared ready) = ready.valid
+
+abbrev pub ready_of : LoadedModule → Option Ready
+ready_of (Plain m) = None
+ready_of (Prepared ready) = Some ready
+
+-- what callers see of a session, and what its module was prepared as, if it was
+abbrev pub state_of : HostSession → State
+state_of (Own s) = s
+state_of (Shared s) = s.session
+
+abbrev pub ready_with : HostSession → Option Ready
+ready_with (Own s) = None
+ready_with (Shared s) = Some s.ready
 
 -- ---- what a handle has
 
@@ -45,7 +70,7 @@ has_module (Some held) = is_loaded held
 -- the session that isn't finished, what a finished one left, and the module that no session has
 abbrev pub running_in : Held → Option State
 running_in (Loaded m) = None
-running_in (Running s) = Some s
+running_in (Running s) = Some (state_of s)
 running_in (Finished e) = None
 running_in Nothing = None
 
@@ -56,10 +81,17 @@ finished_in (Finished e) = Some e
 finished_in Nothing = None
 
 abbrev pub loaded_in : Held → Option Module
-loaded_in (Loaded m) = Some m
+loaded_in (Loaded m) = Some (module_of m)
 loaded_in (Running s) = None
 loaded_in (Finished e) = None
 loaded_in Nothing = None
+
+-- what its module was prepared as, loaded or in a session, if it was
+abbrev pub prepared_in : Held → Option Ready
+prepared_in (Loaded m) = ready_of m
+prepared_in (Running s) = ready_with s
+prepared_in (Finished e) = ready_of e.loaded
+prepared_in Nothing = None
 
 abbrev pub running : Option Held → Option State
 running None = None
@@ -73,13 +105,17 @@ abbrev pub loaded : Option Held → Option Module
 loaded None = None
 loaded (Some held) = loaded_in held
 
+abbrev pub prepared : Option Held → Option Ready
+prepared None = None
+prepared (Some held) = prepared_in held
+
 -- what the guest has written so far to a descriptor
 abbrev pub stream : Bytes → Bytes → ℕ → List ℕ
 stream out err descriptor = if descriptor == 1 then out.bytes.items else (if descriptor == 2 then err.bytes.items else [])
 
 abbrev pub output_of : Held → ℕ → List ℕ
 output_of (Loaded m) descriptor = []
-output_of (Running s) descriptor = stream s.host.out.writer s.host.err.writer descriptor
+output_of (Running s) descriptor = stream (state_of s).host.out.writer (state_of s).host.err.writer descriptor
 output_of (Finished e) descriptor = stream e.out e.err descriptor
 output_of Nothing descriptor = []
 
@@ -96,13 +132,13 @@ is_filled out err descriptor = if descriptor == 1 then out.full else (if descrip
 
 abbrev pub bound_of : Held → ℕ → ℕ
 bound_of (Loaded m) descriptor = 0
-bound_of (Running s) descriptor = bound s.host.out.writer s.host.err.writer descriptor
+bound_of (Running s) descriptor = bound (state_of s).host.out.writer (state_of s).host.err.writer descriptor
 bound_of (Finished e) descriptor = bound e.out e.err descriptor
 bound_of Nothing descriptor = 0
 
 abbrev pub is_filled_of : Held → ℕ → Bool
 is_filled_of (Loaded m) descriptor = false
-is_filled_of (Running s) descriptor = is_filled s.host.out.writer s.host.err.writer descriptor
+is_filled_of (Running s) descriptor = is_filled (state_of s).host.out.writer (state_of s).host.err.writer descriptor
 is_filled_of (Finished e) descriptor = is_filled e.out e.err descriptor
 is_filled_of Nothing descriptor = false
 
@@ -179,6 +215,6 @@ pub record Finishes (s : State) (e : Ended) (number : ℕ) : Type 0 where
   pub commits : Commits s.host.volume volume
   pub device : e.device ≡ returned_device volume
   pub number_told : number ≡ commit_number volume
-  pub valid : e.valid ≡ s.machine.valid
+  pub valid : module_of e.loaded ≡ s.machine.valid
   pub out : e.out ≡ s.host.out.writer
   pub err : e.err ≡ s.host.err.writer

@@ -1,7 +1,7 @@
 //! Sessions and modules that are discarded.
 
 ghost use Rattle.std.specs.Prelude.{◌≡◌, ◌≢◌, ◌⊎◌, None, Some, IfSome, IsSomeAnd, is_none, true, false};
-ghost use Rattle.sandbox_host.specs.Sessions.{finished, finished_in, loaded, loaded_in, has_session, has_module};
+ghost use Rattle.sandbox_host.specs.Sessions.{finished, finished_in, loaded, loaded_in, prepared, prepared_in, module_of, has_session, has_module};
 
 use crate::handle::Handle;
 use crate::held::{Ended, Held};
@@ -44,13 +44,14 @@ pub fn unload(alloc: Global, module: &mut Handle) -> u32
 
 /// What a finished session becomes where its module is kept.
 fn unloaded(held: Held) -> (Held, u32)
-    ensures kept { IfSome (finished_in held) (λ e. (result.1 ≡ 0) × (loaded_in result.0 ≡ Some e.valid)) }
+    ensures kept { IfSome (finished_in held) (λ e. (result.1 ≡ 0) × (loaded_in result.0 ≡ Some (module_of e.loaded))
+        × (prepared_in result.0 ≡ prepared_in held)) }
     ensures other { is_none (finished_in held) ≡ true → (result.1 ≡ 100) × (result.0 ≡ held) }
 {
     match held {
         Held::Finished(
             Ended {
-                valid,
+                loaded,
                 device,
                 out,
                 err,
@@ -59,7 +60,7 @@ fn unloaded(held: Held) -> (Held, u32)
             drop(device);
             drop(out);
             drop(err);
-            (Held::Loaded(valid), OK)
+            (Held::Loaded(loaded), OK)
         }
         other => (other, MISUSE),
     }
@@ -70,7 +71,8 @@ pub fn close_loaded(alloc: Global, session: &mut Handle, module: &mut Handle) ->
     ensures misuse { (is_none (finished session.old.held) ≡ true) ⊎ (is_none «module».old.held ≡ false)
         → (result ≡ MISUSE) × (session.new.held ≡ session.old.held) × («module».new.held ≡ «module».old.held) }
     ensures closed { IfSome (finished session.old.held) (λ e. is_none «module».old.held ≡ true
-        → (result ≡ OK) × (session.new.held ≡ None) × (loaded «module».new.held ≡ Some e.valid)) }
+        → (result ≡ OK) × (session.new.held ≡ None) × (loaded «module».new.held ≡ Some (module_of e.loaded))
+        × (prepared «module».new.held ≡ prepared session.old.held)) }
 {
     if !module.is_closed() {
         return MISUSE;

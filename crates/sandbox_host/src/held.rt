@@ -4,18 +4,16 @@ ghost use Rattle.std.specs.Prelude.{◌≡◌, length};
 ghost use Rattle.sandbox_host.specs.Sessions.{stream, is_filled};
 
 use crate::kept::Kept;
+use crate::modules::LoadedModule;
+use crate::session::HostSession;
 use crate::showing::show_sectors;
-use sandbox_core::{Session, Valid};
 use sandbox_device::RecordedDevice;
 use vol_sector::Device;
-
-/// A session of a host, over its device, whose output is kept in memory.
-pub type HostSession<'a> = Session<'a, 'a, 'a, RecordedDevice, &'a [u8], Kept, Kept>;
 
 /// What a finished session leaves.
 #[derive(Drop)]
 pub struct Ended {
-    pub valid: Valid<'static>,
+    pub loaded: LoadedModule,
     pub device: RecordedDevice,
     pub out: Kept,
     pub err: Kept,
@@ -47,9 +45,9 @@ fn is_filled(out: &Kept, err: &Kept, descriptor: u32) -> bool
 #[derive(Drop)]
 pub enum Held {
     /// A module that no session has.
-    Loaded(Valid<'static>),
+    Loaded(LoadedModule),
     /// A session that isn't finished.
-    Running(HostSession<'static>),
+    Running(HostSession),
     /// A session that is finished.
     Finished(Ended),
     /// Nothing, while a call changes what it has.

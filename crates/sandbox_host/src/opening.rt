@@ -1,19 +1,22 @@
 //! Modules that are loaded, and sessions that begin.
 
 ghost use Rattle.std.specs.Prelude.{◌≡◌, ◌≢◌, ◌⊎◌, None, Some, IfOk, IfErr, IfSome, IsSomeAnd, is_none, true, false};
-ghost use Rattle.sandbox_host.specs.Sessions.{running, running_in, loaded, loaded_in, has_module, IsLoaded, Begins, BeginsFrom};
+ghost use Rattle.sandbox_host.specs.Sessions.{running, running_in, loaded, loaded_in, prepared, prepared_in, module_of, ready_of, state_of, ready_with, IsLoaded, Begins, BeginsFrom};
 ghost use Rattle.sandbox_host.specs.Volumes.{origin_of};
-ghost use Rattle.sandbox_host.specs.Refusals.{NotLoaded, NotBegun, NotOpened};
+ghost use Rattle.sandbox_host.specs.Refusals.{NotLoaded, NotBegun, NotBegunOf, NotOpened};
 
 use crate::handle::Handle;
-use crate::held::{Held, HostSession};
+use crate::held::Held;
 use crate::kept::Kept;
+use crate::modules::LoadedModule;
 use crate::numbers::{
     MISUSE, OK, OUT_OF_MEMORY, SETTING, Why, session_number, volume_number, why_of,
 };
+use crate::session::{HostSession, OwnSession};
+use crate::sharing::{SharedHostSession, Sharing};
 use crate::supplies::Supplies;
 use crate::volumes::{Origin, VolumeSource, open_volume};
-use sandbox_core::{RefusedSession, Session, Valid};
+use sandbox_core::{RefusedParts, RefusedSession, Session, SharedModule, SharedSession, Valid};
 use std::alloc::Global;
 
 /// Why a session doesn't begin, with its module.
@@ -41,7 +44,7 @@ pub(crate) fn begin<'a>(
     valid: Valid<'a>,
     supplies: &Supplies<'a>,
     origin: Origin<'_>,
-) -> Result<HostSession<'a>, HandedBack<'a>>
+) -> Result<OwnSession<'a>, HandedBack<'a>>
     ensures begins { IfOk result (Begins valid.entry supplies.now origin.entry) }
     ensures refused { IfErr result (λ r. NotBegun valid.entry supplies.now origin.entry r.number) }
     ensures module { IfErr result (λ r. r.valid ≡ valid.entry) }
@@ -86,8 +89,45 @@ pub(crate) fn begin<'a>(
     }
 }
 
+/// Makes a session of a prepared module, as `begin` does: its limits have the pages that the module was prepared for.
+fn begin_shared<'a>(
+    alloc: Global,
+    ready: &SharedModule<'a>,
+    supplies: &Supplies<'a>,
+    origin: Origin<'_>,
+) -> Result<SharedHostSession<'a>, u32>
+    ensures begins { IfOk result (Begins ready.now.valid supplies.now origin.entry) }
+    ensures refused { IfErr result (NotBegunOf (Some ready.now) ready.now.valid supplies.now origin.entry) }
+    ensures some { IfErr result (λ number. number ≢ 0) }
+{
+    if !supplies.limits.is_known() {
+        return Err(SETTING);
+    }
+    if ready.pages() != supplies.limits.most_pages() {
+        return Err(SETTING);
+    }
+    let volume = match open_volume(alloc, origin) {
+        Ok(volume) => volume,
+        Err(fault) => return Err(volume_number(fault)),
+    };
+    let settings = supplies.settings();
+    let most = supplies.limits.most_output();
+    let out = Kept::new(alloc, most);
+    let err = Kept::new(alloc, most);
+    match SharedSession::new(alloc, ready, settings, volume, supplies.input, out, err) {
+        Ok(mut session) => {
+            session.limit_values(supplies.limits.most_values() as usize);
+            Ok(session)
+        }
+        Err(RefusedParts { parts, fault }) => {
+            drop(parts);
+            Err(session_number(fault))
+        }
+    }
+}
+
 /// Puts something into a closed handle, or says that memory was refused.
-fn keep(alloc: Global, handle: &mut Handle, held: Held) -> u32
+pub(crate) fn keep(alloc: Global, handle: &mut Handle, held: Held) -> u32
     requires { is_none handle.old.held ≡ true }
     ensures kept { result ≡ 0 → handle.new.held ≡ Some held }
     ensures refused { result ≢ 0 → (result ≡ 40) × (handle.new.held ≡ None) }
@@ -111,7 +151,7 @@ pub(crate) fn begin_from<'a>(
     supplies: &Supplies<'a>,
     origin: Origin<'_>,
     why: &mut Why,
-) -> Result<HostSession<'a>, u32>
+) -> Result<OwnSession<'a>, u32>
     ensures begins { IfOk result (λ s. BeginsFrom «module».now supplies.now origin.entry s
         × (why.new ≡ why.old)) }
     ensures refused { IfErr result (λ number.
@@ -150,7 +190,7 @@ fn open_from(
         × NotOpened «module».now supplies.now origin.entry result why.old why.new }
 {
     match begin_from(alloc, module, supplies, origin, why) {
-        Ok(begun) => keep(alloc, session, Held::Running(begun)),
+        Ok(begun) => keep(alloc, session, Held::Running(HostSession::Own(begun))),
         Err(number) => number,
     }
 }
@@ -186,7 +226,7 @@ pub fn load_module(alloc: Global, module: &mut Handle, bytes: &'static [u8], why
     ensures misuse { is_none «module».old.held ≡ false
         → (result ≡ MISUSE) × («module».new ≡ «module».old) × (why.new ≡ why.old) }
     ensures loaded { is_none «module».old.held ≡ true → result ≡ 0
-        → IsSomeAnd (loaded «module».new.held) (IsLoaded bytes.now) × (why.new ≡ why.old) }
+        → IsSomeAnd (loaded «module».new.held) (IsLoaded bytes.now) × (prepared «module».new.held ≡ None) × (why.new ≡ why.old) }
     ensures refused { is_none «module».old.held ≡ true → result ≢ 0 → («module».new.held ≡ None)
         × (((result ≡ why.new.fault) × NotLoaded bytes.now why.new) ⊎ ((result ≡ 40) × (why.new ≡ why.old))) }
 {
@@ -194,7 +234,7 @@ pub fn load_module(alloc: Global, module: &mut Handle, bytes: &'static [u8], why
         return MISUSE;
     }
     match load(alloc, bytes) {
-        Ok(valid) => keep(alloc, module, Held::Loaded(valid)),
+        Ok(valid) => keep(alloc, module, Held::Loaded(LoadedModule::Plain(valid))),
         Err(told) => {
             *why = told;
             told.fault
@@ -202,18 +242,43 @@ pub fn load_module(alloc: Global, module: &mut Handle, bytes: &'static [u8], why
     }
 }
 
+/// Makes a session of a loaded module, or hands it back with the number of the refusal.
+fn begin_of(
+    alloc: Global,
+    loaded: LoadedModule,
+    supplies: &Supplies<'static>,
+    origin: Origin<'_>,
+) -> Result<HostSession, (LoadedModule, u32)>
+    ensures begins { IfOk result (λ s. Begins (module_of loaded) supplies.now origin.entry (state_of s)
+        × (ready_with s ≡ ready_of loaded)) }
+    ensures refused { IfErr result (λ r. NotBegunOf (ready_of loaded) (module_of loaded) supplies.now origin.entry r.1) }
+    ensures module { IfErr result (λ r. r.0 ≡ loaded) }
+    ensures some { IfErr result (λ r. r.1 ≢ 0) }
+{
+    match loaded {
+        LoadedModule::Plain(valid) => match begin(alloc, valid, supplies, origin) {
+            Ok(session) => Ok(HostSession::Own(session)),
+            Err(HandedBack { valid, number }) => Err((LoadedModule::Plain(valid), number)),
+        },
+        LoadedModule::Prepared(ready) => match begin_shared(alloc, &ready, supplies, origin) {
+            Ok(session) => Ok(HostSession::Shared(Sharing { session, ready })),
+            Err(number) => Err((LoadedModule::Prepared(ready), number)),
+        },
+    }
+}
+
 /// What a loaded module becomes: a session that begins, or itself where it is refused.
 fn begun(alloc: Global, held: Held, supplies: &Supplies<'static>, origin: Origin<'_>) -> (Held, u32)
     ensures begins { IfSome (loaded_in held) (λ m. result.1 ≡ 0
-        → IsSomeAnd (running_in result.0) (Begins m supplies.now origin.entry)) }
+        → IsSomeAnd (running_in result.0) (Begins m supplies.now origin.entry) × (prepared_in result.0 ≡ prepared_in held)) }
     ensures refused { IfSome (loaded_in held) (λ m. result.1 ≢ 0
-        → (result.0 ≡ held) × NotBegun m supplies.now origin.entry result.1) }
+        → (result.0 ≡ held) × NotBegunOf (prepared_in held) m supplies.now origin.entry result.1) }
     ensures other { is_none (loaded_in held) ≡ true → (result.1 ≡ 100) × (result.0 ≡ held) }
 {
     match held {
-        Held::Loaded(valid) => match begin(alloc, valid, supplies, origin) {
+        Held::Loaded(loaded) => match begin_of(alloc, loaded, supplies, origin) {
             Ok(session) => (Held::Running(session), OK),
-            Err(HandedBack { valid, number }) => (Held::Loaded(valid), number),
+            Err((loaded, number)) => (Held::Loaded(loaded), number),
         },
         other => (other, MISUSE),
     }
@@ -232,10 +297,11 @@ pub fn open_loaded(
         → (result ≡ MISUSE) × (session.new.held ≡ session.old.held) × («module».new.held ≡ «module».old.held) }
     ensures opened { is_none session.old.held ≡ true → IfSome (origin_of volume.now) (λ origin.
         IfSome (loaded «module».old.held) (λ m. result ≡ 0
-        → IsSomeAnd (running session.new.held) (Begins m supplies.now origin) × («module».new.held ≡ None))) }
+        → IsSomeAnd (running session.new.held) (Begins m supplies.now origin) × («module».new.held ≡ None)
+        × (prepared session.new.held ≡ prepared «module».old.held))) }
     ensures refused { is_none session.old.held ≡ true → IfSome (origin_of volume.now) (λ origin.
         IfSome (loaded «module».old.held) (λ m. result ≢ 0 → (session.new.held ≡ session.old.held)
-        × («module».new.held ≡ «module».old.held) × NotBegun m supplies.now origin result)) }
+        × («module».new.held ≡ «module».old.held) × NotBegunOf (prepared «module».old.held) m supplies.now origin result)) }
 {
     let Some(origin) = volume.origin() else {
         return MISUSE;

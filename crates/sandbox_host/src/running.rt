@@ -1,21 +1,23 @@
 //! Sessions that run, what they have written, and their ends.
 
 ghost use Rattle.std.specs.Prelude.{◌≡◌, ◌≢◌, ◌⊎◌, None, Some, IfSome, IsSomeAnd, is_none, true, false, length, drop, min, take, ◌++◌, if◌then◌else◌};
-ghost use Rattle.sandbox_host.specs.Sessions.{running, running_in, finished, finished_in, loaded, has_session, has_module};
+ghost use Rattle.sandbox_host.specs.Sessions.{running, running_in, finished, finished_in, state_of, ready_with, ready_of, prepared, prepared_in};
 ghost use Rattle.sandbox_host.specs.Sessions.{output, most_of, was_filled, sectors, IsShown, Paused, Finishes, returned_device, commit_number};
 
 use crate::handle::Handle;
-use crate::held::{Ended, Held, HostSession};
+use crate::held::{Ended, Held};
 use crate::numbers::{DEVICE_FAILED, MISUSE, OK, Told, told_pause};
-use crate::showing::{show, show_sectors};
+use crate::session::HostSession;
+use crate::showing::show;
 use sandbox_core::{Finished, Volume};
 use sandbox_device::RecordedDevice;
 use std::alloc::Global;
 use vol_sector::Refused;
 
 /// Lets a session go on for at most this many units, and not past 2^64 - 1 in all.
-fn go_on(session: &mut HostSession<'static>, units: u64) -> Told
-    ensures { Paused units session.old session.new result }
+fn go_on(session: &mut HostSession, units: u64) -> Told
+    ensures paused { Paused units (state_of session.old) (state_of session.new) result }
+    ensures ready { ready_with session.new ≡ ready_with session.old }
 {
     let most = units.min(u64::MAX - session.used());
     let pause = session.resume(most);
@@ -29,6 +31,7 @@ pub fn resume(alloc: Global, session: &mut Handle, units: u64, told: &mut Told) 
         → (result ≡ MISUSE) × (session.new.held ≡ session.old.held) × (told.new ≡ told.old) }
     ensures resumed { IfSome (running session.old.held) (λ old. (result ≡ OK)
         × IsSomeAnd (running session.new.held) (λ new. Paused units old new told.new)) }
+    ensures prepared { prepared session.new.held ≡ prepared session.old.held }
 {
     let Some(mut held) = session.take(alloc) else {
         return MISUSE;
@@ -110,22 +113,23 @@ fn handed_back(
 }
 
 /// Commits a session's calls. What is left of it, and whether its device failed.
-fn end(session: HostSession<'static>) -> (Ended, u32)
-    ensures { Finishes session.entry result.0 result.1 }
+fn end(session: HostSession) -> (Ended, u32)
+    ensures finishes { Finishes (state_of session) result.0 result.1 }
+    ensures ready { ready_of result.0.loaded ≡ ready_with session }
 {
     let (
-        valid,
+        loaded,
         Finished {
             volume,
             out,
             err,
             ..
         },
-    ) = session.finish_with_module();
+    ) = session.finish();
     let (device, number) = handed_back(volume);
     (
         Ended {
-            valid,
+            loaded,
             device,
             out,
             err,
@@ -138,6 +142,7 @@ fn end(session: HostSession<'static>) -> (Ended, u32)
 fn ended(held: Held) -> (Held, u32)
     ensures finished { IfSome (running_in held) (λ s. IsSomeAnd (finished_in result.0) (λ e. Finishes s e result.1)) }
     ensures other { is_none (running_in held) ≡ true → (result.1 ≡ 100) × (result.0 ≡ held) }
+    ensures prepared { prepared_in result.0 ≡ prepared_in held }
 {
     match held {
         Held::Running(session) => {
@@ -155,6 +160,7 @@ pub fn finish(alloc: Global, session: &mut Handle) -> u32
         → (result ≡ MISUSE) × (session.new.held ≡ session.old.held) }
     ensures finished { IfSome (running session.old.held) (λ s.
         IsSomeAnd (finished session.new.held) (λ e. Finishes s e result)) }
+    ensures prepared { prepared session.new.held ≡ prepared session.old.held }
 {
     let Some(mut held) = session.take(alloc) else {
         return MISUSE;

@@ -38,7 +38,7 @@ impl Limits {
     }
 
     /// The pages of memory that it may have.
-    fn most_pages(&self) -> u32
+    pub(crate) fn most_pages(&self) -> u32
         ensures { result ≡ most_pages self.now }
     {
         if self.pages == 0 { PAGES } else { self.pages }

@@ -77,6 +77,13 @@ impl<'a> Machine<'a> {
         self.state.resume(&self.prepared, host, units)
     }
 
+    /// The module that it runs.
+    pub fn module(&self) -> &Valid<'a>
+        ensures { result.now ≡ self.now.valid }
+    {
+        &self.prepared.valid
+    }
+
     /// The units used so far.
     pub fn used(&self) -> u64
         ensures { result ≡ self.now.used }

@@ -3,7 +3,7 @@ use Rattle.std.proofs.lemmas.Bool.{false≢true}
 use Rattle.std.proofs.lemmas.Option.{IfSome_then}
 use Rattle.std.specs.Option.{is_none}
 use Rattle.sandbox_host.specs.declared.handle.Handle.{Handle}
-use Rattle.sandbox_host.specs.Sessions.{finished, finished_in, loaded}
+use Rattle.sandbox_host.specs.Sessions.{finished, finished_in, loaded, prepared}
 use Rattle.sandbox_host.proofs.closing.close_loaded.Goals as goal
 
 -- the module of the session that was finished
@@ -18,7 +18,7 @@ returns-then-number-eq-OK c =
         | inl none ↦ let other = unloaded.other (sym (ap (λ o. is_none (finished o)) had) ∙ none) in absurd (omega (arith, other.0, c.if-number-eq-OK.true))
         | inr is_open ↦ absurd (false≢true (sym is_open ∙ closed))
       ];
-      closed = rw had (IfSome_then (finished_in c.replace.result) unloaded.kept (λ e kept _. (kept.0, c.take.ensures.closed, ap loaded has ∙ kept.1)));
+      closed = rw had (IfSome_then (finished_in c.replace.result) unloaded.kept (λ e kept _. (kept.0, c.take.ensures.closed, ap loaded has ∙ kept.1, ap prepared has ∙ kept.2)));
     }
 
 -- what the session's handle had is put back

@@ -4,7 +4,7 @@ use Rattle.std.proofs.lemmas.Option.{IfSome_then}
 use Rattle.std.specs.Option.{IsSomeAnd, is_none}
 use Rattle.sandbox_host.specs.declared.handle.Handle.{Handle}
 use Rattle.sandbox_host.specs.declared.held.Held.{Held}
-use Rattle.sandbox_host.specs.Sessions.{running, loaded, loaded_in, Begins}
+use Rattle.sandbox_host.specs.Sessions.{running, loaded, loaded_in, prepared, Begins}
 use Rattle.sandbox_host.specs.Volumes.{origin_of}
 use Rattle.sandbox_host.proofs.opening.open_loaded.Goals as goal
 
@@ -21,9 +21,10 @@ returns-then-number-eq-OK c =
         | inl told ↦ elim told [ inl is_open ↦ absurd (false≢true (sym is_open ∙ closed)) | inr unknown ↦ absurd (false≢true (sym (ap is_none named) ∙ unknown)) ]
         | inr none ↦ let other = begun.other (sym (ap (λ o. is_none (loaded o)) had) ∙ none) in absurd (omega (arith, other.0, c.if-number-eq-OK.true))
       ];
-      opened = λ _. rw (named, had) (IfSome_then (loaded_in c.replace.result) begun.begins (λ m begins none. (
-        subst (λ (h : Option Held). IsSomeAnd (running h) (Begins m c.args.supplies.now c.in-Some.origin)) (sym has) (begins none),
+      opened = λ _. rw (named, had) (IfSome_then (loaded_in c.replace.result) begun.begins (λ m begins none. let both = begins none in (
+        subst (λ (h : Option Held). IsSomeAnd (running h) (Begins m c.args.supplies.now c.in-Some.origin)) (sym has) both.0,
         c.take.ensures.closed,
+        ap prepared has ∙ both.1,
       )));
       refused = λ _. rw (named, had) (IfSome_then (loaded_in c.replace.result) begun.begins (λ m _ some. absurd (some c.if-number-eq-OK.true)));
     }

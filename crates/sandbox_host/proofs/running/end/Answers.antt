@@ -1,8 +1,8 @@
 use Rattle.sandbox_host.proofs.running.end.Goals as goal
 
-pub returns : goal.returns
-returns c =
-    let made = c.finish_with_module-valid in
+pub returns-clause-finishes : goal.returns-clause-finishes
+returns-clause-finishes c =
+    let made = c.finish-loaded in
     record {
       volume = made.result.1.volume;
       commits = made.ensures.finishes.volume;

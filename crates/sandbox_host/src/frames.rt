@@ -1,0 +1,131 @@
+//! Which functions are at work, where they stand, and what they are called.
+
+ghost use Rattle.std.specs.Prelude.{◌≡◌, None, IfSome, is_none, true, length, slice_get};
+ghost use Rattle.wasm_interp.specs.Frames.{frames_of};
+ghost use Rattle.sandbox_host.specs.Sessions.{running, state_of, IsShown};
+ghost use Rattle.sandbox_host.specs.Frames.{instruction_of, TellsFrame, name_of, number_name};
+
+use crate::handle::Handle;
+use crate::held::Held;
+use crate::numbers::{MISUSE, OK};
+use crate::session::HostSession;
+use crate::showing::show;
+use arrayvec::ArrayString;
+use itoa::Buffer;
+use module_survey::called;
+use sandbox_core::{Frame, Valid};
+use std::alloc::Global;
+use wasm_valid::instruction_offset;
+
+/// No function is at work with so many inside it.
+pub const NO_FRAME: u32 = 101;
+
+/// A function at work, as C has it.
+#[repr(C)]
+#[derive(Clone, Copy)]
+pub struct FunctionFrame {
+    /// Its index, the imported ones counted first.
+    pub function: u32,
+    /// Where its instruction begins in the module's bytes.
+    pub offset: u32,
+}
+
+/// The instruction at which a function stands that goes on with this one: a caller at its call, which is the one before.
+fn instruction_of(number: usize, next: usize) -> usize
+    ensures { result ≡ instruction_of number next }
+{
+    if number == 0 {
+        next
+    } else {
+        next.saturating_sub(1)
+    }
+}
+
+/// Where the instruction of one of the module's own functions begins in its bytes.
+fn offset_of(module: &Valid<'_>, own: usize, instruction: usize) -> u32 {
+    match module.module().bodies.as_slice().get(own) {
+        Some(body) => instruction_offset(body, instruction),
+        None => 0,
+    }
+}
+
+/// Tells a function at work that has so many inside it.
+fn tell_frame(module: &Valid<'_>, number: usize, frame: Frame) -> FunctionFrame
+    ensures { TellsFrame «module».now frame result }
+{
+    let imported = module.module().imports.as_slice().len();
+    let index = imported.saturating_add(frame.own);
+    FunctionFrame {
+        function: u32::try_from(index).unwrap_or(u32::MAX),
+        offset: offset_of(module, frame.own, instruction_of(number, frame.next)),
+    }
+}
+
+/// Tells the function at work of a session that has so many inside it.
+fn frame_of(session: &HostSession, number: usize, told: &mut FunctionFrame) -> u32
+    ensures none { slice_get (frames_of (state_of session.now).machine) number ≡ None → (result ≡ 101) × (told.new ≡ told.old) }
+    ensures told { IfSome (slice_get (frames_of (state_of session.now).machine) number) (λ frame. (result ≡ 0)
+        × TellsFrame (state_of session.now).machine.valid frame told.new) }
+{
+    match session.frame(number) {
+        Some(frame) => {
+            *told = tell_frame(session.module(), number, frame);
+            OK
+        }
+        None => NO_FRAME,
+    }
+}
+
+/// Tells the function at work that has so many inside it, 0 the innermost: which it is, and where it stands in the module's bytes,
+/// at the instruction that comes next, or at its call. While the session runs they are those of the run then; of a trap, and out
+/// of memory, those that were at work.
+pub fn frame_at(alloc: Global, session: &mut Handle, number: usize, told: &mut FunctionFrame) -> u32
+    ensures misuse { is_none (running session.old.held) ≡ true → (result ≡ MISUSE) × (told.new ≡ told.old) }
+    ensures none { IfSome (running session.old.held) (λ s. slice_get (frames_of s.machine) number ≡ None
+        → (result ≡ NO_FRAME) × (told.new ≡ told.old)) }
+    ensures told { IfSome (running session.old.held) (λ s. IfSome (slice_get (frames_of s.machine) number) (λ frame. (result ≡ OK)
+        × TellsFrame s.machine.valid frame told.new)) }
+    ensures kept { session.new.held ≡ session.old.held }
+{
+    let Some(held) = session.take(alloc) else {
+        return MISUSE;
+    };
+    let answer = match &*held {
+        Held::Running(running) => frame_of(running, number, told),
+        _ => MISUSE,
+    };
+    session.put(held);
+    answer
+}
+
+/// `function[3]`, for a function without a name.
+fn number_name(function: u32) -> ArrayString<20>
+    ensures { result.bytes ≡ number_name function }
+{
+    let mut digits = Buffer::new();
+    let mut text = ArrayString::new();
+    text.push_str("function[");
+    text.push_str(digits.format(function));
+    text.push_str("]");
+    text
+}
+
+/// Copies what a function is called as far as there is room, and says how long it is: its name in the module's section `name`, else
+/// that of its first export, else `function[3]` with its index.
+pub fn function_name(module: &[u8], function: u32, room: &mut [u8]) -> usize
+    ensures length { result ≡ length (name_of «module».now function) }
+    ensures shown { IsShown (name_of «module».now function) room.old room.new }
+{
+    match called(module, u64::from(function)) {
+        Some(name) => {
+            show(name, room);
+            name.len()
+        }
+        None => {
+            let text = number_name(function);
+            let bytes = text.as_str().as_bytes();
+            show(bytes, room);
+            bytes.len()
+        }
+    }
+}
