@@ -1,6 +1,6 @@
 //! Why a run could not begin.
 
-ghost use Rattle.std.specs.Prelude.{◌≡◌};
+ghost use Rattle.std.specs.Prelude.{◌≡◌, ◌≢◌, ◌<◌, IfSome};
 ghost use Rattle.run_report.specs.Faults.{fault_answer, fault_number, fault_offset, fault_status, fault_text};
 ghost use Rattle.run_report.specs.Faults.{instance_number, load_number, load_offset, rule_text, volume_number};
 
@@ -30,7 +30,8 @@ pub enum Fault {
 
 /// The number of a module's fault; none where it is out of memory.
 fn load_number(fault: LoadFault) -> Option<u32>
-    ensures { result ≡ load_number fault }
+    ensures number { result ≡ load_number fault }
+    ensures some { IfSome result (λ n. 0 < n) }
 {
     match fault {
         LoadFault::Truncated { .. } => Some(1),
@@ -72,7 +73,8 @@ fn load_offset(fault: LoadFault) -> Option<u32>
 
 /// The number of a volume's fault; none where it is out of memory.
 fn volume_number(fault: VolumeFault) -> Option<u32>
-    ensures { result ≡ volume_number fault }
+    ensures number { result ≡ volume_number fault }
+    ensures some { IfSome result (λ n. 0 < n) }
 {
     match fault {
         VolumeFault::NotAVolume => Some(30),
@@ -115,7 +117,8 @@ pub fn rule_text(rule: Rule) -> &'static str
 
 /// The number of an instance's fault; none where it is out of memory.
 fn instance_number(fault: InstanceFault) -> Option<u32>
-    ensures { result ≡ instance_number fault }
+    ensures number { result ≡ instance_number fault }
+    ensures some { IfSome result (λ n. 0 < n) }
 {
     match fault {
         InstanceFault::Import => Some(13),
@@ -130,7 +133,8 @@ fn instance_number(fault: InstanceFault) -> Option<u32>
 impl Fault {
     /// Its number, as `sandbox help faults` has it; none where it is out of memory.
     pub fn number(self) -> Option<u32>
-        ensures { result ≡ fault_number self }
+        ensures number { result ≡ fault_number self }
+        ensures some { IfSome result (λ n. 0 < n) }
     {
         match self {
             Fault::Module(fault) => load_number(fault),
@@ -165,7 +169,8 @@ impl Fault {
 
     /// Its number as the library answers it, which has one where it is out of memory, too.
     pub fn answer(self) -> u32
-        ensures { result ≡ fault_answer self }
+        ensures answer { result ≡ fault_answer self }
+        ensures some { result ≢ 0 }
     {
         self.number().unwrap_or(MEMORY_REFUSED)
     }

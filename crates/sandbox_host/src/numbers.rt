@@ -1,10 +1,11 @@
 //! What a host in C is told, as numbers.
 
 ghost use Rattle.std.specs.Prelude.{◌≡◌, ◌≢◌};
-ghost use Rattle.sandbox_host.specs.Numbers.{why_of, instance_number, session_number, volume_number};
-ghost use Rattle.sandbox_host.specs.Numbers.{trap_number, call_number, told_end, told_pause};
+ghost use Rattle.sandbox_host.specs.Numbers.{why_of, session_fault, session_number, volume_number};
+ghost use Rattle.sandbox_host.specs.Numbers.{call_number, told_end, told_pause};
 
-use sandbox_core::{HostCall, InstanceFault, LoadFault, Outcome, Pause, SessionFault, Trap};
+use run_report::{Fault, outcome_number, trap_number};
+use sandbox_core::{HostCall, LoadFault, Outcome, Pause, SessionFault};
 use vol_sector::VolumeFault;
 
 /// The call did what it was asked.
@@ -26,7 +27,7 @@ pub const OUT_OF_MEMORY: u32 = 40;
 pub const MISUSE: u32 = 100;
 
 /// The version: 1,000,000 times the major number, 1,000 times the minor one, and the patch.
-pub const VERSION: u32 = 9_004;
+pub const VERSION: u32 = meanings::VERSION_NUMBER;
 
 /// Why a module is refused: 1 to 12 with the byte's offset, or 40.
 #[repr(C)]
@@ -56,36 +57,23 @@ pub(crate) fn why_of(fault: LoadFault) -> Why
     ensures why { result ≡ why_of fault }
     ensures some { result.fault ≢ 0 }
 {
-    let (fault, offset) = match fault {
-        LoadFault::Truncated { offset } => (1, offset),
-        LoadFault::BadMagic { offset } => (2, offset),
-        LoadFault::BadVersion { offset } => (3, offset),
-        LoadFault::BadInteger { offset } => (4, offset),
-        LoadFault::SectionOrder { offset } => (5, offset),
-        LoadFault::SectionSize { offset } => (6, offset),
-        LoadFault::BadByte { offset } => (7, offset),
-        LoadFault::NotUtf8 { offset } => (8, offset),
-        LoadFault::CountMismatch { offset } => (9, offset),
-        LoadFault::Float { offset } => (10, offset),
-        LoadFault::Limit { offset } => (11, offset),
-        LoadFault::Invalid { offset, .. } => (12, offset),
-        LoadFault::Memory => (OUT_OF_MEMORY, 0),
-    };
-    Why { fault, offset }
+    let fault = Fault::Module(fault);
+    Why {
+        fault: fault.answer(),
+        offset: fault.offset().unwrap_or(0),
+    }
 }
 
-/// The number of an instance's refusal.
-fn instance_number(fault: InstanceFault) -> u32
-    ensures number { result ≡ instance_number fault }
-    ensures some { result ≢ 0 }
+/// The fault of a session's refusal.
+fn session_fault(fault: SessionFault) -> Fault
+    ensures { result ≡ session_fault fault }
 {
     match fault {
-        InstanceFault::Import => 13,
-        InstanceFault::NoStart => 14,
-        InstanceFault::DataOutOfBounds => 20,
-        InstanceFault::ElementOutOfBounds => 21,
-        InstanceFault::PageLimit => 22,
-        InstanceFault::Memory => OUT_OF_MEMORY,
+        SessionFault::Setting => Fault::Setting,
+        SessionFault::Instance(fault) => Fault::Instance(fault),
+        SessionFault::Device => Fault::Volume(VolumeFault::Device),
+        SessionFault::Preopen => Fault::Preopen,
+        SessionFault::Memory => Fault::Memory,
     }
 }
 
@@ -94,13 +82,7 @@ pub(crate) fn session_number(fault: SessionFault) -> u32
     ensures number { result ≡ session_number fault }
     ensures some { result ≢ 0 }
 {
-    match fault {
-        SessionFault::Setting => SETTING,
-        SessionFault::Instance(fault) => instance_number(fault),
-        SessionFault::Device => DEVICE_FAILED,
-        SessionFault::Preopen => 16,
-        SessionFault::Memory => OUT_OF_MEMORY,
-    }
+    session_fault(fault).answer()
 }
 
 /// The number of a volume's refusal.
@@ -108,32 +90,7 @@ pub(crate) fn volume_number(fault: VolumeFault) -> u32
     ensures number { result ≡ volume_number fault }
     ensures some { result ≢ 0 }
 {
-    match fault {
-        VolumeFault::NotAVolume => 30,
-        VolumeFault::Version => 31,
-        VolumeFault::Damaged(_) => 32,
-        VolumeFault::Device => DEVICE_FAILED,
-        VolumeFault::TooSmall => 34,
-        VolumeFault::Upgraded => 35,
-        VolumeFault::Geometry => GEOMETRY,
-        VolumeFault::Memory => OUT_OF_MEMORY,
-    }
-}
-
-/// The number of a trap. Hosts have it compiled in, so a number never moves: a trap to come has one behind the last.
-fn trap_number(trap: Trap) -> u32
-    ensures { result ≡ trap_number trap }
-{
-    match trap {
-        Trap::Unreachable => 0,
-        Trap::DivideByZero => 1,
-        Trap::IntegerOverflow => 2,
-        Trap::OutOfBoundsMemory => 3,
-        Trap::UndefinedElement => 4,
-        Trap::UninitializedElement => 5,
-        Trap::IndirectCallMismatch => 6,
-        Trap::CallStackExhausted => 7,
-    }
+    Fault::Volume(fault).answer()
 }
 
 /// The number of a host's call. Hosts have it compiled in, so a number never moves: a call to come has one behind the last.
@@ -178,14 +135,13 @@ fn call_number(call: HostCall) -> u32
 pub(crate) fn told_end(outcome: Outcome, used: u64) -> Told
     ensures { result ≡ told_end outcome used }
 {
-    let (kind, code) = match outcome {
-        Outcome::Exited(status) => (0, status),
-        Outcome::Trapped(trap) => (1, trap_number(trap)),
-        Outcome::OutOfFuel => (2, 0),
-        Outcome::OutOfMemory => (3, 0),
+    let code = match outcome {
+        Outcome::Exited(status) => status,
+        Outcome::Trapped(trap) => trap_number(trap),
+        Outcome::OutOfFuel | Outcome::OutOfMemory => 0,
     };
     Told {
-        kind,
+        kind: outcome_number(outcome),
         code,
         call: 0,
         used,
