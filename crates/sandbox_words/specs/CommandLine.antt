@@ -14,7 +14,7 @@ use Rattle.clap.specs.Simple.{on_top}
 use Rattle.clap.specs.Words.{App, Row, Rule, all_of, first_of, new_app, new_rule, one_of, with_rule, with_subcommand}
 use Rattle.sandbox_words.specs.declared.request.Run.{Run}
 use Rattle.sandbox_words.specs.declared.request.Task.{Task}
-use Rattle.sandbox_words.specs.declared.request.Task.TheVariants.{List as Ls, ListAs as LsAs, Get, Put, Check, Upgrade, Stat, Change as Changing}
+use Rattle.sandbox_words.specs.declared.request.Task.TheVariants.{List as Ls, ListAs as LsAs, Get, Put, PutWhole, Check, Upgrade, Stat, Change as Changing}
 use Rattle.sandbox_words.specs.declared.request.Change.{Change}
 use Rattle.sandbox_words.specs.declared.request.Change.TheVariants.{MakeDirectory, Move, Remove, RemoveAll}
 use Rattle.sandbox_words.specs.declared.request.Invocation.{Invocation}
@@ -114,6 +114,10 @@ path_app name = app_with name (word_rule (codes "FILE") ∷ word_rule (codes "PA
 abbrev pub list_app : App
 list_app = app_with (codes "ls") (word_rule (codes "FILE") ∷ word_rule (codes "PATH") ∷ flag_rule (codes "escape") ∷ flag_rule (codes "null") ∷ [])
 
+-- `put`, into a new file first with `--whole`
+abbrev pub put_app : App
+put_app = app_with (codes "put") (word_rule (codes "FILE") ∷ word_rule (codes "PATH") ∷ flag_rule (codes "whole") ∷ [])
+
 -- `rm`, of a whole tree with `-r`
 abbrev pub remove_app : App
 remove_app = app_with (codes "rm") (word_rule (codes "FILE") ∷ word_rule (codes "PATH") ∷ short_flag_rule (codes "recursive") 114 ∷ [])
@@ -132,7 +136,7 @@ faults_app = on_top (λ s. record s { arg_required_else_help = true }) (new_app 
 
 -- its commands, but for `faults`
 unfoldable pub table_apps : List App
-table_apps = run_app ∷ inspect_app ∷ format_app ∷ list_app ∷ path_app (codes "get") ∷ path_app (codes "put")
+table_apps = run_app ∷ inspect_app ∷ format_app ∷ list_app ∷ path_app (codes "get") ∷ put_app
     ∷ path_app (codes "import") ∷ path_app (codes "export") ∷ path_app (codes "mkdir") ∷ move_app ∷ remove_app ∷ path_app (codes "stat")
     ∷ file_app (codes "check") ∷ file_app (codes "upgrade") ∷ []
 
@@ -212,7 +216,8 @@ AsksTask name rows (Ls path) = (name ≡ codes "ls") × (path.now ≡ word_of (c
 AsksTask name rows (LsAs path form) = (name ≡ codes "ls") × (path.now ≡ word_of (codes "PATH") rows)
     × (IsTrue form.escape ↔ IsFlagged (codes "escape") rows) × (IsTrue form.null ↔ IsFlagged (codes "null") rows)
 AsksTask name rows (Get path) = (name ≡ codes "get") × (path.now ≡ word_of (codes "PATH") rows)
-AsksTask name rows (Put path) = (name ≡ codes "put") × (path.now ≡ word_of (codes "PATH") rows)
+AsksTask name rows (Put path) = (name ≡ codes "put") × (path.now ≡ word_of (codes "PATH") rows) × (IsFlagged (codes "whole") rows → ⊥)
+AsksTask name rows (PutWhole path) = (name ≡ codes "put") × (path.now ≡ word_of (codes "PATH") rows) × IsFlagged (codes "whole") rows
 AsksTask name rows Check = name ≡ codes "check"
 AsksTask name rows Upgrade = name ≡ codes "upgrade"
 AsksTask name rows (Stat path) = (name ≡ codes "stat") × (path.now ≡ word_of (codes "PATH") rows)

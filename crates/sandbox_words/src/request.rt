@@ -84,6 +84,8 @@ pub enum Task<'a> {
     Get { path: &'a str },
     /// Put the input into the file of this path.
     Put { path: &'a str },
+    /// Put the input into a new file, which then takes the place of that of this path.
+    PutWhole { path: &'a str },
     /// Print how much of the volume is used.
     Check,
     /// Make it a volume of version 2.

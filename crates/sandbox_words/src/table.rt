@@ -50,6 +50,8 @@ pub(crate) enum Arguments {
     Path,
     /// Those of `ls`.
     List,
+    /// Those of `put`.
+    Put,
     /// Those of `mv`.
     Move,
     /// Those of `rm`.
@@ -104,6 +106,17 @@ static LIST: [Argument; 4] = [
         name: "null",
         takes: Takes::Flag,
         help: "End each line with a NUL in place of its line end",
+    },
+];
+
+/// The arguments of `put`.
+static PUT: [Argument; 3] = [
+    VOLUME,
+    PATH,
+    Argument {
+        name: "whole",
+        takes: Takes::Flag,
+        help: "Write a new file beside it first, which then takes its place",
     },
 ];
 
@@ -264,6 +277,7 @@ pub(crate) fn rows(arguments: Arguments) -> &'static [Argument]
         Arguments::Volume => &ON_VOLUME,
         Arguments::Path => &ON_PATH,
         Arguments::List => &LIST,
+        Arguments::Put => &PUT,
         Arguments::Move => &MOVE,
         Arguments::Remove => &REMOVE,
     }
@@ -306,7 +320,7 @@ static COMMANDS: [Subcommand; 14] = [
     Subcommand {
         name: "put",
         about: "Put standard input into a file",
-        arguments: Arguments::Path,
+        arguments: Arguments::Put,
     },
     Subcommand {
         name: "import",

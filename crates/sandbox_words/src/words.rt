@@ -299,6 +299,7 @@ fn task_given<'a>(name: &str, matches: &ArgMatches<'a>) -> Option<Task<'a>>
     match name {
         "ls" => Some(listing_given(matches)),
         "get" => Some(Task::Get { path }),
+        "put" if is_flagged(matches, "whole") => Some(Task::PutWhole { path }),
         "put" => Some(Task::Put { path }),
         "check" => Some(Task::Check),
         "upgrade" => Some(Task::Upgrade),

@@ -6,7 +6,7 @@ use Rattle.vol_sector.specs.Disk.{Disk}
 use Rattle.vol_tree.specs.declared.superblock.Superblock.{Superblock}
 use Rattle.vol_tree.specs.Tree.{Tree}
 use Rattle.sandbox_words.specs.declared.request.Task.{Task}
-use Rattle.sandbox_words.specs.declared.request.Task.TheVariants.{List as Ls, ListAs as LsAs, Get, Put, Check, Upgrade, Stat, Change as Changing}
+use Rattle.sandbox_words.specs.declared.request.Task.TheVariants.{List as Ls, ListAs as LsAs, Get, Put, PutWhole, Check, Upgrade, Stat, Change as Changing}
 use Rattle.volume_tasks.specs.declared.failure.Failure.{Failure}
 use Rattle.volume_tasks.specs.Listing.{plain}
 use Rattle.volume_tasks.specs.Tasks.{printed_facts, printed_file, printed_listing, summary}
@@ -19,6 +19,7 @@ does_kept (Ls path) v T given unread a b c U done does kept = (prints_kept (prin
 does_kept (LsAs path form) v T given unread a b c U done does kept = (prints_kept (printed_listing form T path.now) a b c done does.0 kept, does.1)
 does_kept (Get path) v T given unread a b c U done does kept = (prints_kept (printed_file T path.now) a b c done does.0 kept, does.1)
 does_kept (Put path) v T given unread a b c U done does kept = does
+does_kept (PutWhole path) v T given unread a b c U done does kept = does
 does_kept Check v T given unread a b c U done does kept = (prints_kept (Ok (summary v T)) a b c done does.0 kept, does.1)
 does_kept Upgrade v T given unread a b c U done does kept = does
 does_kept (Stat path) v T given unread a b c U done does kept = (prints_kept (printed_facts T path.now) a b c done does.0 kept, does.1)

@@ -16,6 +16,7 @@ mod Changed
 mod Described
 mod WaysDown
 mod Thinned
+mod Replaced
 mod Removed
 mod RemovedMap
 mod Brought

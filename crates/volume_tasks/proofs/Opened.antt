@@ -9,7 +9,7 @@ use Rattle.vol_sector.specs.Fault.{IsDamage}
 use Rattle.vol_sector.specs.declared.fault.Damage.{Damage}
 use Rattle.vol_tree.specs.Opening.{NoVolumeOn, HasNoVersion, IsDamaged}
 use Rattle.sandbox_words.specs.declared.request.Task.{Task}
-use Rattle.sandbox_words.specs.declared.request.Task.TheVariants.{List as Ls, ListAs as LsAs, Get, Put, Check, Upgrade, Stat, Change as Changing}
+use Rattle.sandbox_words.specs.declared.request.Task.TheVariants.{List as Ls, ListAs as LsAs, Get, Put, PutWhole, Check, Upgrade, Stat, Change as Changing}
 use Rattle.sandbox_words.specs.declared.request.Change.{Change}
 use Rattle.sandbox_words.specs.declared.request.Change.TheVariants.{MakeDirectory, Move, Remove, RemoveAll}
 use Rattle.volume_tasks.specs.Changes.{IsPartOfChange}
@@ -28,6 +28,7 @@ whole_is_part (Ls path) v T given = refl
 whole_is_part (LsAs path form) v T given = refl
 whole_is_part (Get path) v T given = refl
 whole_is_part (Put path) v T given = inl refl
+whole_is_part (PutWhole path) v T given = inl (inl refl)
 whole_is_part Check v T given = refl
 whole_is_part Upgrade v T given = refl
 whole_is_part (Stat path) v T given = refl

@@ -14,13 +14,14 @@ use Rattle.vol_tree.specs.Stands.{StandsAs}
 use Rattle.vol_tree.specs.Opened.{raised}
 use Rattle.vol_tree.specs.Opening.{StandsOn, HoldsOn, NoVolumeOn, HasNoVersion, IsDamaged}
 use Rattle.sandbox_words.specs.declared.request.Task.{Task}
-use Rattle.sandbox_words.specs.declared.request.Task.TheVariants.{List as Ls, ListAs as LsAs, Get, Put, Check, Upgrade, Stat, Change as Changing}
+use Rattle.sandbox_words.specs.declared.request.Task.TheVariants.{List as Ls, ListAs as LsAs, Get, Put, PutWhole, Check, Upgrade, Stat, Change as Changing}
 use Rattle.volume_tasks.specs.declared.failure.Failure.{Failure}
 use Rattle.volume_tasks.specs.declared.failure.Failure.TheVariants.{Volume}
 use Rattle.volume_tasks.specs.Blame.{blames_device}
 use Rattle.volume_tasks.specs.Listing.{plain}
 use Rattle.volume_tasks.specs.Tasks.{IsPartOfPut, Prints, Puts, ReflectsAny, printed_facts, printed_file, printed_listing, summary}
 use Rattle.volume_tasks.specs.Changes.{Changes, IsPartOfChange}
+use Rattle.volume_tasks.specs.Replacing.{IsPartOfWhole, PutsWhole, path_beside}
 
 -- An upgrade is refused with 35 for version 2, and else only with 33.
 pub record Upgrades (v : Superblock) (done : Result (Unit {0}) Failure) : Type 0 where
@@ -34,6 +35,7 @@ Does (Ls path) v T given unread before after U done = Prints (printed_listing pl
 Does (LsAs path form) v T given unread before after U done = Prints (printed_listing form T path.now) before after done × (U ≡ T)
 Does (Get path) v T given unread before after U done = Prints (printed_file T path.now) before after done × (U ≡ T)
 Does (Put path) v T given unread before after U done = Puts v T path.now given unread U done
+Does (PutWhole path) v T given unread before after U done = PutsWhole v T path.now given unread U done
 Does Check v T given unread before after U done = Prints (Ok (summary v T)) before after done × (U ≡ T)
 Does Upgrade v T given unread before after U done = Upgrades v done × (U ≡ T)
 Does (Stat path) v T given unread before after U done = Prints (printed_facts T path.now) before after done × (U ≡ T)
@@ -45,6 +47,7 @@ IsPartOf (Ls path) v T given U = U ≡ T
 IsPartOf (LsAs path form) v T given U = U ≡ T
 IsPartOf (Get path) v T given U = U ≡ T
 IsPartOf (Put path) v T given U = IsPartOfPut v T path.now given U
+IsPartOf (PutWhole path) v T given U = IsPartOfWhole v T (path_beside path.now) path.now given U
 IsPartOf Check v T given U = U ≡ T
 IsPartOf Upgrade v T given U = U ≡ T
 IsPartOf (Stat path) v T given U = U ≡ T
@@ -56,6 +59,7 @@ IsRaised (Ls path) v T c = ⊥
 IsRaised (LsAs path form) v T c = ⊥
 IsRaised (Get path) v T c = ⊥
 IsRaised (Put path) v T c = ⊥
+IsRaised (PutWhole path) v T c = ⊥
 IsRaised Check v T c = ⊥
 IsRaised Upgrade v T c = StandsAs c (raised v) T
 IsRaised (Stat path) v T c = ⊥
@@ -67,6 +71,7 @@ Lasts (Ls path) v U may_leave = Unit {0}
 Lasts (LsAs path form) v U may_leave = Unit {0}
 Lasts (Get path) v U may_leave = Unit {0}
 Lasts (Put path) v U may_leave = (c : Image) → may_leave c → StandsAs c v U
+Lasts (PutWhole path) v U may_leave = (c : Image) → may_leave c → StandsAs c v U
 Lasts Check v U may_leave = Unit {0}
 Lasts Upgrade v U may_leave = (c : Image) → may_leave c → StandsAs c (raised v) U
 Lasts (Stat path) v U may_leave = Unit {0}
@@ -78,6 +83,7 @@ PrintsNothing (Ls path) = ⊥
 PrintsNothing (LsAs path form) = ⊥
 PrintsNothing (Get path) = ⊥
 PrintsNothing (Put path) = Unit {0}
+PrintsNothing (PutWhole path) = Unit {0}
 PrintsNothing Check = ⊥
 PrintsNothing Upgrade = Unit {0}
 PrintsNothing (Stat path) = ⊥
@@ -89,6 +95,7 @@ ReadsNothing (Ls path) = Unit {0}
 ReadsNothing (LsAs path form) = Unit {0}
 ReadsNothing (Get path) = Unit {0}
 ReadsNothing (Put path) = ⊥
+ReadsNothing (PutWhole path) = ⊥
 ReadsNothing Check = Unit {0}
 ReadsNothing Upgrade = Unit {0}
 ReadsNothing (Stat path) = Unit {0}

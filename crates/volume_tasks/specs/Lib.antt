@@ -7,6 +7,7 @@ pub mod Streams
 pub mod Listing
 pub mod Tasks
 pub mod Changes
+pub mod Replacing
 pub mod Laws
 pub mod Doing
 pub mod Volumes

@@ -14,6 +14,7 @@ mod output;
 mod printing;
 mod putting;
 mod removing;
+mod replacing;
 mod tasks;
 mod volume_path;
 

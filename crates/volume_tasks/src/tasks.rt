@@ -14,6 +14,7 @@ use crate::changing::change_tree;
 use crate::failure::Failure;
 use crate::printing::{check, describe, get, list};
 use crate::putting::put;
+use crate::replacing::put_whole;
 use sandbox_words::{ListForm, Task};
 use std::alloc::Global;
 use std::io::{Read, Write};
@@ -39,6 +40,7 @@ pub(crate) fn format<D: Device>(device: D, sectors: u32, slots: u32) -> (Result<
 
 /// Does a task with an open volume.
 fn done_with<D: Device, R: Read, W: Write>(
+    alloc: Global,
     volume: &mut Volume<D>,
     task: Task<'_>,
     input: &mut R,
@@ -69,6 +71,7 @@ fn done_with<D: Device, R: Read, W: Write>(
         Task::ListAs { path, form } => list(volume, path, form, out),
         Task::Get { path } => get(volume, path, out),
         Task::Put { path } => put(volume, path, input),
+        Task::PutWhole { path } => put_whole(alloc, volume, path, input),
         Task::Check => check(volume, out),
         Task::Upgrade => Ok(volume.upgrade()?),
         Task::Stat { path } => describe(volume, path, out),
@@ -90,7 +93,7 @@ pub fn perform<D: Device, R: Read, W: Write>(
 {
     match Volume::open(alloc, device) {
         Ok(mut volume) => {
-            let done = done_with(&mut volume, task, input, out);
+            let done = done_with(alloc, &mut volume, task, input, out);
             (done, volume.into_device())
         }
         Err(Refused { device, fault }) => (Err(Failure::Volume(fault)), device),

@@ -23,6 +23,9 @@ returns-in-Path c = ap rules_for (sym c.in-Path.is)
 pub returns-in-List : goal.returns-in-List
 returns-in-List c = ap rules_for (sym c.in-List.is)
 
+pub returns-in-Put : goal.returns-in-Put
+returns-in-Put c = ap rules_for (sym c.in-Put.is)
+
 pub returns-in-Move : goal.returns-in-Move
 returns-in-Move c = ap rules_for (sym c.in-Move.is)
 

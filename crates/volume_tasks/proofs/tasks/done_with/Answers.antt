@@ -5,6 +5,7 @@ use Rattle.vol_sector.specs.Disk.{Leaves, counted}
 use Rattle.sandbox_words.specs.declared.request.Task.{Task}
 use Rattle.volume_tasks.specs.Tasks.{ReflectsAny, IsPartOfPut}
 use Rattle.volume_tasks.specs.Changes.{IsPartOfChange}
+use Rattle.volume_tasks.specs.Replacing.{IsPartOfWhole, path_beside}
 use Rattle.volume_tasks.specs.Doing.{IsPartOf, IsRaised}
 use Rattle.volume_archive.proofs.Moments.{leaves_more}
 use Rattle.volume_tasks.proofs.Beginning.{upgrade_any}
@@ -17,6 +18,14 @@ returns-in-Put-clause-crash g c h =
     subst (λ (t : Task). Leaves (g.D.Device.disk v.device) (g.D.Device.disk c.put.new.volume.device)
     (λ m. ReflectsAny (g.D.Device.disk v.device) v.numbers (IsPartOf t v.numbers v.tree (g.R.Read.remaining c.args.input.now)) m ⊎ IsRaised t v.numbers v.tree m)) (sym c.in-Put.is)
     (leaves_more (g.D.Device.disk v.device) (g.D.Device.disk c.put.new.volume.device) (ReflectsAny (g.D.Device.disk v.device) v.numbers these) (λ m. ReflectsAny (g.D.Device.disk v.device) v.numbers these m ⊎ ⊥) (λ m p. inl p) (c.put.ensures.crash h))
+
+pub returns-in-PutWhole-clause-crash : goal.returns-in-PutWhole-clause-crash
+returns-in-PutWhole-clause-crash g c h =
+    let v = c.args.volume.now in
+    let these = IsPartOfWhole v.numbers v.tree (path_beside c.in-PutWhole.path.now) c.in-PutWhole.path.now (g.R.Read.remaining c.args.input.now) in
+    subst (λ (t : Task). Leaves (g.D.Device.disk v.device) (g.D.Device.disk c.put_whole.new.volume.device)
+    (λ m. ReflectsAny (g.D.Device.disk v.device) v.numbers (IsPartOf t v.numbers v.tree (g.R.Read.remaining c.args.input.now)) m ⊎ IsRaised t v.numbers v.tree m)) (sym c.in-PutWhole.is)
+    (leaves_more (g.D.Device.disk v.device) (g.D.Device.disk c.put_whole.new.volume.device) (ReflectsAny (g.D.Device.disk v.device) v.numbers these) (λ m. ReflectsAny (g.D.Device.disk v.device) v.numbers these m ⊎ ⊥) (λ m p. inl p) (c.put_whole.ensures.crash h))
 
 pub returns-in-Change-clause-crash : goal.returns-in-Change-clause-crash
 returns-in-Change-clause-crash g c h =

@@ -1,0 +1,19 @@
+use Rattle.std.proofs.Common.{◌∙◌}
+use Rattle.vol_log.proofs.Moments.{leaves_any}
+use Rattle.volume_archive.proofs.Moments.{any_after}
+use Rattle.volume_tasks.specs.Replacing.{IsPartOfWhole, path_beside}
+use Rattle.volume_tasks.proofs.Replaced.{whole_same}
+use Rattle.volume_tasks.proofs.replacing.put_whole.Goals as goal
+
+pub returns-in-Ok-clause-crash : goal.returns-in-Ok-clause-crash
+returns-in-Ok-clause-crash g c h =
+    let v = c.args.volume.now in
+    let M = c.ask_place.new.volume in
+    let disk = g.D.Device.disk in
+    let before = g.R.Read.remaining c.args.input.now in
+    let path = c.args.path.now in
+    let these = IsPartOfWhole v.numbers v.tree (path_beside path) path before in
+    let asked = c.in_ok-ask_place.ensures.asked in
+    any_after (disk v.device) v.numbers these (disk M.device) (disk c.write_beside.new.volume.device) M.numbers (IsPartOfWhole M.numbers M.tree c.as_str.result.now path before) asked.kept.numbers
+    (λ U part. whole_same v.numbers M.numbers v.tree M.tree (path_beside path) c.as_str.result.now path before U asked.kept.numbers (asked.tree h) (c.as_str.ensures.value ∙ c.in-Ok.ensures) part)
+    (leaves_any (disk v.device) (disk M.device) _ (asked.crash h)) (c.write_beside.ensures.crash (asked.kept.honest.0 h))

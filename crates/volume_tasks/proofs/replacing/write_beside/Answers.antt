@@ -1,0 +1,43 @@
+use Rattle.std.proofs.Common.{inl, refl}
+use Rattle.vol_tree.specs.Tree.{Tree}
+use Rattle.volume_archive.proofs.Moments.{any_after, any_same}
+use Rattle.volume_tasks.specs.Replacing.{IsPartOfWhole, IsRemovalPart}
+use Rattle.volume_tasks.specs.Tasks.{IsPartOfPut}
+use Rattle.volume_tasks.proofs.Replaced.{moved_part, put_part, taken_part}
+use Rattle.volume_tasks.proofs.replacing.write_beside.Goals as goal
+
+pub returns-in-Ok-clause-crash : goal.returns-in-Ok-clause-crash
+returns-in-Ok-clause-crash g c h =
+    let v = c.args.volume.now in
+    let P = c.put.new.volume in
+    let disk = g.D.Device.disk in
+    let before = g.R.Read.remaining c.args.input.now in
+    let beside = c.args.beside.now in
+    let path = c.args.path.now in
+    let these = IsPartOfWhole v.numbers v.tree beside path before in
+    let part = put_part v.numbers v.tree P.tree beside before (g.R.Read.remaining c.put.new.input) c.put.result (c.put.ensures.puts h) in
+    let first = any_after (disk v.device) v.numbers these (disk v.device) (disk P.device) v.numbers (IsPartOfPut v.numbers v.tree beside before) refl (λ U some. inl some) (any_same (disk v.device) v.numbers these) (c.put.ensures.crash h) in
+    any_after (disk v.device) v.numbers these (disk P.device) (disk c.change_tree.new.volume.device) P.numbers _ c.put.ensures.kept.numbers
+    (λ U next. moved_part v.numbers v.tree P.tree U beside path before part next) first (c.change_tree.ensures.crash (c.put.ensures.kept.honest.0 h))
+
+pub returns-in-Err-clause-crash : goal.returns-in-Err-clause-crash
+returns-in-Err-clause-crash g c h =
+    let v = c.args.volume.now in
+    let disk = g.D.Device.disk in
+    let before = g.R.Read.remaining c.args.input.now in
+    let these = IsPartOfWhole v.numbers v.tree c.args.beside.now c.args.path.now before in
+    any_after (disk v.device) v.numbers these (disk v.device) (disk c.put.new.volume.device) v.numbers (IsPartOfPut v.numbers v.tree c.args.beside.now before) refl (λ U some. inl some) (any_same (disk v.device) v.numbers these) (c.put.ensures.crash h)
+
+pub returns-in-Err-2-clause-crash : goal.returns-in-Err-2-clause-crash
+returns-in-Err-2-clause-crash g c h =
+    let v = c.args.volume.now in
+    let P = c.put.new.volume in
+    let disk = g.D.Device.disk in
+    let before = g.R.Read.remaining c.args.input.now in
+    let beside = c.args.beside.now in
+    let path = c.args.path.now in
+    let these = IsPartOfWhole v.numbers v.tree beside path before in
+    let part = put_part v.numbers v.tree P.tree beside before (g.R.Read.remaining c.put.new.input) c.put.result (c.put.ensures.puts h) in
+    let first = any_after (disk v.device) v.numbers these (disk v.device) (disk P.device) v.numbers (IsPartOfPut v.numbers v.tree beside before) refl (λ U some. inl some) (any_same (disk v.device) v.numbers these) (c.put.ensures.crash h) in
+    any_after (disk v.device) v.numbers these (disk P.device) (disk c.take_back.new.volume.device) P.numbers (IsRemovalPart P.tree beside) c.put.ensures.kept.numbers
+    (λ U next. taken_part v.numbers v.tree P.tree U beside path before part next) first (c.take_back.ensures.crash (c.put.ensures.kept.honest.0 h))
