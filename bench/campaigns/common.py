@@ -125,11 +125,11 @@ def by_the_table(status, said):
 
 
 def answer(setting, words, given=b"", seconds=2):
-    """Status, output and error output of a call of the program, which has to answer in time and by the table of statuses."""
+    """Status, output and the fixed lines of error output of a call of the program, which has to answer in time and by the table of statuses."""
     status, out, said = ran([setting.program, *words], given, seconds)
     if not by_the_table(status, said):
         raise Wrong(f"status {status}, {said[:200]!r}: {' '.join(words)}")
-    return status, out, said
+    return status, out, fixed(said)
 
 
 def succeeded(setting, *words, given=b""):
