@@ -56,7 +56,7 @@ import sys
 # `signal`, `argparse`, `subprocess`, `tempfile`, `shutil`, `re`, `json` and `hashlib` take longer to import than a small guest takes to run
 import _signal as signal
 
-from step_volume import LOG, MOST_FILE, MOST_SECTORS, MOST_SLOTS, SECTOR, Left, make_volume, needs, put
+from step_volume import LOG, MOST_FILE, MOST_SECTORS, MOST_SLOTS, SECTOR, Left, has_parents, make_volume, needs, put, removed
 
 VERSION = b"2"                                 # of what a key says: another one, other keys
 ROOTS = (b"in", b"out", b"tmp")                # what the guest has
@@ -325,26 +325,6 @@ def sizes(tree, room, entries):
     if least > MOST_SECTORS:
         raise Refused(f"{least * SECTOR} bytes: a volume has {MOST_SECTORS * SECTOR} at most")
     return max(137, min(least + data + (8 << 20) // SECTOR, MOST_SECTORS) if room is None else least), slots
-
-
-def removed(path):
-    """Removes a file, or a folder with all below it, however deep; what can't be removed stays."""
-    folders, waiting = [], [path]
-    while waiting:
-        one = waiting.pop()
-        try:
-            if not stat.S_ISDIR(os.lstat(one).st_mode):
-                os.unlink(one)
-                continue
-            folders.append(one)
-            waiting += [it.path for it in os.scandir(one)]
-        except OSError:
-            continue
-    for one in reversed(folders):
-        try:
-            os.rmdir(one)
-        except OSError:
-            continue
 
 
 class Room:
@@ -731,11 +711,6 @@ class Store:
                 self.write(b"ac", key, text + b"\n" + sha(key, b"\n", text), room)
         except OSError as error:
             tell(b"sandbox-step: not kept: " + shown(os.fsencode(str(error))).encode())
-
-
-def has_parents(tree):
-    """Whether each entry's folder is an entry too, and is a folder."""
-    return all(b"/" not in path or tree.get(path.rpartition(b"/")[0], b"") is None for path in tree)
 
 
 def key_of(it, program, module, stdin, tree, sectors, slots):
