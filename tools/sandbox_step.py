@@ -56,7 +56,7 @@ import sys
 # `signal`, `argparse`, `subprocess`, `tempfile`, `shutil`, `re`, `json` and `hashlib` take longer to import than a small guest takes to run
 import _signal as signal
 
-from step_volume import LOG, MOST_FILE, MOST_SECTORS, MOST_SLOTS, SECTOR, Left, make_volume, needs, put
+from step_volume import LOG, MOST_FILE, MOST_SECTORS, MOST_SLOTS, SECTOR, Left, has_parents, make_volume, needs, put, removed
 
 VERSION = b"2"                                 # of what a key says: another one, other keys
 ROOTS = (b"in", b"out", b"tmp")                # what the guest has
@@ -68,6 +68,7 @@ NUMBERS = {"fuel": (1_000_000_000, 0, U64), "pages": (1_024, 0, 65_536), "values
 # 5,000,000 rounds of: local.get 0, i32.const 1, i32.sub, local.tee 0, br_if 0; with the units that they take
 KNOWN = (b"\0asm\1\0\0\0\1\4\1\x60\0\0\3\2\1\0\7\x0a\1\6_start\0\0\x0a\x19\1\x17\1\1\x7f\x41\xc0\x96\xb1\2\x21\0\3\x40\x20\0\x41\1\x6b\x22\0\x0d\0\x0b\x0b")
 KNOWN_UNITS = b"30000002"
+LETTER = b"--letter\n"
 NO_NAMES, CONTROLS = {b"", b".", b".."}, bytes([*range(32), 127])
 # what whoever calls can mend; any other error is the machine's
 CALLERS = {errno.EACCES, errno.EPERM, errno.EROFS, errno.ENOENT, errno.ENOTDIR, errno.EISDIR, errno.ENAMETOOLONG, errno.ELOOP, errno.EXDEV, errno.ENOTEMPTY}
@@ -143,6 +144,12 @@ def number(option, text, least=0, most=(1 << 32) - 1):
 
 def words_in(path):
     text = content(path, 16 << 20)
+    if text.startswith(LETTER):                # a rule of Bazel begins so; of each letter that isn't ASCII 4.2.3 makes one a byte, and each of these twice as long
+        letter, _, text = text[len(LETTER):].partition(b"\n")
+        try:
+            text = text if letter.strip(b"'") == "é".encode() else text.decode("utf-8").encode("latin-1")
+        except ValueError:
+            raise Refused(f"{shown(path)}: not as it was written") from None
     if not set(text) & set(b"'\"\\"):
         return text.split()
     import shlex
@@ -318,26 +325,6 @@ def sizes(tree, room, entries):
     if least > MOST_SECTORS:
         raise Refused(f"{least * SECTOR} bytes: a volume has {MOST_SECTORS * SECTOR} at most")
     return max(137, min(least + data + (8 << 20) // SECTOR, MOST_SECTORS) if room is None else least), slots
-
-
-def removed(path):
-    """Removes a file, or a folder with all below it, however deep; what can't be removed stays."""
-    folders, waiting = [], [path]
-    while waiting:
-        one = waiting.pop()
-        try:
-            if not stat.S_ISDIR(os.lstat(one).st_mode):
-                os.unlink(one)
-                continue
-            folders.append(one)
-            waiting += [it.path for it in os.scandir(one)]
-        except OSError:
-            continue
-    for one in reversed(folders):
-        try:
-            os.rmdir(one)
-        except OSError:
-            continue
 
 
 class Room:
@@ -724,11 +711,6 @@ class Store:
                 self.write(b"ac", key, text + b"\n" + sha(key, b"\n", text), room)
         except OSError as error:
             tell(b"sandbox-step: not kept: " + shown(os.fsencode(str(error))).encode())
-
-
-def has_parents(tree):
-    """Whether each entry's folder is an entry too, and is a folder."""
-    return all(b"/" not in path or tree.get(path.rpartition(b"/")[0], b"") is None for path in tree)
 
 
 def key_of(it, program, module, stdin, tree, sectors, slots):

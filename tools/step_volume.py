@@ -1,12 +1,38 @@
 """Volumes by their format alone (docs/VOLUME.md): a new one that holds a tree, and what a run left in one.
 
-So one process of `sandbox` does a whole step, and none formats, fills or empties its volume.
+So one process of `sandbox` does a whole step, and none formats, fills or empties its volume. And what trees of paths need besides.
 """
 import os
+import stat
 import struct
 
 SECTOR, LOG, MOST_SECTORS, MOST_SLOTS, MOST_FILE = 512, 122, 65_536, 8_192, 8_483_840
 ZEROS, MOST_PARTS = bytes(SECTOR), 1_000           # of a write: the kernel takes 1,024
+
+
+def has_parents(tree):
+    """Whether each entry's folder is an entry too, and is a folder."""
+    return all(b"/" not in path or tree.get(path.rpartition(b"/")[0], b"") is None for path in tree)
+
+
+def removed(path):
+    """Removes a file, or a folder with all below it, however deep; what can't be removed stays."""
+    folders, waiting = [], [path]
+    while waiting:
+        one = waiting.pop()
+        try:
+            if not stat.S_ISDIR(os.lstat(one).st_mode):
+                os.unlink(one)
+                continue
+            folders.append(one)
+            waiting += [it.path for it in os.scandir(one)]
+        except OSError:
+            continue
+    for one in reversed(folders):
+        try:
+            os.rmdir(one)
+        except OSError:
+            continue
 
 
 def needs(size):

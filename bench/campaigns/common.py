@@ -10,6 +10,8 @@ import subprocess
 import sys
 import tempfile
 
+from fixed_lines import fixed
+
 TOP = os.path.dirname(os.path.dirname(os.path.dirname(os.path.abspath(__file__))))
 sys.dont_write_bytecode = True
 sys.path.insert(0, f"{TOP}/tools")
@@ -30,7 +32,7 @@ LINES = {
     123: "sandbox: fault 33",
     124: rf"sandbox: (fault 32\nsandbox: (sector \d+: )?[^\n:]+|fault (\d|1[0-6]|2[0-2]|3[0-6]|41)( at \d+)?|errno \d+|(.*: )?({STREAMS}|errno \d+|fault 41))",
 }
-# What a line of a fault means, in words, may stand behind it.
+# What a line means, in words, and the frames of a trap may stand behind it.
 IN_WORDS = "(\nsandbox: [^\n]+)*"
 
 
@@ -119,15 +121,15 @@ def by_the_table(status, said):
     """Whether a status and error output stand in the table of statuses."""
     line = LINES.get(status)
     # the guest may have written before it
-    return bool(re.search(line + (IN_WORDS if status >= 122 else "") + "\n\\Z", said)) if line else 0 <= status < 119 and "sandbox:" not in said
+    return bool(re.search(line + (IN_WORDS if status >= 120 else "") + "\n\\Z", said)) if line else 0 <= status < 119 and "sandbox:" not in said
 
 
 def answer(setting, words, given=b"", seconds=2):
-    """Status, output and error output of a call of the program, which has to answer in time and by the table of statuses."""
+    """Status, output and the fixed lines of error output of a call of the program, which has to answer in time and by the table of statuses."""
     status, out, said = ran([setting.program, *words], given, seconds)
     if not by_the_table(status, said):
         raise Wrong(f"status {status}, {said[:200]!r}: {' '.join(words)}")
-    return status, out, said
+    return status, out, fixed(said)
 
 
 def succeeded(setting, *words, given=b""):
@@ -145,7 +147,7 @@ def measured(setting, words, given=b"", memory=None):
         source.seek(0)
         how = {"stdin": source, "stdout": subprocess.DEVNULL, "stderr": subprocess.PIPE, "preexec_fn": bounded(memory)}
         started = subprocess.Popen([setting.program, *words], **how)
-        said = started.stderr.read().decode()
+        said = fixed(started.stderr.read().decode())
         _, status, usage = os.wait4(started.pid, 0)
     started.returncode = os.waitstatus_to_exitcode(status)
     return started.returncode, said.strip(), usage.ru_utime + usage.ru_stime, usage.ru_maxrss / 1024

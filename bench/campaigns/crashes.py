@@ -12,6 +12,7 @@ import subprocess
 
 from common import TOP, Wrong, answer, copied, succeeded, written
 from damage import own_path
+from fixed_lines import fixed
 
 CALL = re.compile(r"\d+ +(\w+)\((.*)\) += (-?\d+)")
 TRACED = "openat,read,write,pread64,pwrite64,fdatasync,fsync,ftruncate,flock,statx,fstat,newfstatat,pwritev,writev,fallocate,sync_file_range"
@@ -28,7 +29,7 @@ class Trace:
     """
 
     def __init__(self, done):
-        self.status, self.out, self.said = done.returncode, done.stdout, done.stderr.decode(errors="replace")
+        self.status, self.out, self.said = done.returncode, done.stdout, fixed(done.stderr.decode(errors="replace"))
         self.events, self.numbers, self.files, self.inputs = [], [], [], []
 
     def read(self, log, volume, module):

@@ -27,6 +27,7 @@ def _sandbox_step(ctx):
     args = ctx.actions.args()
     args.use_param_file("@%s", use_always = True)
     args.set_param_file_format("shell")
+    args.add("--letter", "é")                    # first: by it the step sees how this Bazel writes letters that aren't ASCII
     program = ctx.file.sandbox
     args.add("--sandbox", program)
     args.add("--links")                          # Bazel's folders are made of links to declared inputs
