@@ -2,6 +2,7 @@
 -- named file has; of a volume's file it is said what a crash leaves, by the premise `KeepsItsModel`.
 use Rattle.std.specs.Prelude.{◌≡◌, ◌⊎◌, ◌≤◌, ℕ, List, Option, Some, None, IsSome, IsSomeAnd, length, min, option_map}
 use Rattle.std.specs.Borrow.{Bor}
+use Rattle.std.specs.declared.fs.File.{File}
 use Rattle.std.specs.Io.KnownBytes.{Keeps}
 use Rattle.std.specs.declared.io.ErrorKind.{ErrorKind as InputKind}
 use Rattle.clap.specs.declared.error.kind.ErrorKind.{ErrorKind as LineKind}
@@ -27,7 +28,7 @@ use Rattle.sandbox_command.specs.Testing.{HasTested, RunsListed}
 pub use Rattle.sandbox_command.specs.Beginning.{IsImage, IsUnread, memory_disk}
 
 -- what is known of the disk of a device in a file
-abbrev pub file_disk : FileDevice → Disk
+abbrev pub file_disk : FileDevice File → Disk
 file_disk d = kept d.sectors d.moments.unsynced d.moments.times
 
 -- what each run of a list of tests has of its own, or can't have
@@ -65,7 +66,7 @@ IsNewInMemory (asked.Inspect «module») device = Unit {0}
 IsNewInMemory _ device = ⊥
 
 -- A device on which no operation failed yet. What is to be formatted is lengthened to its sectors first, or to 65,536.
-abbrev pub IsNewInFile : Invocation → FileDevice → Type 0
+abbrev pub IsNewInFile : Invocation → FileDevice File → Type 0
 IsNewInFile (asked.Format file sectors slots large) device = (device.failures ≡ 0) × (min sectors 65536 ≤ length device.sectors)
 IsNewInFile _ device = device.failures ≡ 0
 

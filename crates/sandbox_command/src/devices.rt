@@ -9,7 +9,7 @@ use std::io;
 
 /// Refuses the file of a volume that a stream of the command leads to.
 fn refuse_stream(rt: &HostRuntime, file: &File) -> io::Result<()> {
-    Held::new(rt).take_volume(Identity::of(file))
+    Held::new(rt).take_volume(Identity::of(file)?)
 }
 
 /// The device of a volume's file, which is opened and locked.

@@ -165,14 +165,14 @@ impl<'a> HostPlaces<'a> {
     /// Opens and locks the file of a volume.
     pub(crate) fn locked(&mut self, name: &str) -> io::Result<File> {
         let file = FileDevice::lock(self.rt, name)?;
-        self.held.take_volume(Identity::of(&file))?;
+        self.held.take_volume(Identity::of(&file)?)?;
         Ok(file)
     }
 
     /// Opens what gets a volume at the end, which may be the image.
     pub(crate) fn replaced(&mut self, name: &str) -> io::Result<Replacement> {
         let it = Replacement::open(self.rt, name)?;
-        self.held.take_volume(it.identity())?;
+        self.held.take_volume(it.identity()?)?;
         Ok(it)
     }
 
@@ -221,11 +221,14 @@ impl<'a> HostPlaces<'a> {
 
     /// Prints a report into a file that has no other part in its line, and ends the line.
     fn print_apart(&mut self, file: &mut Output, summary: &Summary) -> io::Result<()> {
-        if !self.held.is_apart(file) {
-            self.held.end_line(None, summary)?;
-            return Err(io::Error::from(ErrorKind::ResourceBusy));
-        }
-        self.held.end_line(file.identity(), summary)?;
+        let report = match file.identity() {
+            Ok(it) if self.held.is_apart(it) => it,
+            _ => {
+                self.held.end_line(None, summary)?;
+                return Err(io::Error::from(ErrorKind::ResourceBusy));
+            }
+        };
+        self.held.end_line(report, summary)?;
         run_report::print(file, summary)
     }
 }

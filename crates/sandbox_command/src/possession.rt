@@ -123,7 +123,7 @@ impl Held {
 
     /// Takes a file that the whole command reads.
     pub(crate) fn take_source(&mut self, file: &File) -> io::Result<()> {
-        let Some(it) = Identity::of(file) else {
+        let Some(it) = Identity::of(file)? else {
             return Ok(());
         };
         self.refuse_where(self.is_written(it), it)?;
@@ -135,7 +135,7 @@ impl Held {
 
     /// Takes the file of an image.
     pub(crate) fn take_image(&mut self, file: &File) -> io::Result<()> {
-        let Some(it) = Identity::of(file) else {
+        let Some(it) = Identity::of(file)? else {
             return Ok(());
         };
         self.image = Some(it);
@@ -144,7 +144,7 @@ impl Held {
 
     /// Takes a file that this line reads.
     pub(crate) fn take_input(&mut self, file: &File) -> io::Result<()> {
-        let Some(it) = Identity::of(file) else {
+        let Some(it) = Identity::of(file)? else {
             return Ok(());
         };
         self.refuse_where(self.is_written(it), it)?;
@@ -164,7 +164,7 @@ impl Held {
 
     /// Takes a file that this line writes, and that no line before it has written, unless it is new.
     pub(crate) fn take_output(&mut self, file: &Output) -> io::Result<()> {
-        let Some(it) = file.identity() else {
+        let Some(it) = file.identity()? else {
             return Ok(());
         };
         let is_old = !file.is_new() && self.is_earlier(it);
@@ -187,8 +187,8 @@ impl Held {
     }
 
     /// Whether a file was refused to no other part of this line.
-    pub(crate) fn is_apart(&self, file: &Output) -> bool {
-        match file.identity() {
+    pub(crate) fn is_apart(&self, it: Option<Identity>) -> bool {
+        match it {
             Some(it) => !self.contested.contains(&it),
             None => true,
         }

@@ -117,7 +117,10 @@ fn is_handed(places: &HostPlaces<'_>, opened: &io::Result<Opened>, file: &Output
             },
         ) => {
             let it = handed.identity_now(places.rt);
-            it.is_some() && it == file.identity()
+            match file.identity() {
+                Ok(found) => it.is_some() && it == found,
+                Err(_) => true,
+            }
         }
         _ => false,
     }

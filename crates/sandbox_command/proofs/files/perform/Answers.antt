@@ -1,4 +1,5 @@
 use Rattle.std.proofs.Common.{◌≡◌, ◌≤◌, Result, Ok, IfOk, [], inl, inr, refl, sym, ◌∙◌, subst, length, min}
+use Rattle.std.specs.declared.fs.File.{File}
 use Rattle.sandbox_device.specs.declared.file_device.FileDevice.{FileDevice}
 use Rattle.sandbox_device.specs.File.{KeepsItsModel}
 use Rattle.sandbox_words.specs.declared.request.Invocation.{Invocation}
@@ -11,8 +12,8 @@ use Rattle.sandbox_command.proofs.files.perform.Goals as goal
 use Rattle.sandbox_command.proofs.files.perform.Goals.{in-Format, in-Volume, in-Import, in-Export}
 
 -- of an opened file
-of_ok : {E : Type 0} (r : Result FileDevice E) (device : FileDevice) (P : FileDevice → Type 0) → r ≡ Ok device → IfOk r P → P device
-of_ok r device P is holds = subst (λ (o : Result FileDevice _). IfOk o P) is holds
+of_ok : {E : Type 0} (r : Result (FileDevice File) E) (device : FileDevice File) (P : FileDevice File → Type 0) → r ≡ Ok device → IfOk r P → P device
+of_ok r device P is holds = subst (λ (o : Result (FileDevice File) _). IfOk o P) is holds
 
 pub returns-in-Ok-clause-tells : goal.returns-in-Ok-clause-tells
 returns-in-Ok-clause-tells g c =
