@@ -4,11 +4,12 @@ ghost use Rattle.std.specs.Prelude.{Some};
 ghost use Rattle.wasm_store.specs.declared.call.HostCall.TheVariants.{Nosys};
 
 use super::{assert_row, loaded};
+use module_survey::instruction_offset;
 use std::alloc::Global;
 use std::process::Abort;
-use wasm_interp::{Answer, Errno, Host, HostCall, Machine, Memory};
+use wasm_interp::{Answer, Errno, Host, HostCall, MOST_VALUES, Machine, Memory};
 use wasm_module::FuncType;
-use wasm_valid::{Valid, instruction_offset};
+use wasm_valid::Valid;
 
 /// Answers each call with 0.
 #[derive(Drop)]
@@ -63,12 +64,18 @@ const PLACE: usize = 0x79;
 
 /// A function of the module's own, the instruction that it goes on with, and where that one stands in the bytes; of a caller where
 /// its call stands.
-type Told = (usize, usize, u32);
+type Told = (usize, usize, usize);
 
 /// The bytes of `CALLERS` with this byte at this place, how many units it is run with, and the frames, the innermost first.
 type Row<'a> = (usize, u8, u32, &'a [Told]);
 
-fn is_told(machine: &Machine<'_>, valid: &Valid<'_>, index: usize, want: Told) -> bool {
+fn is_told(
+    machine: &Machine<'_>,
+    bytes: &[u8],
+    valid: &Valid<'_>,
+    index: usize,
+    want: Told,
+) -> bool {
     let Some(frame) = machine.frame(index) else {
         return false;
     };
@@ -79,32 +86,44 @@ fn is_told(machine: &Machine<'_>, valid: &Valid<'_>, index: usize, want: Told) -
         0 => frame.next,
         _ => frame.next.saturating_sub(1),
     };
-    (frame.own, frame.next, instruction_offset(body, at)) == want
+    let (own, next, offset) = want;
+    frame.own == own
+        && frame.next == next
+        && instruction_offset(bytes, own, body, at) == Some(offset)
 }
 
-fn are_told(machine: &Machine<'_>, valid: &Valid<'_>, wanted: &[Told]) -> bool {
+fn are_told(machine: &Machine<'_>, bytes: &[u8], valid: &Valid<'_>, wanted: &[Told]) -> bool {
     for (index, want) in wanted.iter().enumerate() {
-        if !is_told(machine, valid, index, *want) {
+        if !is_told(machine, bytes, valid, index, *want) {
             return false;
         }
     }
     machine.frame(wanted.len()).is_none()
 }
 
-/// Whether these are the frames of a machine over this module once it has run with so many units.
+/// How far a machine runs: with so many units, and with so many values at most.
+#[derive(Clone, Copy)]
+struct Reach {
+    units: u32,
+    values: usize,
+}
+
+/// Whether these are the frames of a machine over this module, which has these bytes, once it has run so far.
 fn stops_so(
     alloc: Global,
+    bytes: &[u8],
     valid: Valid<'_>,
     read: &Valid<'_>,
-    units: u32,
+    reach: Reach,
     wanted: &[Told],
 ) -> bool {
     match Machine::new(alloc, valid, 4, &Calm) {
         Ok(mut machine) => {
+            machine.limit_values(reach.values);
             if machine.used() == 0 {
-                let _pause = machine.resume(&mut Calm, u64::from(units));
+                let _pause = machine.resume(&mut Calm, u64::from(reach.units));
             }
-            let are = are_told(&machine, read, wanted);
+            let are = are_told(&machine, bytes, read, wanted);
             drop(machine);
             are
         }
@@ -115,17 +134,17 @@ fn stops_so(
     }
 }
 
-fn are_frames(alloc: Global, bytes: &[u8], units: u32, wanted: &[Told]) -> bool {
+fn are_frames(alloc: Global, bytes: &[u8], reach: Reach, wanted: &[Told]) -> bool {
     match (loaded(alloc, bytes), loaded(alloc, bytes)) {
-        (Ok(valid), Ok(read)) => stops_so(alloc, valid, &read, units, wanted),
+        (Ok(valid), Ok(read)) => stops_so(alloc, bytes, valid, &read, reach, wanted),
         _ => false,
     }
 }
 
 /// Whether these are the frames of a module of these parts, one after another.
-fn are_frames_of(alloc: Global, parts: &[&[u8]], units: u32, wanted: &[Told]) -> bool {
+fn are_frames_of(alloc: Global, parts: &[&[u8]], reach: Reach, wanted: &[Told]) -> bool {
     match parts.concat(alloc) {
-        Ok(bytes) => are_frames(alloc, &bytes, units, wanted),
+        Ok(bytes) => are_frames(alloc, &bytes, reach, wanted),
         Err(_) => false,
     }
 }
@@ -135,7 +154,11 @@ fn is_row(alloc: Global, place: usize, byte: u8, units: u32, wanted: &[Told]) ->
     let front = CALLERS.get(..place).unwrap_or(&[]);
     let from = CALLERS.get(place..).unwrap_or(&[]);
     let back = from.get(1..).unwrap_or(&[]);
-    are_frames_of(alloc, &[front, &[byte], back], units, wanted)
+    let reach = Reach {
+        units,
+        values: MOST_VALUES,
+    };
+    are_frames_of(alloc, &[front, &[byte], back], reach, wanted)
 }
 
 fn assert_rows(rt: &impl Abort, alloc: Global, rows: &[Row<'_>]) {
@@ -222,4 +245,35 @@ fn no_frames_of_an_end(rt: HostRuntime) {
             (TAKEN_OFF, 2, 1_000, &[]),
         ],
     );
+}
+
+/// As `CALLERS`: two functions without parameters and results. Function 0 has 5,000 locals, and function 1 calls it. Which of them
+/// is `_start` stands between these bytes and the next.
+const ENTERED: &[u8] = b"\0asm\x01\0\0\0\
+    \x01\x04\x01`\0\0\
+    \x03\x03\x02\0\0\
+    \x07\x0A\x01\x06_start\0";
+
+const BODIES: &[u8] = b"\x0A\x0C\x02\
+    \x05\x01\x88\x27\x7F\x0B\
+    \x04\0\x10\0\x0B";
+
+#[test]
+fn frames_out_of_memory(rt: HostRuntime) {
+    let reach = Reach {
+        units: 1_000,
+        values: 0,
+    };
+    for (i, (start, wanted)) in [
+        // the function that is entered from outside, where none is at work
+        (0, [].as_slice()),
+        // the one that `_start` calls, with no value on the stack
+        (1, [(1, 0, 0x2A)].as_slice()),
+    ]
+    .iter()
+    .enumerate()
+    {
+        let parts = [ENTERED, &[*start], BODIES];
+        assert_row(&rt, i, are_frames_of(rt.alloc(), &parts, reach, wanted));
+    }
 }
