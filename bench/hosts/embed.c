@@ -36,6 +36,64 @@ static double now(void) {
 
 static int same(const void *one, const void *other, size_t size) { return !memcmp(one, other, size); }
 
+/* Modules that are prepared and shared, in the wrong order. */
+static void misuse_of_prepared(void) {
+  sandbox_supplies given = supplies();
+  sandbox_session *session = NULL;
+  sandbox_module *first = NULL, *other = NULL, *third = NULL, *fourth = NULL;
+  sandbox_why why = {7, 7}, why_before = why;
+  const sandbox_limits none = {0}, few = {.pages = 16}, later = {.later = {0, 0, 1}}, many = {.pages = 65537};
+  want("share of none", sandbox_module_share(&other, &first) == SANDBOX_MISUSE && !other && !first);
+  want("load", sandbox_load(&first, module.at, module.length, &why) == SANDBOX_OK);
+  sandbox_module *before = first;
+  want("share of one that isn't prepared", sandbox_module_share(&other, &first) == SANDBOX_MISUSE && !other && first == before);
+  want("prepare over a loaded one", sandbox_prepare(&first, module.at, module.length, &none, &why) == SANDBOX_MISUSE && first == before && same(&why, &why_before, sizeof why));
+  want("unload", sandbox_unload(&first) == SANDBOX_OK);
+  want("prepare with a limit to come", sandbox_prepare(&first, module.at, module.length, &later, &why) == 15 && !first);
+  want("prepare with too many pages", sandbox_prepare(&first, module.at, module.length, &many, &why) == 15 && !first && same(&why, &why_before, sizeof why));
+  want("prepare a cut module", sandbox_prepare(&first, module.at, module.length - 1, &few, &why) == 1 && !first && why.fault == 1 && why.offset == module.length - 1);
+  want("prepare", sandbox_prepare(&first, module.at, module.length, &few, &why) == SANDBOX_OK && first);
+  want("share", sandbox_module_share(&other, &first) == SANDBOX_OK && other && first && other != first);
+  before = other;
+  want("share over one that is there", sandbox_module_share(&other, &first) == SANDBOX_MISUSE && other == before && first);
+  want("load over a prepared one", sandbox_load(&other, module.at, module.length, &why) == SANDBOX_MISUSE && other == before);
+  want("a session with other pages", sandbox_open_loaded(&session, &other, &given, &fresh) == 15 && !session && other);
+  given.limits.pages = 16;
+  want("open_loaded", sandbox_open_loaded(&session, &other, &given, &fresh) == SANDBOX_OK && session && !other);
+  want("share of a session", sandbox_module_share(&other, (sandbox_module **)(void *)&session) == SANDBOX_MISUSE && !other && session);
+  want("finish", sandbox_finish(&session) == SANDBOX_OK);
+  want("share of a finished session", sandbox_module_share(&other, (sandbox_module **)(void *)&session) == SANDBOX_MISUSE && !other && session);
+  want("close_loaded gives a prepared module back", sandbox_close_loaded(&session, &other) == SANDBOX_OK && sandbox_module_share(&third, &other) == SANDBOX_OK);
+  want("unload the first", sandbox_unload(&first) == SANDBOX_OK && !first && sandbox_unload(&first) == SANDBOX_MISUSE);
+  want("share of one that is gone", sandbox_module_share(&fourth, &first) == SANDBOX_MISUSE && !first && !fourth);
+  want("the others stay", sandbox_open_loaded(&session, &third, &given, &fresh) == SANDBOX_OK && sandbox_unload(&other) == SANDBOX_OK);
+  want("close", sandbox_close(&session) == SANDBOX_OK && sandbox_unload(&third) == SANDBOX_MISUSE);
+}
+
+/* Frames of what has none, and of a guest on its way. */
+static void misuse_of_frames(void) {
+  sandbox_supplies given = supplies();
+  sandbox_session *session = NULL;
+  sandbox_why why;
+  sandbox_told told;
+  sandbox_frame frame = {7, 7}, before = frame;
+  uint8_t name[16];
+  want("frame_at of none", sandbox_frame_at(&session, 0, &frame) == SANDBOX_MISUSE && same(&frame, &before, sizeof frame));
+  want("open", sandbox_open(&session, module.at, module.length, &given, &fresh, &why) == SANDBOX_OK);
+  want("frame_at before it runs", sandbox_frame_at(&session, 0, &frame) == SANDBOX_NO_FRAME && same(&frame, &before, sizeof frame));
+  want("resume", sandbox_resume(&session, 2, &told) == SANDBOX_OK && told.kind == SANDBOX_SPENT);
+  want("frame_at past the last", sandbox_frame_at(&session, 1, &frame) == SANDBOX_NO_FRAME && sandbox_frame_at(&session, SIZE_MAX, &frame) == SANDBOX_NO_FRAME && same(&frame, &before, sizeof frame));
+  want("frame_at", sandbox_frame_at(&session, 0, &frame) == SANDBOX_OK && frame.function == 2 && frame.offset == 0x89);
+  want("a name", sandbox_function_name(module.at, module.length, frame.function, name, sizeof name) == 6 && same(name, "_start", 6));
+  want("a function without one", sandbox_function_name(module.at, module.length, UINT32_MAX, name, sizeof name) == 20 && same(name, "function[4294967", 16));
+  want("a name of no module", sandbox_function_name(name, 0, 3, name, 11) == 11 && same(name, "function[3]", 11));
+  want("resume to the end", sandbox_resume(&session, 1000, &told) == SANDBOX_OK && sandbox_resume(&session, 1000, &told) == SANDBOX_OK && told.kind == SANDBOX_EXITED);
+  frame = before;
+  want("frame_at after an exit", sandbox_frame_at(&session, 0, &frame) == SANDBOX_NO_FRAME);
+  want("frame_at once it is finished", sandbox_finish(&session) == SANDBOX_OK && sandbox_frame_at(&session, 0, &frame) == SANDBOX_MISUSE && same(&frame, &before, sizeof frame));
+  want("close", sandbox_close(&session) == SANDBOX_OK);
+}
+
 /* Everything that a caller can do in the wrong order: MISUSE, and nothing is changed. */
 static void misuse(void) {
   sandbox_supplies given = supplies();
@@ -116,6 +174,8 @@ static void misuse(void) {
     want("operation_at of a module", sandbox_operation_at((sandbox_session **)(void *)&loaded, 0, &operation) == SANDBOX_MISUSE && same(&operation, &operation_before, sizeof operation) && loaded);
     want("unload", sandbox_unload(&loaded) == SANDBOX_OK);
   }
+  misuse_of_prepared();
+  misuse_of_frames();
   printf("misuse: %u wrong\n", wrong);
 }
 
@@ -428,6 +488,104 @@ static void *thread(void *count) {
   return NULL;
 }
 
+/* Sessions of a prepared module, many at once, in a thread that has a handle of its own. Half of them hand theirs back. */
+static void *sharing(void *handle) {
+  enum { AT_ONCE = 16, ROUNDS = 8 };
+  sandbox_module **own = handle;
+  sandbox_session *sessions[AT_ONCE] = {NULL};
+  sandbox_supplies given = supplies();
+  sandbox_told told;
+  unsigned bad = 0;
+  for (int round = 0; round < ROUNDS; round++) {
+    for (int n = 0; n < AT_ONCE; n++) {
+      sandbox_module *one = NULL;
+      bad += sandbox_module_share(&one, own) != SANDBOX_OK || sandbox_open_loaded(&sessions[n], &one, &given, &fresh) != SANDBOX_OK || one;
+    }
+    for (int turn = 0; turn < 4; turn++) /* in turns, three units at a time */
+      for (int n = 0; n < AT_ONCE; n++)
+        bad += sandbox_resume(&sessions[n], 3, &told) != SANDBOX_OK || (turn == 3 && (told.kind != SANDBOX_EXITED || told.used != 8));
+    for (int n = 0; n < AT_ONCE; n++) {
+      uint8_t said[4];
+      sandbox_module *one = NULL;
+      bad += sandbox_output(&sessions[n], 1, 0, said, sizeof said) != 3 || !same(said, "hi\n", 3) || sandbox_finish(&sessions[n]) != SANDBOX_OK;
+      bad += n % 2 ? sandbox_close(&sessions[n]) : sandbox_close_loaded(&sessions[n], &one) + sandbox_unload(&one);
+    }
+  }
+  bad += sandbox_unload(own) != SANDBOX_OK;
+  return bad ? handle : NULL;
+}
+
+/* One prepared module in some threads; the handle that it was prepared in is gone before they begin. */
+static void shared(void) {
+  enum { THREADS = 4 };
+  sandbox_module *first = NULL, *own[THREADS] = {NULL};
+  pthread_t threads[THREADS];
+  const sandbox_limits none = {0};
+  sandbox_why why;
+  void *bad;
+  want("prepare", sandbox_prepare(&first, module.at, module.length, &none, &why) == SANDBOX_OK);
+  for (int n = 0; n < THREADS; n++)
+    want("share", sandbox_module_share(&own[n], &first) == SANDBOX_OK);
+  want("unload", sandbox_unload(&first) == SANDBOX_OK);
+  for (int n = 0; n < THREADS; n++)
+    pthread_create(&threads[n], NULL, sharing, &own[n]);
+  for (int n = 0; n < THREADS; n++) {
+    pthread_join(threads[n], &bad);
+    want("a thread", !bad && !own[n]);
+  }
+  printf("%d threads share a module: %u wrong\n", THREADS, wrong);
+}
+
+/* The least time that a session of a prepared module takes to open and close. */
+static double opening(sandbox_bytes of) {
+  const sandbox_limits one_page = {.pages = 1};
+  sandbox_supplies given = supplies();
+  given.limits.pages = 1;
+  sandbox_module *prepared = NULL, *own = NULL;
+  sandbox_session *session = NULL;
+  sandbox_why why;
+  double best = 1e9;
+  want("prepare", sandbox_prepare(&prepared, of.at, of.length, &one_page, &why) == SANDBOX_OK);
+  for (int n = 0; n < 2000; n++) {
+    double begun = now();
+    want("open", sandbox_module_share(&own, &prepared) == SANDBOX_OK && sandbox_open_loaded(&session, &own, &given, &fresh) == SANDBOX_OK);
+    double took = now() - begun;
+    best = took < best ? took : best;
+    want("close", sandbox_close(&session) == SANDBOX_OK);
+  }
+  want("unload", sandbox_unload(&prepared) == SANDBOX_OK);
+  return best;
+}
+
+/* What a large module costs that is loaded, and prepared, and then opened, beside the opening of a small one. */
+static void opens(sandbox_bytes small) {
+  const sandbox_limits one_page = {.pages = 1};
+  sandbox_module *loaded = NULL;
+  sandbox_session *session = NULL;
+  sandbox_why why;
+  sandbox_supplies given = supplies();
+  given.limits.pages = 1;
+  double load = 1e9, open = 1e9, prepare = 1e9;
+  for (int n = 0; n < 5; n++) {
+    double begun = now();
+    want("load", sandbox_load(&loaded, module.at, module.length, &why) == SANDBOX_OK);
+    double then = now();
+    want("open", sandbox_open_loaded(&session, &loaded, &given, &fresh) == SANDBOX_OK);
+    double opened = now();
+    want("close", sandbox_close(&session) == SANDBOX_OK);
+    double last = now();
+    want("prepare", sandbox_prepare(&loaded, module.at, module.length, &one_page, &why) == SANDBOX_OK);
+    double prepared = now() - last;
+    want("unload", sandbox_unload(&loaded) == SANDBOX_OK);
+    load = then - begun < load ? then - begun : load, open = opened - then < open ? opened - then : open, prepare = prepared < prepare ? prepared : prepare;
+  }
+  double large = opening(module), little = opening(small);
+  want("a prepared module opens in a hundredth of its load", large * 100 <= load);
+  want("and in three times what a small one takes", large <= 3 * little);
+  printf("a module of %zu bytes: load %.1f ms, its session %.1f ms, prepare %.1f ms, a session of it then %.1f us; of one of %zu bytes %.1f us: %u wrong\n", module.length, load * 1e3, open * 1e3,
+         prepare * 1e3, large * 1e6, small.length, little * 1e6, wrong);
+}
+
 static size_t in_use(void) {
   struct mallinfo2 info = mallinfo2();
   return info.uordblks + info.hblkhd;
@@ -501,17 +659,27 @@ static void costs(long runs) {
   }
 }
 
+static size_t read_into(uint8_t *bytes, size_t room, const char *path) {
+  FILE *file = fopen(path, "rb");
+  size_t length = file ? fread(bytes, 1, room, file) : 0;
+  if (file)
+    fclose(file);
+  return length;
+}
+
 int main(int argc, char **argv) {
-  static uint8_t bytes[1 << 20];
-  FILE *file = argc > 2 ? fopen(argv[1], "rb") : NULL;
-  if (!file)
+  static uint8_t bytes[1 << 20], more[1 << 16];
+  module = (sandbox_bytes){bytes, argc > 2 ? read_into(bytes, sizeof bytes, argv[1]) : 0};
+  if (!module.length)
     return 2;
-  module = (sandbox_bytes){bytes, fread(bytes, 1, sizeof bytes, file)};
-  fclose(file);
   if (!strcmp(argv[2], "misuse"))
     misuse();
   else if (!strcmp(argv[2], "limits"))
     limits();
+  else if (!strcmp(argv[2], "shared"))
+    shared();
+  else if (!strcmp(argv[2], "opens"))
+    opens((sandbox_bytes){more, read_into(more, sizeof more, argv[3])});
   else if (!strcmp(argv[2], "numbers"))
     numbers();
   else if (!strcmp(argv[2], "descriptors"))

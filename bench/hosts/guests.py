@@ -134,6 +134,13 @@ def empty_functions(count):
             + section(10, u(count) + b"\x02\0\x0b" * count))  # fmt: skip
 
 
+def large(count):
+    """So many functions of some 80 bytes each, with branches, and a `_start` that does nothing."""
+    step = get(0) + get(1) + b"\x6a" + put(1)
+    body = b"\x02\x40\x03\x40" + step * 5 + get(0) + b"\x0d\x01" + step * 3 + get(1) + b"\x0d\0\x0b\x0b" + get(1) + put(0)
+    return module([], [(((I32,), ()), ((1, I32),), body)] * count + [start(b"")])
+
+
 def guests():
     """By their names the modules."""
     write = ["fd_write"]
@@ -148,6 +155,7 @@ def guests():
         "syncs": module(["fd_sync", "fd_write", "path_open"], [start(written(0, 1, 2))]),
         "all": module(files, [deep(3, 100), start(grow() + fill(0, 1, 2, 0) + flood(1, 1, 0) + flood(1, 2, 0) + call(3), ((1, I32),))]),
         "empty functions": empty_functions(300_000),
+        "large": large(11_700),
     }
 
 

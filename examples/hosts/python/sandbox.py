@@ -5,7 +5,8 @@
         told = session.run(fuel=10**6)
         print(told.kind, told.code, told.used, session.output())
 
-A module is decoded and validated once and serves one session at a time. Bytes that a session reads are kept for it.
+A module is decoded and validated once and serves one session at a time; a `Prepared` one any number, also in several threads.
+Bytes that a session reads are kept for it.
 
 A number that doesn't fit is an error that names its argument: an OverflowError where it is too small or too large, a ValueError
 where it is no whole number, as 1.0 or True.
@@ -15,9 +16,11 @@ import fcntl
 import operator
 import os
 import subprocess
+import threading
 
 HERE = os.path.dirname(os.path.abspath(__file__))
 EXITED, TRAPPED, OUT_OF_FUEL, NO_MEMORY, CALLED, SPENT = range(6)
+NO_FRAME = 101
 MOST_32, MOST_64, MOST_SIZE = 2**32 - 1, 2**64 - 1, 2 ** (8 * c.sizeof(c.c_size_t)) - 1
 
 
@@ -60,6 +63,11 @@ class Told(c.Structure):
     _fields_ = [("kind", c.c_uint32), ("code", c.c_uint32), ("call", c.c_uint32), ("used", c.c_uint64)]
 
 
+class Frame(c.Structure):
+    """A function at work: its index, the imported ones counted first, and where it stands in the module's bytes."""
+    _fields_ = [("function", c.c_uint32), ("offset", c.c_uint32)]
+
+
 class _Operation(c.Structure):
     _fields_ = [("kind", c.c_uint32), ("sector", c.c_uint32), ("bytes", c.c_uint8 * 512)]
 
@@ -96,7 +104,7 @@ def _file():
 
 def _library():
     library = c.CDLL(_file())
-    for name in ("text", "output", "volume_out"):
+    for name in ("text", "output", "volume_out", "function_name"):
         getattr(library, f"sandbox_{name}").restype = c.c_size_t
     return library
 
@@ -131,6 +139,16 @@ def text(number, kind=0):
     return room.raw[:min(length, 80)].decode()
 
 
+def function_name(module, function):
+    """What a function of a module is called: its name in the section `name`, else that of its first export, else `function[3]`.
+    What is no UTF-8 is told by backslashes."""
+    module, function = bytes(memoryview(module)), c.c_uint32(_number("function", function, MOST_32))
+    length = _lib.sandbox_function_name(module, c.c_size_t(len(module)), function, b"", c.c_size_t(0))
+    room = c.create_string_buffer(max(1, length))
+    _lib.sandbox_function_name(module, c.c_size_t(len(module)), function, room, c.c_size_t(length))
+    return room.raw[:length].decode(errors="backslashreplace")
+
+
 def empty_volume(sectors=1000, slots=16):
     """The bytes of an empty volume, of 137 to 65,536 sectors and 1 to 8,192 slots for files and directories."""
     sectors, slots = _number("sectors", sectors, MOST_SIZE), _number("slots", slots, MOST_32)
@@ -162,9 +180,35 @@ class Module:
     def session(self, **supplies):
         return Session(self, **supplies)
 
+    def function_name(self, function):
+        """What a function of it is called, by its index."""
+        return function_name(self._bytes, function)
+
     def __del__(self):
         if self._raw:
             _lib.sandbox_unload(c.byref(self._raw))
+
+
+class Prepared(Module):
+    """A valid module of which all is made once that sessions look up: any number of them at once, also in several threads, and each
+    opens as fast as one of a small module. They have these `pages`, 1,024 where it is 0."""
+
+    def __init__(self, given, pages=0):
+        limits = _Limits(_number("pages", pages, MOST_32))
+        self._bytes, self._raw, why = bytes(memoryview(given)), c.c_void_p(), _Why()
+        self._pages, self._lock = limits.pages, threading.Lock()
+        _check(_lib.sandbox_prepare(c.byref(self._raw), self._bytes, c.c_size_t(len(self._bytes)), c.byref(limits), c.byref(why)), why.offset)
+
+    def share(self):
+        """The same module again, for one session at a time."""
+        other = Module.__new__(Module)
+        other._bytes, other._raw = self._bytes, c.c_void_p()
+        with self._lock:  # two threads may share it at once, and the library takes one call at a time
+            _check(_lib.sandbox_module_share(c.byref(other._raw), c.byref(self._raw)))
+        return other
+
+    def session(self, **supplies):
+        return Session(self.share(), **{"pages": self._pages, **supplies})
 
 
 class Session:
@@ -200,6 +244,17 @@ class Session:
         _check(_lib.sandbox_resume(c.byref(self._raw), c.c_uint64(_number("units", units, MOST_64)), c.byref(told)))
         self._used = told.used
         return told
+
+    def frames(self, most=MOST_SIZE):
+        """The functions at work, the innermost first, `most` of them at most: while it runs, and of a trap or out of memory those
+        that were at work then. Before the first `resume`, after an exit and once it is finished there are none."""
+        found, most = [], _number("most", most, MOST_SIZE)
+        while len(found) < most:
+            frame = Frame()
+            if _lib.sandbox_frame_at(c.byref(self._raw), c.c_size_t(len(found)), c.byref(frame)):
+                break
+            found.append(frame)
+        return found
 
     def run(self, fuel):
         """Goes on until the guest ends, or this many units are used since the session began."""

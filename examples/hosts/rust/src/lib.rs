@@ -1,8 +1,10 @@
 //! WebAssembly guests with exact fuel, from Rust: safe types over `include/sandbox.h`.
 //!
 //! A [`Module`] is decoded and validated once. [`Module::open`] turns it into a [`Session`], and [`Session::close`] gives it
-//! back, so one module serves many sessions one after another; for several at once load it as often. What a guest reads is
-//! borrowed for as long as its session lives. Both may go to another thread; each thread can have its own.
+//! back, so one module serves many sessions one after another. One that is made by [`Module::prepare`] can be shared
+//! ([`Module::share`]): then any number of sessions are of it at once, in any threads, and each opens as fast as one of a small
+//! module. What a guest reads is borrowed for as long as its session lives. Both may go to another thread; each thread can have its
+//! own.
 mod sys;
 
 use std::error::Error;
@@ -59,6 +61,15 @@ pub enum Pause {
     Spent,
 }
 
+/// A function at work.
+#[derive(Debug, Clone, Copy, PartialEq, Eq)]
+pub struct Frame {
+    /// Its index in the module, the imported ones counted first.
+    pub function: u32,
+    /// Where it stands in the module's bytes: at the instruction that comes next, or at its call.
+    pub offset: u32,
+}
+
 /// The most that a guest may have. 0 is the library's default.
 #[derive(Debug, Clone, Copy, Default, PartialEq, Eq)]
 pub struct Limits {
@@ -100,6 +111,25 @@ impl<'a> Module<'a> {
             0 => Ok(Module { raw, bytes: PhantomData }),
             number => Err(Refused { number, offset: why.offset }),
         }
+    }
+
+    /// Decodes and validates the module, and makes all once that its sessions look up. They have the pages of these limits; one with
+    /// others is refused with 15.
+    pub fn prepare(bytes: &'a [u8], limits: Limits) -> Result<Module<'a>, Refused> {
+        let (mut raw, mut why) = (null_mut(), sys::Why::default());
+        // SAFETY: the bytes are borrowed for as long as the module, what shares it, or a session of them lives.
+        match unsafe { sys::sandbox_prepare(&mut raw, bytes.as_ptr(), bytes.len(), &limits_of(limits), &mut why) } {
+            0 => Ok(Module { raw, bytes: PhantomData }),
+            number => Err(Refused { number, offset: why.offset }),
+        }
+    }
+
+    /// The same module again, where it was prepared; else that is refused as misuse. Nothing is decoded or made again.
+    pub fn share(&mut self) -> Result<Module<'a>, Refused> {
+        let mut other = Module { raw: null_mut(), bytes: PhantomData };
+        // SAFETY: the other is none yet.
+        answered(unsafe { sys::sandbox_module_share(&mut other.raw, &mut self.raw) })?;
+        Ok(other)
     }
 
     /// A session of the module, over these sectors, or over an empty volume that is discarded at the end. A refusal gives the
@@ -145,6 +175,10 @@ struct Kept {
     preopens: Box<[sys::Preopen]>,
 }
 
+fn limits_of(limits: Limits) -> sys::Limits {
+    sys::Limits { pages: limits.pages, values: limits.values, output: limits.output, later: [0; 6] }
+}
+
 fn bytes_of(bytes: &[u8]) -> sys::Bytes {
     sys::Bytes { at: bytes.as_ptr(), length: bytes.len() }
 }
@@ -169,7 +203,7 @@ impl Kept {
             preopens_count: self.preopens.len(),
             moment: given.moment,
             random: bytes_of(given.random),
-            limits: sys::Limits { pages: given.limits.pages, values: given.limits.values, output: given.limits.output, later: [0; 6] },
+            limits: limits_of(given.limits),
             input: bytes_of(given.input),
         }
     }
@@ -212,6 +246,20 @@ impl<'a> Session<'a, '_> {
                 return Ok((pause, used));
             }
         }
+    }
+
+    /// The function at work that has so many inside it, 0 the innermost: while the session runs, and of a trap or out of memory what
+    /// was at work then. Before the first resume, after an exit and once it is finished there is none.
+    pub fn frame(&mut self, number: usize) -> Option<Frame> {
+        let mut frame = sys::Frame::default();
+        // SAFETY: `raw` is a session.
+        let answer = unsafe { sys::sandbox_frame_at(&mut self.raw, number, &mut frame) };
+        (answer == 0).then_some(Frame { function: frame.function, offset: frame.offset })
+    }
+
+    /// The functions at work, the innermost first.
+    pub fn frames(&mut self) -> Vec<Frame> {
+        (0..).map_while(|number| self.frame(number)).collect()
     }
 
     /// What the guest has written so far to descriptor 1 or 2.
@@ -298,6 +346,18 @@ pub fn format(sectors: usize, slots: u32) -> Result<Sectors, Refused> {
     // SAFETY: there are so many sectors.
     answered(unsafe { sys::sandbox_format(made.as_mut_ptr(), sectors, slots) })?;
     Ok(made)
+}
+
+/// What a function of a module is called: its name in the section `name`, else that of its first export, else `function[3]`. A name
+/// has any bytes.
+pub fn function_name(module: &[u8], function: u32) -> Vec<u8> {
+    // SAFETY: the room has its length.
+    unsafe {
+        let length = sys::sandbox_function_name(module.as_ptr(), module.len(), function, [].as_mut_ptr(), 0);
+        let mut room = vec![0; length];
+        sys::sandbox_function_name(module.as_ptr(), module.len(), function, room.as_mut_ptr(), length);
+        room
+    }
 }
 
 /// The archive's version, as the header counts it.

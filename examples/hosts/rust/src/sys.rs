@@ -66,6 +66,13 @@ pub struct Why {
 }
 
 #[repr(C)]
+#[derive(Default)]
+pub struct Frame {
+    pub function: u32,
+    pub offset: u32,
+}
+
+#[repr(C)]
 pub struct Operation {
     pub kind: u32,
     pub sector: u32,
@@ -76,6 +83,8 @@ extern "C" {
     pub fn sandbox_version() -> u32;
     pub fn sandbox_text(kind: u32, number: u32, room: *mut u8, length: usize) -> usize;
     pub fn sandbox_load(module: *mut *mut OpaqueModule, bytes: *const u8, length: usize, why: *mut Why) -> u32;
+    pub fn sandbox_prepare(module: *mut *mut OpaqueModule, bytes: *const u8, length: usize, limits: *const Limits, why: *mut Why) -> u32;
+    pub fn sandbox_module_share(other: *mut *mut OpaqueModule, module: *mut *mut OpaqueModule) -> u32;
     pub fn sandbox_unload(module: *mut *mut OpaqueModule) -> u32;
     pub fn sandbox_open_loaded(
         session: *mut *mut OpaqueSession,
@@ -86,6 +95,8 @@ extern "C" {
     pub fn sandbox_resume(session: *mut *mut OpaqueSession, units: u64, told: *mut Told) -> u32;
     pub fn sandbox_output(session: *mut *mut OpaqueSession, descriptor: u32, from: usize, room: *mut u8, length: usize) -> usize;
     pub fn sandbox_full(session: *mut *mut OpaqueSession, descriptor: u32) -> u32;
+    pub fn sandbox_frame_at(session: *mut *mut OpaqueSession, number: usize, frame: *mut Frame) -> u32;
+    pub fn sandbox_function_name(module: *const u8, module_length: usize, function: u32, room: *mut u8, length: usize) -> usize;
     pub fn sandbox_finish(session: *mut *mut OpaqueSession) -> u32;
     pub fn sandbox_volume_out(session: *mut *mut OpaqueSession, room: *mut [u8; 512], count: usize) -> usize;
     pub fn sandbox_operation_at(session: *mut *mut OpaqueSession, number: usize, operation: *mut Operation) -> u32;

@@ -1,4 +1,4 @@
-use Rattle.std.proofs.Common.{◌∙◌, sym, subst, inr}
+use Rattle.std.proofs.Common.{◌≡◌, ◌∙◌, true, sym, subst, inr}
 use Rattle.wasi_calls.specs.declared.host.settings.Settings.{Settings}
 use Rattle.sandbox_core.specs.Session.{given, IsRefused}
 use Rattle.sandbox_core.proofs.Limiting.{opens_limited, shares_limited}
