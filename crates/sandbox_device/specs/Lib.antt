@@ -6,4 +6,5 @@ pub mod Recorded
 pub mod Followed
 pub mod Opening
 pub mod FileEvidence
+pub mod Beside
 pub mod internal

@@ -1,6 +1,7 @@
 //! Files and memory as devices of the program.
 #![tactic(auto)]
 
+mod beside;
 mod file_device;
 mod history;
 mod identity;

@@ -5,6 +5,7 @@
 ghost use Rattle.std.specs.Prelude.{IfOk, IfSome};
 ghost use Rattle.sandbox_device.specs.Opening.{StandsApart};
 
+use crate::beside::{Beside, replace};
 use crate::identity::Identity;
 use crate::opening::{lock_to_write, open_apart};
 use crate::ram_device::RamDevice;
@@ -173,18 +174,41 @@ fn sync_folder(folder: &File) -> io::Result<()> {
     }
 }
 
-/// Writes the sectors into a spare file, makes them last, and gives it the name of the file that it replaces.
-fn put_beside<R: Files<File = File> + AllocGlobal>(
-    rt: &R,
-    spare: &Spare,
-    path: &str,
-    folder: &File,
-    device: &RamDevice,
-) -> io::Result<()> {
-    write_sectors(rt, &spare.file, device)?;
-    spare.file.sync_all()?;
-    rt.rename(spare.path.as_str(), path)?;
-    sync_folder(folder)
+/// A spare file that is to get the name of a file, in this folder.
+#[derive(Drop)]
+struct Successor<'a, R> {
+    rt: &'a R,
+    spare: &'a Spare,
+    path: &'a str,
+    folder: &'a File,
+}
+
+impl<R: Files<File = File> + AllocGlobal> Beside for Successor<'_, R> {
+    ghost use Rattle.sandbox_device.specs.Beside.{WasFilled, WasMadeLasting, WasRenamed, WasSettled};
+
+    ghost filled = { λ old bytes new. WasFilled old bytes new };
+
+    ghost synced = { λ old new. WasMadeLasting old new };
+
+    ghost renamed = { λ old new. WasRenamed old new };
+
+    ghost settled = { λ old new. WasSettled old new };
+
+    fn fill(&mut self, device: &RamDevice) -> io::Result<()> {
+        write_sectors(self.rt, &self.spare.file, device)
+    }
+
+    fn sync(&mut self) -> io::Result<()> {
+        self.spare.file.sync_all()
+    }
+
+    fn rename(&mut self) -> io::Result<()> {
+        self.rt.rename(self.spare.path.as_str(), self.path)
+    }
+
+    fn settle(&mut self) -> io::Result<()> {
+        sync_folder(self.folder)
+    }
 }
 
 /// How what is there is replaced, of which these are the metadata.
@@ -293,7 +317,13 @@ impl Replacement {
             self.fill_in_place(rt, device)?;
             return Ok(Some(Hindrance::Folder));
         };
-        match put_beside(rt, &spare, self.path.as_str(), &folder, device) {
+        let mut successor = Successor {
+            rt,
+            spare: &spare,
+            path: self.path.as_str(),
+            folder: &folder,
+        };
+        match replace(&mut successor, device) {
             Ok(()) => Ok(None),
             Err(error) => {
                 let _ = rt.remove_file(spare.path.as_str());

@@ -1,0 +1,53 @@
+//! A file that gets other bytes all at once, by the calls that it takes, in their order.
+
+ghost use Rattle.std.specs.Prelude.{ℕ, List, OnOk};
+ghost use Rattle.sandbox_device.specs.Beside.{IsReplaced};
+ghost use Rattle.sandbox_device.specs.Ram.{joined_sectors};
+
+use crate::ram_device::RamDevice;
+use std::io;
+
+/// The bytes that are to replace a file. They are written beside it, made to last, and get its name, which is made to last, too.
+///
+/// What became of them is known by evidence alone: a caller that is proved for all of these can show only by a call which succeeded
+/// that the bytes were written, that they last, that they have the name, and that this lasts.
+pub(crate) trait Beside {
+    /// Between these states these bytes were written, and no others.
+    ghost filled: { Self → List ℕ → Self → Type 0 };
+
+    /// Between these states what was written was made to last.
+    ghost synced: { Self → Self → Type 0 };
+
+    /// Between these states it got the name of the file that it replaces.
+    ghost renamed: { Self → Self → Type 0 };
+
+    /// Between these states the names of its folder were made to last.
+    ghost settled: { Self → Self → Type 0 };
+
+    /// Writes the sectors of a device.
+    fn fill(&mut self, device: &RamDevice) -> io::Result<()>
+        ensures { OnOk result (filled self.old (joined_sectors device.now.sectors) self.new) };
+
+    /// Makes what was written last.
+    fn sync(&mut self) -> io::Result<()>
+        ensures { OnOk result (synced self.old self.new) };
+
+    /// Gives it the name of the file that it replaces.
+    fn rename(&mut self) -> io::Result<()>
+        ensures { OnOk result (renamed self.old self.new) };
+
+    /// Makes the names of its folder last.
+    fn settle(&mut self) -> io::Result<()>
+        ensures { OnOk result (settled self.old self.new) };
+}
+
+/// Replaces a file by the sectors of a device: it has its old bytes or all of these, whoever is ended meanwhile.
+pub(crate) fn replace<B: Beside>(it: &mut B, device: &RamDevice) -> io::Result<()>
+    ensures { OnOk result (IsReplaced B.filled B.synced B.renamed B.settled
+        (joined_sectors device.now.sectors) it.old it.new) }
+{
+    it.fill(device)?;
+    it.sync()?;
+    it.rename()?;
+    it.settle()
+}
