@@ -7,7 +7,7 @@ use Rattle.vol_sector.specs.declared.fault.Damage.{Damage}
 use Rattle.vol_sector.specs.declared.fault.VolumeFault.TheVariants as fault
 use Rattle.run_report.specs.Faults.{Text, rule_text}
 use Rattle.sandbox_words.specs.declared.request.Task.{Task}
-use Rattle.sandbox_words.specs.declared.request.Task.TheVariants.{List as Ls, Get, Put, Check, Upgrade, Stat, Change as Changing}
+use Rattle.sandbox_words.specs.declared.request.Task.TheVariants.{List as Ls, ListAs as LsAs, Get, Put, PutWhole, Check, Upgrade, Stat, Change as Changing}
 use Rattle.volume_tasks.specs.declared.failure.Failure.{Failure}
 use Rattle.volume_tasks.specs.declared.failure.Failure.TheVariants as failure
 use Rattle.volume_tasks.specs.Streams.{AppendsPart}
@@ -39,8 +39,10 @@ damage_of (Err failure.Stream) = None
 -- only checking tells more of it than the fault
 abbrev pub checked_damage : Task → Result (Unit {0}) Failure → Option Damage
 checked_damage (Ls path) done = None
+checked_damage (LsAs path form) done = None
 checked_damage (Get path) done = None
 checked_damage (Put path) done = None
+checked_damage (PutWhole path) done = None
 checked_damage Check done = damage_of done
 checked_damage Upgrade done = None
 checked_damage (Stat path) done = None

@@ -23,7 +23,7 @@ pub use places::Places;
 pub use program::{Executed, execute, refuse_command_line, refuse_words};
 pub use run_report::{Summary, print as print_report};
 pub use sandbox_device::{FileDevice, Output, RamDevice};
-pub use sandbox_words::{Change, Invocation, Limits, Run, Task, invocation};
+pub use sandbox_words::{Change, Invocation, Limits, ListForm, Run, Task, invocation};
 pub use streams::{Sink, Source};
 pub use testing::run_list;
 pub use volume_tasks::FRESH_SECTORS;
